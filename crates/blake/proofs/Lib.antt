@@ -1,0 +1,6 @@
+pub mod Absorbing
+pub mod Compressing
+pub mod Holding
+pub mod Links
+pub mod Sigma
+pub mod Words
