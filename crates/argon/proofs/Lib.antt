@@ -1,0 +1,15 @@
+pub mod Buffer
+pub mod ColumnBlock
+pub mod Counter
+pub mod FirstColumns
+pub mod FourWords
+pub mod Independent
+pub mod LastColumn
+pub mod MatrixBlocks
+pub mod Planning
+pub mod Progress
+pub mod ReferenceSet
+pub mod RowsAndColumns
+pub mod Slices
+pub mod WordPlaces
+pub mod XoredWords

@@ -1,0 +1,140 @@
+-- Words read and written along places: runs, rows, columns, and places that are apart.
+use Rattle.std.proofs.Common.{◌≡◌, ℕ, zero, suc, ◌+◌, ◌/◌, ◌%◌, ◌<◌, ◌≤◌, List, [], ◌∷◌, ◌++◌, length, set, slice_index, refl, sym, ap, ◌∙◌, arith, length-set}
+use Rattle.std.specs.List.{range_with_len}
+use Rattle.std.specs.Simd.Lanes.{chunk, put_chunk}
+use Rattle.std.proofs.lemmas.List.{get_or-set_other, drop_more}
+use Rattle.std.proofs.lemmas.Simd.{length-chunk}
+use Rattle.blake.specs.Words.{words_at, with_words_at}
+use Rattle.argon.specs.Compression.{column_places, permutation, row_places}
+use Rattle.argon.specs.FourWords.{four_words, pair_places, sixteen_words}
+use Rattle.argon.proofs.FourWords.{each_of_four}
+
+-- ---- runs of places
+
+pub run_read : (v : List ℕ) (a n : ℕ) → a + n ≤ length v → words_at v (range_with_len a n) ≡ chunk a n v
+run_read v a zero h = refl
+run_read v a (suc n) h =
+    rw (drop_more v a 0 (omega arith), run_read v (a + 1) n (omega arith)) refl
+
+-- a word before a run
+put_front : (v ws : List ℕ) (a b w : ℕ) → b ≡ a + 1 → b + length ws ≤ length v → put_chunk b (set v a w) ws ≡ put_chunk a v (w ∷ ws)
+put_front [] ws a b w e h = refl
+put_front (x ∷ v) ws zero zero w e h = absurd (omega arith)
+put_front (x ∷ v) ws zero (suc b) w e h = let none : b ≡ 0 = omega arith in rw none refl
+put_front (x ∷ v) ws (suc a) zero w e h = absurd (omega arith)
+put_front (x ∷ v) ws (suc a) (suc b) w e h = ap (λ (l : List ℕ). x ∷ l) (put_front v ws a b w (omega arith) (omega arith))
+
+pub run_stored : (v ws : List ℕ) (a n : ℕ) → length ws ≡ n → a + n ≤ length v
+    → with_words_at v (range_with_len a n) ws ≡ put_chunk a v ws
+run_stored v [] a zero e h = sym (put_none v a)
+  where
+    put_none : (v : List ℕ) (a : ℕ) → put_chunk a v [] ≡ v
+    put_none [] a = refl
+    put_none (x ∷ v) zero = refl
+    put_none (x ∷ v) (suc a) = ap (λ (l : List ℕ). x ∷ l) (put_none v a)
+run_stored v (w ∷ ws) a zero e h = absurd (omega arith)
+run_stored v [] a (suc n) e h = absurd (omega arith)
+run_stored v (w ∷ ws) a (suc n) e h =
+    run_stored (set v a w) ws (a + 1) n (omega arith) (omega (arith, length-set {A = ℕ} v a w)) ∙ put_front v ws a (a + 1) w refl (omega arith)
+
+-- one run after another
+pub put_joined : (v xs ys : List ℕ) (a b : ℕ) → b ≡ a + length xs → b + length ys ≤ length v
+    → put_chunk b (put_chunk a v xs) ys ≡ put_chunk a v (xs ++ ys)
+put_joined [] xs ys a b e h = refl
+put_joined (x ∷ v) [] ys zero zero e h = refl
+put_joined (x ∷ v) [] ys zero (suc b) e h = absurd (omega arith)
+put_joined (x ∷ v) (y ∷ xs) ys zero zero e h = absurd (omega arith)
+put_joined (x ∷ v) (y ∷ xs) ys zero (suc b) e h = ap (λ (l : List ℕ). y ∷ l) (put_joined v xs ys zero b (omega arith) (omega arith))
+put_joined (x ∷ v) xs ys (suc a) zero e h = absurd (omega arith)
+put_joined (x ∷ v) xs ys (suc a) (suc b) e h = ap (λ (l : List ℕ). x ∷ l) (put_joined v xs ys a b (omega arith) (omega arith))
+
+-- ---- the four vectors of a row
+
+pub state_joined : (a b c d : List ℕ) → length a ≡ 4 → length b ≡ 4 → length c ≡ 4 → length d ≡ 4 → sixteen_words a b c d ≡ a ++ (b ++ (c ++ d))
+state_joined a b c d ha hb hc hd =
+    each_of_four (λ a. sixteen_words a b c d ≡ a ++ (b ++ (c ++ d))) (λ a0 a1 a2 a3.
+    each_of_four (λ b. sixteen_words (a0 ∷ a1 ∷ a2 ∷ a3 ∷ []) b c d ≡ a0 ∷ a1 ∷ a2 ∷ a3 ∷ (b ++ (c ++ d))) (λ b0 b1 b2 b3.
+    each_of_four (λ c. sixteen_words (a0 ∷ a1 ∷ a2 ∷ a3 ∷ []) (b0 ∷ b1 ∷ b2 ∷ b3 ∷ []) c d ≡ a0 ∷ a1 ∷ a2 ∷ a3 ∷ b0 ∷ b1 ∷ b2 ∷ b3 ∷ (c ++ d)) (λ c0 c1 c2 c3.
+    each_of_four (λ d. sixteen_words (a0 ∷ a1 ∷ a2 ∷ a3 ∷ []) (b0 ∷ b1 ∷ b2 ∷ b3 ∷ []) (c0 ∷ c1 ∷ c2 ∷ c3 ∷ []) d ≡ a0 ∷ a1 ∷ a2 ∷ a3 ∷ b0 ∷ b1 ∷ b2 ∷ b3 ∷ c0 ∷ c1 ∷ c2 ∷ c3 ∷ d) (λ d0 d1 d2 d3. refl) d hd) c hc) b hb) a ha
+
+chunk_more : (v : List ℕ) (a m n b k : ℕ) → b ≡ a + m → k ≡ m + n → b ≤ length v → chunk a m v ++ chunk b n v ≡ chunk a k v
+chunk_more v a zero n b k e f h = let g : b ≡ a = omega arith in let i : k ≡ n = omega arith in rw (g, i) refl
+chunk_more v a (suc m) n b zero e f h = absurd (omega arith)
+chunk_more v a (suc m) n b (suc k) e f h =
+    rw (drop_more v a 0 (omega arith)) (ap (λ (l : List ℕ). slice_index v a ∷ l) (chunk_more v (a + 1) m n b k (omega arith) (omega arith) h))
+
+pub row_read : (v : List ℕ) (a : ℕ) → a + 16 ≤ length v
+    → sixteen_words (chunk a 4 v) (chunk (a + 4) 4 v) (chunk (a + 8) 4 v) (chunk (a + 12) 4 v) ≡ words_at v (range_with_len a 16)
+row_read v a h =
+    state_joined _ _ _ _ (length-chunk a 4 v (omega arith)) (length-chunk (a + 4) 4 v (omega arith))
+    (length-chunk (a + 8) 4 v (omega arith)) (length-chunk (a + 12) 4 v (omega arith))
+    ∙ rw (
+      chunk_more v (a + 8) 4 4 (a + 12) 8 (omega arith) refl (omega arith),
+      chunk_more v (a + 4) 4 8 (a + 8) 12 (omega arith) refl (omega arith),
+      chunk_more v a 4 12 (a + 4) 16 refl refl (omega arith),
+    ) (sym (run_read v a 16 h))
+
+pub row_stored : (v a b c d : List ℕ) (at : ℕ) → at + 16 ≤ length v
+    → put_chunk (at + 12) (put_chunk (at + 8) (put_chunk (at + 4) (put_chunk at v (four_words a)) (four_words b)) (four_words c)) (four_words d)
+    ≡ with_words_at v (range_with_len at 16) (sixteen_words a b c d)
+row_stored v a b c d at h =
+    rw (
+      put_joined v (four_words a) (four_words b) at (at + 4) refl (omega arith),
+      put_joined v (four_words a ++ four_words b) (four_words c) at (at + 8) refl (omega arith),
+      put_joined v ((four_words a ++ four_words b) ++ four_words c) (four_words d) at (at + 12) refl (omega arith),
+    )
+    (sym (run_stored v (sixteen_words a b c d) at 16 refl h))
+
+-- ---- the places of a column
+
+pub pairs_stored : (v : List ℕ) (at : ℕ) (x y z w : ℕ) → at + 18 ≤ length v
+    → put_chunk (at + 16) (put_chunk at v (x ∷ y ∷ [])) (z ∷ w ∷ []) ≡ with_words_at v (pair_places at) (x ∷ y ∷ z ∷ w ∷ [])
+pairs_stored v at x y z w h =
+    let next : at + 16 + 1 ≡ at + 17 = omega arith in
+    let one = run_stored v (x ∷ y ∷ []) at 2 refl (omega arith) in
+    let two = run_stored (set (set v at x) (at + 1) y) (z ∷ w ∷ []) (at + 16) 2 refl
+    (omega (arith, length-set (set v at x) (at + 1) y, length-set v at x)) in
+    rw (← one, ← two, next) refl
+
+pub pairs_stored_of_vector : (v new : List ℕ) (at : ℕ) → length new ≡ 4 → at + 18 ≤ length v
+    → put_chunk (at + 16) (put_chunk at v (slice_index (new ++ new) 0 ∷ slice_index (new ++ new) 1 ∷ []))
+    (slice_index (new ++ new) 2 ∷ slice_index (new ++ new) 3 ∷ [])
+    ≡ with_words_at v (pair_places at) (four_words new)
+pairs_stored_of_vector v new at e h =
+    each_of_four (λ new. put_chunk (at + 16) (put_chunk at v (slice_index (new ++ new) 0 ∷ slice_index (new ++ new) 1 ∷ []))
+    (slice_index (new ++ new) 2 ∷ slice_index (new ++ new) 3 ∷ [])
+    ≡ with_words_at v (pair_places at) (four_words new)) (λ x y z w. pairs_stored v at x y z w h) new e
+
+-- ---- places that are apart, told by a number that places have in common
+
+abbrev pub Keyed : (ℕ → ℕ) → ℕ → List ℕ → Type 0
+Keyed f i [] = Unit {0}
+Keyed f i (p ∷ ps) = (f p ≡ i) × Keyed f i ps
+
+kept : (f : ℕ → ℕ) (i : ℕ) (v ps ws : List ℕ) (q : ℕ) → Keyed f i ps → (f q ≡ i → ⊥)
+    → slice_index (with_words_at v ps ws) q ≡ slice_index v q
+kept f i v [] ws q all other = refl
+kept f i v (p ∷ ps) [] q all other = refl
+kept f i v (p ∷ ps) (w ∷ ws) q all other =
+    kept f i (set v p w) ps ws q all.1 other
+    ∙ get_or-set_other v p q w 0 (λ e. other (ap f e ∙ all.0))
+
+pub apart : (f : ℕ → ℕ) (i j : ℕ) (v ps ws qs : List ℕ) → Keyed f i ps → Keyed f j qs → (j ≡ i → ⊥)
+    → words_at (with_words_at v ps ws) qs ≡ words_at v qs
+apart f i j v ps ws [] all of other = refl
+apart f i j v ps ws (q ∷ qs) all of other =
+    rw (kept f i v ps ws q all (λ e. other (sym of.0 ∙ e)), apart f i j v ps ws qs all of.1 other) refl
+
+-- the places of a row, told by their sixteenth, and those of a column, told by their half modulo 8
+pub row_keyed : (i : ℕ) → Keyed (λ p. p / 16) i (row_places i)
+row_keyed i =
+    (omega arith, (omega arith, (omega arith, (omega arith, (omega arith, (omega arith, (omega arith, (omega arith, (omega arith, (omega arith, (omega arith, (omega arith, (omega arith, (omega arith, (omega arith, (omega arith, tt))))))))))))))))
+
+pub column_keyed : (i : ℕ) → i < 8 → Keyed (λ p. p / 2 % 8) i (column_places i)
+column_keyed i h =
+    (omega arith, (omega arith, (omega arith, (omega arith, (omega arith, (omega arith, (omega arith, (omega arith, (omega arith, (omega arith, (omega arith, (omega arith, (omega arith, (omega arith, (omega arith, (omega arith, tt))))))))))))))))
+
+-- what is read at places of v, permuted, and written at the same places of w
+pub placed : (v w u s p places : List ℕ) → s ≡ words_at v places → p ≡ permutation s → u ≡ with_words_at w places p
+    → u ≡ with_words_at w places (permutation (words_at v places))
+placed v w u s p places hs hp hu = rw (hu, hp, hs) refl

@@ -1,0 +1,9 @@
+use Rattle.std.proofs.Common.{◌*◌, arith}
+use Rattle.argon.proofs.WordPlaces.{row_stored}
+use Rattle.argon.proofs.block.put_row.Goals as goal
+
+pub returns : goal.returns
+returns c = record {
+  value = rw (c.put_four-4.ensures.value, c.put_four-3.ensures.value, c.put_four-2.ensures.value, c.put_four.ensures.value)
+      (row_stored c.args.block.now c.args.new.0 c.args.new.1 c.args.new.2 c.args.new.3 (16 * c.args.number) (omega arith));
+}

@@ -1,0 +1,39 @@
+use Rattle.std.proofs.Common.{◌≡◌, ◌*◌, ◌/◌, ◌%◌, refl, arith, ap, ◌∙◌}
+use Rattle.argon.specs.Argon2.{argon2_tag}
+use Rattle.argon.specs.Counts.{slice_work, slices_work, work}
+use Rattle.argon.specs.Filling.{Filling}
+use Rattle.argon.proofs.Slices.{slices_more, slices_work_is, range_long}
+use Rattle.argon.proofs.matrix.Matrix.hash.Goals as goal
+
+pub loop-init : goal.loop-init
+unfolding slices_work
+loop-init c =
+    (c.start.ensures.parameters, c.start.ensures.started, c.start.ensures.first_hash, c.start.ensures.position, c.start.ensures.size, omega arith)
+
+pub loop-preserved : goal.loop-preserved
+loop-preserved c =
+    let d = c.args.self.now.parameters in
+    let k = c.loop.counter in
+    let inv = c.loop.invariant in
+    let same : slice_work c.loop.self.parameters (c.loop.self.slices_made / 4) (c.loop.self.slices_made % 4) ≡ slice_work c.args.self.now.parameters (c.loop.counter / 4) (c.loop.counter % 4) =
+    rw (inv.0, inv.3) refl in (
+      c.slice.ensures.parameters ∙ inv.0,
+      c.slice.ensures.started,
+      c.slice.ensures.first_hash ∙ inv.2,
+      omega (arith, c.slice.ensures.position, inv.3),
+      c.slice.ensures.size ∙ inv.4,
+      omega (arith, c.slice.ensures.count, same, inv.5, slices_more c.args.self.now.parameters c.loop.counter),
+    )
+
+pub returns-clause-tag : goal.returns-clause-tag
+unfolding argon2_tag
+returns-clause-tag c = c.tag.ensures.tag ∙ rw (c.loop.invariant.0, c.loop.invariant.2) refl
+
+pub returns-clause-count : goal.returns-clause-count
+returns-clause-count c =
+    let range = c.self.invariant.in_range in
+    let same : c.self.inside.params ≡ c.args.self.now.parameters = ap (λ (f : Filling). f.parameters) c.self.view_is ∙ c.start.ensures.parameters in
+    let all : slices_work c.self.inside.params (4 * c.self.inside.params.passes) ≡ work c.self.inside.params =
+    slices_work_is c.self.inside.params (range_long c.self.inside.params range) range.passes range.kind in
+    let end : c.loop.counter ≡ 4 * c.self.inside.params.passes = omega (arith, c.passes.ensures.value) in
+    c.loop.invariant.5 ∙ rw (end, ← same, all) refl

@@ -1,0 +1,38 @@
+-- The memory as one flat buffer of blocks, lane after lane, in which later passes overwrite (RFC
+-- 9106, 3.2).
+use Rattle.std.specs.Prelude.{◌≡◌, ℕ, zero, suc, ◌+◌, ◌*◌, ◌%◌, ◌<◌, ◌≤◌, nat_eq, nat_lt, List, [], get_or, if◌then◌else◌}
+use Rattle.argon.specs.Argon2.{matrix_block}
+use Rattle.argon.specs.Parameters.{Parameters, segment_len, lane_len}
+
+-- the block at the place of a lane's column of a number
+abbrev pub block_held : Parameters → List (List ℕ) → ℕ → ℕ → List ℕ
+block_held parameters blocks number lane =
+    get_or blocks (lane * lane_len parameters + number % lane_len parameters) []
+
+-- each lane has made the columns of the numbers below the one that comes next, and each place of
+-- the buffer holds the newest of those that belong there
+pub record HoldsNewest (parameters : Parameters) (h0 : List ℕ) (blocks : List (List ℕ)) (next : ℕ → ℕ) : Type 0 where
+  pub holds : (lane number : ℕ) → lane < parameters.lanes → number < next lane → next lane ≤ number + lane_len parameters
+      → block_held parameters blocks number lane ≡ matrix_block parameters h0 number lane
+
+-- the number of the column that each lane makes next after so many slices: two columns are there
+-- from the start
+abbrev pub number_after_slices : Parameters → ℕ → ℕ
+number_after_slices parameters zero = 2
+number_after_slices parameters (suc count) = suc count * segment_len parameters
+
+-- the numbers that come next belong to a slice, or to its end
+pub record IsInSlice (parameters : Parameters) (pass slice : ℕ) (next : ℕ → ℕ) : Type 0 where
+  pub from : (lane : ℕ) → lane < parameters.lanes
+      → pass * lane_len parameters + slice * segment_len parameters ≤ next lane
+  pub to : (lane : ℕ) → lane < parameters.lanes
+      → next lane ≤ pass * lane_len parameters + slice * segment_len parameters + segment_len parameters
+
+-- the numbers that come next, with another one for a lane
+abbrev pub with_next_number : (ℕ → ℕ) → ℕ → ℕ → ℕ → ℕ
+with_next_number next own number lane = if nat_eq lane own then number else next lane
+
+-- the numbers that come next where the first so many lanes are at the end of the slice and the
+-- others at its start
+abbrev pub number_after_lanes : ℕ → ℕ → ℕ → ℕ → ℕ
+number_after_lanes count start end lane = if nat_lt lane count then end else start

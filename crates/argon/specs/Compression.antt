@@ -1,0 +1,71 @@
+-- The compression function G of Argon2 (RFC 9106, 3.5 and 3.6). A word is a number below 2 ^ 64,
+-- and a block is a list of 128 words.
+use Rattle.std.specs.Prelude.{ℕ, zero, suc, ◌+◌, ◌*◌, ◌%◌, ◌^◌, List, [], ◌∷◌, bit_xor, replicate, slice_index, get_or}
+use Rattle.std.specs.List.{flat_map, range_with_len}
+use Rattle.std.specs.Int.{w64, rotate_right}
+use Rattle.blake.specs.Words.{along}
+use Rattle.blake.specs.Blake2b.{mixing_places}
+
+-- two lists of words, xored word by word
+abbrev pub xor_words : List ℕ → List ℕ → List ℕ
+xor_words [] others = []
+xor_words (word ∷ words) [] = []
+xor_words (word ∷ words) (other ∷ others) = bit_xor word other ∷ xor_words words others
+
+-- the sum that takes the place of BLAKE2b's in GB (3.6)
+abbrev pub sum_with_product : ℕ → ℕ → ℕ
+sum_with_product a b = (a + b + 2 * (a % 2 ^ 32) * (b % 2 ^ 32)) % 2 ^ 64
+
+-- half of GB on the words a, b, c, d: its first rotation and its second (3.6)
+abbrev pub half_mixed_words : ℕ → ℕ → List ℕ → List ℕ
+half_mixed_words first second words =
+    let a = sum_with_product (slice_index words 0) (slice_index words 1) in
+    let d = rotate_right w64 (bit_xor (slice_index words 3) a) first in
+    let c = sum_with_product (slice_index words 2) d in
+    let b = rotate_right w64 (bit_xor (slice_index words 1) c) second in
+    a ∷ b ∷ c ∷ d ∷ []
+
+-- GB on the words a, b, c, d (3.6)
+unfoldable pub mixed_words : List ℕ → List ℕ
+mixed_words words = half_mixed_words 16 63 (half_mixed_words 32 24 words)
+
+-- sixteen words after the first so many of the eight GB of the permutation P (3.6)
+unfoldable pub words_after_mixings : List ℕ → ℕ → List ℕ
+words_after_mixings words zero = words
+words_after_mixings words (suc count) =
+    along mixed_words (words_after_mixings words count) (get_or mixing_places count [])
+
+-- the permutation P of sixteen words (3.6)
+abbrev pub permutation : List ℕ → List ℕ
+permutation words = words_after_mixings words 8
+
+-- the places of a row of a block: sixteen words (3.5)
+abbrev pub row_places : ℕ → List ℕ
+row_places row = range_with_len (16 * row) 16
+
+-- the places of a column of a block: eight pairs of words (3.5)
+abbrev pub column_places : ℕ → List ℕ
+column_places column =
+    flat_map (λ row. (2 * column + 16 * row) ∷ (2 * column + 16 * row + 1) ∷ []) (range_with_len 0 8)
+
+-- a block with P applied to its first so many rows; to all eight, it is Q of R (3.5)
+unfoldable pub block_after_rows : List ℕ → ℕ → List ℕ
+block_after_rows block zero = block
+block_after_rows block (suc count) = along permutation (block_after_rows block count) (row_places count)
+
+-- a block with P applied to its first so many columns; to all eight, it is Z of Q (3.5)
+unfoldable pub block_after_columns : List ℕ → ℕ → List ℕ
+block_after_columns block zero = block
+block_after_columns block (suc count) = along permutation (block_after_columns block count) (column_places count)
+
+-- what G makes of R: Z xor R (3.5)
+unfoldable pub compression_of_xor : List ℕ → List ℕ
+compression_of_xor xored = xor_words (block_after_columns (block_after_rows xored 8) 8) xored
+
+-- G of X and Y, with R = X xor Y (3.5)
+unfoldable pub compression : List ℕ → List ℕ → List ℕ
+compression first second = compression_of_xor (xor_words first second)
+
+-- the block of zeros
+abbrev pub zero_block : List ℕ
+zero_block = replicate 128 0

@@ -1,0 +1,49 @@
+-- How many block functions, that is, calls of G, a hash takes (RFC 9106, 3.2 and 3.4.1.2): by the
+-- parameters alone.
+use Rattle.std.specs.Prelude.{ℕ, zero, suc, ◌+◌, ◌-◌, ◌*◌, ◌/◌, ◌%◌, Bool, true, false, ◌&&◌, nat_eq, if◌then◌else◌}
+use Rattle.argon.specs.Parameters.{Parameters, segment_len, block_count}
+use Rattle.argon.specs.Reference.{is_independent}
+
+-- how many address blocks a segment of so many columns needs: each has the words J of 128 columns
+-- (3.4.1.2)
+abbrev pub address_count : ℕ → ℕ
+address_count segment = (segment + 127) / 128
+
+-- the index of a segment's first column that comes from other blocks: columns 0 and 1 of the first
+-- pass come from H 0 (3.2, steps 3 and 4)
+abbrev pub first_index : ℕ → ℕ → ℕ
+first_index pass slice = if nat_eq pass 0 && nat_eq slice 0 then 2 else 0
+
+-- the block functions of so many address blocks: two each, and none where the addressing is
+-- dependent (3.4.1.2)
+abbrev pub address_work : Bool → ℕ → ℕ
+address_work true count = 2 * count
+address_work false count = 0
+
+-- the block functions of a segment
+abbrev pub segment_work : Parameters → ℕ → ℕ → ℕ
+segment_work parameters pass slice =
+    segment_len parameters - first_index pass slice
+    + address_work (is_independent parameters pass slice) (address_count (segment_len parameters))
+
+-- the block functions of a slice
+abbrev pub slice_work : Parameters → ℕ → ℕ → ℕ
+slice_work parameters pass slice = parameters.lanes * segment_work parameters pass slice
+
+-- how many segments have independent addressing (3.4.1.3)
+abbrev pub independent_segments : Parameters → ℕ
+independent_segments parameters =
+    if nat_eq parameters.kind 1 then 4 * parameters.lanes * parameters.passes
+    else if nat_eq parameters.kind 2 then 2 * parameters.lanes else 0
+
+-- the block functions of a hash: t * m' - 2 p of its blocks and 2 * ceil(segment / 128) of each
+-- independent segment
+abbrev pub work : Parameters → ℕ
+work parameters =
+    parameters.passes * block_count parameters - 2 * parameters.lanes
+    + 2 * address_count (segment_len parameters) * independent_segments parameters
+
+-- the block functions of the first so many slices of all passes
+unfoldable pub slices_work : Parameters → ℕ → ℕ
+slices_work parameters zero = 0
+slices_work parameters (suc count) = slices_work parameters count + slice_work parameters (count / 4) (count % 4)

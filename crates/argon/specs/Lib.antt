@@ -1,0 +1,16 @@
+pub mod Parameters
+pub mod Compression
+pub mod FourWords
+pub mod Reference
+pub mod Argon2
+pub mod Kind
+pub mod Inputs
+pub mod Counts
+pub mod Range
+pub mod Params
+pub mod Buffer
+pub mod Filling
+pub mod Matrix
+pub mod Places
+pub mod Segment
+pub mod Plan

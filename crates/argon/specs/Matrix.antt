@@ -1,0 +1,17 @@
+-- The matrix, as contracts see it.
+use Rattle.argon.specs.Filling.{Filling, IsFilling}
+use Rattle.argon.specs.declared.matrix.Matrix.TheInside.{Inside}
+
+-- what the fields of a matrix say
+abbrev pub filling_of : Inside → Filling
+filling_of matrix = record {
+  parameters = matrix.params;
+  is_started = matrix.is_started;
+  first_hash = matrix.h0;
+  slices_made = matrix.slices_made;
+  blocks = matrix.blocks.items;
+}
+
+-- what holds of the fields
+abbrev pub IsMatrix : Inside → Type 0
+IsMatrix matrix = IsFilling (filling_of matrix)

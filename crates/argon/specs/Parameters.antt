@@ -1,0 +1,38 @@
+-- The inputs of Argon2 and the size of its memory (RFC 9106, 3.1 and 3.2).
+use Rattle.std.specs.Prelude.{ℕ, ◌*◌, ◌/◌, List}
+
+-- the parameters (3.1)
+pub record Parameters : Type 0 where
+  -- y, the type: 0 for Argon2d, 1 for Argon2i, 2 for Argon2id
+  pub kind : ℕ
+  -- t
+  pub passes : ℕ
+  -- p
+  pub lanes : ℕ
+  -- m in KiB, as it was given
+  pub memory : ℕ
+  -- T, in bytes
+  pub tag_len : ℕ
+  -- the length of the salt S, in bytes
+  pub salt_len : ℕ
+  -- the length of the password P, in bytes
+  pub password_len : ℕ
+
+-- the texts P, S, K and X, as lists of bytes (3.1)
+pub record Inputs : Type 0 where
+  pub password : List ℕ
+  pub salt : List ℕ
+  pub secret : List ℕ
+  pub associated : List ℕ
+
+-- how many columns a segment has (3.4)
+abbrev pub segment_len : Parameters → ℕ
+segment_len parameters = parameters.memory / (4 * parameters.lanes)
+
+-- q, how many columns a lane has (3.2, step 2)
+abbrev pub lane_len : Parameters → ℕ
+lane_len parameters = 4 * segment_len parameters
+
+-- m', how many blocks there are (3.2, step 2)
+abbrev pub block_count : Parameters → ℕ
+block_count parameters = parameters.lanes * lane_len parameters

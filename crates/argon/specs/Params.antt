@@ -1,0 +1,23 @@
+-- Tested parameters, as contracts see them.
+use Rattle.std.specs.Prelude.{◌≡◌}
+use Rattle.argon.specs.Kind.{type_number}
+use Rattle.argon.specs.Parameters.{Parameters, segment_len}
+use Rattle.argon.specs.Range.{IsInRange}
+use Rattle.argon.specs.declared.params.Params.TheInside.{Inside}
+
+-- the numbers given
+abbrev pub parameters_of : Inside → Parameters
+parameters_of params = record {
+  kind = type_number params.kind;
+  passes = params.passes;
+  lanes = params.lanes;
+  memory = params.memory_kib;
+  tag_len = params.tag_len;
+  salt_len = params.salt_len;
+  password_len = params.password_len;
+}
+
+-- what holds of the fields
+pub record IsParams (params : Inside) : Type 0 where
+  pub in_range : IsInRange (parameters_of params)
+  pub segment : params.segment_len ≡ segment_len (parameters_of params)

@@ -1,0 +1,47 @@
+-- The ranges of the parameters (RFC 9106, 3.1). The upper ends of tag, salt and password are
+-- narrower here.
+use Rattle.std.specs.Prelude.{ℕ, ◌*◌, ◌<◌, ◌≤◌, ◌^◌, Bool, ◌&&◌, nat_le, Result, Ok, Err, ⊤, if◌then◌else◌}
+use Rattle.argon.specs.Counts.{work}
+use Rattle.argon.specs.Parameters.{Parameters, block_count}
+use Rattle.argon.specs.declared.fault.ParamFault.{ParamFault}
+use Rattle.argon.specs.declared.fault.ParamFault.TheVariants as fault
+
+-- each parameter is in its range (3.1)
+pub record IsInRange (parameters : Parameters) : Type 0 where
+  pub kind : parameters.kind ≤ 2
+  pub passes : 1 ≤ parameters.passes
+  pub passes_end : parameters.passes < 2 ^ 32
+  pub lanes : 1 ≤ parameters.lanes
+  pub lanes_end : parameters.lanes < 2 ^ 24
+  pub memory : 8 * parameters.lanes ≤ parameters.memory
+  pub memory_end : parameters.memory < 2 ^ 32
+  pub tag_len : 4 ≤ parameters.tag_len
+  pub tag_len_end : parameters.tag_len ≤ 4096
+  pub salt_len : 8 ≤ parameters.salt_len
+  pub salt_len_end : parameters.salt_len ≤ 255
+  pub password_len : 1 ≤ parameters.password_len
+  pub password_len_end : parameters.password_len ≤ 127
+
+-- a number is in a range, its ends included
+abbrev pub is_between : ℕ → ℕ → ℕ → Bool
+is_between low number high = nat_le low number && nat_le number high
+
+-- the rest where a test holds, and the fault where it fails
+abbrev pub rest_or_fault : {A : Type 0} → Bool → ParamFault → Result A ParamFault → Result A ParamFault
+rest_or_fault test refusal rest = if test then rest else Err refusal
+
+-- the parameters, or the first fault (3.1)
+abbrev pub checked_parameters : Parameters → Result Parameters ParamFault
+checked_parameters parameters =
+    rest_or_fault (is_between 1 parameters.passes 0xFFFFFFFF) fault.Passes
+    (rest_or_fault (is_between 1 parameters.lanes 0xFFFFFF) fault.Lanes
+    (rest_or_fault (is_between (8 * parameters.lanes) parameters.memory 0xFFFFFFFF) fault.Memory
+    (rest_or_fault (is_between 4 parameters.tag_len 4096) fault.TagLength
+    (rest_or_fault (is_between 8 parameters.salt_len 255) fault.SaltLength
+    (rest_or_fault (is_between 1 parameters.password_len 127) fault.PasswordLength (Ok parameters))))))
+
+-- whether limits on blocks and on block functions admit the parameters, or the first fault
+abbrev pub admission : Parameters → ℕ → ℕ → Result ⊤ ParamFault
+admission parameters max_kib max_ops =
+    rest_or_fault (nat_le (block_count parameters) max_kib) fault.MemoryLimit
+    (rest_or_fault (nat_le (work parameters) max_ops) fault.WorkLimit (Ok tt))

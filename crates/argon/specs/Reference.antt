@@ -1,0 +1,77 @@
+-- Which block a block takes in beside the previous one (RFC 9106, 3.4).
+--
+-- The columns of a lane are numbered in the order in which they are made: column c of pass r has
+-- the number r * q + c. A number comes once, where a column comes once in each pass.
+use Rattle.std.specs.Prelude.{ℕ, zero, suc, ◌+◌, ◌-◌, ◌*◌, ◌/◌, ◌%◌, ◌^◌, Bool, true, false, ◌&&◌, ◌||◌, nat_eq, nat_lt, List, [], ◌∷◌, ◌++◌, length, take, replicate, slice_index, if◌then◌else◌}
+use Rattle.std.specs.List.{range_with_len}
+use Rattle.argon.specs.Compression.{compression, zero_block}
+use Rattle.argon.specs.Parameters.{Parameters, segment_len, block_count}
+
+-- whether J 1 and J 2 come from the position alone: always in Argon2i, never in Argon2d, and in
+-- Argon2id in the first two slices of the first pass (3.4.1.3)
+abbrev pub is_independent : Parameters → ℕ → ℕ → Bool
+is_independent parameters pass slice =
+    nat_eq parameters.kind 1 || (nat_eq parameters.kind 2 && (nat_eq pass 0 && nat_lt slice 2))
+
+-- Z with its counter, the input of the address blocks (3.4.1.2)
+abbrev pub address_input : Parameters → ℕ → ℕ → ℕ → ℕ → List ℕ
+address_input parameters pass lane slice counter =
+    pass ∷ lane ∷ slice ∷ block_count parameters ∷ parameters.passes ∷ parameters.kind ∷ counter ∷ replicate 121 0
+
+-- the block of 128 words J that belongs to a counter: G(0, G(0, Z)) (3.4.1.2)
+unfoldable pub address_block : Parameters → ℕ → ℕ → ℕ → ℕ → List ℕ
+address_block parameters pass lane slice counter =
+    compression zero_block (compression zero_block (address_input parameters pass lane slice counter))
+
+-- J 1 and J 2 as one word J, J 1 its low half (3.4.1), where the addressing is independent
+-- (3.4.1.2) and where it is not (3.4.1.1)
+abbrev pub reference_words_by : Bool → Parameters → ℕ → ℕ → ℕ → ℕ → List ℕ → ℕ
+reference_words_by true parameters pass lane slice index previous =
+    slice_index (address_block parameters pass lane slice (index / 128 + 1)) (index % 128)
+reference_words_by false parameters pass lane slice index previous = slice_index previous 0
+
+-- the word J of a column, by the place of the column and the block before it (3.4.1.3)
+unfoldable pub reference_words : Parameters → ℕ → ℕ → ℕ → ℕ → List ℕ → ℕ
+reference_words parameters pass lane slice index previous =
+    reference_words_by (is_independent parameters pass slice) parameters pass lane slice index previous
+
+-- l = J 2 mod p, the lane of the reference; in the first slice of the first pass the own lane
+-- (3.4.2)
+abbrev pub reference_lane : Parameters → ℕ → ℕ → ℕ → ℕ → ℕ
+reference_lane parameters pass lane slice j =
+    if nat_eq pass 0 && nat_eq slice 0 then lane else j / 2 ^ 32 % parameters.lanes
+
+-- the numbers of the columns from one up to another in a pass, by the segment's length
+abbrev pub column_numbers : ℕ → ℕ → ℕ → ℕ → List ℕ
+column_numbers segment pass from to = range_with_len (pass * (4 * segment) + from) (to - from)
+
+-- the columns of the slices after this one, as the pass before made them: none in the first pass
+abbrev pub later_slice_numbers : ℕ → ℕ → ℕ → List ℕ
+later_slice_numbers segment zero slice = []
+later_slice_numbers segment (suc before) slice = column_numbers segment before ((slice + 1) * segment) (4 * segment)
+
+-- the columns of a lane that stand in its memory, in the order in which they were made: those of
+-- the last three finished segments and, in the own lane, those of this segment (3.4.2)
+abbrev pub columns_standing : ℕ → ℕ → ℕ → ℕ → Bool → List ℕ
+columns_standing segment pass slice index is_own =
+    later_slice_numbers segment pass slice ++ column_numbers segment pass 0 (slice * segment)
+    ++ column_numbers segment pass (slice * segment) (slice * segment + (if is_own then index else 0))
+
+-- W: the last of them goes in the own lane, where it is the previous block, and at the start of a
+-- segment (3.4.2)
+abbrev pub reference_set : ℕ → ℕ → ℕ → ℕ → Bool → List ℕ
+reference_set segment pass slice index is_own =
+    let columns = columns_standing segment pass slice index is_own in
+    if is_own || nat_eq index 0 then take (length columns - 1) columns else columns
+
+-- the place in a set of so many that J 1 names: |W| - 1 - y, with y = |W| * x / 2^32 and x = J 1 ^
+-- 2 / 2^32 (3.4.2)
+abbrev pub relative_place : ℕ → ℕ → ℕ
+relative_place len j1 = len - 1 - len * (j1 * j1 / 2 ^ 32) / 2 ^ 32
+
+-- z, the number of the column that J names (3.4.2)
+unfoldable pub reference_number : Parameters → ℕ → ℕ → ℕ → ℕ → ℕ → ℕ
+reference_number parameters pass lane slice index j =
+    let is_own = nat_eq (reference_lane parameters pass lane slice j) lane in
+    let columns = reference_set (segment_len parameters) pass slice index is_own in
+    slice_index columns (relative_place (length columns) (j % 2 ^ 32))

@@ -1,0 +1,27 @@
+-- A segment, against the parameters that it belongs to (RFC 9106, 3.4).
+use Rattle.std.specs.Prelude.{◌≡◌, ℕ, ◌+◌, ◌*◌, ◌<◌, ◌≤◌, ◌^◌, min, max}
+use Rattle.argon.specs.Counts.{first_index}
+use Rattle.argon.specs.Parameters.{Parameters, segment_len}
+use Rattle.argon.specs.Reference.{is_independent}
+use Rattle.argon.specs.declared.segment.Segment.{Segment}
+
+-- the bounds that hold of each segment
+pub record IsInMatrix (at : Segment) : Type 0 where
+  pub long : 2 ≤ at.len
+  pub short : at.lanes * (4 * at.len) < 2 ^ 32
+  pub slices : at.slice < 4
+  pub lane : at.lane < at.lanes
+
+-- the segment is one of those parameters
+pub record IsSegmentOf (parameters : Parameters) (at : Segment) : Type 0 where
+  pub lanes : parameters.lanes ≡ at.lanes
+  pub len : segment_len parameters ≡ at.len
+  pub independent : is_independent parameters at.pass at.slice ≡ at.is_independent
+
+-- the number of the column with an index in the segment
+abbrev pub column_number : Segment → ℕ → ℕ
+column_number at index = at.pass * (4 * at.len) + (at.slice * at.len + index)
+
+-- the index up to which a segment is made after so many parts of 128 columns
+abbrev pub index_after_parts : Segment → ℕ → ℕ
+index_after_parts at parts = max (first_index at.pass at.slice) (min (128 * parts) at.len)

@@ -1,0 +1,68 @@
+// The address blocks of independent addressing (RFC 9106, section 3.4.1.2).
+ghost use Rattle.std.specs.Prelude.{◌≡◌, ◌+◌, ◌/◌, ◌<◌, ◌≤◌, ◌^◌, true};
+ghost use Rattle.argon.specs.Counts.{address_count, address_work};
+ghost use Rattle.argon.specs.Reference.{address_block};
+
+use crate::block::{Block, write_xor};
+use crate::compression::{Scratch, compression};
+use crate::params::Params;
+use crate::segment::Segment;
+use crate::ticks::Ticks;
+
+/// How many address blocks a segment of so many columns needs: each has the words J of 128 columns,
+/// one part.
+pub(crate) fn address_count(segment_len: u32) -> u32
+    requires short { segment_len < 2 ^ 31 }
+    ensures value { result ≡ address_count segment_len }
+{
+    (segment_len + 127) / 128
+}
+
+// Makes the address block of a part, counted from 0: G(0, G(0, Z)).
+fn write_addresses(
+    params: &Params,
+    at: &Segment,
+    part: u32,
+    addresses: &mut Block,
+    scratch: &mut Scratch,
+    ticks: &mut Ticks,
+)
+    requires parts { part < 2 ^ 31 }
+    ensures value { addresses.new
+        ≡ address_block params.now at.now.pass at.now.lane at.now.slice (part + 1) }
+    ensures count { ticks.new ≡ ticks.old + 2 }
+{
+    let zero = [0; 128];
+    let mut input = [0; 128];
+    input[0] = at.pass as u64;
+    input[1] = at.lane as u64;
+    input[2] = at.slice as u64;
+    input[3] = params.blocks() as u64;
+    input[4] = params.passes() as u64;
+    input[5] = params.kind().number() as u64;
+    input[6] = part as u64 + 1;
+    compression(&zero, &input, scratch, ticks);
+    write_xor(&scratch.permuted, &scratch.xored, &mut input);
+    compression(&zero, &input, scratch, ticks);
+    write_xor(&scratch.permuted, &scratch.xored, addresses);
+}
+
+/// Makes the address block of a part, counted from 0, where the addressing of the segment is
+/// independent.
+pub(crate) fn prepare_addresses(
+    params: &Params,
+    at: &Segment,
+    part: u32,
+    addresses: &mut Block,
+    scratch: &mut Scratch,
+    ticks: &mut Ticks,
+)
+    requires parts { part < 2 ^ 31 }
+    ensures value { at.now.is_independent ≡ true
+        → addresses.new ≡ address_block params.now at.now.pass at.now.lane at.now.slice (part + 1) }
+    ensures count { ticks.new ≡ ticks.old + address_work at.now.is_independent 1 }
+{
+    if at.is_independent {
+        write_addresses(params, at, part, addresses, scratch, ticks);
+    }
+}

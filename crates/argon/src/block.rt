@@ -1,0 +1,137 @@
+// Blocks of 1,024 bytes: their rows and columns (RFC 9106, section 3.5), and their xor, four words
+// at a time.
+ghost use Rattle.std.specs.Prelude.{◌≡◌, ◌+◌, ◌*◌, ◌<◌, ◌≤◌, bit_xor, length};
+ghost use Rattle.std.specs.Simd.Lanes.{chunk, put_chunk, zip2};
+ghost use Rattle.blake.specs.Words.{with_words_at, words_at};
+ghost use Rattle.argon.specs.Compression.{column_places, row_places, xor_words};
+ghost use Rattle.argon.specs.FourWords.{four_words, pair_places, sixteen_words};
+
+use crate::permutation::Sixteen;
+use std::simd::{u64x2, u64x4};
+
+/// A block: 128 words of 64 bits, 1,024 bytes.
+pub(crate) type Block = [u64; 128];
+
+// Four words that stand together.
+#[inline(always)]
+fn four(words: &[u64], at: usize) -> u64x4
+    requires within { at + 4 ≤ length words.now }
+    ensures value { result ≡ chunk at 4 words.now }
+{
+    u64x4::from_slice(&words[at..])
+}
+
+#[inline(always)]
+fn put_four(words: &mut [u64], at: usize, new: u64x4)
+    requires within { at + 4 ≤ length words.old }
+    ensures value { words.new ≡ put_chunk at words.old (four_words new) }
+{
+    new.copy_to_slice(&mut words[at..]);
+}
+
+// Two words that stand together, and the two that stand sixteen places on.
+#[inline(always)]
+fn two_pairs(words: &[u64], at: usize) -> u64x4
+    requires within { at + 18 ≤ length words.now }
+    ensures value { four_words result ≡ words_at words.now (pair_places at) }
+{
+    u64x2::from_slice(&words[at..]).shuffle::<4>(u64x2::from_slice(&words[at + 16..]), [0, 1, 2, 3])
+}
+
+#[inline(always)]
+fn put_two_pairs(words: &mut [u64], at: usize, new: u64x4)
+    requires within { at + 18 ≤ length words.old }
+    ensures value { words.new ≡ with_words_at words.old (pair_places at) (four_words new) }
+{
+    new.extract::<0, 2>().copy_to_slice(&mut words[at..]);
+    new.extract::<2, 2>().copy_to_slice(&mut words[at + 16..]);
+}
+
+/// The sixteen words of a row.
+#[inline(always)]
+pub(crate) fn row(block: &Block, number: usize) -> Sixteen
+    requires rows { number < 8 }
+    ensures value { sixteen_words result.0 result.1 result.2 result.3
+        ≡ words_at block.now (row_places number) }
+{
+    let at = 16 * number;
+    (
+        four(block, at),
+        four(block, at + 4),
+        four(block, at + 8),
+        four(block, at + 12),
+    )
+}
+
+#[inline(always)]
+pub(crate) fn put_row(block: &mut Block, number: usize, new: Sixteen)
+    requires rows { number < 8 }
+    ensures value { block.new
+        ≡ with_words_at block.old (row_places number) (sixteen_words new.0 new.1 new.2 new.3) }
+{
+    let at = 16 * number;
+    put_four(block, at, new.0);
+    put_four(block, at + 4, new.1);
+    put_four(block, at + 8, new.2);
+    put_four(block, at + 12, new.3);
+}
+
+/// The sixteen words of a column: eight pairs.
+#[inline(always)]
+pub(crate) fn column(block: &Block, number: usize) -> Sixteen
+    requires columns { number < 8 }
+    ensures value { sixteen_words result.0 result.1 result.2 result.3
+        ≡ words_at block.now (column_places number) }
+{
+    let at = 2 * number;
+    (
+        two_pairs(block, at),
+        two_pairs(block, at + 32),
+        two_pairs(block, at + 64),
+        two_pairs(block, at + 96),
+    )
+}
+
+#[inline(always)]
+pub(crate) fn put_column(block: &mut Block, number: usize, new: Sixteen)
+    requires columns { number < 8 }
+    ensures value { block.new
+        ≡ with_words_at block.old (column_places number) (sixteen_words new.0 new.1 new.2 new.3) }
+{
+    let at = 2 * number;
+    put_two_pairs(block, at, new.0);
+    put_two_pairs(block, at + 32, new.1);
+    put_two_pairs(block, at + 64, new.2);
+    put_two_pairs(block, at + 96, new.3);
+}
+
+#[inline(always)]
+fn xor(first: u64x4, second: u64x4) -> u64x4
+    ensures value { result ≡ zip2 bit_xor first second }
+{
+    first ^ second
+}
+
+/// Writes the xor of two blocks.
+#[inline(always)]
+pub(crate) fn write_xor(first: &Block, second: &Block, out: &mut Block)
+    ensures value { out.new ≡ xor_words first.now second.now }
+{
+    'words: for i in 0..32 {
+        put_four(out, 4 * i, xor(four(first, 4 * i), four(second, 4 * i)));
+    }
+}
+
+/// Xors the xor of two blocks into a third.
+#[inline(always)]
+pub(crate) fn write_xor_over(first: &Block, second: &Block, out: &mut Block)
+    ensures value { out.new ≡ xor_words (xor_words first.now second.now) out.old }
+{
+    'words: for i in 0..32 {
+        let new = xor(
+            xor(four(first, 4 * i), four(second, 4 * i)),
+            four(out, 4 * i),
+        );
+        put_four(out, 4 * i, new);
+    }
+}

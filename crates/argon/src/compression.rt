@@ -1,0 +1,85 @@
+// The compression function G (RFC 9106, section 3.5) in blocks that the caller lends, two rows or
+// two columns at a time.
+ghost use Rattle.std.specs.Prelude.{◌≡◌, ◌+◌, ◌*◌, ◌<◌};
+ghost use Rattle.blake.specs.Words.{along};
+ghost use Rattle.argon.specs.Compression.{block_after_columns, block_after_rows, column_places, compression, permutation, xor_words};
+ghost use Rattle.argon.specs.FourWords.{with_row_permuted};
+
+use crate::block::{Block, column, put_column, put_row, row, write_xor};
+use crate::permutation::permute;
+use crate::ticks::Ticks;
+
+/// The two blocks that G works in. They are made once for many calls, since making a block costs
+/// time, and what stood in them does not matter.
+#[derive(Drop)]
+pub(crate) struct Scratch {
+    // R, the xor of the two blocks that are taken in.
+    pub(crate) xored: Block,
+    // Z, which is R after its rows and its columns.
+    pub(crate) permuted: Block,
+}
+
+impl Scratch {
+    pub(crate) fn new() -> Scratch {
+        Scratch {
+            xored: [0; 128],
+            permuted: [0; 128],
+        }
+    }
+}
+
+// Rows 2 i and 2 i + 1 of a block, permuted, into another.
+#[inline(always)]
+fn permute_two_rows(from: &Block, into: &mut Block, i: usize)
+    requires rows { i < 4 }
+    ensures value { into.new
+        ≡ with_row_permuted from.now (with_row_permuted from.now into.old (2 * i)) (2 * i + 1) }
+{
+    let (even, odd) = permute(row(from, 2 * i), row(from, 2 * i + 1));
+    put_row(into, 2 * i, even);
+    put_row(into, 2 * i + 1, odd);
+}
+
+// Columns 2 i and 2 i + 1 of a block, permuted in place.
+#[inline(always)]
+fn permute_two_columns(block: &mut Block, i: usize)
+    requires columns { i < 4 }
+    ensures value { block.new
+        ≡ along permutation (along permutation block.old (column_places (2 * i)))
+        (column_places (2 * i + 1)) }
+{
+    let (even, odd) = permute(column(block, 2 * i), column(block, 2 * i + 1));
+    put_column(block, 2 * i, even);
+    put_column(block, 2 * i + 1, odd);
+}
+
+#[inline(always)]
+fn permute_rows(from: &Block, into: &mut Block)
+    ensures value { into.new ≡ block_after_rows from.now 8 }
+{
+    'rows: for i in 0..4 {
+        permute_two_rows(from, into, i);
+    }
+}
+
+#[inline(always)]
+fn permute_columns(block: &mut Block)
+    ensures value { block.new ≡ block_after_columns block.old 8 }
+{
+    'columns: for i in 0..4 {
+        permute_two_columns(block, i);
+    }
+}
+
+/// The block function: leaves in the scratch blocks R and Z, whose xor is G of the two blocks, and
+/// counts one.
+pub(crate) fn compression(first: &Block, second: &Block, scratch: &mut Scratch, ticks: &mut Ticks)
+    ensures value { xor_words scratch.new.permuted scratch.new.xored
+        ≡ compression first.now second.now }
+    ensures count { ticks.new ≡ ticks.old + 1 }
+{
+    write_xor(first, second, &mut scratch.xored);
+    permute_rows(&scratch.xored, &mut scratch.permuted);
+    permute_columns(&mut scratch.permuted);
+    ticks.tick();
+}

@@ -1,0 +1,162 @@
+// The matrix B (RFC 9106, section 3.2), in one buffer that later passes overwrite.
+ghost use Rattle.std.specs.Prelude.{◌≡◌, ◌+◌, ◌*◌, ◌/◌, ◌%◌, true, false, ◌↔◌, length, IfOk, IsSome};
+ghost use Rattle.argon.specs.Argon2.{argon2_tag, first_hash, tag_by_first_hash};
+ghost use Rattle.argon.specs.Counts.{slice_work, work};
+ghost use Rattle.argon.specs.Filling.{HasNext, IsDone, IsNewest, next_slice};
+ghost use Rattle.argon.specs.Inputs.{AreInputsOf, inputs_of};
+ghost use Rattle.argon.specs.Parameters.{block_count};
+
+use crate::block::Block;
+use crate::first_columns::{first_hash, put_first_columns};
+use crate::inputs::Inputs;
+use crate::params::Params;
+use crate::room::Room;
+use crate::segment::fill_slice;
+use crate::tag::{write_tag, xor_last_column};
+use crate::ticks::Ticks;
+use std::alloc::{AllocError, Global};
+use std::marker::Model;
+
+/// The memory of a hash: m' blocks of 1,024 bytes (RFC 9106, section 3.2). It serves any number of
+/// hashes with its parameters, one after another.
+///
+/// Contracts see its parameters, whether it was started and with which H0, how many slices of all
+/// passes are made, and its blocks, lane after lane. Once it was started, every place holds the
+/// newest version of its block, where one exists.
+#[derive(Drop)]
+pub struct Matrix {
+    params: Params,
+    h0: [u8; 64],
+    is_started: bool,
+    slices_made: u64,
+    blocks: Vec<Block>,
+}
+
+impl Model for Matrix {
+    ghost use Rattle.argon.specs.Filling.{Filling};
+
+    ghost Value = { Filling };
+
+    ghost use Rattle.argon.specs.Matrix.{filling_of, IsMatrix};
+
+    ghost view = { filling_of };
+
+    ghost invariant = { IsMatrix };
+}
+
+/// A matrix whose blocks come from `room`.
+pub(crate) fn reserve_from<R: Room>(room: &mut R, params: &Params) -> Result<Matrix, AllocError>
+    ensures parameters { IfOk result (λ matrix. matrix.parameters ≡ params.now) }
+    ensures size { IfOk result (λ matrix. length matrix.blocks ≡ block_count params.now) }
+    ensures started { IfOk result (λ matrix. matrix.is_started ≡ false) }
+{
+    let blocks = room.blocks(params.blocks() as usize)?;
+    Ok(Matrix {
+        params: params.copied(),
+        h0: [0; 64],
+        is_started: false,
+        slices_made: 0,
+        blocks,
+    })
+}
+
+impl Matrix {
+    /// Takes the memory of a hash with these parameters: m' blocks of 1,024 bytes, in one request.
+    /// `AllocError` where it is refused, and then nothing is held.
+    pub fn reserve(alloc: Global, params: &Params) -> Result<Matrix, AllocError>
+        ensures parameters { IfOk result (λ matrix. matrix.parameters ≡ params.now) }
+        ensures size { IfOk result (λ matrix. length matrix.blocks ≡ block_count params.now) }
+        ensures started { IfOk result (λ matrix. matrix.is_started ≡ false) }
+    {
+        let mut room = alloc;
+        reserve_from(&mut room, params)
+    }
+
+    /// Computes H0 and the first two columns (RFC 9106, section 3.2, steps 1, 3 and 4). What was
+    /// made before is given up, and pass 0, slice 0 comes next.
+    pub fn start(&mut self, inputs: &Inputs<'_>)
+        requires inputs { AreInputsOf self.old.parameters (inputs_of inputs.now) }
+        ensures parameters { self.new.parameters ≡ self.old.parameters }
+        ensures started { self.new.is_started ≡ true }
+        ensures first_hash { self.new.first_hash
+            ≡ first_hash self.old.parameters (inputs_of inputs.now) }
+        ensures position { self.new.slices_made ≡ 0 }
+        ensures newest { IsNewest self.new }
+        ensures size { length self.new.blocks ≡ length self.old.blocks }
+    {
+        self.h0 = first_hash(&self.params, inputs);
+        put_first_columns(&mut self.blocks, &self.params, &self.h0);
+        self.slices_made = 0;
+        self.is_started = true;
+    }
+
+    /// The pass, 0 to t-1, and the slice, 0 to 3, that come next. None where all are made, or
+    /// `start` wasn't called.
+    pub fn next(&self) -> Option<(u32, u32)>
+        ensures value { result ≡ next_slice self.now }
+        ensures left { IsSome result ↔ HasNext self.now }
+    {
+        if self.is_started && self.slices_made < 4 * self.params.passes() as u64 {
+            Some(((self.slices_made / 4) as u32, (self.slices_made % 4) as u32))
+        } else {
+            None
+        }
+    }
+
+    /// Makes the blocks of the next slice, lane by lane (RFC 9106, section 3.2, steps 5 and 6).
+    pub fn slice(&mut self, ticks: &mut Ticks)
+        requires next { HasNext self.old }
+        ensures parameters { self.new.parameters ≡ self.old.parameters }
+        ensures started { self.new.is_started ≡ true }
+        ensures first_hash { self.new.first_hash ≡ self.old.first_hash }
+        ensures position { self.new.slices_made ≡ self.old.slices_made + 1 }
+        ensures newest { IsNewest self.new }
+        ensures size { length self.new.blocks ≡ length self.old.blocks }
+        ensures count { ticks.new
+            ≡ ticks.old + slice_work self.old.parameters (self.old.slices_made / 4)
+            (self.old.slices_made % 4) }
+    {
+        let pass = (self.slices_made / 4) as u32;
+        let slice = (self.slices_made % 4) as u32;
+        fill_slice(&mut self.blocks, &self.params, pass, slice, ticks);
+        self.slices_made += 1;
+    }
+
+    // The blocks, lane after lane.
+    #[cfg(test)]
+    pub(crate) fn blocks(&self) -> &[Block] {
+        &self.blocks
+    }
+
+    /// Writes the tag of a matrix whose slices are all made (RFC 9106, section 3.2, steps 7 and 8).
+    /// `out` has the tag's length, in bytes.
+    pub fn tag(&self, out: &mut [u8])
+        requires done { IsDone self.now }
+        requires len { length out.old ≡ self.now.parameters.tag_len }
+        ensures tag { out.new ≡ tag_by_first_hash self.now.parameters self.now.first_hash }
+    {
+        let last = xor_last_column(
+            &self.blocks,
+            self.params.lanes(),
+            4 * self.params.segment_len(),
+        );
+        write_tag(&last, out);
+    }
+
+    /// Writes the tag of the inputs: `start`, every slice, `tag`. `out` has the tag's length, in
+    /// bytes. It takes as many block functions as `Params::work` says.
+    pub fn hash(&mut self, inputs: &Inputs<'_>, out: &mut [u8], ticks: &mut Ticks)
+        requires inputs { AreInputsOf self.old.parameters (inputs_of inputs.now) }
+        requires len { length out.old ≡ self.old.parameters.tag_len }
+        ensures tag { out.new ≡ argon2_tag self.old.parameters (inputs_of inputs.now) }
+        ensures parameters { self.new.parameters ≡ self.old.parameters }
+        ensures size { length self.new.blocks ≡ length self.old.blocks }
+        ensures count { ticks.new ≡ ticks.old + work self.old.parameters }
+    {
+        self.start(inputs);
+        for _ in 0..4 * self.params.passes() as u64 {
+            self.slice(ticks);
+        }
+        self.tag(out);
+    }
+}

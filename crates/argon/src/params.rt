@@ -1,0 +1,233 @@
+// The parameters (RFC 9106, section 3.1), tested once.
+ghost use Rattle.std.specs.Prelude.{◌≡◌, ◌*◌, ◌<◌, ◌≤◌, ◌^◌, IfOk, Result};
+ghost use Rattle.argon.specs.Counts.{independent_segments, work};
+ghost use Rattle.argon.specs.Kind.{type_number};
+ghost use Rattle.argon.specs.Parameters.{Parameters, block_count, segment_len};
+ghost use Rattle.argon.specs.Range.{IsInRange, admission, checked_parameters, is_between};
+ghost use Rattle.argon.specs.Reference.{is_independent};
+
+use crate::addresses::address_count;
+use crate::fault::ParamFault;
+use crate::kind::Kind;
+use std::marker::Model;
+
+/// The parameters of a hash, in range (RFC 9106, section 3.1). Contracts see the numbers that were
+/// given.
+#[derive(Drop)]
+pub struct Params {
+    kind: Kind,
+    passes: u32,
+    lanes: u32,
+    memory_kib: u32,
+    tag_len: usize,
+    salt_len: usize,
+    password_len: usize,
+    // How many columns a segment has.
+    segment_len: u32,
+}
+
+impl Model for Params {
+    ghost use Rattle.argon.specs.Parameters.{Parameters};
+
+    ghost Value = { Parameters };
+
+    ghost use Rattle.argon.specs.Params.{parameters_of, IsParams};
+
+    ghost view = { parameters_of };
+
+    ghost invariant = { IsParams };
+}
+
+// Whether a number is in a range, its ends included.
+fn is_between(low: u64, number: u64, high: u64) -> bool
+    ensures value { result ≡ is_between low number high }
+{
+    low <= number && number <= high
+}
+
+impl Params {
+    /// Tests the parameters of a hash. `version` is 0x13. The ranges are, in the order in which
+    /// they are tested: `passes` t 1 to 2^32-1, `lanes` p 1 to 2^24-1, `memory_kib` m 8p to 2^32-1
+    /// in KiB, and the lengths in bytes of the tag, 4 to 4,096, the salt, 8 to 255, and the
+    /// password, 1 to 127. The first that fails is the fault, 1 to 6.
+    pub fn new(
+        kind: Kind,
+        version: u32,
+        passes: u32,
+        lanes: u32,
+        memory_kib: u32,
+        tag_len: usize,
+        salt_len: usize,
+        password_len: usize,
+    ) -> Result<Params, ParamFault>
+        requires version { version ≡ 0x13 }
+        ensures exact { result ≡ checked_parameters (record {
+          kind = type_number kind;
+          passes = passes;
+          lanes = lanes;
+          memory = memory_kib;
+          tag_len = tag_len;
+          salt_len = salt_len;
+          password_len = password_len;
+        }) }
+        ensures value { IfOk result (λ p. p ≡ record {
+          kind = type_number kind;
+          passes = passes;
+          lanes = lanes;
+          memory = memory_kib;
+          tag_len = tag_len;
+          salt_len = salt_len;
+          password_len = password_len;
+        }) }
+        ensures in_range { IfOk result IsInRange }
+    {
+        if !is_between(1, passes as u64, 0xFFFF_FFFF) {
+            return Err(ParamFault::Passes);
+        }
+        if !is_between(1, lanes as u64, 0xFF_FFFF) {
+            return Err(ParamFault::Lanes);
+        }
+        if !is_between(8 * lanes as u64, memory_kib as u64, 0xFFFF_FFFF) {
+            return Err(ParamFault::Memory);
+        }
+        if !is_between(4, tag_len as u64, 4096) {
+            return Err(ParamFault::TagLength);
+        }
+        if !is_between(8, salt_len as u64, 255) {
+            return Err(ParamFault::SaltLength);
+        }
+        if !is_between(1, password_len as u64, 127) {
+            return Err(ParamFault::PasswordLength);
+        }
+        Ok(Params {
+            kind,
+            passes,
+            lanes,
+            memory_kib,
+            tag_len,
+            salt_len,
+            password_len,
+            segment_len: memory_kib / (4 * lanes),
+        })
+    }
+
+    // The same parameters once more.
+    pub(crate) fn copied(&self) -> Params
+        ensures same { result ≡ self.now }
+        ensures in_range { IsInRange self.now }
+    {
+        Params {
+            kind: self.kind,
+            passes: self.passes,
+            lanes: self.lanes,
+            memory_kib: self.memory_kib,
+            tag_len: self.tag_len,
+            salt_len: self.salt_len,
+            password_len: self.password_len,
+            segment_len: self.segment_len,
+        }
+    }
+
+    /// The type.
+    pub fn kind(&self) -> Kind
+        ensures value { type_number result ≡ self.now.kind }
+    {
+        self.kind
+    }
+
+    /// The passes t, 1 to 2^32-1.
+    pub fn passes(&self) -> u32
+        ensures value { result ≡ self.now.passes }
+        ensures some { 1 ≤ result }
+    {
+        self.passes
+    }
+
+    /// The lanes p, 1 to 2^24-1.
+    pub fn lanes(&self) -> u32
+        ensures value { result ≡ self.now.lanes }
+        ensures some { 1 ≤ result }
+        ensures few { result < 2 ^ 24 }
+    {
+        self.lanes
+    }
+
+    /// The memory m in KiB as it was given, 8p to 2^32-1.
+    pub fn memory_kib(&self) -> u32
+        ensures value { result ≡ self.now.memory }
+    {
+        self.memory_kib
+    }
+
+    /// The length of the tag T in bytes, 4 to 4,096.
+    pub fn tag_len(&self) -> usize
+        ensures value { result ≡ self.now.tag_len }
+        ensures some { 4 ≤ result }
+        ensures short { result ≤ 4096 }
+    {
+        self.tag_len
+    }
+
+    /// How many columns a segment has: `blocks` by 4p (RFC 9106, section 3.4).
+    pub fn segment_len(&self) -> u32
+        ensures value { result ≡ segment_len self.now }
+        ensures long { 2 ≤ result }
+        ensures short { self.now.lanes * (4 * result) < 2 ^ 32 }
+    {
+        self.segment_len
+    }
+
+    /// m', the number of blocks of 1,024 bytes that a matrix holds: the memory in KiB, rounded down
+    /// to a multiple of 4p (RFC 9106, section 3.2, step 2).
+    pub fn blocks(&self) -> u32
+        ensures value { result ≡ block_count self.now }
+    {
+        self.lanes * (4 * self.segment_len)
+    }
+
+    /// How many block functions a hash takes: `t*m' - 2p` for its blocks, and two for each 128
+    /// columns begun of a segment with independent addressing. It can be past 2^64.
+    pub fn work(&self) -> u128
+        ensures value { result ≡ work self.now }
+    {
+        let made = self.passes as u128 * self.blocks() as u128 - 2 * self.lanes as u128;
+        made + 2 * address_count(self.segment_len) as u128 * self.independent_segments() as u128
+    }
+
+    // How many segments have independent addressing.
+    fn independent_segments(&self) -> u64
+        ensures value { result ≡ independent_segments self.now }
+        ensures small { result < 2 ^ 58 }
+    {
+        match self.kind {
+            Kind::D => 0,
+            Kind::I => 4 * self.lanes as u64 * self.passes as u64,
+            Kind::Id => 2 * self.lanes as u64,
+        }
+    }
+
+    // Whether the words J of a slice come from the position alone.
+    pub(crate) fn is_independent(&self, pass: u32, slice: u32) -> bool
+        ensures value { result ≡ is_independent self.now pass slice }
+    {
+        match self.kind {
+            Kind::D => false,
+            Kind::I => true,
+            Kind::Id => pass == 0 && slice < 2,
+        }
+    }
+
+    /// Whether a hash takes at most `max_kib` blocks of 1 KiB (else fault 7) and at most `max_ops`
+    /// block functions (else fault 8). Fault 7 is told before 8.
+    pub fn admitted(&self, max_kib: u32, max_ops: u64) -> Result<(), ParamFault>
+        ensures exact { result ≡ admission self.now max_kib max_ops }
+    {
+        if self.blocks() > max_kib {
+            return Err(ParamFault::MemoryLimit);
+        }
+        if self.work() > max_ops as u128 {
+            return Err(ParamFault::WorkLimit);
+        }
+        Ok(())
+    }
+}

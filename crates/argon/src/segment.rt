@@ -1,0 +1,204 @@
+// The blocks of a segment and of a slice (RFC 9106, section 3.2, steps 5 and 6, and section 3.4).
+ghost use Rattle.std.specs.Prelude.{◌≡◌, ℕ, ◌+◌, ◌*◌, ◌/◌, ◌%◌, ◌<◌, ◌≤◌, ◌^◌, List, length, true, false, slice_index, slice_set};
+ghost use Rattle.argon.specs.Argon2.{block_at};
+ghost use Rattle.argon.specs.Buffer.{HoldsNewest, IsInSlice, block_held, number_after_slices, with_next_number};
+ghost use Rattle.argon.specs.Counts.{first_index, segment_work, slice_work};
+ghost use Rattle.argon.specs.Parameters.{Parameters, block_count};
+ghost use Rattle.argon.specs.Reference.{address_block};
+ghost use Rattle.argon.specs.Segment.{IsInMatrix, IsSegmentOf, column_number, index_after_parts};
+
+use crate::addresses::{address_count, prepare_addresses};
+use crate::block::Block;
+use crate::compression::Scratch;
+use crate::filling::store_block;
+use crate::params::Params;
+use crate::places::{previous_column, reference_column, reference_lane};
+use crate::ticks::Ticks;
+
+/// One lane's part of a slice.
+#[derive(Drop)]
+pub(crate) struct Segment {
+    // How many lanes there are.
+    pub(crate) lanes: u32,
+    // How many columns a segment has.
+    pub(crate) len: u32,
+    // All three from 0.
+    pub(crate) pass: u32,
+    pub(crate) slice: u32,
+    pub(crate) lane: u32,
+    // Whether its words J come from the position alone.
+    pub(crate) is_independent: bool,
+}
+
+impl Segment {
+    /// A lane's segment of a slice.
+    pub(crate) fn new(params: &Params, pass: u32, slice: u32, lane: u32) -> Segment
+        requires slices { slice < 4 }
+        requires known { lane < params.now.lanes }
+        ensures valid { IsInMatrix result }
+        ensures is_of { IsSegmentOf params.now result }
+        ensures place { (result.pass ≡ pass) × (result.slice ≡ slice) × (result.lane ≡ lane) }
+    {
+        Segment {
+            lanes: params.lanes(),
+            len: params.segment_len(),
+            pass,
+            slice,
+            lane,
+            is_independent: params.is_independent(pass, slice),
+        }
+    }
+}
+
+// The word J of a column.
+fn reference_words(is_independent: bool, addresses: &Block, index: u32, previous: &Block) -> u64
+    ensures independent { is_independent ≡ true → result ≡ slice_index addresses.now (index % 128) }
+    ensures dependent { is_independent ≡ false → result ≡ slice_index previous.now 0 }
+{
+    if is_independent {
+        addresses[(index % 128) as usize]
+    } else {
+        previous[0]
+    }
+}
+
+// Makes the block of one column.
+fn fill_column(
+    blocks: &mut [Block],
+    at: &Segment,
+    index: u32,
+    addresses: &Block,
+    scratch: &mut Scratch,
+    ticks: &mut Ticks,
+)
+    requires valid { IsInMatrix at.now }
+    requires indices { index < at.now.len }
+    requires first { first_index at.now.pass at.now.slice ≤ index }
+    requires size { length blocks.old ≡ at.now.lanes * (4 * at.now.len) }
+    ensures count { ticks.new ≡ ticks.old + 1 }
+    ensures value { (parameters : Parameters) → IsSegmentOf parameters at.now
+        → (at.now.is_independent ≡ true
+        → addresses.now
+        ≡ address_block parameters at.now.pass at.now.lane at.now.slice (index / 128 + 1))
+        → blocks.new ≡ slice_set blocks.old
+        (at.now.lane * (4 * at.now.len) + (at.now.slice * at.now.len + index))
+        (block_at parameters (block_held parameters blocks.old) (column_number at.now index)
+        at.now.lane at.now.pass at.now.slice index) }
+{
+    let lane_len = 4 * at.len as usize;
+    let column = (at.slice * at.len + index) as usize;
+    let start = at.lane as usize * lane_len;
+    let previous = start + previous_column(lane_len, column);
+    let j = reference_words(at.is_independent, addresses, index, &blocks[previous]);
+    let lane = reference_lane(at.lanes, at.pass, at.slice, at.lane, j);
+    let j1 = (j % 0x1_0000_0000) as u32;
+    let other = reference_column(at.len, at.pass, at.slice, index, lane == at.lane, j1);
+    let reference = lane as usize * lane_len + other as usize;
+    store_block(
+        at.pass,
+        blocks,
+        start + column,
+        previous,
+        reference,
+        scratch,
+        ticks,
+    );
+}
+
+/// The index up to which a segment is made after so many parts of 128 columns.
+pub(crate) fn end_of_parts(at: &Segment, parts: u32) -> u32
+    requires few { 128 * parts < 2 ^ 32 }
+    ensures value { result ≡ index_after_parts at.now parts }
+{
+    let first = if at.pass == 0 && at.slice == 0 { 2 } else { 0 };
+    first.max((128 * parts).min(at.len))
+}
+
+// Makes the blocks of a part: the columns whose words J stand in one address block.
+fn fill_part(
+    blocks: &mut [Block],
+    at: &Segment,
+    part: u32,
+    addresses: &Block,
+    scratch: &mut Scratch,
+    ticks: &mut Ticks,
+)
+    requires valid { IsInMatrix at.now }
+    requires parts { 128 * part < at.now.len }
+    requires size { length blocks.old ≡ at.now.lanes * (4 * at.now.len) }
+    ensures size { length blocks.new ≡ length blocks.old }
+    ensures count { ticks.new + index_after_parts at.now part
+        ≡ ticks.old + index_after_parts at.now (part + 1) }
+    ensures newest { (parameters : Parameters) (h0 : List ℕ) (next : ℕ → ℕ)
+        → IsSegmentOf parameters at.now
+        → (at.now.is_independent ≡ true
+        → addresses.now
+        ≡ address_block parameters at.now.pass at.now.lane at.now.slice (part + 1))
+        → HoldsNewest parameters h0 blocks.old next
+        → IsInSlice parameters at.now.pass at.now.slice next
+        → next at.now.lane ≡ column_number at.now (index_after_parts at.now part)
+        → HoldsNewest parameters h0 blocks.new (with_next_number next at.now.lane
+        (column_number at.now (index_after_parts at.now (part + 1)))) }
+{
+    let from = end_of_parts(at, part);
+    let to = end_of_parts(at, part + 1);
+    for index in from..to {
+        fill_column(blocks, at, index, addresses, scratch, ticks);
+    }
+}
+
+// Makes the blocks of a segment.
+fn fill_segment(
+    blocks: &mut [Block],
+    params: &Params,
+    at: &Segment,
+    scratch: &mut Scratch,
+    ticks: &mut Ticks,
+)
+    requires valid { IsInMatrix at.now }
+    requires is_of { IsSegmentOf params.now at.now }
+    requires size { length blocks.old ≡ at.now.lanes * (4 * at.now.len) }
+    ensures size { length blocks.new ≡ length blocks.old }
+    ensures count { ticks.new ≡ ticks.old + segment_work params.now at.now.pass at.now.slice }
+    ensures newest { (h0 : List ℕ) (next : ℕ → ℕ) → HoldsNewest params.now h0 blocks.old next
+        → IsInSlice params.now at.now.pass at.now.slice next
+        → next at.now.lane ≡ column_number at.now (first_index at.now.pass at.now.slice)
+        → HoldsNewest params.now h0 blocks.new
+        (with_next_number next at.now.lane (column_number at.now at.now.len)) }
+{
+    let mut addresses = [0; 128];
+    for part in 0..address_count(at.len) {
+        prepare_addresses(params, at, part, &mut addresses, scratch, ticks);
+        fill_part(blocks, at, part, &addresses, scratch, ticks);
+    }
+}
+
+/// Makes the blocks of a slice, lane by lane.
+pub(crate) fn fill_slice(
+    blocks: &mut [Block],
+    params: &Params,
+    pass: u32,
+    slice: u32,
+    ticks: &mut Ticks,
+)
+    requires slices { slice < 4 }
+    requires size { length blocks.old ≡ block_count params.now }
+    ensures size { length blocks.new ≡ length blocks.old }
+    ensures count { ticks.new ≡ ticks.old + slice_work params.now pass slice }
+    ensures newest { (h0 : List ℕ)
+        → HoldsNewest params.now h0 blocks.old
+        (λ _. number_after_slices params.now (4 * pass + slice))
+        → HoldsNewest params.now h0 blocks.new
+        (λ _. number_after_slices params.now (4 * pass + slice + 1)) }
+{
+    let mut scratch = Scratch::new();
+    for lane in 0..params.lanes() {
+        fill_segment(
+            blocks,
+            params,
+            &Segment::new(params, pass, slice, lane),
+            &mut scratch,
+            ticks,
+        );
+    }
+}
