@@ -1,0 +1,24 @@
+-- What an encoded text says, and its ranges.
+use Rattle.std.specs.Prelude.{ℕ, ◌-◌, ◌*◌, ◌^◌, ◌==◌, Bool, ◌&&◌, List}
+use Rattle.argon.specs.Range.{is_between}
+use Rattle.argon.specs.declared.kind.Kind.{Kind}
+
+-- the type y, the version v, memory m in KiB, passes t, lanes p, salt S and tag T (RFC 9106, 3.1)
+pub record Value : Type 0 where
+  pub kind : Kind
+  pub version : ℕ
+  pub memory : ℕ
+  pub passes : ℕ
+  pub lanes : ℕ
+  pub salt : List ℕ
+  pub tag : List ℕ
+
+-- version 0x13, and the ranges of RFC 9106, 3.1; the upper ends of salt and tag are own
+abbrev pub are_in_range : ℕ → ℕ → ℕ → ℕ → ℕ → ℕ → Bool
+are_in_range version memory passes lanes salt_len tag_len =
+    (version == 0x13)
+    && is_between 1 passes (2 ^ 32 - 1)
+    && is_between 1 lanes (2 ^ 24 - 1)
+    && is_between (8 * lanes) memory (2 ^ 32 - 1)
+    && is_between 8 salt_len 255
+    && is_between 4 tag_len 4096

@@ -1,0 +1,15 @@
+-- What contracts see of an `Encoded`.
+use Rattle.argon_text.specs.Value.{Value}
+use Rattle.argon_text.specs.declared.encoded.Encoded.{Encoded}
+
+-- the value, without where its bytes lie in memory
+abbrev pub value_of : Encoded → Value
+value_of e = record {
+  kind = e.kind;
+  version = e.version;
+  memory = e.memory;
+  passes = e.passes;
+  lanes = e.lanes;
+  salt = e.salt.items;
+  tag = e.tag.items;
+}

@@ -1,0 +1,105 @@
+//! The value of an encoded text, and how it is written.
+ghost use Rattle.std.specs.Prelude.{◌≡◌, ◌++◌, true, length, IfOk, OnOk, OnErr, string_bytes, codes};
+ghost use Rattle.std.specs.Fmt.{decimal};
+ghost use Rattle.argon_text.specs.Value.{are_in_range};
+ghost use Rattle.argon_text.specs.EncodedText.{base64_text, kind_name};
+
+use argon::Kind;
+use base64::engine::general_purpose::STANDARD_NO_PAD;
+use std::alloc::{AllocError, Global};
+
+/// A hash with the parameters that gave it, as an encoded text holds them. Contracts see a `Value`.
+///
+/// Whoever makes one shows that all of it lies in the ranges below (RFC 9106, 3.1; the upper ends of
+/// salt and tag are this project's own).
+#[derive(Drop)]
+pub struct Encoded {
+    /// Argon2d, Argon2i or Argon2id.
+    pub kind: Kind,
+    /// The version of Argon2: 0x13.
+    pub version: u32,
+    /// Memory in KiB: 8 * lanes to 2^32-1.
+    pub memory: u32,
+    /// Passes over memory: 1 to 2^32-1.
+    pub passes: u32,
+    /// Lanes: 1 to 2^24-1.
+    pub lanes: u32,
+    /// The salt: 8 to 255 bytes.
+    pub salt: Vec<u8>,
+    /// The tag: 4 to 4,096 bytes.
+    pub tag: Vec<u8>,
+    pub ghost in_range: { are_in_range version memory passes lanes (length salt.items) (length tag.items) ≡ true },
+}
+
+impl Encoded {
+    ghost use Rattle.argon_text.specs.EncodedText.{encoded_text};
+    ghost use Rattle.argon_text.specs.View.{value_of};
+
+    /// Appends the encoded text. After a refusal of memory `out` is unchanged.
+    pub fn write(&self, out: &mut Vec<u8>) -> Result<(), AllocError>
+        ensures ok { OnOk result (out.new.items ≡ out.old.items ++ encoded_text (value_of self.now)) }
+        ensures err { OnErr result (out.new.items ≡ out.old.items) }
+    {
+        let text = self.text(*out.allocator())?;
+        out.extend_from_slice(text.as_bytes())
+    }
+
+    // The encoded text.
+    #[tactic(auto, unfolding(crate::specs::EncodedText::text_of_fields))]
+    fn text(&self, alloc: Global) -> Result<String, AllocError>
+        ensures text { IfOk result (λ text.
+            string_bytes text ≡ encoded_text (value_of self.now)) }
+    {
+        let salt = base64_text(alloc, &self.salt)?;
+        let tag = base64_text(alloc, &self.tag)?;
+        let mut text = String::new(alloc);
+        text.push_str("$argon2")?;
+        text.push_str(kind_name(self.kind))?;
+        push_number(alloc, &mut text, "$v=", self.version)?;
+        push_number(alloc, &mut text, "$m=", self.memory)?;
+        push_number(alloc, &mut text, ",t=", self.passes)?;
+        push_number(alloc, &mut text, ",p=", self.lanes)?;
+        push_part(&mut text, &salt)?;
+        push_part(&mut text, &tag)?;
+        Ok(text)
+    }
+}
+
+// The name of a type of Argon2.
+fn kind_name(kind: Kind) -> &'static str
+    ensures name { result.now ≡ kind_name kind }
+{
+    match kind {
+        Kind::D => "d",
+        Kind::I => "i",
+        Kind::Id => "id",
+    }
+}
+
+// Base64 in the standard alphabet, without padding (RFC 4648, 4 and 3.2).
+#[tactic(auto, unfolding(crate::specs::EncodedText::base64_text))]
+fn base64_text(alloc: Global, bytes: &[u8]) -> Result<String, AllocError>
+    ensures text { IfOk result (λ text. string_bytes text ≡ base64_text bytes.now) }
+{
+    STANDARD_NO_PAD.encode(alloc, bytes)
+}
+
+// Appends a label and a number in decimal.
+fn push_number(alloc: Global, text: &mut String, label: &str, number: u32) -> Result<(), AllocError>
+    ensures appends { OnOk result
+        (string_bytes text.new ≡ string_bytes text.old ++ label.now ++ decimal number) }
+{
+    text.push_str(label)?;
+    text.push_str(&number.to_string(alloc)?)?;
+    Ok(())
+}
+
+// Appends a base64 part and the mark before it.
+fn push_part(text: &mut String, part: &str) -> Result<(), AllocError>
+    ensures appends { OnOk result
+        (string_bytes text.new ≡ string_bytes text.old ++ codes "$" ++ part.now) }
+{
+    text.push_str("$")?;
+    text.push_str(part)?;
+    Ok(())
+}

@@ -1,0 +1,109 @@
+//! Texts that the reference program writes, of every type and several lengths of salt and tag. Each comes from
+//! `printf password | argon2 ..`, the text by `-e` and the tag by `-r`; the words stand beside it.
+ghost use Rattle.std.specs.Prelude.{◌≡◌, true, length};
+ghost use Rattle.argon_text.specs.Value.{are_in_range};
+
+use crate::Encoded;
+use argon::Kind;
+use std::alloc::{AllocError, Global};
+use std::test::Fail;
+
+fn value(
+    alloc: Global,
+    kind: Kind,
+    memory: u32,
+    passes: u32,
+    lanes: u32,
+    salt: &[u8],
+    tag: &[u8],
+) -> Result<Encoded, AllocError>
+    requires in_range { are_in_range 0x13 memory passes lanes (length salt.now) (length tag.now) ≡ true }
+{
+    let salt = salt.to_vec(alloc)?;
+    let tag = tag.to_vec(alloc)?;
+    Ok(Encoded {
+        kind,
+        version: 0x13,
+        memory,
+        passes,
+        lanes,
+        salt,
+        tag,
+    })
+}
+
+#[test]
+fn writes_texts(rt: HostRuntime) -> Result<(), Fail> {
+    let alloc = rt.alloc();
+    let rows = [
+        // somesalt -d -t 1 -k 8 -l 4
+        (
+            value(
+                alloc,
+                Kind::D,
+                8,
+                1,
+                1,
+                b"somesalt",
+                &[0x79, 0x3f, 0xf6, 0x94],
+            )?,
+            "$argon2d$v=19$m=8,t=1,p=1$c29tZXNhbHQ$eT/2lA",
+        ),
+        // saltsalt9 -i -t 2 -k 16 -p 2 -l 5
+        (
+            value(
+                alloc,
+                Kind::I,
+                16,
+                2,
+                2,
+                b"saltsalt9",
+                &[0xe1, 0xfb, 0x5a, 0xe2, 0xd3],
+            )?,
+            "$argon2i$v=19$m=16,t=2,p=2$c2FsdHNhbHQ5$4fta4tM",
+        ),
+        // 0123456789 -id -t 3 -k 64 -p 4 -l 6
+        (
+            value(
+                alloc,
+                Kind::Id,
+                64,
+                3,
+                4,
+                b"0123456789",
+                &[0xc4, 0xf1, 0x4f, 0x7f, 0x9c, 0xa2],
+            )?,
+            "$argon2id$v=19$m=64,t=3,p=4$MDEyMzQ1Njc4OQ$xPFPf5yi",
+        ),
+    ];
+    for (value, text) in rows.iter() {
+        let mut out = b"before: ".to_vec(alloc)?;
+        value.write(&mut out)?;
+        assert_eq!(rt; out.strip_prefix(b"before: "), Some(text.as_bytes()));
+    }
+    Ok(())
+}
+
+// Under a refused growth (`rt try --test --fail-alloc N`) what stood in the vector stays as it was.
+#[test]
+fn writes_all_or_nothing(rt: HostRuntime) -> Result<(), Fail> {
+    let alloc = rt.alloc();
+    let value = value(
+        alloc,
+        Kind::D,
+        8,
+        1,
+        1,
+        b"somesalt",
+        &[0x79, 0x3f, 0xf6, 0x94],
+    )?;
+    let mut out = b"before: ".to_vec(alloc)?;
+    let whole = b"before: $argon2d$v=19$m=8,t=1,p=1$c29tZXNhbHQ$eT/2lA".as_slice();
+    let expected = if value.write(&mut out).is_ok() {
+        whole
+    } else {
+        b"before: ".as_slice()
+    };
+    assert_eq!(rt; out.as_slice(), expected);
+    Ok(())
+}
