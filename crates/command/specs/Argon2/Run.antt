@@ -1,0 +1,77 @@
+-- A whole run of argon2: what stands at its end.
+use Rattle.std.specs.Prelude.{◌≡◌, ◌<◌, ◌⊎◌, ℕ, Bool, true, false, List, Option, None, Ok, Err, IsOk, IsTrue, length, take}
+use Rattle.command.specs.Seen.{Seen, Text, after_open_output, after_push, after_say}
+use Rattle.command.specs.Faults.{Faults, line_failed}
+use Rattle.command.specs.Argon2.Refusal.{IsEarly, counted_by, line_of}
+use Rattle.command.specs.Argon2.Request.{argon2_request}
+use Rattle.command.specs.Argon2.Output.{argon2_output}
+use Rattle.command.specs.declared.argon2_command.refusal.Argon2Refusal.{Argon2Refusal}
+use Rattle.command.specs.declared.argon2_command.refusal.Argon2Refusal.TheVariants as refusal
+
+-- standard output was opened and got these bytes, and nothing else changed
+abbrev pub after_writing : List ℕ → Seen → Seen
+after_writing bytes s = after_push bytes (after_open_output None s)
+
+-- the run ended with status 0: standard output got the whole output
+pub record Succeeds (words : List Text) (before after : Seen) : Type 0 where
+  pub output : List ℕ
+  pub due : argon2_output words before ≡ Ok output
+  pub written : after ≡ after_writing output before
+
+-- standard output was opened and got a beginning of the output, not the whole
+pub record IsCutShort (output : List ℕ) (before after : Seen) : Type 0 where
+  pub written : ℕ
+  pub some_missing : written < length output
+  pub begun : after ≡ after_writing (take written output) before
+
+-- the refusal is that of words, password, parameters or limits
+abbrev pub IsDue : Argon2Refusal → List Text → Seen → Seen → Type 0
+IsDue r words before after = (argon2_output words before ≡ Err r) × IsEarly r × (after ≡ before)
+
+-- the words are taken, and the host failed to give the password
+abbrev pub FailsPassword : Argon2Refusal → List Text → Seen → Seen → Type 0
+FailsPassword r words before after = (r ≡ refusal.PasswordFault) × IsOk (argon2_request words) × (after ≡ before)
+
+-- no refusal was due, and a growth of memory was refused before the output was opened
+abbrev pub LacksMemory : Argon2Refusal → List Text → Seen → Seen → Type 0
+LacksMemory r words before after = (r ≡ refusal.OutOfMemory) × IsOk (argon2_output words before) × (after ≡ before)
+
+-- no refusal was due, and the host failed to open standard output or to take all of the output
+pub record FailsOutput (r : Argon2Refusal) (words : List Text) (before after : Seen) : Type 0 where
+  pub is : r ≡ refusal.OutputFault
+  pub output : List ℕ
+  pub due : argon2_output words before ≡ Ok output
+  pub left : (after ≡ before) ⊎ IsCutShort output before after
+
+-- the run ended with this refusal, whose line isn't said yet
+abbrev pub IsRefused : Argon2Refusal → List Text → Seen → Seen → Type 0
+IsRefused r words before after =
+    IsDue r words before after
+    ⊎ FailsPassword r words before after
+    ⊎ LacksMemory r words before after
+    ⊎ FailsOutput r words before after
+
+-- the counts after a line that was said, or could not be said
+abbrev pub faults_after_line : Bool → Faults → Faults
+faults_after_line true f = f
+faults_after_line false f = line_failed f
+
+-- the host after a line that was said, or could not be said
+abbrev pub after_line : Bool → Text → Seen → Seen
+after_line true line s = after_say line s
+after_line false line s = s
+
+-- the one line was said, or it was not and the count of lines rose
+pub record SaysOneLine (tells : Bool) (line : Text) (before after : Seen) (faults_before faults_after : Faults)
+    : Type 0 where
+  pub said : Bool
+  pub counts : faults_after ≡ faults_after_line said faults_before
+  pub seen : IsTrue tells → after ≡ after_line said line before
+
+-- the run ended with a refusal: the count that it names rose and no other, and its one line was said
+pub record Refuses (tells : Bool) (words : List Text) (before after : Seen) (faults_before faults_after : Faults)
+    : Type 0 where
+  pub told : Argon2Refusal
+  pub unsaid : Seen
+  pub says : SaysOneLine tells (line_of told) unsaid after (counted_by told faults_before) faults_after
+  pub refused : IsTrue tells → IsRefused told words before unsaid

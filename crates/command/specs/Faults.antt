@@ -1,0 +1,34 @@
+-- How often the calls of a host have failed.
+use Rattle.std.specs.Prelude.{◌+◌, ◌<◌, ℕ}
+
+-- how many calls of each kind failed: open_input and pull, open_output and push, secret, salt, say
+pub record Faults : Type 0 where
+  pub input : ℕ
+  pub output : ℕ
+  pub secrets : ℕ
+  pub salt : ℕ
+  pub lines : ℕ
+
+-- one failure of the output more
+abbrev pub output_failed : Faults → Faults
+output_failed f = record f { output = f.output + 1 }
+
+-- one failure of a secret source more
+abbrev pub secret_failed : Faults → Faults
+secret_failed f = record f { secrets = f.secrets + 1 }
+
+-- one line more that could not be said
+abbrev pub line_failed : Faults → Faults
+line_failed f = record f { lines = f.lines + 1 }
+
+-- each count is below n
+pub record AreBelow (n : ℕ) (f : Faults) : Type 0 where
+  pub input : f.input < n
+  pub output : f.output < n
+  pub secrets : f.secrets < n
+  pub salt : f.salt < n
+  pub lines : f.lines < n
+
+-- the counts of a host where nothing failed yet
+abbrev pub no_faults : Faults
+no_faults = record { input = 0; output = 0; secrets = 0; salt = 0; lines = 0 }

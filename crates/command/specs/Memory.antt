@@ -1,0 +1,81 @@
+-- What contracts see of a host in memory.
+use Rattle.std.specs.Prelude.{ℕ, ◌+◌, ◌-◌, ◌^◌, ◌==◌, List, [], ◌∷◌, Option, Some, None, option_map, bytes_eq, if◌then◌else◌}
+use Rattle.std.specs.List.{find}
+use Rattle.command.specs.Seen.{Seen, Text}
+use Rattle.command.specs.Faults.{Faults, no_faults}
+
+-- a secret under a name
+pub record Entry : Type 0 where
+  pub name : Text
+  pub bytes : List ℕ
+
+-- the bytes of the first entry of this name
+abbrev pub lookup : List Entry → Text → Option (List ℕ)
+lookup entries name = option_map (λ e. e.bytes) (find (λ e. bytes_eq e.name name) entries)
+
+-- a host in memory: what it tells, its counts of failures, the greatest sizes of a pull and of a push in bytes, the
+-- number of the call that is to fail (0: none), and how many calls there were
+pub record Memory : Type 0 where
+  pub input : List ℕ
+  pub output : List ℕ
+  pub input_opened : Option (Option Text)
+  pub output_opened : Option (Option Text)
+  pub said : List Text
+  pub stdin : List ℕ
+  pub variables : List Entry
+  pub files : List Entry
+  pub salt : List ℕ
+  pub faults : Faults
+  pub pull_size : ℕ
+  pub push_size : ℕ
+  pub failing : ℕ
+  pub calls : ℕ
+
+-- a new host: nothing is opened, said or written, nothing failed, no call is to fail, and the sizes are not bounded
+abbrev pub new_memory : List ℕ → List ℕ → List ℕ → Memory
+new_memory input stdin salt = record {
+  input = input;
+  output = [];
+  input_opened = None;
+  output_opened = None;
+  said = [];
+  stdin = stdin;
+  variables = [];
+  files = [];
+  salt = salt;
+  faults = no_faults;
+  pull_size = 2 ^ 64 - 1;
+  push_size = 2 ^ 64 - 1;
+  failing = 0;
+  calls = 0;
+}
+
+-- its bytes, names and lines
+abbrev pub memory_seen : Memory → Seen
+memory_seen m = record {
+  input = m.input;
+  output = m.output;
+  input_opened = m.input_opened;
+  output_opened = m.output_opened;
+  said = m.said;
+  stdin = Some m.stdin;
+  variables = lookup m.variables;
+  files = lookup m.files;
+  salt = m.salt;
+}
+
+-- its counts of failures
+abbrev pub memory_faults : Memory → Faults
+memory_faults m = m.faults
+
+-- the number of the next call; it stays at the greatest
+abbrev pub next_call : ℕ → ℕ
+next_call n = if n == 2 ^ 64 - 1 then n else n + 1
+
+-- the host with a variable more
+abbrev pub with_variable : Text → List ℕ → Memory → Memory
+with_variable name bytes m = record m { variables = record { name = name; bytes = bytes } ∷ m.variables }
+
+-- the host with a secret file more
+abbrev pub with_file : Text → List ℕ → Memory → Memory
+with_file name bytes m = record m { files = record { name = name; bytes = bytes } ∷ m.files }

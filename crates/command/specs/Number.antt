@@ -1,0 +1,14 @@
+-- Number words: one to twenty ASCII digits, leading zeros allowed.
+use Rattle.std.specs.Prelude.{◌&&◌, ℕ, Bool, Option, Some, None, length, nat_lt, nat_le, if◌then◌else◌}
+use Rattle.std.specs.List.{list_all}
+use Rattle.std.specs.Char.{is_ascii_digit}
+use Rattle.std.specs.Str.Parse.{digits_value}
+use Rattle.command.specs.Seen.{Text}
+
+-- whether a word is a number word
+abbrev pub is_number_word : Text → Bool
+is_number_word word = nat_lt 0 (length word) && (nat_le (length word) 20 && list_all is_ascii_digit word)
+
+-- the number that the word writes in decimal
+abbrev pub number_of : Text → Option ℕ
+number_of word = if is_number_word word then Some (digits_value 10 word) else None

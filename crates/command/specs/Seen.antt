@@ -1,0 +1,50 @@
+-- What contracts see of a host that tells its bytes, and what each call leaves of it.
+use Rattle.std.specs.Prelude.{◌≡◌, ℕ, List, ◌∷◌, [], ◌++◌, drop, Option, Some, None}
+
+-- a text: its bytes
+abbrev pub Text : Type 0
+Text = List ℕ
+
+-- the input that is left, the output so far, the names under which they were opened (None: not opened; Some None:
+-- the standard stream), the lines said so far, the secret sources, and the salt
+pub record Seen : Type 0 where
+  pub input : List ℕ
+  pub output : List ℕ
+  pub input_opened : Option (Option Text)
+  pub output_opened : Option (Option Text)
+  pub said : List Text
+  pub stdin : Option (List ℕ)
+  pub variables : Text → Option (List ℕ)
+  pub files : Text → Option (List ℕ)
+  pub salt : List ℕ
+
+-- no input and no output is opened yet
+pub record IsUnopened (s : Seen) : Type 0 where
+  pub input : s.input_opened ≡ None
+  pub output : s.output_opened ≡ None
+
+-- these bytes stand behind the output
+abbrev pub after_push : List ℕ → Seen → Seen
+after_push bytes s = record s { output = s.output ++ bytes }
+
+-- a line more was said
+abbrev pub after_say : Text → Seen → Seen
+after_say line s = record s { said = s.said ++ (line ∷ []) }
+
+-- the output was opened under this name
+abbrev pub after_open_output : Option Text → Seen → Seen
+after_open_output name s = record s { output_opened = Some name }
+
+-- stands where a host tells nothing
+abbrev pub nothing_seen : Seen
+nothing_seen = record {
+  input = [];
+  output = [];
+  input_opened = None;
+  output_opened = None;
+  said = [];
+  stdin = None;
+  variables = λ _. None;
+  files = λ _. None;
+  salt = [];
+}

@@ -1,0 +1,23 @@
+//! Bytes to a host.
+ghost use Rattle.std.specs.Prelude.{◌≡◌, ◌<◌, ◌^◌, ℕ, take, length, OnOk, OnErr, IsTrue};
+ghost use Rattle.command.specs.Faults.{AreBelow, output_failed};
+ghost use Rattle.command.specs.Seen.{after_push};
+
+use crate::host::{Host, HostFault};
+
+/// Writes all of the bytes. After a fault a beginning of them has been written, not the whole.
+pub fn push_all<H: Host>(host: &mut H, bytes: &[u8]) -> Result<(), HostFault>
+    requires room { AreBelow (2 ^ 63) (H.faults host.old) }
+    ensures counts { OnOk result (H.faults host.new ≡ H.faults host.old) }
+    ensures counted { OnErr result (H.faults host.new ≡ output_failed (H.faults host.old)) }
+    ensures put { IsTrue H.tells →
+        OnOk result (H.seen host.new ≡ after_push bytes.now (H.seen host.old)) }
+    ensures begun { IsTrue H.tells → OnErr result ((n : ℕ) × (n < length bytes.now)
+        × (H.seen host.new ≡ after_push (take n bytes.now) (H.seen host.old))) }
+{
+    let mut at = 0;
+    while at < bytes.len() {
+        at += host.push(&bytes[at..])?;
+    }
+    Ok(())
+}

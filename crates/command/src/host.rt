@@ -1,0 +1,82 @@
+//! What a command asks of the world.
+ghost use Rattle.std.specs.Prelude.{◌≡◌, ◌-◌, ◌<◌, ◌≤◌, ◌^◌, Bool, take, length, option_map, IfOk, OnOk, OnErr, IsTrue};
+ghost use Rattle.command.specs.Faults.{Faults, AreBelow, output_failed, secret_failed, line_failed};
+ghost use Rattle.command.specs.Secret.{secret_of, IsBeginning};
+ghost use Rattle.command.specs.Seen.{Seen, after_push, after_say, after_open_output};
+
+use thiserror::Error;
+
+/// The host could not do what it was asked. Its count of such failures has risen by one, and
+/// nothing else has changed.
+#[derive(Clone, Copy, Debug, PartialEq, Eq, Error)]
+#[error("the host failed")]
+pub struct HostFault;
+
+/// Where a secret comes from.
+#[derive(Clone, Copy, Debug)]
+pub enum Source<'a> {
+    /// All of standard input.
+    StdinOnce,
+    /// The environment variable of this name.
+    Env(&'a str),
+    /// The file of this name.
+    File(&'a str),
+}
+
+/// The world outside, as a command sees it.
+///
+/// Contracts see whether the host tells its bytes (`tells`), its bytes, names and lines (`seen`), and
+/// how often its calls have failed (`faults`). A call that answers `Ok` changes no count, and of
+/// `seen` only what its clauses say; a call that answers `Err` raises its count by one and changes
+/// nothing else. What is said of bytes, names and lines holds of a host that tells them; the counts
+/// and the bounds on lengths hold of every host.
+pub trait Host {
+    // Whether contracts may speak of the bytes, names and lines.
+    ghost tells: { Bool };
+
+    // The bytes, names and lines.
+    ghost seen: { Self → Seen };
+
+    // How often each kind of call has failed.
+    ghost faults: { Self → Faults };
+
+    /// Opens the output under this name; `None` is standard output.
+    fn open_output(&mut self, name: Option<&str>) -> Result<(), HostFault>
+        requires room { AreBelow (2 ^ 64 - 1) (faults self.old) }
+        ensures counts { OnOk result (faults self.new ≡ faults self.old) }
+        ensures counted { OnErr result (faults self.new ≡ output_failed (faults self.old)) }
+        ensures kept { IsTrue tells → OnErr result (seen self.new ≡ seen self.old) }
+        ensures opened { IsTrue tells → OnOk result
+            (seen self.new ≡ after_open_output (option_map (λ n. n.now) name.entry) (seen self.old)) };
+
+    /// Writes a beginning of the bytes, of at least one where there is one, and says how many.
+    fn push(&mut self, bytes: &[u8]) -> Result<usize, HostFault>
+        requires room { AreBelow (2 ^ 64 - 1) (faults self.old) }
+        ensures bound { IfOk result (λ n. n ≤ length bytes.now) }
+        ensures some { IfOk result (λ n. 0 < length bytes.now → 0 < n) }
+        ensures counts { OnOk result (faults self.new ≡ faults self.old) }
+        ensures counted { OnErr result (faults self.new ≡ output_failed (faults self.old)) }
+        ensures kept { IsTrue tells → OnErr result (seen self.new ≡ seen self.old) }
+        ensures put { IsTrue tells →
+            IfOk result (λ n. seen self.new ≡ after_push (take n bytes.now) (seen self.old)) };
+
+    /// Puts the first bytes of a secret source into the buffer, as many as there are and as fit, and
+    /// says how many.
+    fn secret(&mut self, source: Source<'_>, buf: &mut [u8]) -> Result<usize, HostFault>
+        requires room { AreBelow (2 ^ 64 - 1) (faults self.old) }
+        ensures bound { IfOk result (λ n. n ≤ length buf.old) }
+        ensures counts { OnOk result (faults self.new ≡ faults self.old) }
+        ensures counted { OnErr result (faults self.new ≡ secret_failed (faults self.old)) }
+        ensures kept { IsTrue tells → seen self.new ≡ seen self.old }
+        ensures bytes { IsTrue tells →
+            IfOk result (λ n. IsBeginning (secret_of source.entry (seen self.old)) n buf.new) };
+
+    /// Says a line, which comes without a line feed.
+    fn say(&mut self, line: &str) -> Result<(), HostFault>
+        requires room { AreBelow (2 ^ 64 - 1) (faults self.old) }
+        ensures counts { OnOk result (faults self.new ≡ faults self.old) }
+        ensures counted { OnErr result (faults self.new ≡ line_failed (faults self.old)) }
+        ensures kept { IsTrue tells → OnErr result (seen self.new ≡ seen self.old) }
+        ensures said { IsTrue tells →
+            OnOk result (seen self.new ≡ after_say line.now (seen self.old)) };
+}

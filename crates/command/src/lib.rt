@@ -1,0 +1,16 @@
+//! The commands over a host: their words, their refusals and their whole runs.
+//!
+//! A command asks the world for everything through the trait [`Host`], so its contract can say what
+//! a run comes to, whatever the host is.
+#![tactic(auto)]
+
+mod argon2_command;
+mod flow;
+mod host;
+mod memory;
+mod named;
+mod number;
+
+pub use argon2_command::{Argon2Refusal, argon2};
+pub use host::{Host, HostFault, Source};
+pub use memory::MemoryHost;

@@ -1,0 +1,327 @@
+//! A host in memory.
+ghost use Rattle.std.specs.Prelude.{◌≡◌, ◌-◌, ◌<◌, ◌^◌, ◌==◌, ℕ, true, List, take, length, min, map, option_map, Option, Some, None, IfOk, OnOk, OnErr, string_bytes, bytes_eq, if◌then◌else◌};
+ghost use Rattle.command.specs.Memory.{Memory, lookup, memory_seen, memory_faults, new_memory, next_call, with_variable, with_file};
+ghost use Rattle.command.specs.Secret.{secret_of};
+
+use crate::host::{Host, HostFault, Source};
+use crate::named::{NamedSecret, find, put_first};
+use std::alloc::{AllocError, Global};
+use std::marker::Model;
+
+/// A host whose world is in memory: it tells its bytes, takes them in pieces of given sizes, and
+/// fails at a given call.
+///
+/// Contracts see a `Memory`: what it tells, its counts of failures, its sizes and the call that is
+/// to fail. A secret source that is missing, and a refused growth of the host's own output, lines or
+/// names, are failures of the host.
+#[derive(Drop)]
+pub struct MemoryHost {
+    alloc: Global,
+    input: Vec<u8>,
+    output: Vec<u8>,
+    input_name: Option<Option<String>>,
+    output_name: Option<Option<String>>,
+    lines: Vec<String>,
+    stdin: Vec<u8>,
+    variables: Vec<NamedSecret>,
+    files: Vec<NamedSecret>,
+    salt: [u8; 32],
+    input_faults: u64,
+    output_faults: u64,
+    secret_faults: u64,
+    salt_faults: u64,
+    line_faults: u64,
+    pull_size: usize,
+    push_size: usize,
+    failing: u64,
+    calls: u64,
+}
+
+impl Model for MemoryHost {
+    ghost Value = { Memory };
+
+    ghost view = { λ h. record {
+      input = h.input.items;
+      output = h.output.items;
+      input_opened = option_map (option_map string_bytes) h.input_name;
+      output_opened = option_map (option_map string_bytes) h.output_name;
+      said = map string_bytes h.lines.items;
+      stdin = h.stdin.items;
+      variables = h.variables.items;
+      files = h.files.items;
+      salt = h.salt;
+      faults = record {
+        input = h.input_faults;
+        output = h.output_faults;
+        secrets = h.secret_faults;
+        salt = h.salt_faults;
+        lines = h.line_faults;
+      };
+      pull_size = h.pull_size;
+      push_size = h.push_size;
+      failing = h.failing;
+      calls = h.calls;
+    } };
+
+    ghost invariant = { λ h. (0 < h.pull_size) × (0 < h.push_size) };
+}
+
+impl MemoryHost {
+    /// A host whose input is `input` under any name, whose standard input as a secret is `stdin`,
+    /// and whose salt is `salt`. It has no variables and no secret files, bounds no pull and no
+    /// push, and fails at no call.
+    pub fn new(alloc: Global, input: Vec<u8>, stdin: Vec<u8>, salt: [u8; 32]) -> MemoryHost
+        ensures fresh { result ≡ new_memory input.items stdin.items salt }
+    {
+        MemoryHost {
+            alloc,
+            input,
+            output: Vec::new(alloc),
+            input_name: None,
+            output_name: None,
+            lines: Vec::new(alloc),
+            stdin,
+            variables: Vec::new(alloc),
+            files: Vec::new(alloc),
+            salt,
+            input_faults: 0,
+            output_faults: 0,
+            secret_faults: 0,
+            salt_faults: 0,
+            line_faults: 0,
+            pull_size: usize::MAX,
+            push_size: usize::MAX,
+            failing: 0,
+            calls: 0,
+        }
+    }
+
+    /// Gives the environment variable `name` a value. Where a name is given again, the later bytes count.
+    pub fn set_env(&mut self, name: String, bytes: Vec<u8>) -> Result<(), AllocError>
+        ensures ok { OnOk result (self.new ≡ with_variable (string_bytes name) bytes.items self.old) }
+        ensures given { OnOk result ((asked : List ℕ) →
+            lookup self.new.variables asked ≡ (if bytes_eq (string_bytes name) asked
+            then Some bytes.items else lookup self.old.variables asked)) }
+        ensures err { OnErr result (self.new ≡ self.old) }
+    {
+        put_first(&mut self.variables, name, bytes)
+    }
+
+    /// Gives the secret file `name` its bytes. Where a name is given again, the later bytes count.
+    pub fn set_file(&mut self, name: String, bytes: Vec<u8>) -> Result<(), AllocError>
+        ensures ok { OnOk result (self.new ≡ with_file (string_bytes name) bytes.items self.old) }
+        ensures given { OnOk result ((asked : List ℕ) →
+            lookup self.new.files asked ≡ (if bytes_eq (string_bytes name) asked
+            then Some bytes.items else lookup self.old.files asked)) }
+        ensures err { OnErr result (self.new ≡ self.old) }
+    {
+        put_first(&mut self.files, name, bytes)
+    }
+
+    /// Sets the greatest number of bytes of a pull and of a push, each at least 1.
+    pub fn set_sizes(&mut self, pull: usize, push: usize)
+        requires pull_some { 0 < pull }
+        requires push_some { 0 < push }
+        ensures sizes { self.new ≡
+            (let m = self.old in record m { pull_size = pull; push_size = push }) }
+    {
+        self.pull_size = pull;
+        self.push_size = push;
+    }
+
+    /// Names the call that is to fail, counted from 1 over all calls of the host; 0 is none. The
+    /// counter stays at 2^64-1 once it is there.
+    pub fn fail_at(&mut self, call: u64)
+        ensures failing { self.new ≡ (let m = self.old in record m { failing = call }) }
+    {
+        self.failing = call;
+    }
+
+    /// The output so far.
+    pub fn output(&self) -> &[u8]
+        ensures value { result.now ≡ self.now.output }
+    {
+        self.output.as_slice()
+    }
+
+    /// The lines said so far.
+    pub fn lines(&self) -> &[String]
+        ensures value { map string_bytes result.now ≡ self.now.said }
+    {
+        self.lines.as_slice()
+    }
+
+    /// The name under which the input was opened, where it was; `Some(None)` is standard input.
+    pub fn input_name(&self) -> Option<Option<&str>>
+        ensures value { option_map (option_map (λ n. n.now)) result ≡ self.now.input_opened }
+    {
+        name_kept(&self.input_name)
+    }
+
+    /// The name under which the output was opened, where it was; `Some(None)` is standard output.
+    pub fn output_name(&self) -> Option<Option<&str>>
+        ensures value { option_map (option_map (λ n. n.now)) result ≡ self.now.output_opened }
+    {
+        name_kept(&self.output_name)
+    }
+
+    // Counts a call, and says whether it is the one to fail.
+    fn is_failing(&mut self) -> bool
+        ensures counted { self.new ≡ (let m = self.old in record m { calls = next_call m.calls }) }
+        ensures failing { result ≡ (next_call self.old.calls == self.old.failing) }
+    {
+        if self.calls < u64::MAX {
+            self.calls += 1;
+        }
+        self.calls == self.failing
+    }
+}
+
+// A name as it was kept.
+fn name_kept(name: &Option<Option<String>>) -> Option<Option<&str>>
+    ensures name { option_map (option_map (λ n. n.now)) result ≡
+        option_map (option_map string_bytes) name.now }
+{
+    match name {
+        None => None,
+        Some(None) => Some(None),
+        Some(Some(text)) => Some(Some(text.as_str())),
+    }
+}
+
+// A name to be kept.
+fn keep_name(alloc: Global, name: Option<&str>) -> Result<Option<String>, AllocError>
+    ensures kept { IfOk result (λ kept.
+        option_map string_bytes kept ≡ option_map (λ n. n.now) name.entry) }
+{
+    match name {
+        None => Ok(None),
+        Some(text) => Ok(Some(String::from_str(alloc, text)?)),
+    }
+}
+
+// The bytes of a secret source.
+fn find_source<'a>(host: &'a MemoryHost, source: Source<'_>) -> Option<&'a [u8]>
+    ensures found { option_map (λ b. b.now) result ≡ secret_of source.entry (memory_seen host.now) }
+{
+    match source {
+        Source::StdinOnce => Some(host.stdin.as_slice()),
+        Source::Env(name) => find(host.variables.as_slice(), name),
+        Source::File(name) => find(host.files.as_slice(), name),
+    }
+}
+
+// Copies as many of the bytes as fit, and says how many.
+fn fill(bytes: &[u8], buf: &mut [u8]) -> usize
+    ensures count { result ≡ min (length bytes.now) (length buf.old) }
+    ensures same { take result buf.new ≡ take result bytes.now }
+{
+    let n = bytes.len().min(buf.len());
+    buf[..n].copy_from_slice(&bytes[..n]);
+    n
+}
+
+impl Host for MemoryHost {
+    ghost tells = { true };
+
+    ghost seen = { memory_seen };
+
+    ghost faults = { memory_faults };
+
+    fn open_output(&mut self, name: Option<&str>) -> Result<(), HostFault> {
+        if !self.is_failing()
+            && let Ok(kept) = keep_name(self.alloc, name)
+        {
+            self.output_name = Some(kept);
+            return Ok(());
+        }
+        self.output_faults += 1;
+        Err(HostFault)
+    }
+
+    fn push(&mut self, bytes: &[u8]) -> Result<usize, HostFault> {
+        let n = bytes.len().min(self.push_size);
+        if self.is_failing() || self.output.extend_from_slice(&bytes[..n]).is_err() {
+            self.output_faults += 1;
+            return Err(HostFault);
+        }
+        Ok(n)
+    }
+
+    fn secret(&mut self, source: Source<'_>, buf: &mut [u8]) -> Result<usize, HostFault> {
+        if !self.is_failing()
+            && let Some(bytes) = find_source(self, source)
+        {
+            return Ok(fill(bytes, buf));
+        }
+        self.secret_faults += 1;
+        Err(HostFault)
+    }
+
+    fn say(&mut self, line: &str) -> Result<(), HostFault> {
+        if !self.is_failing()
+            && let Ok(kept) = String::from_str(self.alloc, line)
+            && self.lines.push(kept).is_ok()
+        {
+            return Ok(());
+        }
+        self.line_faults += 1;
+        Err(HostFault)
+    }
+}
+
+#[cfg(test)]
+mod tests {
+    use super::*;
+    use std::test::Fail;
+
+    // What a host gives of a source for which there is room for six bytes.
+    fn given(alloc: Global, source: Source<'_>) -> Result<Option<Vec<u8>>, AllocError> {
+        let stdin = b"typed".to_vec(alloc)?;
+        let mut host = MemoryHost::new(alloc, Vec::new(alloc), stdin, [7; 32]);
+        host.set_env(String::from_str(alloc, "PW")?, b"first".to_vec(alloc)?)?;
+        host.set_env(String::from_str(alloc, "PW")?, b"second".to_vec(alloc)?)?;
+        host.set_file(String::from_str(alloc, "pw")?, b"long file".to_vec(alloc)?)?;
+        let mut buf = [0u8; 6];
+        let Ok(n) = host.secret(source, &mut buf) else {
+            return Ok(None);
+        };
+        Ok(Some(buf[..n].to_vec(alloc)?))
+    }
+
+    #[test]
+    fn gives_secrets(rt: HostRuntime) -> Result<(), Fail> {
+        let rows = [
+            (Source::StdinOnce, Some("typed")),
+            (Source::Env("PW"), Some("second")),
+            (Source::File("pw"), Some("long f")),
+            (Source::Env("pw"), None),
+            (Source::File("PW"), None),
+        ];
+        for (source, text) in rows {
+            match (given(rt.alloc(), source)?, text) {
+                (Some(bytes), Some(text)) => assert_eq!(rt; bytes.as_slice(), text.as_bytes()),
+                (bytes, text) => assert!(rt; bytes.is_none() && text.is_none(), "{source:?}"),
+            }
+        }
+        Ok(())
+    }
+
+    #[test]
+    fn fails_at_the_call_named(rt: HostRuntime) -> Result<(), Fail> {
+        let alloc = rt.alloc();
+        let mut host = MemoryHost::new(alloc, Vec::new(alloc), Vec::new(alloc), [7; 32]);
+        host.set_sizes(1, 2);
+        host.fail_at(3);
+        assert_eq!(rt; host.open_output(Some("out")), Ok(()));
+        assert_eq!(rt; host.push(b"abc"), Ok(2));
+        assert_eq!(rt; host.push(b"c"), Err(HostFault));
+        assert_eq!(rt; host.say("told"), Ok(()));
+        assert_eq!(rt; host.output(), b"ab".as_slice());
+        assert_eq!(rt; host.output_name(), Some(Some("out")));
+        assert_eq!(rt; host.input_name(), None);
+        assert_eq!(rt; host.lines().len(), 1);
+        assert_eq!(rt; host.lines()[0].as_str(), "told");
+        Ok(())
+    }
+}

@@ -1,0 +1,53 @@
+//! Secrets under names, the latest first.
+ghost use Rattle.std.specs.Prelude.{◌≡◌, ◌∷◌, OnOk, OnErr, option_map, string_bytes, bytes_eq};
+ghost use Rattle.command.specs.Memory.{Entry, lookup};
+
+use std::alloc::AllocError;
+use std::marker::Model;
+
+/// The bytes of a secret and its name. Contracts see an `Entry`.
+#[derive(Drop)]
+pub struct NamedSecret {
+    name: String,
+    bytes: Vec<u8>,
+}
+
+impl Model for NamedSecret {
+    ghost Value = { Entry };
+
+    ghost view = { λ n. record { name = string_bytes n.name; bytes = n.bytes.items } };
+}
+
+impl NamedSecret {
+    fn has_name(&self, name: &str) -> bool
+        ensures same { result ≡ bytes_eq self.now.name name.now }
+    {
+        self.name.as_str() == name
+    }
+
+    fn bytes(&self) -> &[u8]
+        ensures bytes { result.now ≡ self.now.bytes }
+    {
+        self.bytes.as_slice()
+    }
+}
+
+// Puts a secret before the others.
+pub fn put_first(entries: &mut Vec<NamedSecret>, name: String, bytes: Vec<u8>) -> Result<(), AllocError>
+    ensures ok { OnOk result (entries.new.items ≡
+        record { name = string_bytes name; bytes = bytes.items } ∷ entries.old.items) }
+    ensures err { OnErr result (entries.new.items ≡ entries.old.items) }
+{
+    entries.insert(0, NamedSecret { name, bytes })?;
+    Ok(())
+}
+
+// The bytes of the first entry of this name.
+pub fn find<'a>(entries: &'a [NamedSecret], name: &str) -> Option<&'a [u8]>
+    ensures found { option_map (λ b. b.now) result ≡ lookup entries.now name.now }
+{
+    entries
+        .iter()
+        .find(|entry| entry.has_name(name))
+        .map(|entry| entry.bytes())
+}
