@@ -1,0 +1,9 @@
+-- What contracts see of a running HMAC: its key and the message so far.
+use Rattle.std.specs.Prelude.{ℕ, List, ◌++◌}
+use Rattle.sha2.specs.Hashers.{Holds256}
+use Rattle.macs.specs.HmacSha256.{inner_key, outer_key}
+use Rattle.macs.specs.declared.keyed_hash.Hmac.{Hmac}
+
+-- the value mac has this key, and was handed the bytes of this message
+unfoldable pub Holds : Hmac → List ℕ → List ℕ → Type 0
+Holds mac key message = Holds256 mac.inner (inner_key key ++ message) × Holds256 mac.outer (outer_key key)

@@ -1,0 +1,27 @@
+-- HMAC (RFC 2104) with SHA-256, whose blocks have 64 bytes. Keys, messages and codes are lists of bytes.
+use Rattle.std.specs.Prelude.{ℕ, ◌-◌, List, ◌++◌, length, map, replicate, bit_xor, nat_le, if◌then◌else◌}
+use Rattle.sha2.specs.Sha256.{sha256}
+
+-- every byte of a list xored with one byte
+abbrev pub xored_bytes : ℕ → List ℕ → List ℕ
+xored_bytes byte bytes = map (λ b. bit_xor b byte) bytes
+
+-- the key, hashed first if it has more than 64 bytes (section 2)
+abbrev pub short_key : List ℕ → List ℕ
+short_key key = if nat_le (length key) 64 then key else sha256 key
+
+-- K: the key with zeros appended, up to 64 bytes (section 2, step 1)
+unfoldable pub key_block : List ℕ → List ℕ
+key_block key = short_key key ++ replicate (64 - length (short_key key)) 0
+
+-- K xor ipad (section 2, step 2)
+abbrev pub inner_key : List ℕ → List ℕ
+inner_key key = xored_bytes 0x36 (key_block key)
+
+-- K xor opad (section 2, step 5)
+abbrev pub outer_key : List ℕ → List ℕ
+outer_key key = xored_bytes 0x5C (key_block key)
+
+-- H(K xor opad, H(K xor ipad, text)) (section 2)
+unfoldable pub hmac_sha256 : List ℕ → List ℕ → List ℕ
+hmac_sha256 key message = sha256 (outer_key key ++ sha256 (inner_key key ++ message))

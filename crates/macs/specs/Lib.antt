@@ -1,0 +1,3 @@
+pub mod Hmac
+pub mod HmacSha256
+pub mod Pbkdf2
