@@ -1,0 +1,24 @@
+use Rattle.std.proofs.Common.{◌≡◌, ◌+◌, ◌-◌, ◌*◌, ◌≤◌, ℕ, List, arith, length}
+use Rattle.aes_ctr.proofs.KeyStream.{IsXoredTo-all, IsXoredTo-none, IsXoredTo-put_mid}
+use Rattle.aes_ctr.proofs.key_stream.xor_groups_of_four.Goals as goal
+
+pub loop-i-init : goal.loop-i-init
+loop-i-init c = IsXoredTo-none c.args.aes.now c.args.number c.args.bytes.now
+
+pub loop-i-preserved : goal.loop-i-preserved
+loop-i-preserved c =
+    let i : ℕ = c.loop-i.i in
+    let text : List ℕ = c.args.bytes.now in
+    let width : 64 * i + 64 - 64 * i ≡ 64 = omega arith in
+    let same : length c.loop-i.bytes ≡ length text = omega arith in
+    let room : 64 * (i + 1) ≤ length text = omega arith in
+    let long : length c.xor_four_blocks.new.bytes ≡ 64 = omega arith in
+    rw width (IsXoredTo-put_mid c.args.aes.now c.args.number (16 * (c.args.number + 4 * c.loop-i.i)) (64 * i) (64 * (i + 1)) 64 text c.loop-i.bytes c.xor_four_blocks.new.bytes
+    (omega arith) room same long (omega arith) c.loop-i.invariant (rw width at c.xor_four_blocks.ensures.xored))
+
+pub returns : goal.returns
+returns c =
+    let all : 64 * c.loop-i.i ≡ length c.args.bytes.now = omega (arith, c.requires.whole_groups) in
+    record {
+      xored = IsXoredTo-all c.args.aes.now c.args.number (64 * c.loop-i.i) c.args.bytes.now c.loop-i.bytes all (omega arith) c.loop-i.invariant;
+    }

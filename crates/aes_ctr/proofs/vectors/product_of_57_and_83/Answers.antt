@@ -1,0 +1,7 @@
+use Rattle.std.proofs.Common.{refl}
+use Rattle.aes_ctr.specs.Aes.{polynomial_product, product, remainder}
+use Rattle.aes_ctr.proofs.vectors.product_of_57_and_83.Goals as goal
+
+pub returns : goal.returns
+unfolding product polynomial_product remainder
+returns c = record { product = refl }

@@ -1,0 +1,31 @@
+-- The Counter mode (NIST SP 800-38A, 6.5) over AES-256, with the counter blocks of scrypt's encrypted files:
+-- a 64-bit nonce, which is 0, and the 64-bit number of the block, both big-endian (Tarsnap's FORMAT of scrypt, version 0).
+use Rattle.std.specs.Prelude.{ℕ, ◌+◌, ◌/◌, ◌%◌, List, [], ◌∷◌, ◌++◌, bit_xor, slice_index}
+use Rattle.std.specs.Int.{w64, to_be_bytes}
+use Rattle.aes_ctr.specs.Aes.{aes256}
+
+-- T, the counter block with number n (SP 800-38A, 6.5; the layout is FORMAT's)
+abbrev pub counter_block : ℕ → List ℕ
+counter_block n = to_be_bytes w64 0 ++ to_be_bytes w64 n
+
+-- O, the output block with number n: block n of the key stream (SP 800-38A, 6.5)
+unfoldable pub key_stream_block : List ℕ → ℕ → List ℕ
+key_stream_block key n = aes256 key (counter_block n)
+
+-- the byte of the key stream at place i (SP 800-38A, 6.5)
+abbrev pub key_stream : List ℕ → ℕ → ℕ
+key_stream key i = slice_index (key_stream_block key (i / 16)) (i % 16)
+
+-- the text xored with the key stream from place i on (SP 800-38A, 6.5)
+unfoldable pub counter_mode_from : List ℕ → ℕ → List ℕ → List ℕ
+counter_mode_from key i [] = []
+counter_mode_from key i (byte ∷ text) = bit_xor byte (key_stream key i) ∷ counter_mode_from key (i + 1) text
+
+-- the text xored with the key stream from its first byte on (SP 800-38A, 6.5)
+abbrev pub counter_mode : List ℕ → List ℕ → List ℕ
+counter_mode key text = counter_mode_from key 0 text
+
+-- what contracts see of a `Ctr`: the 32 bytes of the key, and the place in its key stream, in bytes
+pub record KeyStreamPlace : Type 0 where
+  pub key : List ℕ
+  pub position : ℕ

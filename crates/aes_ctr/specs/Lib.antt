@@ -1,0 +1,3 @@
+pub mod Aes
+pub mod CounterMode
+pub mod TableParts

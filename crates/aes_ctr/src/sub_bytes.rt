@@ -1,0 +1,72 @@
+// SubBytes (FIPS 197, 5.1.1) on sixteen bytes side by side: each of the sixteen rows of the S-box is looked up by
+// the four low bits of the bytes, and the four high bits choose among the rows.
+
+ghost use Rattle.std.specs.Prelude.{◌≡◌, ◌*◌, ◌<◌, ℕ, map};
+ghost use Rattle.std.specs.List.{range_with_len};
+ghost use Rattle.aes_ctr.specs.Aes.{sub_byte, sub_bytes};
+ghost use Rattle.aes_ctr.specs.TableParts.{choice, part_entry};
+
+use crate::s_box::s_box;
+use std::simd::prelude::*;
+
+#[inline(always)]
+fn row(n: usize) -> u8x16
+    requires row { n < 16 }
+    ensures entries { result ≡ map sub_byte (range_with_len (16 * n) 16) }
+{
+    u8x16::from_slice(&s_box()[16 * n..])
+}
+
+// `set` where that bit of a byte is set, else `clear`.
+#[inline(always)]
+fn by_bit(bit: u8, bytes: u8x16, set: u8x16, clear: u8x16) -> u8x16
+    ensures choice { (f g : ℕ → ℕ) → set ≡ map f bytes → clear ≡ map g bytes → result ≡ map (choice bit f g) bytes }
+{
+    (bytes & u8x16::splat(bit))
+        .simd_eq(u8x16::splat(bit))
+        .select(set, clear)
+}
+
+#[inline(always)]
+fn sixteenth(n: usize, bytes: u8x16) -> u8x16
+    requires part { n < 16 }
+    ensures entries { result ≡ map (part_entry 16 n) bytes }
+{
+    row(n).swizzle_dyn(bytes & u8x16::splat(15))
+}
+
+#[inline(always)]
+fn eighth(n: usize, bytes: u8x16) -> u8x16
+    requires part { n < 8 }
+    ensures entries { result ≡ map (part_entry 32 n) bytes }
+{
+    by_bit(
+        16,
+        bytes,
+        sixteenth(2 * n + 1, bytes),
+        sixteenth(2 * n, bytes),
+    )
+}
+
+#[inline(always)]
+fn quarter(n: usize, bytes: u8x16) -> u8x16
+    requires part { n < 4 }
+    ensures entries { result ≡ map (part_entry 64 n) bytes }
+{
+    by_bit(32, bytes, eighth(2 * n + 1, bytes), eighth(2 * n, bytes))
+}
+
+#[inline(always)]
+fn half(n: usize, bytes: u8x16) -> u8x16
+    requires part { n < 2 }
+    ensures entries { result ≡ map (part_entry 128 n) bytes }
+{
+    by_bit(64, bytes, quarter(2 * n + 1, bytes), quarter(2 * n, bytes))
+}
+
+#[inline(always)]
+pub(crate) fn sub_bytes(state: u8x16) -> u8x16
+    ensures state { result ≡ sub_bytes state }
+{
+    by_bit(128, state, half(1, state), half(0, state))
+}
