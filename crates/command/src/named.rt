@@ -33,7 +33,11 @@ impl NamedSecret {
 }
 
 // Puts a secret before the others.
-pub fn put_first(entries: &mut Vec<NamedSecret>, name: String, bytes: Vec<u8>) -> Result<(), AllocError>
+pub fn put_first(
+    entries: &mut Vec<NamedSecret>,
+    name: String,
+    bytes: Vec<u8>,
+) -> Result<(), AllocError>
     ensures ok { OnOk result (entries.new.items ≡
         record { name = string_bytes name; bytes = bytes.items } ∷ entries.old.items) }
     ensures err { OnErr result (entries.new.items ≡ entries.old.items) }
