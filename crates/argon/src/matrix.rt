@@ -150,6 +150,9 @@ impl Matrix {
         requires len { length out.old ≡ self.old.parameters.tag_len }
         ensures tag { out.new ≡ argon2_tag self.old.parameters (inputs_of inputs.now) }
         ensures parameters { self.new.parameters ≡ self.old.parameters }
+        ensures done { IsDone self.new }
+        ensures first_hash { self.new.first_hash
+            ≡ first_hash self.old.parameters (inputs_of inputs.now) }
         ensures size { length self.new.blocks ≡ length self.old.blocks }
         ensures count { ticks.new ≡ ticks.old + work self.old.parameters }
     {

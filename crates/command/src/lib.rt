@@ -8,7 +8,7 @@ mod argon2_command;
 mod flow;
 mod host;
 mod memory;
-mod named;
+mod named_secret;
 mod number;
 
 pub use argon2_command::{Argon2Refusal, argon2};

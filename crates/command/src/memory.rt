@@ -1,10 +1,10 @@
 //! A host in memory.
-ghost use Rattle.std.specs.Prelude.{◌≡◌, ◌-◌, ◌<◌, ◌^◌, ◌==◌, ℕ, true, List, take, length, min, map, option_map, Option, Some, None, IfOk, OnOk, OnErr, string_bytes, bytes_eq, if◌then◌else◌};
+ghost use Rattle.std.specs.Prelude.{◌≡◌, ◌<◌, ◌==◌, ℕ, true, List, take, length, min, map, option_map, Some, IfOk, OnOk, OnErr, string_bytes, bytes_eq, if◌then◌else◌};
 ghost use Rattle.command.specs.Memory.{Memory, lookup, memory_seen, memory_faults, new_memory, next_call, with_variable, with_file};
 ghost use Rattle.command.specs.Secret.{secret_of};
 
 use crate::host::{Host, HostFault, Source};
-use crate::named::{NamedSecret, find, put_first};
+use crate::named_secret::{NamedSecret, find, put_first};
 use std::alloc::{AllocError, Global};
 use std::marker::Model;
 
@@ -165,6 +165,17 @@ impl MemoryHost {
         name_kept(&self.output_name)
     }
 
+    // The bytes of a secret source, if the host has it.
+    fn secret_bytes(&self, source: Source<'_>) -> Option<&[u8]>
+        ensures found { option_map (λ b. b.now) result ≡ secret_of source.entry (memory_seen self.now) }
+    {
+        match source {
+            Source::StdinOnce => Some(self.stdin.as_slice()),
+            Source::Env(name) => find(self.variables.as_slice(), name),
+            Source::File(name) => find(self.files.as_slice(), name),
+        }
+    }
+
     // Counts a call, and says whether it is the one to fail.
     fn is_failing(&mut self) -> bool
         ensures counted { self.new ≡ (let m = self.old in record m { calls = next_call m.calls }) }
@@ -197,17 +208,6 @@ fn keep_name(alloc: Global, name: Option<&str>) -> Result<Option<String>, AllocE
     match name {
         None => Ok(None),
         Some(text) => Ok(Some(String::from_str(alloc, text)?)),
-    }
-}
-
-// The bytes of a secret source.
-fn find_source<'a>(host: &'a MemoryHost, source: Source<'_>) -> Option<&'a [u8]>
-    ensures found { option_map (λ b. b.now) result ≡ secret_of source.entry (memory_seen host.now) }
-{
-    match source {
-        Source::StdinOnce => Some(host.stdin.as_slice()),
-        Source::Env(name) => find(host.variables.as_slice(), name),
-        Source::File(name) => find(host.files.as_slice(), name),
     }
 }
 
@@ -250,7 +250,7 @@ impl Host for MemoryHost {
 
     fn secret(&mut self, source: Source<'_>, buf: &mut [u8]) -> Result<usize, HostFault> {
         if !self.is_failing()
-            && let Some(bytes) = find_source(self, source)
+            && let Some(bytes) = self.secret_bytes(source)
         {
             return Ok(fill(bytes, buf));
         }

@@ -11,7 +11,7 @@ use byteorder::{BigEndian, ByteOrder};
 const BLOCK_LEN: usize = 32;
 
 // The HMAC under the password of the salt so far, with which each block begins.
-fn salted(password: &[u8], salt: &[u8]) -> Hmac
+fn salted_mac(password: &[u8], salt: &[u8]) -> Hmac
     ensures salt { Holds result password.now salt.now }
 {
     let mut mac = Hmac::new(password);
@@ -19,8 +19,8 @@ fn salted(password: &[u8], salt: &[u8]) -> Hmac
     mac
 }
 
-// The block of this index, from an HMAC of the salt.
-fn indexed(salted: &Hmac, index: u32) -> [u8; BLOCK_LEN]
+// The block of this index, on from the HMAC of the salt.
+fn block_after_salt(salted: &Hmac, index: u32) -> [u8; BLOCK_LEN]
     ensures block { (password salt : List ℕ) → Holds salted.now password salt
         → result ≡ pbkdf2_block password salt index }
 {
@@ -37,7 +37,7 @@ fn indexed(salted: &Hmac, index: u32) -> [u8; BLOCK_LEN]
 pub fn pbkdf2_block(password: &[u8], salt: &[u8], index: u32) -> [u8; 32]
     ensures block { result ≡ pbkdf2_block password.now salt.now index }
 {
-    indexed(&salted(password, salt), index)
+    block_after_salt(&salted_mac(password, salt), index)
 }
 
 /// Fills `out`, at most 32 * (2^32 - 1) bytes, with the key that PBKDF2 with one iteration derives
@@ -46,9 +46,9 @@ pub fn pbkdf2(password: &[u8], salt: &[u8], out: &mut [u8])
     requires fits { length out.old ≤ 32 * (2 ^ 32 - 1) }
     ensures key { out.new ≡ pbkdf2 password.now salt.now (length out.old) }
 {
-    let salted = salted(password, salt);
+    let salted = salted_mac(password, salt);
     for done in 0..out.len().div_ceil(BLOCK_LEN) {
-        let block = indexed(&salted, done as u32 + 1);
+        let block = block_after_salt(&salted, done as u32 + 1);
         let start = BLOCK_LEN * done;
         let len = BLOCK_LEN.min(out.len() - start);
         out[start..start + len].copy_from_slice(&block[..len]);

@@ -1,10 +1,8 @@
 //! What a run writes: the hash, as an encoded text or in hexadecimal.
-ghost use Rattle.std.specs.Prelude.{◌≡◌, ◌<◌, [], ◌∷◌, ◌++◌, IfOk, IfErr, Ok, length, true};
-ghost use Rattle.hex.specs.Hex.{encode_lower};
-ghost use Rattle.argon.specs.Range.{IsInRange};
+ghost use Rattle.std.specs.Prelude.{◌≡◌, IfOk, IfErr, Ok, length, true};
 ghost use Rattle.argon_text.specs.EncodedText.{encoded_text};
 ghost use Rattle.argon_text.specs.Value.{are_in_range};
-ghost use Rattle.command.specs.Argon2.Output.{admitted_parameters, output_line, parameters_of, tag_text, tag_of, value_with};
+ghost use Rattle.command.specs.Argon2.Output.{admitted_parameters, output_line, tag_of, value_with};
 ghost use Rattle.command.specs.Argon2.Refusal.{IsEarly};
 ghost use Rattle.command.specs.Argon2.RequestView.{request_of};
 

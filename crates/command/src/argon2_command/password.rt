@@ -1,5 +1,5 @@
 //! The password: the whole standard input.
-ghost use Rattle.std.specs.Prelude.{◌≡◌, ◌<◌, ◌≤◌, ◌^◌, ◌⊎◌, ℕ, List, Ok, Err, take, length, MatchResult, IfOk, IfErr, IsTrue};
+ghost use Rattle.std.specs.Prelude.{◌≡◌, ◌<◌, ◌^◌, ◌⊎◌, ℕ, List, Ok, Err, take, length, MatchResult, IfOk, IfErr, IsTrue};
 ghost use Rattle.command.specs.Faults.{AreBelow};
 ghost use Rattle.command.specs.Argon2.Output.{password_in};
 ghost use Rattle.command.specs.Argon2.Refusal.{IsEarly, counted_by};

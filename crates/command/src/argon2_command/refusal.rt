@@ -4,10 +4,13 @@ ghost use Rattle.command.specs.Argon2.Refusal.{line_of, refusal_of};
 
 use argon::ParamFault;
 
-/// Why a run of `argon2` ends with status 1. They are told in this order, but for A8, which comes before A6.
+/// Why a run of `argon2` ends with status 1, in the order in which the reasons are tested: the first
+/// that holds is told, and of A1 to A4 the first faulty item from the left decides. Each has its
+/// number, when it holds, and its line.
 #[derive(Clone, Copy, Debug, PartialEq, Eq)]
 pub enum Argon2Refusal {
-    /// A1: there are no words, or `-h` is the first word or an item. The line shows how the words stand.
+    /// A1: there are no words, or `-h` is the first word or an item. The line shows how the words
+    /// stand.
     Usage,
     /// A2: an item that is no flag and no option. `argon2: unknown word`
     UnknownWord,
@@ -17,6 +20,12 @@ pub enum Argon2Refusal {
     BadNumber,
     /// A5: both of `-e` and `-r`, or neither. `argon2: exactly one of -e and -r is needed`
     OneForm,
+    /// A8a: the host fails to give standard input. `argon2: password cannot be read`
+    PasswordFault,
+    /// A8b: standard input has no byte. `argon2: password is empty`
+    EmptyPassword,
+    /// A8c: 128 bytes or more came. `argon2: password is longer than 127 bytes`
+    LongPassword,
     /// A6.1: passes, not 1 to 2^32-1. `argon2: passes out of range`
     Passes,
     /// A6.2: lanes, not 1 to 2^24-1. `argon2: lanes out of range`
@@ -31,16 +40,10 @@ pub enum Argon2Refusal {
     MemoryLimit,
     /// A7b: more block functions than `--maxops`. `argon2: more work needed than --maxops allows`
     WorkLimit,
-    /// A8a: the host fails to give standard input. `argon2: password cannot be read`
-    PasswordFault,
-    /// A8b: standard input has no byte. `argon2: password is empty`
-    EmptyPassword,
-    /// A8c: 128 bytes or more came. `argon2: password is longer than 127 bytes`
-    LongPassword,
-    /// A9: the host fails to open or to write standard output. `argon2: output cannot be written`
-    OutputFault,
     /// A10: a growth of memory was refused. `argon2: out of memory`
     OutOfMemory,
+    /// A9: the host fails to open or to write standard output. `argon2: output cannot be written`
+    OutputFault,
 }
 
 impl Argon2Refusal {
@@ -56,6 +59,9 @@ impl Argon2Refusal {
             Argon2Refusal::MissingValue => "argon2: missing value",
             Argon2Refusal::BadNumber => "argon2: bad number",
             Argon2Refusal::OneForm => "argon2: exactly one of -e and -r is needed",
+            Argon2Refusal::PasswordFault => "argon2: password cannot be read",
+            Argon2Refusal::EmptyPassword => "argon2: password is empty",
+            Argon2Refusal::LongPassword => "argon2: password is longer than 127 bytes",
             Argon2Refusal::Passes => "argon2: passes out of range",
             Argon2Refusal::Lanes => "argon2: lanes out of range",
             Argon2Refusal::Memory => "argon2: memory out of range",
@@ -63,11 +69,8 @@ impl Argon2Refusal {
             Argon2Refusal::SaltLength => "argon2: salt length out of range",
             Argon2Refusal::MemoryLimit => "argon2: more memory needed than --maxmem allows",
             Argon2Refusal::WorkLimit => "argon2: more work needed than --maxops allows",
-            Argon2Refusal::PasswordFault => "argon2: password cannot be read",
-            Argon2Refusal::EmptyPassword => "argon2: password is empty",
-            Argon2Refusal::LongPassword => "argon2: password is longer than 127 bytes",
-            Argon2Refusal::OutputFault => "argon2: output cannot be written",
             Argon2Refusal::OutOfMemory => "argon2: out of memory",
+            Argon2Refusal::OutputFault => "argon2: output cannot be written",
         }
     }
 }

@@ -1,5 +1,5 @@
 //! A whole run of `argon2`.
-ghost use Rattle.std.specs.Prelude.{◌≡◌, ◌+◌, ◌≤◌, ◌<◌, ◌^◌, ◌⊎◌, ℕ, Ok, MatchResult, IfOk, IfErr, OnOk, OnErr, IsTrue, map, string_bytes};
+ghost use Rattle.std.specs.Prelude.{◌≡◌, ◌+◌, ◌≤◌, ◌^◌, ◌⊎◌, Ok, MatchResult, IfOk, IfErr, OnOk, OnErr, IsTrue, map, string_bytes};
 ghost use Rattle.command.specs.Faults.{AreBelow, output_failed};
 ghost use Rattle.command.specs.Seen.{IsUnopened};
 ghost use Rattle.command.specs.Argon2.Output.{argon2_output};

@@ -111,7 +111,8 @@ impl Settings {
     // The settings after one more option with its value, where the option takes it.
     fn with_value(self, name: OptionName, text: &str) -> Option<Settings>
         ensures option { MatchOption result (is_value_of name text.now ≡ false)
-            (λ s. (is_value_of name text.now ≡ true) × (s ≡ settings_after self (valued name text.now ∷ []))) }
+            (λ s. (is_value_of name text.now ≡ true)
+            × (s ≡ settings_after self (valued name text.now ∷ []))) }
     {
         let mut settings = self;
         match name {

@@ -15,7 +15,7 @@ loop-done-preserved c =
     let wide : length c.copy_from_slice.new.self ≡ n = omega (arith, c.copy_from_slice.ensures.len, length-take {A = ℕ}, length-drop {A = ℕ}) in
     rw more
     (take-put_mid start _ c.loop-done.out c.copy_from_slice.new.self (start + n) (omega arith) (omega arith)
-    ∙ rw (c.copy_from_slice.ensures.after, c.indexed-block.ensures.block _ _ c.salted-salted.ensures.salt)
+    ∙ rw (c.copy_from_slice.ensures.after, c.block_after_salt-block.ensures.block _ _ c.salted_mac-salted.ensures.salt)
     (blocks_more _ _ _ c.loop-done.done start n refl (rw filled at c.loop-done.invariant)))
 
 pub returns : goal.returns

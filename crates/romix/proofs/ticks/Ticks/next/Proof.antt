@@ -1,0 +1,49 @@
+-- A walk, since a struct with a ghost field that owns is made here: the body stores `()` in the result and
+-- returns, and the count is said to be one more than the parameter's, which is not read.
+use mathlib.Core.Path.{refl}
+use mathlib.Core.List.{[], ◌∷◌}
+use Prim.Native.Nat.{◌+◌}
+use mir.Syntax.{named}
+use types.Kit.{‵, raw, ◌⊛◌, ◌$◌, ◌∵◌, !, qed, done, move, keep, use0, split, join, suffices}
+use types.Run.{and_then, enter, no_more, returns, unit_lit}
+use types.Part.{agg}
+use types.ByLocal.{alloc_all, free_all, look_at, pass_all, sets}
+use denote.Builtin.{RefOf}
+use denote.Exit.{yes}
+use denote.RattleType.{owns}
+use denote.Ref.{shr_vals, shr_Tells}
+use denote.Signature.{plain, types_at}
+use denote.Steps.{nothing}
+use denote.Triple.Entry.{alive}
+use denote.Triple.Walked.{Goes-dropped, Stays, ends_at, says, stay_dropped, walk_of}
+use base.Fml.{ftrue}
+use Rattle.std.proofs.raw_atomic.Walks.{proved}
+use Rattle.romix.proofs.Counter.{for_nothing, stored}
+use Rattle.romix.specs.contracts.ticks.Ticks.{the_row}
+use Rattle.romix.specs.contracts.ticks.Ticks.next as f
+use Rattle.romix.proofs.ticks.Ticks.next.Statement.{statement}
+use Rattle.romix.proofs.ticks.Ticks.next.Code as code
+
+-- nothing is wanted of the reference at the return
+abbrev stayed : Stays f.ended.signature.params f.ended.kept
+stayed = (stay_dropped _ yes, tt)
+
+pub next_spec : {M : Type 1} → statement M
+next_spec 𝓤 𝓛 𝓜 𝓡 wired =
+    let c = f.clauses 𝓛 𝓜.mem 𝓡.returns in let W = walk_of 𝓛 f.ended stayed c in
+    proved 𝓛 f.ended stayed c 𝓜 𝓡 (Goes-dropped 𝓛 1 (RefOf (0 ∷ []) tt (plain (λ _. the_row)) (λ _. tt)) yes (λ κs x w. refl), tt)
+    f.Key.name code.function (code.unfolded 𝓤 𝓛.H 𝓜 𝓡 wired)
+    (λ κs. (shr_vals, tt)) (λ κs. (shr_Tells (named 0) κs.0 the_row, tt)) (λ κs qs bounds a _ are.
+    let y : W.Ghost = ((κs, qs, bounds, a, (shr_vals a.0, tt)), tt) in
+    let after = a.0.now + 1 in
+    -- of the tokens, the parameter and the `requires` only the tokens are kept
+    qed 𝓛 ((raw (alive 𝓛 f.signature κs qs) ⊛ ‵ (owns (types_at f.signature.params κs) a y.0.4)) ∷ ‵ ftrue ∷ []) ∵
+    split ! $ keep ! (0 ∷ []) $
+    -- the statements: the result is made of one `()`, and returned
+    enter ! _ _ _ _ _ $ alloc_all ! (λ l. pass_all ! refl ((tt, tt), tt) $
+    sets ! (agg ! (and_then ! (unit_lit !) (no_more !))) refl (tt, (tt, tt)) $
+    returns ! (look_at ! 0 refl) $ free_all ! refl $
+    -- the contract: the count is the next one, and the result owns what is had for nothing
+    suffices ! _ (ends_at 𝓛 f.ended stayed c y stored after (tt, tt) (tt, tt)) $ says ! refl $
+    use0 𝓛 (‵ (the_row.own_val after (stored ∷ []))) (for_nothing 𝓛 after) $ nothing ! $ nothing ! $ join ! $
+    move ! (2 ∷ 0 ∷ 1 ∷ []) $ done !))

@@ -1,0 +1,11 @@
+pub mod BlockMix
+pub mod Costs
+pub mod Diagonals
+pub mod Faults
+pub mod FirstOf
+pub mod Lanes
+pub mod Romix
+pub mod Salsa20
+pub mod Scrypt
+pub mod Table
+pub mod Workspace

@@ -1,0 +1,23 @@
+-- scryptROMix (RFC 7914, 5) on a row B, over words. There is no table: V and X are recursions.
+use Rattle.std.specs.Prelude.{ℕ, zero, suc, ◌-◌, ◌%◌, ◌^◌, List, length, drop}
+use Rattle.std.specs.Simd.Lanes.{number_l}
+use Rattle.romix.specs.BlockMix.{block_mix, xored_words}
+
+-- V_i (steps 1 and 2)
+unfoldable pub table_row : List ℕ → ℕ → List ℕ
+table_row b zero = b
+table_row b (suc i) = block_mix (table_row b i)
+
+-- Integerify: the last 64 octets, here sixteen words, as a little-endian number (step 3)
+unfoldable pub integerify : List ℕ → ℕ
+integerify x = number_l (2 ^ 32) (drop (length x - 16) x)
+
+-- X after i turns, with n for N (step 3)
+unfoldable pub row_after : List ℕ → ℕ → ℕ → List ℕ
+row_after b n zero = table_row b n
+row_after b n (suc i) =
+    block_mix (xored_words (row_after b n i) (table_row b (integerify (row_after b n i) % n)))
+
+-- B', with n for N (step 4)
+unfoldable pub romix : List ℕ → ℕ → List ℕ
+romix b n = row_after b n n

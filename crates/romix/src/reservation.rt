@@ -1,0 +1,26 @@
+// Where the lists of a workspace come from. A test puts a source that refuses in its place.
+
+ghost use Rattle.std.specs.Prelude.{◌≡◌, IfOk, vec_len};
+
+use std::alloc::{AllocError, Global};
+
+/// A source of lists of zeros.
+pub(crate) trait Reservation {
+    /// So many words, all 0.
+    fn zero_words(&mut self, len: usize) -> Result<Vec<u32>, AllocError>
+        ensures len { IfOk result (λ words. vec_len words ≡ len) };
+
+    /// So many bytes, all 0.
+    fn zero_bytes(&mut self, len: usize) -> Result<Vec<u8>, AllocError>
+        ensures len { IfOk result (λ bytes. vec_len bytes ≡ len) };
+}
+
+impl Reservation for Global {
+    fn zero_words(&mut self, len: usize) -> Result<Vec<u32>, AllocError> {
+        vec![in *self; 0; len]
+    }
+
+    fn zero_bytes(&mut self, len: usize) -> Result<Vec<u8>, AllocError> {
+        vec![in *self; 0; len]
+    }
+}

@@ -1,0 +1,25 @@
+// The table V of ROMix (RFC 7914, section 5): rows of one length, one after another.
+
+ghost use Rattle.std.specs.Prelude.{◌≡◌, ℕ, ◌+◌, ◌*◌, ◌<◌, ◌≤◌, length};
+ghost use Rattle.romix.specs.Table.{row_at};
+
+/// Writes a row of `len` words as row `i` of the table.
+pub(crate) fn store_row(table: &mut [u32], len: usize, i: usize, row: &[u32])
+    requires row { length row.now ≡ len }
+    requires room { len * (i + 1) ≤ length table.old }
+    ensures here { row_at table.new len i ≡ row.now }
+    ensures below { (k : ℕ) → k < i → row_at table.new len k ≡ row_at table.old len k }
+{
+    let at = len * i;
+    table[at..at + len].copy_from_slice(row);
+}
+
+/// Row `i` of the table, of `len` words.
+pub(crate) fn load_row(table: &[u32], len: usize, i: usize) -> &[u32]
+    requires room { len * (i + 1) ≤ length table.now }
+    ensures row { result.now ≡ row_at table.now len i }
+    ensures long { length result.now ≡ len }
+{
+    let at = len * i;
+    &table[at..at + len]
+}
