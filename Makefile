@@ -15,15 +15,17 @@ run: bin/argon2 ## proves and builds bin/argon2, then hashes the word "password"
 
 test: ## the gate: every proof from nothing, the wrong bodies, all tests, and the built program from the outside
 	rt ci
-	tests/hand_proofs.sh
+	tests/sources.sh
 	tests/argon2.py $(PROGRAM)
 
 install: bin/argon2 ## puts the program and its manual page below PREFIX (/usr/local)
 	install -D -m 755 bin/argon2 '$(DESTDIR)$(PREFIX)/bin/argon2'
 	install -D -m 644 man/argon2.1 '$(DESTDIR)$(PREFIX)/share/man/man1/argon2.1'
 
-bench: bin/argon2 ## times bin/argon2 beside the argon2 that is installed
+bench: bin/argon2 ## times argon2, scrypt's derivation and AES beside the programs that are installed
 	bench/argon2.py bin/argon2
+	bench/derivation.py
+	bench/counter_mode.py
 
 bin/argon2: $(PROGRAM)
 	@mkdir -p bin
