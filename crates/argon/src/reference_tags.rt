@@ -16,7 +16,7 @@ pub struct Row {
     pub tag: &'static str,
 }
 
-pub const ROWS: [Row; 60] = [
+pub const ROWS: &[Row] = &[
     Row {
         kind: Kind::D,
         passes: 1,

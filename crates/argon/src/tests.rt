@@ -166,7 +166,7 @@ fn tag_of_row(rt: HostRuntime, row: &Row) -> Result<String, Fail> {
 #[test]
 fn tags_of_the_reference_program(rt: HostRuntime) -> Result<(), Fail> {
     for row in ROWS {
-        assert_eq!(rt; tag_of_row(rt, &row)?.as_str(), row.tag);
+        assert_eq!(rt; tag_of_row(rt, row)?.as_str(), row.tag);
     }
     Ok(())
 }
