@@ -154,7 +154,9 @@ mod tests {
     struct Interrupted(usize);
 
     impl Interrupted {
-        fn one_byte(&mut self) -> io::Result<usize> {
+        fn one_byte(&mut self) -> io::Result<usize>
+            ensures one { IfOk result (λ n. n ≡ 1) }
+        {
             if self.0 == 0 {
                 return Ok(1);
             }
