@@ -14,7 +14,7 @@ import tempfile
 
 from scratch import built, least_cpu
 
-HASHLIB = "import hashlib; hashlib.scrypt(b'passphrase', salt=bytes([7] * 32), n=1 << {0}, r=8, p=1, maxmem=1 << 34, dklen=64)"
+HASHLIB = "import hashlib; hashlib.scrypt(b'passphrase', salt=bytes([7] * 32), n=1 << {0}, r=8, p=1, maxmem=(1 << 31) - 1, dklen=64)"
 
 
 def main():
@@ -36,7 +36,7 @@ def main():
                     cpu, printed = least_cpu(words, 1, given)
                     best[name] = min(cpu, best.get(name, cpu))
                     if name == "ours":
-                        key = hashlib.scrypt(b"passphrase", salt=bytes([7] * 32), n=1 << log_n, r=8, p=1, maxmem=1 << 34, dklen=64)
+                        key = hashlib.scrypt(b"passphrase", salt=bytes([7] * 32), n=1 << log_n, r=8, p=1, maxmem=(1 << 31) - 1, dklen=64)
                         if printed.strip().decode() != key[:4].hex():
                             raise SystemExit(f"another key than hashlib's: {printed!r}")
             base = best.get("scrypt(1)")
