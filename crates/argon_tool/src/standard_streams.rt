@@ -15,8 +15,10 @@ const TRIES: usize = 16;
 pub struct StandardStreams {
     rt: HostRuntime,
     is_open: bool,
+    input_faults: u64,
     output_faults: u64,
     secret_faults: u64,
+    salt_faults: u64,
     line_faults: u64,
 }
 
@@ -28,8 +30,10 @@ impl StandardStreams {
         StandardStreams {
             rt,
             is_open: false,
+            input_faults: 0,
             output_faults: 0,
             secret_faults: 0,
+            salt_faults: 0,
             line_faults: 0,
         }
     }
@@ -94,12 +98,18 @@ impl Host for StandardStreams {
     ghost seen = { λ _. nothing_seen };
 
     ghost faults = { λ h. record {
-      input = 0;
+      input = h.input_faults;
       output = h.output_faults;
       secrets = h.secret_faults;
-      salt = 0;
+      salt = h.salt_faults;
       lines = h.line_faults;
     } };
+
+    // The command `argon2` opens no input, and pulls nothing.
+    fn open_input(&mut self, _name: Option<&str>) -> Result<(), HostFault> {
+        self.input_faults += 1;
+        Err(HostFault)
+    }
 
     // The command `argon2` opens standard output alone.
     fn open_output(&mut self, name: Option<&str>) -> Result<(), HostFault> {
@@ -109,6 +119,11 @@ impl Host for StandardStreams {
         }
         self.is_open = true;
         Ok(())
+    }
+
+    fn pull(&mut self, _buf: &mut [u8]) -> Result<usize, HostFault> {
+        self.input_faults += 1;
+        Err(HostFault)
     }
 
     fn push(&mut self, bytes: &[u8]) -> Result<usize, HostFault> {
@@ -133,6 +148,12 @@ impl Host for StandardStreams {
             self.secret_faults += 1;
         }
         outcome
+    }
+
+    // The command `argon2` asks for no salt.
+    fn salt(&mut self, _out: &mut [u8; 32]) -> Result<(), HostFault> {
+        self.salt_faults += 1;
+        Err(HostFault)
     }
 
     fn say(&mut self, line: &str) -> Result<(), HostFault> {

@@ -9,6 +9,10 @@ pub record Faults : Type 0 where
   pub salt : ℕ
   pub lines : ℕ
 
+-- one failure of the input more
+abbrev pub input_failed : Faults → Faults
+input_failed f = record f { input = f.input + 1 }
+
 -- one failure of the output more
 abbrev pub output_failed : Faults → Faults
 output_failed f = record f { output = f.output + 1 }
@@ -16,6 +20,10 @@ output_failed f = record f { output = f.output + 1 }
 -- one failure of a secret source more
 abbrev pub secret_failed : Faults → Faults
 secret_failed f = record f { secrets = f.secrets + 1 }
+
+-- one failure of the salt more
+abbrev pub salt_failed : Faults → Faults
+salt_failed f = record f { salt = f.salt + 1 }
 
 -- one line more that could not be said
 abbrev pub line_failed : Faults → Faults

@@ -23,6 +23,10 @@ pub record IsUnopened (s : Seen) : Type 0 where
   pub input : s.input_opened ≡ None
   pub output : s.output_opened ≡ None
 
+-- n bytes of the input are gone
+abbrev pub after_pull : ℕ → Seen → Seen
+after_pull n s = record s { input = drop n s.input }
+
 -- these bytes stand behind the output
 abbrev pub after_push : List ℕ → Seen → Seen
 after_push bytes s = record s { output = s.output ++ bytes }
@@ -30,6 +34,10 @@ after_push bytes s = record s { output = s.output ++ bytes }
 -- a line more was said
 abbrev pub after_say : Text → Seen → Seen
 after_say line s = record s { said = s.said ++ (line ∷ []) }
+
+-- the input was opened under this name
+abbrev pub after_open_input : Option Text → Seen → Seen
+after_open_input name s = record s { input_opened = Some name }
 
 -- the output was opened under this name
 abbrev pub after_open_output : Option Text → Seen → Seen

@@ -1,8 +1,8 @@
 //! What a command asks of the world.
-ghost use Rattle.std.specs.Prelude.{◌≡◌, ◌-◌, ◌<◌, ◌≤◌, ◌^◌, Bool, take, length, option_map, IfOk, OnOk, OnErr, IsTrue};
-ghost use Rattle.command.specs.Faults.{Faults, AreBelow, output_failed, secret_failed, line_failed};
+ghost use Rattle.std.specs.Prelude.{◌≡◌, ◌-◌, ◌<◌, ◌≤◌, ◌^◌, Bool, [], take, length, option_map, IfOk, OnOk, OnErr, IsTrue};
+ghost use Rattle.command.specs.Faults.{Faults, AreBelow, input_failed, output_failed, secret_failed, salt_failed, line_failed};
 ghost use Rattle.command.specs.Secret.{secret_of, IsBeginning};
-ghost use Rattle.command.specs.Seen.{Seen, after_push, after_say, after_open_output};
+ghost use Rattle.command.specs.Seen.{Seen, after_pull, after_push, after_say, after_open_input, after_open_output};
 
 use thiserror::Error;
 
@@ -40,6 +40,15 @@ pub trait Host {
     // How often each kind of call has failed.
     ghost faults: { Self → Faults };
 
+    /// Opens the input under this name; `None` is standard input.
+    fn open_input(&mut self, name: Option<&str>) -> Result<(), HostFault>
+        requires room { AreBelow (2 ^ 64 - 1) (faults self.old) }
+        ensures counts { OnOk result (faults self.new ≡ faults self.old) }
+        ensures counted { OnErr result (faults self.new ≡ input_failed (faults self.old)) }
+        ensures kept { IsTrue tells → OnErr result (seen self.new ≡ seen self.old) }
+        ensures opened { IsTrue tells → OnOk result
+            (seen self.new ≡ after_open_input (option_map (λ n. n.now) name.entry) (seen self.old)) };
+
     /// Opens the output under this name; `None` is standard output.
     fn open_output(&mut self, name: Option<&str>) -> Result<(), HostFault>
         requires room { AreBelow (2 ^ 64 - 1) (faults self.old) }
@@ -48,6 +57,22 @@ pub trait Host {
         ensures kept { IsTrue tells → OnErr result (seen self.new ≡ seen self.old) }
         ensures opened { IsTrue tells → OnOk result
             (seen self.new ≡ after_open_output (option_map (λ n. n.now) name.entry) (seen self.old)) };
+
+    /// Puts the next bytes of the input into the buffer, and says how many: 0 only at the end of the
+    /// input, or into a buffer without room.
+    fn pull(&mut self, buf: &mut [u8]) -> Result<usize, HostFault>
+        requires room { AreBelow (2 ^ 64 - 1) (faults self.old) }
+        ensures bound { IfOk result (λ n. n ≤ length buf.old) }
+        ensures counts { OnOk result (faults self.new ≡ faults self.old) }
+        ensures counted { OnErr result (faults self.new ≡ input_failed (faults self.old)) }
+        ensures kept { IsTrue tells → OnErr result (seen self.new ≡ seen self.old) }
+        ensures within { IsTrue tells → IfOk result (λ n. n ≤ length (seen self.old).input) }
+        ensures bytes { IsTrue tells →
+            IfOk result (λ n. take n buf.new ≡ take n (seen self.old).input) }
+        ensures taken { IsTrue tells →
+            IfOk result (λ n. seen self.new ≡ after_pull n (seen self.old)) }
+        ensures some { IsTrue tells → IfOk result (λ n.
+            0 < length buf.old → n ≡ 0 → (seen self.old).input ≡ []) };
 
     /// Writes a beginning of the bytes, of at least one where there is one, and says how many.
     fn push(&mut self, bytes: &[u8]) -> Result<usize, HostFault>
@@ -70,6 +95,14 @@ pub trait Host {
         ensures kept { IsTrue tells → seen self.new ≡ seen self.old }
         ensures bytes { IsTrue tells →
             IfOk result (λ n. IsBeginning (secret_of source.entry (seen self.old)) n buf.new) };
+
+    /// Fills the buffer with the salt of a new file.
+    fn salt(&mut self, out: &mut [u8; 32]) -> Result<(), HostFault>
+        requires room { AreBelow (2 ^ 64 - 1) (faults self.old) }
+        ensures counts { OnOk result (faults self.new ≡ faults self.old) }
+        ensures counted { OnErr result (faults self.new ≡ salt_failed (faults self.old)) }
+        ensures kept { IsTrue tells → seen self.new ≡ seen self.old }
+        ensures bytes { IsTrue tells → OnOk result (out.new ≡ (seen self.old).salt) };
 
     /// Says a line, which comes without a line feed.
     fn say(&mut self, line: &str) -> Result<(), HostFault>

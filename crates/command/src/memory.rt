@@ -1,5 +1,5 @@
 //! A host in memory.
-ghost use Rattle.std.specs.Prelude.{◌≡◌, ◌<◌, ◌==◌, ℕ, true, List, take, length, min, map, option_map, Some, IfOk, OnOk, OnErr, string_bytes, bytes_eq, if◌then◌else◌};
+ghost use Rattle.std.specs.Prelude.{◌≡◌, ◌<◌, ◌≤◌, ◌==◌, ℕ, true, List, take, drop, length, min, map, option_map, Some, IfOk, OnOk, OnErr, string_bytes, bytes_eq, if◌then◌else◌};
 ghost use Rattle.command.specs.Memory.{Memory, lookup, memory_seen, memory_faults, new_memory, next_call, with_variable, with_file};
 ghost use Rattle.command.specs.Secret.{secret_of};
 
@@ -18,6 +18,7 @@ use std::marker::Model;
 pub struct MemoryHost {
     alloc: Global,
     input: Vec<u8>,
+    taken: usize,
     output: Vec<u8>,
     input_name: Option<Option<String>>,
     output_name: Option<Option<String>>,
@@ -41,7 +42,7 @@ impl Model for MemoryHost {
     ghost Value = { Memory };
 
     ghost view = { λ h. record {
-      input = h.input.items;
+      input = drop h.taken h.input.items;
       output = h.output.items;
       input_opened = option_map (option_map string_bytes) h.input_name;
       output_opened = option_map (option_map string_bytes) h.output_name;
@@ -63,7 +64,8 @@ impl Model for MemoryHost {
       calls = h.calls;
     } };
 
-    ghost invariant = { λ h. (0 < h.pull_size) × (0 < h.push_size) };
+    ghost invariant = { λ h.
+        (h.taken ≤ length h.input.items) × (0 < h.pull_size) × (0 < h.push_size) };
 }
 
 impl MemoryHost {
@@ -76,6 +78,7 @@ impl MemoryHost {
         MemoryHost {
             alloc,
             input,
+            taken: 0,
             output: Vec::new(alloc),
             input_name: None,
             output_name: None,
@@ -228,6 +231,17 @@ impl Host for MemoryHost {
 
     ghost faults = { memory_faults };
 
+    fn open_input(&mut self, name: Option<&str>) -> Result<(), HostFault> {
+        if !self.is_failing()
+            && let Ok(kept) = keep_name(self.alloc, name)
+        {
+            self.input_name = Some(kept);
+            return Ok(());
+        }
+        self.input_faults += 1;
+        Err(HostFault)
+    }
+
     fn open_output(&mut self, name: Option<&str>) -> Result<(), HostFault> {
         if !self.is_failing()
             && let Ok(kept) = keep_name(self.alloc, name)
@@ -237,6 +251,17 @@ impl Host for MemoryHost {
         }
         self.output_faults += 1;
         Err(HostFault)
+    }
+
+    fn pull(&mut self, buf: &mut [u8]) -> Result<usize, HostFault> {
+        if self.is_failing() {
+            self.input_faults += 1;
+            return Err(HostFault);
+        }
+        let most = buf.len().min(self.pull_size);
+        let n = fill(&self.input[self.taken..], &mut buf[..most]);
+        self.taken += n;
+        Ok(n)
     }
 
     fn push(&mut self, bytes: &[u8]) -> Result<usize, HostFault> {
@@ -256,6 +281,15 @@ impl Host for MemoryHost {
         }
         self.secret_faults += 1;
         Err(HostFault)
+    }
+
+    fn salt(&mut self, out: &mut [u8; 32]) -> Result<(), HostFault> {
+        if self.is_failing() {
+            self.salt_faults += 1;
+            return Err(HostFault);
+        }
+        *out = self.salt;
+        Ok(())
     }
 
     fn say(&mut self, line: &str) -> Result<(), HostFault> {
@@ -304,6 +338,60 @@ mod tests {
                 (bytes, text) => assert!(rt; bytes.is_none() && text.is_none(), "{source:?}"),
             }
         }
+        Ok(())
+    }
+
+    #[test]
+    fn gives_the_input_piece_by_piece(rt: HostRuntime) -> Result<(), Fail> {
+        let alloc = rt.alloc();
+        let mut host = MemoryHost::new(
+            alloc,
+            b"the input".to_vec(alloc)?,
+            Vec::new(alloc),
+            [7; 32],
+        );
+        let mut buf = [0u8; 4];
+        host.set_sizes(3, 1);
+        assert_eq!(rt; host.pull(&mut buf), Ok(3));
+        assert_eq!(rt; buf, *b"the\0");
+        host.set_sizes(9, 1);
+        assert_eq!(rt; host.pull(&mut buf), Ok(4));
+        assert_eq!(rt; buf, *b" inp");
+        assert_eq!(rt; host.pull(&mut buf), Ok(2));
+        assert_eq!(rt; buf, *b"utnp");
+        assert_eq!(rt; host.pull(&mut buf), Ok(0));
+        Ok(())
+    }
+
+    #[test]
+    fn gives_the_salt(rt: HostRuntime) {
+        let alloc = rt.alloc();
+        let mut host = MemoryHost::new(alloc, Vec::new(alloc), Vec::new(alloc), [7; 32]);
+        let mut salt = [0u8; 32];
+        host.fail_at(1);
+        assert_eq!(rt; host.salt(&mut salt), Err(HostFault));
+        assert_eq!(rt; salt, [0; 32]);
+        assert_eq!(rt; host.salt(&mut salt), Ok(()));
+        assert_eq!(rt; salt, [7; 32]);
+    }
+
+    #[test]
+    fn fails_at_each_call_of_the_input(rt: HostRuntime) -> Result<(), Fail> {
+        let alloc = rt.alloc();
+        let mut host = MemoryHost::new(alloc, b"in".to_vec(alloc)?, Vec::new(alloc), [7; 32]);
+        let mut buf = [0u8; 4];
+        host.fail_at(1);
+        assert_eq!(rt; host.open_input(Some("in")), Err(HostFault));
+        assert_eq!(rt; host.input_name(), None);
+        assert_eq!(rt; host.open_input(Some("in")), Ok(()));
+        assert_eq!(rt; host.input_name(), Some(Some("in")));
+        assert_eq!(rt; host.open_input(None), Ok(()));
+        assert_eq!(rt; host.input_name(), Some(None));
+        host.fail_at(4);
+        assert_eq!(rt; host.pull(&mut buf), Err(HostFault));
+        assert_eq!(rt; host.pull(&mut buf), Ok(2));
+        assert_eq!(rt; buf, *b"in\0\0");
+        assert_eq!(rt; host.pull(&mut buf), Ok(0));
         Ok(())
     }
 
