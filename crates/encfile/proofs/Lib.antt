@@ -1,0 +1,6 @@
+pub mod Differences
+pub mod Files
+pub mod Fronts
+pub mod Headers
+pub mod Pieces
+pub mod Reading

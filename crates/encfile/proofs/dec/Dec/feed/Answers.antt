@@ -1,0 +1,63 @@
+use Rattle.std.proofs.Common.{◌≡◌, ℕ, ◌+◌, ◌-◌, ◌<◌, ◌^◌, List, ◌++◌, length, take, drop, arith, refl, ap, ◌∙◌, subst, append_assoc, length-append, length-take}
+use Rattle.std.proofs.lemmas.List.{take_at}
+use Rattle.macs.specs.Hmac.{Holds}
+use Rattle.aes_ctr.specs.CounterMode.{KeyStreamPlace}
+use Rattle.encfile.specs.EncryptedFile.{cipher_key, code_key, head, released_text}
+use Rattle.encfile.proofs.Pieces.{place-more}
+use Rattle.encfile.proofs.Reading.{FitsSha256-take, IsSplit-more, length-split, released_text-more}
+use Rattle.encfile.proofs.dec.Dec.feed.Goals as goal
+
+pub returns-then-piece-saturating_sub-clause-too_long : goal.returns-then-piece-saturating_sub-clause-too_long
+returns-then-piece-saturating_sub-clause-too_long c passphrase file h =
+    let long = length-split file passphrase h.salt h.costs h.done h.held h.split in
+    omega (arith, long, h.below_limit, ap (λ (p : KeyStreamPlace). p.position) h.state.cipher, ap length h.state.held, c.position.ensures.position, c.len.ensures.len, c.saturating_add-rest.ensures, c.saturating_sub.ensures, c.if-piece-saturating_sub.true)
+
+pub returns-clause-fits : goal.returns-clause-fits
+returns-clause-fits c passphrase file h =
+    let long = length-split file passphrase h.salt h.costs h.done h.held h.split in
+    omega (arith, long, ap (λ (p : KeyStreamPlace). p.position) h.state.cipher, ap length h.state.held, c.position.ensures.position, c.len.ensures.len, c.saturating_add-rest.ensures, c.saturating_sub.ensures, c.if-piece-saturating_sub.false)
+
+pub returns-clause-hashed : goal.returns-clause-hashed
+returns-clause-hashed c passphrase file h =
+    let piece : List ℕ = c.args.piece.now in
+    let fits : length file + length piece < 2 ^ 60 + 128 = returns-clause-fits c passphrase file h in
+    FitsSha256-take _ (file ++ piece) (omega (arith, fits))
+
+pub returns-clause-read : goal.returns-clause-read
+returns-clause-read c passphrase file h =
+    let piece : List ℕ = c.args.piece.now in
+    let n : ℕ = c.take_in-released.result in
+    let moved : List ℕ = take n c.take_in-released.new.out in
+    let joined = c.take_in-released.ensures.joined ∙ ap (λ held. held ++ piece) h.state.held in
+    let count : length moved ≡ length h.held + length piece - 32 =
+    omega (arith, length-take n c.take_in-released.new.out, c.take_in-released.ensures.moved, ap length h.state.held, c.take_in-released.auto.out, c.requires.room) in
+    let fits : length file + length piece < 2 ^ 60 + 128 = returns-clause-fits c passphrase file h in
+    let front : List ℕ = head passphrase h.salt h.costs in
+    let code = c.update.ensures.appended _ _ h.state.code in
+    record {
+      salt = h.salt;
+      costs = h.costs;
+      done = h.done ++ moved;
+      held = c.take_in-released.new.self;
+      state = record {
+        cipher = place-more (cipher_key passphrase h.salt h.costs) h.done moved c.args.self.now.ctr c.apply.new.self h.state.cipher c.apply.ensures.key c.apply.ensures.position;
+        held = refl;
+        code = subst (Holds c.update.new.self (code_key passphrase h.salt h.costs)) (append_assoc front h.done moved) code;
+      };
+      split = IsSplit-more file passphrase h.salt h.costs h.done h.held piece moved c.take_in-released.new.self h.split joined count c.take_in-released.ensures.few;
+      below_limit = omega (arith, fits, length-append file piece);
+    }
+
+pub returns-clause-released : goal.returns-clause-released
+returns-clause-released c passphrase file h =
+    let piece : List ℕ = c.args.piece.now in
+    let n : ℕ = c.take_in-released.result in
+    let out : List ℕ = c.take_in-released.new.out in
+    let joined = c.take_in-released.ensures.joined ∙ ap (λ held. held ++ piece) h.state.held in
+    let count : length (take n out) ≡ length h.held + length piece - 32 =
+    omega (arith, length-take n out, c.take_in-released.ensures.moved, ap length h.state.held, c.take_in-released.auto.out, c.requires.room) in
+    let long : length c.apply.new.bytes ≡ n = omega (arith, length-take n out, c.apply.auto.bytes, count, c.take_in-released.ensures.moved, ap length h.state.held) in
+    ap (λ t. released_text file passphrase ++ t) (take_at c.apply.new.bytes (drop n out) n long)
+    ∙ released_text-more file (file ++ piece) passphrase h.salt h.costs h.done h.held (take n out) c.take_in-released.new.self c.apply.new.bytes c.args.self.now.ctr h.split
+    (IsSplit-more file passphrase h.salt h.costs h.done h.held piece (take n out) c.take_in-released.new.self h.split joined count c.take_in-released.ensures.few)
+    h.state.cipher c.apply.ensures.xored

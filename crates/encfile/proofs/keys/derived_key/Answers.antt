@@ -1,0 +1,6 @@
+use Rattle.encfile.specs.EncryptedFile.{derived_key}
+use Rattle.encfile.proofs.keys.derived_key.Goals as goal
+
+pub returns-clause-key : goal.returns-clause-key
+unfolding derived_key
+returns-clause-key c = c.derive.ensures.key

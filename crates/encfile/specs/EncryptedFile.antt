@@ -1,0 +1,68 @@
+-- scrypt's encrypted file, version 0 (Tarsnap's FORMAT), as lists of bytes. Offsets are FORMAT's.
+use Rattle.std.specs.Prelude.{◌≡◌, ℕ, ◌-◌, ◌^◌, ◌<◌, List, [], ◌++◌, length, take, drop, nat_le, if◌then◌else◌}
+use Rattle.macs.specs.HmacSha256.{hmac_sha256}
+use Rattle.romix.specs.Costs.{IsInRange, Parameters}
+use Rattle.romix.specs.Scrypt.{scrypt}
+use Rattle.aes_ctr.specs.CounterMode.{counter_mode}
+use Rattle.encfile.specs.Header.{bytes_at, costs_of, header, salt_of}
+
+-- ---- the file of a text
+
+-- the 64 bytes that the passphrase gives
+unfoldable pub derived_key : List ℕ → List ℕ → Parameters → List ℕ
+derived_key passphrase salt costs = scrypt passphrase salt (2 ^ costs.log_n) costs.r costs.p 64
+
+-- the first 32 of them: the key of AES-256
+abbrev pub cipher_key : List ℕ → List ℕ → Parameters → List ℕ
+cipher_key passphrase salt costs = take 32 (derived_key passphrase salt costs)
+
+-- the last 32 of them: the key of HMAC-SHA-256
+abbrev pub code_key : List ℕ → List ℕ → Parameters → List ℕ
+code_key passphrase salt costs = drop 32 (derived_key passphrase salt costs)
+
+-- bytes 64 to 95: the HMAC of the header
+abbrev pub header_code : List ℕ → List ℕ → Parameters → List ℕ
+header_code passphrase salt costs = hmac_sha256 (code_key passphrase salt costs) (header costs salt)
+
+-- bytes 0 to 95
+unfoldable pub head : List ℕ → List ℕ → Parameters → List ℕ
+head passphrase salt costs = header costs salt ++ header_code passphrase salt costs
+
+-- everything before the last 32 bytes: from byte 96 on the encrypted text
+unfoldable pub body : List ℕ → List ℕ → Parameters → List ℕ → List ℕ
+body passphrase salt costs text = head passphrase salt costs ++ counter_mode (cipher_key passphrase salt costs) text
+
+-- the last 32 bytes: the HMAC of everything before
+abbrev pub final_code : List ℕ → List ℕ → Parameters → List ℕ → List ℕ
+final_code passphrase salt costs text = hmac_sha256 (code_key passphrase salt costs) (body passphrase salt costs text)
+
+-- the file of a text
+unfoldable pub encrypted_file : List ℕ → List ℕ → Parameters → List ℕ → List ℕ
+encrypted_file passphrase salt costs text = body passphrase salt costs text ++ final_code passphrase salt costs text
+
+-- the file is that of the text under the passphrase, with some salt and some costs
+pub record IsEncryptionOf (file passphrase text : List ℕ) : Type 0 where
+  pub salt : List ℕ
+  pub costs : Parameters
+  pub salt_has_32_bytes : length salt ≡ 32
+  pub in_range : IsInRange costs
+  pub below_limit : length text < 2 ^ 60
+  pub bytes : file ≡ encrypted_file passphrase salt costs text
+
+-- ---- what a file gives back, whether its codes are right or not
+
+-- the text of the bytes between the first 96 and the last 32
+unfoldable pub released_text : List ℕ → List ℕ → List ℕ
+released_text file passphrase =
+    if nat_le 128 (length file)
+    then counter_mode (cipher_key passphrase (salt_of file) (costs_of file)) (bytes_at file 96 (length file - 128))
+    else []
+
+-- what bytes 64 to 95 should be: the HMAC of bytes 0 to 63, under the key that the passphrase gives with the costs and
+-- the salt that stand there
+abbrev pub right_header_code : List ℕ → List ℕ → List ℕ
+right_header_code file passphrase = hmac_sha256 (code_key passphrase (salt_of file) (costs_of file)) (take 64 file)
+
+-- they are
+abbrev pub HasRightHeaderCode : List ℕ → List ℕ → Type 0
+HasRightHeaderCode file passphrase = bytes_at file 64 32 ≡ right_header_code file passphrase

@@ -1,0 +1,21 @@
+-- Why 64 bytes are no header.
+use Rattle.std.specs.Prelude.{ℕ, ◌==◌, Bool, not, List, [], ◌∷◌, slice_index, is_some, Option}
+use Rattle.romix.specs.Costs.{Parameters}
+use Rattle.romix.specs.Faults.{cost_fault}
+use Rattle.romix.specs.FirstOf.{first_of}
+use Rattle.encfile.specs.Header.{costs_of, has_magic, has_right_checksum}
+use Rattle.encfile.specs.declared.fault.HeaderFault.{HeaderFault}
+use Rattle.encfile.specs.declared.fault.HeaderFault.TheVariants.{Magic, Version, Checksum, CostsOutOfRange}
+
+-- the numbers are no costs of a derivation
+abbrev pub are_out_of_range : Parameters → Bool
+are_out_of_range costs = is_some (cost_fault costs.log_n costs.r costs.p)
+
+-- why the bytes, of which the first 64 count, are no header, if they aren't
+abbrev pub header_fault : List ℕ → Option HeaderFault
+header_fault file = first_of (
+    (not (has_magic file), Magic)
+    ∷ (not (slice_index file 6 == 0), Version)
+    ∷ (not (has_right_checksum file), Checksum)
+    ∷ (are_out_of_range (costs_of file), CostsOutOfRange)
+    ∷ [])

@@ -1,0 +1,119 @@
+// Encryption in pieces.
+
+ghost use Rattle.std.specs.Prelude.{◌≡◌, ℕ, ◌+◌, ◌^◌, ◌<◌, ◌≤◌, ◌++◌, List, [], length, drop, OnOk, OnErr};
+ghost use Rattle.macs.specs.HmacSha256.{hmac_sha256};
+ghost use Rattle.romix.specs.Costs.{IsInRange, Parameters, cores};
+ghost use Rattle.encfile.specs.Header.{header};
+ghost use Rattle.encfile.specs.EncryptedFile.{body, encrypted_file, head};
+ghost use Rattle.encfile.specs.Encrypting.{Encrypts, FitsSha256, HasEncrypted};
+
+use crate::fault::TooLong;
+use crate::header_bytes::header;
+use crate::keys::{derived_key, final_code, header_code, key_stream, running_code};
+use aes_ctr::Ctr;
+use macs::Hmac;
+use romix::{Costs, Ticks, Workspace};
+
+/// The text of a file is shorter than this, in bytes.
+const TEXT_LIMIT: u64 = 1 << 60;
+
+// Bytes 0 to 95 of the file of these costs, this salt and these keys.
+fn head(costs: &Costs, salt: &[u8; 32], keys: &[u8; 64]) -> [u8; 96]
+    ensures bytes { result ≡ header costs.now salt.now
+        ++ hmac_sha256 (drop 32 keys.now) (header costs.now salt.now) }
+    ensures in_range { IsInRange costs.now }
+{
+    let front = header(costs, salt);
+    let mut bytes = [0u8; 96];
+    bytes[..64].copy_from_slice(&front);
+    bytes[64..].copy_from_slice(&header_code(keys, &front));
+    bytes
+}
+
+/// A running encryption: the file is [`header`](Enc::header), then each piece of the text as [`feed`](Enc::feed) leaves
+/// it, then [`finish`](Enc::finish).
+///
+/// Contracts see, by `HasEncrypted`, the passphrase, the salt and the costs, and the text so far. Where several
+/// passphrases give the same keys, it is the encryption of each.
+#[derive(Drop)]
+pub struct Enc {
+    header: [u8; 96],
+    ctr: Ctr,
+    hmac: Hmac,
+}
+
+impl Enc {
+    // An encryption behind these first 96 bytes.
+    fn with_keys(header: [u8; 96], keys: &[u8; 64]) -> Enc
+        ensures begun { Encrypts result header keys.now [] }
+    {
+        let ctr = key_stream(keys);
+        let hmac = running_code(keys, &header);
+        Enc { header, ctr, hmac }
+    }
+
+    /// Begins the encryption of a text. The keys are derived from the passphrase and the salt in the workspace, which
+    /// was reserved for these costs, in 4 * N * r * p ticks.
+    pub fn start(
+        costs: &Costs,
+        salt: &[u8; 32],
+        passphrase: &[u8],
+        workspace: &mut Workspace,
+        ticks: &mut Ticks,
+    ) -> Enc
+        requires workspace { workspace.old.costs ≡ costs.now }
+        ensures begun { HasEncrypted result passphrase.now salt.now costs.now [] }
+        ensures memory { workspace.new ≡ workspace.old }
+        ensures count { ticks.new ≡ ticks.old + cores costs.now }
+    {
+        let keys = derived_key(passphrase, salt, workspace, ticks);
+        Enc::with_keys(head(costs, salt, &keys), &keys)
+    }
+
+    /// The first 96 bytes of the file.
+    pub fn header(&self) -> [u8; 96]
+        ensures head { (passphrase salt : List ℕ) (costs : Parameters) (text : List ℕ)
+            → HasEncrypted self.now passphrase salt costs text → result ≡ head passphrase salt costs }
+        // which is all before the first piece of the text
+        ensures body { (passphrase salt : List ℕ) (costs : Parameters) (text : List ℕ)
+            → HasEncrypted self.now passphrase salt costs text → result ≡ body passphrase salt costs [] }
+    {
+        self.header
+    }
+
+    /// Encrypts the next bytes of the text in place, or refuses them where the text would reach 2^60 bytes. After a
+    /// refusal they and the encryption are as they were.
+    pub fn feed(&mut self, bytes: &mut [u8]) -> Result<(), TooLong>
+        ensures fed { OnOk result ((passphrase salt : List ℕ) (costs : Parameters) (text : List ℕ)
+            → HasEncrypted self.old passphrase salt costs text
+            → HasEncrypted self.new passphrase salt costs (text ++ bytes.old)) }
+        ensures written { OnOk result ((passphrase salt : List ℕ) (costs : Parameters) (text : List ℕ)
+            → HasEncrypted self.old passphrase salt costs text
+            → body passphrase salt costs text ++ bytes.new ≡ body passphrase salt costs (text ++ bytes.old)) }
+        ensures fits { OnOk result ((passphrase salt : List ℕ) (costs : Parameters) (text : List ℕ)
+            → HasEncrypted self.old passphrase salt costs text → length text + length bytes.old < 2 ^ 60) }
+        ensures hashed { OnOk result ((passphrase salt : List ℕ) (costs : Parameters) (text : List ℕ)
+            → HasEncrypted self.old passphrase salt costs text
+            → FitsSha256 (body passphrase salt costs (text ++ bytes.old))) }
+        ensures too_long { OnErr result ((passphrase salt : List ℕ) (costs : Parameters) (text : List ℕ)
+            → HasEncrypted self.old passphrase salt costs text → 2 ^ 60 ≤ length text + length bytes.old) }
+        ensures unchanged { OnErr result (self.new ≡ self.old) }
+        ensures untouched { OnErr result (bytes.new ≡ bytes.old) }
+    {
+        if bytes.len() as u64 >= TEXT_LIMIT.saturating_sub(self.ctr.position()) {
+            return Err(TooLong);
+        }
+        self.ctr.apply(bytes);
+        self.hmac.update(bytes);
+        Ok(())
+    }
+
+    /// The last 32 bytes of the file.
+    pub fn finish(self) -> [u8; 32]
+        ensures code { (passphrase salt : List ℕ) (costs : Parameters) (text : List ℕ)
+            → HasEncrypted self passphrase salt costs text
+            → body passphrase salt costs text ++ result ≡ encrypted_file passphrase salt costs text }
+    {
+        final_code(self.hmac)
+    }
+}

@@ -1,0 +1,60 @@
+// What the passphrase gives: 64 bytes, of which the first 32 are the key of AES-256 and the last 32 that of HMAC-SHA-256.
+
+ghost use Rattle.std.specs.Prelude.{◌≡◌, ◌+◌, ℕ, List, take, drop};
+ghost use Rattle.macs.specs.Hmac.{Holds};
+ghost use Rattle.macs.specs.HmacSha256.{hmac_sha256};
+ghost use Rattle.romix.specs.Costs.{cores};
+ghost use Rattle.encfile.specs.EncryptedFile.{derived_key};
+
+use aes_ctr::{Aes256, Ctr};
+use macs::Hmac;
+use romix::{Ticks, Workspace};
+
+// The keys of the passphrase and the salt, by the costs of the workspace.
+pub(crate) fn derived_key(
+    passphrase: &[u8],
+    salt: &[u8; 32],
+    workspace: &mut Workspace,
+    ticks: &mut Ticks,
+) -> [u8; 64]
+    ensures key { result ≡ derived_key passphrase.now salt.now workspace.old.costs }
+    ensures memory { workspace.new ≡ workspace.old }
+    ensures count { ticks.new ≡ ticks.old + cores workspace.old.costs }
+{
+    let mut keys = [0u8; 64];
+    workspace.derive(passphrase, salt, &mut keys, ticks);
+    keys
+}
+
+// The key stream, at its start.
+pub(crate) fn key_stream(keys: &[u8; 64]) -> Ctr
+    ensures stream { result ≡ record { key = take 32 keys.now; position = 0 } }
+{
+    let mut cipher_key = [0u8; 32];
+    cipher_key.copy_from_slice(&keys[..32]);
+    Ctr::new(Aes256::new(&cipher_key))
+}
+
+// The running code of the first bytes of a file.
+pub(crate) fn running_code(keys: &[u8; 64], front: &[u8]) -> Hmac
+    ensures code { Holds result (drop 32 keys.now) front.now }
+{
+    let mut code = Hmac::new(&keys[32..]);
+    code.update(front);
+    code
+}
+
+// Bytes 64 to 95, for bytes 0 to 63.
+pub(crate) fn header_code(keys: &[u8; 64], header: &[u8]) -> [u8; 32]
+    ensures code { result ≡ hmac_sha256 (drop 32 keys.now) header.now }
+{
+    running_code(keys, header).finish()
+}
+
+// The last 32 bytes, by the running code of everything before.
+pub(crate) fn final_code(running: Hmac) -> [u8; 32]
+    ensures code { (key message : List ℕ) → Holds running key message
+        → result ≡ hmac_sha256 key message }
+{
+    running.finish()
+}
