@@ -1,0 +1,2 @@
+-- Lemmas on buffers.
+mod Filled

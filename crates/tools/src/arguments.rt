@@ -1,0 +1,122 @@
+//! The words behind a program's name, and what is said where they cannot be handed on.
+ghost use Rattle.std.specs.Prelude.{◌≡◌, ◌-◌, ◌^◌, drop};
+ghost use Rattle.command.specs.Argon2.Run.{SaysOneLine};
+ghost use Rattle.command.specs.Faults.{AreBelow};
+
+use command::Host;
+use std::env;
+use std::env::Env;
+use std::io::ErrorKind;
+
+/// Why the words cannot be handed to a command.
+#[derive(Clone, Copy, Debug, PartialEq, Eq)]
+pub enum WordsFault {
+    /// One of them, or the program's name, is not UTF-8.
+    NotText,
+    /// A growth of memory was refused.
+    OutOfMemory,
+}
+
+/// The words behind the program's name. They come as a whole or not at all.
+pub fn words(rt: HostRuntime) -> Result<Vec<String>, WordsFault> {
+    words_of(&rt)
+}
+
+// The words of a process with these arguments.
+fn words_of<E: Env + AllocGlobal>(process: &E) -> Result<Vec<String>, WordsFault> {
+    let arguments = match env::args(process) {
+        Ok(arguments) => arguments,
+        Err(e) if e.kind() == ErrorKind::OutOfMemory => return Err(WordsFault::OutOfMemory),
+        Err(_) => return Err(WordsFault::NotText),
+    };
+    match arguments.collect(process.alloc()) {
+        Ok(all) => Ok(without_first(all)),
+        Err(_) => Err(WordsFault::OutOfMemory),
+    }
+}
+
+// All words but the first, if there is one.
+fn without_first(mut words: Vec<String>) -> Vec<String>
+    ensures rest { result.items ≡ drop 1 words.items }
+{
+    if !words.is_empty() {
+        words.remove(0);
+    }
+    words
+}
+
+/// Says the line of a refusal and gives the refusal's status, 1. A line that cannot be said is passed
+/// over.
+pub fn refuse<H: Host>(host: &mut H, line: &str) -> u8
+    requires room { AreBelow (2 ^ 64 - 1) (H.faults host.old) }
+    ensures status { result ≡ 1 }
+    ensures says { SaysOneLine H.tells line.now (H.seen host.old) (H.seen host.new)
+        (H.faults host.old) (H.faults host.new) }
+{
+    let Ok(()) = host.say(line) else {
+        return 1;
+    };
+    1
+}
+
+#[cfg(test)]
+mod tests {
+    use super::*;
+    use std::env::FillError;
+    use std::test::Fail;
+
+    // A process with these arguments.
+    #[derive(Clone, Copy)]
+    struct Process(&'static [&'static [u8]]);
+
+    impl Env for Process {
+        fn arg(&self, i: usize, buf: &mut [u8]) -> Result<usize, FillError> {
+            match self.0.get(i) {
+                None => Err(FillError::NotPresent),
+                Some(word) => {
+                    if buf.len() < word.len() {
+                        return Err(FillError::TooLong);
+                    }
+                    buf[..word.len()].copy_from_slice(word);
+                    Ok(word.len())
+                }
+            }
+        }
+
+        fn var(&self, _name: &str, _buf: &mut [u8]) -> Result<usize, FillError> {
+            Err(FillError::NotPresent)
+        }
+
+        fn var_at(&self, _i: usize, _buf: &mut [u8]) -> Result<usize, FillError> {
+            Err(FillError::NotPresent)
+        }
+    }
+
+    #[test]
+    fn leaves_out_the_name(rt: HostRuntime) -> Result<(), Fail> {
+        let rows: [(Process, Result<&[&str], WordsFault>); 5] = [
+            (Process(&[]), Ok(&[])),
+            (Process(&[b"argon2"]), Ok(&[])),
+            (Process(&[b"argon2", b"", b"-e"]), Ok(&["", "-e"])),
+            (Process(&[b"argon2", b"\xff"]), Err(WordsFault::NotText)),
+            (Process(&[b"\xff", b"-e"]), Err(WordsFault::NotText)),
+        ];
+        for (process, expected) in rows {
+            match (words_of(&(process, rt.alloc())), expected) {
+                (Ok(words), Ok(texts)) => {
+                    assert_eq!(rt; words.len(), texts.len());
+                    assert!(rt;
+                        words
+                            .iter()
+                            .zip(texts)
+                            .all(|(word, text)| word.as_str() == *text)
+                    );
+                }
+                (Err(fault), Err(told)) => assert_eq!(rt; fault, told),
+                (outcome, _) => assert!(rt; false, "{}", outcome.is_ok()),
+            }
+        }
+        assert!(rt; words(rt).is_ok());
+        Ok(())
+    }
+}

@@ -1,0 +1,10 @@
+//! What the programs share: the system as a host, and the words behind a program's name.
+#![tactic(auto)]
+
+mod arguments;
+mod placeholders;
+mod streams;
+mod system_host;
+
+pub use arguments::{WordsFault, refuse, words};
+pub use system_host::SystemHost;

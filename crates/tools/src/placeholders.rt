@@ -1,0 +1,42 @@
+//! Standard streams that are closed when the program starts.
+ghost use Rattle.std.specs.Prelude.{◌<ℤ◌, pos, IfSome};
+ghost use Rattle.std.specs.Fd.{file_raw_fd};
+
+use std::fs::File;
+use std::os::fd::AsRawFd;
+
+// The descriptors 0, 1 and 2 are those of the standard streams.
+const STANDARD_DESCRIPTORS: i32 = 3;
+
+/// Stands in the place of the standard streams that are closed, for as long as it is kept. The system
+/// gives a file that is opened the lowest free descriptor, so without it a named file could become
+/// standard input, output or error.
+#[derive(Drop)]
+pub struct Placeholders {
+    folders: [Option<File>; 3],
+}
+
+impl Placeholders {
+    /// Takes the descriptors of the standard streams that are closed.
+    pub fn new(rt: HostRuntime) -> Placeholders {
+        Placeholders {
+            folders: [hold(rt), hold(rt), hold(rt)],
+        }
+    }
+}
+
+// The lowest free descriptor, where it is that of a standard stream. The root folder stands there, since
+// it is always there and can be neither read nor written as a file: reads and writes fail as they do
+// on a closed stream.
+fn hold(rt: HostRuntime) -> Option<File>
+    ensures standard { IfSome result (λ folder. file_raw_fd folder <ℤ pos 3) }
+{
+    let Ok(folder) = File::open(&rt, "/") else {
+        return None;
+    };
+    if folder.as_raw_fd() < STANDARD_DESCRIPTORS {
+        Some(folder)
+    } else {
+        None
+    }
+}

@@ -1,0 +1,147 @@
+//! Streams that are interrupted, that fail in the middle, and that take or give little.
+ghost use Rattle.std.specs.Prelude.{◌≡◌, ◌≤◌, IfOk, length};
+
+use super::*;
+use std::io;
+
+// A stream that is interrupted a number of times before each byte that it takes or gives.
+#[derive(Drop)]
+struct Interrupted {
+    before_each: usize,
+    left: usize,
+}
+
+impl Interrupted {
+    fn new(times: usize) -> Interrupted
+        ensures left { result.left ≡ times }
+    {
+        Interrupted {
+            before_each: times,
+            left: times,
+        }
+    }
+
+    fn one_byte(&mut self) -> io::Result<usize>
+        ensures one { IfOk result (λ n. n ≡ 1) }
+    {
+        if self.left == 0 {
+            self.left = self.before_each;
+            return Ok(1);
+        }
+        self.left -= 1;
+        Err(io::Error::from(ErrorKind::Interrupted))
+    }
+}
+
+impl Read for Interrupted {
+    fn read(&mut self, buf: &mut [u8]) -> io::Result<usize> {
+        if buf.is_empty() {
+            Ok(0)
+        } else {
+            self.one_byte()
+        }
+    }
+}
+
+impl Write for Interrupted {
+    fn write(&mut self, buf: &[u8]) -> io::Result<usize> {
+        if buf.is_empty() {
+            Ok(0)
+        } else {
+            self.one_byte()
+        }
+    }
+
+    fn flush(&mut self) -> io::Result<()> {
+        Ok(())
+    }
+}
+
+#[test]
+fn asks_again_sixteen_times(rt: HostRuntime) {
+    let mut buf = [0; 4];
+    for (times, some, full) in [(16, Ok(1), Ok(4)), (17, Err(HostFault), Err(HostFault))] {
+        assert_eq!(rt;
+            read_some(&mut Interrupted::new(times), &mut buf),
+            some,
+            "{times} times"
+        );
+        assert_eq!(rt;
+            read_full(&mut Interrupted::new(times), &mut buf),
+            full,
+            "{times} times"
+        );
+        assert_eq!(rt;
+            write_some(&mut Interrupted::new(times), &buf),
+            some,
+            "{times} times"
+        );
+    }
+}
+
+// A reader that gives two bytes at a time, and then fails or ends.
+#[derive(Drop)]
+struct InPairs {
+    left: usize,
+    fails: bool,
+}
+
+impl Read for InPairs {
+    fn read(&mut self, buf: &mut [u8]) -> io::Result<usize> {
+        if self.left == 0 && self.fails {
+            return Err(io::Error::from(ErrorKind::Other));
+        }
+        let n = self.left.min(2).min(buf.len());
+        self.left -= n;
+        Ok(n)
+    }
+}
+
+#[test]
+fn reads_until_full_or_at_the_end(rt: HostRuntime) {
+    for (left, fails, outcome) in [
+        (0, false, Ok(0)),
+        (4, false, Ok(4)),
+        (5, false, Ok(5)),
+        (6, false, Ok(5)),
+        (6, true, Ok(5)),
+        (4, true, Err(HostFault)),
+    ] {
+        let mut buf = [0; 5];
+        assert_eq!(rt;
+            read_full(&mut InPairs { left, fails }, &mut buf),
+            outcome,
+            "{left} bytes"
+        );
+    }
+}
+
+// A writer that takes no byte, or that cannot be flushed.
+#[derive(Drop)]
+enum Stuck {
+    AtWrite,
+    AtFlush,
+}
+
+impl Write for Stuck {
+    fn write(&mut self, buf: &[u8]) -> io::Result<usize> {
+        match self {
+            Stuck::AtWrite => Ok(0),
+            Stuck::AtFlush => Ok(buf.len()),
+        }
+    }
+
+    fn flush(&mut self) -> io::Result<()> {
+        match self {
+            Stuck::AtWrite => Ok(()),
+            Stuck::AtFlush => Err(io::Error::from(ErrorKind::Other)),
+        }
+    }
+}
+
+#[test]
+fn writing_nothing_and_a_failed_flush_are_faults(rt: HostRuntime) {
+    assert_eq!(rt; write_some(&mut Stuck::AtWrite, b"line"), Err(HostFault));
+    assert_eq!(rt; write_some(&mut Stuck::AtFlush, b"line"), Err(HostFault));
+    assert_eq!(rt; write_some(&mut Stuck::AtWrite, b""), Ok(0));
+}
