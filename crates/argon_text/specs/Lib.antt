@@ -1,5 +1,11 @@
--- Encoded texts: the value, its ranges, its text, and vectors that the definitions are run on.
+-- Encoded texts: the value and its ranges, its text, the grammar that texts are told by, how one is read, and what
+-- the test of a password answers.
 pub mod Value
 pub mod EncodedText
+pub mod Base64
+pub mod Grammar
 pub mod View
+pub mod Reading
+pub mod Answer
+pub mod Verifying
 pub mod Vectors

@@ -1,5 +1,6 @@
 -- What an encoded text says, and its ranges.
-use Rattle.std.specs.Prelude.{ℕ, ◌-◌, ◌*◌, ◌^◌, ◌==◌, Bool, ◌&&◌, List}
+use Rattle.std.specs.Prelude.{◌≡◌, ℕ, ◌-◌, ◌*◌, ◌^◌, ◌==◌, Bool, true, ◌&&◌, List, length}
+use Rattle.base64.specs.GeneralPurpose.{IsBytes}
 use Rattle.argon.specs.Range.{is_between}
 use Rattle.argon.specs.declared.kind.Kind.{Kind}
 
@@ -22,3 +23,13 @@ are_in_range version memory passes lanes salt_len tag_len =
     && is_between (8 * lanes) memory (2 ^ 32 - 1)
     && is_between 8 salt_len 255
     && is_between 4 tag_len 4096
+
+-- the same of a value
+abbrev pub is_in_range : Value → Bool
+is_in_range v = are_in_range v.version v.memory v.passes v.lanes (length v.salt) (length v.tag)
+
+-- a value that an `Encoded` can have
+pub record IsValue (v : Value) : Type 0 where
+  pub in_range : is_in_range v ≡ true
+  pub salt : IsBytes v.salt
+  pub tag : IsBytes v.tag

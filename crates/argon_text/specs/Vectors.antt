@@ -1,6 +1,7 @@
 -- A text of the reference program: printf password | argon2 somesalt -d -t 1 -k 8 -e, and with -r in place of -e.
 use Rattle.std.specs.Prelude.{ℕ, List, [], ◌∷◌, codes}
 use Rattle.argon.specs.declared.kind.Kind.TheVariants.{D}
+use Rattle.argon_text.specs.Grammar.{Fields}
 use Rattle.argon_text.specs.Value.{Value}
 
 -- what the text says
@@ -19,3 +20,15 @@ known_value = record {
 -- the text
 abbrev pub known_text : List ℕ
 known_text = codes "$argon2d$v=19$m=8,t=1,p=1$c29tZXNhbHQ$xRnmA6xgPsGutbcexEpheePzl1sUwMl+ORTHnmNj4Xg"
+
+-- its fields
+abbrev pub known_fields : Fields
+known_fields = record {
+  kind = D;
+  version = codes "19";
+  memory = codes "8";
+  passes = codes "1";
+  lanes = codes "1";
+  salt = codes "c29tZXNhbHQ";
+  tag = codes "xRnmA6xgPsGutbcexEpheePzl1sUwMl+ORTHnmNj4Xg";
+}

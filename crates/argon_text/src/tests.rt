@@ -3,6 +3,12 @@
 ghost use Rattle.std.specs.Prelude.{◌≡◌, true, length};
 ghost use Rattle.argon_text.specs.Value.{are_in_range};
 
+mod near_misses;
+mod reading;
+mod reference_texts;
+mod refusing;
+mod verifying;
+
 use crate::Encoded;
 use argon::Kind;
 use std::alloc::{AllocError, Global};

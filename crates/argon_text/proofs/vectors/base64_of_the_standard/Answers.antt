@@ -1,0 +1,17 @@
+use Rattle.std.proofs.Common.{refl}
+use Rattle.argon_text.specs.Base64.{base64_bytes, is_base64, symbol_value}
+use Rattle.argon_text.proofs.vectors.base64_of_the_standard.Goals as goal
+
+pub returns : goal.returns
+unfolding is_base64 base64_bytes symbol_value
+returns c = record {
+  nothing = refl;
+  two_symbols = refl;
+  three_symbols = refl;
+  four_symbols = refl;
+  eight_symbols = refl;
+  form = refl;
+  unused_bits = refl;
+  lone_symbol = refl;
+  padding = refl;
+}

@@ -1,0 +1,31 @@
+use Rattle.std.proofs.Common.{ℕ, List, get_or, ap, arith, below_more}
+use Rattle.std.proofs.lemmas.Bool.{eqb-true, eq-eqb}
+use Rattle.std.proofs.lemmas.List.{ext_get_or}
+use Rattle.std.specs.Int.Bits.{bit_xor}
+use Rattle.argon_text.proofs.Bits.{both_zero, no_difference, none_at_same}
+use Rattle.argon_text.proofs.verifying.are_same.Goals as goal
+
+pub loop-i-preserved : goal.loop-i-preserved
+loop-i-preserved c =
+    let left : List ℕ = c.args.left.now in
+    let right : List ℕ = c.args.right.now in
+    let i : ℕ = c.loop-i.i in
+    let d : ℕ = c.loop-i.difference in
+    record {
+      same = λ zero.
+          let none = both_zero d (bit_xor (get_or left i 0) (get_or right i 0)) zero in
+          below_more _ _ (c.loop-i.invariant.same none.0) (no_difference (get_or left i 0) (get_or right i 0) none.1);
+      differs = λ equal. none_at_same d (get_or left i 0) (get_or right i 0) (c.loop-i.invariant.differs equal) (ap (λ (xs : List ℕ). get_or xs i 0) equal);
+    }
+
+pub returns : goal.returns
+returns c =
+    let left : List ℕ = c.args.left.now in
+    let right : List ℕ = c.args.right.now in
+    let d : ℕ = c.loop-i.difference in
+    record {
+      same = (
+        λ zero. ext_get_or 0 left right c.requires.len (λ k within. c.loop-i.invariant.same (eqb-true d 0 zero) k (omega arith)),
+        λ equal. eq-eqb d 0 (c.loop-i.invariant.differs equal),
+      );
+    }

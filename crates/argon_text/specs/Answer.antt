@@ -1,0 +1,27 @@
+-- What reading may answer.
+use Rattle.std.specs.Prelude.{◌≡◌, ◌≢◌, ℕ, List, Result, Ok, Err, ⊤, true}
+use Rattle.argon_text.specs.Base64.{is_base64}
+use Rattle.argon_text.specs.Value.{IsValue}
+use Rattle.argon_text.specs.EncodedText.{encoded_text}
+use Rattle.argon_text.specs.Grammar.{IsText, IsTextInRange}
+use Rattle.argon_text.specs.View.{value_of}
+use Rattle.argon_text.specs.declared.encoded.Encoded.{Encoded}
+use Rattle.argon_text.specs.declared.fault.ReadFault.{ReadFault}
+use Rattle.argon_text.specs.declared.fault.ReadFault.TheVariants.{NotInGrammar, OutOfRange, OutOfMemory}
+
+-- a fault, by the grammar and the ranges alone
+abbrev pub IsFaultOf : List ℕ → ReadFault → Type 0
+IsFaultOf s NotInGrammar = IsText s → ⊥
+IsFaultOf s OutOfRange = IsText s × (IsTextInRange s → ⊥)
+IsFaultOf s OutOfMemory = ⊤
+
+-- an answer
+abbrev pub IsAnswerOf : List ℕ → Result Encoded ReadFault → Type 0
+IsAnswerOf s (Ok e) = IsValue (value_of e) × (s ≡ encoded_text (value_of e))
+IsAnswerOf s (Err f) = IsFaultOf s f
+
+-- why base64 isn't decoded
+abbrev pub IsBase64Fault : List ℕ → ReadFault → Type 0
+IsBase64Fault s NotInGrammar = is_base64 s ≢ true
+IsBase64Fault s OutOfRange = ⊥
+IsBase64Fault s OutOfMemory = ⊤

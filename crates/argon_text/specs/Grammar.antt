@@ -1,0 +1,87 @@
+-- The form of an encoded text, whatever its numbers and lengths are (the reference implementation of Argon2,
+-- encoding.c), by cases on its bytes.
+use Rattle.std.specs.Prelude.{◌≡◌, ℕ, ◌==◌, Bool, false, true, ◌&&◌, ◌||◌, List, [], ◌∷◌, length, nat_le}
+use Rattle.std.specs.List.{list_all}
+use Rattle.std.specs.Char.{is_ascii_digit}
+use Rattle.std.specs.Str.Parse.{digits_value}
+use Rattle.std.specs.Fmt.{decimal}
+use Rattle.argon.specs.declared.kind.Kind.{Kind}
+use Rattle.argon_text.specs.Base64.{base64_bytes, is_base64}
+use Rattle.argon_text.specs.EncodedText.{base64_text, kind_name, text_of_fields}
+use Rattle.argon_text.specs.Value.{Value, is_in_range}
+
+-- the digit 0 alone, or a digit from 1 to 9 and any digits after it
+abbrev pub is_number : List ℕ → Bool
+is_number [] = false
+is_number (first ∷ others) =
+    ((first == 48) && (length others == 0))
+    || (nat_le 49 first && nat_le first 57 && list_all is_ascii_digit others)
+
+-- the number that digits write
+abbrev pub number_value : List ℕ → ℕ
+number_value digits = digits_value 10 digits
+
+-- the fields of a text as they are written: its type, the digits of its numbers, the symbols of salt and tag
+pub record Fields : Type 0 where
+  pub kind : Kind
+  pub version : List ℕ
+  pub memory : List ℕ
+  pub passes : List ℕ
+  pub lanes : List ℕ
+  pub salt : List ℕ
+  pub tag : List ℕ
+
+-- the text of fields
+abbrev pub text_of : Fields → List ℕ
+text_of fields =
+    text_of_fields (kind_name fields.kind) fields.version fields.memory fields.passes fields.lanes fields.salt fields.tag
+
+-- the four numbers have the form of numbers
+pub record AreNumbers (fields : Fields) : Type 0 where
+  pub version : is_number fields.version ≡ true
+  pub memory : is_number fields.memory ≡ true
+  pub passes : is_number fields.passes ≡ true
+  pub lanes : is_number fields.lanes ≡ true
+
+-- s is the text of these fields, each has its form, and nothing follows them
+pub record HasFields (s : List ℕ) (fields : Fields) : Type 0 where
+  pub text : s ≡ text_of fields
+  pub numbers : AreNumbers fields
+  pub salt : is_base64 fields.salt ≡ true
+  pub tag : is_base64 fields.tag ≡ true
+
+-- the grammar
+abbrev pub IsText : List ℕ → Type 0
+IsText s = (fields : Fields) × HasFields s fields
+
+-- what fields say, where salt and tag have these bytes
+abbrev pub value_with : Fields → List ℕ → List ℕ → Value
+value_with fields salt tag = record {
+  kind = fields.kind;
+  version = number_value fields.version;
+  memory = number_value fields.memory;
+  passes = number_value fields.passes;
+  lanes = number_value fields.lanes;
+  salt = salt;
+  tag = tag;
+}
+
+-- what fields say
+abbrev pub value_of_fields : Fields → Value
+value_of_fields fields = value_with fields (base64_bytes fields.salt) (base64_bytes fields.tag)
+
+-- s is a text, and what it says lies in the ranges
+abbrev pub IsTextInRange : List ℕ → Type 0
+IsTextInRange s = (fields : Fields) × HasFields s fields × (is_in_range (value_of_fields fields) ≡ true)
+
+-- the fields that a value is written as, its numbers in decimal
+abbrev pub fields_of_value : Value → Fields
+fields_of_value v = record {
+  kind = v.kind;
+  version = decimal v.version;
+  memory = decimal v.memory;
+  passes = decimal v.passes;
+  lanes = decimal v.lanes;
+  salt = base64_text v.salt;
+  tag = base64_text v.tag;
+}

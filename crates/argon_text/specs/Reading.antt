@@ -1,0 +1,69 @@
+-- How a text is taken apart, field by field, before base64 is decoded.
+use Rattle.std.specs.Prelude.{◌≡◌, ℕ, ◌+◌, ◌==◌, if◌then◌else◌, List, length, take, drop, codes, Option, Some, None}
+use Rattle.std.specs.Str.{bytes_eq}
+use Rattle.std.specs.Option.{option_map}
+use Rattle.std.specs.List.{position}
+use Rattle.argon.specs.declared.kind.Kind.{Kind}
+use Rattle.argon.specs.declared.kind.Kind.TheVariants.{D, I, Id}
+use Rattle.argon_text.specs.Grammar.{Fields, is_number}
+
+infixl 10 ◌>>=◌
+-- goes on with what was found
+abbrev pub ◌>>=◌ : {A B : Type 0} → Option A → (A → Option B) → Option B
+None >>= f = None
+(Some x) >>= f = f x
+
+-- what a function returned, seen by view, and the bytes that it left are what the step finds
+abbrev pub Steps : {X Y : Type 0} → (X → Y) → Option X → List ℕ → Option (Y × List ℕ) → Type 0
+Steps view None left step = step ≡ None
+Steps view (Some x) left step = step ≡ Some (view x, left)
+
+-- what stands behind a label
+abbrev pub after : List ℕ → List ℕ → Option (List ℕ)
+after label s = if bytes_eq (take (length label) s) label then Some (drop (length label) s) else None
+
+-- what stands before and after the first byte `mark`
+abbrev pub cut : ℕ → List ℕ → Option (List ℕ × List ℕ)
+cut mark s = option_map (λ place. (take place s, drop (place + 1) s)) (position (λ x. x == mark) s)
+
+-- the digits of a number behind a label, and what stands after the byte `mark`
+unfoldable pub number_at : List ℕ → ℕ → List ℕ → Option (List ℕ × List ℕ)
+number_at label mark s = do
+  field ← after label s
+  split ← cut mark field
+  if is_number split.0 then Some split else None
+
+-- the type of a name
+abbrev pub kind_named : List ℕ → Option Kind
+kind_named name =
+    if bytes_eq name (codes "d") then Some D
+    else if bytes_eq name (codes "i") then Some I
+    else if bytes_eq name (codes "id") then Some Id
+    else None
+
+-- the type, and what stands after its `$`
+unfoldable pub kind_at : List ℕ → Option (Kind × List ℕ)
+kind_at s = do
+  named ← after (codes "$argon2") s
+  split ← cut 36 named
+  kind ← kind_named split.0
+  Some (kind, split.1)
+
+-- the fields of a text
+unfoldable pub fields_at : List ℕ → Option Fields
+fields_at s = do
+  kind ← kind_at s
+  version ← number_at (codes "v=") 36 kind.1
+  memory ← number_at (codes "m=") 44 version.1
+  passes ← number_at (codes "t=") 44 memory.1
+  lanes ← number_at (codes "p=") 36 passes.1
+  salt ← cut 36 lanes.1
+  Some (record {
+    kind = kind.0;
+    version = version.0;
+    memory = memory.0;
+    passes = passes.0;
+    lanes = lanes.0;
+    salt = salt.0;
+    tag = salt.1;
+  })

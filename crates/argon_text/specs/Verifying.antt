@@ -1,0 +1,45 @@
+-- Whether a password gives the tag of a value, and why that isn't told.
+use Rattle.std.specs.Prelude.{◌≡◌, ℕ, not, nat_lt, List, [], length, if◌then◌else◌, Option, Some, None}
+use Rattle.argon.specs.Argon2.{Parameters, argon2_tag, block_count}
+use Rattle.argon.specs.Counts.{work}
+use Rattle.argon.specs.Kind.{type_number}
+use Rattle.argon.specs.Range.{is_between}
+use Rattle.argon_text.specs.Value.{Value}
+use Rattle.argon_text.specs.declared.fault.VerifyFault.{VerifyFault}
+use Rattle.argon_text.specs.declared.fault.VerifyFault.TheVariants.{PasswordLength, MemoryLimit, WorkLimit, OutOfMemory}
+
+-- the parameters that a value and a password give (RFC 9106, 3.1)
+abbrev pub parameters_with : Value → List ℕ → Parameters
+parameters_with v password = record {
+  kind = type_number v.kind;
+  passes = v.passes;
+  lanes = v.lanes;
+  memory = v.memory;
+  tag_len = length v.tag;
+  salt_len = length v.salt;
+  password_len = length password;
+}
+
+-- the tag of the password under the value's parameters, with no secret and no associated data
+abbrev pub tag_of_password : Value → List ℕ → List ℕ
+tag_of_password v password = argon2_tag (parameters_with v password) (record {
+  password = password;
+  salt = v.salt;
+  secret = [];
+  associated = [];
+})
+
+-- the first that holds: the length of the password, the limit on memory, the limit on work
+abbrev pub verify_fault : Value → List ℕ → ℕ → ℕ → Option VerifyFault
+verify_fault v password max_kib max_ops =
+    if not (is_between 1 (length password) 127) then Some PasswordLength
+    else if nat_lt max_kib (block_count (parameters_with v password)) then Some MemoryLimit
+    else if nat_lt max_ops (work (parameters_with v password)) then Some WorkLimit
+    else None
+
+-- the fault that was told, against the first that holds; memory is refused only where none of those holds
+abbrev pub IsToldFault : Option VerifyFault → VerifyFault → Type 0
+IsToldFault first PasswordLength = first ≡ Some PasswordLength
+IsToldFault first MemoryLimit = first ≡ Some MemoryLimit
+IsToldFault first WorkLimit = first ≡ Some WorkLimit
+IsToldFault first OutOfMemory = first ≡ None

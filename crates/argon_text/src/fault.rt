@@ -1,0 +1,34 @@
+//! Why a text isn't read, and why a password isn't tested.
+use thiserror::Error;
+
+/// Why `Encoded::read` gives no value.
+#[derive(Clone, Copy, Debug, PartialEq, Eq, Error)]
+pub enum ReadFault {
+    /// 1: the bytes are no text of the grammar, whatever its numbers and lengths are.
+    #[error("not an encoded text")]
+    NotInGrammar,
+    /// 2: they are one, and a number, or the length of salt or tag, is out of range.
+    #[error("a value of the encoded text is out of range")]
+    OutOfRange,
+    /// 3: memory was refused.
+    #[error("out of memory")]
+    OutOfMemory,
+}
+
+/// Why `verify` gives no answer: the first that holds, in this order. The numbers are those of
+/// `argon::ParamFault` and go on from there.
+#[derive(Clone, Copy, Debug, PartialEq, Eq, Error)]
+pub enum VerifyFault {
+    /// 6: the length of the password, in bytes, is not 1 to 127.
+    #[error("password length out of range")]
+    PasswordLength,
+    /// 7: the hash takes more blocks of 1 KiB than are allowed.
+    #[error("more memory needed than is allowed")]
+    MemoryLimit,
+    /// 8: the hash takes more block functions than are allowed.
+    #[error("more work needed than is allowed")]
+    WorkLimit,
+    /// 9: memory was refused.
+    #[error("out of memory")]
+    OutOfMemory,
+}

@@ -1,0 +1,136 @@
+//! How an encoded text is read.
+ghost use Rattle.std.specs.Prelude.{◌≡◌, ◌≤◌, ◌+◌, ◌^◌, true, false, length, IfOk, IfErr, IsErrOf, MatchOption, MatchResult};
+ghost use Rattle.std.specs.Char.{is_ascii_digit};
+ghost use Rattle.base64.specs.GeneralPurpose.{IsBytes};
+ghost use Rattle.argon_text.specs.Answer.{IsAnswerOf, IsBase64Fault};
+ghost use Rattle.argon_text.specs.EncodedText.{base64_text, encoded_text};
+ghost use Rattle.argon_text.specs.Grammar.{AreNumbers, IsText, IsTextInRange, is_number, number_value, value_with};
+ghost use Rattle.argon_text.specs.Value.{IsValue, Value, are_in_range, is_in_range};
+ghost use Rattle.argon_text.specs.View.{fields_of, value_of};
+
+use crate::encoded::Encoded;
+use crate::fault::ReadFault;
+use crate::fields::{Fields, fields_in};
+use crate::room::Room;
+use base64::DecodeAllocError;
+use std::alloc::Global;
+
+impl Encoded {
+    /// Reads an encoded text, which is the whole of `text`: nothing may follow it. Numbers may have
+    /// any length, and are compared with their ranges as numbers. It asks for memory twice, for salt
+    /// and tag, together less than `text` has bytes.
+    ///
+    /// The faults, by their numbers: 1 where the bytes are no encoded text, 2 where they are one
+    /// with a value out of range (`Encoded` has the ranges), 3 where memory was refused.
+    pub fn read(alloc: Global, text: &[u8]) -> Result<Encoded, ReadFault>
+        // What is read is written so, each byte of it.
+        ensures found { IfOk result (λ e. text.now ≡ encoded_text (value_of e)) }
+        ensures not_in_grammar { IsErrOf result ReadFault.NotInGrammar → IsText text.now → ⊥ }
+        ensures out_of_range { IsErrOf result ReadFault.OutOfRange
+            → IsText text.now × (IsTextInRange text.now → ⊥) }
+        // The text of a value is read, unless memory is refused.
+        ensures again { (v : Value) → IsValue v → text.now ≡ encoded_text v
+            → MatchResult result (λ e. value_of e ≡ v) (λ f. f ≡ ReadFault.OutOfMemory) }
+    {
+        let mut room = alloc;
+        read_from(&mut room, text)
+    }
+}
+
+/// Reads an encoded text, with memory from `room`.
+pub(crate) fn read_from<R: Room>(room: &mut R, text: &[u8]) -> Result<Encoded, ReadFault>
+    ensures answer { IsAnswerOf text.now result }
+{
+    let Some(fields) = fields_in(text) else {
+        return Err(ReadFault::NotInGrammar);
+    };
+    let salt = decoded(room, fields.salt)?;
+    let tag = decoded(room, fields.tag)?;
+    match encoded_of(&fields, salt, tag) {
+        Some(encoded) => Ok(encoded),
+        None => Err(ReadFault::OutOfRange),
+    }
+}
+
+// The bytes that symbols of base64 stand for.
+fn decoded<R: Room>(room: &mut R, symbols: &[u8]) -> Result<Vec<u8>, ReadFault>
+    ensures bytes { IfOk result (λ bytes. IsBytes bytes.items) }
+    ensures text { IfOk result (λ bytes. symbols.now ≡ base64_text bytes.items) }
+    ensures err { IfErr result (IsBase64Fault symbols.now) }
+{
+    match room.decoded(symbols) {
+        Ok(bytes) => Ok(bytes),
+        Err(DecodeAllocError::OutOfMemory) => Err(ReadFault::OutOfMemory),
+        Err(DecodeAllocError::DecodeError(_)) => Err(ReadFault::NotInGrammar),
+    }
+}
+
+// The value of the fields, where it is in range.
+fn encoded_of(fields: &Fields<'_>, salt: Vec<u8>, tag: Vec<u8>) -> Option<Encoded>
+    requires numbers { AreNumbers (fields_of fields.now) }
+    ensures value { MatchOption result
+        (is_in_range (value_with (fields_of fields.now) salt.items tag.items) ≡ false)
+        (λ e. value_of e ≡ value_with (fields_of fields.now) salt.items tag.items) }
+{
+    let version = number_value(fields.version)?;
+    let memory = number_value(fields.memory)?;
+    let passes = number_value(fields.passes)?;
+    let lanes = number_value(fields.lanes)?;
+    if are_in_range(version, memory, passes, lanes, salt.len(), tag.len()) {
+        Some(Encoded {
+            kind: fields.kind,
+            version,
+            memory,
+            passes,
+            lanes,
+            salt,
+            tag,
+        })
+    } else {
+        None
+    }
+}
+
+// The number that digits write, where it is below 2^32. No digit is read past that.
+fn number_value(digits: &[u8]) -> Option<u32>
+    requires form { is_number digits.now ≡ true }
+    ensures value { MatchOption result (2 ^ 32 ≤ number_value digits.now)
+        (λ number. number ≡ number_value digits.now) }
+{
+    let mut number = 0u32;
+    for byte in digits {
+        let more = u64::from(number) * 10 + u64::from(digit_value(*byte));
+        if more > u64::from(u32::MAX) {
+            return None;
+        }
+        number = more as u32;
+    }
+    Some(number)
+}
+
+// The value of a digit.
+fn digit_value(byte: u8) -> u8
+    requires digit { is_ascii_digit byte ≡ true }
+    ensures value { result + 48 ≡ byte }
+{
+    byte - b'0'
+}
+
+// The ranges of an `Encoded`.
+fn are_in_range(
+    version: u32,
+    memory: u32,
+    passes: u32,
+    lanes: u32,
+    salt_len: usize,
+    tag_len: usize,
+) -> bool
+    ensures value { result ≡ are_in_range version memory passes lanes salt_len tag_len }
+{
+    version == 0x13
+        && 1 <= passes
+        && (1 <= lanes && lanes <= 0xFF_FFFF)
+        && 8 * u64::from(lanes) <= u64::from(memory)
+        && (8 <= salt_len && salt_len <= 255)
+        && (4 <= tag_len && tag_len <= 4096)
+}

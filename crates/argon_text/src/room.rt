@@ -1,0 +1,43 @@
+//! Where memory comes from: the heap, or what a test puts in its place to refuse it.
+ghost use Rattle.std.specs.Prelude.{◌≡◌, false, IfOk, IfErr, length, vec_len};
+ghost use Rattle.base64.specs.Engines.{standard_no_pad};
+ghost use Rattle.base64.specs.GeneralPurpose.{IsBytes, IsDecodeFailure};
+ghost use Rattle.argon.specs.Parameters.{block_count};
+ghost use Rattle.argon_text.specs.EncodedText.{base64_text};
+
+use argon::{Matrix, Params};
+use base64::DecodeAllocError;
+use base64::engine::general_purpose::STANDARD_NO_PAD;
+use std::alloc::{AllocError, Global};
+
+/// The requests for memory of `Encoded::read` and `verify`.
+pub(crate) trait Room {
+    /// The bytes that the symbols of base64 stand for. Takes three bytes for each four symbols begun.
+    fn decoded(&mut self, symbols: &[u8]) -> Result<Vec<u8>, DecodeAllocError>
+        ensures bytes { IfOk result (λ bytes. IsBytes bytes.items) }
+        ensures text { IfOk result (λ bytes. symbols.now ≡ base64_text bytes.items) }
+        ensures err { IfErr result (IsDecodeFailure standard_no_pad symbols.now) };
+
+    /// So many bytes of zero.
+    fn zeros(&mut self, count: usize) -> Result<Vec<u8>, AllocError>
+        ensures size { IfOk result (λ bytes. vec_len bytes ≡ count) };
+
+    /// The matrix of a hash with these parameters.
+    fn matrix(&mut self, params: &Params) -> Result<Matrix, AllocError>
+        ensures parameters { IfOk result (λ matrix. matrix.parameters ≡ params.now) };
+}
+
+impl Room for Global {
+    #[tactic(auto, unfolding(crate::specs::EncodedText::base64_text))]
+    fn decoded(&mut self, symbols: &[u8]) -> Result<Vec<u8>, DecodeAllocError> {
+        STANDARD_NO_PAD.decode(*self, symbols)
+    }
+
+    fn zeros(&mut self, count: usize) -> Result<Vec<u8>, AllocError> {
+        vec![in *self; 0; count]
+    }
+
+    fn matrix(&mut self, params: &Params) -> Result<Matrix, AllocError> {
+        Matrix::reserve(*self, params)
+    }
+}

@@ -1,0 +1,401 @@
+//! What reading takes and refuses: texts of the reference program, worked examples, near misses.
+ghost use Rattle.std.specs.Prelude.{◌≤◌};
+
+use super::near_misses::{LEFT_OUT, PREFIXES, REPLACED, TWICE};
+use super::reference_texts::{KNOWN, ROWS};
+use super::refusing::Refusing;
+use crate::read::read_from;
+use crate::{Encoded, ReadFault};
+use std::alloc::{AllocError, Global};
+use std::test::Fail;
+
+// A fault by its number, and 0 where the text is read.
+fn answer(alloc: Global, text: &[u8]) -> u8
+    ensures number { result ≤ 3 }
+{
+    match Encoded::read(alloc, text) {
+        Ok(_) => 0,
+        Err(ReadFault::NotInGrammar) => 1,
+        Err(ReadFault::OutOfRange) => 2,
+        Err(ReadFault::OutOfMemory) => 3,
+    }
+}
+
+#[test]
+fn reads_and_writes_texts_of_the_reference_program(rt: HostRuntime) -> Result<(), Fail> {
+    let alloc = rt.alloc();
+    for row in ROWS {
+        let encoded = Encoded::read(alloc, row.text.as_bytes())?;
+        assert!(rt; encoded.kind == row.kind, "{}", row.text);
+        assert_eq!(rt; encoded.version, 0x13);
+        assert_eq!(rt; encoded.memory, row.memory);
+        assert_eq!(rt; encoded.passes, row.passes);
+        assert_eq!(rt; encoded.lanes, row.lanes);
+        assert_eq!(rt; encoded.salt.as_slice(), row.salt.as_bytes());
+        assert_eq!(rt; encoded.tag.len(), row.tag_len);
+        let mut out = Vec::new(alloc);
+        encoded.write(&mut out)?;
+        assert_eq!(rt; out.as_slice(), row.text.as_bytes());
+    }
+    Ok(())
+}
+
+// The known text with something changed, by the grammar (docs/FORMATS.md).
+const CHANGED: &[(u8, &str)] = &[
+    (1, ""),
+    (
+        1,
+        "$argon2i$v=19$m=256,t=2,p=1$c29tZXNhbHR$iekCn0Y3spW+sCcFanM2xBT63UP2sghkUoHLIUpWRS8",
+    ),
+    (
+        1,
+        "$argon2i$m=256,t=2,p=1$c29tZXNhbHQ$iekCn0Y3spW+sCcFanM2xBT63UP2sghkUoHLIUpWRS8",
+    ),
+    (
+        2,
+        "$argon2i$v=19$m=99999999999999999999999,t=2,p=1$c29tZXNhbHQ$iekCn0Y3spW+sCcFanM2xBT63UP2sghkUoHLIUpWRS8",
+    ),
+    (
+        2,
+        "$argon2i$v=19$m=256,t=2,p=1$$iekCn0Y3spW+sCcFanM2xBT63UP2sghkUoHLIUpWRS8",
+    ),
+    (
+        1,
+        "$argon2i$v=19$m=0256,t=2,p=0$c29tZXNhbHQ$iekCn0Y3spW+sCcFanM2xBT63UP2sghkUoHLIUpWRS8",
+    ),
+    (
+        1,
+        "$argon2i$v=19$m=0256,t=2,p=1$c29tZXNhbHQ$iekCn0Y3spW+sCcFanM2xBT63UP2sghkUoHLIUpWRS8",
+    ),
+    (
+        1,
+        "$argon2i$v=19$m=256,t=2,p=1$c29tZXNhbHQ$iekCn0Y3spW+sCcFanM2xBT63UP2sghkUoHLIUpWRS8=",
+    ),
+    (
+        1,
+        "$argon2i$v=19$m=256,t=2,p=1$c29tZXNhbHQ$iekCn0Y3spW+sCcFanM2xBT63UP2sghkUoHLIUpWRS8\n",
+    ),
+    (
+        1,
+        "$argon2i$v=19$m=256,t=2,p=1$c29tZXNhbHQ$iekCn0Y3spW+sCcFanM2xBT63UP2sghkUoHLIUpWRS8\0",
+    ),
+    (
+        2,
+        "$argon2i$v=19$m=7,t=2,p=1$c29tZXNhbHQ$iekCn0Y3spW+sCcFanM2xBT63UP2sghkUoHLIUpWRS8",
+    ),
+    (
+        2,
+        "$argon2i$v=19$m=256,t=2,p=0$c29tZXNhbHQ$iekCn0Y3spW+sCcFanM2xBT63UP2sghkUoHLIUpWRS8",
+    ),
+    (
+        2,
+        "$argon2i$v=20$m=256,t=2,p=1$c29tZXNhbHQ$iekCn0Y3spW+sCcFanM2xBT63UP2sghkUoHLIUpWRS8",
+    ),
+    // a field twice, in another order, left out, one more
+    (
+        1,
+        "$argon2i$v=19$v=19$m=256,t=2,p=1$c29tZXNhbHQ$iekCn0Y3spW+sCcFanM2xBT63UP2sghkUoHLIUpWRS8",
+    ),
+    (
+        1,
+        "$argon2i$v=19$m=256,m=256,t=2,p=1$c29tZXNhbHQ$iekCn0Y3spW+sCcFanM2xBT63UP2sghkUoHLIUpWRS8",
+    ),
+    (
+        1,
+        "$argon2i$v=19$m=256,t=2,t=2,p=1$c29tZXNhbHQ$iekCn0Y3spW+sCcFanM2xBT63UP2sghkUoHLIUpWRS8",
+    ),
+    (
+        1,
+        "$argon2i$v=19$m=256,t=2,p=1,p=1$c29tZXNhbHQ$iekCn0Y3spW+sCcFanM2xBT63UP2sghkUoHLIUpWRS8",
+    ),
+    (
+        1,
+        "$argon2i$v=19$m=256,t=2,p=1$c29tZXNhbHQ$c29tZXNhbHQ$iekCn0Y3spW+sCcFanM2xBT63UP2sghkUoHLIUpWRS8",
+    ),
+    (
+        1,
+        "$argon2i$v=19$t=2,m=256,p=1$c29tZXNhbHQ$iekCn0Y3spW+sCcFanM2xBT63UP2sghkUoHLIUpWRS8",
+    ),
+    (
+        1,
+        "$argon2i$v=19$m=256,p=1,t=2$c29tZXNhbHQ$iekCn0Y3spW+sCcFanM2xBT63UP2sghkUoHLIUpWRS8",
+    ),
+    (
+        1,
+        "$argon2i$m=256,t=2,p=1$v=19$c29tZXNhbHQ$iekCn0Y3spW+sCcFanM2xBT63UP2sghkUoHLIUpWRS8",
+    ),
+    (
+        1,
+        "$argon2i$v=19$m=256,t=2$c29tZXNhbHQ$iekCn0Y3spW+sCcFanM2xBT63UP2sghkUoHLIUpWRS8",
+    ),
+    (1, "$argon2i$v=19$m=256,t=2,p=1$c29tZXNhbHQ"),
+    (
+        1,
+        "$argon2i$v=19$m=256,t=2,p=1,keyid=AAAA$c29tZXNhbHQ$iekCn0Y3spW+sCcFanM2xBT63UP2sghkUoHLIUpWRS8",
+    ),
+    (
+        1,
+        "$argon2i$v=19$m=256,t=2,p=1$c29tZXNhbHQ$iekCn0Y3spW+sCcFanM2xBT63UP2sghkUoHLIUpWRS8$AAAA",
+    ),
+    // other types, signs, spaces, other digits
+    (
+        1,
+        "$argon2$v=19$m=256,t=2,p=1$c29tZXNhbHQ$iekCn0Y3spW+sCcFanM2xBT63UP2sghkUoHLIUpWRS8",
+    ),
+    (
+        1,
+        "$argon2di$v=19$m=256,t=2,p=1$c29tZXNhbHQ$iekCn0Y3spW+sCcFanM2xBT63UP2sghkUoHLIUpWRS8",
+    ),
+    (
+        1,
+        "$argon2I$v=19$m=256,t=2,p=1$c29tZXNhbHQ$iekCn0Y3spW+sCcFanM2xBT63UP2sghkUoHLIUpWRS8",
+    ),
+    (
+        1,
+        "$Argon2i$v=19$m=256,t=2,p=1$c29tZXNhbHQ$iekCn0Y3spW+sCcFanM2xBT63UP2sghkUoHLIUpWRS8",
+    ),
+    (
+        1,
+        " $argon2i$v=19$m=256,t=2,p=1$c29tZXNhbHQ$iekCn0Y3spW+sCcFanM2xBT63UP2sghkUoHLIUpWRS8",
+    ),
+    (
+        1,
+        "$argon2i$v=0x13$m=256,t=2,p=1$c29tZXNhbHQ$iekCn0Y3spW+sCcFanM2xBT63UP2sghkUoHLIUpWRS8",
+    ),
+    (
+        1,
+        "$argon2i$v=19$m=+256,t=2,p=1$c29tZXNhbHQ$iekCn0Y3spW+sCcFanM2xBT63UP2sghkUoHLIUpWRS8",
+    ),
+    (
+        1,
+        "$argon2i$v=19$m= 256,t=2,p=1$c29tZXNhbHQ$iekCn0Y3spW+sCcFanM2xBT63UP2sghkUoHLIUpWRS8",
+    ),
+    // symbols that are no multiple of a byte, and of another alphabet
+    (
+        1,
+        "$argon2i$v=19$m=256,t=2,p=1$c29tZXNhbHQAA$iekCn0Y3spW+sCcFanM2xBT63UP2sghkUoHLIUpWRS8",
+    ),
+    (
+        1,
+        "$argon2i$v=19$m=256,t=2,p=1$c29tZXNhbHQ=$iekCn0Y3spW+sCcFanM2xBT63UP2sghkUoHLIUpWRS8",
+    ),
+    (
+        1,
+        "$argon2i$v=19$m=256,t=2,p=1$c29tZXNhbHQ$iekCn0Y3spW-sCcFanM2xBT63UP2sghkUoHLIUpWRS8",
+    ),
+    (1, "$argon2i$v=19$m=256,t=2,p=1$c29tZXNhbHQ$A"),
+];
+
+#[test]
+fn changed_texts(rt: HostRuntime) {
+    for (expected, text) in CHANGED {
+        assert_eq!(rt; answer(rt.alloc(), text.as_bytes()), *expected, "{text}");
+    }
+}
+
+// The digit of the answer to a text.
+fn digit(alloc: Global, text: &[u8]) -> u8 {
+    b'0' + answer(alloc, text)
+}
+
+#[test]
+fn each_byte_replaced(rt: HostRuntime) -> Result<(), Fail> {
+    let alloc = rt.alloc();
+    for (byte, expected) in REPLACED {
+        let mut found = Vec::new(alloc);
+        for place in 0..KNOWN.len() {
+            let mut text = KNOWN.to_vec(alloc)?;
+            text[place] = *byte;
+            found.push(digit(alloc, &text))?;
+        }
+        assert_eq!(rt; found.as_slice(), expected.as_bytes(), "{byte}");
+    }
+    Ok(())
+}
+
+#[test]
+fn each_byte_left_out_and_twice_and_each_prefix(rt: HostRuntime) -> Result<(), Fail> {
+    let alloc = rt.alloc();
+    let mut left_out = Vec::new(alloc);
+    let mut twice = Vec::new(alloc);
+    let mut prefixes = Vec::new(alloc);
+    for place in 0..KNOWN.len() {
+        let mut text = KNOWN[..place].to_vec(alloc)?;
+        prefixes.push(digit(alloc, &text))?;
+        text.extend_from_slice(&KNOWN[place + 1..])?;
+        left_out.push(digit(alloc, &text))?;
+        text.truncate(place);
+        text.push(KNOWN[place])?;
+        text.extend_from_slice(&KNOWN[place..])?;
+        twice.push(digit(alloc, &text))?;
+    }
+    assert_eq!(rt; left_out.as_slice(), LEFT_OUT.as_bytes());
+    assert_eq!(rt; twice.as_slice(), TWICE.as_bytes());
+    assert_eq!(rt; prefixes.as_slice(), PREFIXES.as_bytes());
+    Ok(())
+}
+
+// A byte so many times between two parts.
+fn repeated(
+    alloc: Global,
+    front: &[u8],
+    byte: u8,
+    count: usize,
+    back: &[u8],
+) -> Result<Vec<u8>, AllocError> {
+    let mut text = front.to_vec(alloc)?;
+    for _ in 0..count {
+        text.push(byte)?;
+    }
+    text.extend_from_slice(back)?;
+    Ok(text)
+}
+
+// What stands around each number, and what may stand there (the ranges of docs/FORMATS.md).
+const NUMBERS: &[(&str, &str, &[(u8, &str)])] = &[
+    (
+        "$argon2id$v=",
+        "$m=8,t=1,p=1$c29tZXNhbHQ$AAAAAA",
+        &[
+            (0, "19"),
+            (2, "18"),
+            (2, "20"),
+            (2, "0"),
+            (2, "16"),
+            (2, "4294967315"),
+            (1, "019"),
+            (1, ""),
+        ],
+    ),
+    (
+        "$argon2id$v=19$m=",
+        ",t=1,p=3$c29tZXNhbHQ$AAAAAA",
+        &[
+            (2, "0"),
+            (2, "23"),
+            (0, "24"),
+            (0, "4294967295"),
+            (2, "4294967296"),
+            (2, "4294967320"),
+            (2, "9999999999"),
+            (2, "18446744073709551640"),
+            (1, "024"),
+            (1, "00"),
+            (1, ""),
+        ],
+    ),
+    (
+        "$argon2id$v=19$m=8,t=",
+        ",p=1$c29tZXNhbHQ$AAAAAA",
+        &[
+            (2, "0"),
+            (0, "1"),
+            (0, "4294967295"),
+            (2, "4294967296"),
+            (2, "4294967297"),
+            (1, "01"),
+            (1, ""),
+        ],
+    ),
+    (
+        "$argon2id$v=19$m=134217720,t=1,p=",
+        "$c29tZXNhbHQ$AAAAAA",
+        &[
+            (2, "0"),
+            (0, "1"),
+            (0, "16777215"),
+            (2, "16777216"),
+            (2, "4294967297"),
+            (1, "01"),
+            (1, ""),
+        ],
+    ),
+];
+
+#[test]
+fn numbers_at_their_bounds_and_of_any_length(rt: HostRuntime) -> Result<(), Fail> {
+    let alloc = rt.alloc();
+    for (front, back, rows) in NUMBERS {
+        let front = front.as_bytes();
+        let back = back.as_bytes();
+        for (expected, digits) in *rows {
+            let mut text = front.to_vec(alloc)?;
+            text.extend_from_slice(digits.as_bytes())?;
+            text.extend_from_slice(back)?;
+            assert_eq!(rt; answer(alloc, &text), *expected, "{digits}");
+        }
+        assert_eq!(rt;
+            answer(alloc, &repeated(alloc, front, b'1', 1000, back)?),
+            2
+        );
+        assert_eq!(rt;
+            answer(alloc, &repeated(alloc, front, b'0', 1000, back)?),
+            1
+        );
+    }
+    Ok(())
+}
+
+// So many symbols `A` stand for zeros: 10 for 7 bytes, 340 for 255, 5,462 for 4,096.
+const LENGTHS: &[(&str, &str, &[(u8, usize)])] = &[
+    (
+        "$argon2id$v=19$m=8,t=1,p=1$",
+        "$AAAAAA",
+        &[
+            (2, 0),
+            (1, 1),
+            (2, 2),
+            (1, 9),
+            (2, 10),
+            (0, 11),
+            (0, 340),
+            (1, 341),
+            (2, 342),
+            (2, 400),
+        ],
+    ),
+    (
+        "$argon2id$v=19$m=8,t=1,p=1$c29tZXNhbHQ$",
+        "",
+        &[
+            (2, 0),
+            (1, 1),
+            (2, 2),
+            (2, 4),
+            (1, 5),
+            (0, 6),
+            (0, 5462),
+            (2, 5463),
+            (1, 5465),
+        ],
+    ),
+];
+
+#[test]
+fn lengths_of_salt_and_tag_at_their_bounds(rt: HostRuntime) -> Result<(), Fail> {
+    let alloc = rt.alloc();
+    for (front, back, rows) in LENGTHS {
+        for (expected, count) in *rows {
+            let text = repeated(alloc, front.as_bytes(), b'A', *count, back.as_bytes())?;
+            assert_eq!(rt; answer(alloc, &text), *expected, "{count}");
+        }
+    }
+    Ok(())
+}
+
+// Salt and tag are the two requests. Before them no fault of a field costs memory.
+#[test]
+fn each_request_is_refused(rt: HostRuntime) {
+    for (left, text, fault) in [
+        (0, KNOWN, Some(ReadFault::OutOfMemory)),
+        (1, KNOWN, Some(ReadFault::OutOfMemory)),
+        (2, KNOWN, None),
+        (0, b"$argon2i$v=019$m=256", Some(ReadFault::NotInGrammar)),
+    ] {
+        let mut room = Refusing {
+            alloc: rt.alloc(),
+            left,
+        };
+        assert!(rt; read_from(&mut room, text).err() == fault, "{left}");
+    }
+}

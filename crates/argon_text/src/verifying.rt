@@ -1,0 +1,121 @@
+//! Whether a password gives the tag of a value.
+ghost use Rattle.std.specs.Prelude.{◌≡◌, ◌↔◌, None, true, false, length, vec_len, IfOk, IfErr, IsTrue, MatchResult};
+ghost use Rattle.argon.specs.Range.{is_between};
+ghost use Rattle.argon_text.specs.Verifying.{IsToldFault, parameters_with, tag_of_password, verify_fault};
+ghost use Rattle.argon_text.specs.View.{value_of};
+
+use crate::encoded::Encoded;
+use crate::fault::VerifyFault;
+use crate::room::Room;
+use argon::{Inputs, ParamFault, Params, Ticks};
+use std::alloc::{AllocError, Global};
+
+/// Whether the password gives the tag of the value, under the value's parameters, with no secret and
+/// no associated data. The tags are compared over all their bytes before it decides.
+///
+/// `max_kib` is the greatest number of blocks of 1 KiB, and `max_ops` of block functions, that the
+/// hash may take: a value from a stranger can ask for 4 TiB and for days. Both are tested before
+/// memory is asked for. The faults, by their numbers, the first that holds: 6 where the password has
+/// not 1 to 127 bytes, 7 where `max_kib` is too little, 8 where `max_ops` is, 9 where memory was
+/// refused.
+pub fn verify(
+    alloc: Global,
+    encoded: &Encoded,
+    password: &[u8],
+    max_kib: u32,
+    max_ops: u64,
+) -> Result<bool, VerifyFault>
+    ensures answer { IfOk result (λ same. IsTrue same
+        ↔ tag_of_password (value_of encoded.now) password.now ≡ encoded.now.tag.items) }
+    // There is an answer only where the password's length and both limits are kept.
+    ensures admitted { IfOk result (λ _. verify_fault (value_of encoded.now) password.now max_kib max_ops ≡ None) }
+    // What is told is the first that holds, and memory was asked for where none does.
+    ensures fault { IfErr result (IsToldFault (verify_fault (value_of encoded.now) password.now max_kib max_ops)) }
+{
+    let mut room = alloc;
+    verify_in(&mut room, encoded, password, max_kib, max_ops)
+}
+
+/// The same, with memory from `room`.
+pub(crate) fn verify_in<R: Room>(
+    room: &mut R,
+    encoded: &Encoded,
+    password: &[u8],
+    max_kib: u32,
+    max_ops: u64,
+) -> Result<bool, VerifyFault>
+    ensures answer { IfOk result (λ same. IsTrue same
+        ↔ tag_of_password (value_of encoded.now) password.now ≡ encoded.now.tag.items) }
+    ensures admitted { IfOk result (λ _. verify_fault (value_of encoded.now) password.now max_kib max_ops ≡ None) }
+    ensures fault { IfErr result (IsToldFault (verify_fault (value_of encoded.now) password.now max_kib max_ops)) }
+{
+    let params = params_of(encoded, password)?;
+    match params.admitted(max_kib, max_ops) {
+        Ok(()) => {}
+        Err(ParamFault::MemoryLimit) => return Err(VerifyFault::MemoryLimit),
+        Err(_) => return Err(VerifyFault::WorkLimit),
+    }
+    match tag_of(room, &params, encoded, password) {
+        Ok(tag) => Ok(are_same(&tag, &encoded.tag)),
+        Err(_) => Err(VerifyFault::OutOfMemory),
+    }
+}
+
+// The parameters of the hash. All but the password's length are in range.
+fn params_of(encoded: &Encoded, password: &[u8]) -> Result<Params, VerifyFault>
+    ensures parameters { IfOk result (λ params. params ≡ parameters_with (value_of encoded.now) password.now) }
+    ensures admitted { IfOk result (λ _. is_between 1 (length password.now) 127 ≡ true) }
+    ensures fault { IfErr result (λ fault. (is_between 1 (length password.now) 127 ≡ false)
+        × (fault ≡ VerifyFault.PasswordLength)) }
+{
+    let salt: &[u8] = &encoded.salt;
+    let tag: &[u8] = &encoded.tag;
+    match Params::new(
+        encoded.kind,
+        encoded.version,
+        encoded.passes,
+        encoded.lanes,
+        encoded.memory,
+        tag.len(),
+        salt.len(),
+        password.len(),
+    ) {
+        Ok(params) => Ok(params),
+        Err(_) => Err(VerifyFault::PasswordLength),
+    }
+}
+
+// The tag of the password.
+fn tag_of<R: Room>(
+    room: &mut R,
+    params: &Params,
+    encoded: &Encoded,
+    password: &[u8],
+) -> Result<Vec<u8>, AllocError>
+    requires parameters { params.now ≡ parameters_with (value_of encoded.now) password.now }
+    ensures tag { IfOk result (λ tag. tag.items ≡ tag_of_password (value_of encoded.now) password.now) }
+    ensures size { IfOk result (λ tag. vec_len tag ≡ vec_len encoded.now.tag) }
+{
+    let mut tag = room.zeros(encoded.tag.len())?;
+    let mut matrix = room.matrix(params)?;
+    let inputs = Inputs {
+        password,
+        salt: &encoded.salt,
+        secret: &[],
+        associated: &[],
+    };
+    matrix.hash(&inputs, &mut tag, &mut Ticks::new());
+    Ok(tag)
+}
+
+// Whether two texts of one length are the same. Each byte is looked at, whatever comes before it.
+fn are_same(left: &[u8], right: &[u8]) -> bool
+    requires len { length left.now ≡ length right.now }
+    ensures same { IsTrue result ↔ left.now ≡ right.now }
+{
+    let mut difference = 0u8;
+    for (i, byte) in left.iter().enumerate() {
+        difference |= *byte ^ right[i];
+    }
+    difference == 0
+}

@@ -1,0 +1,55 @@
+#!/usr/bin/env python3
+"""Which texts near an encoded text are encoded texts, by a regular expression and Python's base64.
+
+Prints the tables of crates/argon_text/src/tests/near_misses.rt: for each byte of the known text, what reading
+answers where another byte stands in its place, where it is left out, where it comes twice, and of each prefix.
+0: it is read; 1: it is not in the grammar; 2: a value is out of range.
+"""
+import base64
+import re
+
+KNOWN = "$argon2i$v=19$m=256,t=2,p=1$c29tZXNhbHQ$iekCn0Y3spW+sCcFanM2xBT63UP2sghkUoHLIUpWRS8"
+NUMBER = "(0|[1-9][0-9]*)"
+TEXT = re.compile(
+    r"\$argon2(d|i|id)\$v=N\$m=N,t=N,p=N\$([A-Za-z0-9+/]*)\$([A-Za-z0-9+/]*)".replace("N", NUMBER), re.ASCII
+)
+
+
+def decoded(symbols):
+    """The bytes of base64 without padding; None where it is none, or its last bits are not zero."""
+    if len(symbols) % 4 == 1:
+        return None
+    found = base64.b64decode(symbols + "=" * (-len(symbols) % 4), validate=True)
+    return found if base64.b64encode(found).decode().rstrip("=") == symbols else None
+
+
+def answer(text):
+    """What reading the text answers."""
+    match = TEXT.fullmatch(text)
+    if not match:
+        return "1"
+    version, memory, passes, lanes = (int(match[place]) for place in range(2, 6))
+    salt, tag = decoded(match[6]), decoded(match[7])
+    if salt is None or tag is None:
+        return "1"
+    in_range = (
+        version == 19
+        and 1 <= passes < 2**32
+        and 1 <= lanes < 2**24
+        and 8 * lanes <= memory < 2**32
+        and 8 <= len(salt) <= 255
+        and 4 <= len(tag) <= 4096
+    )
+    return "0" if in_range else "2"
+
+
+def row(texts):
+    return "".join(answer(text) for text in texts)
+
+
+places = range(len(KNOWN))
+for byte in "$,=+/0A-.\n":
+    print(repr(byte), row(KNOWN[:place] + byte + KNOWN[place + 1 :] for place in places))
+print("left out", row(KNOWN[:place] + KNOWN[place + 1 :] for place in places))
+print("twice   ", row(KNOWN[:place] + KNOWN[place:place + 1] + KNOWN[place:] for place in places))
+print("prefixes", row(KNOWN[:place] for place in places))
