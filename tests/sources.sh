@@ -1,6 +1,6 @@
 #!/bin/sh
 # What a reader of the sources relies on, beside the proofs: proofs by hand are all listed in docs/GATE.md, each counter ticks in one
-# place, and no crate below the command makes a counter of its own.
+# place, and a counter is made where a whole hash begins: no crate that is handed one makes its own.
 set -eu
 cd "$(dirname "$0")/.."
 status=0
@@ -23,7 +23,8 @@ places() {
 }
 test "$(places '.tick()')" = "crates/argon/src/compression.rt
 crates/romix/src/salsa20.rt" || fail "the counters tick elsewhere than in the one block function and the one core"
-test "$(places 'Ticks::new()')" = "crates/command/src/argon2_command/output.rt" ||
-    fail "a counter is made elsewhere than by the command, for its one hash"
+test "$(places 'Ticks::new()')" = "crates/argon_text/src/verifying.rt
+crates/command/src/argon2_command/output.rt" ||
+    fail "a counter is made elsewhere than by the test of a password and by the command, each for its one hash"
 
 exit $status
