@@ -22,10 +22,11 @@ install: bin/argon2 ## puts the program and its manual page below PREFIX (/usr/l
 	install -D -m 755 bin/argon2 '$(DESTDIR)$(PREFIX)/bin/argon2'
 	install -D -m 644 man/argon2.1 '$(DESTDIR)$(PREFIX)/share/man/man1/argon2.1'
 
-bench: bin/argon2 ## times argon2, scrypt's derivation and AES beside the programs that are installed
+bench: bin/argon2 ## times argon2, scrypt's derivation, AES and encrypted files beside the programs that are installed
 	bench/argon2.py bin/argon2
 	bench/derivation.py
 	bench/counter_mode.py
+	bench/encrypted_file.py
 
 bin/argon2: $(PROGRAM)
 	@mkdir -p bin

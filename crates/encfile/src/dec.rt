@@ -16,13 +16,16 @@ use aes_ctr::Ctr;
 use macs::Hmac;
 use romix::{Ticks, Workspace};
 
-/// The bytes behind the first 96, a text of fewer than 2^60 bytes and the final code, are fewer than this.
+/// The bytes behind the first 96, a text of fewer than 2^60 bytes and the final code, are fewer
+/// than this.
 const REST_LIMIT: u64 = (1 << 60) + 32;
 
-/// A running decryption. It holds back the last bytes that it was fed, at most 32, since they may be the final code.
+/// A running decryption. It holds back the last bytes that it was fed, at most 32, since they may
+/// be the final code.
 ///
-/// Contracts see, by `HasRead`, the passphrase and all bytes of the file so far, the first 96 too. What was released is
-/// the `released_text` of those bytes. Only [`finish`](Dec::finish) tells whether it can be trusted.
+/// Contracts see, by `HasRead`, the passphrase and all bytes of the file so far, the first 96 too.
+/// What was released is the `released_text` of those bytes. Only [`finish`](Dec::finish) tells
+/// whether it can be trusted.
 #[derive(Drop)]
 pub struct Dec {
     ctr: Ctr,
@@ -42,9 +45,10 @@ impl Dec {
         }
     }
 
-    /// Begins to read the file of these first 96 bytes, of which the first 64 were read as this header; or tells that
-    /// bytes 64 to 95 are not right under the passphrase. The keys are derived in the workspace, which was reserved for
-    /// the header's costs, in 4 * N * r * p ticks, whatever the answer.
+    /// Begins to read the file of these first 96 bytes, of which the first 64 were read as this
+    /// header; or tells that bytes 64 to 95 are not right under the passphrase. The keys are
+    /// derived in the workspace, which was reserved for the header's costs, in 4 * N * r * p ticks,
+    /// whatever the answer.
     pub fn open(
         front: &[u8; 96],
         header: Header,
@@ -68,24 +72,28 @@ impl Dec {
         Ok(Dec::with_keys(front, &keys))
     }
 
-    /// Reads the next bytes of the file, and answers how many bytes of text it released, which are the first of `out`;
-    /// the others of `out` are in no promised state. `out` is at least 32 bytes longer than the piece.
+    /// Reads the next bytes of the file, and answers how many bytes of text it released, which are
+    /// the first of `out`; the others of `out` are in no promised state. `out` is at least 32 bytes
+    /// longer than the piece.
     ///
-    /// It refuses the piece where the bytes behind the first 96 would reach 2^60 + 32. After a refusal `out` and the
-    /// decryption are as they were.
+    /// It refuses the piece where the bytes behind the first 96 would reach 2^60 + 32. After a
+    /// refusal `out` and the decryption are as they were.
     pub fn feed(&mut self, piece: &[u8], out: &mut [u8]) -> Result<usize, TooLong>
         requires room { length piece.now + 32 ≤ length out.old }
         ensures read { OnOk result ((passphrase file : List ℕ) → HasRead self.old passphrase file
             → HasRead self.new passphrase (file ++ piece.now)) }
-        ensures released { IfOk result (λ n. (passphrase file : List ℕ) → HasRead self.old passphrase file
-            → released_text file passphrase ++ take n out.new ≡ released_text (file ++ piece.now) passphrase) }
+        ensures released { IfOk result (λ n. (passphrase file : List ℕ)
+            → HasRead self.old passphrase file
+            → released_text file passphrase ++ take n out.new
+            ≡ released_text (file ++ piece.now) passphrase) }
         ensures within { IfOk result (λ n. n ≤ length piece.now) }
         ensures fits { OnOk result ((passphrase file : List ℕ) → HasRead self.old passphrase file
             → length file + length piece.now < 2 ^ 60 + 128) }
         // all but the last 32 bytes, which the final code is compared with
         ensures hashed { OnOk result ((passphrase file : List ℕ) → HasRead self.old passphrase file
             → FitsSha256 (take (length file + length piece.now - 32) (file ++ piece.now))) }
-        ensures too_long { OnErr result ((passphrase file : List ℕ) → HasRead self.old passphrase file
+        ensures too_long { OnErr result ((passphrase file : List ℕ)
+            → HasRead self.old passphrase file
             → 2 ^ 60 + 128 ≤ length file + length piece.now) }
         ensures unchanged { OnErr result (self.new ≡ self.old) }
         ensures untouched { OnErr result (out.new ≡ out.old) }
@@ -101,8 +109,8 @@ impl Dec {
         Ok(released)
     }
 
-    /// Whether the bytes that were read are, all together, an encryption under the passphrase of the text that was
-    /// released: 32 bytes are held, and they are the HMAC of everything before.
+    /// Whether the bytes that were read are, all together, an encryption under the passphrase of
+    /// the text that was released: 32 bytes are held, and they are the HMAC of everything before.
     pub fn finish(self) -> Result<(), Damaged>
         ensures whole { OnOk result ((passphrase file : List ℕ) → HasRead self passphrase file
             → IsEncryptionOf file passphrase (released_text file passphrase)) }

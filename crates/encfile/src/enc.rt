@@ -30,11 +30,11 @@ fn head(costs: &Costs, salt: &[u8; 32], keys: &[u8; 64]) -> [u8; 96]
     bytes
 }
 
-/// A running encryption: the file is [`header`](Enc::header), then each piece of the text as [`feed`](Enc::feed) leaves
-/// it, then [`finish`](Enc::finish).
+/// A running encryption: the file is [`header`](Enc::header), then each piece of the text as
+/// [`feed`](Enc::feed) leaves it, then [`finish`](Enc::finish).
 ///
-/// Contracts see, by `HasEncrypted`, the passphrase, the salt and the costs, and the text so far. Where several
-/// passphrases give the same keys, it is the encryption of each.
+/// Contracts see, by `HasEncrypted`, the passphrase, the salt and the costs, and the text so far.
+/// Where several passphrases give the same keys, it is the encryption of each.
 #[derive(Drop)]
 pub struct Enc {
     header: [u8; 96],
@@ -52,8 +52,8 @@ impl Enc {
         Enc { header, ctr, hmac }
     }
 
-    /// Begins the encryption of a text. The keys are derived from the passphrase and the salt in the workspace, which
-    /// was reserved for these costs, in 4 * N * r * p ticks.
+    /// Begins the encryption of a text. The keys are derived from the passphrase and the salt in
+    /// the workspace, which was reserved for these costs, in 4 * N * r * p ticks.
     pub fn start(
         costs: &Costs,
         salt: &[u8; 32],
@@ -73,30 +73,38 @@ impl Enc {
     /// The first 96 bytes of the file.
     pub fn header(&self) -> [u8; 96]
         ensures head { (passphrase salt : List ℕ) (costs : Parameters) (text : List ℕ)
-            → HasEncrypted self.now passphrase salt costs text → result ≡ head passphrase salt costs }
+            → HasEncrypted self.now passphrase salt costs text
+            → result ≡ head passphrase salt costs }
         // which is all before the first piece of the text
         ensures body { (passphrase salt : List ℕ) (costs : Parameters) (text : List ℕ)
-            → HasEncrypted self.now passphrase salt costs text → result ≡ body passphrase salt costs [] }
+            → HasEncrypted self.now passphrase salt costs text
+            → result ≡ body passphrase salt costs [] }
     {
         self.header
     }
 
-    /// Encrypts the next bytes of the text in place, or refuses them where the text would reach 2^60 bytes. After a
-    /// refusal they and the encryption are as they were.
+    /// Encrypts the next bytes of the text in place, or refuses them where the text would reach
+    /// 2^60 bytes. After a refusal they and the encryption are as they were.
     pub fn feed(&mut self, bytes: &mut [u8]) -> Result<(), TooLong>
         ensures fed { OnOk result ((passphrase salt : List ℕ) (costs : Parameters) (text : List ℕ)
             → HasEncrypted self.old passphrase salt costs text
             → HasEncrypted self.new passphrase salt costs (text ++ bytes.old)) }
-        ensures written { OnOk result ((passphrase salt : List ℕ) (costs : Parameters) (text : List ℕ)
+        ensures written { OnOk result (
+            (passphrase salt : List ℕ) (costs : Parameters) (text : List ℕ)
             → HasEncrypted self.old passphrase salt costs text
-            → body passphrase salt costs text ++ bytes.new ≡ body passphrase salt costs (text ++ bytes.old)) }
+            → body passphrase salt costs text ++ bytes.new
+            ≡ body passphrase salt costs (text ++ bytes.old)) }
         ensures fits { OnOk result ((passphrase salt : List ℕ) (costs : Parameters) (text : List ℕ)
-            → HasEncrypted self.old passphrase salt costs text → length text + length bytes.old < 2 ^ 60) }
-        ensures hashed { OnOk result ((passphrase salt : List ℕ) (costs : Parameters) (text : List ℕ)
+            → HasEncrypted self.old passphrase salt costs text
+            → length text + length bytes.old < 2 ^ 60) }
+        ensures hashed { OnOk result (
+            (passphrase salt : List ℕ) (costs : Parameters) (text : List ℕ)
             → HasEncrypted self.old passphrase salt costs text
             → FitsSha256 (body passphrase salt costs (text ++ bytes.old))) }
-        ensures too_long { OnErr result ((passphrase salt : List ℕ) (costs : Parameters) (text : List ℕ)
-            → HasEncrypted self.old passphrase salt costs text → 2 ^ 60 ≤ length text + length bytes.old) }
+        ensures too_long { OnErr result (
+            (passphrase salt : List ℕ) (costs : Parameters) (text : List ℕ)
+            → HasEncrypted self.old passphrase salt costs text
+            → 2 ^ 60 ≤ length text + length bytes.old) }
         ensures unchanged { OnErr result (self.new ≡ self.old) }
         ensures untouched { OnErr result (bytes.new ≡ bytes.old) }
     {
@@ -112,7 +120,8 @@ impl Enc {
     pub fn finish(self) -> [u8; 32]
         ensures code { (passphrase salt : List ℕ) (costs : Parameters) (text : List ℕ)
             → HasEncrypted self passphrase salt costs text
-            → body passphrase salt costs text ++ result ≡ encrypted_file passphrase salt costs text }
+            → body passphrase salt costs text ++ result
+            ≡ encrypted_file passphrase salt costs text }
     {
         final_code(self.hmac)
     }

@@ -7,7 +7,8 @@ use thiserror::Error;
 #[error("input is too long")]
 pub struct TooLong;
 
-/// Fewer than 32 bytes came behind the first 96, or the last 32 are not the HMAC of all those before.
+/// Fewer than 32 bytes came behind the first 96, or the last 32 are not the HMAC of all those
+/// before.
 #[derive(Debug, Clone, Copy, PartialEq, Eq, Drop, Error)]
 #[error("input is damaged or cut short")]
 pub struct Damaged;

@@ -10,7 +10,8 @@ use crate::header_bytes::checksum;
 use romix::Costs;
 use std::marker::Model;
 
-/// What the first 64 bytes of a file say: the costs and the salt of the derivation. Contracts see these two.
+/// What the first 64 bytes of a file say: the costs and the salt of the derivation. Contracts see
+/// these two.
 ///
 /// A header has a right checksum, which anyone can make: nothing is known yet of who wrote it.
 #[derive(Drop)]
@@ -52,8 +53,8 @@ fn number_at(bytes: &[u8; 64], at: usize) -> u32
 }
 
 impl Header {
-    /// Reads the first 64 bytes of a file, or tells the first fault of the text `scrypt`, the version, the checksum and
-    /// the costs (FORMAT). `r` and `p` are at least 1 here, too.
+    /// Reads the first 64 bytes of a file, or tells the first fault of the text `scrypt`, the
+    /// version, the checksum and the costs (FORMAT). `r` and `p` are at least 1 here, too.
     pub fn read(bytes: &[u8; 64]) -> Result<Header, HeaderFault>
         ensures costs { IfOk result (λ header. header.costs ≡ costs_of bytes.now) }
         ensures salt { IfOk result (λ header. header.salt ≡ salt_of bytes.now) }

@@ -44,8 +44,8 @@ impl Held {
         self.len
     }
 
-    // Adds the piece, moves all but the last 32 bytes to the front of `out`, and answers how many it moved. What is
-    // behind them in `out` isn't promised.
+    // Adds the piece, moves all but the last 32 bytes to the front of `out`, and answers how many
+    // it moved. What is behind them in `out` isn't promised.
     pub(crate) fn take_in(&mut self, piece: &[u8], out: &mut [u8]) -> usize
         requires room { length piece.now + 32 ≤ length out.old }
         ensures moved { result ≡ length self.old + length piece.now - 32 }

@@ -17,24 +17,29 @@ fn file_gives_its_text_back()
 // The file of a text has 128 bytes more than the text.
 fn length_of_file()
     ensures len { (passphrase salt : List ℕ) (costs : Parameters) (text : List ℕ)
-        → length salt ≡ 32 → length (encrypted_file passphrase salt costs text) ≡ 128 + length text }
+        → length salt ≡ 32
+        → length (encrypted_file passphrase salt costs text) ≡ 128 + length text }
 {}
 
 // It isn't refused by limits that admit its costs.
 fn file_is_not_refused()
-    ensures none { (passphrase salt : List ℕ) (costs : Parameters) (text : List ℕ) (max_bytes max_ops : ℕ)
+    ensures none { (passphrase salt : List ℕ) (costs : Parameters) (text : List ℕ)
+        (max_bytes max_ops : ℕ)
         → length salt ≡ 32 → IsInRange costs → FitsMemory costs max_bytes → cores costs ≤ max_ops
-        → front_refusal (encrypted_file passphrase salt costs text) max_bytes max_ops passphrase ≡ None }
+        → front_refusal (encrypted_file passphrase salt costs text) max_bytes max_ops passphrase
+        ≡ None }
 {}
 
 // A file of fewer than 96 bytes is refused.
 fn short_file_is_refused()
-    ensures short { (file : List ℕ) (max_bytes max_ops : ℕ) (passphrase : List ℕ) → length file < 96
-        → front_refusal file max_bytes max_ops passphrase ≡ Some NotScryptData }
+    ensures short { (file : List ℕ) (max_bytes max_ops : ℕ) (passphrase : List ℕ)
+        → length file < 96 → front_refusal file max_bytes max_ops passphrase ≡ Some NotScryptData }
 {}
 
-// Any other is refused by what `Header::read`, `Costs::admitted` and `Dec::open` tell of its first 96 bytes.
+// Any other is refused by what `Header::read`, `Costs::admitted` and `Dec::open` tell of its first
+// 96 bytes.
 fn front_is_decided_by_calls()
-    ensures decided { (file : List ℕ) (max_bytes max_ops : ℕ) (passphrase front : List ℕ) → 96 ≤ length file
-        → front ≡ take 96 file → IsDecidedByCalls file max_bytes max_ops passphrase front }
+    ensures decided { (file : List ℕ) (max_bytes max_ops : ℕ) (passphrase front : List ℕ)
+        → 96 ≤ length file → front ≡ take 96 file
+        → IsDecidedByCalls file max_bytes max_ops passphrase front }
 {}

@@ -1,4 +1,5 @@
-//! scrypt's encrypted file, version 0 (the FORMAT file of Tarsnap's scrypt): written and read in pieces of any size.
+//! scrypt's encrypted file, version 0 (the FORMAT file of Tarsnap's scrypt): written and read in
+//! pieces of any size.
 //!
 //! | bytes | what |
 //! |---|---|
@@ -8,9 +9,9 @@
 //! | from 96 on | the text, encrypted with AES-256 in counter mode |
 //! | the last 32 | the final code: the HMAC-SHA-256 of those before |
 //!
-//! [`Enc`] gives the file of a text. [`Header`] and [`Dec`] read a file: the text comes out before the final code is
-//! tested, so that only [`Dec::finish`] tells whether it can be trusted. No call takes memory: the derivation of the keys
-//! works in the `Workspace` that is handed in.
+//! [`Enc`] gives the file of a text. [`Header`] and [`Dec`] read a file: the text comes out before
+//! the final code is tested, so that only [`Dec::finish`] tells whether it can be trusted. No call
+//! takes memory: the derivation of the keys works in the `Workspace` that is handed in.
 #![tactic(auto)]
 
 mod codes;
@@ -25,6 +26,8 @@ mod keys;
 mod laws;
 #[cfg(test)]
 mod tests;
+#[cfg(test)]
+mod vectors;
 
 pub use dec::Dec;
 pub use enc::Enc;
