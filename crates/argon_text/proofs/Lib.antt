@@ -6,4 +6,3 @@ pub mod Numbers
 pub mod Symbols
 pub mod Readings
 pub mod Answering
-pub mod Bits

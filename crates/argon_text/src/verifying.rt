@@ -8,6 +8,7 @@ use crate::encoded::Encoded;
 use crate::fault::VerifyFault;
 use crate::room::Room;
 use argon::{Inputs, ParamFault, Params, Ticks};
+use comparison::are_same;
 use std::alloc::{AllocError, Global};
 
 /// Whether the password gives the tag of the value, under the value's parameters, with no secret and
@@ -106,16 +107,4 @@ fn tag_of<R: Room>(
     };
     matrix.hash(&inputs, &mut tag, &mut Ticks::new());
     Ok(tag)
-}
-
-// Whether two texts of one length are the same. Each byte is looked at, whatever comes before it.
-fn are_same(left: &[u8], right: &[u8]) -> bool
-    requires len { length left.now ≡ length right.now }
-    ensures same { IsTrue result ↔ left.now ≡ right.now }
-{
-    let mut difference = 0u8;
-    for (i, byte) in left.iter().enumerate() {
-        difference |= *byte ^ right[i];
-    }
-    difference == 0
 }

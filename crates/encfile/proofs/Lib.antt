@@ -1,4 +1,3 @@
-pub mod Differences
 pub mod Files
 pub mod Fronts
 pub mod Headers

@@ -7,12 +7,12 @@ ghost use Rattle.encfile.specs.EncryptedFile.{HasRightHeaderCode, IsEncryptionOf
 ghost use Rattle.encfile.specs.Encrypting.{FitsSha256};
 ghost use Rattle.encfile.specs.Decrypting.{Decrypts, HasRead};
 
-use crate::codes::are_same;
 use crate::fault::{Damaged, TooLong, WrongPassphrase};
 use crate::header::Header;
 use crate::held::Held;
 use crate::keys::{derived_key, final_code, header_code, key_stream, running_code};
 use aes_ctr::Ctr;
+use comparison::are_same;
 use macs::Hmac;
 use romix::{Ticks, Workspace};
 

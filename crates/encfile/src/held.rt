@@ -2,7 +2,7 @@
 
 ghost use Rattle.std.specs.Prelude.{◌≡◌, ◌+◌, ◌-◌, ◌≤◌, ◌++◌, ◌↔◌, [], length, take, IsTrue};
 
-use crate::codes::are_same;
+use comparison::are_same;
 use std::marker::Model;
 
 /// Bytes of the final code.

@@ -14,7 +14,6 @@
 //! takes memory: the derivation of the keys works in the `Workspace` that is handed in.
 #![tactic(auto)]
 
-mod codes;
 mod dec;
 mod enc;
 mod fault;

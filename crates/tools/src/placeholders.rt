@@ -1,5 +1,6 @@
 //! Standard streams that are closed when the program starts.
-ghost use Rattle.std.specs.Prelude.{◌<ℤ◌, pos, IfSome};
+ghost use Rattle.std.specs.Prelude.{◌<ℤ◌, All, pos, IfSome};
+ghost use Rattle.std.specs.Option.{ForSome};
 ghost use Rattle.std.specs.Fd.{file_raw_fd};
 
 use std::fs::File;
@@ -18,7 +19,9 @@ pub struct Placeholders {
 
 impl Placeholders {
     /// Takes the descriptors of the standard streams that are closed.
-    pub fn new(rt: HostRuntime) -> Placeholders {
+    pub fn new(rt: HostRuntime) -> Placeholders
+        ensures standard { All (λ held. ForSome held (λ folder. file_raw_fd folder <ℤ pos 3)) result.folders }
+    {
         Placeholders {
             folders: [hold(rt), hold(rt), hold(rt)],
         }

@@ -1,5 +1,5 @@
 //! The system as a host.
-ghost use Rattle.std.specs.Prelude.{◌≡◌, ◌+◌, ◌-◌, ◌<◌, ◌≤◌, ◌^◌, false, length, IfOk, OnOk, OnErr};
+ghost use Rattle.std.specs.Prelude.{◌≡◌, ◌≢◌, ◌+◌, ◌-◌, ◌<◌, ◌≤◌, ◌^◌, false, length, Ok, IsNone, IsSome, IfOk, OnOk, OnErr};
 ghost use Rattle.std.specs.Io.KnownBytes.{Consumes};
 ghost use Rattle.command.specs.Faults.{no_faults};
 ghost use Rattle.command.specs.Seen.{nothing_seen};
@@ -11,10 +11,14 @@ use std::env::{Env, FillError};
 use std::fs::File;
 use std::io::Read;
 
+// Where the input comes from, or the output goes.
 #[derive(Drop)]
 enum Stream {
+    // Nowhere yet.
     Unopened,
+    // The standard stream.
     Standard,
+    // A file that was opened by its name.
     Named(File),
 }
 
@@ -22,8 +26,9 @@ enum Stream {
 ///
 /// A named output is made, or emptied where it is there. A push is written at once. A read or a
 /// write that a signal interrupts is asked again at most 16 times, and a write of no bytes is a
-/// fault. A standard stream that is closed when the host is made stays without use: no file that is
-/// opened later takes its place, and reading or writing it is a fault.
+/// fault; a line goes out by the toolchain's printing, with its line feed in one call. A standard
+/// stream that is closed when the host is made stays without use: no file that is opened later takes
+/// its place, and reading or writing it is a fault.
 ///
 /// It tells no bytes, since what the system holds is not known to contracts. They see how often each
 /// kind of call has failed.
@@ -74,24 +79,30 @@ fn counted<T>(count: &mut u64, outcome: Result<T, HostFault>) -> Result<T, HostF
 }
 
 // A named file to be read, or standard input.
-fn input_stream(rt: HostRuntime, name: Option<&str>) -> Result<Stream, HostFault> {
-    match name {
-        None => Ok(Stream::Standard),
-        Some(path) => match File::open(&rt, path) {
-            Ok(file) => Ok(Stream::Named(file)),
-            Err(_) => Err(HostFault),
-        },
+fn input_stream(rt: HostRuntime, name: Option<&str>) -> Result<Stream, HostFault>
+    ensures standard { IsNone name.entry → result ≡ Ok Stream.Standard }
+    ensures named { IsSome name.entry → IfOk result (λ stream. stream ≢ Stream.Standard) }
+{
+    let Some(path) = name else {
+        return Ok(Stream::Standard);
+    };
+    match File::open(&rt, path) {
+        Ok(input) => Ok(Stream::Named(input)),
+        Err(_) => Err(HostFault),
     }
 }
 
 // A named file to be written, made or emptied, or standard output.
-fn output_stream(rt: HostRuntime, name: Option<&str>) -> Result<Stream, HostFault> {
-    match name {
-        None => Ok(Stream::Standard),
-        Some(path) => match File::create(&rt, path) {
-            Ok(file) => Ok(Stream::Named(file)),
-            Err(_) => Err(HostFault),
-        },
+fn output_stream(rt: HostRuntime, name: Option<&str>) -> Result<Stream, HostFault>
+    ensures standard { IsNone name.entry → result ≡ Ok Stream.Standard }
+    ensures named { IsSome name.entry → IfOk result (λ stream. stream ≢ Stream.Standard) }
+{
+    let Some(path) = name else {
+        return Ok(Stream::Standard);
+    };
+    match File::create(&rt, path) {
+        Ok(output) => Ok(Stream::Named(output)),
+        Err(_) => Err(HostFault),
     }
 }
 

@@ -2,8 +2,8 @@ use Rattle.std.proofs.Common.{ℕ, List, get_or, ap, arith, below_more}
 use Rattle.std.proofs.lemmas.Bool.{eqb-true, eq-eqb}
 use Rattle.std.proofs.lemmas.List.{ext_get_or}
 use Rattle.std.specs.Int.Bits.{bit_xor}
-use Rattle.encfile.proofs.Differences.{both_zero, none_differ, none_more}
-use Rattle.encfile.proofs.codes.are_same.Goals as goal
+use Rattle.comparison.proofs.Differences.{both_zero, none_differ, none_more}
+use Rattle.comparison.proofs.are_same.Goals as goal
 
 pub loop-i-preserved : goal.loop-i-preserved
 loop-i-preserved c =
