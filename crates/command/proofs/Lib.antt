@@ -1,3 +1,6 @@
 -- Lemmas, by topic.
+pub mod Arguments
 pub mod Digits
 pub mod Pushes
+pub mod WideCosts
+pub mod WordsOfClap

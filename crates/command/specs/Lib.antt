@@ -6,3 +6,4 @@ pub mod Memory
 pub mod Answer
 pub mod Number
 pub mod Argon2
+pub mod Scrypt

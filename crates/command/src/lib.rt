@@ -10,7 +10,9 @@ mod host;
 mod memory;
 mod named_secret;
 mod number;
+mod scrypt_command;
 
 pub use argon2_command::{Argon2Refusal, argon2};
 pub use host::{Host, HostFault, Source};
 pub use memory::MemoryHost;
+pub use scrypt_command::ScryptRefusal;

@@ -1,6 +1,6 @@
 //! Number words.
-ghost use Rattle.std.specs.Prelude.{◌≡◌};
-ghost use Rattle.command.specs.Number.{number_of};
+ghost use Rattle.std.specs.Prelude.{◌≡◌, ◌<◌, IfSome};
+ghost use Rattle.command.specs.Number.{number_in, number_of};
 
 /// The number of a number word: one to twenty ASCII digits, leading zeros allowed. `None` for any
 /// other word.
@@ -18,4 +18,17 @@ pub fn number(word: &str) -> Option<u128>
         value = value * 10 + u128::from(*byte - b'0');
     }
     Some(value)
+}
+
+/// The number of a number word that is at least `least` and below `end`.
+pub fn number_in(least: u64, end: u64, text: &str) -> Option<u64>
+    ensures value { result ≡ number_in least end text.now }
+    ensures below { IfSome result (λ n. n < end) }
+{
+    let value = number(text)?;
+    if value >= u128::from(least) && value < u128::from(end) {
+        Some(value as u64)
+    } else {
+        None
+    }
 }

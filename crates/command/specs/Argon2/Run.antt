@@ -1,5 +1,5 @@
 -- A whole run of argon2: what stands at its end.
-use Rattle.std.specs.Prelude.{◌≡◌, ◌<◌, ◌⊎◌, ℕ, Bool, true, false, List, Option, None, Ok, Err, IsOk, IsTrue, length, take}
+use Rattle.std.specs.Prelude.{◌≡◌, ◌<◌, ◌⊎◌, ℕ, Bool, true, false, List, None, Ok, Err, IsOk, IsTrue, length, take}
 use Rattle.command.specs.Seen.{Seen, Text, after_open_output, after_push, after_say}
 use Rattle.command.specs.Faults.{Faults, line_failed}
 use Rattle.command.specs.Argon2.Refusal.{IsEarly, counted_by, line_of}

@@ -1,12 +1,12 @@
 -- What the items of argon2's words set: each setting has the value of its last item, and the first faulty item decides.
-use Rattle.std.specs.Prelude.{ℕ, ◌^◌, Bool, true, false, ◌&&◌, List, [], ◌∷◌, Option, Some, None, Result, codes, nat_lt, nat_le, option_map, option_and_then, is_some, slice_get, if◌then◌else◌}
+use Rattle.std.specs.Prelude.{ℕ, ◌^◌, Bool, true, false, List, [], ◌∷◌, Option, Some, None, Result, codes, option_map, is_some, slice_get, if◌then◌else◌}
 use Rattle.std.specs.List.{filter_map}
 use Rattle.std.specs.Str.{bytes_eq}
 use Rattle.argon.specs.declared.kind.Kind.{Kind}
 use Rattle.argon.specs.declared.kind.Kind.TheVariants.{I}
 use Rattle.command.specs.Seen.{Text}
 use Rattle.command.specs.Answer.{unless_refused}
-use Rattle.command.specs.Number.{number_of}
+use Rattle.command.specs.Number.{number_in}
 use Rattle.command.specs.Argon2.Items as item
 use Rattle.command.specs.Argon2.Items.{Item}
 use Rattle.command.specs.declared.argon2_command.items.OptionName.{OptionName}
@@ -19,11 +19,6 @@ use Rattle.command.specs.declared.argon2_command.settings.Version.TheVariants.{V
 use Rattle.command.specs.declared.argon2_command.settings.Settings.{Settings}
 
 -- ---- values
-
--- the number of a number word that is at least `least` and below `end`
-abbrev pub number_in : ℕ → ℕ → Text → Option ℕ
-number_in least end text =
-    option_and_then (λ n. if nat_le least n && nat_lt n end then Some n else None) (number_of text)
 
 -- the value of -t, -k, -p or -l
 abbrev pub count_in : Text → Option ℕ

@@ -1,13 +1,14 @@
 //! What the items of the words set.
-ghost use Rattle.std.specs.Prelude.{◌≡◌, ◌∷◌, [], ◌<◌, ◌^◌, true, false, None, Some, MatchResult, MatchOption, IfSome, IfErr, map, string_bytes};
+ghost use Rattle.std.specs.Prelude.{◌≡◌, ◌∷◌, [], ◌^◌, true, false, None, Some, MatchResult, MatchOption, IfErr, map, string_bytes};
 ghost use Rattle.command.specs.Argon2.Items.{items, valued};
 ghost use Rattle.command.specs.Argon2.ItemView.{item_of};
 ghost use Rattle.command.specs.Argon2.Refusal.{IsEarly, RaisesNoCount};
-ghost use Rattle.command.specs.Argon2.Settings.{fault_in, number_in, power_in, settings_after, settings_of, is_value_of, version_named, version_number};
+ghost use Rattle.command.specs.Number.{number_in};
+ghost use Rattle.command.specs.Argon2.Settings.{fault_in, power_in, settings_after, settings_of, is_value_of, version_named, version_number};
 
 use crate::argon2_command::items::{Form, Item, Items, OptionName};
 use crate::argon2_command::refusal::Argon2Refusal;
-use crate::number::number;
+use crate::number::number_in;
 use argon::Kind;
 
 /// The versions of Argon2 that `-v` names.
@@ -67,19 +68,6 @@ const DEFAULTS: Settings = Settings {
     encoded: false,
     hex: false,
 };
-
-// The number of a number word that is at least `least` and below `end`.
-fn number_in(least: u64, end: u64, text: &str) -> Option<u64>
-    ensures value { result ≡ number_in least end text.now }
-    ensures below { IfSome result (λ n. n < end) }
-{
-    let value = number(text)?;
-    if value >= u128::from(least) && value < u128::from(end) {
-        Some(value as u64)
-    } else {
-        None
-    }
-}
 
 // The number of a number word that is at least `least` and below 2^32.
 fn u32_from(least: u64, text: &str) -> Option<u32>

@@ -1,0 +1,8 @@
+-- The command scrypt: what its words say and ask for, and its refusals.
+pub mod CommandLine
+pub mod Words
+pub mod WordsView
+pub mod Request
+pub mod RequestView
+pub mod Refusal
+pub mod Vectors

@@ -1,0 +1,37 @@
+-- What contracts see of the words as the code has them.
+use Rattle.std.specs.Prelude.{Option, option_map}
+use Rattle.std.specs.Borrow.{Bor}
+use Rattle.command.specs.Seen.{Text}
+use Rattle.command.specs.Scrypt.Words.{CommonWords as Common, EncWords as Enc, Words as Said, enc, dec, info}
+use Rattle.command.specs.declared.scrypt_command.words.CommonWords.{CommonWords}
+use Rattle.command.specs.declared.scrypt_command.words.EncWords.{EncWords}
+use Rattle.command.specs.declared.scrypt_command.words.Words.{Words}
+use Rattle.command.specs.declared.scrypt_command.words.Words.TheVariants as words
+
+-- the text, if it is there
+abbrev pub text_of : Option (Bor Text) → Option Text
+text_of = option_map (λ s. s.now)
+
+abbrev pub common_of : CommonWords → Common
+common_of w = record {
+  max_bytes = text_of w.max_bytes;
+  max_ops = text_of w.max_ops;
+  is_stdin = w.is_stdin;
+  passphrase = text_of w.passphrase;
+  infile = w.infile.now;
+  outfile = text_of w.outfile;
+}
+
+abbrev pub enc_of : EncWords → Enc
+enc_of w = record {
+  log_n = text_of w.log_n;
+  r = text_of w.r;
+  p = text_of w.p;
+  salt = text_of w.salt;
+  common = common_of w.common;
+}
+
+abbrev pub words_of : Words → Said
+words_of (words.Enc w) = enc (enc_of w)
+words_of (words.Dec w) = dec (common_of w)
+words_of (words.Info infile) = info infile.now

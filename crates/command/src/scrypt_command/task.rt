@@ -1,0 +1,138 @@
+//! What `enc` and `dec` both ask for: limits, the passphrase's source, and the files.
+ghost use Rattle.std.specs.Prelude.{◌≡◌, IfErr, option_map};
+ghost use Rattle.command.specs.Scrypt.Refusal.{RaisesNoCount};
+ghost use Rattle.command.specs.Scrypt.Request.{has_same_name, infile_named, limit_given, limits_asked, one_source, source_named, task_asked, wants_stdin_twice};
+ghost use Rattle.command.specs.Scrypt.RequestView.{task_answered};
+ghost use Rattle.command.specs.Scrypt.WordsView.{common_of, text_of};
+ghost use Rattle.command.specs.Secret.{source_of};
+
+use crate::host::Source;
+use crate::number::number_in;
+use crate::scrypt_command::refusal::ScryptRefusal;
+use crate::scrypt_command::words::CommonWords;
+use romix::Limits;
+
+// The greatest -M is 2^40 bytes.
+const MAX_BYTES_END: u64 = (1 << 40) + 1;
+
+// The greatest --maxops is 2^63-1 cores.
+const MAX_OPS_END: u64 = 1 << 63;
+
+/// What `enc` and `dec` both ask for.
+#[derive(Clone, Copy, Debug)]
+pub struct Task<'a> {
+    /// `-M`, 1 to 2^40 bytes, and `--maxops`, 1 to 2^63-1 cores.
+    pub limits: Limits,
+    /// Where the passphrase comes from.
+    pub source: Source<'a>,
+    /// The input's name; `None` is standard input.
+    pub infile: Option<&'a str>,
+    /// The output's name; `None` is standard output.
+    pub outfile: Option<&'a str>,
+}
+
+// The limit that an option gives, at least 1 and below `end`, or the limit without the option.
+fn limit_given(end: u64, default: u64, text: Option<&str>) -> Option<u64>
+    ensures limit { result ≡ limit_given end default (text_of text.entry) }
+{
+    match text {
+        None => Some(default),
+        Some(text) => number_in(1, end, text),
+    }
+}
+
+/// The limits that the words give, or 2^32 bytes and 2^33 cores where they give none.
+pub fn limits_given(words: &CommonWords<'_>) -> Result<Limits, ScryptRefusal>
+    ensures limits { result ≡ limits_asked (common_of words.now) }
+    ensures counts { IfErr result RaisesNoCount }
+{
+    let max_bytes = limit_given(MAX_BYTES_END, 1 << 32, words.max_bytes);
+    let max_ops = limit_given(MAX_OPS_END, 1 << 33, words.max_ops);
+    match (max_bytes, max_ops) {
+        (Some(max_bytes), Some(max_ops)) => Ok(Limits { max_bytes, max_ops }),
+        _ => Err(ScryptRefusal::Usage),
+    }
+}
+
+// The source that a word names.
+fn source_named<'a>(text: &'a str) -> Option<Source<'a>>
+    ensures source { option_map source_of result ≡ source_named text.entry.now }
+{
+    if text == "dev:stdin-once" {
+        return Some(Source::StdinOnce);
+    }
+    if let Some(name) = text.strip_prefix("env:") {
+        if !name.is_empty() {
+            return Some(Source::Env(name));
+        }
+        return None;
+    }
+    if let Some(name) = text.strip_prefix("file:") {
+        if !name.is_empty() {
+            return Some(Source::File(name));
+        }
+    }
+    None
+}
+
+// The one source: standard input where -P is given, or what --passphrase names, and not both.
+fn one_source<'a>(words: &CommonWords<'a>) -> Option<Source<'a>>
+    ensures source { option_map source_of result ≡
+        one_source words.now.is_stdin (text_of words.now.passphrase) }
+{
+    match (words.is_stdin, words.passphrase) {
+        (true, None) => Some(Source::StdinOnce),
+        (false, Some(text)) => source_named(text),
+        _ => None,
+    }
+}
+
+// Whether the input and the passphrase are asked from standard input.
+fn wants_stdin_twice(words: &CommonWords<'_>) -> bool
+    ensures twice { result ≡ wants_stdin_twice (common_of words.now) }
+{
+    let is_named = match words.passphrase {
+        Some(text) => text == "dev:stdin-once",
+        None => false,
+    };
+    words.infile == "-" && (words.is_stdin || is_named)
+}
+
+// Whether infile and outfile are the same text.
+fn has_same_name(words: &CommonWords<'_>) -> bool
+    ensures same { result ≡ has_same_name (common_of words.now) }
+{
+    match words.outfile {
+        Some(name) => name == words.infile,
+        None => false,
+    }
+}
+
+/// The input's name that a word gives; `-` is standard input.
+pub fn infile_named<'a>(word: &'a str) -> Option<&'a str>
+    ensures name { text_of result ≡ infile_named word.entry.now }
+{
+    if word == "-" { None } else { Some(word) }
+}
+
+/// What the words ask for under these limits.
+pub fn task_under<'a>(limits: Limits, words: &CommonWords<'a>) -> Result<Task<'a>, ScryptRefusal>
+    ensures task { task_answered result ≡ task_asked limits (common_of words.now) }
+    ensures counts { IfErr result RaisesNoCount }
+{
+    if wants_stdin_twice(words) {
+        return Err(ScryptRefusal::StandardInputTwice);
+    }
+    if has_same_name(words) {
+        return Err(ScryptRefusal::SameName);
+    }
+    let Some(source) = one_source(words) else {
+        return Err(ScryptRefusal::PassphraseSource);
+    };
+    Ok(Task {
+        limits,
+        source,
+        infile: infile_named(words.infile),
+        outfile: words.outfile,
+    })
+}
