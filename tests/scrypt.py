@@ -1,0 +1,473 @@
+#!/usr/bin/env python3
+"""Runs the built scrypt from the outside: words, files, pipes, the environment, standard streams, statuses, and Debian's
+scrypt where it is installed.
+
+    tests/scrypt.py PROGRAM
+
+The two short files were made by Python's hashlib.scrypt and hmac with OpenSSL's aes-256-ctr, and Debian's scrypt (package
+scrypt, version 1.3.1) opens them.
+"""
+import hashlib
+import os
+import shutil
+import subprocess
+import sys
+import tempfile
+import time
+
+USAGE = b"scrypt: usage: scrypt enc|dec|info [options] infile [outfile]\n"
+SALT = bytes(range(32)).hex()
+# The passphrase is pw, N is 16, r and p are 1, the salt is SALT; the text is empty, or hello.
+HEADER = bytes.fromhex(
+    "73637279707400040000000100000001000102030405060708090a0b0c0d0e0f101112131415161718191a1b1c1d1e1f"
+    "1d82fc58a29c853312a1e6a48fe98f8b051b8b6444079bef986b3d3c6d1df86cf5c61735c73ccf3a91c00c4042fac38a"
+)
+F0 = HEADER + bytes.fromhex("5bb3efa8e3ab1f98f2a734df4bdefbb608eb96705dc5ac5de43edab725b2541a")
+F5 = HEADER + bytes.fromhex("a3ca5b5806faf691951296a9925e754d1b00d8f6acaa79868e221cd3c40efb4bdd9ffb35b8")
+
+COSTS = "--logN 4 -r 1 -p 1"
+FIXED = f"{COSTS} --salt {SALT}"
+FROM_PW = "--passphrase file:pw"
+
+
+def with_check(front):
+    """The front of a header with the right checksum of its 48 bytes."""
+    return front + hashlib.sha256(front).digest()[:16]
+
+
+def header_of(log_n, r, p):
+    front = b"scrypt\0" + bytes([log_n]) + r.to_bytes(4, "big") + p.to_bytes(4, "big") + bytes(range(32))
+    return with_check(front) + bytes(32)
+
+
+# What lies in the folder in which the program runs.
+FILES = {
+    "empty": b"",
+    "hello": b"hello",
+    "F0": F0,
+    "F5": F5,
+    "F5-longer": F5 + b"\0",
+    "F5-cut-130": F5[:130],
+    "F5-cut-127": F5[:127],
+    "F5-cut-95": F5[:95],
+    "F5-other-magic": b"S" + F5[1:],
+    "F5-version-1": F5[:6] + b"\1" + F5[7:],
+    "F5-other-salt": F5[:20] + b"\0" + F5[21:],
+    "F5-other-code": F5[:-1] + b"\0",
+    "huge": header_of(63, 1, 1),
+    "no-r": header_of(4, 0, 1),
+    "no-log-n": header_of(0, 1, 1),
+    "4-gib-and-more": header_of(23, 8, 1),
+    "much-work": header_of(20, 1, 4096),
+    "pw": b"pw\n",
+    "pw-cr-lf": b"pw\r\nsecond line",
+    "pw-alone": b"pw",
+    "other-pw": b"pv\n",
+    "pw-bytes": b"\xff\x01\x80pw\n",
+    "pw-2048": b"p" * 2048,
+    "pw-2049": b"p" * 2049,
+    "pw-2048-line": b"p" * 2048 + b"\n" + b"q" * 3000,
+}
+
+# No text in UTF-8.
+PASSPHRASE_OF_BYTES = b"\xff\x01\x80pw"
+
+LINES = {
+    "S1": USAGE,
+    "S2a": b"scrypt: --logN, -r and -p are given together or not at all\n",
+    "S2b": b"scrypt: costs out of range\n",
+    "S2c": b"scrypt: passphrase and input cannot both come from standard input\n",
+    "S2d": b"scrypt: infile and outfile have the same name\n",
+    "S3": b"scrypt: one passphrase source is needed: -P, dev:stdin-once, env:NAME or file:NAME\n",
+    "S4a": b"scrypt: passphrase cannot be read\n",
+    "S4b": b"scrypt: passphrase is longer than 2048 bytes\n",
+    "S5a": b"scrypt: --salt takes 64 hexadecimal digits\n",
+    "S6": b"scrypt: not valid scrypt data\n",
+    "S7": b"scrypt: unsupported format version\n",
+    "S8": b"scrypt: more memory needed than -M allows\n",
+    "S9": b"scrypt: more work needed than --maxops allows\n",
+    "S10": b"scrypt: wrong passphrase\n",
+    "S11": b"scrypt: input is damaged or cut short\n",
+    "S12": b"scrypt: input cannot be opened or read\n",
+    "S13": b"scrypt: output cannot be opened or written\n",
+}
+
+
+def done(out=b""):
+    return (0, out, b"")
+
+
+def refused(number, out=b""):
+    return (1, out, LINES[number])
+
+
+# name, words, standard input, (status, standard output, standard error)
+TABLE = [
+    # files and what opens them
+    ("an empty file encrypted", f"enc {FIXED} {FROM_PW} empty", b"", done(F0)),
+    ("an empty standard input encrypted", f"enc {FIXED} {FROM_PW} -", b"", done(F0)),
+    ("five bytes encrypted", f"enc {FIXED} {FROM_PW} hello", b"", done(F5)),
+    ("standard input encrypted", f"enc {FIXED} {FROM_PW} -", b"hello", done(F5)),
+    ("an empty file decrypted", f"dec {FROM_PW} F0", b"", done()),
+    ("five bytes decrypted", f"dec {FROM_PW} F5", b"", done(b"hello")),
+    ("standard input decrypted", f"dec {FROM_PW} -", F5, done(b"hello")),
+    ("a salt in capitals", f"enc {COSTS} --salt {SALT.upper()} {FROM_PW} hello", b"", done(F5)),
+    ("info", "info F5", b"", done(b"N = 16; r = 1; p = 1; memory = 2048; cores = 64\n")),
+    ("info of standard input", "info -", F5, done(b"N = 16; r = 1; p = 1; memory = 2048; cores = 64\n")),
+    (
+        "info of the greatest N",
+        "info huge",
+        b"",
+        done(
+            b"N = 9223372036854775808; r = 1; p = 1; memory = 1180591620717411303424;"
+            b" cores = 36893488147419103232\n"
+        ),
+    ),
+    # damaged files
+    ("cut in the last code", f"dec {FROM_PW} F5-cut-130", b"", refused("S11", b"he")),
+    ("cut in the last code to its first byte", f"dec {FROM_PW} F5-cut-127", b"", refused("S11")),
+    ("cut in the header", f"dec {FROM_PW} F5-cut-95", b"", refused("S6")),
+    ("nothing at all", f"dec {FROM_PW} empty", b"", refused("S6")),
+    ("a byte more", f"dec {FROM_PW} F5-longer", b"", refused("S11", b"hello\t")),
+    ("another last code", f"dec {FROM_PW} F5-other-code", b"", refused("S11", b"hello")),
+    ("another magic", f"dec {FROM_PW} F5-other-magic", b"", refused("S6")),
+    ("version 1", f"dec {FROM_PW} F5-version-1", b"", refused("S7")),
+    ("another salt, by its checksum", f"dec {FROM_PW} F5-other-salt", b"", refused("S6")),
+    ("r of 0", f"dec {FROM_PW} no-r", b"", refused("S6")),
+    ("log2 N of 0", "info no-log-n", b"", refused("S6")),
+    ("info of a version 1", "info F5-version-1", b"", refused("S7")),
+    ("info of a cut header", "info F5-cut-95", b"", refused("S6")),
+    # limits
+    ("limits met", f"dec -M 2048 --maxops 64 {FROM_PW} F5", b"", done(b"hello")),
+    ("memory above its limit", f"dec -M 2047 --maxops 64 {FROM_PW} F5", b"", refused("S8")),
+    ("work above its limit", f"dec -M 2048 --maxops 63 {FROM_PW} F5", b"", refused("S9")),
+    ("memory before work", f"dec -M 2047 --maxops 63 {FROM_PW} F5", b"", refused("S8")),
+    ("limits before the passphrase", "dec --passphrase file:missing huge", b"", refused("S8")),
+    ("the memory limit where none is given", f"dec {FROM_PW} 4-gib-and-more", b"", refused("S8")),
+    ("the work limit where none is given", f"dec {FROM_PW} much-work", b"", refused("S9")),
+    ("the costs of a new file are limited", f"enc {FIXED} -M 2047 {FROM_PW} hello", b"", refused("S8")),
+    ("the work of a new file is limited", f"enc {FIXED} --maxops 63 {FROM_PW} hello", b"", refused("S9")),
+    ("the costs where none are given", f"enc -M 134217727 {FROM_PW} hello", b"", refused("S8")),
+    ("the work where no costs are given", f"enc --maxops 4194303 {FROM_PW} hello", b"", refused("S9")),
+    # passphrases
+    ("another passphrase", "dec --passphrase file:other-pw F5", b"", refused("S10")),
+    ("a passphrase before CR LF", "dec --passphrase file:pw-cr-lf F5", b"", done(b"hello")),
+    ("a passphrase without a line end", "dec --passphrase file:pw-alone F5", b"", done(b"hello")),
+    ("a passphrase from a variable", "dec --passphrase env:PW F5", b"", done(b"hello")),
+    ("a passphrase before the line end of a variable", "dec --passphrase env:PW_LINE F5", b"", done(b"hello")),
+    ("a passphrase from standard input", "dec -P F5", b"pw\nmore", done(b"hello")),
+    ("a passphrase from dev:stdin-once", "dec --passphrase dev:stdin-once F5", b"pw", done(b"hello")),
+    ("an empty passphrase", "dec --passphrase file:empty F5", b"", refused("S10")),
+    ("a passphrase of 2048 bytes", "dec --passphrase file:pw-2048 F5", b"", refused("S10")),
+    ("a first line of 2048 bytes", "dec --passphrase file:pw-2048-line F5", b"", refused("S10")),
+    ("a passphrase of 2049 bytes", "dec --passphrase file:pw-2049 F5", b"", refused("S4b")),
+    ("2049 bytes of a variable", "dec --passphrase env:PW_2049 F5", b"", refused("S4b")),
+    ("2049 bytes of standard input", "dec -P F5", b"p" * 2049, refused("S4b")),
+    ("no such secret file", "dec --passphrase file:missing F5", b"", refused("S4a")),
+    ("a folder as a secret file", "dec --passphrase file:folder F5", b"", refused("S4a")),
+    ("no such variable", "dec --passphrase env:UNSET F5", b"", refused("S4a")),
+    # words
+    ("no words", "", b"", refused("S1")),
+    ("help", "--help", b"", refused("S1")),
+    ("help of a command", "enc --help", b"", refused("S1")),
+    ("the version", "--version", b"", refused("S1")),
+    ("an unknown command", "encrypt -P hello", b"", refused("S1")),
+    ("an unknown option", f"dec -f {FROM_PW} F5", b"", refused("S1")),
+    ("a cost in dec", f"dec --logN 4 {FROM_PW} F5", b"", refused("S1")),
+    ("an option twice", f"dec -M 2048 -M 2048 {FROM_PW} F5", b"", refused("S1")),
+    ("a flag twice", "dec -P -P F5", b"pw", refused("S1")),
+    ("an option without its value", "dec F5 --passphrase", b"", refused("S1")),
+    ("an option in info", "info -P F5", b"", refused("S1")),
+    ("an outfile in info", "info F5 out", b"", refused("S1")),
+    ("no infile", f"enc {FROM_PW}", b"", refused("S1")),
+    ("three names", f"enc {COSTS} {FROM_PW} hello out more", b"", refused("S1")),
+    ("a number with a sign", f"dec -M +2048 {FROM_PW} F5", b"", refused("S1")),
+    ("a number with a suffix", f"dec -M 2K {FROM_PW} F5", b"", refused("S1")),
+    ("a number of 21 digits", f"dec -M {'0' * 17}2048 {FROM_PW} F5", b"", refused("S1")),
+    ("a number of 20 digits", f"dec -M {'0' * 16}2048 {FROM_PW} F5", b"", done(b"hello")),
+    ("-M of 0", f"dec -M 0 {FROM_PW} F5", b"", refused("S1")),
+    ("-M above 2^40", f"dec -M {2**40 + 1} {FROM_PW} F5", b"", refused("S1")),
+    ("-M of 2^40", f"dec -M {2**40} {FROM_PW} F5", b"", done(b"hello")),
+    ("--maxops of 0", f"dec --maxops 0 {FROM_PW} F5", b"", refused("S1")),
+    ("--maxops of 2^63", f"dec --maxops {2**63} {FROM_PW} F5", b"", refused("S1")),
+    ("--maxops of 2^63-1", f"dec --maxops {2**63 - 1} {FROM_PW} F5", b"", done(b"hello")),
+    ("a cost that is no number", f"enc --logN x -r 1 -p 1 {FROM_PW} hello", b"", refused("S1")),
+    ("one cost", f"enc --logN 4 {FROM_PW} hello", b"", refused("S2a")),
+    ("two costs", f"enc -r 1 -p 1 {FROM_PW} hello", b"", refused("S2a")),
+    ("costs before names", f"enc --logN 4 {FROM_PW} a a", b"", refused("S2a")),
+    ("log2 N of 64", f"enc --logN 64 -r 1 -p 1 {FROM_PW} hello", b"", refused("S2b")),
+    ("no parts", f"enc --logN 4 -r 1 -p 0 {FROM_PW} hello", b"", refused("S2b")),
+    ("r times p of 2^30", f"enc --logN 4 -r 32768 -p 32768 {FROM_PW} hello", b"", refused("S2b")),
+    ("a cost past 64 bits", f"enc --logN 4 -r {2**64 + 1} -p 1 {FROM_PW} hello", b"", refused("S2b")),
+    ("two uses of standard input by -P", "enc -P - out", b"hello", refused("S2c")),
+    ("two uses of standard input by its name", "enc --passphrase dev:stdin-once -", b"hello", refused("S2c")),
+    ("one name twice", f"enc {FROM_PW} a a", b"", refused("S2d")),
+    ("a dash twice", f"enc {FROM_PW} - -", b"", refused("S2d")),
+    ("no passphrase source", "dec F5", b"", refused("S3")),
+    ("two passphrase sources", f"dec -P {FROM_PW} F5", b"pw", refused("S3")),
+    ("a terminal as the source", "dec --passphrase dev:tty-stdin F5", b"", refused("S3")),
+    ("a variable without a name", "dec --passphrase env: F5", b"", refused("S3")),
+    ("a file without a name", "dec --passphrase file: F5", b"", refused("S3")),
+    ("a short salt", f"enc {COSTS} --salt 00 {FROM_PW} hello", b"", refused("S5a")),
+    ("an empty salt", f"enc {COSTS} --salt= {FROM_PW} hello", b"", refused("S5a")),
+    ("a salt of no digits", f"enc {COSTS} --salt {'x' * 64} {FROM_PW} hello", b"", refused("S5a")),
+    # names
+    ("no such infile", f"enc {COSTS} {FROM_PW} missing", b"", refused("S12")),
+    ("no such infile to decrypt", f"dec {FROM_PW} missing", b"", refused("S12")),
+    ("no such infile for info", "info missing", b"", refused("S12")),
+    ("a folder as infile to decrypt", f"dec {FROM_PW} folder", b"", refused("S12")),
+    ("a folder as infile to encrypt", f"enc {FIXED} {FROM_PW} folder", b"", refused("S12", HEADER)),
+    ("the infile before the passphrase", "dec --passphrase file:missing missing", b"", refused("S12")),
+    ("an outfile in a missing folder", f"dec {FROM_PW} F5 missing/out", b"", refused("S13")),
+    ("a folder as outfile", f"dec {FROM_PW} F5 folder", b"", refused("S13")),
+]
+
+# words, what stood in the outfile before (None: there was none), the status, and what stands there after
+OUTFILES = [
+    ("a new outfile", f"dec {FROM_PW} F5 out", None, 0, b"hello"),
+    ("an outfile that is emptied", f"dec {FROM_PW} F5 out", b"a longer text", 0, b"hello"),
+    ("an encrypted outfile", f"enc {FIXED} {FROM_PW} hello out", None, 0, F5),
+    ("an outfile of no bytes", f"dec {FROM_PW} F0 out", b"before", 0, b""),
+    ("cut in the last code to its first byte", f"dec {FROM_PW} F5-cut-127 out", b"before", 1, b""),
+    ("cut in the last code", f"dec {FROM_PW} F5-cut-130 out", None, 1, b"he"),
+    ("cut in the header", f"dec {FROM_PW} F5-cut-95 out", b"before", 1, b"before"),
+    ("another passphrase", "dec --passphrase file:other-pw F5 out", b"before", 1, b"before"),
+    ("another passphrase and no outfile", "dec --passphrase file:other-pw F5 out", None, 1, None),
+    ("a limit", f"dec -M 2047 {FROM_PW} F5 out", b"before", 1, b"before"),
+    ("a long passphrase", "enc --passphrase file:pw-2049 hello out", b"before", 1, b"before"),
+    ("no such infile", f"enc {FIXED} {FROM_PW} missing out", b"before", 1, b"before"),
+]
+
+
+class Checks:
+    def __init__(self, program, folder):
+        self.program = os.path.abspath(program)
+        self.folder = folder
+        self.environment = {
+            "PATH": os.environ.get("PATH", ""),
+            "PW": "pw",
+            "PW_LINE": "pw\nmore",
+            "PW_2049": "p" * 2049,
+            "PW_BYTES": PASSPHRASE_OF_BYTES,
+        }
+        self.passed = self.failed = 0
+
+    def that(self, name, found, expected):
+        if found == expected:
+            self.passed += 1
+        else:
+            self.failed += 1
+            print(f"FAILED {name}\n  found    {shortened(found)}\n  expected {shortened(expected)}")
+
+    def run(self, words, given=b"", program=None, **more):
+        ran = subprocess.run(
+            [program or self.program, *words], input=given, stdout=subprocess.PIPE, stderr=subprocess.PIPE,
+            cwd=self.folder, env=self.environment, **more
+        )
+        return ran.returncode, ran.stdout, ran.stderr
+
+    def shell(self, text, given=b""):
+        """The program is $0 of the text."""
+        ran = subprocess.run(
+            ["sh", "-c", text, self.program], input=given, stdout=subprocess.PIPE, stderr=subprocess.PIPE,
+            cwd=self.folder, env=self.environment
+        )
+        return ran.returncode, ran.stdout, ran.stderr
+
+    def put(self, name, content):
+        """Makes the file of this name, or takes it away where there is no content."""
+        path = os.path.join(self.folder, name)
+        if content is None:
+            if os.path.exists(path):
+                os.remove(path)
+        else:
+            with open(path, "wb") as file:
+                file.write(content)
+
+    def content(self, name):
+        path = os.path.join(self.folder, name)
+        if not os.path.exists(path):
+            return None
+        with open(path, "rb") as file:
+            return file.read()
+
+
+def shortened(found):
+    text = repr(found)
+    return text if len(text) < 600 else text[:400] + " .. " + text[-100:]
+
+
+def outfiles(checks):
+    for name, words, before, status, after in OUTFILES:
+        checks.put("out", before)
+        found, out, _ = checks.run(words.split())
+        checks.that(f"outfile: {name}", (found, out, checks.content("out")), (status, b"", after))
+    checks.put("-", None)
+    found = checks.run(f"dec {FROM_PW} F5 -".split())
+    checks.that("a dash is a plain outfile", (found, checks.content("-")), (done(), b"hello"))
+    checks.put("-", None)
+
+
+def standard_streams(checks):
+    opened = f"dec {FROM_PW} F5"
+    checks.that("a closed standard input", checks.shell(f'"$0" dec {FROM_PW} - <&-'), refused("S12"))
+    checks.that("a folder as standard input", checks.shell(f'"$0" dec {FROM_PW} - </'), refused("S12"))
+    checks.that("a passphrase from a closed standard input", checks.shell('"$0" dec -P F5 <&-'), refused("S4a"))
+    checks.that("a passphrase from a folder", checks.shell('"$0" dec -P F5 </'), refused("S4a"))
+    checks.that("a closed standard output", checks.shell(f'"$0" {opened} >&-'), refused("S13"))
+    checks.that("a full device", checks.shell(f'"$0" {opened} >/dev/full'), refused("S13"))
+    checks.that("a full device for info", checks.shell('"$0" info F5 >/dev/full'), refused("S13"))
+    checks.that("a full device as outfile", checks.shell(f'"$0" {opened} /dev/full'), refused("S13"))
+    checks.that("a full device for no bytes", checks.shell(f'"$0" dec {FROM_PW} F0 >/dev/full'), done())
+    checks.that("a closed standard error", checks.shell('"$0" info F5-cut-95 2>&-'), (1, b"", b""))
+    checks.that("a full device as standard error", checks.shell('"$0" info F5-cut-95 2>/dev/full'), (1, b"", b""))
+    checks.that("all streams closed", checks.shell(f'"$0" {opened} <&- >&- 2>&-'), (1, b"", b""))
+
+
+def closed_streams_and_files(checks):
+    """No named file takes the place of a standard stream that is closed at the start."""
+    for closed in ("2>&-", "<&- 2>&-", "<&- >&- 2>&-", ">&- 2>&-"):
+        checks.put("out", None)
+        found = checks.shell(f'"$0" dec {FROM_PW} F5-cut-130 out {closed}')
+        checks.that(f"no line in the outfile with {closed}", (found, checks.content("out")), ((1, b"", b""), b"he"))
+    for closed in ("<&-", "<&- >&- 2>&-"):
+        checks.put("out", None)
+        found, _, _ = checks.shell(f'"$0" enc {FIXED} -P hello out {closed}')
+        checks.that(f"no passphrase from the infile with {closed}", (found, checks.content("out")), (1, None))
+    checks.put("out", None)
+    found = checks.shell(f'"$0" dec {FROM_PW} F5 out <&- >&- 2>&-')
+    checks.that("named files with all streams closed", (found, checks.content("out")), (done(), b"hello"))
+
+
+def pipes(checks):
+    """Nobody reads the output any more, at once or after a while: a fault like any other, and no signal."""
+    reading, writing = os.pipe()
+    os.close(reading)
+    ran = subprocess.run(
+        [checks.program, *f"dec {FROM_PW} F5".split()], stdout=writing, stderr=subprocess.PIPE, stdin=subprocess.DEVNULL,
+        cwd=checks.folder, env=checks.environment
+    )
+    os.close(writing)
+    checks.that("a pipe that nobody reads", (ran.returncode, ran.stderr), (1, LINES["S13"]))
+
+    running = subprocess.Popen(
+        [checks.program, *f"dec {FROM_PW} large.enc".split()], stdout=subprocess.PIPE, stderr=subprocess.PIPE,
+        stdin=subprocess.DEVNULL, cwd=checks.folder, env=checks.environment
+    )
+    front = running.stdout.read(5)
+    running.stdout.close()
+    said = running.stderr.read()
+    running.stderr.close()
+    checks.that("an output closed early", (front, running.wait(), said), (LARGE[:5], 1, LINES["S13"]))
+
+    found = checks.shell(f'"$0" enc {COSTS} {FROM_PW} large | "$0" dec {FROM_PW} -')
+    checks.that("through two programs", found, done(LARGE))
+
+
+def slow_input(checks):
+    """The file comes byte by byte."""
+    running = subprocess.Popen(
+        [checks.program, *f"dec {FROM_PW} -".split()], stdin=subprocess.PIPE, stdout=subprocess.PIPE,
+        stderr=subprocess.PIPE, cwd=checks.folder, env=checks.environment
+    )
+    for byte in F5:
+        running.stdin.write(bytes([byte]))
+        running.stdin.flush()
+        time.sleep(0.002)
+    out, said = running.communicate()
+    checks.that("a file in pieces", (running.returncode, out, said), done(b"hello"))
+
+
+def words_of_bytes(checks):
+    checks.put("out", b"before")
+    found = checks.run([b"dec", b"--passphrase", b"file:pw", b"F5", b"out", b"\xff"])
+    checks.that("a word that is no text", (found, checks.content("out")), (refused("S1"), b"before"))
+    found = checks.run([b"dec", b"--passphrase", b"file:\xff", b"F5"])
+    checks.that("a name that is no text", found, refused("S1"))
+    checks.that("an empty infile", checks.run(["dec", "--passphrase", "file:pw", ""]), refused("S12"))
+    checks.put("-dashed", F5)
+    checks.that("a name after two dashes", checks.run(["dec", "--passphrase", "file:pw", "--", "-dashed"]), done(b"hello"))
+
+
+def passphrase_of_bytes(checks):
+    """A variable, a file and standard input give the same bytes, text or not."""
+    made = checks.run(f"enc {COSTS} --passphrase env:PW_BYTES hello".split())[1]
+    checks.that("bytes of a file", checks.run("dec --passphrase file:pw-bytes -".split(), made), done(b"hello"))
+    checks.put("made", made)
+    checks.that("bytes of standard input", checks.run("dec -P made".split(), PASSPHRASE_OF_BYTES), done(b"hello"))
+
+
+# The text of the larger files: 1,000,003 bytes.
+LARGE = b"".join(hashlib.sha256(i.to_bytes(4, "big")).digest() for i in range(31251))[:1000003]
+LENGTHS = (1, 31, 32, 33, 63, 64, 65, 4063, 4064, 4095, 4096, 4097, 8191, 8192, 8193, 100000)
+
+
+def lengths(checks):
+    """Texts about the length of a piece, from enc and back."""
+    for length in LENGTHS:
+        text = LARGE[:length]
+        status, made, said = checks.run(f"enc {COSTS} {FROM_PW} -".split(), text)
+        checks.that(f"{length} bytes encrypted", (status, len(made), said), (0, 128 + length, b""))
+        checks.that(f"{length} bytes decrypted", checks.run(f"dec {FROM_PW} -".split(), made), done(text))
+
+
+def salts(checks):
+    first = checks.run(f"enc {COSTS} {FROM_PW} hello".split())[1]
+    second = checks.run(f"enc {COSTS} {FROM_PW} hello".split())[1]
+    checks.that("a salt of its own for each file", first[16:48] != second[16:48], True)
+    checks.that("a file with such a salt", checks.run(f"dec {FROM_PW} -".split(), first), done(b"hello"))
+
+
+def costs_where_none_are_given(checks):
+    status, made, said = checks.run(f"enc {FROM_PW} hello".split())
+    checks.that("a file with the costs where none are given", (status, len(made), said), (0, 133, b""))
+    line = b"N = 131072; r = 8; p = 1; memory = 134217728; cores = 4194304\n"
+    checks.that("its costs", checks.run(["info", "-"], made), done(line))
+
+
+def beside_the_installed(checks):
+    other = shutil.which("scrypt")
+    if other is None:
+        print("skipped: no scrypt is installed to compare with")
+        return
+    # Its own costs begin at 2^10, but it opens files with less.
+    for name, costs in (("least", COSTS), ("10, 1, 1", "--logN 10 -r 1 -p 1"), ("11, 3, 2", "--logN 11 -r 3 -p 2")):
+        for text in (b"", b"hello", LARGE):
+            checks.put("ours", checks.run(f"enc {costs} {FROM_PW} -".split(), text)[1])
+            found = checks.run(f"dec {FROM_PW} ours".split(), program=other)
+            checks.that(f"{other} opens ours of {len(text)} bytes, costs {name}", found[:2], (0, text))
+    for costs in ("--logN 10 -r 1 -p 1", "--logN 11 -r 3 -p 2"):
+        for text in (b"", b"hello", LARGE):
+            made = checks.run(f"enc {costs} {FROM_PW} - theirs".split(), text, program=other)
+            found = checks.run(f"dec {FROM_PW} theirs".split())
+            checks.that(f"ours opens {other}'s of {len(text)} bytes, {costs}", (made[0], found), (0, done(text)))
+
+
+def main():
+    if len(sys.argv) != 2:
+        raise SystemExit(__doc__)
+    with tempfile.TemporaryDirectory() as folder:
+        checks = Checks(sys.argv[1], folder)
+        for name, content in FILES.items():
+            checks.put(name, content)
+        checks.put("large", LARGE)
+        os.mkdir(os.path.join(folder, "folder"))
+        for name, words, given, expected in TABLE:
+            checks.that(name, checks.run(words.split(), given), expected)
+        outfiles(checks)
+        checks.put("large.enc", checks.run(f"enc {COSTS} {FROM_PW} large".split())[1])
+        standard_streams(checks)
+        closed_streams_and_files(checks)
+        pipes(checks)
+        slow_input(checks)
+        words_of_bytes(checks)
+        passphrase_of_bytes(checks)
+        lengths(checks)
+        salts(checks)
+        costs_where_none_are_given(checks)
+        beside_the_installed(checks)
+    print(f"{checks.passed} passed, {checks.failed} failed")
+    raise SystemExit(1 if checks.failed else 0)
+
+
+main()
