@@ -5,11 +5,11 @@
 
 Expected hashes are those of Debian's argon2 (package argon2, version 0~20171227) and of RFC 9106's reference values.
 """
-import os
 import shutil
 import subprocess
 import sys
-import time
+
+from checking import Checks
 
 USAGE = (
     b"argon2: usage: argon2 salt [-i|-d|-id] [-t N] [-m N | -k N] [-p N] [-l N] [-v VERSION]"
@@ -68,63 +68,28 @@ COMPARED = [
 ]
 
 
-class Checks:
-    def __init__(self, program):
-        self.program = os.path.abspath(program)
-        self.passed = self.failed = 0
-
-    def that(self, name, found, expected):
-        if found == expected:
-            self.passed += 1
-        else:
-            self.failed += 1
-            print(f"FAILED {name}\n  found    {found!r}\n  expected {expected!r}")
-
-    def run(self, words, given, **more):
-        ran = subprocess.run([self.program, *words], input=given, stdout=subprocess.PIPE, stderr=subprocess.PIPE, **more)
-        return ran.returncode, ran.stdout, ran.stderr
-
-    def shell(self, text, given=b"password"):
-        """The program is $0 of the text."""
-        ran = subprocess.run(["sh", "-c", text, self.program], input=given, stdout=subprocess.PIPE, stderr=subprocess.PIPE)
-        return ran.returncode, ran.stdout, ran.stderr
-
-
 def standard_streams(checks):
     words = "somesalt -d -t 1 -k 8 -e"
     unread = refused(b"password cannot be read")
     unwritten = refused(b"output cannot be written")
-    checks.that("a closed standard input", checks.shell(f'"$0" {words} <&-'), unread)
-    checks.that("a folder as standard input", checks.shell(f'"$0" {words} </'), unread)
-    checks.that("a closed standard output", checks.shell(f'"$0" {words} >&-'), unwritten)
-    checks.that("a full device", checks.shell(f'"$0" {words} >/dev/full'), unwritten)
-    checks.that("a closed standard error", checks.shell('"$0" somesalt 2>&-'), (1, b"", b""))
-    checks.that("all streams closed", checks.shell(f'"$0" {words} <&- >&- 2>&-'), (1, b"", b""))
+    checks.that("a closed standard input", checks.shell(f'"$0" {words} <&-', b"password"), unread)
+    checks.that("a folder as standard input", checks.shell(f'"$0" {words} </', b"password"), unread)
+    checks.that("a closed standard output", checks.shell(f'"$0" {words} >&-', b"password"), unwritten)
+    checks.that("a full device", checks.shell(f'"$0" {words} >/dev/full', b"password"), unwritten)
+    checks.that("a closed standard error", checks.shell('"$0" somesalt 2>&-', b"password"), (1, b"", b""))
+    checks.that("all streams closed", checks.shell(f'"$0" {words} <&- >&- 2>&-', b"password"), (1, b"", b""))
 
 
 def closed_pipe(checks):
     """Nobody reads the output any more: a fault like any other, and no signal."""
-    reading, writing = os.pipe()
-    os.close(reading)
-    ran = subprocess.run(
-        [checks.program, *"somesalt -d -t 1 -k 8 -e".split()], input=b"password", stdout=writing, stderr=subprocess.PIPE
-    )
-    os.close(writing)
-    checks.that("a pipe that nobody reads", (ran.returncode, ran.stderr), (1, b"argon2: output cannot be written\n"))
+    found = checks.unread_pipe("somesalt -d -t 1 -k 8 -e".split(), b"password")
+    checks.that("a pipe that nobody reads", found, (1, b"argon2: output cannot be written\n"))
 
 
 def slow_input(checks):
     """The password comes byte by byte."""
-    running = subprocess.Popen(
-        [checks.program, *"somesalt -d -t 1 -k 8 -e".split()],
-        stdin=subprocess.PIPE, stdout=subprocess.PIPE, stderr=subprocess.PIPE,
-    )
-    for byte in b"password":
-        running.stdin.write(bytes([byte]))
-        running.stdin.flush()
-        time.sleep(0.01)
-    out, said = running.communicate()
-    checks.that("a password in pieces", (running.returncode, out, said), hashed(FIRST))
+    found = checks.slowly("somesalt -d -t 1 -k 8 -e".split(), b"password", 0.01)
+    checks.that("a password in pieces", found, hashed(FIRST))
 
 
 def words_of_bytes(checks):
@@ -154,8 +119,7 @@ def main():
     slow_input(checks)
     words_of_bytes(checks)
     beside_the_installed(checks)
-    print(f"{checks.passed} passed, {checks.failed} failed")
-    raise SystemExit(1 if checks.failed else 0)
+    checks.end()
 
 
 main()

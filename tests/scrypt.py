@@ -13,7 +13,8 @@ import shutil
 import subprocess
 import sys
 import tempfile
-import time
+
+from checking import Checks
 
 USAGE = b"scrypt: usage: scrypt enc|dec|info [options] infile [outfile]\n"
 SALT = bytes(range(32)).hex()
@@ -71,6 +72,9 @@ FILES = {
 
 # No text in UTF-8.
 PASSPHRASE_OF_BYTES = b"\xff\x01\x80pw"
+
+# The variables that it sees beside PATH.
+ENVIRONMENT = {"PW": "pw", "PW_LINE": "pw\nmore", "PW_2049": "p" * 2049, "PW_BYTES": PASSPHRASE_OF_BYTES}
 
 LINES = {
     "S1": USAGE,
@@ -239,64 +243,6 @@ OUTFILES = [
 ]
 
 
-class Checks:
-    def __init__(self, program, folder):
-        self.program = os.path.abspath(program)
-        self.folder = folder
-        self.environment = {
-            "PATH": os.environ.get("PATH", ""),
-            "PW": "pw",
-            "PW_LINE": "pw\nmore",
-            "PW_2049": "p" * 2049,
-            "PW_BYTES": PASSPHRASE_OF_BYTES,
-        }
-        self.passed = self.failed = 0
-
-    def that(self, name, found, expected):
-        if found == expected:
-            self.passed += 1
-        else:
-            self.failed += 1
-            print(f"FAILED {name}\n  found    {shortened(found)}\n  expected {shortened(expected)}")
-
-    def run(self, words, given=b"", program=None, **more):
-        ran = subprocess.run(
-            [program or self.program, *words], input=given, stdout=subprocess.PIPE, stderr=subprocess.PIPE,
-            cwd=self.folder, env=self.environment, **more
-        )
-        return ran.returncode, ran.stdout, ran.stderr
-
-    def shell(self, text, given=b""):
-        """The program is $0 of the text."""
-        ran = subprocess.run(
-            ["sh", "-c", text, self.program], input=given, stdout=subprocess.PIPE, stderr=subprocess.PIPE,
-            cwd=self.folder, env=self.environment
-        )
-        return ran.returncode, ran.stdout, ran.stderr
-
-    def put(self, name, content):
-        """Makes the file of this name, or takes it away where there is no content."""
-        path = os.path.join(self.folder, name)
-        if content is None:
-            if os.path.exists(path):
-                os.remove(path)
-        else:
-            with open(path, "wb") as file:
-                file.write(content)
-
-    def content(self, name):
-        path = os.path.join(self.folder, name)
-        if not os.path.exists(path):
-            return None
-        with open(path, "rb") as file:
-            return file.read()
-
-
-def shortened(found):
-    text = repr(found)
-    return text if len(text) < 600 else text[:400] + " .. " + text[-100:]
-
-
 def outfiles(checks):
     for name, words, before, status, after in OUTFILES:
         checks.put("out", before)
@@ -341,19 +287,10 @@ def closed_streams_and_files(checks):
 
 def pipes(checks):
     """Nobody reads the output any more, at once or after a while: a fault like any other, and no signal."""
-    reading, writing = os.pipe()
-    os.close(reading)
-    ran = subprocess.run(
-        [checks.program, *f"dec {FROM_PW} F5".split()], stdout=writing, stderr=subprocess.PIPE, stdin=subprocess.DEVNULL,
-        cwd=checks.folder, env=checks.environment
-    )
-    os.close(writing)
-    checks.that("a pipe that nobody reads", (ran.returncode, ran.stderr), (1, LINES["S13"]))
+    found = checks.unread_pipe(f"dec {FROM_PW} F5".split())
+    checks.that("a pipe that nobody reads", found, (1, LINES["S13"]))
 
-    running = subprocess.Popen(
-        [checks.program, *f"dec {FROM_PW} large.enc".split()], stdout=subprocess.PIPE, stderr=subprocess.PIPE,
-        stdin=subprocess.DEVNULL, cwd=checks.folder, env=checks.environment
-    )
+    running = checks.start(f"dec {FROM_PW} large.enc".split(), stdin=subprocess.DEVNULL)
     front = running.stdout.read(5)
     running.stdout.close()
     said = running.stderr.read()
@@ -366,16 +303,8 @@ def pipes(checks):
 
 def slow_input(checks):
     """The file comes byte by byte."""
-    running = subprocess.Popen(
-        [checks.program, *f"dec {FROM_PW} -".split()], stdin=subprocess.PIPE, stdout=subprocess.PIPE,
-        stderr=subprocess.PIPE, cwd=checks.folder, env=checks.environment
-    )
-    for byte in F5:
-        running.stdin.write(bytes([byte]))
-        running.stdin.flush()
-        time.sleep(0.002)
-    out, said = running.communicate()
-    checks.that("a file in pieces", (running.returncode, out, said), done(b"hello"))
+    found = checks.slowly(f"dec {FROM_PW} -".split(), F5, 0.002)
+    checks.that("a file in pieces", found, done(b"hello"))
 
 
 def words_of_bytes(checks):
@@ -447,7 +376,7 @@ def main():
     if len(sys.argv) != 2:
         raise SystemExit(__doc__)
     with tempfile.TemporaryDirectory() as folder:
-        checks = Checks(sys.argv[1], folder)
+        checks = Checks(sys.argv[1], folder, {**ENVIRONMENT, "PATH": os.environ.get("PATH", "")})
         for name, content in FILES.items():
             checks.put(name, content)
         checks.put("large", LARGE)
@@ -466,8 +395,7 @@ def main():
         salts(checks)
         costs_where_none_are_given(checks)
         beside_the_installed(checks)
-    print(f"{checks.passed} passed, {checks.failed} failed")
-    raise SystemExit(1 if checks.failed else 0)
+    checks.end()
 
 
 main()

@@ -1,0 +1,89 @@
+"""What the tests of the built programs share: a program is run, and what it did is compared with what it should have done."""
+import os
+import subprocess
+import time
+
+
+class Checks:
+    """A program, the folder and the environment in which it runs, and how many comparisons passed and failed."""
+
+    def __init__(self, program, folder=".", environment=None):
+        self.program = os.path.abspath(program)
+        self.folder = folder
+        self.environment = environment
+        self.passed = self.failed = 0
+
+    def that(self, name, found, expected):
+        if found == expected:
+            self.passed += 1
+        else:
+            self.failed += 1
+            print(f"FAILED {name}\n  found    {shortened(found)}\n  expected {shortened(expected)}")
+
+    def run(self, words, given=b"", program=None, **more):
+        """Status, standard output and standard error of the program with these words and this standard input."""
+        ran = subprocess.run(
+            [program or self.program, *words], input=given, stdout=subprocess.PIPE, stderr=subprocess.PIPE,
+            cwd=self.folder, env=self.environment, **more
+        )
+        return ran.returncode, ran.stdout, ran.stderr
+
+    def shell(self, text, given=b""):
+        """The same of a shell's line, in which the program is $0."""
+        ran = subprocess.run(
+            ["sh", "-c", text, self.program], input=given, stdout=subprocess.PIPE, stderr=subprocess.PIPE,
+            cwd=self.folder, env=self.environment
+        )
+        return ran.returncode, ran.stdout, ran.stderr
+
+    def start(self, words, **streams):
+        """The program, running; the streams that are not given are pipes."""
+        piped = {name: subprocess.PIPE for name in ("stdin", "stdout", "stderr")}
+        return subprocess.Popen([self.program, *words], cwd=self.folder, env=self.environment, **{**piped, **streams})
+
+    def put(self, name, content):
+        """Makes the file of this name, or takes it away where there is no content."""
+        path = os.path.join(self.folder, name)
+        if content is None:
+            if os.path.exists(path):
+                os.remove(path)
+        else:
+            with open(path, "wb") as file:
+                file.write(content)
+
+    def content(self, name):
+        """The bytes of the file of this name, or None where there is none."""
+        path = os.path.join(self.folder, name)
+        if not os.path.exists(path):
+            return None
+        with open(path, "rb") as file:
+            return file.read()
+
+    def unread_pipe(self, words, given=b""):
+        """Status and standard error where nobody reads standard output any more."""
+        reading, writing = os.pipe()
+        os.close(reading)
+        running = self.start(words, stdout=writing)
+        os.close(writing)
+        _, said = running.communicate(given)
+        return running.returncode, said
+
+    def slowly(self, words, given, seconds):
+        """The same as `run`, with the standard input coming byte by byte."""
+        running = self.start(words)
+        for byte in given:
+            running.stdin.write(bytes([byte]))
+            running.stdin.flush()
+            time.sleep(seconds)
+        out, said = running.communicate()
+        return running.returncode, out, said
+
+    def end(self):
+        """Says how many passed and failed, and ends the process."""
+        print(f"{self.passed} passed, {self.failed} failed")
+        raise SystemExit(1 if self.failed else 0)
+
+
+def shortened(found):
+    text = repr(found)
+    return text if len(text) < 600 else text[:400] + " .. " + text[-100:]
