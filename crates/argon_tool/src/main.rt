@@ -2,8 +2,9 @@
 #![tactic(auto)]
 
 use command::Argon2Refusal;
+use host::refuse;
 use std::process::ExitCode;
-use tools::{SystemHost, WordsFault, refuse, words};
+use tools::{SystemHost, WordsFault, words};
 
 fn main(rt: HostRuntime) -> ExitCode {
     let mut host = SystemHost::new(rt);

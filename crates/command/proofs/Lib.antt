@@ -1,6 +1,5 @@
 -- Lemmas, by topic.
 pub mod Arguments
 pub mod Digits
-pub mod Pushes
 pub mod WideCosts
 pub mod WordsOfClap

@@ -11,3 +11,8 @@ abbrev pub ◌>>=◌ : {A B R : Type 0} → Result A R → (A → Result B R) �
 abbrev pub unless_refused : {A R : Type 0} → Option R → A → Result A R
 unless_refused None x = Ok x
 unless_refused (Some r) x = Err r
+
+-- an answer, by what contracts see of the value
+abbrev pub answered : {A B R : Type 0} → (A → B) → Result A R → Result B R
+answered seen (Ok x) = Ok (seen x)
+answered seen (Err r) = Err r

@@ -1,8 +1,4 @@
--- What contracts see of a host, and what the commands' words and runs mean.
-pub mod Seen
-pub mod Faults
-pub mod Secret
-pub mod Memory
+-- What the words and the runs of the commands mean.
 pub mod Answer
 pub mod Number
 pub mod Argon2

@@ -3,6 +3,4 @@ pub mod CommandLine
 pub mod Words
 pub mod WordsView
 pub mod Request
-pub mod RequestView
-pub mod Refusal
 pub mod Vectors

@@ -5,14 +5,9 @@
 #![tactic(auto)]
 
 mod argon2_command;
-mod flow;
-mod host;
-mod memory;
-mod named_secret;
 mod number;
 mod scrypt_command;
 
 pub use argon2_command::{Argon2Refusal, argon2};
-pub use host::{Host, HostFault, Source};
-pub use memory::MemoryHost;
-pub use scrypt_command::ScryptRefusal;
+pub use host::{Host, HostFault, MemoryHost, Source};
+pub use scrypt_run::ScryptRefusal;

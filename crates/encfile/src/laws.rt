@@ -5,7 +5,7 @@ ghost use Rattle.romix.specs.Costs.{FitsMemory, IsInRange, Parameters, cores};
 ghost use Rattle.encfile.specs.EncryptedFile.{encrypted_file};
 ghost use Rattle.encfile.specs.Front.{front_refusal};
 ghost use Rattle.encfile.specs.Front.FrontRefusal.{NotScryptData};
-ghost use Rattle.encfile.specs.Laws.{GivesBack, IsDecidedByCalls};
+ghost use Rattle.encfile.specs.Laws.{GivesBack, IsDecidedByCalls, IsDecidedInOrder};
 
 // The file of a text has the right header code, gives the text back, and is an encryption of it.
 fn file_gives_its_text_back()
@@ -42,4 +42,10 @@ fn front_is_decided_by_calls()
     ensures decided { (file : List ℕ) (max_bytes max_ops : ℕ) (passphrase front : List ℕ)
         → 96 ≤ length file → front ≡ take 96 file
         → IsDecidedByCalls file max_bytes max_ops passphrase front }
+{}
+
+// What limits refuse is refused under each passphrase, and the rest by its header's code.
+fn front_is_decided_in_order()
+    ensures decided { (file : List ℕ) (max_bytes max_ops : ℕ) (passphrase : List ℕ)
+        → IsDecidedInOrder file max_bytes max_ops passphrase }
 {}

@@ -1,9 +1,6 @@
-//! The words behind a program's name, and what is said where they cannot be handed on.
-ghost use Rattle.std.specs.Prelude.{◌≡◌, ◌-◌, ◌^◌, drop};
-ghost use Rattle.command.specs.Argon2.Run.{SaysOneLine};
-ghost use Rattle.command.specs.Faults.{AreBelow};
+//! The words behind a program's name.
+ghost use Rattle.std.specs.Prelude.{◌≡◌, drop};
 
-use command::Host;
 use std::env;
 use std::env::Env;
 use std::io::ErrorKind;
@@ -43,20 +40,6 @@ fn without_first(mut words: Vec<String>) -> Vec<String>
         words.remove(0);
     }
     words
-}
-
-/// Says the line of a refusal and gives the refusal's status, 1. A line that cannot be said is passed
-/// over.
-pub fn refuse<H: Host>(host: &mut H, line: &str) -> u8
-    requires room { AreBelow (2 ^ 64 - 1) (H.faults host.old) }
-    ensures status { result ≡ 1 }
-    ensures says { SaysOneLine H.tells line.now (H.seen host.old) (H.seen host.new)
-        (H.faults host.old) (H.faults host.new) }
-{
-    let Ok(()) = host.say(line) else {
-        return 1;
-    };
-    1
 }
 
 #[cfg(test)]

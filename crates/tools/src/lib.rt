@@ -6,5 +6,5 @@ mod placeholders;
 mod streams;
 mod system_host;
 
-pub use arguments::{WordsFault, refuse, words};
+pub use arguments::{WordsFault, words};
 pub use system_host::SystemHost;

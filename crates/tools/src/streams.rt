@@ -2,7 +2,7 @@
 ghost use Rattle.std.specs.Prelude.{◌≡◌, ◌<◌, ◌≤◌, ℕ, take, length, IfOk, OnErr};
 ghost use Rattle.std.specs.Io.KnownBytes.{Appends, Consumes, IsAtEnd, ReadConsumes, WriteAppends};
 
-use command::HostFault;
+use host::HostFault;
 use std::io::{ErrorKind, Read, Write};
 
 // How often an interrupted read or write is asked again.

@@ -1,12 +1,12 @@
 //! The system as a host.
 ghost use Rattle.std.specs.Prelude.{◌≡◌, ◌≢◌, ◌+◌, ◌-◌, ◌<◌, ◌≤◌, ◌^◌, false, length, Ok, IsNone, IsSome, IfOk, OnOk, OnErr};
 ghost use Rattle.std.specs.Io.KnownBytes.{Consumes};
-ghost use Rattle.command.specs.Faults.{no_faults};
-ghost use Rattle.command.specs.Seen.{nothing_seen};
+ghost use Rattle.host.specs.Faults.{no_faults};
+ghost use Rattle.host.specs.Seen.{nothing_seen};
 
 use crate::placeholders::Placeholders;
 use crate::streams::{read_full, read_some, write_some};
-use command::{Host, HostFault, Source};
+use host::{Host, HostFault, Source};
 use std::env::{Env, FillError};
 use std::fs::File;
 use std::io::Read;

@@ -7,7 +7,7 @@ use Rattle.argon.specs.Range.{admission, checked_parameters}
 use Rattle.argon.specs.declared.fault.ParamFault.{ParamFault}
 use Rattle.argon_text.specs.EncodedText.{encoded_text}
 use Rattle.argon_text.specs.Value.{Value}
-use Rattle.command.specs.Seen.{Seen, Text}
+use Rattle.host.specs.Seen.{Seen, Text}
 use Rattle.command.specs.Answer.{◌>>=◌}
 use Rattle.command.specs.Argon2.Refusal.{refusal_of}
 use Rattle.command.specs.Argon2.Request.{Request, argon2_request}

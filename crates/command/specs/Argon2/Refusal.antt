@@ -2,8 +2,8 @@
 use Rattle.std.specs.Prelude.{◌≡◌, codes}
 use Rattle.argon.specs.declared.fault.ParamFault.{ParamFault}
 use Rattle.argon.specs.declared.fault.ParamFault.TheVariants as fault
-use Rattle.command.specs.Seen.{Text}
-use Rattle.command.specs.Faults.{Faults, output_failed, secret_failed}
+use Rattle.host.specs.Seen.{Text}
+use Rattle.host.specs.Faults.{Faults, output_failed, secret_failed}
 use Rattle.command.specs.declared.argon2_command.refusal.Argon2Refusal.{Argon2Refusal}
 use Rattle.command.specs.declared.argon2_command.refusal.Argon2Refusal.TheVariants as refusal
 

@@ -1,7 +1,7 @@
 -- What argon2's words ask for.
 use Rattle.std.specs.Prelude.{Bool, true, false, List, [], ◌∷◌, Option, Some, None, Result, Ok, Err, codes, if◌then◌else◌}
 use Rattle.std.specs.Str.{bytes_eq}
-use Rattle.command.specs.Seen.{Text}
+use Rattle.host.specs.Seen.{Text}
 use Rattle.command.specs.Answer.{◌>>=◌, unless_refused}
 use Rattle.command.specs.Argon2.Items.{items}
 use Rattle.command.specs.Argon2.Settings.{settings_of}

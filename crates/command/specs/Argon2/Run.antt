@@ -1,7 +1,8 @@
 -- A whole run of argon2: what stands at its end.
-use Rattle.std.specs.Prelude.{◌≡◌, ◌<◌, ◌⊎◌, ℕ, Bool, true, false, List, None, Ok, Err, IsOk, IsTrue, length, take}
-use Rattle.command.specs.Seen.{Seen, Text, after_open_output, after_push, after_say}
-use Rattle.command.specs.Faults.{Faults, line_failed}
+use Rattle.std.specs.Prelude.{◌≡◌, ◌<◌, ◌⊎◌, ℕ, Bool, List, None, Ok, Err, IsOk, IsTrue, length, take}
+use Rattle.host.specs.Seen.{Seen, Text, after_open_output, after_push}
+use Rattle.host.specs.Faults.{Faults}
+use Rattle.host.specs.Lines.{SaysOneLine}
 use Rattle.command.specs.Argon2.Refusal.{IsEarly, counted_by, line_of}
 use Rattle.command.specs.Argon2.Request.{argon2_request}
 use Rattle.command.specs.Argon2.Output.{argon2_output}
@@ -50,23 +51,6 @@ IsRefused r words before after =
     ⊎ FailsPassword r words before after
     ⊎ LacksMemory r words before after
     ⊎ FailsOutput r words before after
-
--- the counts after a line that was said, or could not be said
-abbrev pub faults_after_line : Bool → Faults → Faults
-faults_after_line true f = f
-faults_after_line false f = line_failed f
-
--- the host after a line that was said, or could not be said
-abbrev pub after_line : Bool → Text → Seen → Seen
-after_line true line s = after_say line s
-after_line false line s = s
-
--- the one line was said, or it was not and the count of lines rose
-pub record SaysOneLine (tells : Bool) (line : Text) (before after : Seen) (faults_before faults_after : Faults)
-    : Type 0 where
-  pub said : Bool
-  pub counts : faults_after ≡ faults_after_line said faults_before
-  pub seen : IsTrue tells → after ≡ after_line said line before
 
 -- the run ended with a refusal: the count that it names rose and no other, and its one line was said
 pub record Refuses (tells : Bool) (words : List Text) (before after : Seen) (faults_before faults_after : Faults)

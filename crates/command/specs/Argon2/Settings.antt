@@ -4,7 +4,7 @@ use Rattle.std.specs.List.{filter_map}
 use Rattle.std.specs.Str.{bytes_eq}
 use Rattle.argon.specs.declared.kind.Kind.{Kind}
 use Rattle.argon.specs.declared.kind.Kind.TheVariants.{I}
-use Rattle.command.specs.Seen.{Text}
+use Rattle.host.specs.Seen.{Text}
 use Rattle.command.specs.Answer.{unless_refused}
 use Rattle.command.specs.Number.{number_in}
 use Rattle.command.specs.Argon2.Items as item

@@ -9,32 +9,14 @@ use Rattle.romix.specs.Costs.{Parameters}
 use Rattle.romix.specs.Faults.{cost_fault}
 use Rattle.romix.specs.FirstOf.{first_of}
 use Rattle.romix.specs.declared.limits.Limits.{Limits}
-use Rattle.command.specs.Seen.{Text}
+use Rattle.host.specs.Seen.{Text}
 use Rattle.command.specs.Answer.{◌>>=◌, unless_refused}
 use Rattle.command.specs.Number.{number_in, number_of}
-use Rattle.command.specs.Secret.{SecretSource, stdin_once, env, file}
+use Rattle.host.specs.Secret.{SecretSource, stdin_once, env, file}
+use Rattle.scrypt_run.specs.Request.{Encryption, Request, Task, encrypt, decrypt, inspect}
 use Rattle.command.specs.Scrypt.Words.{CommonWords, EncWords, Words, enc, dec, info, scrypt_words}
-use Rattle.command.specs.declared.scrypt_command.refusal.ScryptRefusal.{ScryptRefusal}
-use Rattle.command.specs.declared.scrypt_command.refusal.ScryptRefusal.TheVariants as refusal
-
--- the limits, the passphrase's source, and the files; None is the standard stream
-pub record Task : Type 0 where
-  pub limits : Limits
-  pub source : SecretSource
-  pub infile : Option Text
-  pub outfile : Option Text
-
--- the costs, the salt, of which None is the host's, and the rest
-pub record Encryption : Type 0 where
-  pub costs : Parameters
-  pub salt : Option (List ℕ)
-  pub task : Task
-
--- what is asked for: to encrypt, to decrypt, or to show the costs of a file
-pub data Request : Type 0 where
-  encrypt : Encryption → Request
-  decrypt : Task → Request
-  inspect : Option Text → Request
+use Rattle.scrypt_run.specs.declared.refusal.ScryptRefusal.{ScryptRefusal}
+use Rattle.scrypt_run.specs.declared.refusal.ScryptRefusal.TheVariants as refusal
 
 -- ---- values
 

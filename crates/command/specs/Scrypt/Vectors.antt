@@ -1,9 +1,9 @@
 -- Words as they are typed, and what they ask for.
 use Rattle.std.specs.Prelude.{ℕ, ◌==◌, ◌^◌, List, [], ◌∷◌, Option, None, if◌then◌else◌}
 use Rattle.romix.specs.Costs.{Parameters}
-use Rattle.command.specs.Seen.{Text}
-use Rattle.command.specs.Secret.{SecretSource}
-use Rattle.command.specs.Scrypt.Request.{Encryption, Task}
+use Rattle.host.specs.Seen.{Text}
+use Rattle.host.specs.Secret.{SecretSource}
+use Rattle.scrypt_run.specs.Request.{Encryption, Task}
 
 -- the words with one byte more before the first
 abbrev pub with_byte : ℕ → List Text → List Text

@@ -4,7 +4,7 @@ use Rattle.std.specs.Option.{option_map_or}
 use Rattle.std.specs.Str.{bytes_eq}
 use Rattle.clap.specs.Words.{Kinds, Row, fault_of, subcommand_of}
 use Rattle.clap.specs.Words.{first_of as first_value}
-use Rattle.command.specs.Seen.{Text}
+use Rattle.host.specs.Seen.{Text}
 use Rattle.command.specs.Scrypt.CommandLine.{scrypt_app}
 
 -- the words that enc and dec both take: -M, --maxops, -P, --passphrase and the files

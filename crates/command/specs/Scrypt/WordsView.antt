@@ -1,16 +1,10 @@
 -- What contracts see of the words as the code has them.
-use Rattle.std.specs.Prelude.{Option, option_map}
-use Rattle.std.specs.Borrow.{Bor}
-use Rattle.command.specs.Seen.{Text}
+use Rattle.scrypt_run.specs.Request.{text_of}
 use Rattle.command.specs.Scrypt.Words.{CommonWords as Common, EncWords as Enc, Words as Said, enc, dec, info}
 use Rattle.command.specs.declared.scrypt_command.words.CommonWords.{CommonWords}
 use Rattle.command.specs.declared.scrypt_command.words.EncWords.{EncWords}
 use Rattle.command.specs.declared.scrypt_command.words.Words.{Words}
 use Rattle.command.specs.declared.scrypt_command.words.Words.TheVariants as words
-
--- the text, if it is there
-abbrev pub text_of : Option (Bor Text) → Option Text
-text_of = option_map (λ s. s.now)
 
 abbrev pub common_of : CommonWords → Common
 common_of w = record {

@@ -1,12 +1,12 @@
 //! The password: the whole standard input.
 ghost use Rattle.std.specs.Prelude.{◌≡◌, ◌<◌, ◌^◌, ◌⊎◌, ℕ, List, Ok, Err, take, length, MatchResult, IfOk, IfErr, IsTrue};
-ghost use Rattle.command.specs.Faults.{AreBelow};
+ghost use Rattle.host.specs.Faults.{AreBelow};
 ghost use Rattle.command.specs.Argon2.Output.{password_in};
 ghost use Rattle.command.specs.Argon2.Refusal.{IsEarly, counted_by};
 ghost use Rattle.command.specs.declared.argon2_command.refusal.Argon2Refusal.TheVariants.{PasswordFault};
 
 use crate::argon2_command::refusal::Argon2Refusal;
-use crate::host::{Host, Source};
+use host::{Host, Source};
 use std::marker::Model;
 
 /// A password of 1 to 127 bytes. Contracts see its bytes.

@@ -1,17 +1,16 @@
 //! A whole run of `argon2`.
 ghost use Rattle.std.specs.Prelude.{◌≡◌, ◌+◌, ◌≤◌, ◌^◌, ◌⊎◌, Ok, MatchResult, IfOk, IfErr, OnOk, OnErr, IsTrue, map, string_bytes};
-ghost use Rattle.command.specs.Faults.{AreBelow, output_failed};
-ghost use Rattle.command.specs.Seen.{IsUnopened};
+ghost use Rattle.host.specs.Faults.{AreBelow, output_failed};
+ghost use Rattle.host.specs.Seen.{IsUnopened};
 ghost use Rattle.command.specs.Argon2.Output.{argon2_output};
-ghost use Rattle.command.specs.Argon2.Refusal.{counted_by, line_of};
-ghost use Rattle.command.specs.Argon2.Run.{IsCutShort, IsRefused, Refuses, SaysOneLine, Succeeds, after_writing};
+ghost use Rattle.command.specs.Argon2.Refusal.{counted_by};
+ghost use Rattle.command.specs.Argon2.Run.{IsCutShort, IsRefused, Refuses, Succeeds, after_writing};
 
 use crate::argon2_command::output::{output, parameters};
 use crate::argon2_command::password::read_password;
 use crate::argon2_command::refusal::Argon2Refusal;
 use crate::argon2_command::request::read_request;
-use crate::flow::push_all;
-use crate::host::{Host, HostFault};
+use host::{Host, HostFault, push_all, refuse};
 use std::alloc::Global;
 
 // Reads the words and the password, and makes the whole output.
@@ -65,17 +64,6 @@ fn attempt<H: Host>(alloc: Global, words: &[String], host: &mut H) -> Result<(),
     }
 }
 
-// Says the line of a refusal. A fault of the host is passed over.
-fn tell<H: Host>(host: &mut H, refusal: Argon2Refusal)
-    requires room { AreBelow (2 ^ 63 + 1) (H.faults host.old) }
-    ensures says { SaysOneLine H.tells (line_of refusal) (H.seen host.old) (H.seen host.new)
-        (H.faults host.old) (H.faults host.new) }
-{
-    let Ok(()) = host.say(refusal.line()) else {
-        return;
-    };
-}
-
 /// Runs `argon2`: hashes the whole standard input under the salt that the first word gives, and
 /// writes the encoded text or the tag in hexadecimal, and a line feed, to standard output. `words`
 /// leaves out the program's name. The hash is that of RFC 9106, version 0x13.
@@ -96,9 +84,6 @@ pub fn argon2<H: Host>(alloc: Global, words: &[String], host: &mut H) -> u8
 {
     match attempt(alloc, words, host) {
         Ok(()) => 0,
-        Err(refusal) => {
-            tell(host, refusal);
-            1
-        }
+        Err(refusal) => refuse(host, refusal.line()),
     }
 }

@@ -1,7 +1,7 @@
 //! Whole runs over a host in memory. Hashes come from the reference program, as `printf password | argon2 ..` with the
 //! words of the row gives them; its report on standard output is what a run writes.
 use super::argon2;
-use crate::memory::MemoryHost;
+use host::MemoryHost;
 use std::alloc::{AllocError, Global};
 use std::process::Abort;
 use std::test::Fail;

@@ -7,7 +7,7 @@ ghost use Rattle.argon_text.specs.Vectors.{known_text, known_value};
 ghost use Rattle.command.specs.Argon2.Output.{argon2_output};
 ghost use Rattle.command.specs.Argon2.Request.{argon2_request};
 ghost use Rattle.command.specs.Argon2.Settings.{defaults};
-ghost use Rattle.command.specs.Seen.{nothing_seen};
+ghost use Rattle.host.specs.Seen.{nothing_seen};
 ghost use Rattle.command.specs.declared.argon2_command.items.Form.TheVariants.{Encoded};
 ghost use Rattle.command.specs.declared.argon2_command.refusal.Argon2Refusal.TheVariants.{BadNumber, MissingValue, OneForm, Usage};
 

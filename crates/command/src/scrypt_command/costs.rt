@@ -1,14 +1,15 @@
 //! The costs that the words give.
 ghost use Rattle.std.specs.Prelude.{◌≡◌, None, IfErr, MatchOption, is_some, true, false};
 ghost use Rattle.romix.specs.Faults.{cost_fault};
-ghost use Rattle.command.specs.Scrypt.Refusal.{RaisesNoCount};
+ghost use Rattle.scrypt_run.specs.Refusal.{RaisesNoCount};
 ghost use Rattle.command.specs.Scrypt.Request.{costs_asked, costs_given, has_bad_number, has_some_costs, number_given};
-ghost use Rattle.command.specs.Scrypt.WordsView.{enc_of, text_of};
+ghost use Rattle.command.specs.Scrypt.WordsView.{enc_of};
+ghost use Rattle.scrypt_run.specs.Request.{text_of};
 
 use crate::number::number;
-use crate::scrypt_command::refusal::ScryptRefusal;
 use crate::scrypt_command::words::EncWords;
 use romix::Costs;
+use scrypt_run::ScryptRefusal;
 
 // The numbers that the words give, of any size.
 #[derive(Clone, Copy)]

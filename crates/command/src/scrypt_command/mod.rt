@@ -1,7 +1,6 @@
 //! The command `scrypt`: its words and its refusals.
 mod command_line;
 mod costs;
-mod refusal;
 mod request;
 mod salt;
 mod task;
@@ -9,6 +8,4 @@ mod task;
 mod vectors;
 mod words;
 
-pub use refusal::ScryptRefusal;
-pub use request::{Encryption, Request, read_request};
-pub use task::Task;
+pub use request::read_request;

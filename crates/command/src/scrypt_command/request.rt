@@ -1,43 +1,22 @@
 //! What the words ask for.
 ghost use Rattle.std.specs.Prelude.{◌≡◌, ◌⊎◌, Ok, Err, IfOk, IfErr, map, string_bytes};
-ghost use Rattle.command.specs.Scrypt.Refusal.{RaisesNoCount};
+ghost use Rattle.scrypt_run.specs.Refusal.{RaisesNoCount};
 ghost use Rattle.command.specs.Scrypt.Request.{decryption_asked, encryption_asked, request_of_words, scrypt_request};
-ghost use Rattle.command.specs.Scrypt.RequestView.{encryption_answered, request_answered, request_seen, task_answered};
+ghost use Rattle.command.specs.Answer.{answered};
+ghost use Rattle.scrypt_run.specs.Request.{HasAllowedLimits, IsAllowed, encryption_seen, request_seen, task_seen};
 ghost use Rattle.command.specs.Scrypt.WordsView.{common_of, enc_of, words_of};
 
 use crate::scrypt_command::costs::costs_given;
-use crate::scrypt_command::refusal::ScryptRefusal;
 use crate::scrypt_command::salt::salt_given;
-use crate::scrypt_command::task::{Task, infile_named, limits_given, task_under};
+use crate::scrypt_command::task::{infile_named, limits_given, task_under};
 use crate::scrypt_command::words::{CommonWords, EncWords, Words, WordsFault, read_words};
-use romix::Costs;
+use scrypt_run::{Encryption, Request, ScryptRefusal, Task};
 use std::alloc::Global;
-
-/// What `enc` asks for.
-#[derive(Clone, Copy, Debug)]
-pub struct Encryption<'a> {
-    /// The costs of the new file.
-    pub costs: Costs,
-    /// The salt of the new file; `None` is the host's.
-    pub salt: Option<[u8; 32]>,
-    /// Limits, source and files.
-    pub task: Task<'a>,
-}
-
-/// What the words ask for.
-#[derive(Clone, Copy, Debug)]
-pub enum Request<'a> {
-    /// `enc`: to encrypt the input.
-    Encrypt(Encryption<'a>),
-    /// `dec`: to decrypt the input.
-    Decrypt(Task<'a>),
-    /// `info`: to show the costs of the input of this name; `None` is standard input.
-    Inspect(Option<&'a str>),
-}
 
 // What the words of `enc` ask for.
 fn encryption_asked<'a>(words: &EncWords<'a>) -> Result<Encryption<'a>, ScryptRefusal>
-    ensures encryption { encryption_answered result ≡ encryption_asked (enc_of words.now) }
+    ensures encryption { answered encryption_seen result ≡ encryption_asked (enc_of words.now) }
+    ensures allowed { IfOk result (λ asked. HasAllowedLimits (task_seen asked.task)) }
     ensures counts { IfErr result RaisesNoCount }
 {
     let limits = limits_given(&words.common)?;
@@ -49,7 +28,8 @@ fn encryption_asked<'a>(words: &EncWords<'a>) -> Result<Encryption<'a>, ScryptRe
 
 // What the words of `dec` ask for.
 fn decryption_asked<'a>(words: &CommonWords<'a>) -> Result<Task<'a>, ScryptRefusal>
-    ensures decryption { task_answered result ≡ decryption_asked (common_of words.now) }
+    ensures decryption { answered task_seen result ≡ decryption_asked (common_of words.now) }
+    ensures allowed { IfOk result (λ task. HasAllowedLimits (task_seen task)) }
     ensures counts { IfErr result RaisesNoCount }
 {
     let limits = limits_given(words)?;
@@ -58,7 +38,8 @@ fn decryption_asked<'a>(words: &CommonWords<'a>) -> Result<Task<'a>, ScryptRefus
 
 // What the words of a subcommand ask for.
 fn request_of<'a>(words: &Words<'a>) -> Result<Request<'a>, ScryptRefusal>
-    ensures request { request_answered result ≡ request_of_words (words_of words.now) }
+    ensures request { answered request_seen result ≡ request_of_words (words_of words.now) }
+    ensures allowed { IfOk result (λ request. IsAllowed (request_seen request)) }
     ensures counts { IfErr result RaisesNoCount }
 {
     match words {
@@ -81,6 +62,7 @@ pub fn read_request<'a>(alloc: Global, words: &'a [String]) -> Result<Request<'a
         scrypt_request (map string_bytes words.entry.now) ≡ Ok (request_seen request)) }
     ensures refused { IfErr result (λ refusal. (refusal ≡ ScryptRefusal.OutOfMemory)
         ⊎ (scrypt_request (map string_bytes words.entry.now) ≡ Err refusal)) }
+    ensures allowed { IfOk result (λ request. IsAllowed (request_seen request)) }
     ensures counts { IfErr result RaisesNoCount }
 {
     match read_words(alloc, words) {

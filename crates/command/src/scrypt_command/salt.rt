@@ -2,13 +2,13 @@
 ghost use Rattle.std.specs.Prelude.{◌≡◌, ◌↔◌, IfErr, IsSome, length};
 ghost use Rattle.std.specs.List.{AllPass};
 ghost use Rattle.hex.specs.Hex.{is_hex_digit};
-ghost use Rattle.command.specs.Scrypt.Refusal.{RaisesNoCount};
+ghost use Rattle.scrypt_run.specs.Refusal.{RaisesNoCount};
 ghost use Rattle.command.specs.Scrypt.Request.{salt_asked, salt_in};
 ghost use Rattle.command.specs.Scrypt.WordsView.{enc_of};
 
-use crate::scrypt_command::refusal::ScryptRefusal;
 use crate::scrypt_command::words::EncWords;
 use hex::FromHex;
+use scrypt_run::ScryptRefusal;
 
 // The 32 bytes that 64 hexadecimal digits write, in either case.
 fn salt_in(text: &str) -> Option<[u8; 32]>

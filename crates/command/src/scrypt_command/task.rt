@@ -1,16 +1,17 @@
 //! What `enc` and `dec` both ask for: limits, the passphrase's source, and the files.
-ghost use Rattle.std.specs.Prelude.{◌≡◌, IfErr, option_map};
-ghost use Rattle.command.specs.Scrypt.Refusal.{RaisesNoCount};
+ghost use Rattle.std.specs.Prelude.{◌≡◌, ◌<◌, ◌≤◌, ◌^◌, IfOk, IfErr, IfSome, option_map};
+ghost use Rattle.scrypt_run.specs.Refusal.{RaisesNoCount};
 ghost use Rattle.command.specs.Scrypt.Request.{has_same_name, infile_named, limit_given, limits_asked, one_source, source_named, task_asked, wants_stdin_twice};
-ghost use Rattle.command.specs.Scrypt.RequestView.{task_answered};
-ghost use Rattle.command.specs.Scrypt.WordsView.{common_of, text_of};
-ghost use Rattle.command.specs.Secret.{source_of};
+ghost use Rattle.command.specs.Scrypt.WordsView.{common_of};
+ghost use Rattle.scrypt_run.specs.Request.{HasAllowedLimits, task_seen, text_of};
+ghost use Rattle.command.specs.Answer.{answered};
+ghost use Rattle.host.specs.Secret.{source_of};
 
-use crate::host::Source;
 use crate::number::number_in;
-use crate::scrypt_command::refusal::ScryptRefusal;
 use crate::scrypt_command::words::CommonWords;
+use host::Source;
 use romix::Limits;
+use scrypt_run::{ScryptRefusal, Task};
 
 // The greatest -M is 2^40 bytes.
 const MAX_BYTES_END: u64 = (1 << 40) + 1;
@@ -18,22 +19,11 @@ const MAX_BYTES_END: u64 = (1 << 40) + 1;
 // The greatest --maxops is 2^63-1 cores.
 const MAX_OPS_END: u64 = 1 << 63;
 
-/// What `enc` and `dec` both ask for.
-#[derive(Clone, Copy, Debug)]
-pub struct Task<'a> {
-    /// `-M`, 1 to 2^40 bytes, and `--maxops`, 1 to 2^63-1 cores.
-    pub limits: Limits,
-    /// Where the passphrase comes from.
-    pub source: Source<'a>,
-    /// The input's name; `None` is standard input.
-    pub infile: Option<&'a str>,
-    /// The output's name; `None` is standard output.
-    pub outfile: Option<&'a str>,
-}
-
 // The limit that an option gives, at least 1 and below `end`, or the limit without the option.
 fn limit_given(end: u64, default: u64, text: Option<&str>) -> Option<u64>
+    requires within { default < end }
     ensures limit { result ≡ limit_given end default (text_of text.entry) }
+    ensures below { IfSome result (λ n. n < end) }
 {
     match text {
         None => Some(default),
@@ -44,6 +34,7 @@ fn limit_given(end: u64, default: u64, text: Option<&str>) -> Option<u64>
 /// The limits that the words give, or 2^32 bytes and 2^33 cores where they give none.
 pub fn limits_given(words: &CommonWords<'_>) -> Result<Limits, ScryptRefusal>
     ensures limits { result ≡ limits_asked (common_of words.now) }
+    ensures allowed { IfOk result (λ limits. limits.max_bytes ≤ 2 ^ 40) }
     ensures counts { IfErr result RaisesNoCount }
 {
     let max_bytes = limit_given(MAX_BYTES_END, 1 << 32, words.max_bytes);
@@ -117,7 +108,9 @@ pub fn infile_named<'a>(word: &'a str) -> Option<&'a str>
 
 /// What the words ask for under these limits.
 pub fn task_under<'a>(limits: Limits, words: &CommonWords<'a>) -> Result<Task<'a>, ScryptRefusal>
-    ensures task { task_answered result ≡ task_asked limits (common_of words.now) }
+    requires allowed { limits.max_bytes ≤ 2 ^ 40 }
+    ensures task { answered task_seen result ≡ task_asked limits (common_of words.now) }
+    ensures allowed { IfOk result (λ task. HasAllowedLimits (task_seen task)) }
     ensures counts { IfErr result RaisesNoCount }
 {
     if wants_stdin_twice(words) {

@@ -3,8 +3,8 @@
 ghost use Rattle.std.specs.Prelude.{◌≡◌, ◌-◌, ◌^◌, [], Ok, Err, Some, None, codes};
 ghost use Rattle.command.specs.Scrypt.Request.{decrypt, encrypt, inspect, scrypt_request};
 ghost use Rattle.command.specs.Scrypt.Vectors.{costs, counted_salt, plain_encryption, plain_task, typed};
-ghost use Rattle.command.specs.Secret.{env, file, stdin_once};
-ghost use Rattle.command.specs.declared.scrypt_command.refusal.ScryptRefusal.TheVariants.{CostsOutOfRange, PassphraseSource, SaltDigits, SameName, SomeCosts, StandardInputTwice, Usage};
+ghost use Rattle.host.specs.Secret.{env, file, stdin_once};
+ghost use Rattle.scrypt_run.specs.declared.refusal.ScryptRefusal.TheVariants.{CostsOutOfRange, PassphraseSource, SaltDigits, SameName, SomeCosts, StandardInputTwice, Usage};
 
 // The costs and the salt of a new file, and its digits in upper case.
 #[tactic(auto, unfolding(clap::proofs::OnLiterals::clap_on_literals, hex::proofs::OnLiterals::hex_on_literals))]

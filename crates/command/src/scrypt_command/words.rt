@@ -2,7 +2,8 @@
 ghost use Rattle.std.specs.Prelude.{◌≡◌, ◌≢◌, Some, None, MatchResult, map, option_map, option_and_then, string_bytes};
 ghost use Rattle.clap.specs.Words.{first_of, found_of, kind_of, rows_of, subcommand_rows_of};
 ghost use Rattle.command.specs.Scrypt.Words.{common_words, enc_words, is_set, scrypt_words, words_at};
-ghost use Rattle.command.specs.Scrypt.WordsView.{common_of, enc_of, text_of, words_of};
+ghost use Rattle.command.specs.Scrypt.WordsView.{common_of, enc_of, words_of};
+ghost use Rattle.scrypt_run.specs.Request.{text_of};
 
 use crate::scrypt_command::command_line::scrypt_command;
 use clap::error::ErrorKind;

@@ -1,8 +1,8 @@
 //! What a command asks of the world.
 ghost use Rattle.std.specs.Prelude.{◌≡◌, ◌-◌, ◌<◌, ◌≤◌, ◌^◌, Bool, [], take, length, option_map, IfOk, OnOk, OnErr, IsTrue};
-ghost use Rattle.command.specs.Faults.{Faults, AreBelow, input_failed, output_failed, secret_failed, salt_failed, line_failed};
-ghost use Rattle.command.specs.Secret.{secret_of, IsBeginning};
-ghost use Rattle.command.specs.Seen.{Seen, after_pull, after_push, after_say, after_open_input, after_open_output};
+ghost use Rattle.host.specs.Faults.{Faults, AreBelow, input_failed, output_failed, secret_failed, salt_failed, line_failed};
+ghost use Rattle.host.specs.Secret.{secret_of, IsBeginning};
+ghost use Rattle.host.specs.Seen.{Seen, after_pull, after_push, after_say, after_open_input, after_open_output};
 
 use thiserror::Error;
 

@@ -3,7 +3,7 @@ use Rattle.std.proofs.Common.{◌≡◌, ℕ, List, ◌+◌, ◌-◌, ◌++◌, 
 use Rattle.std.proofs.lemmas.List.{append_assoc}
 use Rattle.std.proofs.Math.Seq.{take-add}
 use Rattle.std.proofs.lemmas.Grind.{common_steps}
-use Rattle.command.specs.Seen.{Seen, after_push}
+use Rattle.host.specs.Seen.{Seen, after_push}
 
 -- what `&bytes[i..]` is
 abbrev pub from : ℕ → List ℕ → List ℕ
@@ -13,7 +13,7 @@ from_is : (i : ℕ) (bytes : List ℕ) → from i bytes ≡ drop i bytes
 from_is i bytes = grind (arith, common_steps)
 
 -- two pushes are one of both
-push_push : (xs ys : List ℕ) (s : Seen) → after_push ys (after_push xs s) ≡ after_push (xs ++ ys) s
+pub push_push : (xs ys : List ℕ) (s : Seen) → after_push ys (after_push xs s) ≡ after_push (xs ++ ys) s
 push_push xs ys s = ap (λ out. let t : Seen = record s { output = out } in t) (append_assoc s.output xs ys)
 
 -- a push of the next n bytes goes on from a push of the first i

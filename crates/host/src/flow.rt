@@ -1,7 +1,8 @@
-//! Bytes to a host.
-ghost use Rattle.std.specs.Prelude.{◌≡◌, ◌<◌, ◌^◌, ℕ, take, length, OnOk, OnErr, IsTrue};
-ghost use Rattle.command.specs.Faults.{AreBelow, output_failed};
-ghost use Rattle.command.specs.Seen.{after_push};
+//! Bytes and lines to a host.
+ghost use Rattle.std.specs.Prelude.{◌≡◌, ◌-◌, ◌<◌, ◌^◌, ℕ, take, length, OnOk, OnErr, IsTrue};
+ghost use Rattle.host.specs.Faults.{AreBelow, output_failed};
+ghost use Rattle.host.specs.Lines.{SaysOneLine};
+ghost use Rattle.host.specs.Seen.{after_push};
 
 use crate::host::{Host, HostFault};
 
@@ -20,4 +21,18 @@ pub fn push_all<H: Host>(host: &mut H, bytes: &[u8]) -> Result<(), HostFault>
         at += host.push(&bytes[at..])?;
     }
     Ok(())
+}
+
+/// Says the line of a refusal and gives the status of a refusal, 1. A line that cannot be said is
+/// passed over.
+pub fn refuse<H: Host>(host: &mut H, line: &str) -> u8
+    requires room { AreBelow (2 ^ 64 - 1) (H.faults host.old) }
+    ensures status { result ≡ 1 }
+    ensures says { SaysOneLine H.tells line.now (H.seen host.old) (H.seen host.new)
+        (H.faults host.old) (H.faults host.new) }
+{
+    let Ok(()) = host.say(line) else {
+        return 1;
+    };
+    1
 }

@@ -1,6 +1,6 @@
 //! The refusals of `scrypt`, and the line that tells each.
 ghost use Rattle.std.specs.Prelude.{◌≡◌};
-ghost use Rattle.command.specs.Scrypt.Refusal.{line_of};
+ghost use Rattle.scrypt_run.specs.Refusal.{line_of};
 
 /// Why a run of `scrypt` ends with status 1. Each has its number, when it holds, and its line. Of the
 /// words, S1, S2a, S2b, S2c, S2d, S3 and S5a are tested in this order, and the first that holds is

@@ -1,9 +1,11 @@
 -- The refusals of scrypt: the line of each, and the count of the host's failures that it raises.
 use Rattle.std.specs.Prelude.{◌≡◌, codes}
-use Rattle.command.specs.Seen.{Text}
-use Rattle.command.specs.Faults.{Faults, input_failed, output_failed, secret_failed, salt_failed}
-use Rattle.command.specs.declared.scrypt_command.refusal.ScryptRefusal.{ScryptRefusal}
-use Rattle.command.specs.declared.scrypt_command.refusal.ScryptRefusal.TheVariants as refusal
+use Rattle.encfile.specs.Front.{FrontRefusal}
+use Rattle.encfile.specs.Front.FrontRefusal.{NotScryptData, OtherPassphrase, OtherVersion, TooMuchMemory, TooMuchWork}
+use Rattle.host.specs.Seen.{Text}
+use Rattle.host.specs.Faults.{Faults, input_failed, output_failed, secret_failed, salt_failed}
+use Rattle.scrypt_run.specs.declared.refusal.ScryptRefusal.{ScryptRefusal}
+use Rattle.scrypt_run.specs.declared.refusal.ScryptRefusal.TheVariants as refusal
 
 -- the counts after a refusal: one rises where a call of the host failed, and none otherwise
 abbrev pub counted_by : ScryptRefusal → Faults → Faults
@@ -16,6 +18,14 @@ counted_by r f = f
 -- the refusal is none of a failing host call
 abbrev pub RaisesNoCount : ScryptRefusal → Type 0
 RaisesNoCount r = (f : Faults) → counted_by r f ≡ f
+
+-- the refusal of a file's first 96 bytes
+abbrev pub refusal_of : FrontRefusal → ScryptRefusal
+refusal_of NotScryptData = refusal.NotScryptData
+refusal_of OtherVersion = refusal.UnsupportedVersion
+refusal_of TooMuchMemory = refusal.MemoryLimit
+refusal_of TooMuchWork = refusal.WorkLimit
+refusal_of OtherPassphrase = refusal.WrongPassphrase
 
 -- the line of a refusal
 abbrev pub line_of : ScryptRefusal → Text

@@ -1,7 +1,7 @@
 //! A host in memory.
 ghost use Rattle.std.specs.Prelude.{◌≡◌, ◌<◌, ◌≤◌, ◌==◌, ℕ, true, List, take, drop, length, min, map, option_map, Some, IfOk, OnOk, OnErr, string_bytes, bytes_eq, if◌then◌else◌};
-ghost use Rattle.command.specs.Memory.{Memory, lookup, memory_seen, memory_faults, new_memory, next_call, with_variable, with_file};
-ghost use Rattle.command.specs.Secret.{secret_of};
+ghost use Rattle.host.specs.Memory.{Memory, lookup, memory_seen, memory_faults, new_memory, next_call, with_variable, with_file};
+ghost use Rattle.host.specs.Secret.{secret_of};
 
 use crate::host::{Host, HostFault, Source};
 use crate::named_secret::{NamedSecret, find, put_first};

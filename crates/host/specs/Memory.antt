@@ -1,8 +1,8 @@
 -- What contracts see of a host in memory.
 use Rattle.std.specs.Prelude.{ℕ, ◌+◌, ◌-◌, ◌^◌, ◌==◌, List, [], ◌∷◌, Option, Some, None, option_map, bytes_eq, if◌then◌else◌}
 use Rattle.std.specs.List.{find}
-use Rattle.command.specs.Seen.{Seen, Text}
-use Rattle.command.specs.Faults.{Faults, no_faults}
+use Rattle.host.specs.Seen.{Seen, Text}
+use Rattle.host.specs.Faults.{Faults, no_faults}
 
 -- a secret under a name
 pub record Entry : Type 0 where

@@ -1,7 +1,7 @@
 use Rattle.std.proofs.Common.{arith, ◌∙◌}
 use Rattle.std.proofs.lemmas.Grind.{common_steps}
-use Rattle.command.proofs.Pushes.{push_next}
-use Rattle.command.proofs.flow.push_all.Goals as goal
+use Rattle.host.proofs.Pushes.{push_next}
+use Rattle.host.proofs.flow.push_all.Goals as goal
 
 pub loop-at-preserved : goal.loop-at-preserved
 loop-at-preserved g c = record {

@@ -1,0 +1,6 @@
+-- What contracts see of a host, and what each call leaves of it.
+pub mod Seen
+pub mod Faults
+pub mod Secret
+pub mod Lines
+pub mod Memory

@@ -1,0 +1,53 @@
+-- `scrypt info`: what a run comes to.
+use Rattle.std.specs.Prelude.{◌≡◌, ◌<◌, ◌^◌, ◌++◌, ◌⊎◌, ℕ, List, Option, None, codes, length, take}
+use Rattle.std.specs.Fmt.{decimal}
+use Rattle.romix.specs.Costs.{Parameters, cores, table_bytes}
+use Rattle.encfile.specs.Front.{format_refusal}
+use Rattle.encfile.specs.Header.{costs_of}
+use Rattle.host.specs.Seen.{Seen, Text}
+use Rattle.scrypt_run.specs.Front.{FrontRefused}
+use Rattle.scrypt_run.specs.Steps.{after_reading, after_writing}
+use Rattle.scrypt_run.specs.declared.refusal.ScryptRefusal.{ScryptRefusal}
+use Rattle.scrypt_run.specs.declared.refusal.ScryptRefusal.TheVariants as refusal
+
+-- the line that tells costs: N, r, p, the bytes of the table and the cores of a derivation, and a line feed
+abbrev pub costs_line : Parameters → Text
+costs_line c =
+    codes "N = " ++ decimal (2 ^ c.log_n)
+    ++ codes "; r = " ++ decimal c.r
+    ++ codes "; p = " ++ decimal c.p
+    ++ codes "; memory = " ++ decimal (table_bytes c)
+    ++ codes "; cores = " ++ decimal (cores c)
+    ++ codes "\n"
+
+-- the host after the first 96 bytes were pulled
+abbrev pub front_pulled : Option Text → Seen → Seen
+front_pulled infile before = after_reading infile 96 before
+
+-- the line of the input's costs
+abbrev pub line_due : Seen → Text
+line_due before = costs_line (costs_of before.input)
+
+-- the run ends with status 0: standard output got the line
+pub record InspectSucceeds (infile : Option Text) (before after : Seen) : Type 0 where
+  pub valid : format_refusal before.input ≡ None
+  pub written : after ≡ after_writing None (line_due before) (front_pulled infile before)
+
+-- standard output got a beginning of the line, not the whole
+pub record LineCutShort (line : Text) (before after : Seen) : Type 0 where
+  pub written : ℕ
+  pub some_missing : written < length line
+  pub begun : after ≡ after_writing None (take written line) before
+
+-- the front is valid, and the run ended later: no memory for the line, or the output failed
+pub record EndsLine (r : ScryptRefusal) (infile : Option Text) (before after : Seen) : Type 0 where
+  pub valid : format_refusal before.input ≡ None
+  pub refused : ((r ≡ refusal.OutOfMemory) × (after ≡ front_pulled infile before))
+      ⊎ ((r ≡ refusal.OutputFault) × (after ≡ front_pulled infile before))
+      ⊎ ((r ≡ refusal.OutputFault) × LineCutShort (line_due before) (front_pulled infile before) after)
+
+-- the run ends with this refusal
+abbrev pub InspectRefused : ScryptRefusal → Option Text → Seen → Seen → Type 0
+InspectRefused r infile before after =
+    FrontRefused r (format_refusal before.input) infile before after
+    ⊎ EndsLine r infile before after

@@ -1,0 +1,11 @@
+-- What a run of scrypt comes to.
+pub mod Refusal
+pub mod Request
+pub mod Steps
+pub mod Front
+pub mod Passphrase
+pub mod Text
+pub mod Encrypting
+pub mod Decrypting
+pub mod Inspecting
+pub mod Run

@@ -1,0 +1,29 @@
+-- The passphrase of a run: the first line of its source.
+use Rattle.std.specs.Prelude.{◌≡◌, ◌<◌, ◌≤◌, ◌==◌, ◌||◌, ◌⊎◌, ℕ, Bool, List, [], ◌∷◌, Option, Some, option_map, length, if◌then◌else◌}
+use Rattle.host.specs.Seen.{Seen}
+use Rattle.host.specs.Secret.{SecretSource, secret_at}
+use Rattle.scrypt_run.specs.declared.refusal.ScryptRefusal.{ScryptRefusal}
+use Rattle.scrypt_run.specs.declared.refusal.ScryptRefusal.TheVariants as refusal
+
+-- LF or CR
+abbrev pub is_line_end : ℕ → Bool
+is_line_end b = b == 10 || b == 13
+
+-- the bytes before the first CR or LF, or all
+abbrev pub first_line : List ℕ → List ℕ
+first_line [] = []
+first_line (b ∷ bytes) = if is_line_end b then [] else b ∷ first_line bytes
+
+-- the first line of a source, if the host has it
+abbrev pub first_line_at : SecretSource → Seen → Option (List ℕ)
+first_line_at source s = option_map first_line (secret_at source s)
+
+-- the source is there, and its first line, of at most 2,048 bytes, is the passphrase
+pub record HasPassphrase (line : Option (List ℕ)) (passphrase : List ℕ) : Type 0 where
+  pub is : line ≡ Some passphrase
+  pub fits : length passphrase ≤ 2048
+
+-- the host failed to give the source, or its first line is longer than 2,048 bytes
+abbrev pub PassphraseRefused : ScryptRefusal → Option (List ℕ) → Type 0
+PassphraseRefused r line = (r ≡ refusal.PassphraseFault)
+    ⊎ ((r ≡ refusal.LongPassphrase) × (long : List ℕ) × (line ≡ Some long) × (2048 < length long))

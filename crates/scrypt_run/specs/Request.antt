@@ -1,0 +1,62 @@
+-- What a run of scrypt is asked for.
+use Rattle.std.specs.Prelude.{◌^◌, ◌≤◌, List, ℕ, Option, option_map, ⊤}
+use Rattle.std.specs.Borrow.{Bor}
+use Rattle.romix.specs.Costs.{Parameters}
+use Rattle.romix.specs.declared.limits.Limits.{Limits}
+use Rattle.host.specs.Seen.{Text}
+use Rattle.host.specs.Secret.{SecretSource, source_of}
+use Rattle.scrypt_run.specs.declared.request.Task.{Task as TaskInCode}
+use Rattle.scrypt_run.specs.declared.request.Encryption.{Encryption as EncryptionInCode}
+use Rattle.scrypt_run.specs.declared.request.Request.{Request as RequestInCode}
+use Rattle.scrypt_run.specs.declared.request.Request.TheVariants as in_code
+
+-- the limits, the passphrase's source, and the files; None is the standard stream
+pub record Task : Type 0 where
+  pub limits : Limits
+  pub source : SecretSource
+  pub infile : Option Text
+  pub outfile : Option Text
+
+-- the costs, the salt, of which None is the host's, and the rest
+pub record Encryption : Type 0 where
+  pub costs : Parameters
+  pub salt : Option (List ℕ)
+  pub task : Task
+
+-- what is asked for: to encrypt, to decrypt, or to show the costs of a file
+pub data Request : Type 0 where
+  encrypt : Encryption → Request
+  decrypt : Task → Request
+  inspect : Option Text → Request
+
+-- -M is in its range
+abbrev pub HasAllowedLimits : Task → Type 0
+HasAllowedLimits task = task.limits.max_bytes ≤ 2 ^ 40
+
+-- and so is that of the request, if it has one
+abbrev pub IsAllowed : Request → Type 0
+IsAllowed (encrypt encryption) = HasAllowedLimits encryption.task
+IsAllowed (decrypt task) = HasAllowedLimits task
+IsAllowed (inspect infile) = ⊤
+
+-- ---- what contracts see of the code's request: its names as texts
+
+-- the text, if it is there
+abbrev pub text_of : Option (Bor Text) → Option Text
+text_of = option_map (λ s. s.now)
+
+abbrev pub task_seen : TaskInCode → Task
+task_seen t = record {
+  limits = t.limits;
+  source = source_of t.source;
+  infile = text_of t.infile;
+  outfile = text_of t.outfile;
+}
+
+abbrev pub encryption_seen : EncryptionInCode → Encryption
+encryption_seen e = record { costs = e.costs; salt = e.salt; task = task_seen e.task }
+
+abbrev pub request_seen : RequestInCode → Request
+request_seen (in_code.Encrypt e) = encrypt (encryption_seen e)
+request_seen (in_code.Decrypt t) = decrypt (task_seen t)
+request_seen (in_code.Inspect infile) = inspect (text_of infile)

@@ -1,0 +1,38 @@
+-- How the passing of a text through a cipher may end early. `gives` is what the bytes so far give in all.
+use Rattle.std.specs.Prelude.{◌≡◌, ◌+◌, ◌-◌, ◌<◌, ◌≤◌, ◌⊎◌, ℕ, List, length, take}
+use Rattle.host.specs.Seen.{Seen, after_pull, after_push}
+use Rattle.scrypt_run.specs.Steps.{after_passing}
+use Rattle.scrypt_run.specs.declared.refusal.ScryptRefusal.{ScryptRefusal}
+use Rattle.scrypt_run.specs.declared.refusal.ScryptRefusal.TheVariants as refusal
+
+-- the input failed, and all that the bytes pulled before give was written
+pub record FailsReading (gives : List ℕ → List ℕ) (before after : Seen) : Type 0 where
+  pub pulled : ℕ
+  pub within : pulled ≤ length before.input
+  pub passes : after ≡ after_passing gives pulled before
+
+-- a beginning of what the bytes pulled so far give was written, not the whole; at most `most` bytes of it are missing
+pub record FailsWriting (most : ℕ) (gives : List ℕ → List ℕ) (before after : Seen) : Type 0 where
+  pub pulled : ℕ
+  pub within : pulled ≤ length before.input
+  pub written : ℕ
+  pub begun : written < length (gives (take pulled before.input))
+  pub missing : length (gives (take pulled before.input)) ≤ written + most
+  pub passes : after ≡ after_push (take written (gives (take pulled before.input))) (after_pull pulled before)
+
+-- the input reaches the limit: its bytes before the last piece were handed on, and all that they give was written
+pub record IsTooLong (limit : ℕ) (gives : List ℕ → List ℕ) (before after : Seen) : Type 0 where
+  pub handed_on : ℕ
+  pub least : limit - 4096 ≤ handed_on
+  pub below : handed_on < limit
+  pub pulled : ℕ
+  pub within : pulled ≤ length before.input
+  pub too_long : limit ≤ pulled
+  pub passes : after ≡ after_push (gives (take handed_on before.input)) (after_pull pulled before)
+
+-- the passing ended before the input's end
+abbrev pub EndsText : ScryptRefusal → ℕ → ℕ → (List ℕ → List ℕ) → Seen → Seen → Type 0
+EndsText r limit most gives before after =
+    ((r ≡ refusal.InputFault) × FailsReading gives before after)
+    ⊎ ((r ≡ refusal.OutputFault) × FailsWriting most gives before after)
+    ⊎ ((r ≡ refusal.TooLong) × IsTooLong limit gives before after)

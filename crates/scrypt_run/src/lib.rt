@@ -1,0 +1,8 @@
+//! The runs of `scrypt` over a host: `enc`, `dec` and `info`, once their words are read.
+#![tactic(auto)]
+
+mod refusal;
+mod request;
+
+pub use refusal::ScryptRefusal;
+pub use request::{Encryption, Request, Task};
