@@ -1,2 +1,3 @@
 -- Lemmas, by topic.
 pub mod Passing
+pub mod Openings

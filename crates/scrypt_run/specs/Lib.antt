@@ -9,3 +9,4 @@ pub mod Encrypting
 pub mod Decrypting
 pub mod Inspecting
 pub mod Run
+pub mod Laws

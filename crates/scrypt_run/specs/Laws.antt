@@ -1,0 +1,27 @@
+-- What is proved of the definitions of a run alone.
+use Rattle.std.specs.Prelude.{◌≡◌, ◌<◌, ◌≤◌, ◌^◌, ◌++◌, ◌⊎◌, ℕ, List, length}
+use Rattle.romix.specs.Costs.{FitsMemory, IsInRange, Parameters, cores}
+use Rattle.encfile.specs.EncryptedFile.{encrypted_file}
+use Rattle.host.specs.Seen.{Seen}
+use Rattle.scrypt_run.specs.Passphrase.{HasPassphrase, first_line_at}
+use Rattle.scrypt_run.specs.Request.{Task}
+use Rattle.scrypt_run.specs.declared.refusal.ScryptRefusal.{ScryptRefusal}
+use Rattle.scrypt_run.specs.declared.refusal.ScryptRefusal.TheVariants as refusal
+
+-- the input is the file of the text under the passphrase that the source gives, and the limits admit its costs
+pub record CanBeOpened (task : Task) (before : Seen) (passphrase salt : List ℕ) (costs : Parameters) (text : List ℕ)
+    : Type 0 where
+  pub salt_has_32_bytes : length salt ≡ 32
+  pub in_range : IsInRange costs
+  pub below_limit : length text < 2 ^ 60
+  pub input : before.input ≡ encrypted_file passphrase salt costs text
+  pub given : HasPassphrase (first_line_at task.source before) passphrase
+  pub memory : FitsMemory costs task.limits.max_bytes
+  pub work : cores costs ≤ task.limits.max_ops
+
+-- the host failed, or a growth of memory was refused
+abbrev pub IsFromOutside : ScryptRefusal → Type 0
+IsFromOutside r = (r ≡ refusal.InputFault)
+    ⊎ (r ≡ refusal.OutputFault)
+    ⊎ (r ≡ refusal.PassphraseFault)
+    ⊎ (r ≡ refusal.OutOfMemory)

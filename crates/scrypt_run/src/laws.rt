@@ -1,0 +1,28 @@
+//! Laws of the definitions: each function has no body, and its clauses are the law.
+ghost use Rattle.std.specs.Prelude.{◌≡◌, ◌++◌, ℕ, List};
+ghost use Rattle.romix.specs.Costs.{Parameters};
+ghost use Rattle.host.specs.Seen.{Seen};
+ghost use Rattle.scrypt_run.specs.Decrypting.{DecryptRefused, DecryptSucceeds};
+ghost use Rattle.scrypt_run.specs.Laws.{CanBeOpened, IsFromOutside};
+ghost use Rattle.scrypt_run.specs.Request.{Request, Task};
+ghost use Rattle.scrypt_run.specs.Run.{RequestRefused};
+ghost use Rattle.scrypt_run.specs.declared.refusal.ScryptRefusal.{ScryptRefusal};
+
+// An encrypted file is opened under its passphrase, unless the host fails or memory is refused; and
+// what is written is its text.
+fn encrypted_file_is_opened()
+    ensures text { (task : Task) (before after : Seen) (passphrase salt : List ℕ)
+        (costs : Parameters) (text : List ℕ) → CanBeOpened task before passphrase salt costs text
+        → DecryptSucceeds task before after → after.output ≡ before.output ++ text }
+    ensures not_refused { (task : Task) (before after : Seen) (passphrase salt : List ℕ)
+        (costs : Parameters) (text : List ℕ) (refusal : ScryptRefusal)
+        → CanBeOpened task before passphrase salt costs text
+        → DecryptRefused refusal task before after → IsFromOutside refusal }
+{}
+
+// Want of memory is never told after an output was opened.
+fn want_of_memory_opens_no_output()
+    ensures unopened { (request : Request) (before after : Seen)
+        → RequestRefused ScryptRefusal.OutOfMemory request before after
+        → after.output_opened ≡ before.output_opened }
+{}
