@@ -24,7 +24,9 @@ places() {
 test "$(places '.tick()')" = "crates/argon/src/compression.rt
 crates/romix/src/salsa20.rt" || fail "the counters tick elsewhere than in the one block function and the one core"
 test "$(places 'Ticks::new()')" = "crates/argon_text/src/verifying.rt
-crates/command/src/argon2_command/output.rt" ||
-    fail "a counter is made elsewhere than by the test of a password and by the command, each for its one hash"
+crates/command/src/argon2_command/output.rt
+crates/scrypt_run/src/decrypt.rt
+crates/scrypt_run/src/encrypt.rt" ||
+    fail "a counter is made elsewhere than by the test of a password and by the commands, each for its one hash or derivation"
 
 exit $status
