@@ -4,3 +4,4 @@ pub mod Words
 pub mod WordsView
 pub mod Request
 pub mod Vectors
+pub mod Run

@@ -7,7 +7,10 @@
 mod argon2_command;
 mod number;
 mod scrypt_command;
+#[cfg(test)]
+mod testing;
 
 pub use argon2_command::{Argon2Refusal, argon2};
 pub use host::{Host, HostFault, MemoryHost, Source};
+pub use scrypt_command::scrypt;
 pub use scrypt_run::ScryptRefusal;

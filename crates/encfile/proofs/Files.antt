@@ -7,13 +7,14 @@ use Rattle.std.proofs.Math.Nat.{mul-le-mul_left}
 use Rattle.sha2.specs.Sha256.{sha256}
 use Rattle.sha2.proofs.Facts256.{length-sha256}
 use Rattle.macs.proofs.Keys.{length-hmac_sha256}
-use Rattle.aes_ctr.specs.CounterMode.{counter_mode}
+use Rattle.aes_ctr.specs.CounterMode.{KeyStreamPlace, counter_mode}
 use Rattle.aes_ctr.proofs.KeyStream.{counter_mode_from-twice, length-counter_mode_from}
 use Rattle.romix.specs.Costs.{IsInRange, Parameters}
 use Rattle.encfile.specs.Header.{bytes_at, checksum, costs_and_salt, costs_of, header, salt_of}
 use Rattle.encfile.specs.EncryptedFile.{HasRightHeaderCode, body, cipher_key, code_key, encrypted_file, final_code, head, header_code, released_text}
-use Rattle.encfile.specs.Encrypting.{FitsSha256}
+use Rattle.encfile.specs.Encrypting.{FitsSha256, HasEncrypted, length_encrypted}
 use Rattle.encfile.specs.Laws.{GivesBack}
+use Rattle.encfile.specs.declared.enc.Enc.{Enc}
 use Rattle.encfile.proofs.Pieces.{middle}
 
 -- ---- lengths
@@ -171,3 +172,10 @@ GivesBack-is passphrase salt costs text long range short = record {
     bytes = refl;
   };
 }
+
+-- ---- a running encryption
+
+-- its text is as long as it says
+pub length_encrypted-is : (enc : Enc) (passphrase salt : List ℕ) (costs : Parameters) (text : List ℕ) → HasEncrypted enc passphrase salt costs text
+    → length text ≡ length_encrypted enc
+length_encrypted-is enc passphrase salt costs text h = sym (ap (λ (p : KeyStreamPlace). p.position) h.state.cipher)

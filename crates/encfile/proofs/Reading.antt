@@ -10,7 +10,8 @@ use Rattle.romix.specs.Costs.{IsInRange, Parameters}
 use Rattle.encfile.specs.Header.{bytes_at, checksum, costs_and_salt, costs_of, header, salt_of}
 use Rattle.encfile.specs.EncryptedFile.{IsEncryptionOf, body, cipher_key, code_key, derived_key, encrypted_file, head, header_code, released_text, right_header_code}
 use Rattle.encfile.specs.Encrypting.{FitsSha256}
-use Rattle.encfile.specs.Decrypting.{IsSplit}
+use Rattle.encfile.specs.Decrypting.{HasRead, IsSplit, length_read}
+use Rattle.encfile.specs.declared.dec.Dec.{Dec}
 use Rattle.encfile.proofs.Files.{costs_of-encrypted_file, costs_of-front, length-head, salt_of-encrypted_file, salt_of-front}
 use Rattle.encfile.proofs.Pieces.{bytes_at-take, place_after, same_end}
 use Rattle.encfile.proofs.Headers.{costs_of-take}
@@ -63,6 +64,16 @@ pub length-split : (file passphrase salt : List ℕ) (costs : Parameters) (done 
 length-split file passphrase salt costs done held s =
     let front : List ℕ = head passphrase salt costs in
     omega (arith, ap length s.bytes, length-append front (done ++ held), length-append done held, length-head passphrase salt costs s.salt_has_32_bytes)
+
+-- the length of a file that was read
+pub length-read : (dec : Dec) (passphrase file : List ℕ) → HasRead dec passphrase file → length file ≡ 96 + length_read dec
+unfolding length_read
+length-read dec passphrase file h = omega (
+  arith,
+  length-split file passphrase h.salt h.costs h.done h.held h.split,
+  ap (λ (place : KeyStreamPlace). place.position) h.state.cipher,
+  ap length h.state.held,
+)
 
 -- the bytes between the first 96 and the last ones are released
 pub released_text-split : (file passphrase salt : List ℕ) (costs : Parameters) (done held : List ℕ) → IsSplit file passphrase salt costs done held

@@ -1,3 +1,8 @@
 -- Lemmas, by topic.
-pub mod Passing
+pub mod Decrypting
+pub mod Encrypting
+pub mod Ends
+pub mod Fronts
+pub mod Lines
 pub mod Openings
+pub mod Passing

@@ -1,20 +1,19 @@
 -- What a run of `dec` comes to on an encrypted file, under its passphrase.
-use Rattle.std.proofs.Common.{◌≡◌, ◌<◌, ◌≤◌, ◌^◌, ◌++◌, ◌⊎◌, inl, inr, ◌+◌, ◌-◌, ℕ, List, Option, Some, None, option_map, take, drop, length, ap, ap₂, sym, subst, refl, ◌∙◌, arith}
+use Rattle.std.proofs.Common.{◌≡◌, ◌≤◌, ◌++◌, inl, inr, ◌+◌, ◌-◌, ℕ, List, Option, Some, None, option_map, take, drop, length, ap, ap₂, sym, subst, refl, ◌∙◌, arith}
 use Rattle.std.proofs.lemmas.Option.{none-some}
 use Rattle.std.proofs.lemmas.List.{length-drop}
 use Rattle.std.proofs.lemmas.Grind.{common_steps}
 use Rattle.romix.specs.Costs.{Parameters}
-use Rattle.encfile.specs.EncryptedFile.{HasRightHeaderCode, IsEncryptionOf, encrypted_file, released_text}
+use Rattle.encfile.specs.EncryptedFile.{HasRightHeaderCode, IsEncryptionOf, released_text}
 use Rattle.encfile.specs.Front.{FrontRefusal, front_refusal, limits_refusal}
 use Rattle.encfile.specs.Front.FrontRefusal.{OtherPassphrase}
 use Rattle.encfile.specs.Laws.{GivesBack}
 use Rattle.encfile.proofs.Files.{GivesBack-is, length-encrypted_file}
 use Rattle.encfile.proofs.Fronts.{front_refusal-encrypted_file, front_refusal-limits, front_refusal-wrong}
 use Rattle.host.specs.Seen.{Seen}
-use Rattle.scrypt_run.specs.Decrypting.{DecryptRefused, DecryptSucceeds, EndsOpening, EndsReleasing, OpenRefused, ReleaseRefused, front_pulled, front_refusal_of, limits_refusal_of}
+use Rattle.scrypt_run.specs.Decrypting.{DecryptRefused, DecryptSucceeds, OpenRefused, ReleaseRefused, front_pulled, front_refusal_of, limits_refusal_of}
 use Rattle.scrypt_run.specs.Laws.{CanBeOpened, IsFromOutside}
 use Rattle.scrypt_run.specs.Passphrase.{HasPassphrase, PassphraseRefused, first_line_at}
-use Rattle.scrypt_run.specs.Text.{EndsText, IsTooLong}
 use Rattle.scrypt_run.specs.Front.{FrontRefused}
 use Rattle.scrypt_run.specs.Refusal.{refusal_of}
 use Rattle.scrypt_run.specs.Request.{Task}

@@ -1,8 +1,8 @@
 -- Steps of a run joined to longer ones.
-use Rattle.std.proofs.Common.{◌≡◌, ◌≤◌, ◌<◌, ◌∷◌, suc, refl, ℕ, List, [], ◌+◌, ◌-◌, ◌++◌, take, drop, length, sym, ◌∙◌, ap, arith}
+use Rattle.std.proofs.Common.{◌≡◌, ◌≤◌, ◌∷◌, suc, refl, ℕ, List, [], ◌+◌, ◌-◌, ◌++◌, take, drop, length, sym, ◌∙◌, ap, arith}
 use Rattle.std.proofs.lemmas.Slice.{take-put_mid}
 use borrow.Rule.Slice.PartMut.{put_mid}
-use Rattle.std.proofs.lemmas.List.{append-nil, append_assoc, length-drop, length-take}
+use Rattle.std.proofs.lemmas.List.{append-nil, append_assoc, length-drop}
 use Rattle.std.proofs.Math.Seq.{take-add, drop-drop}
 use Rattle.std.proofs.lemmas.Grind.{common_steps}
 use Rattle.host.specs.Seen.{Seen, after_pull, after_push}

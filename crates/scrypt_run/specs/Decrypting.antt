@@ -1,5 +1,5 @@
 -- `scrypt dec`: what a run comes to.
-use Rattle.std.specs.Prelude.{◌≡◌, ◌+◌, ◌^◌, ◌++◌, ◌⊎◌, ℕ, List, Option, Some, None, length, take}
+use Rattle.std.specs.Prelude.{◌≡◌, ◌+◌, ◌^◌, ◌++◌, ◌⊎◌, ℕ, List, Option, None, length, take}
 use Rattle.encfile.specs.EncryptedFile.{HasRightHeaderCode, IsEncryptionOf, released_text}
 use Rattle.encfile.specs.Front.{FrontRefusal, front_refusal, limits_refusal}
 use Rattle.host.specs.Seen.{Seen, Text, after_open_output}

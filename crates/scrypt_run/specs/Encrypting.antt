@@ -1,5 +1,5 @@
 -- `scrypt enc`: what a run comes to.
-use Rattle.std.specs.Prelude.{◌≡◌, ◌+◌, ◌<◌, ◌≤◌, ◌^◌, ◌⊎◌, ◌==◌, ℕ, List, [], Option, Some, None, option_map, length, take, if◌then◌else◌}
+use Rattle.std.specs.Prelude.{◌≡◌, ◌+◌, ◌<◌, ◌≤◌, ◌^◌, ◌⊎◌, ◌==◌, ℕ, List, Option, Some, None, option_map, length, take, if◌then◌else◌}
 use Rattle.romix.specs.Costs.{Parameters}
 use Rattle.romix.specs.Faults.{limit_fault}
 use Rattle.encfile.specs.EncryptedFile.{body, encrypted_file}

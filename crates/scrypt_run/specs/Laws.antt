@@ -1,5 +1,5 @@
 -- What is proved of the definitions of a run alone.
-use Rattle.std.specs.Prelude.{◌≡◌, ◌<◌, ◌≤◌, ◌^◌, ◌++◌, ◌⊎◌, ℕ, List, length}
+use Rattle.std.specs.Prelude.{◌≡◌, ◌<◌, ◌≤◌, ◌^◌, ◌⊎◌, ℕ, List, length}
 use Rattle.romix.specs.Costs.{FitsMemory, IsInRange, Parameters, cores}
 use Rattle.encfile.specs.EncryptedFile.{encrypted_file}
 use Rattle.host.specs.Seen.{Seen}

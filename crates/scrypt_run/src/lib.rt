@@ -1,10 +1,27 @@
 //! The runs of `scrypt` over a host: `enc`, `dec` and `info`, once their words are read.
+//!
+//! | file | what |
+//! |---|---|
+//! | `encrypt` | `enc`, in the order of its refusals |
+//! | `decrypt` | `dec`, likewise, behind the first 96 bytes |
+//! | `front` | the first 96 bytes of a file, for `dec` and `info` |
+//! | `inspect` | `info` |
+//! | `passphrase` | the first line of a secret source |
 #![tactic(auto)]
 
+mod decrypt;
+mod dispatch;
+mod encrypt;
+mod front;
+mod inspect;
 #[cfg(test)]
 mod laws;
+mod passphrase;
 mod refusal;
 mod request;
+#[cfg(test)]
+mod vectors;
 
+pub use dispatch::run;
 pub use refusal::ScryptRefusal;
 pub use request::{Encryption, Request, Task};

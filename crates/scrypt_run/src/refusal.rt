@@ -1,6 +1,10 @@
 //! The refusals of `scrypt`, and the line that tells each.
 ghost use Rattle.std.specs.Prelude.{◌≡◌};
-ghost use Rattle.scrypt_run.specs.Refusal.{line_of};
+ghost use Rattle.encfile.specs.Front.{header_refusal, limit_refusal};
+ghost use Rattle.scrypt_run.specs.Refusal.{RaisesNoCount, line_of, refusal_of};
+
+use encfile::HeaderFault;
+use romix::CostFault;
 
 /// Why a run of `scrypt` ends with status 1. Each has its number, when it holds, and its line. Of the
 /// words, S1, S2a, S2b, S2c, S2d, S3 and S5a are tested in this order, and the first that holds is
@@ -94,6 +98,32 @@ impl ScryptRefusal {
             ScryptRefusal::TooLong => "scrypt: input is too long",
             ScryptRefusal::OutOfMemory => "scrypt: out of memory",
         }
+    }
+}
+
+/// The refusal of a header's fault.
+#[tactic(auto, unfolding(encfile::specs::Front::header_refusal))]
+pub fn header_refusal(fault: HeaderFault) -> ScryptRefusal
+    ensures refusal { result ≡ refusal_of (header_refusal fault) }
+{
+    match fault {
+        HeaderFault::Version => ScryptRefusal::UnsupportedVersion,
+        HeaderFault::Magic | HeaderFault::Checksum | HeaderFault::CostsOutOfRange => {
+            ScryptRefusal::NotScryptData
+        }
+    }
+}
+
+/// The refusal of costs that the limits don't admit.
+#[tactic(auto, unfolding(encfile::specs::Front::limit_refusal))]
+pub fn limit_refusal(fault: CostFault) -> ScryptRefusal
+    ensures refusal { result ≡ refusal_of (limit_refusal fault) }
+    ensures uncounted { RaisesNoCount result }
+{
+    match fault {
+        CostFault::Memory => ScryptRefusal::MemoryLimit,
+        CostFault::Work => ScryptRefusal::WorkLimit,
+        CostFault::LogN | CostFault::Zero | CostFault::Product => ScryptRefusal::NotScryptData,
     }
 }
 

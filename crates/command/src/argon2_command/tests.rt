@@ -1,6 +1,7 @@
 //! Whole runs over a host in memory. Hashes come from the reference program, as `printf password | argon2 ..` with the
 //! words of the row gives them; its report on standard output is what a run writes.
 use super::argon2;
+use crate::testing::{only_line, words};
 use host::MemoryHost;
 use std::alloc::{AllocError, Global};
 use std::process::Abort;
@@ -150,22 +151,6 @@ const REFUSALS: [(&str, &str); 48] = [
     ("somesalt -d -t 1 -k 8 -e --maxops 5", WORK_LIMIT),
     ("somesalt -t 4294967295 -e", WORK_LIMIT),
 ];
-
-fn words(alloc: Global, line: &str) -> Result<Vec<String>, AllocError> {
-    let mut words = Vec::new(alloc);
-    for word in line.split_whitespace() {
-        words.push(String::from_str(alloc, word)?)?;
-    }
-    Ok(words)
-}
-
-// The line that was said, where it is one.
-fn only_line(host: &MemoryHost) -> Option<&str> {
-    match host.lines() {
-        [line] => Some(line.as_str()),
-        _ => None,
-    }
-}
 
 // Runs the words over a host that gives this standard input, and compares all that comes to the host.
 fn check(

@@ -1,11 +1,14 @@
-//! The command `scrypt`: its words and its refusals.
+//! The command `scrypt`: its words and its whole run.
 mod command_line;
 mod costs;
 mod request;
+mod run;
 mod salt;
 mod task;
+#[cfg(test)]
+mod tests;
 #[cfg(test)]
 mod vectors;
 mod words;
 
-pub use request::read_request;
+pub use run::scrypt;

@@ -1,0 +1,157 @@
+-- The beginnings of an encrypted file, as a run writes them.
+use Rattle.std.proofs.Common.{◌≡◌, ◌≤◌, ◌<◌, ◌+◌, ◌^◌, ◌++◌, ◌⊎◌, ◌==◌, ◌∙◌, inl, inr, ℕ, Bool, true, false, List, [], Some, option_map, take, length, if◌then◌else◌, ap, sym, refl, subst, arith, length-append}
+use Rattle.std.proofs.lemmas.Grind.{common_steps}
+use Rattle.std.proofs.lemmas.List.{append-nil}
+use Rattle.romix.specs.Costs.{Parameters}
+use Rattle.romix.specs.Faults.{limit_fault}
+use Rattle.romix.specs.declared.fault.CostFault.{CostFault}
+use Rattle.encfile.specs.EncryptedFile.{body, encrypted_file, final_code}
+use Rattle.encfile.specs.Encrypting.{HasEncrypted, length_encrypted}
+use Rattle.encfile.specs.Front.{limit_refusal}
+use Rattle.encfile.specs.declared.enc.Enc.{Enc}
+use Rattle.encfile.proofs.Files.{length-body, length-encrypted_file, length_encrypted-is}
+use Rattle.host.specs.Seen.{Seen, after_pull, after_push}
+use Rattle.scrypt_run.specs.Encrypting.{FileCutShort, decided, salt_used, text_opened}
+use Rattle.scrypt_run.specs.Passphrase.{HasPassphrase, first_line_at}
+use Rattle.scrypt_run.specs.Refusal.{refusal_of}
+use Rattle.scrypt_run.specs.Request.{Encryption}
+use Rattle.scrypt_run.specs.Steps.{after_passing}
+use Rattle.scrypt_run.specs.Text.{EndsText, FailsReading, FailsWriting, IsTooLong}
+use Rattle.scrypt_run.specs.declared.refusal.ScryptRefusal.{ScryptRefusal}
+use Rattle.scrypt_run.specs.declared.refusal.ScryptRefusal.TheVariants as refusal
+use Rattle.host.proofs.Pushes.{push_push}
+use Rattle.scrypt_run.proofs.Ends.{first_line_at-reading, salt_used-opening}
+use Rattle.scrypt_run.proofs.Passing.{begun_on}
+
+-- ---- the limits
+
+-- a fault of the limits is told as its refusal
+pub costs_refused : (costs : Parameters) (max_bytes max_ops : ℕ) (fault : CostFault) (r : ScryptRefusal) → limit_fault costs max_bytes max_ops ≡ Some fault
+    → r ≡ refusal_of (limit_refusal fault) → option_map refusal_of (option_map limit_refusal (limit_fault costs max_bytes max_ops)) ≡ Some r
+costs_refused costs max_bytes max_ops fault r is told =
+    ap (λ f. option_map refusal_of (option_map limit_refusal f)) is ∙ ap Some (sym told)
+
+-- ---- the passphrase and the salt
+
+-- an encryption that was started behind the input's opening has the passphrase and the salt of the run
+pub started_before : (asked : Encryption) (enc : Enc) (s t : Seen) → t ≡ text_opened asked s
+    → (passphrase : List ℕ) × HasPassphrase (first_line_at asked.task.source t) passphrase × HasEncrypted enc passphrase (salt_used asked.salt t) asked.costs []
+    → (passphrase : List ℕ) × HasPassphrase (first_line_at asked.task.source s) passphrase × HasEncrypted enc passphrase (salt_used asked.salt s) asked.costs []
+started_before asked enc s t opened started =
+    let line = ap (first_line_at asked.task.source) opened ∙ first_line_at-reading asked.task.source asked.task.infile 0 s in
+    let salt = ap (salt_used asked.salt) opened ∙ salt_used-opening asked.salt asked.task.infile s in
+    (started.0, subst (λ l. HasPassphrase l started.0) line started.1, subst (λ xs. HasEncrypted enc started.0 xs asked.costs []) salt started.2)
+
+-- ---- the text so far
+
+-- a piece more was encrypted
+pub length_encrypted-more : (enc next : Enc) (passphrase salt : List ℕ) (costs : Parameters) (text piece : List ℕ) (n : ℕ) → HasEncrypted enc passphrase salt costs text
+    → HasEncrypted next passphrase salt costs (text ++ piece) → length piece ≡ n → length_encrypted enc + n ≡ length_encrypted next
+length_encrypted-more enc next passphrase salt costs text piece n before after long =
+    omega (arith, length_encrypted-is enc passphrase salt costs text before, length_encrypted-is next passphrase salt costs (text ++ piece) after, length-append text piece, long)
+
+-- it stays below the limit
+pub length_encrypted-below : (enc : Enc) (passphrase salt : List ℕ) (costs : Parameters) (text : List ℕ) → HasEncrypted enc passphrase salt costs text
+    → length_encrypted enc < 2 ^ 60
+length_encrypted-below enc passphrase salt costs text h = omega (arith, length_encrypted-is enc passphrase salt costs text h, h.below_limit)
+
+-- ---- what is decided
+
+take_first : (n : ℕ) (xs ys : List ℕ) → n ≤ length xs → take n (xs ++ ys) ≡ take n xs
+take_first n xs ys few = grind (arith, common_steps, few)
+
+take_whole : (k : ℕ) (xs : List ℕ) → k ≡ length xs → take k xs ≡ xs
+take_whole k xs e = grind (arith, common_steps, e)
+
+is_same : (k n : ℕ) → k == n ≡ true → k ≡ n
+is_same k n e = grind (arith, common_steps, e)
+
+eq_self : (n : ℕ) → n == n ≡ true
+eq_self n = grind (arith, common_steps)
+
+-- the file is its body and the final code
+with_code : (passphrase salt : List ℕ) (costs : Parameters) (text : List ℕ)
+    → encrypted_file passphrase salt costs text ≡ body passphrase salt costs text ++ final_code passphrase salt costs text
+unfolding encrypted_file
+with_code passphrase salt costs text = refl
+
+-- of which the code is 32 bytes
+length-code : (passphrase salt : List ℕ) (costs : Parameters) (text code : List ℕ) → length salt ≡ 32
+    → encrypted_file passphrase salt costs text ≡ body passphrase salt costs text ++ code → length code ≡ 32
+length-code passphrase salt costs text code long is =
+    omega (arith, length-encrypted_file passphrase salt costs text long, length-body passphrase salt costs text long, ap length is, length-append (body passphrase salt costs text) code)
+
+-- what is decided goes on from the body so far by at most a code; by the test that the text is whole
+tail_by : (whole : Bool) (passphrase salt : List ℕ) (costs : Parameters) (n : ℕ) (text : List ℕ) → length salt ≡ 32 → (whole ≡ true → n ≡ length text)
+    → (tail : List ℕ) × (length tail ≤ 32)
+    × ((if whole then encrypted_file passphrase salt costs text else body passphrase salt costs (take n text)) ≡ body passphrase salt costs (take n text) ++ tail)
+tail_by true passphrase salt costs n text long is_whole =
+    let code = final_code passphrase salt costs text in
+    let short : length code ≡ 32 = length-code passphrase salt costs text code long (with_code passphrase salt costs text) in
+    (code, omega (arith, short), with_code passphrase salt costs text ∙ ap (λ xs. body passphrase salt costs xs ++ code) (sym (take_whole n text (is_whole refl))))
+tail_by false passphrase salt costs n text long is_whole = ([], omega arith, sym (append-nil (body passphrase salt costs (take n text))))
+
+tail_of : (passphrase salt : List ℕ) (costs : Parameters) (n : ℕ) (text : List ℕ) → length salt ≡ 32
+    → (tail : List ℕ) × (length tail ≤ 32) × (decided passphrase salt costs n text ≡ body passphrase salt costs (take n text) ++ tail)
+tail_of passphrase salt costs n text long = tail_by (n == length text) passphrase salt costs n text long (is_same n (length text))
+
+-- ---- how writing ends early
+
+-- the first 96 bytes were cut short
+pub header_cut : (passphrase salt : List ℕ) (costs : Parameters) (n : ℕ) (header : List ℕ) (s t : Seen) → length salt ≡ 32 → header ≡ body passphrase salt costs []
+    → n < length header → t ≡ after_push (take n header) s → FailsWriting 4096 (body passphrase salt costs) s t
+header_cut passphrase salt costs n header s t long is few pushed = record {
+  pulled = 0;
+  within = omega arith;
+  written = n;
+  begun = subst (λ xs. n < length xs) is few;
+  missing = omega (arith, length-body passphrase salt costs [] long);
+  passes = pushed ∙ ap (λ xs. after_push (take n xs) s) is;
+}
+
+-- a beginning of the body so far was written
+body_cut : (passphrase salt : List ℕ) (costs : Parameters) (s t : Seen) → length salt ≡ 32 → FailsWriting 4096 (body passphrase salt costs) s t → FileCutShort passphrase salt costs s t
+body_cut passphrase salt costs s t long f =
+    let begun = body passphrase salt costs (take f.pulled s.input) in
+    let tail = tail_of passphrase salt costs f.pulled s.input long in
+    let longer : length (decided passphrase salt costs f.pulled s.input) ≡ length begun + length tail.0 = ap length tail.2 ∙ length-append begun tail.0 in
+    record {
+      pulled = f.pulled;
+      within = f.within;
+      written = f.written;
+      begun = omega (arith, f.begun, longer);
+      missing = omega (arith, f.missing, longer, tail.1);
+      passes = f.passes ∙ ap (λ xs. after_push xs (after_pull f.pulled s)) (sym (ap (take f.written) tail.2 ∙ take_first f.written begun tail.0 (omega (arith, f.begun))));
+    }
+
+-- the text's passing ended early
+pub passing_ended : (r : ScryptRefusal) (passphrase salt : List ℕ) (costs : Parameters) (s t : Seen) → length salt ≡ 32 → EndsText r (2 ^ 60) 4096 (body passphrase salt costs) s t
+    → ((r ≡ refusal.OutputFault) × FileCutShort passphrase salt costs s t)
+    ⊎ ((r ≡ refusal.InputFault) × FailsReading (body passphrase salt costs) s t)
+    ⊎ ((r ≡ refusal.TooLong) × IsTooLong (2 ^ 60) (body passphrase salt costs) s t)
+passing_ended r passphrase salt costs s t long (inl f) = inr (inl f)
+passing_ended r passphrase salt costs s t long (inr (inl f)) = inl (f.0, body_cut passphrase salt costs s t long f.1)
+passing_ended r passphrase salt costs s t long (inr (inr f)) = inr (inr f)
+
+-- the final code was cut short
+pub code_cut : (passphrase salt : List ℕ) (costs : Parameters) (n : ℕ) (code : List ℕ) (s t u : Seen) → length salt ≡ 32
+    → body passphrase salt costs s.input ++ code ≡ encrypted_file passphrase salt costs s.input
+    → t ≡ after_passing (body passphrase salt costs) (length s.input) s → n < length code → u ≡ after_push (take n code) t → FileCutShort passphrase salt costs s u
+code_cut passphrase salt costs n code s t u long is passes few pushed =
+    let size = length s.input in
+    let begun = body passphrase salt costs s.input in
+    let all : decided passphrase salt costs size s.input ≡ begun ++ code =
+    ap (λ b. if b then encrypted_file passphrase salt costs s.input else body passphrase salt costs (take size s.input)) (eq_self size) ∙ sym is in
+    let longer : length (decided passphrase salt costs size s.input) ≡ length begun + length code = ap length all ∙ length-append begun code in
+    let short : length code ≡ 32 = length-code passphrase salt costs s.input code long (sym is) in
+    let so_far : t ≡ after_push begun (after_pull size s) =
+    passes ∙ ap (λ xs. after_push (body passphrase salt costs xs) (after_pull size s)) (take_whole size s.input refl) in
+    record {
+      pulled = size;
+      within = omega arith;
+      written = length begun + n;
+      begun = omega (arith, few, longer);
+      missing = omega (arith, longer, short);
+      passes = pushed ∙ ap (after_push (take n code)) so_far ∙ push_push begun (take n code) (after_pull size s)
+          ∙ ap (λ xs. after_push xs (after_pull size s)) (begun_on begun code n ∙ ap (take (length begun + n)) (sym all));
+    }

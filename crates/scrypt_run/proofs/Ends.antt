@@ -1,0 +1,32 @@
+-- What holds of a result, carried on to what follows from it; and what reading the input keeps.
+use Rattle.std.proofs.Common.{◌≡◌, ℕ, List, Option, Some, None, Result, Ok, Err, OnOk, IfErr, IfOk, refl}
+use Rattle.host.specs.Seen.{Seen, Text, after_open_input}
+use Rattle.host.specs.Secret.{SecretSource}
+use Rattle.host.specs.Secret.SecretSource.{env as variable, file as secret_file, stdin_once}
+use Rattle.scrypt_run.specs.Encrypting.{salt_used}
+use Rattle.scrypt_run.specs.Passphrase.{first_line_at}
+use Rattle.scrypt_run.specs.Steps.{after_reading}
+
+-- what follows from a result's fact
+pub on_ok : {A E : Type 0} {P Q : Type 0} (r : Result A E) → (P → Q) → OnOk r P → OnOk r Q
+on_ok (Ok a) f h = f h
+on_ok (Err e) f h = h
+
+pub if_err : {A E : Type 0} {P Q : E → Type 0} (r : Result A E) → ((e : E) → P e → Q e) → IfErr r P → IfErr r Q
+if_err (Ok a) f h = h
+if_err (Err e) f h = f e h
+
+pub if_ok : {A E : Type 0} {P Q : A → Type 0} (r : Result A E) → ((a : A) → P a → Q a) → IfOk r P → IfOk r Q
+if_ok (Ok a) f h = f a h
+if_ok (Err e) f h = h
+
+-- reading the input leaves the secrets
+pub first_line_at-reading : (source : SecretSource) (infile : Option Text) (n : ℕ) (s : Seen) → first_line_at source (after_reading infile n s) ≡ first_line_at source s
+first_line_at-reading stdin_once infile n s = refl
+first_line_at-reading (variable name) infile n s = refl
+first_line_at-reading (secret_file name) infile n s = refl
+
+-- and its opening leaves the salt
+pub salt_used-opening : (salt : Option (List ℕ)) (infile : Option Text) (s : Seen) → salt_used salt (after_open_input infile s) ≡ salt_used salt s
+salt_used-opening None infile s = refl
+salt_used-opening (Some salt) infile s = refl

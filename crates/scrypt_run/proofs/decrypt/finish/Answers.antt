@@ -1,0 +1,47 @@
+use Rattle.std.proofs.Common.{◌≡◌, ◌+◌, ◌++◌, ◌^◌, ap, sym, subst, rules, refl, inl, inr, length, List, ℕ}
+use Rattle.encfile.specs.Decrypting.{HasRead}
+use Rattle.encfile.specs.EncryptedFile.{IsEncryptionOf, released_text}
+use Rattle.host.specs.Seen.{Seen}
+use Rattle.scrypt_run.specs.Decrypting.{ReleaseRefused, text_behind}
+use Rattle.scrypt_run.specs.Request.{text_of}
+use Rattle.scrypt_run.specs.Steps.{after_passing}
+use Rattle.scrypt_run.specs.Text.{EndsText}
+use Rattle.scrypt_run.proofs.decrypt.finish.Goals as goal
+
+pub returns-in_err-release-clause-refused : goal.returns-in_err-release-clause-refused
+returns-in_err-release-clause-refused g c = λ t.
+    let before = g.H.Host.seen c.args.host.now in
+    let after = g.H.Host.seen c.release.new.host in
+    let r = c.in_err-release.field-0.0 in
+    let ends : (passphrase front : List ℕ) → HasRead c.args.dec passphrase front
+    → ReleaseRefused r passphrase front (text_of c.args.outfile) before after = λ passphrase front h.
+    inr (inl (subst (λ s. EndsText r (2 ^ 60 + 32) 4128 (text_behind passphrase front) s after) (c.in-Ok.ensures.opened t)
+    (c.in_err-release.ensures.refused t passphrase front h))) in
+    search (rules, ends)
+
+pub returns-in-Ok-finish-clause-decrypted : goal.returns-in-Ok-finish-clause-decrypted
+returns-in-Ok-finish-clause-decrypted g c = λ t passphrase front h.
+    let opened = g.H.Host.seen c.open_output.new.self in
+    let after = g.H.Host.seen c.release.new.host in
+    let same = ap (λ (w : Seen). w.input) (c.in-Ok.ensures.opened t) in
+    record {
+      released = subst (λ w. after ≡ after_passing (text_behind passphrase front) (length w.input) w) (c.in-Ok.ensures.opened t)
+          (c.in_ok-release.ensures.released t passphrase front h);
+      genuine = subst (λ xs. IsEncryptionOf (front ++ xs) passphrase (released_text (front ++ xs) passphrase)) same
+          (c.in-Ok-finish.ensures.whole passphrase (front ++ opened.input) (c.in_ok-release.ensures.read t passphrase front h));
+    }
+
+pub returns-in-Err-clause-refused : goal.returns-in-Err-clause-refused
+returns-in-Err-clause-refused g c = λ t passphrase front h.
+    let opened = g.H.Host.seen c.open_output.new.self in
+    let after = g.H.Host.seen c.release.new.host in
+    let same = ap (λ (w : Seen). w.input) (c.in-Ok.ensures.opened t) in
+    inr (inr (
+      refl,
+      record {
+        released = subst (λ w. after ≡ after_passing (text_behind passphrase front) (length w.input) w) (c.in-Ok.ensures.opened t)
+            (c.in_ok-release.ensures.released t passphrase front h);
+        damaged = λ genuine. c.in-Err.ensures.damaged passphrase (front ++ opened.input) (c.in_ok-release.ensures.read t passphrase front h)
+            (subst (λ xs. IsEncryptionOf (front ++ xs) passphrase (released_text (front ++ xs) passphrase)) (sym same) genuine);
+      },
+    ))

@@ -1,0 +1,24 @@
+use Rattle.std.proofs.Common.{length, take, drop, List, ℕ, ◌++◌, ◌-◌, ◌+◌, ◌≡◌, ◌≤◌, ◌^◌, IsTrue}
+use Rattle.encfile.specs.Decrypting.{HasRead, length_read}
+use Rattle.scrypt_run.specs.Decrypting.{text_behind}
+use Rattle.scrypt_run.specs.Steps.{after_passing}
+use Rattle.scrypt_run.proofs.decrypt.release.Given as goal
+
+abbrev pub invariant-loop-n : goal.invariant-loop-n
+invariant-loop-n g l =
+    let before = g.H.Host.seen l.fn.host in
+    let j = length_read l.dec in record {
+      buf_long : length l.buf ≡ 4096;
+      out_long : length l.out ≡ 4128;
+      read : (passphrase file : List ℕ) × HasRead l.dec passphrase file;
+      same : g.H.Host.faults l.host ≡ g.H.Host.faults l.fn.host;
+      within : IsTrue g.H.Host.tells → j ≤ length before.input;
+      left : IsTrue g.H.Host.tells → (g.H.Host.seen l.host).input ≡ drop j before.input;
+      holds : IsTrue g.H.Host.tells → (passphrase front : List ℕ) → HasRead l.fn.dec passphrase front
+          → HasRead l.dec passphrase (front ++ take j before.input);
+      passes : IsTrue g.H.Host.tells → (passphrase front : List ℕ) → HasRead l.fn.dec passphrase front
+          → g.H.Host.seen l.host ≡ after_passing (text_behind passphrase front) j before;
+    }
+
+abbrev pub decreases-loop-n : goal.decreases-loop-n
+decreases-loop-n g l = 2 ^ 60 + 32 - length_read l.dec

@@ -1,0 +1,149 @@
+//! `scrypt dec`: the text of an encrypted file.
+ghost use Rattle.std.specs.Prelude.{◌≡◌, ◌+◌, ◌^◌, ℕ, List, ◌++◌, take, length, MatchResult, IfOk, IfErr, OnOk, IsTrue};
+ghost use Rattle.romix.specs.Costs.{FitsMemory};
+ghost use Rattle.encfile.specs.Decrypting.{HasRead, length_read};
+ghost use Rattle.encfile.specs.EncryptedFile.{HasRightHeaderCode};
+ghost use Rattle.encfile.specs.Header.{IsHeaderOf};
+ghost use Rattle.host.specs.Faults.{AreBelow};
+ghost use Rattle.host.specs.Secret.{source_of};
+ghost use Rattle.scrypt_run.specs.Decrypting.{DecryptRefused, DecryptSucceeds, Decrypted, OpenRefused, ReleaseRefused, text_behind};
+ghost use Rattle.scrypt_run.specs.Passphrase.{HasPassphrase, first_line_at};
+ghost use Rattle.scrypt_run.specs.Refusal.{counted_by};
+ghost use Rattle.scrypt_run.specs.Request.{HasAllowedLimits, task_seen, text_of};
+ghost use Rattle.scrypt_run.specs.Steps.{after_passing};
+ghost use Rattle.scrypt_run.specs.Text.{EndsText};
+
+use crate::front::open_admitted_front;
+use crate::passphrase::read_passphrase;
+use crate::refusal::ScryptRefusal;
+use crate::request::Task;
+use encfile::{Dec, Header};
+use host::{Host, Source, push_all};
+use romix::{Ticks, Workspace};
+use std::alloc::Global;
+
+// Reads the passphrase, takes the memory of the derivation, and tests the passphrase against the
+// code of the header.
+fn open<H: Host>(
+    alloc: Global,
+    host: &mut H,
+    source: Source<'_>,
+    front: &[u8; 96],
+    header: Header,
+) -> Result<Dec, ScryptRefusal>
+    requires room { AreBelow (2 ^ 63) (H.faults host.old) }
+    requires header { IsHeaderOf (take 64 front.now) header }
+    requires memory { FitsMemory header.costs (2 ^ 40) }
+    ensures counts { MatchResult result (λ _. H.faults host.new ≡ H.faults host.old)
+        (λ r. H.faults host.new ≡ counted_by r (H.faults host.old)) }
+    ensures kept { IsTrue H.tells → H.seen host.new ≡ H.seen host.old }
+    ensures read { IfOk result (λ dec. (passphrase : List ℕ) × HasRead dec passphrase front.now) }
+    ensures opened { IsTrue H.tells → IfOk result (λ dec. (passphrase : List ℕ)
+        × HasPassphrase (first_line_at (source_of source.entry) (H.seen host.old)) passphrase
+        × HasRightHeaderCode front.now passphrase
+        × HasRead dec passphrase front.now) }
+    ensures refused { IsTrue H.tells → IfErr result (λ r. OpenRefused r
+        (first_line_at (source_of source.entry) (H.seen host.old)) front.now) }
+{
+    let passphrase = read_passphrase(host, source)?;
+    let Ok(mut workspace) = Workspace::reserve(alloc, header.costs()) else {
+        return Err(ScryptRefusal::OutOfMemory);
+    };
+    let mut ticks = Ticks::new();
+    match Dec::open(
+        front,
+        header,
+        passphrase.as_slice(),
+        &mut workspace,
+        &mut ticks,
+    ) {
+        Ok(dec) => Ok(dec),
+        Err(_) => Err(ScryptRefusal::WrongPassphrase),
+    }
+}
+
+// Writes the text that the rest of the input releases. All that a piece of the input releases is
+// written before the next is pulled.
+fn release<H: Host>(host: &mut H, dec: &mut Dec) -> Result<(), ScryptRefusal>
+    requires room { AreBelow (2 ^ 63) (H.faults host.old) }
+    requires new { length_read dec.old ≡ 0 }
+    requires read { (passphrase front : List ℕ) × HasRead dec.old passphrase front }
+    ensures counts { MatchResult result (λ _. H.faults host.new ≡ H.faults host.old)
+        (λ r. H.faults host.new ≡ counted_by r (H.faults host.old)) }
+    ensures read { IsTrue H.tells → OnOk result ((passphrase front : List ℕ)
+        → HasRead dec.old passphrase front
+        → HasRead dec.new passphrase (front ++ (H.seen host.old).input)) }
+    ensures released { IsTrue H.tells → OnOk result ((passphrase front : List ℕ)
+        → HasRead dec.old passphrase front
+        → H.seen host.new ≡ after_passing (text_behind passphrase front)
+        (length (H.seen host.old).input) (H.seen host.old)) }
+    ensures refused { IsTrue H.tells → IfErr result (λ r. (passphrase front : List ℕ)
+        → HasRead dec.old passphrase front
+        → EndsText r (2 ^ 60 + 32) 4128 (text_behind passphrase front)
+        (H.seen host.old) (H.seen host.new)) }
+{
+    let mut buf = [0u8; 4096];
+    let mut out = [0u8; 4128];
+    loop {
+        let Ok(n) = host.pull(&mut buf) else {
+            return Err(ScryptRefusal::InputFault);
+        };
+        if n == 0 {
+            return Ok(());
+        }
+        let Ok(released) = dec.feed(&buf[..n], &mut out) else {
+            return Err(ScryptRefusal::TooLong);
+        };
+        let Ok(()) = push_all(host, &out[..released]) else {
+            return Err(ScryptRefusal::OutputFault);
+        };
+    }
+}
+
+// Opens the output, writes the text, and tests the final code.
+fn finish<H: Host>(host: &mut H, outfile: Option<&str>, dec: Dec) -> Result<(), ScryptRefusal>
+    requires room { AreBelow (2 ^ 63) (H.faults host.old) }
+    requires new { length_read dec ≡ 0 }
+    requires read { (passphrase front : List ℕ) × HasRead dec passphrase front }
+    ensures counts { MatchResult result (λ _. H.faults host.new ≡ H.faults host.old)
+        (λ r. H.faults host.new ≡ counted_by r (H.faults host.old)) }
+    ensures decrypted { IsTrue H.tells → OnOk result ((passphrase front : List ℕ)
+        → HasRead dec passphrase front
+        → Decrypted passphrase front (text_of outfile.entry)
+        (H.seen host.old) (H.seen host.new)) }
+    ensures refused { IsTrue H.tells → IfErr result (λ r. (passphrase front : List ℕ)
+        → HasRead dec passphrase front
+        → ReleaseRefused r passphrase front (text_of outfile.entry)
+        (H.seen host.old) (H.seen host.new)) }
+{
+    let Ok(()) = host.open_output(outfile) else {
+        return Err(ScryptRefusal::OutputFault);
+    };
+    let mut dec = dec;
+    release(host, &mut dec)?;
+    match dec.finish() {
+        Ok(()) => Ok(()),
+        Err(_) => Err(ScryptRefusal::Damaged),
+    }
+}
+
+/// Runs `scrypt dec`: checks the first 96 bytes of the input, tests the passphrase against them,
+/// and writes the text that the rest releases.
+///
+/// The output is opened once the passphrase is found right, and no refusal after that takes back
+/// what was written. The text can be trusted only after `Ok`, since the final code is tested when
+/// all of it is written.
+pub fn decrypt<H: Host>(alloc: Global, host: &mut H, task: &Task<'_>) -> Result<(), ScryptRefusal>
+    requires room { AreBelow (2 ^ 63) (H.faults host.old) }
+    requires limits { HasAllowedLimits (task_seen task.now) }
+    ensures counts { MatchResult result (λ _. H.faults host.new ≡ H.faults host.old)
+        (λ r. H.faults host.new ≡ counted_by r (H.faults host.old)) }
+    ensures succeeds { IsTrue H.tells → OnOk result
+        (DecryptSucceeds (task_seen task.now) (H.seen host.old) (H.seen host.new)) }
+    ensures refused { IsTrue H.tells → IfErr result (λ r.
+        DecryptRefused r (task_seen task.now) (H.seen host.old) (H.seen host.new)) }
+{
+    let (front, header) = open_admitted_front(host, task.infile, &task.limits)?;
+    let dec = open(alloc, host, task.source, &front, header)?;
+    finish(host, task.outfile, dec)
+}

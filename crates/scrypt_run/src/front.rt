@@ -1,0 +1,168 @@
+//! The first 96 bytes of a file, and the checks that need no passphrase.
+ghost use Rattle.std.specs.Prelude.{◌≡◌, ◌<◌, ◌≤◌, ◌^◌, ℕ, Some, None, take, length, option_map, MatchResult, IfOk, IfErr, OnOk, OnErr, IsTrue};
+ghost use Rattle.romix.specs.Costs.{FitsMemory};
+ghost use Rattle.encfile.specs.Front.{format_refusal, limits_refusal};
+ghost use Rattle.encfile.specs.Header.{IsHeaderOf, costs_of};
+ghost use Rattle.host.specs.Faults.{AreBelow, input_failed};
+ghost use Rattle.host.specs.Seen.{after_pull};
+ghost use Rattle.scrypt_run.specs.Front.{FrontRefused};
+ghost use Rattle.scrypt_run.specs.Refusal.{counted_by, refusal_of};
+ghost use Rattle.scrypt_run.specs.Request.{text_of};
+ghost use Rattle.scrypt_run.specs.Steps.{after_reading};
+
+use crate::refusal::{ScryptRefusal, header_refusal, limit_refusal};
+use encfile::Header;
+use host::{Host, HostFault};
+use romix::Limits;
+
+// Pulls 96 bytes, or all where there are fewer, and says how many.
+fn pull_front<H: Host>(host: &mut H, front: &mut [u8; 96]) -> Result<usize, HostFault>
+    requires room { AreBelow (2 ^ 63) (H.faults host.old) }
+    ensures bound { IfOk result (λ n. n ≤ 96) }
+    ensures counts { OnOk result (H.faults host.new ≡ H.faults host.old) }
+    ensures counted { OnErr result (H.faults host.new ≡ input_failed (H.faults host.old)) }
+    ensures bytes { IsTrue H.tells →
+        IfOk result (λ n. take n front.new ≡ take n (H.seen host.old).input) }
+    ensures within { IsTrue H.tells → IfOk result (λ n. n ≤ length (H.seen host.old).input) }
+    ensures whole { IsTrue H.tells →
+        IfOk result (λ n. n < 96 → length (H.seen host.old).input ≤ n) }
+    ensures taken { IsTrue H.tells →
+        IfOk result (λ n. H.seen host.new ≡ after_pull n (H.seen host.old)) }
+    ensures cut_off { IsTrue H.tells → OnErr result ((n : ℕ) × (n < 96)
+        × (n ≤ length (H.seen host.old).input)
+        × (H.seen host.new ≡ after_pull n (H.seen host.old))) }
+{
+    let mut at = 0;
+    while at < 96 {
+        let n = host.pull(&mut front[at..])?;
+        if n == 0 {
+            return Ok(at);
+        }
+        at += n;
+    }
+    Ok(at)
+}
+
+// Opens the input and reads its first 96 bytes.
+fn read_front<H: Host>(host: &mut H, infile: Option<&str>) -> Result<[u8; 96], ScryptRefusal>
+    requires room { AreBelow (2 ^ 63) (H.faults host.old) }
+    ensures counts { MatchResult result (λ _. H.faults host.new ≡ H.faults host.old)
+        (λ r. H.faults host.new ≡ counted_by r (H.faults host.old)) }
+    ensures long { IsTrue H.tells → OnOk result (96 ≤ length (H.seen host.old).input) }
+    ensures front { IsTrue H.tells →
+        IfOk result (λ front. front ≡ take 96 (H.seen host.old).input) }
+    ensures reads { IsTrue H.tells → OnOk result
+        (H.seen host.new ≡ after_reading (text_of infile.entry) 96 (H.seen host.old)) }
+    ensures refused { IsTrue H.tells → IfErr result (λ r.
+        FrontRefused r (format_refusal (H.seen host.old).input) (text_of infile.entry)
+        (H.seen host.old) (H.seen host.new)) }
+{
+    let Ok(()) = host.open_input(infile) else {
+        return Err(ScryptRefusal::InputFault);
+    };
+    let mut front = [0u8; 96];
+    match pull_front(host, &mut front) {
+        Ok(96) => Ok(front),
+        Ok(_) => Err(ScryptRefusal::NotScryptData),
+        Err(HostFault) => Err(ScryptRefusal::InputFault),
+    }
+}
+
+// Reads the header in the first 96 bytes.
+fn read_header(front: &[u8; 96]) -> Result<Header, ScryptRefusal>
+    ensures valid { OnOk result (format_refusal front.now ≡ None) }
+    ensures refused { IfErr result (λ r.
+        option_map refusal_of (format_refusal front.now) ≡ Some r) }
+    ensures header { IfOk result (λ header. IsHeaderOf (take 64 front.now) header) }
+    ensures costs { IfOk result (λ header. header.costs ≡ costs_of front.now) }
+{
+    let mut bytes = [0u8; 64];
+    bytes.copy_from_slice(&front[..64]);
+    match Header::read(&bytes) {
+        Ok(header) => Ok(header),
+        Err(fault) => Err(header_refusal(fault)),
+    }
+}
+
+// Holds the costs of a header against the limits.
+fn test_limits(front: &[u8; 96], header: &Header, limits: &Limits) -> Result<(), ScryptRefusal>
+    requires valid { format_refusal front.now ≡ None }
+    requires costs { header.now.costs ≡ costs_of front.now }
+    ensures admitted { OnOk result
+        (limits_refusal front.now limits.now.max_bytes limits.now.max_ops ≡ None) }
+    ensures memory { OnOk result (FitsMemory header.now.costs limits.now.max_bytes) }
+    ensures refused { IfErr result (λ r. option_map refusal_of
+        (limits_refusal front.now limits.now.max_bytes limits.now.max_ops) ≡ Some r) }
+{
+    match header.costs().admitted(limits) {
+        Ok(()) => Ok(()),
+        Err(fault) => Err(limit_refusal(fault)),
+    }
+}
+
+/// Opens the input, reads its first 96 bytes, and reads the header in them.
+pub fn open_front<H: Host>(
+    host: &mut H,
+    infile: Option<&str>,
+) -> Result<([u8; 96], Header), ScryptRefusal>
+    requires room { AreBelow (2 ^ 63) (H.faults host.old) }
+    ensures counts { MatchResult result (λ _. H.faults host.new ≡ H.faults host.old)
+        (λ r. H.faults host.new ≡ counted_by r (H.faults host.old)) }
+    ensures long { IsTrue H.tells → OnOk result (96 ≤ length (H.seen host.old).input) }
+    ensures front { IsTrue H.tells →
+        IfOk result (λ read. read.0 ≡ take 96 (H.seen host.old).input) }
+    ensures header { IfOk result (λ read. IsHeaderOf (take 64 read.0) read.1) }
+    ensures costs { IfOk result (λ read. read.1.costs ≡ costs_of read.0) }
+    ensures same_costs { IsTrue H.tells →
+        IfOk result (λ read. read.1.costs ≡ costs_of (H.seen host.old).input) }
+    ensures valid { IfOk result (λ read. format_refusal read.0 ≡ None) }
+    ensures valid_input { IsTrue H.tells →
+        OnOk result (format_refusal (H.seen host.old).input ≡ None) }
+    ensures reads { IsTrue H.tells → OnOk result
+        (H.seen host.new ≡ after_reading (text_of infile.entry) 96 (H.seen host.old)) }
+    ensures refused { IsTrue H.tells → IfErr result (λ r.
+        FrontRefused r (format_refusal (H.seen host.old).input) (text_of infile.entry)
+        (H.seen host.old) (H.seen host.new)) }
+{
+    let front = match read_front(host, infile) {
+        Ok(front) => front,
+        Err(refusal) => return Err(refusal),
+    };
+    match read_header(&front) {
+        Ok(header) => Ok((front, header)),
+        Err(refusal) => Err(refusal),
+    }
+}
+
+/// Opens the input, reads its first 96 bytes and the header in them, and holds its costs against
+/// the limits.
+pub fn open_admitted_front<H: Host>(
+    host: &mut H,
+    infile: Option<&str>,
+    limits: &Limits,
+) -> Result<([u8; 96], Header), ScryptRefusal>
+    requires room { AreBelow (2 ^ 63) (H.faults host.old) }
+    ensures counts { MatchResult result (λ _. H.faults host.new ≡ H.faults host.old)
+        (λ r. H.faults host.new ≡ counted_by r (H.faults host.old)) }
+    ensures long { IsTrue H.tells → OnOk result (96 ≤ length (H.seen host.old).input) }
+    ensures front { IsTrue H.tells →
+        IfOk result (λ read. read.0 ≡ take 96 (H.seen host.old).input) }
+    ensures header { IfOk result (λ read. IsHeaderOf (take 64 read.0) read.1) }
+    ensures memory { IfOk result (λ read. FitsMemory read.1.costs limits.now.max_bytes) }
+    ensures checked { IsTrue H.tells → OnOk result (limits_refusal (H.seen host.old).input
+        limits.now.max_bytes limits.now.max_ops ≡ None) }
+    ensures reads { IsTrue H.tells → OnOk result
+        (H.seen host.new ≡ after_reading (text_of infile.entry) 96 (H.seen host.old)) }
+    ensures refused { IsTrue H.tells → IfErr result (λ r. FrontRefused r (limits_refusal
+        (H.seen host.old).input limits.now.max_bytes limits.now.max_ops) (text_of infile.entry)
+        (H.seen host.old) (H.seen host.new)) }
+{
+    let (front, header) = match open_front(host, infile) {
+        Ok(read) => read,
+        Err(refusal) => return Err(refusal),
+    };
+    match test_limits(&front, &header, limits) {
+        Ok(()) => Ok((front, header)),
+        Err(refusal) => Err(refusal),
+    }
+}

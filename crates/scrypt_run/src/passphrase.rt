@@ -1,0 +1,78 @@
+//! The passphrase of a run: the first line of its source.
+ghost use Rattle.std.specs.Prelude.{◌≡◌, ◌<◌, ◌≤◌, ◌^◌, ℕ, List, take, length, MatchResult, IfOk, IfErr, IsTrue};
+ghost use Rattle.host.specs.Faults.{AreBelow};
+ghost use Rattle.host.specs.Secret.{source_of};
+ghost use Rattle.scrypt_run.specs.Passphrase.{HasPassphrase, PassphraseRefused, first_line, first_line_at, is_line_end};
+ghost use Rattle.scrypt_run.specs.Refusal.{counted_by};
+
+use crate::refusal::ScryptRefusal;
+use host::{Host, Source};
+use std::marker::Model;
+
+/// A passphrase of 0 to 2,048 bytes. Contracts see its bytes.
+#[derive(Drop)]
+pub struct Passphrase {
+    // One byte more than a passphrase has tells that the line is too long.
+    room: [u8; 2049],
+    len: usize,
+}
+
+impl Model for Passphrase {
+    ghost Value = { List ℕ };
+
+    ghost view = { λ p. take p.len p.room };
+
+    ghost invariant = { λ p. p.len ≤ 2048 };
+}
+
+impl Passphrase {
+    /// Its bytes.
+    pub fn as_slice(&self) -> &[u8]
+        ensures bytes { result.now ≡ self.now }
+    {
+        &self.room[..self.len]
+    }
+}
+
+// Whether a byte ends a line: LF or CR.
+fn is_line_end(byte: u8) -> bool
+    ensures end { result ≡ is_line_end byte }
+{
+    byte == b'\n' || byte == b'\r'
+}
+
+// The length of the first line, without its end.
+fn line_length(bytes: &[u8]) -> usize
+    ensures within { result ≤ length bytes.now }
+    ensures line { take result bytes.now ≡ first_line bytes.now }
+{
+    bytes
+        .iter()
+        .position(|byte| is_line_end(*byte))
+        .unwrap_or(bytes.len())
+}
+
+/// Reads the passphrase from its source.
+pub fn read_passphrase<H: Host>(
+    host: &mut H,
+    source: Source<'_>,
+) -> Result<Passphrase, ScryptRefusal>
+    requires room { AreBelow (2 ^ 63) (H.faults host.old) }
+    ensures counts { MatchResult result (λ _. H.faults host.new ≡ H.faults host.old)
+        (λ r. H.faults host.new ≡ counted_by r (H.faults host.old)) }
+    ensures kept { IsTrue H.tells → H.seen host.new ≡ H.seen host.old }
+    ensures read { IsTrue H.tells → IfOk result
+        (HasPassphrase (first_line_at (source_of source.entry) (H.seen host.old))) }
+    ensures refused { IsTrue H.tells → IfErr result (λ r.
+        PassphraseRefused r (first_line_at (source_of source.entry) (H.seen host.old))) }
+{
+    let mut room = [0u8; 2049];
+    let Ok(n) = host.secret(source, &mut room) else {
+        return Err(ScryptRefusal::PassphraseFault);
+    };
+    let len = line_length(&room[..n]);
+    if len > 2048 {
+        return Err(ScryptRefusal::LongPassphrase);
+    }
+    Ok(Passphrase { room, len })
+}
