@@ -29,7 +29,9 @@ fn files(rt: HostRuntime) -> Result<(), Fail> {
     fs::write(&rt, "pw", "pw\n")?;
     for (text, length) in [("", 128), ("hello", 133)] {
         fs::write(&rt, "text", text)?;
-        let enc = format!(in rt.alloc(); "enc --logN 4 -r 1 -p 1 --salt {SALT} --passphrase file:pw text file")?;
+        let enc = format!(in rt.alloc();
+            "enc --logN 4 -r 1 -p 1 --salt {SALT} --passphrase file:pw text file"
+        )?;
         assert_eq!(rt; status(rt, enc.as_str())?, 0);
         let file = fs::read(&rt, "file")?;
         assert_eq!(rt; file.len(), length);
