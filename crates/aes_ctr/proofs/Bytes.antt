@@ -3,7 +3,7 @@ use Rattle.std.proofs.Common.{◌≡◌, ℕ, ◌+◌, ◌*◌, ◌%◌, ◌<◌
 use lib.Lanes.{top}
 use Rattle.std.specs.List.{range_with_len}
 use Rattle.std.proofs.lemmas.List.FromFn.{get_or-map-range_with_len}
-use Rattle.aes_ctr.specs.Aes.{polynomial_product, product, remainder}
+use Rattle.aes_ctr.specs.Aes.{affine_bits, inverse, polynomial_product, power, product, remainder, sub_byte}
 
 -- two functions that agree on the list of all bytes agree at each byte
 pub by_table : (f g : ℕ → ℕ) → map f (range_with_len 0 256) ≡ map g (range_with_len 0 256) → (b : ℕ) → b < 256 → f b ≡ g b
@@ -28,6 +28,26 @@ doubled_lane b = bit_xor ((b + b) % 256) (cond (top 7 (cond (leb 128 b) 255 0)) 
 pub doubled_lane-is : (b : ℕ) → b < 256 → doubled_lane b ≡ product 2 b
 unfolding product polynomial_product remainder
 doubled_lane-is = by_table doubled_lane (product 2) refl
+
+product_two-reduced : map (λ b. product 2 b % 256) (range_with_len 0 256) ≡ map (product 2) (range_with_len 0 256)
+unfolding product polynomial_product remainder
+product_two-reduced = refl
+
+pub product_two-lt : (b : ℕ) → b < 256 → product 2 b < 256
+product_two-lt b h =
+    let same : product 2 b % 256 ≡ product 2 b = by_table (λ b. product 2 b % 256) (product 2) product_two-reduced b h in
+    omega (arith, same)
+
+-- ---- the S-box
+
+sub_byte-reduced : map (λ b. sub_byte b % 256) (range_with_len 0 256) ≡ map sub_byte (range_with_len 0 256)
+unfolding sub_byte affine_bits inverse power product polynomial_product remainder
+sub_byte-reduced = refl
+
+pub sub_byte-lt : (b : ℕ) → b < 256 → sub_byte b < 256
+sub_byte-lt b h =
+    let same : sub_byte b % 256 ≡ sub_byte b = by_table (λ b. sub_byte b % 256) sub_byte sub_byte-reduced b h in
+    omega (arith, same)
 
 -- ---- low bits
 

@@ -1,6 +1,11 @@
+pub mod Blocks
 pub mod Bytes
 pub mod Columns
+pub mod Doubles
+pub mod Held
 pub mod Keys
 pub mod KeyStream
 pub mod Lookup
 pub mod Sixteen
+pub mod Swapped
+pub mod Wires

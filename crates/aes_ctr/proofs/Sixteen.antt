@@ -1,6 +1,8 @@
--- Vectors of sixteen bytes, and four of them.
-use Rattle.std.proofs.Common.{◌≡◌, ℕ, ◌<◌, List, [], ◌∷◌, arith, length, map, refl, slice_index_or, w8, Fits}
-use lib.Lanes.{Each1}
+-- Vectors of sixteen bytes.
+use Rattle.std.proofs.Common.{◌≡◌, ℕ, ◌<◌, List, [], ◌∷◌, arith, bit_xor, length, map, refl, w8, Fits}
+use lib.Lanes.{Each1, zip2}
+use Rattle.aes_ctr.specs.Aes.{add_round_key, sub_byte, sub_bytes}
+use Rattle.aes_ctr.specs.Planes.{round_key}
 
 -- what holds of each list of sixteen elements
 pub sixteen_lanes : (P : List ℕ → Type 0)
@@ -31,12 +33,12 @@ pub map-agreeing : {A : Type 0} (f g : ℕ → A) → ((b : ℕ) → b < 256 →
 map-agreeing f g e [] h = refl
 map-agreeing f g e (b ∷ x) h = rw (e b h.0.fits, map-agreeing f g e x h.1) refl
 
--- a function of each of four blocks
-pub map-four : (f : List ℕ → List ℕ) (blocks : List (List ℕ)) → length blocks ≡ 4
-    → f (slice_index_or blocks 0 []) ∷ f (slice_index_or blocks 1 []) ∷ f (slice_index_or blocks 2 []) ∷ f (slice_index_or blocks 3 []) ∷ [] ≡ map f blocks
-map-four f (a ∷ b ∷ c ∷ d ∷ []) h = refl
-map-four f [] h = absurd (omega arith)
-map-four f (a ∷ []) h = absurd (omega arith)
-map-four f (a ∷ b ∷ []) h = absurd (omega arith)
-map-four f (a ∷ b ∷ c ∷ []) h = absurd (omega arith)
-map-four f (a ∷ b ∷ c ∷ d ∷ e ∷ rest) h = absurd (omega arith)
+-- SubBytes, byte by byte
+pub map-sub_byte : (x : List ℕ) → length x ≡ 16 → map sub_byte x ≡ sub_bytes x
+unfolding sub_bytes
+map-sub_byte = sixteen_lanes (λ x. map sub_byte x ≡ sub_bytes x) (λ x0 x1 x2 x3 x4 x5 x6 x7 x8 x9 x10 x11 x12 x13 x14 x15. refl)
+
+-- AddRoundKey, with the key as a block
+pub xor-round_key : (words : List (List ℕ)) (round : ℕ) (x : List ℕ) → length x ≡ 16 → zip2 bit_xor x (round_key words round) ≡ add_round_key words round x
+unfolding add_round_key round_key
+xor-round_key words round = sixteen_lanes (λ x. zip2 bit_xor x (round_key words round) ≡ add_round_key words round x) (λ x0 x1 x2 x3 x4 x5 x6 x7 x8 x9 x10 x11 x12 x13 x14 x15. refl)

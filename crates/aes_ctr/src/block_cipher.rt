@@ -1,10 +1,12 @@
 // AES-256 with its key.
 
-ghost use Rattle.std.specs.Prelude.{◌≡◌, map};
-ghost use Rattle.aes_ctr.specs.Aes.{aes256};
+ghost use Rattle.std.specs.Prelude.{◌≡◌};
+ghost use Rattle.aes_ctr.specs.Aes.{aes256, key_schedule};
+ghost use Rattle.aes_ctr.specs.Planes.{AreKeyPlanes};
 
-use crate::cipher::{cipher, cipher_four};
+use crate::cipher::cipher;
 use crate::key_expansion::{KeySchedule, key_expansion};
+use crate::key_planes::{KeyPlanes, key_planes};
 use std::marker::Model;
 use std::simd::prelude::*;
 
@@ -44,10 +46,10 @@ impl Aes256 {
         cipher(&self.words, u8x16::from_array(*block)).to_array()
     }
 
-    // Encrypts four blocks.
-    pub(crate) fn four_blocks(&self, blocks: &[u8x16; 4]) -> [u8x16; 4]
-        ensures cipher_texts { result ≡ map (aes256 self.now) blocks.now }
+    // The key schedule in planes.
+    pub(crate) fn key_planes(&self) -> KeyPlanes
+        ensures planes { AreKeyPlanes (key_schedule self.now) result }
     {
-        cipher_four(&self.words, blocks)
+        key_planes(&self.words)
     }
 }

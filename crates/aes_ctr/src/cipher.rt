@@ -1,6 +1,6 @@
-// The cipher under a key schedule (FIPS 197, 5.1), of one block and of four.
+// The cipher under a key schedule (FIPS 197, 5.1).
 
-ghost use Rattle.std.specs.Prelude.{◌≡◌, ◌<◌, map};
+ghost use Rattle.std.specs.Prelude.{◌≡◌, ◌<◌};
 ghost use Rattle.aes_ctr.specs.Aes.{add_round_key, cipher, mix_columns, shift_rows, sub_bytes};
 
 use crate::add_round_key::add_round_key;
@@ -34,27 +34,4 @@ pub(crate) fn cipher(words: &KeySchedule, block: u8x16) -> u8x16
         state = round(words, done + 1, state);
     }
     last_round(words, state)
-}
-
-// Round by round on all four, so that the processor works on them at the same time.
-pub(crate) fn cipher_four(words: &KeySchedule, blocks: &[u8x16; 4]) -> [u8x16; 4]
-    ensures cipher_texts { result ≡ map (cipher words.now) blocks.now }
-{
-    let [first, second, third, fourth] = *blocks;
-    let mut first = add_round_key(words, 0, first);
-    let mut second = add_round_key(words, 0, second);
-    let mut third = add_round_key(words, 0, third);
-    let mut fourth = add_round_key(words, 0, fourth);
-    'rounds: for done in 0..13 {
-        first = round(words, done + 1, first);
-        second = round(words, done + 1, second);
-        third = round(words, done + 1, third);
-        fourth = round(words, done + 1, fourth);
-    }
-    [
-        last_round(words, first),
-        last_round(words, second),
-        last_round(words, third),
-        last_round(words, fourth),
-    ]
 }

@@ -4,6 +4,7 @@ ghost use Rattle.std.specs.Prelude.{◌≡◌, ◌+◌, ◌/◌, ◌%◌, ◌<�
 ghost use Rattle.aes_ctr.specs.CounterMode.{counter_mode_from, key_stream_block};
 
 use crate::block_cipher::Aes256;
+use crate::key_planes::KeyPlanes;
 use crate::key_stream::{key_stream_block, xor_blocks};
 use std::marker::Model;
 
@@ -25,6 +26,8 @@ fn refresh(aes: &Aes256, position: u64, stream: &mut [u8; 16])
 #[derive(Drop)]
 pub struct Ctr {
     aes: Aes256,
+    // The key schedule of `aes`, for eight blocks at once.
+    planes: KeyPlanes,
     position: u64,
     // The block of key stream that holds the position, where the position isn't at its start.
     stream: [u8; 16],
@@ -32,13 +35,15 @@ pub struct Ctr {
 
 impl Model for Ctr {
     ghost use Rattle.std.specs.Prelude.{◌≡◌, ◌<◌, ◌/◌, ◌%◌};
+    ghost use Rattle.aes_ctr.specs.Aes.{key_schedule};
+    ghost use Rattle.aes_ctr.specs.Planes.{AreKeyPlanes};
     ghost use Rattle.aes_ctr.specs.CounterMode.{KeyStreamPlace, key_stream_block};
 
     ghost Value = { KeyStreamPlace };
 
     ghost view = { λ c. record { key = c.aes; position = c.position } };
 
-    ghost invariant = { λ c. 0 < c.position % 16 → c.stream ≡ key_stream_block c.aes (c.position / 16) };
+    ghost invariant = { λ c. AreKeyPlanes (key_schedule c.aes) c.planes × (0 < c.position % 16 → c.stream ≡ key_stream_block c.aes (c.position / 16)) };
 }
 
 impl Ctr {
@@ -48,6 +53,7 @@ impl Ctr {
         ensures position { result.position ≡ 0 }
     {
         Ctr {
+            planes: aes.key_planes(),
             aes,
             position: 0,
             stream: [0; 16],
@@ -84,7 +90,7 @@ impl Ctr {
         ensures position { self.new.position ≡ self.old.position + length bytes.old }
         ensures key { self.new.key ≡ self.old.key }
     {
-        xor_blocks(&self.aes, self.position / 16, bytes);
+        xor_blocks(&self.aes, &self.planes, self.position / 16, bytes);
         self.position += bytes.len() as u64;
     }
 

@@ -1,10 +1,14 @@
 // Whole blocks xored with the key stream (NIST SP 800-38A, 6.5).
 
-ghost use Rattle.std.specs.Prelude.{◌≡◌, ◌+◌, ◌*◌, ◌%◌, ◌<◌, ◌≤◌, ◌^◌, bit_xor, length};
+ghost use Rattle.std.specs.Prelude.{◌≡◌, ◌+◌, ◌*◌, ◌%◌, ◌<◌, ◌≤◌, ◌^◌, ℕ, List, bit_xor, length};
 ghost use Rattle.std.specs.Simd.Lanes.{zip2};
+ghost use Rattle.aes_ctr.specs.Aes.{key_schedule};
 ghost use Rattle.aes_ctr.specs.CounterMode.{counter_block, counter_mode_from, key_stream_block};
+ghost use Rattle.aes_ctr.specs.Planes.{AreKeyPlanes, plane};
 
 use crate::block_cipher::Aes256;
+use crate::cipher_eight::cipher_eight;
+use crate::key_planes::KeyPlanes;
 use std::simd::prelude::*;
 
 // The nonce 0 and the number, both big-endian.
@@ -36,33 +40,51 @@ fn xor_block(aes: &Aes256, number: u64, bytes: &mut [u8])
     xor_into(bytes, u8x16::from_array(key_stream_block(aes, number)));
 }
 
-fn xor_four_blocks(aes: &Aes256, number: u64, bytes: &mut [u8])
-    requires four_blocks { length bytes.old ≡ 64 }
-    requires room { number + 4 ≤ 2 ^ 64 }
-    ensures xored { bytes.new ≡ counter_mode_from aes.now (16 * number) bytes.old }
+// Eight blocks of the key stream.
+fn eight_blocks(planes: &KeyPlanes, number: u64) -> [u8x16; 8]
+    requires room { number + 8 ≤ 2 ^ 64 }
+    ensures stream { (key : List ℕ) → AreKeyPlanes (key_schedule key) planes.now
+        → (b : ℕ) → b < 8 → plane result b ≡ key_stream_block key (number + b) }
 {
-    let [stream_1, stream_2, stream_3, stream_4] = aes.four_blocks(&[
-        u8x16::from_array(counter_block(number)),
-        u8x16::from_array(counter_block(number + 1)),
-        u8x16::from_array(counter_block(number + 2)),
-        u8x16::from_array(counter_block(number + 3)),
-    ]);
-    let (first, rest) = bytes.split_at_mut(16);
-    let (second, rest) = rest.split_at_mut(16);
-    let (third, fourth) = rest.split_at_mut(16);
-    xor_into(first, stream_1);
-    xor_into(second, stream_2);
-    xor_into(third, stream_3);
-    xor_into(fourth, stream_4);
+    cipher_eight(
+        planes,
+        [
+            u8x16::from_array(counter_block(number)),
+            u8x16::from_array(counter_block(number + 1)),
+            u8x16::from_array(counter_block(number + 2)),
+            u8x16::from_array(counter_block(number + 3)),
+            u8x16::from_array(counter_block(number + 4)),
+            u8x16::from_array(counter_block(number + 5)),
+            u8x16::from_array(counter_block(number + 6)),
+            u8x16::from_array(counter_block(number + 7)),
+        ],
+    )
 }
 
-fn xor_groups_of_four(aes: &Aes256, number: u64, bytes: &mut [u8])
-    requires whole_groups { length bytes.old % 64 ≡ 0 }
-    requires room { 16 * number + length bytes.old < 2 ^ 64 }
-    ensures xored { bytes.new ≡ counter_mode_from aes.now (16 * number) bytes.old }
+fn xor_eight_blocks(planes: &KeyPlanes, number: u64, bytes: &mut [u8])
+    requires eight_blocks { length bytes.old ≡ 128 }
+    requires room { number + 8 ≤ 2 ^ 64 }
+    ensures xored { (key : List ℕ) → AreKeyPlanes (key_schedule key) planes.now
+        → bytes.new ≡ counter_mode_from key (16 * number) bytes.old }
 {
-    for i in 0..bytes.len() / 64 {
-        xor_four_blocks(aes, number + 4 * i as u64, &mut bytes[64 * i..64 * i + 64]);
+    let stream = eight_blocks(planes, number);
+    for i in 0..8 {
+        xor_into(&mut bytes[16 * i..16 * i + 16], stream[i]);
+    }
+}
+
+fn xor_groups_of_eight(planes: &KeyPlanes, number: u64, bytes: &mut [u8])
+    requires whole_groups { length bytes.old % 128 ≡ 0 }
+    requires room { 16 * number + length bytes.old < 2 ^ 64 }
+    ensures xored { (key : List ℕ) → AreKeyPlanes (key_schedule key) planes.now
+        → bytes.new ≡ counter_mode_from key (16 * number) bytes.old }
+{
+    for i in 0..bytes.len() / 128 {
+        xor_eight_blocks(
+            planes,
+            number + 8 * i as u64,
+            &mut bytes[128 * i..128 * i + 128],
+        );
     }
 }
 
@@ -76,14 +98,15 @@ fn xor_single_blocks(aes: &Aes256, number: u64, bytes: &mut [u8])
     }
 }
 
-// Xors whole blocks with the key stream from the block of that number on.
-pub(crate) fn xor_blocks(aes: &Aes256, number: u64, bytes: &mut [u8])
+// Xors whole blocks with the key stream from the block of that number on. The planes are those of the key.
+pub(crate) fn xor_blocks(aes: &Aes256, planes: &KeyPlanes, number: u64, bytes: &mut [u8])
+    requires planes { AreKeyPlanes (key_schedule aes.now) planes.now }
     requires whole_blocks { length bytes.old % 16 ≡ 0 }
     requires room { 16 * number + length bytes.old < 2 ^ 64 }
     ensures xored { bytes.new ≡ counter_mode_from aes.now (16 * number) bytes.old }
 {
-    let grouped = bytes.len() / 64 * 64;
+    let grouped = bytes.len() / 128 * 128;
     let (groups, singles) = bytes.split_at_mut(grouped);
-    xor_groups_of_four(aes, number, groups);
+    xor_groups_of_eight(planes, number, groups);
     xor_single_blocks(aes, number + (grouped / 16) as u64, singles);
 }

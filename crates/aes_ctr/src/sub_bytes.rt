@@ -19,7 +19,7 @@ fn row(n: usize) -> u8x16
 
 // `set` where that bit of a byte is set, else `clear`.
 #[inline(always)]
-fn by_bit(bit: u8, bytes: u8x16, set: u8x16, clear: u8x16) -> u8x16
+pub(crate) fn by_bit(bit: u8, bytes: u8x16, set: u8x16, clear: u8x16) -> u8x16
     ensures choice { (f g : ℕ → ℕ) → set ≡ map f bytes → clear ≡ map g bytes → result ≡ map (choice bit f g) bytes }
 {
     (bytes & u8x16::splat(bit))

@@ -15,6 +15,7 @@ loop-byte-preserved c =
     record {
       place = omega arith;
       key = c.loop-byte.invariant.key;
+      planes = c.loop-byte.invariant.planes;
       kept = λ h. let same : (position + 1) / 16 ≡ position / 16 = omega arith in rw same block;
       done = below_more _ _
           (λ j h. let ne : j ≢ i = omega arith in rw get_or-set_other (c.loop-byte.invariant.done j h))
@@ -25,3 +26,6 @@ loop-byte-preserved c =
 pub returns-clause-xored : goal.returns-clause-xored
 returns-clause-xored c =
     counter_mode_from_each _ _ c.args.bytes.now c.loop-byte.bytes (omega arith) (λ k h. c.loop-byte.invariant.done k (omega arith))
+
+pub invariant_of-self : goal.invariant_of-self
+invariant_of-self c = (c.loop-byte.invariant.planes, λ h. rw c.loop-byte.invariant.key (c.loop-byte.invariant.kept h))

@@ -1,0 +1,55 @@
+// The key schedule in planes, for eight blocks that take the same key.
+
+ghost use Rattle.std.specs.Prelude.{◌≡◌, ◌*◌, ◌<◌, ℕ, List, drop, length};
+ghost use Rattle.aes_ctr.specs.Aes.{add_round_key};
+ghost use Rattle.aes_ctr.specs.Planes.{AreKeyPlanes, IsBlock, IsHeld, bits, round_key};
+
+use crate::add_round_key::round_key;
+use crate::key_expansion::KeySchedule;
+use crate::planes::{Planes, xor_planes};
+use crate::sub_bytes::by_bit;
+use std::simd::prelude::*;
+
+// Eight planes for each of the 15 round keys.
+pub(crate) type KeyPlanes = [[u8; 16]; 120];
+
+// All bits of a lane are bit k of the key's byte.
+#[inline(always)]
+fn key_plane(key: u8x16, k: usize) -> [u8; 16]
+    requires bit { k < 8 }
+    ensures key { IsBlock key }
+    ensures bits { (b : ℕ) → b < 8 → bits b result ≡ bits k key }
+{
+    by_bit(1 << k, key, u8x16::splat(255), u8x16::splat(0)).to_array()
+}
+
+pub(crate) fn key_planes(words: &KeySchedule) -> KeyPlanes
+    ensures planes { AreKeyPlanes words.now result }
+{
+    let mut planes = [[0u8; 16]; 120];
+    'planes: for i in 0..120 {
+        planes[i] = key_plane(round_key(words, i / 8), i % 8);
+    }
+    planes
+}
+
+// AddRoundKey (FIPS 197, 5.1.4) on planes.
+#[inline(always)]
+pub(crate) fn add_planes(keys: &KeyPlanes, round: usize, state: Planes) -> Planes
+    requires round { round < 15 }
+    ensures held { (words : List (List ℕ)) (b : ℕ) (block : List ℕ) → length block ≡ 16
+        → IsHeld b (drop (8 * round) keys.now) (round_key words round) → IsHeld b state block
+        → IsHeld b result (add_round_key words round block) }
+{
+    let key = [
+        u8x16::from_array(keys[8 * round]),
+        u8x16::from_array(keys[8 * round + 1]),
+        u8x16::from_array(keys[8 * round + 2]),
+        u8x16::from_array(keys[8 * round + 3]),
+        u8x16::from_array(keys[8 * round + 4]),
+        u8x16::from_array(keys[8 * round + 5]),
+        u8x16::from_array(keys[8 * round + 6]),
+        u8x16::from_array(keys[8 * round + 7]),
+    ];
+    xor_planes(state, key)
+}

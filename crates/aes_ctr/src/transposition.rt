@@ -1,0 +1,96 @@
+// From eight blocks to their planes, and back: the number of the bit and the number of the plane exchange their binary
+// digits, one after the other.
+
+ghost use Rattle.std.specs.Prelude.{◌≡◌, ◌-◌, ◌*◌, ◌/◌, ◌%◌, ◌^◌, ◌<◌, ℕ, Bool, bit_and, cond};
+ghost use Rattle.aes_ctr.specs.Planes.{AreParts, AreSwapped, IsBlock, bits, plane};
+
+use crate::planes::Planes;
+use std::simd::prelude::*;
+
+// The bits in `low` of both, those of `second` moved up.
+#[inline(always)]
+fn lower_bits(distance: u8, low: u8, first: u8x16, second: u8x16) -> u8x16
+    requires distance { distance < 8 }
+    ensures bits { (from_first : Bool) (b i j : ℕ)
+        → AreParts (λ byte. bit_and byte low) (λ byte. bit_and byte low * 2 ^ distance % 256) from_first b i j
+        → bits b result ≡ cond from_first (bits i first) (bits j second) }
+    ensures bytes { IsBlock first × IsBlock second × IsBlock result }
+{
+    let low = u8x16::splat(low);
+    (first & low) ^ ((second & low) << u8x16::splat(distance))
+}
+
+// The bits beside `low` of both, those of `first` moved down.
+#[inline(always)]
+fn upper_bits(distance: u8, low: u8, first: u8x16, second: u8x16) -> u8x16
+    requires distance { distance < 8 }
+    ensures bits { (from_first : Bool) (b i j : ℕ)
+        → AreParts (λ byte. bit_and (byte / 2 ^ distance) low) (λ byte. bit_and byte (255 - low)) from_first b i j
+        → bits b result ≡ cond from_first (bits i first) (bits j second) }
+    ensures bytes { IsBlock first × IsBlock second × IsBlock result }
+{
+    let low = u8x16::splat(low);
+    ((first >> u8x16::splat(distance)) & low) ^ (second & !low)
+}
+
+#[inline(always)]
+fn swapped_by_one(planes: Planes) -> Planes
+    ensures swapped { AreSwapped 1 planes result }
+    ensures bytes { (k : ℕ) → k < 8 → IsBlock (plane planes k) × IsBlock (plane result k) }
+{
+    let [a, b, c, d, e, f, g, h] = planes;
+    [
+        lower_bits(1, 0x55, a, b),
+        upper_bits(1, 0x55, a, b),
+        lower_bits(1, 0x55, c, d),
+        upper_bits(1, 0x55, c, d),
+        lower_bits(1, 0x55, e, f),
+        upper_bits(1, 0x55, e, f),
+        lower_bits(1, 0x55, g, h),
+        upper_bits(1, 0x55, g, h),
+    ]
+}
+
+#[inline(always)]
+fn swapped_by_two(planes: Planes) -> Planes
+    ensures swapped { AreSwapped 2 planes result }
+    ensures bytes { (k : ℕ) → k < 8 → IsBlock (plane planes k) × IsBlock (plane result k) }
+{
+    let [a, b, c, d, e, f, g, h] = planes;
+    [
+        lower_bits(2, 0x33, a, c),
+        lower_bits(2, 0x33, b, d),
+        upper_bits(2, 0x33, a, c),
+        upper_bits(2, 0x33, b, d),
+        lower_bits(2, 0x33, e, g),
+        lower_bits(2, 0x33, f, h),
+        upper_bits(2, 0x33, e, g),
+        upper_bits(2, 0x33, f, h),
+    ]
+}
+
+#[inline(always)]
+fn swapped_by_four(planes: Planes) -> Planes
+    ensures swapped { AreSwapped 4 planes result }
+    ensures bytes { (k : ℕ) → k < 8 → IsBlock (plane planes k) × IsBlock (plane result k) }
+{
+    let [a, b, c, d, e, f, g, h] = planes;
+    [
+        lower_bits(4, 0x0f, a, e),
+        lower_bits(4, 0x0f, b, f),
+        lower_bits(4, 0x0f, c, g),
+        lower_bits(4, 0x0f, d, h),
+        upper_bits(4, 0x0f, a, e),
+        upper_bits(4, 0x0f, b, f),
+        upper_bits(4, 0x0f, c, g),
+        upper_bits(4, 0x0f, d, h),
+    ]
+}
+
+#[inline(always)]
+pub(crate) fn transposed(planes: Planes) -> Planes
+    ensures transposed { (b k : ℕ) → b < 8 → k < 8 → bits b (plane result k) ≡ bits k (plane planes b) }
+    ensures bytes { (k : ℕ) → k < 8 → IsBlock (plane planes k) × IsBlock (plane result k) }
+{
+    swapped_by_four(swapped_by_two(swapped_by_one(planes)))
+}
