@@ -37,8 +37,11 @@ def main():
     programs = {"ours": ours, **({"scrypt(1)": theirs} if theirs else {})}
     print(f"processors {os.cpu_count()}, load {os.getloadavg()[0]:.1f}; user and system time, least of {rounds}")
     with tempfile.TemporaryDirectory() as folder:
+        # in parts, since the greatest resident set of this process counts as that of a run
+        made = random.Random(1)
         with open(os.path.join(folder, "text"), "wb") as file:
-            file.write(random.Random(1).randbytes(SIZE))
+            for _ in range(SIZE >> 20):
+                file.write(made.randbytes(1 << 20))
         seconds, memory = {}, {}
         for _ in range(rounds):
             for name, program in programs.items():

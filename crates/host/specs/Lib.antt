@@ -3,4 +3,5 @@ pub mod Seen
 pub mod Faults
 pub mod Secret
 pub mod Lines
+pub mod Output
 pub mod Memory

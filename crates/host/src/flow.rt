@@ -1,7 +1,8 @@
 //! Bytes and lines to a host.
-ghost use Rattle.std.specs.Prelude.{◌≡◌, ◌-◌, ◌<◌, ◌^◌, ℕ, take, length, OnOk, OnErr, IsTrue};
+ghost use Rattle.std.specs.Prelude.{◌≡◌, ◌-◌, ◌<◌, ◌^◌, ◌⊎◌, ℕ, None, take, length, OnOk, OnErr, IsTrue};
 ghost use Rattle.host.specs.Faults.{AreBelow, output_failed};
 ghost use Rattle.host.specs.Lines.{SaysOneLine};
+ghost use Rattle.host.specs.Output.{IsCutShort, after_writing};
 ghost use Rattle.host.specs.Seen.{after_push};
 
 use crate::host::{Host, HostFault};
@@ -21,6 +22,21 @@ pub fn push_all<H: Host>(host: &mut H, bytes: &[u8]) -> Result<(), HostFault>
         at += host.push(&bytes[at..])?;
     }
     Ok(())
+}
+
+/// Opens standard output and writes all of the bytes. After a fault it was not opened, or a beginning
+/// of them has been written, not the whole.
+pub fn write_output<H: Host>(host: &mut H, bytes: &[u8]) -> Result<(), HostFault>
+    requires room { AreBelow (2 ^ 63) (H.faults host.old) }
+    ensures counts { OnOk result (H.faults host.new ≡ H.faults host.old) }
+    ensures counted { OnErr result (H.faults host.new ≡ output_failed (H.faults host.old)) }
+    ensures written { IsTrue H.tells →
+        OnOk result (H.seen host.new ≡ after_writing None bytes.now (H.seen host.old)) }
+    ensures left { IsTrue H.tells → OnErr result ((H.seen host.new ≡ H.seen host.old)
+        ⊎ IsCutShort None bytes.now (H.seen host.old) (H.seen host.new)) }
+{
+    host.open_output(None)?;
+    push_all(host, bytes)
 }
 
 /// Says the line of a refusal and gives the status of a refusal, 1. A line that cannot be said is

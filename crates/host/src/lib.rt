@@ -10,6 +10,6 @@ mod host;
 mod memory;
 mod named_secret;
 
-pub use flow::{push_all, refuse};
+pub use flow::{push_all, refuse, write_output};
 pub use host::{Host, HostFault, Source};
 pub use memory::MemoryHost;

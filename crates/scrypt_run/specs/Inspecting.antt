@@ -4,9 +4,10 @@ use Rattle.std.specs.Fmt.{decimal}
 use Rattle.romix.specs.Costs.{Parameters, cores, table_bytes}
 use Rattle.encfile.specs.Front.{format_refusal}
 use Rattle.encfile.specs.Header.{costs_of}
+use Rattle.host.specs.Output.{IsCutShort, after_writing}
 use Rattle.host.specs.Seen.{Seen, Text}
 use Rattle.scrypt_run.specs.Front.{FrontRefused}
-use Rattle.scrypt_run.specs.Steps.{after_reading, after_writing}
+use Rattle.scrypt_run.specs.Steps.{after_reading}
 use Rattle.scrypt_run.specs.declared.refusal.ScryptRefusal.{ScryptRefusal}
 use Rattle.scrypt_run.specs.declared.refusal.ScryptRefusal.TheVariants as refusal
 
@@ -33,18 +34,12 @@ pub record InspectSucceeds (infile : Option Text) (before after : Seen) : Type 0
   pub valid : format_refusal before.input ≡ None
   pub written : after ≡ after_writing None (line_due before) (front_pulled infile before)
 
--- standard output got a beginning of the line, not the whole
-pub record LineCutShort (line : Text) (before after : Seen) : Type 0 where
-  pub written : ℕ
-  pub some_missing : written < length line
-  pub begun : after ≡ after_writing None (take written line) before
-
 -- the front is valid, and the run ended later: no memory for the line, or the output failed
 pub record EndsLine (r : ScryptRefusal) (infile : Option Text) (before after : Seen) : Type 0 where
   pub valid : format_refusal before.input ≡ None
   pub refused : ((r ≡ refusal.OutOfMemory) × (after ≡ front_pulled infile before))
       ⊎ ((r ≡ refusal.OutputFault) × (after ≡ front_pulled infile before))
-      ⊎ ((r ≡ refusal.OutputFault) × LineCutShort (line_due before) (front_pulled infile before) after)
+      ⊎ ((r ≡ refusal.OutputFault) × IsCutShort None (line_due before) (front_pulled infile before) after)
 
 -- the run ends with this refusal
 abbrev pub InspectRefused : ScryptRefusal → Option Text → Seen → Seen → Type 0

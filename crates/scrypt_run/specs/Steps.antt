@@ -1,14 +1,10 @@
 -- What a run does to a host, step by step.
 use Rattle.std.specs.Prelude.{ℕ, List, Option, take}
-use Rattle.host.specs.Seen.{Seen, Text, after_open_input, after_open_output, after_pull, after_push}
+use Rattle.host.specs.Seen.{Seen, Text, after_open_input, after_pull, after_push}
 
 -- the input was opened under this name, and its first n bytes were pulled
 abbrev pub after_reading : Option Text → ℕ → Seen → Seen
 after_reading infile n s = after_pull n (after_open_input infile s)
-
--- the output was opened under this name, and got these bytes
-abbrev pub after_writing : Option Text → List ℕ → Seen → Seen
-after_writing outfile bytes s = after_push bytes (after_open_output outfile s)
 
 -- n bytes of the input were pulled, and what they give was written
 abbrev pub after_passing : (List ℕ → List ℕ) → ℕ → Seen → Seen

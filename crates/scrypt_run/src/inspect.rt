@@ -1,15 +1,13 @@
 //! `scrypt info`: the costs of a file, told without a passphrase.
-ghost use Rattle.std.specs.Prelude.{◌≡◌, ◌⊎◌, ◌^◌, None, MatchResult, IfOk, IfErr, OnOk, IsTrue, string_bytes};
+ghost use Rattle.std.specs.Prelude.{◌≡◌, ◌^◌, MatchResult, IfOk, IfErr, OnOk, IsTrue, string_bytes};
 ghost use Rattle.host.specs.Faults.{AreBelow};
-ghost use Rattle.scrypt_run.specs.Inspecting.{InspectRefused, InspectSucceeds, LineCutShort, costs_line};
+ghost use Rattle.scrypt_run.specs.Inspecting.{InspectRefused, InspectSucceeds, costs_line};
 ghost use Rattle.scrypt_run.specs.Refusal.{counted_by};
 ghost use Rattle.scrypt_run.specs.Request.{text_of};
-ghost use Rattle.scrypt_run.specs.Steps.{after_writing};
-ghost use Rattle.scrypt_run.specs.declared.refusal.ScryptRefusal.TheVariants as refusal;
 
 use crate::front::open_front;
 use crate::refusal::ScryptRefusal;
-use host::{Host, push_all};
+use host::{Host, HostFault, write_output};
 use romix::Costs;
 use std::alloc::{AllocError, Global};
 
@@ -32,26 +30,6 @@ fn costs_line(alloc: Global, costs: &Costs) -> Result<String, AllocError>
     format!(in alloc; "N = {n}; r = {r}; p = {p}; memory = {memory}; cores = {cores}\n")
 }
 
-// Opens standard output, and writes a line to it.
-fn write_line<H: Host>(host: &mut H, line: &str) -> Result<(), ScryptRefusal>
-    requires room { AreBelow (2 ^ 63) (H.faults host.old) }
-    ensures counts { MatchResult result (λ _. H.faults host.new ≡ H.faults host.old)
-        (λ r. H.faults host.new ≡ counted_by r (H.faults host.old)) }
-    ensures written { IsTrue H.tells → OnOk result
-        (H.seen host.new ≡ after_writing None line.now (H.seen host.old)) }
-    ensures output { IfErr result (λ r. r ≡ refusal.OutputFault) }
-    ensures cut_short { IsTrue H.tells → IfErr result (λ _. (H.seen host.new ≡ H.seen host.old)
-        ⊎ LineCutShort line.now (H.seen host.old) (H.seen host.new)) }
-{
-    let Ok(()) = host.open_output(None) else {
-        return Err(ScryptRefusal::OutputFault);
-    };
-    let Ok(()) = push_all(host, line.as_bytes()) else {
-        return Err(ScryptRefusal::OutputFault);
-    };
-    Ok(())
-}
-
 /// Writes a line with the costs of the input of this name to standard output, which is opened once the
 /// header was read and the line stands in memory.
 pub fn inspect<H: Host>(
@@ -71,5 +49,8 @@ pub fn inspect<H: Host>(
     let Ok(line) = costs_line(alloc, header.costs()) else {
         return Err(ScryptRefusal::OutOfMemory);
     };
-    write_line(host, line.as_str())
+    match write_output(host, line.as_bytes()) {
+        Ok(()) => Ok(()),
+        Err(HostFault) => Err(ScryptRefusal::OutputFault),
+    }
 }

@@ -1,6 +1,7 @@
 -- A whole run of argon2: what stands at its end.
 use Rattle.std.specs.Prelude.{◌≡◌, ◌<◌, ◌⊎◌, ℕ, Bool, List, None, Ok, Err, IsOk, IsTrue, length, take}
-use Rattle.host.specs.Seen.{Seen, Text, after_open_output, after_push}
+use Rattle.host.specs.Output.{IsCutShort, after_writing}
+use Rattle.host.specs.Seen.{Seen, Text}
 use Rattle.host.specs.Faults.{Faults}
 use Rattle.host.specs.Lines.{SaysOneLine}
 use Rattle.command.specs.Argon2.Refusal.{IsEarly, counted_by, line_of}
@@ -9,21 +10,11 @@ use Rattle.command.specs.Argon2.Output.{argon2_output}
 use Rattle.command.specs.declared.argon2_command.refusal.Argon2Refusal.{Argon2Refusal}
 use Rattle.command.specs.declared.argon2_command.refusal.Argon2Refusal.TheVariants as refusal
 
--- standard output was opened and got these bytes, and nothing else changed
-abbrev pub after_writing : List ℕ → Seen → Seen
-after_writing bytes s = after_push bytes (after_open_output None s)
-
 -- the run ended with status 0: standard output got the whole output
 pub record Succeeds (words : List Text) (before after : Seen) : Type 0 where
   pub output : List ℕ
   pub due : argon2_output words before ≡ Ok output
-  pub written : after ≡ after_writing output before
-
--- standard output was opened and got a beginning of the output, not the whole
-pub record IsCutShort (output : List ℕ) (before after : Seen) : Type 0 where
-  pub written : ℕ
-  pub some_missing : written < length output
-  pub begun : after ≡ after_writing (take written output) before
+  pub written : after ≡ after_writing None output before
 
 -- the refusal is that of words, password, parameters or limits
 abbrev pub IsDue : Argon2Refusal → List Text → Seen → Seen → Type 0
@@ -42,7 +33,7 @@ pub record FailsOutput (r : Argon2Refusal) (words : List Text) (before after : S
   pub is : r ≡ refusal.OutputFault
   pub output : List ℕ
   pub due : argon2_output words before ≡ Ok output
-  pub left : (after ≡ before) ⊎ IsCutShort output before after
+  pub left : (after ≡ before) ⊎ IsCutShort None output before after
 
 -- the run ended with this refusal, whose line isn't said yet
 abbrev pub IsRefused : Argon2Refusal → List Text → Seen → Seen → Type 0

@@ -1,16 +1,16 @@
 //! A whole run of `argon2`.
-ghost use Rattle.std.specs.Prelude.{◌≡◌, ◌+◌, ◌≤◌, ◌^◌, ◌⊎◌, Ok, MatchResult, IfOk, IfErr, OnOk, OnErr, IsTrue, map, string_bytes};
-ghost use Rattle.host.specs.Faults.{AreBelow, output_failed};
+ghost use Rattle.std.specs.Prelude.{◌≡◌, ◌+◌, ◌≤◌, ◌^◌, Ok, MatchResult, IfOk, IfErr, OnOk, IsTrue, map, string_bytes};
+ghost use Rattle.host.specs.Faults.{AreBelow};
 ghost use Rattle.host.specs.Seen.{IsUnopened};
 ghost use Rattle.command.specs.Argon2.Output.{argon2_output};
 ghost use Rattle.command.specs.Argon2.Refusal.{counted_by};
-ghost use Rattle.command.specs.Argon2.Run.{IsCutShort, IsRefused, Refuses, Succeeds, after_writing};
+ghost use Rattle.command.specs.Argon2.Run.{IsRefused, Refuses, Succeeds};
 
 use crate::argon2_command::output::{output, parameters};
 use crate::argon2_command::password::read_password;
 use crate::argon2_command::refusal::Argon2Refusal;
 use crate::argon2_command::request::read_request;
-use host::{Host, HostFault, push_all, refuse};
+use host::{Host, HostFault, refuse, write_output};
 use std::alloc::Global;
 
 // Reads the words and the password, and makes the whole output.
@@ -31,20 +31,6 @@ fn prepare<H: Host>(alloc: Global, words: &[String], host: &mut H) -> Result<Vec
         Ok(line) => Ok(line),
         Err(_) => Err(Argon2Refusal::OutOfMemory),
     }
-}
-
-// Opens standard output and writes all of the bytes.
-fn write_output<H: Host>(host: &mut H, bytes: &[u8]) -> Result<(), HostFault>
-    requires room { AreBelow (2 ^ 63) (H.faults host.old) }
-    ensures counts { OnOk result (H.faults host.new ≡ H.faults host.old) }
-    ensures counted { OnErr result (H.faults host.new ≡ output_failed (H.faults host.old)) }
-    ensures written { IsTrue H.tells →
-        OnOk result (H.seen host.new ≡ after_writing bytes.now (H.seen host.old)) }
-    ensures left { IsTrue H.tells → OnErr result ((H.seen host.new ≡ H.seen host.old)
-        ⊎ IsCutShort bytes.now (H.seen host.old) (H.seen host.new)) }
-{
-    host.open_output(None)?;
-    push_all(host, bytes)
 }
 
 // All of a run but the line of a refusal.
