@@ -35,7 +35,7 @@ fn files(rt: HostRuntime) -> Result<(), Fail> {
         assert_eq!(rt; status(rt, enc.as_str())?, 0);
         let file = fs::read(&rt, "file")?;
         assert_eq!(rt; file.len(), length);
-        assert_eq!(rt; &file[..96], &FILE_OF_HELLO[..96]);
+        assert!(rt; file.starts_with(&FILE_OF_HELLO[..96]));
         assert_eq!(rt; status(rt, "dec --passphrase file:pw file back")?, 0);
         assert_eq!(rt; fs::read(&rt, "back")?.as_slice(), text.as_bytes());
     }

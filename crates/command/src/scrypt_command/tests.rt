@@ -1,5 +1,10 @@
 //! Whole runs over a host in memory. The two files were made by Python's hashlib.scrypt and hmac with OpenSSL's
 //! aes-256-ctr, and scrypt(1) 1.3.1 opens them.
+ghost use Rattle.std.specs.Prelude.{◌^◌, IfOk};
+ghost use Rattle.host.specs.Faults.{AreBelow};
+ghost use Rattle.host.specs.Memory.{memory_faults, memory_seen};
+ghost use Rattle.host.specs.Seen.{IsUnopened};
+
 use super::scrypt;
 use crate::testing::{only_line, words};
 use host::MemoryHost;
@@ -67,29 +72,23 @@ fn file(alloc: Global, rest: &str) -> Result<Vec<u8>, Fail> {
     Ok(file)
 }
 
-// A host with this input. The passphrase `pw` lies in a file, with three ends, and in a variable.
-fn host_with(alloc: Global, input: &[u8]) -> Result<MemoryHost, AllocError> {
+// A host with this input, with a passphrase in the file `pw` and the variable PW, and with `pw` and a line end at the
+// beginning of standard input.
+fn host_with(alloc: Global, input: &[u8], passphrase: &[u8]) -> Result<MemoryHost, AllocError>
+    ensures room { IfOk result (λ host. AreBelow (2 ^ 63) (memory_faults host)) }
+    ensures unopened { IfOk result (λ host. IsUnopened (memory_seen host)) }
+{
     let mut salt = [0; 32];
     for (i, byte) in salt.iter_mut().enumerate() {
         *byte = i as u8;
     }
-    let mut host = MemoryHost::new(
-        alloc,
-        input.to_vec(alloc)?,
-        b"pw\nmore".to_vec(alloc)?,
-        salt,
-    );
-    for (name, bytes) in [
-        ("pw", b"pw\n".as_slice()),
-        ("pw-cr-lf", b"pw\r\nmore"),
-        ("pw-alone", b"pw"),
-        ("other", b"pv\n"),
-        ("longest", &[b'p'; 2048]),
-        ("too-long", &[b'p'; 2049]),
-    ] {
-        host.set_file(String::from_str(alloc, name)?, bytes.to_vec(alloc)?)?;
-    }
-    host.set_env(String::from_str(alloc, "PW")?, b"pw".to_vec(alloc)?)?;
+    let input = input.to_vec(alloc)?;
+    let stdin = b"pw\nmore".to_vec(alloc)?;
+    let mut host = MemoryHost::new(alloc, input, stdin, salt);
+    let name = String::from_str(alloc, "pw")?;
+    host.set_file(name, passphrase.to_vec(alloc)?)?;
+    let name = String::from_str(alloc, "PW")?;
+    host.set_env(name, passphrase.to_vec(alloc)?)?;
     Ok(host)
 }
 
@@ -129,7 +128,7 @@ fn broken<'a>(line: &'a str, output: &'a [u8]) -> End<'a> {
 }
 
 // Compares all that came to the host.
-fn check(rt: &impl Abort, host: &MemoryHost, status: u8, end: &End<'_>, line: &str) {
+fn check(rt: &impl Abort, host: &MemoryHost, status: u8, end: End<'_>, line: &str) {
     assert_eq!(rt; status, u8::from(end.line.is_some()), "{line}");
     assert_eq!(rt; host.output(), end.output, "{line}");
     assert_eq!(rt; host.output_name().is_some(), end.is_opened, "{line}");
@@ -141,251 +140,338 @@ fn check(rt: &impl Abort, host: &MemoryHost, status: u8, end: &End<'_>, line: &s
     );
 }
 
-// Runs the words over a host with this input.
+// Runs the words over a host with this input and this passphrase.
 fn check_run(
     rt: &impl Abort,
     alloc: Global,
     line: &str,
+    passphrase: &[u8],
     input: &[u8],
-    end: &End<'_>,
+    end: End<'_>,
 ) -> Result<(), AllocError> {
-    let mut host = host_with(alloc, input)?;
-    let status = scrypt(alloc, &words(alloc, line)?, &mut host);
+    let words = words(alloc, line)?;
+    let mut host = host_with(alloc, input, passphrase)?;
+    let status = scrypt(alloc, &words, &mut host);
     check(rt, &host, status, end, line);
     Ok(())
 }
 
-// Files are made, shown and opened.
-#[test]
-fn files(rt: HostRuntime) -> Result<(), Fail> {
-    let alloc = rt.alloc();
-    let line = b"N = 16; r = 1; p = 1; memory = 2048; cores = 64\n";
-    for (text, rest) in [(b"".as_slice(), REST_OF_NO_TEXT), (b"hello", REST_OF_HELLO)] {
-        let file = file(alloc, rest)?;
-        check_run(&rt, alloc, NEW_FILE, text, &done(&file))?;
-        // the salt of the host is the same
-        check_run(
-            &rt,
-            alloc,
-            "enc --logN 4 -r 1 -p 1 -P in",
-            text,
-            &done(&file),
-        )?;
-        check_run(&rt, alloc, "info F5", &file, &done(line))?;
-        check_run(&rt, alloc, OPEN, &file, &done(text))?;
+// The same for each row: what is written by a run with status 0, or the line of a refusal.
+fn check_rows(
+    rt: &impl Abort,
+    alloc: Global,
+    rows: &[(&str, &[u8], Result<&[u8], &str>)],
+    input: &[u8],
+) -> Result<(), AllocError> {
+    for (line, passphrase, answer) in rows {
+        let end = match answer {
+            Ok(output) => done(output),
+            Err(told) => refused(told),
+        };
+        check_run(rt, alloc, line, passphrase, input, end)?;
     }
     Ok(())
 }
 
-// The names under which input and output are opened.
+// A file is made, shown and opened. The salt of the host is the one that the words give.
+fn check_file(rt: &impl Abort, alloc: Global, text: &[u8], rest: &str) -> Result<(), Fail> {
+    let file = file(alloc, rest)?;
+    check_run(rt, alloc, NEW_FILE, b"pw\n", text, done(&file))?;
+    check_run(
+        rt,
+        alloc,
+        "enc --logN 4 -r 1 -p 1 -P in",
+        b"",
+        text,
+        done(&file),
+    )?;
+    let line = b"N = 16; r = 1; p = 1; memory = 2048; cores = 64\n";
+    check_run(rt, alloc, "info F5", b"", &file, done(line))?;
+    check_run(rt, alloc, OPEN, b"pw\n", &file, done(text))?;
+    Ok(())
+}
+
+#[test]
+fn files(rt: HostRuntime) -> Result<(), Fail> {
+    check_file(&rt, rt.alloc(), b"", REST_OF_NO_TEXT)?;
+    check_file(&rt, rt.alloc(), b"hello", REST_OF_HELLO)
+}
+
+// Words and the names under which input and output are opened.
+const NAMES: &[(&str, Option<&str>, Option<&str>)] = &[
+    (NEW_FILE, None, Some("out")),
+    (OPEN, Some("F5"), Some("out")),
+    ("dec --passphrase file:pw -", None, None),
+    ("dec -P F5 -", Some("F5"), Some("-")),
+    ("info F5", Some("F5"), None),
+    ("info -", None, None),
+];
+
 #[test]
 fn names(rt: HostRuntime) -> Result<(), Fail> {
     let alloc = rt.alloc();
     let file = file(alloc, REST_OF_HELLO)?;
-    for (line, input, output) in [
-        (NEW_FILE, None, Some("out")),
-        (OPEN, Some("F5"), Some("out")),
-        ("dec --passphrase file:pw -", None, None),
-        ("dec -P F5 -", Some("F5"), Some("-")),
-        ("info F5", Some("F5"), None),
-        ("info -", None, None),
-    ] {
-        let mut host = host_with(alloc, &file)?;
-        assert_eq!(rt; scrypt(alloc, &words(alloc, line)?, &mut host), 0, "{line}");
-        assert_eq!(rt; host.input_name(), Some(input), "{line}");
-        assert_eq!(rt; host.output_name(), Some(output), "{line}");
+    for (line, input, output) in NAMES {
+        let words = words(alloc, line)?;
+        let mut host = host_with(alloc, &file, b"pw\n")?;
+        assert_eq!(rt; scrypt(alloc, &words, &mut host), 0, "{line}");
+        assert_eq!(rt; host.input_name(), Some(*input), "{line}");
+        assert_eq!(rt; host.output_name(), Some(*output), "{line}");
     }
     Ok(())
 }
 
-// Files that are cut, longer or changed, and other passphrases.
+// A file that is cut: its length and how `dec` ends.
+fn check_cut(rt: &impl Abort, alloc: Global, len: usize, end: End<'_>) -> Result<(), Fail> {
+    let file = file(alloc, REST_OF_HELLO)?;
+    let cut = file.get(..len).unwrap_or(&[]);
+    check_run(rt, alloc, OPEN, b"pw\n", cut, end)?;
+    Ok(())
+}
+
 #[test]
-fn files_that_are_no_encryption(rt: HostRuntime) -> Result<(), Fail> {
+fn files_that_are_cut(rt: HostRuntime) -> Result<(), Fail> {
+    let alloc = rt.alloc();
+    check_cut(&rt, alloc, 132, broken(DAMAGED, b"hell"))?;
+    check_cut(&rt, alloc, 130, broken(DAMAGED, b"he"))?;
+    check_cut(&rt, alloc, 127, broken(DAMAGED, b""))?;
+    check_cut(&rt, alloc, 96, broken(DAMAGED, b""))?;
+    check_cut(&rt, alloc, 95, refused(NOT_SCRYPT))?;
+    check_cut(&rt, alloc, 0, refused(NOT_SCRYPT))
+}
+
+// A file with one byte more: its last 32 bytes are no code, and the byte before them is released.
+#[test]
+fn file_that_is_longer(rt: HostRuntime) -> Result<(), Fail> {
     let alloc = rt.alloc();
     let mut file = file(alloc, REST_OF_HELLO)?;
-    check_run(&rt, alloc, OPEN, &file[..130], &broken(DAMAGED, b"he"))?;
-    check_run(&rt, alloc, OPEN, &file[..127], &broken(DAMAGED, b""))?;
-    check_run(&rt, alloc, OPEN, &file[..96], &broken(DAMAGED, b""))?;
-    check_run(&rt, alloc, OPEN, &file[..95], &refused(NOT_SCRYPT))?;
-    check_run(&rt, alloc, OPEN, b"", &refused(NOT_SCRYPT))?;
-    check_run(&rt, alloc, "info F5", &file[..95], &refused(NOT_SCRYPT))?;
-    let other = "dec --passphrase file:other F5 out";
-    check_run(&rt, alloc, other, &file, &refused(OTHER_PASSPHRASE))?;
     file.push(0)?;
-    let mut longer = host_with(alloc, &file)?;
-    assert_eq!(rt; scrypt(alloc, &words(alloc, OPEN)?, &mut longer), 1);
-    assert_eq!(rt; only_line(&longer), Some(DAMAGED));
-    assert_eq!(rt; longer.output().len(), 6);
-    assert_eq!(rt; &longer.output()[..5], b"hello".as_slice());
-    file.pop();
-    file[132] ^= 1;
-    check_run(&rt, alloc, OPEN, &file, &broken(DAMAGED, b"hello"))?;
-    for (place, told) in [(0usize, NOT_SCRYPT), (6, VERSION), (20, NOT_SCRYPT)] {
-        file[place] ^= 1;
-        check_run(&rt, alloc, OPEN, &file, &refused(told))?;
-        check_run(&rt, alloc, "info F5", &file, &refused(told))?;
-        file[place] ^= 1;
-    }
+    let words = words(alloc, OPEN)?;
+    let mut host = host_with(alloc, &file, b"pw\n")?;
+    assert_eq!(rt; scrypt(alloc, &words, &mut host), 1);
+    assert_eq!(rt; only_line(&host), Some(DAMAGED));
+    assert_eq!(rt; host.output().len(), 6);
+    assert!(rt; host.output().starts_with(b"hello"));
     Ok(())
 }
 
-// Costs that are in range, and that no machine has.
+// The file of `hello` with one byte changed, and how `dec` ends.
+fn check_changed(rt: &impl Abort, alloc: Global, place: usize, end: End<'_>) -> Result<(), Fail> {
+    let mut file = file(alloc, REST_OF_HELLO)?;
+    if let Some(byte) = file.get_mut(place) {
+        *byte ^= 1;
+    }
+    check_run(rt, alloc, OPEN, b"pw\n", &file, end)?;
+    Ok(())
+}
+
 #[test]
-fn costs_of_a_file(rt: HostRuntime) -> Result<(), Fail> {
+fn files_that_are_changed(rt: HostRuntime) -> Result<(), Fail> {
+    let alloc = rt.alloc();
+    check_changed(&rt, alloc, 0, refused(NOT_SCRYPT))?;
+    check_changed(&rt, alloc, 6, refused(VERSION))?;
+    check_changed(&rt, alloc, 20, refused(NOT_SCRYPT))?;
+    check_changed(&rt, alloc, 64, refused(OTHER_PASSPHRASE))?;
+    check_changed(&rt, alloc, 132, broken(DAMAGED, b"hello"))
+}
+
+// Words, passphrase and answer for the file of `hello`.
+const LIMITS: &[(&str, &[u8], Result<&[u8], &str>)] = &[
+    ("dec -M 2048 --maxops 64 -P F5", b"", Ok(b"hello")),
+    ("dec -M 2047 -P F5", b"", Err(MEMORY_LIMIT)),
+    ("dec --maxops 63 -P F5", b"", Err(WORK_LIMIT)),
+    ("dec -M 2047 --maxops 63 -P F5", b"", Err(MEMORY_LIMIT)),
+    (
+        "enc --logN 4 -r 1 -p 1 -M 2047 -P F5",
+        b"",
+        Err(MEMORY_LIMIT),
+    ),
+    (
+        "enc --logN 4 -r 1 -p 1 --maxops 63 -P F5",
+        b"",
+        Err(WORK_LIMIT),
+    ),
+    // 2^17 rows of 1,024 bytes
+    ("enc -M 134217727 -P F5", b"", Err(MEMORY_LIMIT)),
+    ("enc --maxops 4194303 -P F5", b"", Err(WORK_LIMIT)),
+];
+
+#[test]
+fn limits(rt: HostRuntime) -> Result<(), Fail> {
+    let alloc = rt.alloc();
+    check_rows(&rt, alloc, LIMITS, &file(alloc, REST_OF_HELLO)?)?;
+    Ok(())
+}
+
+// Costs that are in range, and that no machine has. They are refused before the passphrase, which is not there, is asked
+// for.
+#[test]
+fn greatest_costs(rt: HostRuntime) -> Result<(), Fail> {
     let alloc = rt.alloc();
     let huge = hex::decode(alloc, HUGE)?;
     let line =
         b"N = 9223372036854775808; r = 1; p = 1; memory = 1180591620717411303424; cores = 36893488147419103232\n";
-    check_run(&rt, alloc, "info huge", &huge, &done(line))?;
-    // before the passphrase, which is not there, is asked for
+    check_run(&rt, alloc, "info huge", b"", &huge, done(line))?;
     let open = "dec -M 1099511627776 --maxops 9223372036854775807 --passphrase file:missing huge";
-    check_run(&rt, alloc, open, &huge, &refused(MEMORY_LIMIT))?;
-    let file = file(alloc, REST_OF_HELLO)?;
-    for (line, end) in [
-        ("dec -M 2048 --maxops 64 -P F5", done(b"hello")),
-        ("dec -M 2047 -P F5", refused(MEMORY_LIMIT)),
-        ("dec --maxops 63 -P F5", refused(WORK_LIMIT)),
-        ("dec -M 2047 --maxops 63 -P F5", refused(MEMORY_LIMIT)),
-        (
-            "enc --logN 4 -r 1 -p 1 -M 2047 -P F5",
-            refused(MEMORY_LIMIT),
-        ),
-        (
-            "enc --logN 4 -r 1 -p 1 --maxops 63 -P F5",
-            refused(WORK_LIMIT),
-        ),
-        // 2^17 rows of 1,024 bytes
-        ("enc -M 134217727 -P F5", refused(MEMORY_LIMIT)),
-        ("enc --maxops 4194303 -P F5", refused(WORK_LIMIT)),
-    ] {
-        check_run(&rt, alloc, line, &file, &end)?;
-    }
+    check_run(&rt, alloc, open, b"", &huge, refused(MEMORY_LIMIT))?;
     Ok(())
 }
 
 // The passphrase is the first line of its source, of at most 2,048 bytes.
+const PASSPHRASES: &[(&str, &[u8], Result<&[u8], &str>)] = &[
+    ("dec --passphrase file:pw F5", b"pw\r\nmore", Ok(b"hello")),
+    ("dec --passphrase file:pw F5", b"pw", Ok(b"hello")),
+    (
+        "dec --passphrase file:pw F5",
+        b"pv\n",
+        Err(OTHER_PASSPHRASE),
+    ),
+    ("dec --passphrase file:pw F5", b"", Err(OTHER_PASSPHRASE)),
+    ("dec --passphrase env:PW F5", b"pw", Ok(b"hello")),
+    ("dec --passphrase dev:stdin-once F5", b"", Ok(b"hello")),
+    ("dec --passphrase file:missing F5", b"", Err(NO_PASSPHRASE)),
+    ("dec --passphrase env:MISSING F5", b"", Err(NO_PASSPHRASE)),
+    (
+        "dec --passphrase file:pw F5",
+        &[b'p'; 2048],
+        Err(OTHER_PASSPHRASE),
+    ),
+    (
+        "dec --passphrase file:pw F5",
+        &[b'p'; 2049],
+        Err(LONG_PASSPHRASE),
+    ),
+    (
+        "enc --logN 4 -r 1 -p 1 --passphrase env:PW F5",
+        &[b'p'; 2049],
+        Err(LONG_PASSPHRASE),
+    ),
+];
+
 #[test]
 fn passphrases(rt: HostRuntime) -> Result<(), Fail> {
     let alloc = rt.alloc();
-    let file = file(alloc, REST_OF_HELLO)?;
-    for (line, end) in [
-        ("dec --passphrase file:pw-cr-lf F5", done(b"hello")),
-        ("dec --passphrase file:pw-alone F5", done(b"hello")),
-        ("dec --passphrase env:PW F5", done(b"hello")),
-        ("dec --passphrase dev:stdin-once F5", done(b"hello")),
-        ("dec -P F5", done(b"hello")),
-        (
-            "dec --passphrase file:longest F5",
-            refused(OTHER_PASSPHRASE),
-        ),
-        (
-            "dec --passphrase file:too-long F5",
-            refused(LONG_PASSPHRASE),
-        ),
-        ("dec --passphrase file:missing F5", refused(NO_PASSPHRASE)),
-        ("dec --passphrase env:OTHER F5", refused(NO_PASSPHRASE)),
-        (
-            "enc --logN 4 -r 1 -p 1 --passphrase file:too-long F5",
-            refused(LONG_PASSPHRASE),
-        ),
-    ] {
-        check_run(&rt, alloc, line, &file, &end)?;
-    }
+    check_rows(&rt, alloc, PASSPHRASES, &file(alloc, REST_OF_HELLO)?)?;
     Ok(())
 }
 
 // Words that are refused: nothing is read and nothing is opened.
+const WORDS: &[(&str, &str)] = &[
+    ("", USAGE),
+    ("--help", USAGE),
+    ("enc -P - out", STDIN_TWICE),
+    ("enc --logN 4 --passphrase file:pw a b", SOME_COSTS),
+    ("enc --passphrase file:pw a a", SAME_NAME),
+    ("enc --passphrase file:pw - -", SAME_NAME),
+    ("dec a", ONE_SOURCE),
+    ("dec --passphrase dev:tty-stdin a", ONE_SOURCE),
+];
+
 #[test]
 fn words_that_are_refused(rt: HostRuntime) -> Result<(), Fail> {
     let alloc = rt.alloc();
-    for (line, told) in [
-        ("", USAGE),
-        ("--help", USAGE),
-        ("enc -P - out", STDIN_TWICE),
-        ("enc --logN 4 --passphrase file:pw a b", SOME_COSTS),
-        ("enc --passphrase file:pw a a", SAME_NAME),
-        ("enc --passphrase file:pw - -", SAME_NAME),
-        ("dec a", ONE_SOURCE),
-        ("dec --passphrase dev:tty-stdin a", ONE_SOURCE),
-    ] {
-        let mut host = host_with(alloc, b"hello")?;
-        assert_eq!(rt; scrypt(alloc, &words(alloc, line)?, &mut host), 1, "{line}");
-        assert_eq!(rt; only_line(&host), Some(told), "{line}");
+    for (line, told) in WORDS {
+        let words = words(alloc, line)?;
+        let mut host = host_with(alloc, b"hello", b"pw\n")?;
+        assert_eq!(rt; scrypt(alloc, &words, &mut host), 1, "{line}");
+        assert_eq!(rt; only_line(&host), Some(*told), "{line}");
         assert_eq!(rt; host.input_name(), None, "{line}");
         assert_eq!(rt; host.output_name(), None, "{line}");
     }
     Ok(())
 }
 
-// One byte a pull and one a push, and call after call failing. The calls of `dec` are one opening, 96 pulls, one secret
-// and one opening; then 32 pulls, five times a pull and a push, and a pull at the end.
-#[test]
-fn each_host_call_of_dec_fails(rt: HostRuntime) -> Result<(), Fail> {
-    let alloc = rt.alloc();
-    let file = file(alloc, REST_OF_HELLO)?;
-    let words = words(alloc, OPEN)?;
-    for call in 1..=142u64 {
-        let end = match call {
-            1..=97 => refused(INPUT_FAULT),
-            98 => refused(NO_PASSPHRASE),
-            99 => refused(OUTPUT_FAULT),
-            100..=131 => broken(INPUT_FAULT, b""),
-            132..=141 => {
-                let pushed = (call as usize - 132) / 2;
-                let told = if call % 2 == 0 {
-                    INPUT_FAULT
-                } else {
-                    OUTPUT_FAULT
-                };
-                broken(told, &b"hello"[..pushed])
-            }
-            _ => broken(INPUT_FAULT, b"hello"),
-        };
-        let mut host = host_with(alloc, &file)?;
-        host.set_sizes(1, 1);
-        host.fail_at(call);
-        let status = scrypt(alloc, &words, &mut host);
-        check(&rt, &host, status, &end, OPEN);
+// The line that call k of the host's leaves where it fails, how much was written, and whether the output was opened.
+type Broken = (&'static str, usize, bool);
+
+// One byte a pull and one a push. The calls of `dec` are one opening, 96 pulls, one secret and one opening; then 32 pulls,
+// five times a pull and a push, and a pull at the end.
+fn broken_dec(call: u64) -> Broken {
+    match call {
+        1..=97 => (INPUT_FAULT, 0, false),
+        98 => (NO_PASSPHRASE, 0, false),
+        99 => (OUTPUT_FAULT, 0, false),
+        100..=132 => (INPUT_FAULT, 0, true),
+        133 => (OUTPUT_FAULT, 0, true),
+        134 => (INPUT_FAULT, 1, true),
+        135 => (OUTPUT_FAULT, 1, true),
+        136 => (INPUT_FAULT, 2, true),
+        137 => (OUTPUT_FAULT, 2, true),
+        138 => (INPUT_FAULT, 3, true),
+        139 => (OUTPUT_FAULT, 3, true),
+        140 => (INPUT_FAULT, 4, true),
+        141 => (OUTPUT_FAULT, 4, true),
+        _ => (INPUT_FAULT, 5, true),
     }
-    let mut host = host_with(alloc, &file)?;
+}
+
+// Those of `enc` with the host's salt are one opening, one secret, one salt, one opening and 96 pushes; then five times a
+// pull and a push, a pull at the end, and 32 pushes.
+fn broken_enc(call: u64) -> Broken {
+    match call {
+        1 => (INPUT_FAULT, 0, false),
+        2 => (NO_PASSPHRASE, 0, false),
+        3 => (NO_SALT, 0, false),
+        4 => (OUTPUT_FAULT, 0, false),
+        5..=100 => (OUTPUT_FAULT, call as usize - 5, true),
+        101 => (INPUT_FAULT, 96, true),
+        102 => (OUTPUT_FAULT, 96, true),
+        103 => (INPUT_FAULT, 97, true),
+        104 => (OUTPUT_FAULT, 97, true),
+        105 => (INPUT_FAULT, 98, true),
+        106 => (OUTPUT_FAULT, 98, true),
+        107 => (INPUT_FAULT, 99, true),
+        108 => (OUTPUT_FAULT, 99, true),
+        109 => (INPUT_FAULT, 100, true),
+        110 => (OUTPUT_FAULT, 100, true),
+        111 => (INPUT_FAULT, 101, true),
+        112.. => (OUTPUT_FAULT, call as usize - 11, true),
+        _ => (USAGE, 0, false),
+    }
+}
+
+// Runs the words, one byte a pull and one a push, with this call of the host's failing.
+fn check_broken(
+    rt: &impl Abort,
+    alloc: Global,
+    (line, input, whole): (&str, &[u8], &[u8]),
+    call: u64,
+    (told, written, is_opened): Broken,
+) -> Result<(), AllocError> {
+    let words = words(alloc, line)?;
+    let mut host = host_with(alloc, input, b"pw\n")?;
     host.set_sizes(1, 1);
+    host.fail_at(call);
     let status = scrypt(alloc, &words, &mut host);
-    check(&rt, &host, status, &done(b"hello"), OPEN);
+    let end = End {
+        line: Some(told),
+        output: whole.get(..written).unwrap_or(&[]),
+        is_opened,
+    };
+    check(rt, &host, status, end, line);
     Ok(())
 }
 
-// The same for `enc` with the host's salt: one opening, one secret, one salt, one opening, 96 pushes; then five times a
-// pull and a push, a pull at the end, and 32 pushes.
+#[test]
+fn each_host_call_of_dec_fails(rt: HostRuntime) -> Result<(), Fail> {
+    let file = file(rt.alloc(), REST_OF_HELLO)?;
+    for call in 1..=142u64 {
+        let run = (OPEN, file.as_slice(), b"hello".as_slice());
+        check_broken(&rt, rt.alloc(), run, call, broken_dec(call))?;
+    }
+    Ok(())
+}
+
 #[test]
 fn each_host_call_of_enc_fails(rt: HostRuntime) -> Result<(), Fail> {
-    let alloc = rt.alloc();
-    let file = file(alloc, REST_OF_HELLO)?;
-    let line = "enc --logN 4 -r 1 -p 1 -P in";
-    let words = words(alloc, line)?;
+    let file = file(rt.alloc(), REST_OF_HELLO)?;
     for call in 1..=143u64 {
-        let end = match call {
-            1 => refused(INPUT_FAULT),
-            2 => refused(NO_PASSPHRASE),
-            3 => refused(NO_SALT),
-            4 => refused(OUTPUT_FAULT),
-            5..=100 => broken(OUTPUT_FAULT, &file[..call as usize - 5]),
-            101..=110 => {
-                let pushed = 96 + (call as usize - 101) / 2;
-                let told = if call % 2 == 1 {
-                    INPUT_FAULT
-                } else {
-                    OUTPUT_FAULT
-                };
-                broken(told, &file[..pushed])
-            }
-            111 => broken(INPUT_FAULT, &file[..101]),
-            _ => broken(OUTPUT_FAULT, &file[..call as usize - 11]),
-        };
-        let mut host = host_with(alloc, b"hello")?;
-        host.set_sizes(1, 1);
-        host.fail_at(call);
-        let status = scrypt(alloc, &words, &mut host);
-        check(&rt, &host, status, &end, line);
+        let run = (
+            "enc --logN 4 -r 1 -p 1 -P in",
+            b"hello".as_slice(),
+            file.as_slice(),
+        );
+        check_broken(&rt, rt.alloc(), run, call, broken_enc(call))?;
     }
     Ok(())
 }
@@ -394,9 +480,10 @@ fn each_host_call_of_enc_fails(rt: HostRuntime) -> Result<(), Fail> {
 #[test]
 fn says_nothing(rt: HostRuntime) -> Result<(), Fail> {
     let alloc = rt.alloc();
-    let mut host = host_with(alloc, b"")?;
+    let words = words(alloc, "")?;
+    let mut host = host_with(alloc, b"", b"")?;
     host.fail_at(1);
-    assert_eq!(rt; scrypt(alloc, &words(alloc, "")?, &mut host), 1);
+    assert_eq!(rt; scrypt(alloc, &words, &mut host), 1);
     assert_eq!(rt; host.lines().len(), 0);
     Ok(())
 }

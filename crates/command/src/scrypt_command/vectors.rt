@@ -1,7 +1,8 @@
 //! The definition of scrypt's words, run: what `clap` defines for words that it takes and words that it
 //! does not, and the product's own rules behind it.
 ghost use Rattle.std.specs.Prelude.{◌≡◌, ◌-◌, ◌^◌, [], Ok, Err, Some, None, codes};
-ghost use Rattle.command.specs.Scrypt.Request.{decrypt, encrypt, inspect, scrypt_request};
+ghost use Rattle.scrypt_run.specs.Request.{decrypt, encrypt, inspect};
+ghost use Rattle.command.specs.Scrypt.Request.{scrypt_request};
 ghost use Rattle.command.specs.Scrypt.Vectors.{costs, counted_salt, plain_encryption, plain_task, typed};
 ghost use Rattle.host.specs.Secret.{env, file, stdin_once};
 ghost use Rattle.scrypt_run.specs.declared.refusal.ScryptRefusal.TheVariants.{CostsOutOfRange, PassphraseSource, SaltDigits, SameName, SomeCosts, StandardInputTwice, Usage};

@@ -2,6 +2,7 @@
 ghost use Rattle.std.specs.Prelude.{◌≤◌, IfOk, length};
 
 use super::*;
+use host::refuse;
 use std::fs;
 use std::test::Fail;
 
@@ -122,6 +123,6 @@ fn takes_whole_salts(rt: HostRuntime) {
 fn says_lines(rt: HostRuntime) {
     let mut host = SystemHost::new(rt);
     assert_eq!(rt; host.say("a line that a test says"), Ok(()));
-    assert_eq!(rt; crate::refuse(&mut host, "a refusal that a test says"), 1);
+    assert_eq!(rt; refuse(&mut host, "a refusal that a test says"), 1);
     assert_eq!(rt; host.line_faults, 0);
 }
