@@ -1,10 +1,14 @@
 -- What clap's clauses say of the words of scrypt.
-use Rattle.std.proofs.Common.{◌≡◌, ◌∙◌, ◌≢◌, ap, refl, sym, subst, inl, inr, true, List, [], ◌∷◌, Option, None, Result, Ok, option_and_then}
+use Rattle.std.proofs.Common.{◌≡◌, ◌∙◌, ◌≢◌, ap, refl, sym, subst, inl, inr, true, List, [], ◌∷◌, Option, None, Some, Result, Ok, MatchResult, ok_or, option_map, option_and_then}
 use Rattle.clap.specs.Words.{App, FailsBy, HasKind, HasMatchesOf, Kinds, Text, fault_of, is_simple, is_simple_and_free, kind_of, subcommand_of, subcommand_rows_of}
 use Rattle.clap.specs.declared.error.Error.{Error}
 use Rattle.clap.specs.declared.error.kind.ErrorKind.TheVariants.{OutOfMemory}
 use Rattle.clap.specs.declared.parser.matches.ArgMatches.{ArgMatches}
 use Rattle.command.specs.Scrypt.CommandLine.{scrypt_app}
+use Rattle.command.specs.Scrypt.WordsView.{words_of}
+use Rattle.command.specs.declared.scrypt_command.words.Words.{Words as Said}
+use Rattle.command.specs.declared.scrypt_command.words.WordsFault.{WordsFault}
+use Rattle.command.specs.declared.scrypt_command.words.WordsFault.TheVariants.{Usage}
 use Rattle.command.specs.Scrypt.Words.{Words, scrypt_words, unless_faulty, words_at}
 
 is_free : is_simple_and_free scrypt_app ≡ true
@@ -40,3 +44,10 @@ refused a words e shape kinds other =
     let kind = kinds (ap is_simple_and_free shape ∙ is_free) in
     let at_app : HasKind (fault_of scrypt_app words) e = subst (λ (x : App). HasKind (fault_of x words) e) shape kind in
     with_fault (fault_of scrypt_app words) _ e at_app other
+
+-- what the matches say is what is answered, or the words are refused
+pub said_or_usage : (value : Option Words) (said : Option Said) (answer : Result Said WordsFault) → value ≡ option_map words_of said
+    → answer ≡ ok_or said Usage
+    → MatchResult answer (λ words. value ≡ Some (words_of words)) (λ fault. fault ≡ Usage → value ≡ None)
+said_or_usage value (Some words) answer read answered = rw answered read
+said_or_usage value None answer read answered = rw answered (λ _. read)

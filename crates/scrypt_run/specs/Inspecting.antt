@@ -1,5 +1,5 @@
 -- `scrypt info`: what a run comes to.
-use Rattle.std.specs.Prelude.{◌≡◌, ◌<◌, ◌^◌, ◌++◌, ◌⊎◌, ℕ, Option, None, codes, length, take}
+use Rattle.std.specs.Prelude.{◌≡◌, ◌^◌, ◌++◌, ◌⊎◌, Option, None, codes}
 use Rattle.std.specs.Fmt.{decimal}
 use Rattle.romix.specs.Costs.{Parameters, cores, table_bytes}
 use Rattle.encfile.specs.Front.{format_refusal}

@@ -168,9 +168,7 @@ fn write_file<H: Host>(host: &mut H, outfile: Option<&str>, enc: Enc) -> Result<
         return Err(ScryptRefusal::OutputFault);
     };
     let mut enc = enc;
-    if let Err(refusal) = write_body(host, &mut enc) {
-        return Err(refusal);
-    }
+    write_body(host, &mut enc)?;
     let Ok(()) = push_all(host, &enc.finish()) else {
         return Err(ScryptRefusal::OutputFault);
     };

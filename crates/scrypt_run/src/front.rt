@@ -124,14 +124,9 @@ pub fn open_front<H: Host>(
         FrontRefused r (format_refusal (H.seen host.old).input) (text_of infile.entry)
         (H.seen host.old) (H.seen host.new)) }
 {
-    let front = match read_front(host, infile) {
-        Ok(front) => front,
-        Err(refusal) => return Err(refusal),
-    };
-    match read_header(&front) {
-        Ok(header) => Ok((front, header)),
-        Err(refusal) => Err(refusal),
-    }
+    let front = read_front(host, infile)?;
+    let header = read_header(&front)?;
+    Ok((front, header))
 }
 
 /// Opens the input, reads its first 96 bytes and the header in them, and holds its costs against
@@ -157,12 +152,7 @@ pub fn open_admitted_front<H: Host>(
         (H.seen host.old).input limits.now.max_bytes limits.now.max_ops) (text_of infile.entry)
         (H.seen host.old) (H.seen host.new)) }
 {
-    let (front, header) = match open_front(host, infile) {
-        Ok(read) => read,
-        Err(refusal) => return Err(refusal),
-    };
-    match test_limits(&front, &header, limits) {
-        Ok(()) => Ok((front, header)),
-        Err(refusal) => Err(refusal),
-    }
+    let (front, header) = open_front(host, infile)?;
+    test_limits(&front, &header, limits)?;
+    Ok((front, header))
 }

@@ -10,7 +10,7 @@ use crate::argon2_command::output::{output, parameters};
 use crate::argon2_command::password::read_password;
 use crate::argon2_command::refusal::Argon2Refusal;
 use crate::argon2_command::request::read_request;
-use host::{Host, HostFault, refuse, write_output};
+use host::{Host, refuse, write_output};
 use std::alloc::Global;
 
 // Reads the words and the password, and makes the whole output.
@@ -27,10 +27,7 @@ fn prepare<H: Host>(alloc: Global, words: &[String], host: &mut H) -> Result<Vec
     let request = read_request(words)?;
     let password = read_password(host)?;
     let params = parameters(&request, &password)?;
-    match output(alloc, &request, &password, &params) {
-        Ok(line) => Ok(line),
-        Err(_) => Err(Argon2Refusal::OutOfMemory),
-    }
+    output(alloc, &request, &password, &params).map_err(|_| Argon2Refusal::OutOfMemory)
 }
 
 // All of a run but the line of a refusal.
@@ -44,10 +41,7 @@ fn attempt<H: Host>(alloc: Global, words: &[String], host: &mut H) -> Result<(),
         IsRefused r (map string_bytes words.now) (H.seen host.old) (H.seen host.new)) }
 {
     let line = prepare(alloc, words, host)?;
-    match write_output(host, &line) {
-        Ok(()) => Ok(()),
-        Err(HostFault) => Err(Argon2Refusal::OutputFault),
-    }
+    write_output(host, &line).map_err(|_| Argon2Refusal::OutputFault)
 }
 
 /// Runs `argon2`: hashes the whole standard input under the salt that the first word gives, and

@@ -135,10 +135,7 @@ impl Settings {
             Item::Help => Err(Argon2Refusal::Usage),
             Item::UnknownWord => Err(Argon2Refusal::UnknownWord),
             Item::MissingValue => Err(Argon2Refusal::MissingValue),
-            Item::Valued(name, text) => match self.with_value(name, text) {
-                Some(settings) => Ok(settings),
-                None => Err(Argon2Refusal::BadNumber),
-            },
+            Item::Valued(name, text) => self.with_value(name, text).ok_or(Argon2Refusal::BadNumber),
         }
     }
 }

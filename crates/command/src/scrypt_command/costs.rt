@@ -56,15 +56,9 @@ fn costs_of(numbers: Numbers) -> Option<Costs>
         (λ c. (cost_fault numbers.log_n numbers.r numbers.p ≡ None)
         × (c ≡ record { log_n = numbers.log_n; r = numbers.r; p = numbers.p })) }
 {
-    let Ok(log_n) = u8::try_from(numbers.log_n) else {
-        return None;
-    };
-    let Ok(r) = u32::try_from(numbers.r) else {
-        return None;
-    };
-    let Ok(p) = u32::try_from(numbers.p) else {
-        return None;
-    };
+    let log_n = u8::try_from(numbers.log_n).ok()?;
+    let r = u32::try_from(numbers.r).ok()?;
+    let p = u32::try_from(numbers.p).ok()?;
     Costs::new(log_n, r, p).ok()
 }
 
@@ -73,14 +67,9 @@ pub fn costs_given(words: &EncWords<'_>) -> Result<Costs, ScryptRefusal>
     ensures costs { result ≡ costs_asked (enc_of words.now) }
     ensures counts { IfErr result RaisesNoCount }
 {
-    let Some(numbers) = numbers_given(words) else {
-        return Err(ScryptRefusal::Usage);
-    };
+    let numbers = numbers_given(words).ok_or(ScryptRefusal::Usage)?;
     if has_some_costs(words) {
         return Err(ScryptRefusal::SomeCosts);
     }
-    match costs_of(numbers) {
-        Some(costs) => Ok(costs),
-        None => Err(ScryptRefusal::CostsOutOfRange),
-    }
+    costs_of(numbers).ok_or(ScryptRefusal::CostsOutOfRange)
 }

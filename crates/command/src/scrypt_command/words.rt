@@ -138,16 +138,12 @@ pub fn read_words<'a>(alloc: Global, words: &'a [String]) -> Result<Words<'a>, W
         (λ fault. fault ≡ WordsFault.Usage →
         scrypt_words (map string_bytes words.entry.now) ≡ None) }
 {
-    let command = match scrypt_command(alloc) {
-        Ok(command) => command,
-        Err(_) => return Err(WordsFault::OutOfMemory),
+    let Ok(command) = scrypt_command(alloc) else {
+        return Err(WordsFault::OutOfMemory);
     };
     let matches = match command.try_get_matches_from(words) {
         Ok(matches) => matches,
         Err(error) => return Err(fault_for(&error)),
     };
-    match words_in(&matches) {
-        Some(said) => Ok(said),
-        None => Err(WordsFault::Usage),
-    }
+    words_in(&matches).ok_or(WordsFault::Usage)
 }
