@@ -82,14 +82,6 @@ append-counter_mode_from key place next cut text head tail within behind first s
     rw (first, second, from)
     (sym (counter_mode_from-append key place (take cut text) (drop cut text)) ∙ ap (counter_mode_from key place) (take-append-drop cut text))
 
--- a block before the others
-pub append-block : (key : List ℕ) (n m : ℕ) (text first rest : List ℕ) → m ≡ n + 1 → 16 ≤ length text
-    → first ≡ zip2 bit_xor (take 16 text) (key_stream_block key n) → rest ≡ counter_mode_from key (16 * m) (drop 16 text)
-    → first ++ rest ≡ counter_mode_from key (16 * n) text
-append-block key n m text first rest more long e f =
-    let wide : length (take 16 text) ≡ 16 = length-take-le 16 text long in
-    append-counter_mode_from key (16 * n) (16 * m) 16 text first rest long (omega arith) (e ∙ zip2-key_stream_block key n (take 16 text) wide) f
-
 -- ---- a text that is xored piece by piece, from block n on
 
 -- its first p bytes are xored, and the others are as they were

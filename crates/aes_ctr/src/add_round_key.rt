@@ -1,5 +1,4 @@
-// AddRoundKey (FIPS 197, 5.1.4).
-
+//! AddRoundKey (FIPS 197, 5.1.4).
 ghost use Rattle.std.specs.Prelude.{◌≡◌, ◌<◌};
 ghost use Rattle.aes_ctr.specs.Aes.{add_round_key};
 ghost use Rattle.aes_ctr.specs.Planes.{round_key};

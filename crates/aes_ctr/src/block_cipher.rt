@@ -1,5 +1,4 @@
-// AES-256 with its key.
-
+//! AES-256 with its key.
 ghost use Rattle.std.specs.Prelude.{◌≡◌};
 ghost use Rattle.aes_ctr.specs.Aes.{aes256, key_schedule};
 ghost use Rattle.aes_ctr.specs.Planes.{AreKeyPlanes};

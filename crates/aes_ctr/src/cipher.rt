@@ -1,5 +1,4 @@
-// The cipher under a key schedule (FIPS 197, 5.1).
-
+//! The cipher under a key schedule (FIPS 197, 5.1).
 ghost use Rattle.std.specs.Prelude.{◌≡◌, ◌<◌};
 ghost use Rattle.aes_ctr.specs.Aes.{add_round_key, cipher, mix_columns, shift_rows, sub_bytes};
 

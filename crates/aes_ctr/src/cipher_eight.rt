@@ -1,5 +1,4 @@
-// The cipher (FIPS 197, 5.1) of eight blocks at once, in planes.
-
+//! The cipher (FIPS 197, 5.1) of eight blocks at once, in planes.
 ghost use Rattle.std.specs.Prelude.{◌≡◌, ◌*◌, ◌<◌, ℕ, List, drop};
 ghost use Rattle.aes_ctr.specs.Aes.{add_round_key, cipher, mix_columns, shift_rows, sub_bytes};
 ghost use Rattle.aes_ctr.specs.Planes.{AreKeyPlanes, IsBlock, IsHeld, plane, round_key};

@@ -1,5 +1,4 @@
-// The Counter mode in pieces.
-
+//! The Counter mode in pieces.
 ghost use Rattle.std.specs.Prelude.{◌≡◌, ◌+◌, ◌/◌, ◌%◌, ◌<◌, ◌^◌, length};
 ghost use Rattle.aes_ctr.specs.CounterMode.{counter_mode_from, key_stream_block};
 

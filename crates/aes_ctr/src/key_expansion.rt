@@ -1,5 +1,4 @@
-// KeyExpansion of AES-256 (FIPS 197, 5.2).
-
+//! KeyExpansion of AES-256 (FIPS 197, 5.2).
 ghost use Rattle.std.specs.Prelude.{◌≡◌, ◌*◌, ◌<◌, ◌≤◌, bit_xor, drop, take};
 ghost use Rattle.std.specs.Simd.Lanes.{zip2};
 ghost use Rattle.aes_ctr.specs.Aes.{key_of, key_schedule, rot_word, sub_word, temporary_word};

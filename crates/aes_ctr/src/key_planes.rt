@@ -1,5 +1,4 @@
-// The key schedule in planes, for eight blocks that take the same key.
-
+//! The key schedule in planes, for eight blocks that take the same key.
 ghost use Rattle.std.specs.Prelude.{◌≡◌, ◌*◌, ◌<◌, ℕ, List, drop, length};
 ghost use Rattle.aes_ctr.specs.Aes.{add_round_key};
 ghost use Rattle.aes_ctr.specs.Planes.{AreKeyPlanes, IsBlock, IsHeld, bits, round_key};

@@ -1,5 +1,4 @@
-// Whole blocks xored with the key stream (NIST SP 800-38A, 6.5).
-
+//! Whole blocks xored with the key stream (NIST SP 800-38A, 6.5).
 ghost use Rattle.std.specs.Prelude.{◌≡◌, ◌+◌, ◌*◌, ◌%◌, ◌<◌, ◌≤◌, ◌^◌, ℕ, List, bit_xor, length};
 ghost use Rattle.std.specs.Simd.Lanes.{zip2};
 ghost use Rattle.aes_ctr.specs.Aes.{key_schedule};

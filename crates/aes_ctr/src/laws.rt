@@ -1,5 +1,4 @@
-// Laws of the definitions: each function has no body, and its clause is the law.
-
+//! Laws of the definitions: each function has no body, and its clause is the law.
 ghost use Rattle.std.specs.Prelude.{◌≡◌, ℕ, List, ◌+◌, ◌<◌, ◌++◌, bit_xor, length, slice_index};
 ghost use Rattle.aes_ctr.specs.CounterMode.{counter_mode_from, key_stream};
 

@@ -1,5 +1,4 @@
-// MixColumns (FIPS 197, 5.1.3).
-
+//! MixColumns (FIPS 197, 5.1.3).
 ghost use Rattle.std.specs.Prelude.{◌≡◌, map};
 ghost use Rattle.aes_ctr.specs.Aes.{mix_columns, product};
 

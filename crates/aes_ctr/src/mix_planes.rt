@@ -1,5 +1,4 @@
-// MixColumns (FIPS 197, 5.1.3) on planes.
-
+//! MixColumns (FIPS 197, 5.1.3) on planes.
 ghost use Rattle.std.specs.Prelude.{◌≡◌, ℕ, List, length, map};
 ghost use Rattle.aes_ctr.specs.Aes.{mix_columns, product};
 ghost use Rattle.aes_ctr.specs.Planes.{IsBlock, IsHeld, rows_below};

@@ -1,6 +1,5 @@
-// Eight blocks side by side: bit b of lane j of plane k is bit k of byte j of block b.
-
-ghost use Rattle.std.specs.Prelude.{◌≡◌, ◌<◌, ℕ, List, bit_xor};
+//! Eight blocks side by side: bit b of lane j of plane k is bit k of byte j of block b.
+ghost use Rattle.std.specs.Prelude.{ℕ, List, bit_xor};
 ghost use Rattle.std.specs.Simd.Lanes.{zip2};
 ghost use Rattle.aes_ctr.specs.Planes.{IsHeld};
 

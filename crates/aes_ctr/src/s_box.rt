@@ -1,5 +1,4 @@
-// The S-box (FIPS 197, 5.1.1), the one look-up table.
-
+//! The S-box (FIPS 197, 5.1.1), the one look-up table.
 ghost use Rattle.std.specs.Prelude.{◌≡◌, map};
 ghost use Rattle.std.specs.List.{range_with_len};
 ghost use Rattle.aes_ctr.specs.Aes.{sub_byte};

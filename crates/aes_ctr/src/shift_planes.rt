@@ -1,5 +1,4 @@
-// ShiftRows (FIPS 197, 5.1.2) on planes.
-
+//! ShiftRows (FIPS 197, 5.1.2) on planes.
 ghost use Rattle.std.specs.Prelude.{◌≡◌, ℕ, List, length};
 ghost use Rattle.aes_ctr.specs.Aes.{shift_rows};
 ghost use Rattle.aes_ctr.specs.Planes.{IsHeld};

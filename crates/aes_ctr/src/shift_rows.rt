@@ -1,5 +1,4 @@
-// ShiftRows (FIPS 197, 5.1.2).
-
+//! ShiftRows (FIPS 197, 5.1.2).
 ghost use Rattle.std.specs.Prelude.{◌≡◌};
 ghost use Rattle.aes_ctr.specs.Aes.{shift_rows};
 

@@ -1,6 +1,5 @@
-// SubBytes (FIPS 197, 5.1.1) on sixteen bytes side by side: each of the sixteen rows of the S-box is looked up by
-// the four low bits of the bytes, and the four high bits choose among the rows.
-
+//! SubBytes (FIPS 197, 5.1.1) on sixteen bytes side by side: each of the sixteen rows of the S-box is looked up by
+//! the four low bits of the bytes, and the four high bits choose among the rows.
 ghost use Rattle.std.specs.Prelude.{◌≡◌, ◌*◌, ◌<◌, ℕ, map};
 ghost use Rattle.std.specs.List.{range_with_len};
 ghost use Rattle.aes_ctr.specs.Aes.{sub_byte, sub_bytes};

@@ -1,7 +1,6 @@
-// SubBytes (FIPS 197, 5.1.1) on planes: the circuit of 115 gates of Boyar and Peralta ("A new combinational logic
-// minimization technique with applications to cryptology", IACR ePrint 2009/191), whose numbers of wires stand here. A wire
-// carries a plane.
-
+//! SubBytes (FIPS 197, 5.1.1) on planes: the circuit of 115 gates of Boyar and Peralta ("A new combinational logic
+//! minimization technique with applications to cryptology", IACR ePrint 2009/191), whose numbers of wires stand here. A wire
+//! carries a plane.
 ghost use Rattle.std.specs.Prelude.{◌≡◌, ◌-◌, ◌<◌, ℕ, List, bit_and, bit_xor, replicate};
 ghost use Rattle.std.specs.Simd.Lanes.{zip2};
 ghost use Rattle.aes_ctr.specs.Aes.{sub_bytes};

@@ -1,6 +1,5 @@
-// From eight blocks to their planes, and back: the number of the bit and the number of the plane exchange their binary
-// digits, one after the other.
-
+//! From eight blocks to their planes, and back: the number of the bit and the number of the plane exchange their binary
+//! digits, one after the other.
 ghost use Rattle.std.specs.Prelude.{◌≡◌, ◌-◌, ◌*◌, ◌/◌, ◌%◌, ◌^◌, ◌<◌, ℕ, Bool, bit_and, cond};
 ghost use Rattle.aes_ctr.specs.Planes.{AreParts, AreSwapped, IsBlock, bits, plane};
 

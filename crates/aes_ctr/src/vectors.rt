@@ -1,5 +1,4 @@
-// The checker computes the definitions on vectors: each function has no body, and its clause is the vector.
-
+//! The checker computes the definitions on vectors: each function has no body, and its clause is the vector.
 ghost use Rattle.std.specs.Prelude.{◌≡◌, ◌+◌, ◌*◌, ◌^◌, [], ◌∷◌};
 ghost use Rattle.std.specs.List.{range_with_len};
 ghost use Rattle.aes_ctr.specs.Aes.{aes256, key_schedule, product, sub_byte, word_at};

@@ -1,28 +1,13 @@
 -- Vectors of four words, and the permutation P on four of them.
-use Rattle.std.proofs.Common.{◌≡◌, ℕ, zero, suc, ◌<◌, ◌+◌, ◌-◌, ◌*◌, ◌/◌, ◌%◌, ◌^◌, List, [], ◌∷◌, length, slice_index, bit_or, arith, refl, w64, lit<, get_or}
+use Rattle.std.proofs.Common.{◌≡◌, ℕ, suc, ◌<◌, ◌+◌, ◌-◌, ◌*◌, ◌/◌, ◌%◌, ◌^◌, List, [], ◌∷◌, length, slice_index, bit_or, arith, refl, w64, lit<, get_or}
 use Rattle.std.specs.Simd.Lanes.{zip2}
 use Rattle.std.specs.Int.{rotate_right}
 use Rattle.blake.specs.Words.{along}
 use Rattle.blake.specs.Blake2b.{mixing_places}
 use Rattle.argon.specs.Compression.{mixed_words, permutation, words_after_mixings}
-use Rattle.argon.specs.FourWords.{sixteen_words, words_across, words_in_order}
-
--- what holds of each of the four numbers
-pub below_four : (P : ℕ → Type 0) → P 0 → P 1 → P 2 → P 3 → (j : ℕ) → j < 4 → P j
-below_four P p0 p1 p2 p3 zero h = p0
-below_four P p0 p1 p2 p3 (suc zero) h = p1
-below_four P p0 p1 p2 p3 (suc (suc zero)) h = p2
-below_four P p0 p1 p2 p3 (suc (suc (suc zero))) h = p3
-below_four P p0 p1 p2 p3 (suc (suc (suc (suc n)))) h = absurd (omega arith)
-
--- what holds of each list of four
-pub each_of_four : (P : List ℕ → Type 0) → ((a b c d : ℕ) → P (a ∷ b ∷ c ∷ d ∷ [])) → (xs : List ℕ) → length xs ≡ 4 → P xs
-each_of_four P p (a ∷ b ∷ c ∷ d ∷ []) h = p a b c d
-each_of_four P p [] h = absurd (omega arith)
-each_of_four P p (a ∷ []) h = absurd (omega arith)
-each_of_four P p (a ∷ b ∷ []) h = absurd (omega arith)
-each_of_four P p (a ∷ b ∷ c ∷ []) h = absurd (omega arith)
-each_of_four P p (a ∷ b ∷ c ∷ d ∷ e ∷ xs) h = absurd (omega arith)
+use Rattle.four_words.specs.FourWords.{sixteen_words, words_in_order}
+use Rattle.four_words.proofs.FourWords.{below_four, each_of_four}
+use Rattle.argon.specs.FourWords.{words_across}
 
 -- two shifts of each word and an or are a rotation
 abbrev Rotates : ℕ → List ℕ → Type 0

@@ -214,8 +214,5 @@ pub lane_more_by : (c : Parameters) (len : ℕ) → segment_len c ≡ len
     → HoldsNewest c h0 new (number_after_lanes (lane + 1) (number_after_slices c (4 * pass + slice)) (number_after_slices c (4 * pass + slice + 1)))
 lane_more_by c len el = rw (← el) (λ h0 old new pass slice lane p s l ep es ea. rw (ep, es, ea) (lane_more c h0 old new pass slice lane))
 
-pub none_done : (c : Parameters) (h0 : List ℕ) (buf : List (List ℕ)) (a b : ℕ) → HoldsNewest c h0 buf (λ _. a) → HoldsNewest c h0 buf (number_after_lanes 0 a b)
-none_done c h0 buf a b = newest_same c h0 buf (λ _. a) (number_after_lanes 0 a b) (λ l known. rw (le-ltb l 0 (omega arith)) refl)
-
 pub all_done : (c : Parameters) (h0 : List ℕ) (buf : List (List ℕ)) (m a b : ℕ) → m ≡ c.lanes → HoldsNewest c h0 buf (number_after_lanes m a b) → HoldsNewest c h0 buf (λ _. b)
 all_done c h0 buf m a b e = newest_same c h0 buf (number_after_lanes m a b) (λ _. b) (λ l known. sym (rw (lt-ltb l m (omega arith)) refl))

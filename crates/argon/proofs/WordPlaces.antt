@@ -3,11 +3,12 @@ use Rattle.std.proofs.Common.{◌≡◌, ℕ, zero, suc, ◌+◌, ◌/◌, ◌%�
 use Rattle.std.specs.List.{range_with_len}
 use Rattle.std.specs.Simd.Lanes.{chunk, put_chunk}
 use Rattle.std.proofs.lemmas.List.{get_or-set_other, drop_more}
-use Rattle.std.proofs.lemmas.Simd.{length-chunk}
 use Rattle.blake.specs.Words.{words_at, with_words_at}
 use Rattle.argon.specs.Compression.{column_places, permutation, row_places}
-use Rattle.argon.specs.FourWords.{four_words, pair_places, sixteen_words}
-use Rattle.argon.proofs.FourWords.{each_of_four}
+use Rattle.four_words.specs.FourWords.{four_words, sixteen_words}
+use Rattle.four_words.proofs.FourWords.{each_of_four}
+use Rattle.four_words.proofs.Runs.{sixteen_read, sixteen_written}
+use Rattle.argon.specs.FourWords.{pair_places}
 
 -- ---- runs of places
 
@@ -37,53 +38,16 @@ run_stored v [] a (suc n) e h = absurd (omega arith)
 run_stored v (w ∷ ws) a (suc n) e h =
     run_stored (set v a w) ws (a + 1) n (omega arith) (omega (arith, length-set {A = ℕ} v a w)) ∙ put_front v ws a (a + 1) w refl (omega arith)
 
--- one run after another
-pub put_joined : (v xs ys : List ℕ) (a b : ℕ) → b ≡ a + length xs → b + length ys ≤ length v
-    → put_chunk b (put_chunk a v xs) ys ≡ put_chunk a v (xs ++ ys)
-put_joined [] xs ys a b e h = refl
-put_joined (x ∷ v) [] ys zero zero e h = refl
-put_joined (x ∷ v) [] ys zero (suc b) e h = absurd (omega arith)
-put_joined (x ∷ v) (y ∷ xs) ys zero zero e h = absurd (omega arith)
-put_joined (x ∷ v) (y ∷ xs) ys zero (suc b) e h = ap (λ (l : List ℕ). y ∷ l) (put_joined v xs ys zero b (omega arith) (omega arith))
-put_joined (x ∷ v) xs ys (suc a) zero e h = absurd (omega arith)
-put_joined (x ∷ v) xs ys (suc a) (suc b) e h = ap (λ (l : List ℕ). x ∷ l) (put_joined v xs ys a b (omega arith) (omega arith))
-
 -- ---- the four vectors of a row
-
-pub state_joined : (a b c d : List ℕ) → length a ≡ 4 → length b ≡ 4 → length c ≡ 4 → length d ≡ 4 → sixteen_words a b c d ≡ a ++ (b ++ (c ++ d))
-state_joined a b c d ha hb hc hd =
-    each_of_four (λ a. sixteen_words a b c d ≡ a ++ (b ++ (c ++ d))) (λ a0 a1 a2 a3.
-    each_of_four (λ b. sixteen_words (a0 ∷ a1 ∷ a2 ∷ a3 ∷ []) b c d ≡ a0 ∷ a1 ∷ a2 ∷ a3 ∷ (b ++ (c ++ d))) (λ b0 b1 b2 b3.
-    each_of_four (λ c. sixteen_words (a0 ∷ a1 ∷ a2 ∷ a3 ∷ []) (b0 ∷ b1 ∷ b2 ∷ b3 ∷ []) c d ≡ a0 ∷ a1 ∷ a2 ∷ a3 ∷ b0 ∷ b1 ∷ b2 ∷ b3 ∷ (c ++ d)) (λ c0 c1 c2 c3.
-    each_of_four (λ d. sixteen_words (a0 ∷ a1 ∷ a2 ∷ a3 ∷ []) (b0 ∷ b1 ∷ b2 ∷ b3 ∷ []) (c0 ∷ c1 ∷ c2 ∷ c3 ∷ []) d ≡ a0 ∷ a1 ∷ a2 ∷ a3 ∷ b0 ∷ b1 ∷ b2 ∷ b3 ∷ c0 ∷ c1 ∷ c2 ∷ c3 ∷ d) (λ d0 d1 d2 d3. refl) d hd) c hc) b hb) a ha
-
-chunk_more : (v : List ℕ) (a m n b k : ℕ) → b ≡ a + m → k ≡ m + n → b ≤ length v → chunk a m v ++ chunk b n v ≡ chunk a k v
-chunk_more v a zero n b k e f h = let g : b ≡ a = omega arith in let i : k ≡ n = omega arith in rw (g, i) refl
-chunk_more v a (suc m) n b zero e f h = absurd (omega arith)
-chunk_more v a (suc m) n b (suc k) e f h =
-    rw (drop_more v a 0 (omega arith)) (ap (λ (l : List ℕ). slice_index v a ∷ l) (chunk_more v (a + 1) m n b k (omega arith) (omega arith) h))
 
 pub row_read : (v : List ℕ) (a : ℕ) → a + 16 ≤ length v
     → sixteen_words (chunk a 4 v) (chunk (a + 4) 4 v) (chunk (a + 8) 4 v) (chunk (a + 12) 4 v) ≡ words_at v (range_with_len a 16)
-row_read v a h =
-    state_joined _ _ _ _ (length-chunk a 4 v (omega arith)) (length-chunk (a + 4) 4 v (omega arith))
-    (length-chunk (a + 8) 4 v (omega arith)) (length-chunk (a + 12) 4 v (omega arith))
-    ∙ rw (
-      chunk_more v (a + 8) 4 4 (a + 12) 8 (omega arith) refl (omega arith),
-      chunk_more v (a + 4) 4 8 (a + 8) 12 (omega arith) refl (omega arith),
-      chunk_more v a 4 12 (a + 4) 16 refl refl (omega arith),
-    ) (sym (run_read v a 16 h))
+row_read v a h = sixteen_read v a h ∙ sym (run_read v a 16 h)
 
 pub row_stored : (v a b c d : List ℕ) (at : ℕ) → at + 16 ≤ length v
     → put_chunk (at + 12) (put_chunk (at + 8) (put_chunk (at + 4) (put_chunk at v (four_words a)) (four_words b)) (four_words c)) (four_words d)
     ≡ with_words_at v (range_with_len at 16) (sixteen_words a b c d)
-row_stored v a b c d at h =
-    rw (
-      put_joined v (four_words a) (four_words b) at (at + 4) refl (omega arith),
-      put_joined v (four_words a ++ four_words b) (four_words c) at (at + 8) refl (omega arith),
-      put_joined v ((four_words a ++ four_words b) ++ four_words c) (four_words d) at (at + 12) refl (omega arith),
-    )
-    (sym (run_stored v (sixteen_words a b c d) at 16 refl h))
+row_stored v a b c d at h = sixteen_written v a b c d at h ∙ sym (run_stored v (sixteen_words a b c d) at 16 refl h)
 
 -- ---- the places of a column
 

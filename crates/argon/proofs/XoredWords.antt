@@ -4,11 +4,9 @@ use Rattle.std.specs.Simd.Lanes.{chunk, put_chunk, zip2}
 use Rattle.std.proofs.lemmas.List.{take_all, drop-drop}
 use Rattle.std.proofs.lemmas.Simd.{length-chunk, length-zip2, take_more_put_chunk}
 use Rattle.argon.specs.Compression.{xor_words}
-use Rattle.argon.specs.FourWords.{four_words}
-use Rattle.argon.proofs.FourWords.{each_of_four}
-
-pub lanes_are : (v : List ℕ) → length v ≡ 4 → four_words v ≡ v
-lanes_are v e = each_of_four (λ v. four_words v ≡ v) (λ a b c d. refl) v e
+use Rattle.four_words.specs.FourWords.{four_words}
+use Rattle.four_words.proofs.FourWords.{four_are}
+use Rattle.four_words.proofs.Runs.{drop_put}
 
 -- n more words xored
 pub xor_more : (x y : List ℕ) (a n k : ℕ) → k ≡ a + n → k ≤ length x → k ≤ length y
@@ -55,7 +53,7 @@ pub write_more : (x y out : List ℕ) (i : ℕ) → length x ≡ 128 → length 
 write_more x y out i hx hy ho low done =
     let w = zip2 bit_xor (chunk (4 * i) 4 x) (chunk (4 * i) 4 y) in
     let long = four_long x y (4 * i) (omega arith) (omega arith) in
-    rw (lanes_are w long)
+    rw (four_are w long)
     (take_more_put_chunk (4 * i) out w (4 * (i + 1)) (omega (arith, long)) (omega arith)
     ∙ rw done (xor_more x y (4 * i) 4 (4 * (i + 1)) (omega arith) (omega arith) (omega arith)))
 
@@ -64,15 +62,6 @@ pub all_xored : (x y out : List ℕ) → length x ≡ 128 → length y ≡ 128 �
 all_xored x y out hx hy ho e =
     sym (take_all 128 out (omega arith)) ∙ e
     ∙ rw (take_all 128 x (omega arith), take_all 128 y (omega arith)) refl
-
--- the words behind a store
-drop_put : (v ws : List ℕ) (a b : ℕ) → a + length ws ≤ b → drop b (put_chunk a v ws) ≡ drop b v
-drop_put [] ws a b h = refl
-drop_put (x ∷ v) [] zero b h = refl
-drop_put (x ∷ v) (w ∷ ws) zero zero h = absurd (omega arith)
-drop_put (x ∷ v) (w ∷ ws) zero (suc b) h = drop_put v ws zero b (omega arith)
-drop_put (x ∷ v) ws (suc a) zero h = absurd (omega arith)
-drop_put (x ∷ v) ws (suc a) (suc b) h = drop_put v ws a b (omega arith)
 
 drop_more_four : (v u : List ℕ) (a b : ℕ) → b ≡ a + 4 → drop a v ≡ drop a u → drop b v ≡ drop b u
 drop_more_four v u a b e h = rw (e, ← drop-drop 4 a v, ← drop-drop 4 a u, h) refl

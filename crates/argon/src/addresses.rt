@@ -1,5 +1,5 @@
-// The address blocks of independent addressing (RFC 9106, section 3.4.1.2).
-ghost use Rattle.std.specs.Prelude.{◌≡◌, ◌+◌, ◌/◌, ◌<◌, ◌≤◌, ◌^◌, true};
+//! The address blocks of independent addressing (RFC 9106, section 3.4.1.2).
+ghost use Rattle.std.specs.Prelude.{◌≡◌, ◌+◌, ◌/◌, ◌<◌, ◌^◌, true};
 ghost use Rattle.argon.specs.Counts.{address_count, address_work};
 ghost use Rattle.argon.specs.Reference.{address_block};
 

@@ -1,10 +1,11 @@
-// Blocks of 1,024 bytes: their rows and columns (RFC 9106, section 3.5), and their xor, four words
-// at a time.
+//! Blocks of 1,024 bytes: their rows and columns (RFC 9106, section 3.5), and their xor, four words
+//! at a time.
 ghost use Rattle.std.specs.Prelude.{◌≡◌, ◌+◌, ◌*◌, ◌<◌, ◌≤◌, bit_xor, length};
 ghost use Rattle.std.specs.Simd.Lanes.{chunk, put_chunk, zip2};
 ghost use Rattle.blake.specs.Words.{with_words_at, words_at};
 ghost use Rattle.argon.specs.Compression.{column_places, row_places, xor_words};
-ghost use Rattle.argon.specs.FourWords.{four_words, pair_places, sixteen_words};
+ghost use Rattle.four_words.specs.FourWords.{four_words, sixteen_words};
+ghost use Rattle.argon.specs.FourWords.{pair_places};
 
 use crate::permutation::Sixteen;
 use std::simd::{u64x2, u64x4};

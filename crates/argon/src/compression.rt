@@ -1,5 +1,5 @@
-// The compression function G (RFC 9106, section 3.5) in blocks that the caller lends, two rows or
-// two columns at a time.
+//! The compression function G (RFC 9106, section 3.5) in blocks that the caller lends, two rows or
+//! two columns at a time.
 ghost use Rattle.std.specs.Prelude.{◌≡◌, ◌+◌, ◌*◌, ◌<◌};
 ghost use Rattle.blake.specs.Words.{along};
 ghost use Rattle.argon.specs.Compression.{block_after_columns, block_after_rows, column_places, compression, permutation, xor_words};

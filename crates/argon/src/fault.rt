@@ -1,4 +1,4 @@
-// What parameters are refused for.
+//! What parameters are refused for.
 use thiserror::Error;
 
 /// Why parameters are refused: the first that holds, in this order. `Params::new` answers 1 to 6,

@@ -1,6 +1,6 @@
-// A block of the matrix made from two others, in place (RFC 9106, section 3.2, steps 5 and 6). The
-// loans of the blocks that are read end before the block that is written is lent, so nothing is
-// copied, and the three may be any blocks.
+//! A block of the matrix made from two others, in place (RFC 9106, section 3.2, steps 5 and 6). The
+//! loans of the blocks that are read end before the block that is written is lent, so nothing is
+//! copied, and the three may be any blocks.
 ghost use Rattle.std.specs.Prelude.{◌≡◌, ◌+◌, ◌<◌, [], length, slice_index_or, slice_set};
 ghost use Rattle.argon.specs.Argon2.{stored_block};
 ghost use Rattle.argon.specs.Compression.{compression, xor_words};

@@ -1,4 +1,4 @@
-// H0 and the first two columns (RFC 9106, section 3.2, steps 1, 3 and 4).
+//! H0 and the first two columns (RFC 9106, section 3.2, steps 1, 3 and 4).
 ghost use Rattle.std.specs.Prelude.{◌≡◌, ℕ, ◌+◌, ◌<◌, ◌^◌, ◌++◌, List, length};
 ghost use Rattle.blake.specs.State.{Holds, message_len, output_len};
 ghost use Rattle.byteorder.specs.Endian.{little_bytes};

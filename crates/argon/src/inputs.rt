@@ -1,4 +1,4 @@
-// What is hashed (RFC 9106, section 3.1).
+//! What is hashed (RFC 9106, section 3.1).
 
 /// The texts that a hash takes in (RFC 9106, section 3.1).
 #[derive(Drop)]

@@ -1,4 +1,4 @@
-// The types of Argon2 (RFC 9106, section 3.1).
+//! The types of Argon2 (RFC 9106, section 3.1).
 ghost use Rattle.std.specs.Prelude.{◌≡◌};
 ghost use Rattle.argon.specs.Kind.{type_number};
 

@@ -1,4 +1,4 @@
-// The matrix B (RFC 9106, section 3.2), in one buffer that later passes overwrite.
+//! The matrix B (RFC 9106, section 3.2), in one buffer that later passes overwrite.
 ghost use Rattle.std.specs.Prelude.{◌≡◌, ◌+◌, ◌*◌, ◌/◌, ◌%◌, true, false, ◌↔◌, length, IfOk, IsSome};
 ghost use Rattle.argon.specs.Argon2.{argon2_tag, first_hash, tag_by_first_hash};
 ghost use Rattle.argon.specs.Counts.{slice_work, work};

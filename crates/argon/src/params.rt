@@ -1,4 +1,4 @@
-// The parameters (RFC 9106, section 3.1), tested once.
+//! The parameters (RFC 9106, section 3.1), tested once.
 ghost use Rattle.std.specs.Prelude.{◌≡◌, ◌*◌, ◌<◌, ◌≤◌, ◌^◌, IfOk, Result};
 ghost use Rattle.argon.specs.Counts.{independent_segments, work};
 ghost use Rattle.argon.specs.Kind.{type_number};

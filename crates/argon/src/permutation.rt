@@ -1,9 +1,10 @@
-// The permutation P (RFC 9106, section 3.6) of two lists of sixteen words side by side, each in
-// four vectors of four words. One P is a chain of steps that wait for each other, so two overlap.
+//! The permutation P (RFC 9106, section 3.6) of two lists of sixteen words side by side, each in
+//! four vectors of four words. One P is a chain of steps that wait for each other, so two overlap.
 ghost use Rattle.std.specs.Prelude.{◌≡◌, ℕ, ◌+◌, ◌*◌, ◌%◌, ◌^◌, ◌<◌, slice_index, bit_xor};
 ghost use Rattle.std.specs.Int.{w64, rotate_right};
 ghost use Rattle.argon.specs.Compression.{mixed_words, permutation, sum_with_product};
-ghost use Rattle.argon.specs.FourWords.{sixteen_words, words_across, words_in_order};
+ghost use Rattle.four_words.specs.FourWords.{sixteen_words, words_in_order};
+ghost use Rattle.argon.specs.FourWords.{words_across};
 
 use std::simd::u64x4;
 

@@ -1,5 +1,5 @@
-// The compression function G word by word, as RFC 9106, sections 3.5 and 3.6 write it: what the
-// lane-wise body is compared with.
+//! The compression function G word by word, as RFC 9106, sections 3.5 and 3.6 write it: what the
+//! lane-wise body is compared with.
 ghost use Rattle.std.specs.Prelude.{◌<◌};
 
 use crate::block::Block;

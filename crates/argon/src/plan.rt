@@ -1,5 +1,5 @@
-// The places that a segment of independent addressing reads, from its position alone (RFC 9106,
-// section 3.4.1.2).
+//! The places that a segment of independent addressing reads, from its position alone (RFC 9106,
+//! section 3.4.1.2).
 ghost use Rattle.std.specs.Prelude.{◌≡◌, ℕ, ◌+◌, ◌*◌, ◌<◌, ◌≤◌, true, length, List};
 ghost use Rattle.argon.specs.Counts.{address_count, first_index};
 ghost use Rattle.argon.specs.Parameters.{segment_len};

@@ -1,7 +1,7 @@
-// Tags of the reference program of Argon2, as Debian packs it (argon2 0~20171227): the hexadecimal
-// text that
-//     printf %s PASSWORD | argon2 SALT -KIND -t PASSES -k MEMORY -p LANES -l LENGTH -v 13 -r
-// prints, LENGTH being half as many as its digits.
+//! Tags of the reference program of Argon2, as Debian packs it (argon2 0~20171227): the hexadecimal
+//! text that
+//!     printf %s PASSWORD | argon2 SALT -KIND -t PASSES -k MEMORY -p LANES -l LENGTH -v 13 -r
+//! prints, LENGTH being half as many as its digits.
 use crate::kind::Kind;
 
 /// One run of the reference program.

@@ -1,4 +1,4 @@
-// Where the memory of a matrix comes from: the heap, or what a test puts in its place to refuse it.
+//! Where the memory of a matrix comes from: the heap, or what a test puts in its place to refuse it.
 ghost use Rattle.std.specs.Prelude.{◌≡◌, IfOk, vec_len};
 
 use crate::block::Block;

@@ -1,4 +1,4 @@
-// The blocks of a segment and of a slice (RFC 9106, section 3.2, steps 5 and 6, and section 3.4).
+//! The blocks of a segment and of a slice (RFC 9106, section 3.2, steps 5 and 6, and section 3.4).
 ghost use Rattle.std.specs.Prelude.{◌≡◌, ℕ, ◌+◌, ◌*◌, ◌/◌, ◌%◌, ◌<◌, ◌≤◌, ◌^◌, List, length, true, false, slice_index, slice_set};
 ghost use Rattle.argon.specs.Argon2.{block_at};
 ghost use Rattle.argon.specs.Buffer.{HoldsNewest, IsInSlice, block_held, number_after_slices, with_next_number};

@@ -1,5 +1,5 @@
-// The tag from the last column (RFC 9106, section 3.2, steps 7 and 8).
-ghost use Rattle.std.specs.Prelude.{◌≡◌, ℕ, ◌+◌, ◌-◌, ◌*◌, ◌<◌, ◌≤◌, ◌^◌, length, map, slice_index_or, []};
+//! The tag from the last column (RFC 9106, section 3.2, steps 7 and 8).
+ghost use Rattle.std.specs.Prelude.{◌≡◌, ◌+◌, ◌-◌, ◌*◌, ◌<◌, ◌≤◌, ◌^◌, length, map, slice_index_or, []};
 ghost use Rattle.std.specs.List.{range_with_len};
 ghost use Rattle.blake.specs.LongHash.{long_hash};
 ghost use Rattle.blake.specs.Words.{bytes_of_words};

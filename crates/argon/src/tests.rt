@@ -1,4 +1,4 @@
-// Tags of RFC 9106 and of independent programs; the limits; the plan; a refused reservation.
+//! Tags of RFC 9106 and of independent programs; the limits; the plan; a refused reservation.
 ghost use Rattle.std.specs.Prelude.{◌≡◌, ◌<◌, ◌^◌, true, length};
 ghost use Rattle.argon.specs.Reference.{is_independent};
 

@@ -1,5 +1,5 @@
-// What the checker computes of the definitions in specs/: each function's clause is an equation,
-// which is proved by computing both sides. So the definitions are run, and not the code.
+//! What the checker computes of the definitions in specs/: each function's clause is an equation,
+//! which is proved by computing both sides. So the definitions are run, and not the code.
 ghost use Rattle.std.specs.Prelude.{◌≡◌, ◌+◌, [], ◌∷◌, codes, length};
 ghost use Rattle.std.specs.List.{range_with_len};
 ghost use Rattle.argon.specs.Argon2.{argon2_tag};

@@ -1,8 +1,8 @@
 //! Where memory comes from: the heap, or what a test puts in its place to refuse it.
-ghost use Rattle.std.specs.Prelude.{◌≡◌, false, IfOk, IfErr, length, vec_len};
+ghost use Rattle.std.specs.Prelude.{◌≡◌, IfOk, IfErr, vec_len};
 ghost use Rattle.base64.specs.Engines.{standard_no_pad};
 ghost use Rattle.base64.specs.GeneralPurpose.{IsBytes, IsDecodeFailure};
-ghost use Rattle.argon.specs.Parameters.{block_count};
+
 ghost use Rattle.argon_text.specs.EncodedText.{base64_text};
 
 use argon::{Matrix, Params};

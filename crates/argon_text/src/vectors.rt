@@ -1,5 +1,5 @@
 //! The definitions, run on what the reference program and RFC 4648 give, and laws of them.
-ghost use Rattle.std.specs.Prelude.{◌≡◌, [], ◌∷◌, List, ℕ, codes, true, false};
+ghost use Rattle.std.specs.Prelude.{◌≡◌, [], List, ℕ, codes, true, false};
 ghost use Rattle.argon_text.specs.Base64.{base64_bytes, is_base64};
 ghost use Rattle.argon_text.specs.EncodedText.{encoded_text};
 ghost use Rattle.argon_text.specs.Grammar.{Fields, HasFields, IsTextInRange, value_of_fields};

@@ -1,5 +1,5 @@
 //! Whether a password gives the tag of a value.
-ghost use Rattle.std.specs.Prelude.{◌≡◌, ◌↔◌, None, true, false, length, vec_len, IfOk, IfErr, IsTrue, MatchResult};
+ghost use Rattle.std.specs.Prelude.{◌≡◌, ◌↔◌, None, true, false, length, vec_len, IfOk, IfErr, IsTrue};
 ghost use Rattle.argon.specs.Range.{is_between};
 ghost use Rattle.argon_text.specs.Verifying.{IsToldFault, parameters_with, tag_of_password, verify_fault};
 ghost use Rattle.argon_text.specs.View.{value_of};

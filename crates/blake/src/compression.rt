@@ -1,5 +1,4 @@
 //! The compression function F of BLAKE2b and the steps in it (RFC 7693, 2.6 to 3.2).
-
 ghost use Rattle.std.specs.Prelude.{◌≡◌, ◌<◌, EachIndex, [], ◌∷◌, slice_index};
 ghost use Rattle.blake.specs.Words.{along};
 ghost use Rattle.blake.specs.Blake2b.{compress, mix, mixings, new_state, work_vector};

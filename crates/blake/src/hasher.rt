@@ -1,5 +1,4 @@
 //! BLAKE2b of a message that is handed in piece by piece (RFC 7693, 3.3).
-
 ghost use Rattle.std.specs.Prelude.{◌≡◌, ℕ, false, ◌+◌, ◌^◌, ◌<◌, ◌≤◌, ◌++◌, List, [], length, take};
 ghost use Rattle.blake.specs.Blake2b.{blake2b, compress};
 

@@ -1,5 +1,4 @@
 //! Hashes of the message 0, 1, 2, .. that other programs give, against the code.
-
 ghost use Rattle.std.specs.Prelude.{◌+◌, ◌^◌, ◌<◌, ◌≤◌, length};
 
 use crate::{Blake2b, long_hash};

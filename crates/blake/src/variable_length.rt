@@ -1,5 +1,4 @@
 //! The variable-length hash H' of Argon2 (RFC 9106, 3.3).
-
 ghost use Rattle.std.specs.Prelude.{◌≡◌, ◌+◌, ◌-◌, ◌*◌, ◌^◌, ◌<◌, ◌≤◌, ◌++◌, length, take};
 ghost use Rattle.byteorder.specs.Endian.{little_bytes};
 ghost use Rattle.blake.specs.Blake2b.{blake2b};

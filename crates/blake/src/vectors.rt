@@ -1,6 +1,5 @@
 //! The definitions of specs/ on vectors from outside. No code runs here: that an equation holds is
 //! the contract of an empty function, and the check computes it from the definitions alone.
-
 ghost use Rattle.std.specs.Prelude.{◌≡◌, [], ◌∷◌, codes, replicate};
 ghost use Rattle.blake.specs.Blake2b.{blake2b};
 ghost use Rattle.blake.specs.LongHash.{long_hash};

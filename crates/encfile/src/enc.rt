@@ -1,5 +1,4 @@
-// Encryption in pieces.
-
+//! Encryption in pieces.
 ghost use Rattle.std.specs.Prelude.{◌≡◌, ℕ, ◌+◌, ◌^◌, ◌<◌, ◌≤◌, ◌++◌, List, [], length, drop, OnOk, OnErr};
 ghost use Rattle.macs.specs.HmacSha256.{hmac_sha256};
 ghost use Rattle.romix.specs.Costs.{IsInRange, Parameters, cores};

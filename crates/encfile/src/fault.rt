@@ -1,5 +1,4 @@
-// Why a text or a file is refused.
-
+//! Why a text or a file is refused.
 use thiserror::Error;
 
 /// The text has, or would reach, 2^60 bytes.

@@ -1,5 +1,4 @@
-// The header of a file, read.
-
+//! The header of a file, read.
 ghost use Rattle.std.specs.Prelude.{◌≡◌, ◌+◌, ◌≤◌, Some, None, IfOk, IfErr, OnOk};
 ghost use Rattle.std.specs.Int.{w32, from_be_bytes};
 ghost use Rattle.encfile.specs.Header.{Derivation, IsHeaderOf, bytes_at, costs_of, has_magic, has_right_checksum, salt_of};

@@ -1,5 +1,4 @@
-// The last bytes that were read of a file: they may be its final code.
-
+//! The last bytes that were read of a file: they may be its final code.
 ghost use Rattle.std.specs.Prelude.{◌≡◌, ◌+◌, ◌-◌, ◌≤◌, ◌++◌, ◌↔◌, [], length, take, IsTrue};
 
 use comparison::are_same;

@@ -1,6 +1,5 @@
-// What the passphrase gives: 64 bytes, of which the first 32 are the key of AES-256 and the last 32
-// that of HMAC-SHA-256.
-
+//! What the passphrase gives: 64 bytes, of which the first 32 are the key of AES-256 and the last 32
+//! that of HMAC-SHA-256.
 ghost use Rattle.std.specs.Prelude.{◌≡◌, ◌+◌, ℕ, List, take, drop};
 ghost use Rattle.macs.specs.Hmac.{Holds};
 ghost use Rattle.macs.specs.HmacSha256.{hmac_sha256};

@@ -1,5 +1,4 @@
-// Laws of the definitions: each function has no body, and its clause is the law.
-
+//! Laws of the definitions: each function has no body, and its clause is the law.
 ghost use Rattle.std.specs.Prelude.{◌≡◌, ℕ, ◌+◌, ◌^◌, ◌<◌, ◌≤◌, List, length, take, Some, None};
 ghost use Rattle.romix.specs.Costs.{FitsMemory, IsInRange, Parameters, cores};
 ghost use Rattle.encfile.specs.EncryptedFile.{encrypted_file};

@@ -1,5 +1,4 @@
-// Files of worked rows, of the usual program and of an independent one, in pieces of several sizes.
-
+//! Files of worked rows, of the usual program and of an independent one, in pieces of several sizes.
 ghost use Rattle.std.specs.Prelude.{◌≡◌, ◌≤◌, ◌^◌, length, take, IfOk};
 ghost use Rattle.romix.specs.Costs.{FitsMemory};
 ghost use Rattle.encfile.specs.Header.{IsHeaderOf};

@@ -1,5 +1,4 @@
-// Vectors that the checker computes by the definitions alone.
-
+//! Vectors that the checker computes by the definitions alone.
 ghost use Rattle.std.specs.Prelude.{◌≡◌, [], ◌∷◌, codes};
 ghost use Rattle.std.specs.List.{range_with_len};
 ghost use Rattle.encfile.specs.EncryptedFile.{encrypted_file};

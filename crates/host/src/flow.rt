@@ -28,6 +28,7 @@ pub fn push_all<H: Host>(host: &mut H, bytes: &[u8]) -> Result<(), HostFault>
 /// of them has been written, not the whole.
 pub fn write_output<H: Host>(host: &mut H, bytes: &[u8]) -> Result<(), HostFault>
     requires room { AreBelow (2 ^ 63) (H.faults host.old) }
+    requires unopened { IsTrue H.tells → (H.seen host.old).output_opened ≡ None }
     ensures counts { OnOk result (H.faults host.new ≡ H.faults host.old) }
     ensures counted { OnErr result (H.faults host.new ≡ output_failed (H.faults host.old)) }
     ensures written { IsTrue H.tells →

@@ -1,5 +1,5 @@
 //! What a command asks of the world.
-ghost use Rattle.std.specs.Prelude.{◌≡◌, ◌-◌, ◌<◌, ◌≤◌, ◌^◌, Bool, [], take, length, option_map, IfOk, OnOk, OnErr, IsTrue};
+ghost use Rattle.std.specs.Prelude.{◌≡◌, ◌-◌, ◌<◌, ◌≤◌, ◌^◌, Bool, [], None, take, length, option_map, IfOk, OnOk, OnErr, IsTrue};
 ghost use Rattle.host.specs.Faults.{Faults, AreBelow, input_failed, output_failed, secret_failed, salt_failed, line_failed};
 ghost use Rattle.host.specs.Secret.{secret_of, IsBeginning};
 ghost use Rattle.host.specs.Seen.{Seen, after_pull, after_push, after_say, after_open_input, after_open_output};
@@ -30,6 +30,9 @@ pub enum Source<'a> {
 /// `seen` only what its clauses say; a call that answers `Err` raises its count by one and changes
 /// nothing else. What is said of bytes, names and lines holds of a host that tells them; the counts
 /// and the bounds on lengths hold of every host.
+///
+/// An input is opened once, and so is an output: opened again under the same name, a file would be
+/// read from its beginning, or be emptied, and contracts would not see it.
 pub trait Host {
     // Whether contracts may speak of the bytes, names and lines.
     ghost tells: { Bool };
@@ -40,18 +43,20 @@ pub trait Host {
     // How often each kind of call has failed.
     ghost faults: { Self → Faults };
 
-    /// Opens the input under this name; `None` is standard input.
+    /// Opens the input under this name, once; `None` is standard input.
     fn open_input(&mut self, name: Option<&str>) -> Result<(), HostFault>
         requires room { AreBelow (2 ^ 64 - 1) (faults self.old) }
+        requires unopened { IsTrue tells → (seen self.old).input_opened ≡ None }
         ensures counts { OnOk result (faults self.new ≡ faults self.old) }
         ensures counted { OnErr result (faults self.new ≡ input_failed (faults self.old)) }
         ensures kept { IsTrue tells → OnErr result (seen self.new ≡ seen self.old) }
         ensures opened { IsTrue tells → OnOk result
             (seen self.new ≡ after_open_input (option_map (λ n. n.now) name.entry) (seen self.old)) };
 
-    /// Opens the output under this name; `None` is standard output.
+    /// Opens the output under this name, once; `None` is standard output.
     fn open_output(&mut self, name: Option<&str>) -> Result<(), HostFault>
         requires room { AreBelow (2 ^ 64 - 1) (faults self.old) }
+        requires unopened { IsTrue tells → (seen self.old).output_opened ≡ None }
         ensures counts { OnOk result (faults self.new ≡ faults self.old) }
         ensures counted { OnErr result (faults self.new ≡ output_failed (faults self.old)) }
         ensures kept { IsTrue tells → OnErr result (seen self.new ≡ seen self.old) }

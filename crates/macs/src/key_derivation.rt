@@ -1,5 +1,4 @@
-// PBKDF2 with HMAC-SHA-256 and one iteration (RFC 8018, section 5.2).
-
+//! PBKDF2 with HMAC-SHA-256 and one iteration (RFC 8018, section 5.2).
 ghost use Rattle.std.specs.Prelude.{◌≡◌, ℕ, ◌*◌, ◌-◌, ◌^◌, ◌≤◌, List, length};
 ghost use Rattle.macs.specs.Hmac.{Holds};
 ghost use Rattle.macs.specs.Pbkdf2.{pbkdf2, pbkdf2_block};

@@ -1,5 +1,4 @@
-// HMAC with SHA-256 (RFC 2104).
-
+//! HMAC with SHA-256 (RFC 2104).
 ghost use Rattle.std.specs.Prelude.{◌≡◌, ℕ, ◌++◌, List, []};
 ghost use Rattle.macs.specs.HmacSha256.{hmac_sha256, key_block, xored_bytes};
 ghost use Rattle.macs.specs.Hmac.{Holds};

@@ -1,5 +1,4 @@
-// Outside vectors: the standards' own, and values that Python 3's hmac and hashlib gave.
-
+//! Outside vectors: the standards' own, and values that Python 3's hmac and hashlib gave.
 use crate::{Hmac, pbkdf2, pbkdf2_block};
 use sha2::{Digest, Sha256};
 use std::test::Fail;

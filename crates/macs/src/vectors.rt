@@ -1,5 +1,4 @@
-// Vectors that the checker computes by the definitions alone.
-
+//! Vectors that the checker computes by the definitions alone.
 ghost use Rattle.std.specs.Prelude.{◌≡◌, [], ◌∷◌, codes, replicate};
 ghost use Rattle.macs.specs.HmacSha256.{hmac_sha256};
 ghost use Rattle.macs.specs.Pbkdf2.{pbkdf2};

@@ -4,4 +4,4 @@ pub mod Mixing
 pub mod Naturals
 pub mod Octets
 pub mod Rows
-pub mod SixteenLanes
+pub mod XoredBlocks

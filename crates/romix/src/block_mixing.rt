@@ -1,6 +1,5 @@
-// BlockMix (RFC 7914, section 4), with X in four vectors throughout.
-
-ghost use Rattle.std.specs.Prelude.{◌≡◌, ℕ, ◌+◌, ◌*◌, ◌/◌, ◌%◌, ◌<◌, length};
+//! BlockMix (RFC 7914, section 4), with X in four vectors throughout.
+ghost use Rattle.std.specs.Prelude.{◌≡◌, ◌+◌, ◌*◌, ◌/◌, ◌%◌, ◌<◌, length};
 ghost use Rattle.romix.specs.BlockMix.{block_count, block_mix};
 
 use crate::lanes::Lanes;

@@ -1,5 +1,4 @@
-// The costs of a derivation.
-
+//! The costs of a derivation.
 ghost use Rattle.std.specs.Prelude.{◌≡◌, ◌^◌, ◌≤◌, Some, None, IfOk, IfErr, OnOk};
 ghost use Rattle.romix.specs.Costs.{FitsMemory, IsInRange, cores, parts_bytes, table_bytes};
 ghost use Rattle.romix.specs.Faults.{cost_fault, limit_fault};

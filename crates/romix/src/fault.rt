@@ -1,5 +1,4 @@
-// Why costs are refused.
-
+//! Why costs are refused.
 use thiserror::Error;
 
 /// Why costs are refused: the first three by themselves, the last two by limits. The first that

@@ -1,4 +1,4 @@
-// What a derivation may take.
+//! What a derivation may take.
 
 /// What a derivation may take.
 #[derive(Debug, Clone, Copy, PartialEq, Eq, Drop)]

@@ -1,5 +1,4 @@
-// ROMix of each part (RFC 7914, section 6, step 2).
-
+//! ROMix of each part (RFC 7914, section 6, step 2).
 ghost use Rattle.std.specs.Prelude.{◌≡◌, ◌+◌, ◌*◌, ◌/◌, ◌%◌, ◌^◌, ◌<◌, ◌≤◌, length};
 ghost use Rattle.romix.specs.BlockMix.{block_count};
 ghost use Rattle.romix.specs.Scrypt.{mixed_parts};

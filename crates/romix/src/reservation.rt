@@ -1,5 +1,4 @@
-// Where the lists of a workspace come from. A test puts a source that refuses in its place.
-
+//! Where the lists of a workspace come from. A test puts a source that refuses in its place.
 ghost use Rattle.std.specs.Prelude.{◌≡◌, IfOk, vec_len};
 
 use std::alloc::{AllocError, Global};

@@ -1,7 +1,6 @@
-// ROMix (RFC 7914, section 5) over a flat table, with the blocks of its rows in the order of the
-// diagonals.
-
-ghost use Rattle.std.specs.Prelude.{◌≡◌, ℕ, ◌+◌, ◌*◌, ◌/◌, ◌%◌, ◌^◌, ◌<◌, ◌≤◌, length};
+//! ROMix (RFC 7914, section 5) over a flat table, with the blocks of its rows in the order of the
+//! diagonals.
+ghost use Rattle.std.specs.Prelude.{◌≡◌, ◌+◌, ◌*◌, ◌/◌, ◌%◌, ◌^◌, ◌<◌, ◌≤◌, length};
 ghost use Rattle.romix.specs.BlockMix.{block_count, block_mix, xored_words};
 ghost use Rattle.romix.specs.Diagonals.{natural_row};
 ghost use Rattle.romix.specs.Romix.{integerify, romix};

@@ -1,8 +1,8 @@
-// The Salsa20/8 core (RFC 7914, section 3), four words at a time, on the diagonals of the state.
-
+//! The Salsa20/8 core (RFC 7914, section 3), four words at a time, on the diagonals of the state.
 ghost use Rattle.std.specs.Prelude.{◌≡◌, ℕ, ◌+◌, ◌<◌, slice_index};
 ghost use Rattle.romix.specs.Salsa20.{column_round, quarter_round, quarter_step, row_round, salsa20_8, word_sum};
-ghost use Rattle.romix.specs.Lanes.{turned_words, words_by_diagonals, words_by_rows};
+ghost use Rattle.four_words.specs.FourWords.{words_in_order};
+ghost use Rattle.romix.specs.Lanes.{words_by_diagonals, words_by_rows};
 
 use crate::lanes::Lanes;
 use crate::ticks::Ticks;
@@ -42,7 +42,7 @@ fn quarter_round(x: Lanes) -> Lanes
 // The lanes from lane 1 on, around the end.
 #[inline(always)]
 fn turned_by_1(v: u32x4) -> u32x4
-    ensures words { result ≡ turned_words v 1 2 3 0 }
+    ensures words { result ≡ words_in_order v 1 2 3 0 }
 {
     v.rotate_elements_left::<1>()
 }
@@ -50,7 +50,7 @@ fn turned_by_1(v: u32x4) -> u32x4
 // The lanes from lane 2 on, around the end.
 #[inline(always)]
 fn turned_by_2(v: u32x4) -> u32x4
-    ensures words { result ≡ turned_words v 2 3 0 1 }
+    ensures words { result ≡ words_in_order v 2 3 0 1 }
 {
     v.rotate_elements_left::<2>()
 }
@@ -58,7 +58,7 @@ fn turned_by_2(v: u32x4) -> u32x4
 // The lanes from lane 3 on, around the end.
 #[inline(always)]
 fn turned_by_3(v: u32x4) -> u32x4
-    ensures words { result ≡ turned_words v 3 0 1 2 }
+    ensures words { result ≡ words_in_order v 3 0 1 2 }
 {
     v.rotate_elements_left::<3>()
 }

@@ -1,5 +1,4 @@
-// The table V of ROMix (RFC 7914, section 5): rows of one length, one after another.
-
+//! The table V of ROMix (RFC 7914, section 5): rows of one length, one after another.
 ghost use Rattle.std.specs.Prelude.{◌≡◌, ℕ, ◌+◌, ◌*◌, ◌<◌, ◌≤◌, length};
 ghost use Rattle.romix.specs.Table.{row_at};
 

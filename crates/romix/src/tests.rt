@@ -1,5 +1,5 @@
-// Outside vectors: the standard's own, and values that Python 3's hashlib gave; both forms of the
-// kernels beside one another; and each growth refused in turn.
+//! Outside vectors: the standard's own, and values that Python 3's hashlib gave; both forms of the
+//! kernels beside one another; and each growth refused in turn.
 
 mod plain;
 

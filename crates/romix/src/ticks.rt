@@ -1,5 +1,4 @@
-// A count that contracts see. It takes no bytes, and its methods do nothing at run time.
-
+//! A count that contracts see. It takes no bytes, and its methods do nothing at run time.
 ghost use Rattle.std.specs.Prelude.{◌≡◌, ℕ, ◌+◌};
 ghost use Rattle.std.specs.Borrow.{ftrue};
 

@@ -1,5 +1,4 @@
-// Vectors that the checker computes by the definitions alone.
-
+//! Vectors that the checker computes by the definitions alone.
 ghost use Rattle.std.specs.Prelude.{◌≡◌, [], ◌∷◌};
 ghost use Rattle.romix.specs.BlockMix.{block_mix};
 ghost use Rattle.romix.specs.Romix.{romix};

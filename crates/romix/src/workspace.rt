@@ -1,5 +1,4 @@
-// The memory of a derivation, and the derivation.
-
+//! The memory of a derivation, and the derivation.
 ghost use Rattle.std.specs.Prelude.{◌≡◌, ◌+◌, ◌-◌, ◌*◌, ◌^◌, ◌≤◌, length, IfOk};
 ghost use Rattle.romix.specs.Costs.{FitsMemory, cores};
 ghost use Rattle.romix.specs.Scrypt.{scrypt};

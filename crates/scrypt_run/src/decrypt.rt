@@ -1,11 +1,12 @@
 //! `scrypt dec`: the text of an encrypted file.
-ghost use Rattle.std.specs.Prelude.{◌≡◌, ◌+◌, ◌^◌, ℕ, List, ◌++◌, take, length, MatchResult, IfOk, IfErr, OnOk, IsTrue};
+ghost use Rattle.std.specs.Prelude.{◌≡◌, ◌+◌, ◌^◌, ℕ, List, ◌++◌, None, take, length, MatchResult, IfOk, IfErr, OnOk, IsTrue};
 ghost use Rattle.romix.specs.Costs.{FitsMemory};
 ghost use Rattle.encfile.specs.Decrypting.{HasRead, length_read};
 ghost use Rattle.encfile.specs.EncryptedFile.{HasRightHeaderCode};
 ghost use Rattle.encfile.specs.Header.{IsHeaderOf};
 ghost use Rattle.host.specs.Faults.{AreBelow};
 ghost use Rattle.host.specs.Secret.{source_of};
+ghost use Rattle.host.specs.Seen.{IsUnopened};
 ghost use Rattle.scrypt_run.specs.Decrypting.{DecryptRefused, DecryptSucceeds, Decrypted, OpenRefused, ReleaseRefused, text_behind};
 ghost use Rattle.scrypt_run.specs.Passphrase.{HasPassphrase, first_line_at};
 ghost use Rattle.scrypt_run.specs.Refusal.{counted_by};
@@ -103,6 +104,7 @@ fn release<H: Host>(host: &mut H, dec: &mut Dec) -> Result<(), ScryptRefusal>
 // Opens the output, writes the text, and tests the final code.
 fn finish<H: Host>(host: &mut H, outfile: Option<&str>, dec: Dec) -> Result<(), ScryptRefusal>
     requires room { AreBelow (2 ^ 63) (H.faults host.old) }
+    requires unopened { IsTrue H.tells → (H.seen host.old).output_opened ≡ None }
     requires new { length_read dec ≡ 0 }
     requires read { (passphrase front : List ℕ) × HasRead dec passphrase front }
     ensures counts { MatchResult result (λ _. H.faults host.new ≡ H.faults host.old)
@@ -135,6 +137,7 @@ fn finish<H: Host>(host: &mut H, outfile: Option<&str>, dec: Dec) -> Result<(), 
 /// all of it is written.
 pub fn decrypt<H: Host>(alloc: Global, host: &mut H, task: &Task<'_>) -> Result<(), ScryptRefusal>
     requires room { AreBelow (2 ^ 63) (H.faults host.old) }
+    requires unopened { IsTrue H.tells → IsUnopened (H.seen host.old) }
     requires limits { HasAllowedLimits (task_seen task.now) }
     ensures counts { MatchResult result (λ _. H.faults host.new ≡ H.faults host.old)
         (λ r. H.faults host.new ≡ counted_by r (H.faults host.old)) }

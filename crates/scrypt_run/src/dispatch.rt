@@ -1,6 +1,7 @@
 //! A run for a request.
-ghost use Rattle.std.specs.Prelude.{◌≡◌, ◌≤◌, ◌^◌, MatchResult, IfErr, OnOk, IsTrue};
+ghost use Rattle.std.specs.Prelude.{◌≡◌, ◌^◌, MatchResult, IfErr, OnOk, IsTrue};
 ghost use Rattle.host.specs.Faults.{AreBelow};
+ghost use Rattle.host.specs.Seen.{IsUnopened};
 ghost use Rattle.scrypt_run.specs.Refusal.{counted_by};
 ghost use Rattle.scrypt_run.specs.Request.{IsAllowed, request_seen};
 ghost use Rattle.scrypt_run.specs.Run.{RequestRefused, RequestSucceeds};
@@ -13,14 +14,15 @@ use crate::request::Request;
 use host::Host;
 use std::alloc::Global;
 
-/// Does what a request asks for: all of a run but its words and the line of a refusal. The limit
-/// `-M` is at most 2^40 bytes.
+/// Does what a request asks for: all of a run but its words and the line of a refusal. Nothing
+/// is opened yet, and the limit `-M` is at most 2^40 bytes.
 ///
 /// The faults are S4a, S4b, S5b and S6 to S15, in the order of the subcommand. Whatever was written
 /// before a fault stays written, and no output is opened before every check up to the header's code
 /// has passed; `OutOfMemory` is never told after an output was opened.
 pub fn run<H: Host>(alloc: Global, host: &mut H, request: &Request<'_>) -> Result<(), ScryptRefusal>
     requires room { AreBelow (2 ^ 63) (H.faults host.old) }
+    requires unopened { IsTrue H.tells → IsUnopened (H.seen host.old) }
     requires allowed { IsAllowed (request_seen request.now) }
     ensures counts { MatchResult result (λ _. H.faults host.new ≡ H.faults host.old)
         (λ r. H.faults host.new ≡ counted_by r (H.faults host.old)) }

@@ -5,7 +5,7 @@ ghost use Rattle.encfile.specs.EncryptedFile.{body};
 ghost use Rattle.encfile.specs.Encrypting.{HasEncrypted};
 ghost use Rattle.host.specs.Faults.{AreBelow};
 ghost use Rattle.host.specs.Secret.{source_of};
-ghost use Rattle.host.specs.Seen.{after_open_input};
+ghost use Rattle.host.specs.Seen.{IsUnopened, after_open_input};
 ghost use Rattle.scrypt_run.specs.Encrypting.{EncryptRefused, EncryptSucceeds, IsEncrypted, StartRefused, TextNotOpened, WriteRefused, costs_refusal, salt_used};
 ghost use Rattle.scrypt_run.specs.Passphrase.{HasPassphrase, first_line_at};
 ghost use Rattle.scrypt_run.specs.Refusal.{RaisesNoCount, counted_by, refusal_of};
@@ -40,6 +40,7 @@ fn test_limits(asked: &Encryption<'_>) -> Result<(), ScryptRefusal>
 // Holds the costs against the limits, and opens the input.
 fn open_text<H: Host>(host: &mut H, asked: &Encryption<'_>) -> Result<(), ScryptRefusal>
     requires room { AreBelow (2 ^ 63) (H.faults host.old) }
+    requires unopened { IsTrue H.tells → (H.seen host.old).input_opened ≡ None }
     ensures counts { MatchResult result (λ _. H.faults host.new ≡ H.faults host.old)
         (λ r. H.faults host.new ≡ counted_by r (H.faults host.old)) }
     ensures admitted { OnOk result (costs_refusal (encryption_seen asked.now) ≡ None) }
@@ -151,6 +152,7 @@ fn write_body<H: Host>(host: &mut H, enc: &mut Enc) -> Result<(), ScryptRefusal>
 // Opens the output, and writes the file of the input's text.
 fn write_file<H: Host>(host: &mut H, outfile: Option<&str>, enc: Enc) -> Result<(), ScryptRefusal>
     requires room { AreBelow (2 ^ 63) (H.faults host.old) }
+    requires unopened { IsTrue H.tells → (H.seen host.old).output_opened ≡ None }
     requires begun { (passphrase salt : List ℕ) × (costs : Parameters)
         × HasEncrypted enc passphrase salt costs [] }
     ensures counts { MatchResult result (λ _. H.faults host.new ≡ H.faults host.old)
@@ -187,6 +189,7 @@ pub fn encrypt<H: Host>(
     asked: &Encryption<'_>,
 ) -> Result<(), ScryptRefusal>
     requires room { AreBelow (2 ^ 63) (H.faults host.old) }
+    requires unopened { IsTrue H.tells → IsUnopened (H.seen host.old) }
     requires limits { HasAllowedLimits (task_seen asked.now.task) }
     ensures counts { MatchResult result (λ _. H.faults host.new ≡ H.faults host.old)
         (λ r. H.faults host.new ≡ counted_by r (H.faults host.old)) }

@@ -46,6 +46,7 @@ fn pull_front<H: Host>(host: &mut H, front: &mut [u8; 96]) -> Result<usize, Host
 // Opens the input and reads its first 96 bytes.
 fn read_front<H: Host>(host: &mut H, infile: Option<&str>) -> Result<[u8; 96], ScryptRefusal>
     requires room { AreBelow (2 ^ 63) (H.faults host.old) }
+    requires unopened { IsTrue H.tells → (H.seen host.old).input_opened ≡ None }
     ensures counts { MatchResult result (λ _. H.faults host.new ≡ H.faults host.old)
         (λ r. H.faults host.new ≡ counted_by r (H.faults host.old)) }
     ensures long { IsTrue H.tells → OnOk result (96 ≤ length (H.seen host.old).input) }
@@ -106,6 +107,7 @@ pub fn open_front<H: Host>(
     infile: Option<&str>,
 ) -> Result<([u8; 96], Header), ScryptRefusal>
     requires room { AreBelow (2 ^ 63) (H.faults host.old) }
+    requires unopened { IsTrue H.tells → (H.seen host.old).input_opened ≡ None }
     ensures counts { MatchResult result (λ _. H.faults host.new ≡ H.faults host.old)
         (λ r. H.faults host.new ≡ counted_by r (H.faults host.old)) }
     ensures long { IsTrue H.tells → OnOk result (96 ≤ length (H.seen host.old).input) }
@@ -137,6 +139,7 @@ pub fn open_admitted_front<H: Host>(
     limits: &Limits,
 ) -> Result<([u8; 96], Header), ScryptRefusal>
     requires room { AreBelow (2 ^ 63) (H.faults host.old) }
+    requires unopened { IsTrue H.tells → (H.seen host.old).input_opened ≡ None }
     ensures counts { MatchResult result (λ _. H.faults host.new ≡ H.faults host.old)
         (λ r. H.faults host.new ≡ counted_by r (H.faults host.old)) }
     ensures long { IsTrue H.tells → OnOk result (96 ≤ length (H.seen host.old).input) }

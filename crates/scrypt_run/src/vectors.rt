@@ -1,4 +1,4 @@
-// Vectors that the checker computes by the definitions alone.
+//! Vectors that the checker computes by the definitions alone.
 ghost use Rattle.std.specs.Prelude.{◌≡◌, codes};
 ghost use Rattle.scrypt_run.specs.Inspecting.{costs_line};
 

@@ -1,51 +1,57 @@
 //! The words behind a program's name.
-ghost use Rattle.std.specs.Prelude.{◌≡◌, drop};
-
 use std::env;
-use std::env::Env;
+use std::env::{Env, FillError};
 use std::io::ErrorKind;
 
 /// Why the words cannot be handed to a command.
 #[derive(Clone, Copy, Debug, PartialEq, Eq)]
 pub enum WordsFault {
-    /// One of them, or the program's name, is not UTF-8.
+    /// One of them is not UTF-8.
     NotText,
     /// A growth of memory was refused.
     OutOfMemory,
 }
 
-/// The words behind the program's name. They come as a whole or not at all.
+/// The words behind the program's name, which may itself be of any bytes. They come as a whole or
+/// not at all.
 pub fn words(rt: HostRuntime) -> Result<Vec<String>, WordsFault> {
     words_of(&rt)
 }
 
-// The words of a process with these arguments.
-fn words_of<E: Env + AllocGlobal>(process: &E) -> Result<Vec<String>, WordsFault> {
-    let arguments = match env::args(process) {
-        Ok(arguments) => arguments,
-        Err(e) if e.kind() == ErrorKind::OutOfMemory => return Err(WordsFault::OutOfMemory),
-        Err(_) => return Err(WordsFault::NotText),
-    };
-    match arguments.collect(process.alloc()) {
-        Ok(all) => Ok(without_first(all)),
-        Err(_) => Err(WordsFault::OutOfMemory),
+// A process without its first argument, its name.
+#[derive(Clone, Copy)]
+struct Nameless<'a, E>(&'a E);
+
+impl<'a, E: Env> Env for Nameless<'a, E> {
+    fn arg(&self, i: usize, buf: &mut [u8]) -> Result<usize, FillError> {
+        match i.checked_add(1) {
+            Some(place) => self.0.arg(place, buf),
+            None => Err(FillError::NotPresent),
+        }
+    }
+
+    fn var(&self, name: &str, buf: &mut [u8]) -> Result<usize, FillError> {
+        self.0.var(name, buf)
+    }
+
+    fn var_at(&self, i: usize, buf: &mut [u8]) -> Result<usize, FillError> {
+        self.0.var_at(i, buf)
     }
 }
 
-// All words but the first, if there is one.
-fn without_first(mut words: Vec<String>) -> Vec<String>
-    ensures rest { result.items ≡ drop 1 words.items }
-{
-    if !words.is_empty() {
-        words.remove(0);
+// The words of a process with these arguments.
+fn words_of<E: Env + AllocGlobal>(process: &E) -> Result<Vec<String>, WordsFault> {
+    let alloc = process.alloc();
+    match env::args(&(Nameless(process), alloc)) {
+        Ok(words) => words.collect(alloc).map_err(|_| WordsFault::OutOfMemory),
+        Err(e) if e.kind() == ErrorKind::OutOfMemory => Err(WordsFault::OutOfMemory),
+        Err(_) => Err(WordsFault::NotText),
     }
-    words
 }
 
 #[cfg(test)]
 mod tests {
     use super::*;
-    use std::env::FillError;
     use std::test::Fail;
 
     // A process with these arguments.
@@ -82,7 +88,7 @@ mod tests {
             (Process(&[b"argon2"]), Ok(&[])),
             (Process(&[b"argon2", b"", b"-e"]), Ok(&["", "-e"])),
             (Process(&[b"argon2", b"\xff"]), Err(WordsFault::NotText)),
-            (Process(&[b"\xff", b"-e"]), Err(WordsFault::NotText)),
+            (Process(&[b"\xff", b"-e"]), Ok(&["-e"])),
         ];
         for (process, expected) in rows {
             match (words_of(&(process, rt.alloc())), expected) {

@@ -4,7 +4,7 @@ ghost use Rattle.std.specs.Io.KnownBytes.{Consumes};
 ghost use Rattle.host.specs.Faults.{no_faults};
 ghost use Rattle.host.specs.Seen.{nothing_seen};
 
-use crate::placeholders::Placeholders;
+use crate::placeholders::{Placeholders, beside_standard_streams};
 use crate::streams::{read_full, read_some, write_some};
 use host::{Host, HostFault, Source};
 use std::env::{Env, FillError};
@@ -28,7 +28,8 @@ enum Stream {
 /// write that a signal interrupts is asked again at most 16 times, and a write of no bytes is a
 /// fault; a line goes out by the toolchain's printing, with its line feed in one call. A standard
 /// stream that is closed when the host is made stays without use: no file that is opened later takes
-/// its place, and reading or writing it is a fault.
+/// its place, and reading or writing it is a fault. Where the root folder may not be opened, opening
+/// a file is a fault as long as a standard stream is closed.
 ///
 /// It tells no bytes, since what the system holds is not known to contracts. They see how often each
 /// kind of call has failed.
@@ -86,10 +87,7 @@ fn input_stream(rt: HostRuntime, name: Option<&str>) -> Result<Stream, HostFault
     let Some(path) = name else {
         return Ok(Stream::Standard);
     };
-    match File::open(&rt, path) {
-        Ok(input) => Ok(Stream::Named(input)),
-        Err(_) => Err(HostFault),
-    }
+    Ok(Stream::Named(beside_standard_streams(File::open(&rt, path))?))
 }
 
 // A named file to be written, made or emptied, or standard output.
@@ -100,10 +98,7 @@ fn output_stream(rt: HostRuntime, name: Option<&str>) -> Result<Stream, HostFaul
     let Some(path) = name else {
         return Ok(Stream::Standard);
     };
-    match File::create(&rt, path) {
-        Ok(output) => Ok(Stream::Named(output)),
-        Err(_) => Err(HostFault),
-    }
+    Ok(Stream::Named(beside_standard_streams(File::create(&rt, path))?))
 }
 
 // The first bytes of an environment variable.
@@ -125,10 +120,10 @@ fn read_secret(rt: HostRuntime, source: Source<'_>, buf: &mut [u8]) -> Result<us
     match source {
         Source::StdinOnce => read_full(&mut rt.stdin(), buf),
         Source::Env(name) => read_variable(&rt, name, buf),
-        Source::File(name) => match File::open(&rt, name) {
-            Ok(mut file) => read_full(&mut file, buf),
-            Err(_) => Err(HostFault),
-        },
+        Source::File(name) => {
+            let mut file = beside_standard_streams(File::open(&rt, name))?;
+            read_full(&mut file, buf)
+        }
     }
 }
 
@@ -145,10 +140,8 @@ fn read_salt<R: Read>(source: &mut R, out: &mut [u8; 32]) -> Result<(), HostFaul
 
 // A salt of the system's random bytes.
 fn random_salt(rt: HostRuntime, out: &mut [u8; 32]) -> Result<(), HostFault> {
-    match File::open(&rt, "/dev/urandom") {
-        Ok(mut file) => read_salt(&mut file, out),
-        Err(_) => Err(HostFault),
-    }
+    let mut file = beside_standard_streams(File::open(&rt, "/dev/urandom"))?;
+    read_salt(&mut file, out)
 }
 
 impl Host for SystemHost {

@@ -72,18 +72,3 @@ unless_faulty (kind ∷ kinds) answer = None
 abbrev pub scrypt_words : List Text → Option Words
 scrypt_words words = unless_faulty (fault_of scrypt_app words)
     (option_and_then (λ found. words_at found.0 found.1) (subcommand_of scrypt_app words))
-
--- no option, and these files
-abbrev pub no_options : Text → Option Text → CommonWords
-no_options infile outfile = record {
-  max_bytes = None;
-  max_ops = None;
-  is_stdin = false;
-  passphrase = None;
-  infile = infile;
-  outfile = outfile;
-}
-
--- the words of enc with neither costs nor salt
-abbrev pub no_costs : CommonWords → EncWords
-no_costs common = record { log_n = None; r = None; p = None; salt = None; common = common }

@@ -1,5 +1,5 @@
 //! A whole run of `argon2`.
-ghost use Rattle.std.specs.Prelude.{◌≡◌, ◌+◌, ◌≤◌, ◌^◌, Ok, MatchResult, IfOk, IfErr, OnOk, IsTrue, map, string_bytes};
+ghost use Rattle.std.specs.Prelude.{◌≡◌, ◌≤◌, ◌^◌, Ok, MatchResult, IfOk, IfErr, OnOk, IsTrue, map, string_bytes};
 ghost use Rattle.host.specs.Faults.{AreBelow};
 ghost use Rattle.host.specs.Seen.{IsUnopened};
 ghost use Rattle.command.specs.Argon2.Output.{argon2_output};
@@ -33,6 +33,7 @@ fn prepare<H: Host>(alloc: Global, words: &[String], host: &mut H) -> Result<Vec
 // All of a run but the line of a refusal.
 fn attempt<H: Host>(alloc: Global, words: &[String], host: &mut H) -> Result<(), Argon2Refusal>
     requires room { AreBelow (2 ^ 63) (H.faults host.old) }
+    requires unopened { IsTrue H.tells → IsUnopened (H.seen host.old) }
     ensures counts { OnOk result (H.faults host.new ≡ H.faults host.old) }
     ensures counted { IfErr result (λ r. H.faults host.new ≡ counted_by r (H.faults host.old)) }
     ensures succeeds { IsTrue H.tells →

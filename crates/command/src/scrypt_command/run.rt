@@ -13,6 +13,7 @@ use std::alloc::Global;
 // All of a run but the line of a refusal.
 fn attempt<H: Host>(alloc: Global, words: &[String], host: &mut H) -> Result<(), ScryptRefusal>
     requires room { AreBelow (2 ^ 63) (H.faults host.old) }
+    requires unopened { IsTrue H.tells → IsUnopened (H.seen host.old) }
     ensures counts { MatchResult result (λ _. H.faults host.new ≡ H.faults host.old)
         (λ r. H.faults host.new ≡ counted_by r (H.faults host.old)) }
     ensures succeeds { IsTrue H.tells →

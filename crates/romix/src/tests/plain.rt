@@ -1,5 +1,4 @@
-// The core and BlockMix word by word, as RFC 7914, sections 3 and 4, writes them.
-
+//! The core and BlockMix word by word, as RFC 7914, sections 3 and 4, writes them.
 ghost use Rattle.std.specs.Prelude.{◌<◌};
 
 /// Words of a row with r = 8.

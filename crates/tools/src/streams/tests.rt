@@ -1,5 +1,5 @@
 //! Streams that are interrupted, that fail in the middle, and that take or give little.
-ghost use Rattle.std.specs.Prelude.{◌≡◌, ◌≤◌, IfOk, length};
+ghost use Rattle.std.specs.Prelude.{◌≡◌, IfOk};
 
 use super::*;
 use std::io;

@@ -1,5 +1,4 @@
 //! The system's files, its environment and its random bytes.
-ghost use Rattle.std.specs.Prelude.{◌≤◌, IfOk, length};
 
 use super::*;
 use host::refuse;

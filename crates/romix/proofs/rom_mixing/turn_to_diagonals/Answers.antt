@@ -4,7 +4,7 @@ use Rattle.romix.specs.BlockMix.{block_at}
 use Rattle.romix.specs.Diagonals.{natural_blocks}
 use Rattle.romix.specs.Lanes.{words_by_rows}
 use Rattle.romix.proofs.Naturals.{natural_blocks-written, take-block_at}
-use Rattle.romix.proofs.SixteenLanes.{block_left}
+use Rattle.romix.proofs.XoredBlocks.{block_left}
 use Rattle.romix.proofs.rom_mixing.turn_to_diagonals.Goals as goal
 
 pub loop-i-init : goal.loop-i-init

@@ -2,7 +2,7 @@ use Rattle.std.proofs.Common.{◌≡◌, ℕ, List, ◌*◌, ◌/◌, length, ta
 use Rattle.std.proofs.lemmas.List.{take_all}
 use Rattle.romix.specs.Diagonals.{natural_block, natural_blocks}
 use Rattle.romix.proofs.Naturals.{natural_blocks-more}
-use Rattle.romix.proofs.SixteenLanes.{block_left}
+use Rattle.romix.proofs.XoredBlocks.{block_left}
 use Rattle.romix.proofs.rom_mixing.turn_to_rows.Goals as goal
 
 pub loop-i-init : goal.loop-i-init

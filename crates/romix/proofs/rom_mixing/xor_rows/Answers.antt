@@ -1,5 +1,5 @@
 use Rattle.std.proofs.Common.{arith}
-use Rattle.romix.proofs.SixteenLanes.{block_left, block_xored, same_xored}
+use Rattle.romix.proofs.XoredBlocks.{block_left, block_xored, same_xored}
 use Rattle.romix.proofs.rom_mixing.xor_rows.Goals as goal
 
 pub loop-i-preserved : goal.loop-i-preserved

@@ -1,7 +1,7 @@
 use Rattle.std.proofs.Common.{◌*◌, ◌+◌, arith}
 use Rattle.std.proofs.lemmas.Simd.{take_more_put_chunk}
 use Rattle.romix.specs.Lanes.{words_by_rows}
-use Rattle.romix.proofs.SixteenLanes.{drop_put, stored}
+use Rattle.four_words.proofs.Runs.{drop_put, sixteen_written}
 use Rattle.romix.proofs.lanes.Lanes.store.Goals as goal
 
 pub returns-clause-front : goal.returns-clause-front
@@ -13,7 +13,7 @@ returns-clause-front c =
       c.put_four-3.ensures.words,
       c.put_four-2.ensures.words,
       c.put_four.ensures.words,
-      stored c.args.row.now x.first x.second x.third x.fourth at (omega arith),
+      sixteen_written c.args.row.now x.first x.second x.third x.fourth at (omega arith),
     )
     (take_more_put_chunk at c.args.row.now (words_by_rows x) (16 * (c.args.i + 1)) (omega arith) (omega arith))
 
@@ -26,6 +26,6 @@ returns-clause-rest c =
       c.put_four-3.ensures.words,
       c.put_four-2.ensures.words,
       c.put_four.ensures.words,
-      stored c.args.row.now x.first x.second x.third x.fourth at (omega arith),
+      sixteen_written c.args.row.now x.first x.second x.third x.fourth at (omega arith),
     )
     (drop_put c.args.row.now (words_by_rows x) at (16 * (c.args.i + 1)) (omega arith))

@@ -1,0 +1,2 @@
+-- Words of vectors.
+pub mod FourWords
