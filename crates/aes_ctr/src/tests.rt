@@ -1,3 +1,4 @@
+//! The vectors of the standards, and the bodies beside one another.
 use crate::key_stream::xor_blocks;
 use crate::{Aes256, Ctr};
 use std::process::Abort;

@@ -3,8 +3,8 @@
 
 ghost use Rattle.std.specs.Prelude.{◌≡◌, ◌↔◌, length, IsTrue};
 
-/// Whether two texts of one length are the same. It looks at every byte before it decides, so that
-/// the time that it takes doesn't tell where they differ.
+/// Whether two texts of one length are the same. It looks at every byte before it decides; what its
+/// time tells is not promised.
 pub fn are_same(left: &[u8], right: &[u8]) -> bool
     requires same_length { length left.now ≡ length right.now }
     ensures same { IsTrue result ↔ (left.now ≡ right.now) }

@@ -20,16 +20,16 @@ pub struct WrongPassphrase;
 /// Why 64 bytes are no header. The first that holds, in this order, is told.
 #[derive(Debug, Clone, Copy, PartialEq, Eq, Drop, Error)]
 pub enum HeaderFault {
-    /// Bytes 0 to 5 are not the text `scrypt`.
+    /// 1: bytes 0 to 5 are not the text `scrypt`.
     #[error("not valid scrypt data")]
     Magic,
-    /// Byte 6, the version of the format, is not 0.
+    /// 2: byte 6, the version of the format, is not 0.
     #[error("unsupported format version")]
     Version,
-    /// Bytes 48 to 63 are not the first 16 bytes of the SHA-256 of bytes 0 to 47.
+    /// 3: bytes 48 to 63 are not the first 16 bytes of the SHA-256 of bytes 0 to 47.
     #[error("the checksum of the header is wrong")]
     Checksum,
-    /// log2 N is not 1 to 63, r or p is 0, or r * p is 2^30 or more.
+    /// 4: log2 N is not 1 to 63, r or p is 0, or r * p is 2^30 or more.
     #[error("the costs are out of range")]
     CostsOutOfRange,
 }

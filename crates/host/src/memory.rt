@@ -385,9 +385,7 @@ mod tests {
         assert_eq!(rt; host.input_name(), None);
         assert_eq!(rt; host.open_input(Some("in")), Ok(()));
         assert_eq!(rt; host.input_name(), Some(Some("in")));
-        assert_eq!(rt; host.open_input(None), Ok(()));
-        assert_eq!(rt; host.input_name(), Some(None));
-        host.fail_at(4);
+        host.fail_at(3);
         assert_eq!(rt; host.pull(&mut buf), Err(HostFault));
         assert_eq!(rt; host.pull(&mut buf), Ok(2));
         assert_eq!(rt; buf, *b"in\0\0");
