@@ -1,9 +1,9 @@
 -- The key schedule and the key that begins it.
-use Rattle.std.proofs.Common.{◌≡◌, ℕ, zero, suc, ◌+◌, ◌*◌, ◌<◌, List, [], ◌∷◌, ◌++◌, length, take, drop, set, get_or, bit_xor, arith, refl, ap, sym, ◌∙◌, add-one, length-append, append-nil}
+use Rattle.std.proofs.Common.{◌≡◌, ℕ, zero, suc, ◌+◌, ◌*◌, ◌<◌, List, [], ◌∷◌, ◌++◌, length, take, drop, set, get_or, slice_index_or, bit_xor, arith, refl, ap, sym, ◌∙◌, add-one, length-append, append-nil}
 use Rattle.std.proofs.lemmas.List.{take_all, take_more_set, get_or-take, take-append-le, append_assoc, take-append-drop, take-take, drop-take}
 use Rattle.std.specs.Simd.Lanes.{zip2}
 use Rattle.std.specs.List.{concat}
-use Rattle.aes_ctr.specs.Aes.{key_of, key_words, schedule_words, temporary_word, word_at}
+use Rattle.aes_ctr.specs.Aes.{key_of, key_words, schedule_words, sub_bytes, sub_word, temporary_word, word_at}
 
 pub length-key_words : (key : List ℕ) (n : ℕ) → length (key_words key n) ≡ n
 unfolding key_words
@@ -63,3 +63,16 @@ take-schedule_words key (suc n) =
 
 pub key_of-schedule_words : (key : List ℕ) (n : ℕ) → length key ≡ 32 → key_of (schedule_words key n) ≡ key
 key_of-schedule_words key n h = ap concat (take-schedule_words key n) ∙ concat-key_words key 8 ∙ take_all 32 key (omega arith)
+
+-- the first four bytes of a state that begins with a word, after SubBytes, are SubWord of it
+pub sub_word_in_state : (word : List ℕ) → length word ≡ 4
+    → (state : List ℕ) → state ≡ sub_bytes (slice_index_or word 0 0 ∷ slice_index_or word 1 0 ∷ slice_index_or word 2 0 ∷ slice_index_or word 3 0
+    ∷ 0 ∷ 0 ∷ 0 ∷ 0 ∷ 0 ∷ 0 ∷ 0 ∷ 0 ∷ 0 ∷ 0 ∷ 0 ∷ 0 ∷ [])
+    → slice_index_or state 0 0 ∷ slice_index_or state 1 0 ∷ slice_index_or state 2 0 ∷ slice_index_or state 3 0 ∷ [] ≡ sub_word word
+unfolding sub_bytes
+sub_word_in_state (a ∷ b ∷ c ∷ d ∷ []) four state is = rw is refl
+sub_word_in_state [] four state is = absurd (omega arith)
+sub_word_in_state (a ∷ []) four state is = absurd (omega arith)
+sub_word_in_state (a ∷ b ∷ []) four state is = absurd (omega arith)
+sub_word_in_state (a ∷ b ∷ c ∷ []) four state is = absurd (omega arith)
+sub_word_in_state (a ∷ b ∷ c ∷ d ∷ e ∷ word) four state is = absurd (omega arith)

@@ -3,18 +3,23 @@ ghost use Rattle.std.specs.Prelude.{◌≡◌, ◌*◌, ◌<◌, ◌≤◌, bit_
 ghost use Rattle.std.specs.Simd.Lanes.{zip2};
 ghost use Rattle.aes_ctr.specs.Aes.{key_of, key_schedule, rot_word, sub_word, temporary_word};
 
-use crate::s_box::sub_byte;
+use crate::sub_bytes::sub_bytes;
+use std::simd::prelude::*;
 
 // 15 round keys of four words.
 pub(crate) type KeySchedule = [[u8; 4]; 60];
 
+// Four bytes of a state, so that no byte of the key is an index of the table.
 fn sub_word(word: [u8; 4]) -> [u8; 4]
     ensures word { result ≡ sub_word word }
 {
     let [b0, b1, b2, b3] = word;
-    [sub_byte(b0), sub_byte(b1), sub_byte(b2), sub_byte(b3)]
+    let state = u8x16::from_array([b0, b1, b2, b3, 0, 0, 0, 0, 0, 0, 0, 0, 0, 0, 0, 0]);
+    let [s0, s1, s2, s3, ..] = sub_bytes(state).to_array();
+    [s0, s1, s2, s3]
 }
 
+// The first byte goes to the end.
 fn rot_word(word: [u8; 4]) -> [u8; 4]
     ensures word { result ≡ rot_word word }
 {
@@ -22,6 +27,7 @@ fn rot_word(word: [u8; 4]) -> [u8; 4]
     [b1, b2, b3, b0]
 }
 
+// Two words, byte by byte.
 fn xor_words(left: [u8; 4], right: [u8; 4]) -> [u8; 4]
     ensures word { result ≡ zip2 bit_xor left right }
 {
@@ -46,6 +52,7 @@ fn temporary_word(word: [u8; 4], i: usize) -> [u8; 4]
     }
 }
 
+// Word i of the key.
 fn key_word(key: &[u8; 32], i: usize) -> [u8; 4]
     requires within { i < 8 }
     ensures word { result ≡ take 4 (drop (4 * i) key.now) }
@@ -55,6 +62,7 @@ fn key_word(key: &[u8; 32], i: usize) -> [u8; 4]
     word
 }
 
+// The key's eight words, and 52 more.
 pub(crate) fn key_expansion(key: &[u8; 32]) -> KeySchedule
     ensures schedule { result ≡ key_schedule key.now }
     ensures key { key_of result ≡ key.now }

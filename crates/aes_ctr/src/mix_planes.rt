@@ -6,6 +6,7 @@ ghost use Rattle.aes_ctr.specs.Planes.{IsBlock, IsHeld, rows_below};
 use crate::planes::{Planes, xor_planes};
 use std::simd::prelude::*;
 
+// The byte of the next row, in the place of each byte of a column.
 #[inline(always)]
 fn row_below(plane: u8x16) -> u8x16
     ensures rows { result ≡ rows_below 1 plane }
@@ -13,6 +14,7 @@ fn row_below(plane: u8x16) -> u8x16
     plane.swizzle::<16>([1, 2, 3, 0, 5, 6, 7, 4, 9, 10, 11, 8, 13, 14, 15, 12])
 }
 
+// The byte two rows on.
 #[inline(always)]
 fn second_row_below(plane: u8x16) -> u8x16
     ensures rows { result ≡ rows_below 2 plane }
@@ -20,6 +22,7 @@ fn second_row_below(plane: u8x16) -> u8x16
     plane.swizzle::<16>([2, 3, 0, 1, 6, 7, 4, 5, 10, 11, 8, 9, 14, 15, 12, 13])
 }
 
+// The next rows of all eight blocks.
 #[inline(always)]
 fn row_below_planes(planes: Planes) -> Planes
     ensures held { (b : ℕ) (block : List ℕ) → length block ≡ 16 → IsHeld b planes block → IsHeld b result (rows_below 1 block) }
@@ -37,6 +40,7 @@ fn row_below_planes(planes: Planes) -> Planes
     ]
 }
 
+// The rows two on of all eight blocks.
 #[inline(always)]
 fn second_row_below_planes(planes: Planes) -> Planes
     ensures held { (b : ℕ) (block : List ℕ) → length block ≡ 16 → IsHeld b planes block → IsHeld b result (rows_below 2 block) }

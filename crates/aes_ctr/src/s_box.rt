@@ -1,4 +1,5 @@
-//! The S-box (FIPS 197, 5.1.1), the one look-up table.
+//! The S-box (FIPS 197, 5.1.1), the one look-up table. It is read row by row and never at a place that a key or a
+//! text decides.
 ghost use Rattle.std.specs.Prelude.{◌≡◌, map};
 ghost use Rattle.std.specs.List.{range_with_len};
 ghost use Rattle.aes_ctr.specs.Aes.{sub_byte};
@@ -29,10 +30,4 @@ pub(crate) fn s_box() -> &'static [u8; 256]
     ensures entries { result.now ≡ map sub_byte (range_with_len 0 256) }
 {
     &S_BOX
-}
-
-pub(crate) fn sub_byte(byte: u8) -> u8
-    ensures entry { result ≡ sub_byte byte }
-{
-    s_box()[byte as usize]
 }

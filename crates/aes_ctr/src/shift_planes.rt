@@ -6,6 +6,7 @@ ghost use Rattle.aes_ctr.specs.Planes.{IsHeld};
 use crate::planes::Planes;
 use crate::shift_rows::shift_rows;
 
+// ShiftRows moves whole bytes, so each plane moves as a block does.
 #[inline(always)]
 pub(crate) fn shift_planes(planes: Planes) -> Planes
     ensures held { (b : ℕ) (block : List ℕ) → length block ≡ 16 → IsHeld b planes block → IsHeld b result (shift_rows block) }

@@ -8,6 +8,7 @@ ghost use Rattle.aes_ctr.specs.TableParts.{choice, part_entry};
 use crate::s_box::s_box;
 use std::simd::prelude::*;
 
+// Row n of the table: 16 entries.
 #[inline(always)]
 fn row(n: usize) -> u8x16
     requires row { n < 16 }
@@ -26,6 +27,7 @@ pub(crate) fn by_bit(bit: u8, bytes: u8x16, set: u8x16, clear: u8x16) -> u8x16
         .select(set, clear)
 }
 
+// The entries of bytes that lie in the n-th sixteenth of the table; the others come out as some entry of it.
 #[inline(always)]
 fn sixteenth(n: usize, bytes: u8x16) -> u8x16
     requires part { n < 16 }
@@ -34,6 +36,7 @@ fn sixteenth(n: usize, bytes: u8x16) -> u8x16
     row(n).swizzle_dyn(bytes & u8x16::splat(15))
 }
 
+// Two sixteenths, chosen by the bit above theirs; and so on up to the whole table.
 #[inline(always)]
 fn eighth(n: usize, bytes: u8x16) -> u8x16
     requires part { n < 8 }

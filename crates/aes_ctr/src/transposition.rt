@@ -1,5 +1,6 @@
-//! From eight blocks to their planes, and back: the number of the bit and the number of the plane exchange their binary
-//! digits, one after the other.
+//! From eight blocks to their planes, and back. Eight vectors hold bits numbered k (vector) and b (place in a byte);
+//! what is wanted is bit k of vector b in place of bit b of vector k. The three binary digits of k and b change
+//! places one after the other, each by exchanging bits of two vectors that are 1, 2 or 4 apart.
 ghost use Rattle.std.specs.Prelude.{◌≡◌, ◌-◌, ◌*◌, ◌/◌, ◌%◌, ◌^◌, ◌<◌, ℕ, Bool, bit_and, cond};
 ghost use Rattle.aes_ctr.specs.Planes.{AreParts, AreSwapped, IsBlock, bits, plane};
 
@@ -32,6 +33,7 @@ fn upper_bits(distance: u8, low: u8, first: u8x16, second: u8x16) -> u8x16
     ((first >> u8x16::splat(distance)) & low) ^ (second & !low)
 }
 
+// The lowest digits change places: bits 1, 3, 5, 7 of a vector with bits 0, 2, 4, 6 of the next.
 #[inline(always)]
 fn swapped_by_one(planes: Planes) -> Planes
     ensures swapped { AreSwapped 1 planes result }
@@ -50,6 +52,7 @@ fn swapped_by_one(planes: Planes) -> Planes
     ]
 }
 
+// The middle digits: bits 2, 3, 6, 7 of a vector with bits 0, 1, 4, 5 of the one two on.
 #[inline(always)]
 fn swapped_by_two(planes: Planes) -> Planes
     ensures swapped { AreSwapped 2 planes result }
@@ -68,6 +71,7 @@ fn swapped_by_two(planes: Planes) -> Planes
     ]
 }
 
+// The highest digits: bits 4 to 7 of a vector with bits 0 to 3 of the one four on.
 #[inline(always)]
 fn swapped_by_four(planes: Planes) -> Planes
     ensures swapped { AreSwapped 4 planes result }
@@ -86,6 +90,7 @@ fn swapped_by_four(planes: Planes) -> Planes
     ]
 }
 
+// Eight blocks as planes, or planes as blocks: it is its own inverse.
 #[inline(always)]
 pub(crate) fn transposed(planes: Planes) -> Planes
     ensures transposed { (b k : ℕ) → b < 8 → k < 8 → bits b (plane result k) ≡ bits k (plane planes b) }
