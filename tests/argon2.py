@@ -94,6 +94,8 @@ def slow_input(checks):
 
 def words_of_bytes(checks):
     checks.that("a word that is no text", checks.run([b"somesalt", b"-e", b"\xff"], b"password"), (1, b"", USAGE))
+    found = checks.run("somesalt -d -t 1 -k 8 -e".split(), b"password", program=b"\xff", executable=checks.program)
+    checks.that("a program's name that is no text", found, hashed(FIRST))
     checks.that("an empty salt", checks.run(["", "-e"], b"password"), refused(b"salt length out of range"))
     checks.that("a long salt", checks.run(["s" * 256, "-e"], b"password"), refused(b"salt length out of range"))
 

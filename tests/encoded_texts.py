@@ -3,10 +3,12 @@
 
 Prints the tables of crates/argon_text/src/tests/near_misses.rt: for each byte of the known text, what reading
 answers where another byte stands in its place, where it is left out, where it comes twice, and of each prefix.
-0: it is read; 1: it is not in the grammar; 2: a value is out of range.
+0: it is read; 1: it is not in the grammar; 2: a value is out of range. With that file's name it prints nothing, and
+fails where the file has other answers.
 """
 import base64
 import re
+import sys
 
 KNOWN = "$argon2i$v=19$m=256,t=2,p=1$c29tZXNhbHQ$iekCn0Y3spW+sCcFanM2xBT63UP2sghkUoHLIUpWRS8"
 NUMBER = "(0|[1-9][0-9]*)"
@@ -48,8 +50,15 @@ def row(texts):
 
 
 places = range(len(KNOWN))
-for byte in "$,=+/0A-.\n":
-    print(repr(byte), row(KNOWN[:place] + byte + KNOWN[place + 1 :] for place in places))
-print("left out", row(KNOWN[:place] + KNOWN[place + 1 :] for place in places))
-print("twice   ", row(KNOWN[:place] + KNOWN[place:place + 1] + KNOWN[place:] for place in places))
-print("prefixes", row(KNOWN[:place] for place in places))
+ROWS = [(repr(byte), row(KNOWN[:place] + byte + KNOWN[place + 1 :] for place in places)) for byte in "$,=+/0A-.\n"] + [
+    ("left out", row(KNOWN[:place] + KNOWN[place + 1 :] for place in places)),
+    ("twice", row(KNOWN[:place] + KNOWN[place : place + 1] + KNOWN[place:] for place in places)),
+    ("prefixes", row(KNOWN[:place] for place in places)),
+]
+if len(sys.argv) > 1:
+    with open(sys.argv[1], encoding="utf-8") as tables:
+        if re.findall('"([012]+)"', tables.read()) != [answers for _, answers in ROWS]:
+            sys.exit(f"{sys.argv[1]} has other answers than this program")
+else:
+    for name, answers in ROWS:
+        print(f"{name:8} {answers}")

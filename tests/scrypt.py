@@ -161,6 +161,9 @@ TABLE = [
     ("a passphrase before the line end of a variable", "dec --passphrase env:PW_LINE F5", b"", done(b"hello")),
     ("a passphrase from standard input", "dec -P F5", b"pw\nmore", done(b"hello")),
     ("a passphrase from dev:stdin-once", "dec --passphrase dev:stdin-once F5", b"pw", done(b"hello")),
+    ("encrypted under a passphrase from standard input", f"enc {FIXED} -P hello", b"pw\nmore", done(F5)),
+    ("encrypted under one from dev:stdin-once", f"enc {FIXED} --passphrase dev:stdin-once hello", b"pw", done(F5)),
+    ("encrypted under one from a variable", f"enc {FIXED} --passphrase env:PW hello", b"", done(F5)),
     ("an empty passphrase", "dec --passphrase file:empty F5", b"", refused("S10")),
     ("a passphrase of 2048 bytes", "dec --passphrase file:pw-2048 F5", b"", refused("S10")),
     ("a first line of 2048 bytes", "dec --passphrase file:pw-2048-line F5", b"", refused("S10")),
@@ -285,6 +288,51 @@ def closed_streams_and_files(checks):
     checks.that("named files with all streams closed", (found, checks.content("out")), (done(), b"hello"))
 
 
+def without_the_root_folder(checks):
+    """Nor does one where the root folder, which else stands in the stream's place, may not be opened."""
+    if os.geteuid() != 0 or shutil.which("ldd") is None:
+        print("skipped: a root folder that may not be opened, which root alone can make")
+        return
+    with tempfile.TemporaryDirectory() as root:
+        linked = subprocess.run(["ldd", checks.program], stdout=subprocess.PIPE, text=True, check=True).stdout
+        for path in [word for word in linked.split() if word.startswith("/")]:
+            os.makedirs(root + os.path.dirname(path), exist_ok=True)
+            shutil.copy(path, root + path)
+        shutil.copy(checks.program, os.path.join(root, "scrypt"))
+        folder = os.path.join(root, "files")
+        os.mkdir(folder)
+        os.chmod(folder, 0o777)
+        for name in ("pw", "hello", "F5", "F5-cut-130"):
+            with open(os.path.join(folder, name), "wb") as file:
+                file.write(FILES[name])
+        os.chmod(root, 0o711)
+
+        def run(words, *closed):
+            def prepare():
+                os.chroot(root)
+                os.chdir("/files")
+                os.setgid(65534)
+                os.setuid(65534)
+                for descriptor in closed:
+                    os.close(descriptor)
+
+            out = os.path.join(folder, "out")
+            if os.path.exists(out):
+                os.remove(out)
+            ran = subprocess.run(
+                ["/scrypt", *words.split()], executable="/scrypt", input=b"", stdout=subprocess.PIPE,
+                stderr=subprocess.PIPE, preexec_fn=prepare, env={}
+            )
+            return (ran.returncode, ran.stdout, ran.stderr), os.path.exists(out)
+
+        checks.that("all streams open", run(f"dec {FROM_PW} F5"), (done(b"hello"), False))
+        checks.that("no passphrase from the infile", run(f"enc {FIXED} -P hello out", 0), (refused("S12"), False))
+        found = run(f"dec {FROM_PW} F5-cut-130 out", 2)
+        checks.that("no infile as standard error", found, ((1, b"", b""), False))
+        found = run(f"dec {FROM_PW} F5-cut-130 out", 0, 1, 2)
+        checks.that("no file with all streams closed", found, ((1, b"", b""), False))
+
+
 def pipes(checks):
     """Nobody reads the output any more, at once or after a while: a fault like any other, and no signal."""
     found = checks.unread_pipe(f"dec {FROM_PW} F5".split())
@@ -313,6 +361,8 @@ def words_of_bytes(checks):
     checks.that("a word that is no text", (found, checks.content("out")), (refused("S1"), b"before"))
     found = checks.run([b"dec", b"--passphrase", b"file:\xff", b"F5"])
     checks.that("a name that is no text", found, refused("S1"))
+    found = checks.run(["info", "F5"], program=b"\xff", executable=checks.program)
+    checks.that("a program's name that is no text", found, done(b"N = 16; r = 1; p = 1; memory = 2048; cores = 64\n"))
     checks.that("an empty infile", checks.run(["dec", "--passphrase", "file:pw", ""]), refused("S12"))
     checks.put("-dashed", F5)
     checks.that("a name after two dashes", checks.run(["dec", "--passphrase", "file:pw", "--", "-dashed"]), done(b"hello"))
@@ -387,6 +437,7 @@ def main():
         checks.put("large.enc", checks.run(f"enc {COSTS} {FROM_PW} large".split())[1])
         standard_streams(checks)
         closed_streams_and_files(checks)
+        without_the_root_folder(checks)
         pipes(checks)
         slow_input(checks)
         words_of_bytes(checks)

@@ -99,9 +99,10 @@ tail_of passphrase salt costs n text long = tail_by (n == length text) passphras
 
 -- the first 96 bytes were cut short
 pub header_cut : (passphrase salt : List ℕ) (costs : Parameters) (n : ℕ) (header : List ℕ) (s t : Seen) → length salt ≡ 32 → header ≡ body passphrase salt costs []
-    → n < length header → t ≡ after_push (take n header) s → FailsWriting 4096 (body passphrase salt costs) s t
+    → n < length header → t ≡ after_push (take n header) s → FailsWriting (2 ^ 60) 4096 (body passphrase salt costs) s t
 header_cut passphrase salt costs n header s t long is few pushed = record {
   pulled = 0;
+  below = omega arith;
   within = omega arith;
   written = n;
   begun = subst (λ xs. n < length xs) is few;
@@ -110,13 +111,14 @@ header_cut passphrase salt costs n header s t long is few pushed = record {
 }
 
 -- a beginning of the body so far was written
-body_cut : (passphrase salt : List ℕ) (costs : Parameters) (s t : Seen) → length salt ≡ 32 → FailsWriting 4096 (body passphrase salt costs) s t → FileCutShort passphrase salt costs s t
+body_cut : (passphrase salt : List ℕ) (costs : Parameters) (s t : Seen) → length salt ≡ 32 → FailsWriting (2 ^ 60) 4096 (body passphrase salt costs) s t → FileCutShort passphrase salt costs s t
 body_cut passphrase salt costs s t long f =
     let begun = body passphrase salt costs (take f.pulled s.input) in
     let tail = tail_of passphrase salt costs f.pulled s.input long in
     let longer : length (decided passphrase salt costs f.pulled s.input) ≡ length begun + length tail.0 = ap length tail.2 ∙ length-append begun tail.0 in
     record {
       pulled = f.pulled;
+      below = f.below;
       within = f.within;
       written = f.written;
       begun = omega (arith, f.begun, longer);
@@ -127,17 +129,17 @@ body_cut passphrase salt costs s t long f =
 -- the text's passing ended early
 pub passing_ended : (r : ScryptRefusal) (passphrase salt : List ℕ) (costs : Parameters) (s t : Seen) → length salt ≡ 32 → EndsText r (2 ^ 60) 4096 (body passphrase salt costs) s t
     → ((r ≡ refusal.OutputFault) × FileCutShort passphrase salt costs s t)
-    ⊎ ((r ≡ refusal.InputFault) × FailsReading (body passphrase salt costs) s t)
+    ⊎ ((r ≡ refusal.InputFault) × FailsReading (2 ^ 60) (body passphrase salt costs) s t)
     ⊎ ((r ≡ refusal.TooLong) × IsTooLong (2 ^ 60) (body passphrase salt costs) s t)
 passing_ended r passphrase salt costs s t long (inl f) = inr (inl f)
 passing_ended r passphrase salt costs s t long (inr (inl f)) = inl (f.0, body_cut passphrase salt costs s t long f.1)
 passing_ended r passphrase salt costs s t long (inr (inr f)) = inr (inr f)
 
 -- the final code was cut short
-pub code_cut : (passphrase salt : List ℕ) (costs : Parameters) (n : ℕ) (code : List ℕ) (s t u : Seen) → length salt ≡ 32
+pub code_cut : (passphrase salt : List ℕ) (costs : Parameters) (n : ℕ) (code : List ℕ) (s t u : Seen) → length salt ≡ 32 → length s.input < 2 ^ 60
     → body passphrase salt costs s.input ++ code ≡ encrypted_file passphrase salt costs s.input
     → t ≡ after_passing (body passphrase salt costs) (length s.input) s → n < length code → u ≡ after_push (take n code) t → FileCutShort passphrase salt costs s u
-code_cut passphrase salt costs n code s t u long is passes few pushed =
+code_cut passphrase salt costs n code s t u long short_text is passes few pushed =
     let size = length s.input in
     let begun = body passphrase salt costs s.input in
     let all : decided passphrase salt costs size s.input ≡ begun ++ code =
@@ -148,6 +150,7 @@ code_cut passphrase salt costs n code s t u long is passes few pushed =
     passes ∙ ap (λ xs. after_push (body passphrase salt costs xs) (after_pull size s)) (take_whole size s.input refl) in
     record {
       pulled = size;
+      below = short_text;
       within = omega arith;
       written = length begun + n;
       begun = omega (arith, few, longer);

@@ -6,3 +6,4 @@ pub mod Fronts
 pub mod Lines
 pub mod Openings
 pub mod Passing
+pub mod Successes

@@ -1,5 +1,5 @@
--- What a run of `dec` comes to on an encrypted file, under its passphrase.
-use Rattle.std.proofs.Common.{◌≡◌, ◌≤◌, ◌++◌, inl, inr, ◌+◌, ◌-◌, ℕ, List, Option, Some, None, option_map, take, drop, length, ap, ap₂, sym, subst, refl, ◌∙◌, arith}
+-- What a run of `dec` comes to on an encrypted file, under its passphrase, and what refuses it.
+use Rattle.std.proofs.Common.{◌≡◌, ◌≤◌, ◌++◌, inl, inr, ◌+◌, ◌-◌, ℕ, List, Option, Some, None, option_map, take, drop, length, ap, sym, subst, refl, ◌∙◌, arith}
 use Rattle.std.proofs.lemmas.Option.{none-some}
 use Rattle.std.proofs.lemmas.List.{length-drop}
 use Rattle.std.proofs.lemmas.Grind.{common_steps}
@@ -10,9 +10,9 @@ use Rattle.encfile.specs.Front.FrontRefusal.{OtherPassphrase}
 use Rattle.encfile.specs.Laws.{GivesBack}
 use Rattle.encfile.proofs.Files.{GivesBack-is, length-encrypted_file}
 use Rattle.encfile.proofs.Fronts.{front_refusal-encrypted_file, front_refusal-limits, front_refusal-wrong}
-use Rattle.host.specs.Seen.{Seen}
+use Rattle.host.specs.Seen.{Seen, Text}
 use Rattle.scrypt_run.specs.Decrypting.{DecryptRefused, DecryptSucceeds, OpenRefused, ReleaseRefused, front_pulled, front_refusal_of, limits_refusal_of}
-use Rattle.scrypt_run.specs.Laws.{CanBeOpened, IsFromOutside}
+use Rattle.scrypt_run.specs.Laws.{CanBeOpened, IsFromOutside, WroteWhatWasEncrypted}
 use Rattle.scrypt_run.specs.Passphrase.{HasPassphrase, PassphraseRefused, first_line_at}
 use Rattle.scrypt_run.specs.Front.{FrontRefused}
 use Rattle.scrypt_run.specs.Refusal.{refusal_of}
@@ -23,7 +23,7 @@ some_same : {A : Type 0} (x y : A) → Some x ≡ Some y → x ≡ y
 some_same x y h = grind (arith, h)
 
 -- a source gives one passphrase
-one_passphrase : (line : Option (List ℕ)) (p q : List ℕ) → HasPassphrase line p → HasPassphrase line q → p ≡ q
+pub one_passphrase : (line : Option (List ℕ)) (p q : List ℕ) → HasPassphrase line p → HasPassphrase line q → p ≡ q
 one_passphrase line p q hp hq = some_same p q (sym hp.is ∙ hq.is)
 
 -- a list is its first n and the rest
@@ -33,40 +33,66 @@ both_parts n xs = grind (arith, common_steps)
 all_of_rest : (n : ℕ) (xs : List ℕ) → take n xs ++ take (length (drop n xs)) (drop n xs) ≡ xs
 all_of_rest n xs = grind (arith, common_steps)
 
+-- the front is taken, and the whole is an encryption, under the passphrase that the source gives
+pub record IsOpened (task : Task) (before : Seen) (passphrase : List ℕ) : Type 0 where
+  pub given : HasPassphrase (first_line_at task.source before) passphrase
+  pub passes : front_refusal_of task before passphrase ≡ None
+  pub genuine : IsEncryptionOf before.input passphrase (released_text before.input passphrase)
+
+-- ---- a run that ends well
+
+pub opened_by_success : (task : Task) (before after : Seen) (ends : DecryptSucceeds task before after) → IsOpened task before ends.passphrase
+opened_by_success task before after ends = record {
+  given = ends.given;
+  passes = ends.passes;
+  genuine = subst (λ f. IsEncryptionOf f ends.passphrase (released_text f ends.passphrase)) (both_parts 96 before.input) ends.decrypted.genuine;
+}
+
+-- what is written is what the input releases
+what_is_written : (task : Task) (before after : Seen) (ends : DecryptSucceeds task before after)
+    → after.output ≡ before.output ++ released_text before.input ends.passphrase
+what_is_written task before after ends =
+    ap (λ (s : Seen). s.output) ends.decrypted.released
+    ∙ ap (λ f. before.output ++ released_text f ends.passphrase) (all_of_rest 96 before.input)
+
+-- and the input is an encryption of it
+pub wrote_what_was_encrypted : (task : Task) (before after : Seen) → DecryptSucceeds task before after → WroteWhatWasEncrypted task before after
+wrote_what_was_encrypted task before after ends = record {
+  passphrase = ends.passphrase;
+  text = released_text before.input ends.passphrase;
+  given = ends.given;
+  encryption = (opened_by_success task before after ends).genuine;
+  written = what_is_written task before after ends;
+}
+
+-- ---- the file of a text
+
 gives_back : (task : Task) (before : Seen) (passphrase salt : List ℕ) (costs : Parameters) (text : List ℕ)
     → CanBeOpened task before passphrase salt costs text → GivesBack passphrase salt costs text
 gives_back task before passphrase salt costs text h = GivesBack-is passphrase salt costs text h.salt_has_32_bytes h.in_range h.below_limit
 
 -- what is released is the text
-released : (task : Task) (before : Seen) (passphrase other salt : List ℕ) (costs : Parameters) (text : List ℕ)
-    → CanBeOpened task before passphrase salt costs text → HasPassphrase (first_line_at task.source before) other → released_text before.input other ≡ text
-released task before passphrase other salt costs text h given =
-    ap₂ released_text h.input (one_passphrase _ other passphrase given h.given)
-    ∙ (gives_back task before passphrase salt costs text h).released
+released : (task : Task) (before : Seen) (passphrase salt : List ℕ) (costs : Parameters) (text : List ℕ)
+    → CanBeOpened task before passphrase salt costs text → released_text before.input passphrase ≡ text
+released task before passphrase salt costs text h =
+    ap (λ f. released_text f passphrase) h.input ∙ (gives_back task before passphrase salt costs text h).released
 
--- and the input is an encryption of it
-genuine : (task : Task) (before : Seen) (passphrase other salt : List ℕ) (costs : Parameters) (text : List ℕ)
-    → CanBeOpened task before passphrase salt costs text → HasPassphrase (first_line_at task.source before) other
-    → IsEncryptionOf before.input other (released_text before.input other)
-genuine task before passphrase other salt costs text h given =
-    let same : other ≡ passphrase = one_passphrase _ other passphrase given h.given in
-    subst (λ xs. IsEncryptionOf before.input other xs) (sym (released task before passphrase other salt costs text h given))
-    (subst (λ p. IsEncryptionOf before.input p text) (sym same)
-    (subst (λ f. IsEncryptionOf f passphrase text) (sym h.input) (gives_back task before passphrase salt costs text h).encryption))
-
--- the front is taken
-front_passes : (task : Task) (before : Seen) (passphrase salt : List ℕ) (costs : Parameters) (text : List ℕ)
-    → CanBeOpened task before passphrase salt costs text → front_refusal_of task before passphrase ≡ None
-front_passes task before passphrase salt costs text h =
-    ap (λ f. front_refusal f task.limits.max_bytes task.limits.max_ops passphrase) h.input
-    ∙ front_refusal-encrypted_file passphrase salt costs text task.limits.max_bytes task.limits.max_ops h.salt_has_32_bytes h.in_range h.memory h.work
+opened_by_file : (task : Task) (before : Seen) (passphrase salt : List ℕ) (costs : Parameters) (text : List ℕ)
+    → CanBeOpened task before passphrase salt costs text → IsOpened task before passphrase
+opened_by_file task before passphrase salt costs text h = record {
+  given = h.given;
+  passes = ap (λ f. front_refusal f task.limits.max_bytes task.limits.max_ops passphrase) h.input
+      ∙ front_refusal-encrypted_file passphrase salt costs text task.limits.max_bytes task.limits.max_ops h.salt_has_32_bytes h.in_range h.memory h.work;
+  genuine = subst (λ xs. IsEncryptionOf before.input passphrase xs) (sym (released task before passphrase salt costs text h))
+      (subst (λ f. IsEncryptionOf f passphrase text) (sym h.input) (gives_back task before passphrase salt costs text h).encryption);
+}
 
 pub text_is_written : (task : Task) (before after : Seen) (passphrase salt : List ℕ) (costs : Parameters) (text : List ℕ)
     → CanBeOpened task before passphrase salt costs text → DecryptSucceeds task before after → after.output ≡ before.output ++ text
 text_is_written task before after passphrase salt costs text h ends =
-    ap (λ (s : Seen). s.output) ends.decrypted.released
-    ∙ ap (λ f. before.output ++ released_text f ends.passphrase) (all_of_rest 96 before.input)
-    ∙ ap (λ xs. before.output ++ xs) (released task before passphrase ends.passphrase salt costs text h ends.given)
+    what_is_written task before after ends
+    ∙ ap (λ p. before.output ++ released_text before.input p) (one_passphrase _ ends.passphrase passphrase ends.given h.given)
+    ∙ ap (λ xs. before.output ++ xs) (released task before passphrase salt costs text h)
 
 -- ---- no refusal of the product's own
 
@@ -76,55 +102,63 @@ limits_pass file max_bytes max_ops passphrase None is passes = refl
 limits_pass file max_bytes max_ops passphrase (Some r) is passes =
     absurd (none-some r (sym passes ∙ front_refusal-limits file max_bytes max_ops passphrase r is))
 
-none_refuses : (first : Option FrontRefusal) (r : ScryptRefusal) → first ≡ None → option_map refusal_of first ≡ Some r → ⊥
+pub none_refuses : (first : Option FrontRefusal) (r : ScryptRefusal) → first ≡ None → option_map refusal_of first ≡ Some r → ⊥
 none_refuses first r none told = none-some r (sym (ap (option_map refusal_of) none) ∙ told)
 
-length_input : (task : Task) (before : Seen) (passphrase salt : List ℕ) (costs : Parameters) (text : List ℕ)
-    → CanBeOpened task before passphrase salt costs text → length before.input ≡ 128 + length text
-length_input task before passphrase salt costs text h = ap length h.input ∙ length-encrypted_file passphrase salt costs text h.salt_has_32_bytes
-
-front_from_outside : (task : Task) (before after : Seen) (passphrase : List ℕ) (r : ScryptRefusal) → front_refusal_of task before passphrase ≡ None
-    → FrontRefused r (limits_refusal_of task before) task.infile before after → IsFromOutside r
-front_from_outside task before after passphrase r passes (inl failed) = inl failed.0
-front_from_outside task before after passphrase r passes (inr told) =
-    absurd (none_refuses _ r (limits_pass before.input task.limits.max_bytes task.limits.max_ops passphrase _ refl passes) told.0)
-
-passphrase_from_outside : (line : Option (List ℕ)) (passphrase : List ℕ) (r : ScryptRefusal) → HasPassphrase line passphrase → PassphraseRefused r line → IsFromOutside r
+pub passphrase_from_outside : (line : Option (List ℕ)) (passphrase : List ℕ) (r : ScryptRefusal) → HasPassphrase line passphrase → PassphraseRefused r line
+    → IsFromOutside r
 passphrase_from_outside line passphrase r given (inl failed) = inr (inr (inl failed))
 passphrase_from_outside line passphrase r given (inr (is, long, line_is, longer)) =
     let same : long ≡ passphrase = some_same long passphrase (sym line_is ∙ given.is) in
     absurd (let h : ⊥ = omega (arith, ap length same, longer, given.fits) in h)
 
-opening_from_outside : (task : Task) (before : Seen) (passphrase salt : List ℕ) (costs : Parameters) (text : List ℕ) (r : ScryptRefusal)
-    → CanBeOpened task before passphrase salt costs text → OpenRefused r (first_line_at task.source before) (take 96 before.input) → IsFromOutside r
-opening_from_outside task before passphrase salt costs text r h (inl refused) = passphrase_from_outside _ passphrase r h.given refused
-opening_from_outside task before passphrase salt costs text r h (inr (inl lacks)) = inr (inr (inr lacks.0))
-opening_from_outside task before passphrase salt costs text r h (inr (inr (is, other, given, wrong))) =
-    let passes = front_passes task before passphrase salt costs text h in
-    let long : 96 ≤ length before.input = omega (arith, length_input task before passphrase salt costs text h) in
+pub front_from_outside : (first : Option FrontRefusal) (infile : Option Text) (before after : Seen) (r : ScryptRefusal) → first ≡ None
+    → FrontRefused r first infile before after → IsFromOutside r
+front_from_outside first infile before after r none (inl failed) = inl failed.0
+front_from_outside first infile before after r none (inr told) = absurd (none_refuses first r none told.0)
+
+length_input : (task : Task) (before : Seen) (passphrase : List ℕ) → IsOpened task before passphrase
+    → length before.input ≡ 128 + length (released_text before.input passphrase)
+length_input task before passphrase h =
+    ap length h.genuine.bytes
+    ∙ length-encrypted_file passphrase h.genuine.salt h.genuine.costs (released_text before.input passphrase) h.genuine.salt_has_32_bytes
+
+admitted : (task : Task) (before : Seen) (passphrase : List ℕ) → IsOpened task before passphrase → limits_refusal_of task before ≡ None
+admitted task before passphrase h = limits_pass before.input task.limits.max_bytes task.limits.max_ops passphrase _ refl h.passes
+
+opening_from_outside : (task : Task) (before : Seen) (passphrase : List ℕ) (r : ScryptRefusal) → IsOpened task before passphrase
+    → OpenRefused r (first_line_at task.source before) (take 96 before.input) → IsFromOutside r
+opening_from_outside task before passphrase r h (inl refused) = passphrase_from_outside _ passphrase r h.given refused
+opening_from_outside task before passphrase r h (inr (inl lacks)) = inr (inr (inr lacks.0))
+opening_from_outside task before passphrase r h (inr (inr (is, other, given, wrong))) =
+    let long : 96 ≤ length before.input = omega (arith, length_input task before passphrase h) in
     let same : other ≡ passphrase = one_passphrase _ other passphrase given h.given in
-    absurd (none-some OtherPassphrase (sym passes
-    ∙ front_refusal-wrong before.input task.limits.max_bytes task.limits.max_ops passphrase long
-    (limits_pass before.input task.limits.max_bytes task.limits.max_ops passphrase _ refl passes)
+    absurd (none-some OtherPassphrase (sym h.passes
+    ∙ front_refusal-wrong before.input task.limits.max_bytes task.limits.max_ops passphrase long (admitted task before passphrase h)
     (subst (λ p. HasRightHeaderCode (take 96 before.input) p → ⊥) same wrong)))
 
-releasing_from_outside : (task : Task) (before after : Seen) (passphrase other salt : List ℕ) (costs : Parameters) (text : List ℕ) (r : ScryptRefusal)
-    → CanBeOpened task before passphrase salt costs text → HasPassphrase (first_line_at task.source before) other
+releasing_from_outside : (task : Task) (before after : Seen) (passphrase other : List ℕ) (r : ScryptRefusal) → IsOpened task before passphrase
+    → HasPassphrase (first_line_at task.source before) other
     → ReleaseRefused r other (take 96 before.input) task.outfile (front_pulled task before) after → IsFromOutside r
-releasing_from_outside task before after passphrase other salt costs text r h given (inl failed) = inr (inl failed.0)
-releasing_from_outside task before after passphrase other salt costs text r h given (inr (inl (inl reading))) = inl reading.0
-releasing_from_outside task before after passphrase other salt costs text r h given (inr (inl (inr (inl writing)))) = inr (inl writing.0)
-releasing_from_outside task before after passphrase other salt costs text r h given (inr (inl (inr (inr (is, long))))) =
+releasing_from_outside task before after passphrase other r h given (inl failed) = inr (inl failed.0)
+releasing_from_outside task before after passphrase other r h given (inr (inl (inl reading))) = inl reading.0
+releasing_from_outside task before after passphrase other r h given (inr (inl (inr (inl writing)))) = inr (inl writing.0)
+releasing_from_outside task before after passphrase other r h given (inr (inl (inr (inr (is, long))))) =
     let rest : length (drop 96 before.input) ≡ length before.input - 96 = length-drop 96 before.input in
-    absurd (let w : ⊥ = omega (arith, length_input task before passphrase salt costs text h, rest, h.below_limit, long.within, long.too_long) in w)
-releasing_from_outside task before after passphrase other salt costs text r h given (inr (inr (is, damaged))) =
+    absurd (let w : ⊥ = omega (arith, length_input task before passphrase h, rest, h.genuine.below_limit, long.within, long.too_long) in w)
+releasing_from_outside task before after passphrase other r h given (inr (inr (is, damaged))) =
+    let same : other ≡ passphrase = one_passphrase _ other passphrase given h.given in
     absurd (damaged.damaged (subst (λ f. IsEncryptionOf f other (released_text f other)) (sym (both_parts 96 before.input))
-    (genuine task before passphrase other salt costs text h given)))
+    (subst (λ p. IsEncryptionOf before.input p (released_text before.input p)) (sym same) h.genuine)))
 
-pub refused_from_outside : (task : Task) (before after : Seen) (passphrase salt : List ℕ) (costs : Parameters) (text : List ℕ) (r : ScryptRefusal)
+pub decrypt_from_outside : (task : Task) (before after : Seen) (passphrase : List ℕ) (r : ScryptRefusal) → IsOpened task before passphrase
+    → DecryptRefused r task before after → IsFromOutside r
+decrypt_from_outside task before after passphrase r h (inl front) = front_from_outside _ task.infile before after r (admitted task before passphrase h) front
+decrypt_from_outside task before after passphrase r h (inr (inl opening)) = opening_from_outside task before passphrase r h opening.refused
+decrypt_from_outside task before after passphrase r h (inr (inr releasing)) =
+    releasing_from_outside task before after passphrase releasing.passphrase r h releasing.given releasing.refused
+
+pub file_from_outside : (task : Task) (before after : Seen) (passphrase salt : List ℕ) (costs : Parameters) (text : List ℕ) (r : ScryptRefusal)
     → CanBeOpened task before passphrase salt costs text → DecryptRefused r task before after → IsFromOutside r
-refused_from_outside task before after passphrase salt costs text r h (inl front) =
-    front_from_outside task before after passphrase r (front_passes task before passphrase salt costs text h) front
-refused_from_outside task before after passphrase salt costs text r h (inr (inl opening)) = opening_from_outside task before passphrase salt costs text r h opening.refused
-refused_from_outside task before after passphrase salt costs text r h (inr (inr releasing)) =
-    releasing_from_outside task before after passphrase releasing.passphrase salt costs text r h releasing.given releasing.refused
+file_from_outside task before after passphrase salt costs text r h refused =
+    decrypt_from_outside task before after passphrase r (opened_by_file task before passphrase salt costs text h) refused

@@ -1,5 +1,5 @@
 -- `scrypt dec`: what a run comes to.
-use Rattle.std.specs.Prelude.{◌≡◌, ◌+◌, ◌^◌, ◌++◌, ◌⊎◌, ℕ, List, Option, None, length, take}
+use Rattle.std.specs.Prelude.{◌≡◌, ◌+◌, ◌<◌, ◌^◌, ◌++◌, ◌⊎◌, ℕ, List, Option, None, length, take}
 use Rattle.encfile.specs.EncryptedFile.{HasRightHeaderCode, IsEncryptionOf, released_text}
 use Rattle.encfile.specs.Front.{FrontRefusal, front_refusal, limits_refusal}
 use Rattle.host.specs.Seen.{Seen, Text, after_open_output}
@@ -35,8 +35,9 @@ pub record Decrypted (passphrase front : List ℕ) (outfile : Option Text) (befo
   pub released : AllReleased passphrase front outfile before after
   pub genuine : IsEncryptionOf (front ++ before.input) passphrase (released_text (front ++ before.input) passphrase)
 
--- the whole input was released, and is no encryption of what was written
+-- the whole input, below the limit, was released, and is no encryption of what was written
 pub record IsDamaged (passphrase front : List ℕ) (outfile : Option Text) (before after : Seen) : Type 0 where
+  pub below_limit : length (front ++ before.input) < 2 ^ 60 + 128
   pub released : AllReleased passphrase front outfile before after
   pub damaged : IsEncryptionOf (front ++ before.input) passphrase (released_text (front ++ before.input) passphrase) → ⊥
 

@@ -2,7 +2,7 @@
 use Rattle.std.specs.Prelude.{◌≡◌, ◌+◌, ◌<◌, ◌≤◌, ◌^◌, ◌⊎◌, ◌==◌, ℕ, List, Option, Some, None, option_map, length, take, if◌then◌else◌}
 use Rattle.romix.specs.Costs.{Parameters}
 use Rattle.romix.specs.Faults.{limit_fault}
-use Rattle.encfile.specs.EncryptedFile.{body, encrypted_file}
+use Rattle.encfile.specs.EncryptedFile.{IsEncryptionOf, body, encrypted_file}
 use Rattle.encfile.specs.Front.{FrontRefusal, limit_refusal}
 use Rattle.host.specs.Seen.{Seen, Text, after_open_input, after_open_output, after_pull, after_push}
 use Rattle.scrypt_run.specs.Passphrase.{HasPassphrase, PassphraseRefused, first_line_at}
@@ -40,15 +40,18 @@ abbrev pub decided : List ℕ → List ℕ → Parameters → ℕ → List ℕ �
 decided passphrase salt costs n text =
     if n == length text then encrypted_file passphrase salt costs text else body passphrase salt costs (take n text)
 
--- the file of the whole input was written
+-- the file of the whole input was written, and is an encryption of it under the passphrase
 pub record IsEncrypted (passphrase salt : List ℕ) (costs : Parameters) (outfile : Option Text) (before after : Seen)
     : Type 0 where
   pub below_limit : length before.input < 2 ^ 60
+  pub encryption : IsEncryptionOf (encrypted_file passphrase salt costs before.input) passphrase before.input
   pub written : after ≡ after_passing (encrypted_file passphrase salt costs) (length before.input) (after_open_output outfile before)
 
--- a beginning of what the bytes pulled so far decide was written, not the whole; at most 4,128 bytes of it are missing
+-- a beginning of what the bytes pulled so far, fewer than the limit, decide was written, not the whole; at most 4,128
+-- bytes of it are missing
 pub record FileCutShort (passphrase salt : List ℕ) (costs : Parameters) (opened after : Seen) : Type 0 where
   pub pulled : ℕ
+  pub below : pulled < 2 ^ 60
   pub within : pulled ≤ length opened.input
   pub written : ℕ
   pub begun : written < length (decided passphrase salt costs pulled opened.input)
@@ -60,7 +63,7 @@ abbrev pub WriteRefused : ScryptRefusal → List ℕ → List ℕ → Parameters
 WriteRefused r passphrase salt costs outfile before after =
     ((r ≡ refusal.OutputFault) × (after ≡ before))
     ⊎ ((r ≡ refusal.OutputFault) × FileCutShort passphrase salt costs (after_open_output outfile before) after)
-    ⊎ ((r ≡ refusal.InputFault) × FailsReading (body passphrase salt costs) (after_open_output outfile before) after)
+    ⊎ ((r ≡ refusal.InputFault) × FailsReading (2 ^ 60) (body passphrase salt costs) (after_open_output outfile before) after)
     ⊎ ((r ≡ refusal.TooLong) × IsTooLong (2 ^ 60) (body passphrase salt costs) (after_open_output outfile before) after)
 
 -- ---- the whole run

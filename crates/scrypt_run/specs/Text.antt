@@ -5,15 +5,18 @@ use Rattle.scrypt_run.specs.Steps.{after_passing}
 use Rattle.scrypt_run.specs.declared.refusal.ScryptRefusal.{ScryptRefusal}
 use Rattle.scrypt_run.specs.declared.refusal.ScryptRefusal.TheVariants as refusal
 
--- the input failed, and all that the bytes pulled before give was written
-pub record FailsReading (gives : List ℕ → List ℕ) (before after : Seen) : Type 0 where
+-- the input failed below the limit, and all that the bytes pulled before give was written
+pub record FailsReading (limit : ℕ) (gives : List ℕ → List ℕ) (before after : Seen) : Type 0 where
   pub pulled : ℕ
+  pub below : pulled < limit
   pub within : pulled ≤ length before.input
   pub passes : after ≡ after_passing gives pulled before
 
--- a beginning of what the bytes pulled so far give was written, not the whole; at most `most` bytes of it are missing
-pub record FailsWriting (most : ℕ) (gives : List ℕ → List ℕ) (before after : Seen) : Type 0 where
+-- a beginning of what the bytes pulled so far give, fewer than the limit, was written, not the whole; at most `most`
+-- bytes of it are missing
+pub record FailsWriting (limit most : ℕ) (gives : List ℕ → List ℕ) (before after : Seen) : Type 0 where
   pub pulled : ℕ
+  pub below : pulled < limit
   pub within : pulled ≤ length before.input
   pub written : ℕ
   pub begun : written < length (gives (take pulled before.input))
@@ -33,6 +36,6 @@ pub record IsTooLong (limit : ℕ) (gives : List ℕ → List ℕ) (before after
 -- the passing ended before the input's end
 abbrev pub EndsText : ScryptRefusal → ℕ → ℕ → (List ℕ → List ℕ) → Seen → Seen → Type 0
 EndsText r limit most gives before after =
-    ((r ≡ refusal.InputFault) × FailsReading gives before after)
-    ⊎ ((r ≡ refusal.OutputFault) × FailsWriting most gives before after)
+    ((r ≡ refusal.InputFault) × FailsReading limit gives before after)
+    ⊎ ((r ≡ refusal.OutputFault) × FailsWriting limit most gives before after)
     ⊎ ((r ≡ refusal.TooLong) × IsTooLong limit gives before after)

@@ -14,8 +14,8 @@ use crate::request::Request;
 use host::Host;
 use std::alloc::Global;
 
-/// Does what a request asks for: all of a run but its words and the line of a refusal. Nothing
-/// is opened yet, and the limit `-M` is at most 2^40 bytes.
+/// Does what a request asks for: all of a run but its words and the line of a refusal. Nothing is
+/// opened yet, and the limit `-M` is at most 2^40 bytes.
 ///
 /// The faults are S4a, S4b, S5b and S6 to S15, in the order of the subcommand. Whatever was written
 /// before a fault stays written, and no output is opened before every check up to the header's code

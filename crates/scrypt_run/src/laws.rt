@@ -3,9 +3,9 @@ ghost use Rattle.std.specs.Prelude.{◌≡◌, ◌++◌, ℕ, List};
 ghost use Rattle.romix.specs.Costs.{Parameters};
 ghost use Rattle.host.specs.Seen.{Seen};
 ghost use Rattle.scrypt_run.specs.Decrypting.{DecryptRefused, DecryptSucceeds};
-ghost use Rattle.scrypt_run.specs.Laws.{CanBeOpened, IsFromOutside};
+ghost use Rattle.scrypt_run.specs.Laws.{CanBeOpened, IsFromOutside, IsRefusedFromOutside, WroteWhatWasEncrypted};
 ghost use Rattle.scrypt_run.specs.Request.{Request, Task};
-ghost use Rattle.scrypt_run.specs.Run.{RequestRefused};
+ghost use Rattle.scrypt_run.specs.Run.{RequestRefused, RequestSucceeds};
 ghost use Rattle.scrypt_run.specs.declared.refusal.ScryptRefusal.{ScryptRefusal};
 
 // An encrypted file is opened under its passphrase, unless the host fails or memory is refused; and
@@ -18,6 +18,25 @@ fn encrypted_file_is_opened()
         (costs : Parameters) (text : List ℕ) (refusal : ScryptRefusal)
         → CanBeOpened task before passphrase salt costs text
         → DecryptRefused refusal task before after → IsFromOutside refusal }
+{}
+
+// A run of `dec` that ends well wrote what the input is an encryption of.
+fn what_dec_wrote_was_encrypted()
+    ensures encrypted { (task : Task) (before after : Seen) → DecryptSucceeds task before after
+        → WroteWhatWasEncrypted task before after }
+{}
+
+// A request comes to one success: the same names are opened, and the same is read and written.
+fn one_success()
+    ensures same { (request : Request) (before a b : Seen) → RequestSucceeds request before a
+        → RequestSucceeds request before b → a ≡ b }
+{}
+
+// What can succeed is refused from outside alone.
+fn success_is_refused_from_outside_alone()
+    ensures outside { (request : Request) (before after ended : Seen) (refusal : ScryptRefusal)
+        → RequestSucceeds request before after → RequestRefused refusal request before ended
+        → IsRefusedFromOutside request refusal }
 {}
 
 // Want of memory is never told after an output was opened.

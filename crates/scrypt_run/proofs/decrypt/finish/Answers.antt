@@ -1,4 +1,4 @@
-use Rattle.std.proofs.Common.{◌≡◌, ◌+◌, ◌++◌, ◌^◌, ap, sym, subst, rules, refl, inl, inr, length, List, ℕ}
+use Rattle.std.proofs.Common.{◌≡◌, ◌+◌, ◌<◌, ◌++◌, ◌^◌, ap, sym, subst, rules, refl, inl, inr, length, List, ℕ}
 use Rattle.encfile.specs.Decrypting.{HasRead}
 use Rattle.encfile.specs.EncryptedFile.{IsEncryptionOf, released_text}
 use Rattle.host.specs.Seen.{Seen}
@@ -39,6 +39,7 @@ returns-in-Err-clause-refused g c = λ t passphrase front h.
     inr (inr (
       refl,
       record {
+        below_limit = subst (λ xs. length (front ++ xs) < 2 ^ 60 + 128) same (c.in_ok-release.ensures.read t passphrase front h).below_limit;
         released = subst (λ w. after ≡ after_passing (text_behind passphrase front) (length w.input) w) (c.in-Ok.ensures.opened t)
             (c.in_ok-release.ensures.released t passphrase front h);
         damaged = λ genuine. c.in-Err.ensures.damaged passphrase (front ++ opened.input) (c.in_ok-release.ensures.read t passphrase front h)

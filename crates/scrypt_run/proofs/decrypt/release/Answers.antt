@@ -19,6 +19,7 @@ loop-n-init g c =
       out_long = search rules;
       read = c.requires.read;
       same = search rules;
+      below = omega (arith, c.requires.new);
       within = λ t. omega (arith, c.requires.new);
       left = λ t. ap (λ k. drop k s.input) none;
       holds = λ t passphrase front h. subst (λ k. HasRead dec passphrase (front ++ take k s.input)) none
@@ -53,7 +54,7 @@ returns-in_default-feed-clause-refused g c = λ t passphrase front h.
       record {
         handed_on = j;
         least = omega (arith, reached, c.in-Ok.ensures.bound, i.buf_long);
-        below = length_read-below c.loop-n.dec r.0 r.1 r.2;
+        below = i.below;
         pulled = j + n;
         within = fits_on j n s before (i.left t) (i.within t) (c.in-Ok.ensures.within t);
         too_long = reached;
@@ -90,6 +91,7 @@ loop-n-preserved g c =
       out_long = search rules;
       read = (r.0, _, next);
       same = search rules;
+      below = length_read-below dec r.0 _ next;
       within = λ t. subst (λ k. k ≤ length s.input) fed (fits_on j n s before (i.left t) (i.within t) (c.in-Ok.ensures.within t));
       left = λ t. subst (λ k. after.input ≡ drop k s.input) fed
           (left_on j n s before pulled after (i.left t) (c.in-Ok.ensures.taken t) (ap (λ (w : Seen). w.input) (c.in-Ok-push_all.ensures.put t)));
@@ -114,10 +116,15 @@ returns-in_default-push_all-clause-refused g c = λ t passphrase front h.
     let passes = i.passes t passphrase front h in
     let given = text_behind-more passphrase front (take j s.input) _ _ (c.in-Ok-feed.ensures.released passphrase _ (i.holds t passphrase front h)) in
     let longer = gives_length (text_behind passphrase front) j n _ _ s before passes (c.in-Ok.ensures.bytes t) given in
+    let r = i.read in
+    let next = c.in-Ok-feed.ensures.read r.0 r.1 r.2 in
+    let more = length_read-more c.loop-n.dec c.feed.new.self r.0 r.1 _ r.2 next in
+    let fed : j + n ≡ length_read c.feed.new.self = grind (arith, common_steps, more, c.in-Ok.ensures.bound, i.buf_long) in
     inr (inl (
       refl,
       record {
         pulled = j + n;
+        below = omega (arith, fed, length_read-below c.feed.new.self r.0 _ next);
         within = fits_on j n s before (i.left t) (i.within t) (c.in-Ok.ensures.within t);
         written = length (text_behind passphrase front (take j s.input)) + b.0;
         begun = omega (arith, longer, b.1);

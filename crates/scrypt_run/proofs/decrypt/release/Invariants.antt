@@ -1,4 +1,4 @@
-use Rattle.std.proofs.Common.{length, take, drop, List, ℕ, ◌++◌, ◌-◌, ◌+◌, ◌≡◌, ◌≤◌, ◌^◌, IsTrue}
+use Rattle.std.proofs.Common.{length, take, drop, List, ℕ, ◌++◌, ◌-◌, ◌+◌, ◌≡◌, ◌<◌, ◌≤◌, ◌^◌, IsTrue}
 use Rattle.encfile.specs.Decrypting.{HasRead, length_read}
 use Rattle.scrypt_run.specs.Decrypting.{text_behind}
 use Rattle.scrypt_run.specs.Steps.{after_passing}
@@ -12,6 +12,7 @@ invariant-loop-n g l =
       out_long : length l.out ≡ 4128;
       read : (passphrase file : List ℕ) × HasRead l.dec passphrase file;
       same : g.H.Host.faults l.host ≡ g.H.Host.faults l.fn.host;
+      below : j < 2 ^ 60 + 32;
       within : IsTrue g.H.Host.tells → j ≤ length before.input;
       left : IsTrue g.H.Host.tells → (g.H.Host.seen l.host).input ≡ drop j before.input;
       holds : IsTrue g.H.Host.tells → (passphrase front : List ℕ) → HasRead l.fn.dec passphrase front

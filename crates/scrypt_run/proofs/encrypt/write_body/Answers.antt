@@ -26,6 +26,7 @@ loop-n-init g c =
       buf_long = refl;
       same = search rules;
       begun = (b.0, b.1, b.2, [], b.3);
+      below = length_encrypted-below c.args.enc.now b.0 b.1 b.2 [] b.3;
       within = λ t. omega (arith, none);
       left = λ t. ap (λ (w : Seen). w.input) (c.in-Ok.ensures.put t) ∙ ap (λ k. drop k s.input) none;
       holds = λ t passphrase salt costs h. subst (λ k. HasEncrypted c.args.enc.now passphrase salt costs (take k s.input)) none h;
@@ -60,6 +61,7 @@ loop-n-preserved g c =
           (grind (arith, common_steps, c.feed.auto.bytes, c.in-Ok-pull.ensures.bound, c.pull.auto.buf, i.buf_long));
       same = search rules;
       begun = (b.0, b.1, b.2, _, fed);
+      below = length_encrypted-below c.feed.new.self b.0 b.1 b.2 _ fed;
       within = λ t. subst (λ k. k ≤ length s.input) more (fits_on j n s before (i.left t) (i.within t) (c.in-Ok-pull.ensures.within t));
       left = λ t. subst (λ k. after.input ≡ drop k s.input) more (left_on j n s before pulled after (i.left t) (c.in-Ok-pull.ensures.taken t) (ap (λ (w : Seen). w.input) (c.in-Ok-push_all.ensures.put t)));
       holds = λ t passphrase salt costs h. subst (λ k. HasEncrypted c.feed.new.self passphrase salt costs (take k s.input)) more (
@@ -84,10 +86,15 @@ returns-in_default-push_all-clause-refused g c = λ t passphrase salt costs h.
     let passes = i.passes t passphrase salt costs h in
     let written = sym (c.in-Ok-feed.ensures.written passphrase salt costs _ (i.holds t passphrase salt costs h)) in
     let longer = gives_length (body passphrase salt costs) j n _ _ s before passes (c.in-Ok-pull.ensures.bytes t) written in
+    let b = i.begun in
+    let fed = c.in-Ok-feed.ensures.fed b.0 b.1 b.2 b.3 b.4 in
+    let more : j + n ≡ length_encrypted c.feed.new.self =
+    length_encrypted-more c.loop-n.enc c.feed.new.self b.0 b.1 b.2 b.3 _ n b.4 fed (grind (arith, common_steps, c.in-Ok-pull.ensures.bound, c.pull.auto.buf, i.buf_long)) in
     inr (inl (
       refl,
       record {
         pulled = j + n;
+        below = omega (arith, more, length_encrypted-below c.feed.new.self b.0 b.1 b.2 _ fed);
         within = fits_on j n s before (i.left t) (i.within t) (c.in-Ok-pull.ensures.within t);
         written = length (body passphrase salt costs (take j s.input)) + cut.0;
         begun = grind (arith, longer, cut.1);

@@ -1,4 +1,4 @@
-use Rattle.std.proofs.Common.{length, take, drop, [], List, ℕ, ◌-◌, ◌≡◌, ◌≤◌, ◌^◌, IsTrue}
+use Rattle.std.proofs.Common.{length, take, drop, [], List, ℕ, ◌-◌, ◌≡◌, ◌<◌, ◌≤◌, ◌^◌, IsTrue}
 use Rattle.romix.specs.Costs.{Parameters}
 use Rattle.encfile.specs.EncryptedFile.{body}
 use Rattle.encfile.specs.Encrypting.{HasEncrypted, length_encrypted}
@@ -12,6 +12,7 @@ invariant-loop-n g l =
       buf_long : length l.buf ≡ 4096;
       same : g.H.Host.faults l.host ≡ g.H.Host.faults l.fn.host;
       begun : (passphrase salt : List ℕ) × (costs : Parameters) × (text : List ℕ) × HasEncrypted l.enc passphrase salt costs text;
+      below : j < 2 ^ 60;
       within : IsTrue g.H.Host.tells → j ≤ length before.input;
       left : IsTrue g.H.Host.tells → (g.H.Host.seen l.host).input ≡ drop j before.input;
       holds : IsTrue g.H.Host.tells → (passphrase salt : List ℕ) (costs : Parameters) → HasEncrypted l.fn.enc passphrase salt costs []

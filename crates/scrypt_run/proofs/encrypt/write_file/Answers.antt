@@ -27,6 +27,6 @@ returns-in_default-push_all-clause-refused g c = λ t passphrase salt costs h.
     inr (inl (
       refl,
       subst (λ s. FileCutShort passphrase salt costs s after) (c.in-Ok.ensures.opened t)
-          (code_cut passphrase salt costs cut.0 c.finish.result opened text after h.salt_has_32_bytes (c.finish.ensures.code passphrase salt costs opened.input whole)
+          (code_cut passphrase salt costs cut.0 c.finish.result opened text after h.salt_has_32_bytes whole.below_limit (c.finish.ensures.code passphrase salt costs opened.input whole)
           (c.in_ok-write_body.ensures.written t passphrase salt costs h) cut.1 cut.2),
     ))

@@ -1,0 +1,87 @@
+-- What follows from a request's success: no other comes, and what refuses the request is from outside.
+use Rattle.std.proofs.Common.{◌≡◌, ◌<◌, ◌^◌, ◌⊎◌, inl, inr, ℕ, List, Option, None, take, length, ap, sym, ◌∙◌, arith}
+use Rattle.encfile.specs.EncryptedFile.{encrypted_file}
+use Rattle.encfile.specs.Front.{format_refusal}
+use Rattle.host.specs.Seen.{Seen, Text, after_open_output}
+use Rattle.scrypt_run.specs.Decrypting.{DecryptSucceeds, front_pulled, text_behind}
+use Rattle.scrypt_run.specs.Encrypting.{EncryptRefused, EncryptSucceeds, StartRefused, TextNotOpened, WriteRefused, costs_refusal, salt_used, text_opened}
+use Rattle.scrypt_run.specs.Inspecting.{InspectRefused, InspectSucceeds}
+use Rattle.scrypt_run.specs.Laws.{IsFromOutside, IsRefusedFromOutside}
+use Rattle.scrypt_run.specs.Passphrase.{HasPassphrase, first_line_at}
+use Rattle.scrypt_run.specs.Request.{Encryption, Request, Task, decrypt, encrypt, inspect}
+use Rattle.scrypt_run.specs.Run.{RequestRefused, RequestSucceeds}
+use Rattle.scrypt_run.specs.Steps.{after_passing}
+use Rattle.scrypt_run.specs.declared.refusal.ScryptRefusal.{ScryptRefusal}
+use Rattle.scrypt_run.specs.declared.refusal.ScryptRefusal.TheVariants as refusal
+use Rattle.scrypt_run.proofs.Openings.{decrypt_from_outside, front_from_outside, none_refuses, one_passphrase, opened_by_success, passphrase_from_outside}
+
+-- ---- one success
+
+one_encryption : (asked : Encryption) (before a b : Seen) → EncryptSucceeds asked before a → EncryptSucceeds asked before b → a ≡ b
+one_encryption asked before a b ha hb =
+    let opened = text_opened asked before in
+    ha.encrypted.written
+    ∙ ap (λ p. after_passing (encrypted_file p (salt_used asked.salt before) asked.costs) (length opened.input) (after_open_output asked.task.outfile opened))
+    (one_passphrase _ ha.passphrase hb.passphrase ha.given hb.given)
+    ∙ sym hb.encrypted.written
+
+one_decryption : (task : Task) (before a b : Seen) → DecryptSucceeds task before a → DecryptSucceeds task before b → a ≡ b
+one_decryption task before a b ha hb =
+    let pulled = front_pulled task before in
+    ha.decrypted.released
+    ∙ ap (λ p. after_passing (text_behind p (take 96 before.input)) (length pulled.input) (after_open_output task.outfile pulled))
+    (one_passphrase _ ha.passphrase hb.passphrase ha.given hb.given)
+    ∙ sym hb.decrypted.released
+
+pub one_success : (request : Request) (before a b : Seen) → RequestSucceeds request before a → RequestSucceeds request before b → a ≡ b
+one_success (encrypt asked) before a b ha hb = one_encryption asked before a b ha hb
+one_success (decrypt task) before a b ha hb = one_decryption task before a b ha hb
+one_success (inspect infile) before a b ha hb = ha.written ∙ sym hb.written
+
+-- ---- no refusal of the product's own
+
+opening_from_outside : (asked : Encryption) (before ended : Seen) (r : ScryptRefusal) → costs_refusal asked ≡ None → TextNotOpened r asked before ended
+    → IsFromOutside r
+opening_from_outside asked before ended r admitted (same, inl told) = absurd (none_refuses (costs_refusal asked) r admitted told)
+opening_from_outside asked before ended r admitted (same, inr failed) = inl failed.1
+
+starting_from_outside : (asked : Encryption) (before : Seen) (passphrase : List ℕ) (r : ScryptRefusal)
+    → HasPassphrase (first_line_at asked.task.source before) passphrase → StartRefused r asked.salt (first_line_at asked.task.source before)
+    → IsRefusedFromOutside (encrypt asked) r
+starting_from_outside asked before passphrase r given (inl refused) = inl (passphrase_from_outside _ passphrase r given refused)
+starting_from_outside asked before passphrase r given (inr (inl failed)) = inr (failed.0, failed.1)
+starting_from_outside asked before passphrase r given (inr (inr lacks)) = inl (inr (inr (inr lacks.0)))
+
+writing_from_outside : (asked : Encryption) (before ended : Seen) (passphrase salt : List ℕ) (r : ScryptRefusal) → length before.input < 2 ^ 60
+    → WriteRefused r passphrase salt asked.costs asked.task.outfile before ended → IsFromOutside r
+writing_from_outside asked before ended passphrase salt r short (inl failed) = inr (inl failed.0)
+writing_from_outside asked before ended passphrase salt r short (inr (inl writing)) = inr (inl writing.0)
+writing_from_outside asked before ended passphrase salt r short (inr (inr (inl reading))) = inl reading.0
+writing_from_outside asked before ended passphrase salt r short (inr (inr (inr (is, long)))) =
+    absurd (let h : ⊥ = omega (arith, short, long.within, long.too_long) in h)
+
+encrypt_from_outside : (asked : Encryption) (before after ended : Seen) (r : ScryptRefusal) → EncryptSucceeds asked before after
+    → EncryptRefused r asked before ended → IsRefusedFromOutside (encrypt asked) r
+encrypt_from_outside asked before after ended r done (inl opening) = inl (opening_from_outside asked before ended r done.admitted opening)
+encrypt_from_outside asked before after ended r done (inr (inl starting)) =
+    starting_from_outside asked before done.passphrase r done.given starting.refused
+encrypt_from_outside asked before after ended r done (inr (inr writing)) =
+    inl (writing_from_outside asked (text_opened asked before) ended writing.passphrase (salt_used asked.salt before) r done.encrypted.below_limit writing.refused)
+
+line_from_outside : (r : ScryptRefusal) (Unwritten Left CutShort : Type 0)
+    → ((r ≡ refusal.OutOfMemory) × Unwritten) ⊎ ((r ≡ refusal.OutputFault) × Left) ⊎ ((r ≡ refusal.OutputFault) × CutShort) → IsFromOutside r
+line_from_outside r Unwritten Left CutShort (inl lacks) = inr (inr (inr lacks.0))
+line_from_outside r Unwritten Left CutShort (inr (inl failed)) = inr (inl failed.0)
+line_from_outside r Unwritten Left CutShort (inr (inr failed)) = inr (inl failed.0)
+
+inspect_from_outside : (infile : Option Text) (before after ended : Seen) (r : ScryptRefusal) → InspectSucceeds infile before after
+    → InspectRefused r infile before ended → IsFromOutside r
+inspect_from_outside infile before after ended r done (inl front) = front_from_outside (format_refusal before.input) infile before ended r done.valid front
+inspect_from_outside infile before after ended r done (inr ends) = line_from_outside r _ _ _ ends.refused
+
+pub refused_from_outside : (request : Request) (before after ended : Seen) (r : ScryptRefusal) → RequestSucceeds request before after
+    → RequestRefused r request before ended → IsRefusedFromOutside request r
+refused_from_outside (encrypt asked) before after ended r done refused = encrypt_from_outside asked before after ended r done refused
+refused_from_outside (decrypt task) before after ended r done refused =
+    decrypt_from_outside task before ended done.passphrase r (opened_by_success task before after done) refused
+refused_from_outside (inspect infile) before after ended r done refused = inspect_from_outside infile before after ended r done refused

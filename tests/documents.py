@@ -1,0 +1,103 @@
+#!/usr/bin/env python3
+"""Whether what the documents name is there: files, definitions, tests, clauses and calls.
+
+Reads README.md and docs/ against crates/, says each name that it does not find, and fails where there is one.
+"""
+import pathlib
+import re
+import sys
+
+TOP = pathlib.Path(__file__).resolve().parent.parent
+DOCUMENTS = [TOP / "README.md", *sorted((TOP / "docs").glob("*.md"))]
+IN_BACKTICKS = re.compile(r"`([^`]+)`")
+missing = []
+
+
+def texts(crate, folder, ending):
+    """The texts of the crate's files below this folder, by their paths in it."""
+    base = TOP / "crates" / crate / folder
+    return {str(file.relative_to(base)): file.read_text(encoding="utf-8") for file in sorted(base.rglob("*" + ending))}
+
+
+def crates():
+    lines = (TOP / "crates.txt").read_text(encoding="utf-8").splitlines()
+    return [line.split(":")[0].split()[0] for line in lines if line and not line.startswith("#")]
+
+
+SOURCES = {crate: "\n".join(texts(crate, "src", ".rt").values()) for crate in crates()}
+SPECS = {crate: "\n".join(texts(crate, "specs", ".antt").values()) for crate in crates()}
+
+
+def is_function(name, crate):
+    return re.search(rf"\bfn {re.escape(name)}\b", SOURCES[crate]) is not None
+
+
+def is_clause(name, crate):
+    return re.search(rf"\b(ensures|requires) {re.escape(name)} \{{", SOURCES[crate]) is not None
+
+
+def is_type(name):
+    return any(re.search(rf"\b(?:struct|enum|trait) {re.escape(name)}\b", source) for source in SOURCES.values())
+
+
+def is_definition(name, text):
+    """Whether the definition, or the field of a record, stands in the text."""
+    return re.search(rf"^(?:  )?(?:[a-z]+ )*{re.escape(name)}(?: :|\s*\(|\s*\{{|$)", text, re.MULTILINE) is not None
+
+
+def tables(document):
+    """The rows of a page's tables as lists of cells, each with the heading that it stands under."""
+    heading = ""
+    for line in (TOP / "docs" / document).read_text(encoding="utf-8").splitlines():
+        if line.startswith("#"):
+            heading = line.lstrip("# ")
+        elif line.startswith("|") and not line.startswith("|---"):
+            yield heading, [cell.strip() for cell in re.split(r"(?<!\\)\|", line)[1:-1]]
+
+
+def expect(is_there, document, name):
+    if not is_there:
+        missing.append(f"{document.name if hasattr(document, 'name') else document}: {name}")
+
+
+# Files.
+for document in DOCUMENTS:
+    for path in re.findall(r"\b(?:crates|docs|tests|bench|man)/[\w./]*[\w]\.\w+", document.read_text(encoding="utf-8")):
+        expect((TOP / path).exists(), document, path)
+
+# Definitions, each in the file of specs/ that its row names.
+for crate, cells in tables("DEFINITIONS.md"):
+    if crate in SPECS and len(cells) == 5 and cells[0] != "definition":
+        files = [f"{file}.antt" for file in IN_BACKTICKS.findall(cells[2])]
+        held = texts(crate, "specs", ".antt")
+        for file in files:
+            expect(file in held, "DEFINITIONS.md", f"{crate}: {file}")
+        text = "\n".join(held.get(file, "") for file in files)
+        for name in IN_BACKTICKS.findall(cells[0]):
+            expect(is_definition(name, text), "DEFINITIONS.md", f"{crate}: {name}")
+
+# Tests: those of a row's own crate, or of the two commands.
+for heading, cells in tables("EXAMPLES.md"):
+    if len(cells) == 4 and cells[0].isdigit():
+        for part in cells[3].split(";"):
+            named = [name for name in IN_BACKTICKS.findall(part) if " " not in name]
+            owner = [named.pop(0)] if named and named[0] in SOURCES else ["command"]
+            for name in named:
+                expect(any(is_function(name, crate) for crate in owner), "EXAMPLES.md", f"row {cells[0]}: {name}")
+
+# Clauses, calls and definitions that carry a promise.
+for heading, cells in tables("PROMISES.md"):
+    if heading.startswith("The calls") and len(cells) == 3 and cells[0].strip("`") in SOURCES:
+        crate = cells[0].strip("`")
+        for name in IN_BACKTICKS.findall(cells[2]):
+            last = name.split("::")[-1]
+            found = is_function(last, crate) or is_clause(last, crate) or is_definition(last, SPECS[crate])
+            expect(found or is_type(last), "PROMISES.md", f"{crate}: {name}")
+    elif heading == "scrypt" and len(cells) == 3 and cells[0] != "the run":
+        for name in IN_BACKTICKS.findall(cells[2]):
+            found = any(is_definition(name, SPECS[crate]) for crate in ("scrypt_run", "command", "encfile"))
+            expect(found, "PROMISES.md", name)
+
+for line in missing:
+    print(f"not there: {line}", file=sys.stderr)
+sys.exit(1 if missing else 0)
