@@ -2,4 +2,5 @@
 pub mod Arguments
 pub mod Digits
 pub mod WideCosts
+pub mod WholeRuns
 pub mod WordsOfClap

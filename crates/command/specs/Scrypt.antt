@@ -5,3 +5,4 @@ pub mod WordsView
 pub mod Request
 pub mod Vectors
 pub mod Run
+pub mod Laws

@@ -1,6 +1,8 @@
 //! The command `scrypt`: its words and its whole run.
 mod command_line;
 mod costs;
+#[cfg(test)]
+mod laws;
 mod request;
 mod run;
 mod salt;
