@@ -11,18 +11,21 @@ SOURCES := crates.txt $(shell find crates -name out -prune -o -type f \( -name '
 help: ## prints these lines
 	@sed -n 's/^\([a-z]*\):.*## /make \1\t/p' Makefile | expand -t 14
 
-run: bin/argon2 bin/scrypt ## proves and builds bin/argon2 and bin/scrypt, then hashes the word "password" for the first time
+run: bin/argon2 bin/scrypt ## proves and builds bin/argon2 and bin/scrypt, then hashes "password" as a first run
 	@printf password | bin/argon2 somesalt -d -t 1 -k 8 -e
 
-test: ## the gate: every proof from nothing, the wrong bodies, all tests, and the built programs from the outside
+test: ## the gate: every proof from nothing, edits that must not be proved, all tests, and the built programs from the outside
 	rt ci
 	tests/sources.sh
+	tests/documents.py
 	tests/argon2.py $(ARGON2)
 	tests/scrypt.py $(SCRYPT)
 
-install: bin/argon2 bin/scrypt ## puts the programs and their manual pages below PREFIX (/usr/local)
+install: bin/argon2 bin/scrypt ## puts the programs, their manual pages and the documents below PREFIX (/usr/local)
 	install -D -m 755 -t '$(DESTDIR)$(PREFIX)/bin' bin/argon2 bin/scrypt
 	install -D -m 644 -t '$(DESTDIR)$(PREFIX)/share/man/man1' man/argon2.1 man/scrypt.1
+	install -D -m 644 -t '$(DESTDIR)$(PREFIX)/share/doc/pikhsen' README.md
+	install -D -m 644 -t '$(DESTDIR)$(PREFIX)/share/doc/pikhsen/docs' docs/*.md
 
 bench: bin/argon2 bin/scrypt ## times hashes, backups, scrypt's derivation, AES and encrypted files beside the programs that are installed
 	bench/argon2.py bin/argon2

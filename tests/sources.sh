@@ -1,6 +1,7 @@
 #!/bin/sh
 # What a reader of the sources relies on, beside the proofs: proofs by hand are all listed in docs/GATE.md, each counter ticks in one
-# place, and a counter is made where a whole hash begins: no crate that is handed one makes its own.
+# place, and a counter is made where a whole hash begins: no crate that is handed one makes its own. Tables that another program made
+# are what it makes.
 set -eu
 cd "$(dirname "$0")/.."
 status=0
@@ -28,5 +29,7 @@ crates/command/src/argon2_command/output.rt
 crates/scrypt_run/src/decrypt.rt
 crates/scrypt_run/src/encrypt.rt" ||
     fail "a counter is made elsewhere than by the test of a password and by the commands, each for its one hash or derivation"
+
+tests/encoded_texts.py crates/argon_text/src/tests/near_misses.rt || status=1
 
 exit $status

@@ -34,18 +34,18 @@ all_of_rest : (n : ℕ) (xs : List ℕ) → take n xs ++ take (length (drop n xs
 all_of_rest n xs = grind (arith, common_steps)
 
 -- the front is taken, and the whole is an encryption, under the passphrase that the source gives
-pub record IsOpened (task : Task) (before : Seen) (passphrase : List ℕ) : Type 0 where
+pub record IsGenuine (task : Task) (before : Seen) (passphrase : List ℕ) : Type 0 where
   pub given : HasPassphrase (first_line_at task.source before) passphrase
   pub passes : front_refusal_of task before passphrase ≡ None
-  pub genuine : IsEncryptionOf before.input passphrase (released_text before.input passphrase)
+  pub encryption : IsEncryptionOf before.input passphrase (released_text before.input passphrase)
 
 -- ---- a run that ends well
 
-pub opened_by_success : (task : Task) (before after : Seen) (ends : DecryptSucceeds task before after) → IsOpened task before ends.passphrase
-opened_by_success task before after ends = record {
+pub genuine_by_success : (task : Task) (before after : Seen) (ends : DecryptSucceeds task before after) → IsGenuine task before ends.passphrase
+genuine_by_success task before after ends = record {
   given = ends.given;
   passes = ends.passes;
-  genuine = subst (λ f. IsEncryptionOf f ends.passphrase (released_text f ends.passphrase)) (both_parts 96 before.input) ends.decrypted.genuine;
+  encryption = subst (λ f. IsEncryptionOf f ends.passphrase (released_text f ends.passphrase)) (both_parts 96 before.input) ends.decrypted.genuine;
 }
 
 -- what is written is what the input releases
@@ -61,7 +61,7 @@ wrote_what_was_encrypted task before after ends = record {
   passphrase = ends.passphrase;
   text = released_text before.input ends.passphrase;
   given = ends.given;
-  encryption = (opened_by_success task before after ends).genuine;
+  encryption = (genuine_by_success task before after ends).encryption;
   written = what_is_written task before after ends;
 }
 
@@ -77,13 +77,13 @@ released : (task : Task) (before : Seen) (passphrase salt : List ℕ) (costs : P
 released task before passphrase salt costs text h =
     ap (λ f. released_text f passphrase) h.input ∙ (gives_back task before passphrase salt costs text h).released
 
-opened_by_file : (task : Task) (before : Seen) (passphrase salt : List ℕ) (costs : Parameters) (text : List ℕ)
-    → CanBeOpened task before passphrase salt costs text → IsOpened task before passphrase
-opened_by_file task before passphrase salt costs text h = record {
+genuine_by_file : (task : Task) (before : Seen) (passphrase salt : List ℕ) (costs : Parameters) (text : List ℕ)
+    → CanBeOpened task before passphrase salt costs text → IsGenuine task before passphrase
+genuine_by_file task before passphrase salt costs text h = record {
   given = h.given;
   passes = ap (λ f. front_refusal f task.limits.max_bytes task.limits.max_ops passphrase) h.input
       ∙ front_refusal-encrypted_file passphrase salt costs text task.limits.max_bytes task.limits.max_ops h.salt_has_32_bytes h.in_range h.memory h.work;
-  genuine = subst (λ xs. IsEncryptionOf before.input passphrase xs) (sym (released task before passphrase salt costs text h))
+  encryption = subst (λ xs. IsEncryptionOf before.input passphrase xs) (sym (released task before passphrase salt costs text h))
       (subst (λ f. IsEncryptionOf f passphrase text) (sym h.input) (gives_back task before passphrase salt costs text h).encryption);
 }
 
@@ -117,16 +117,16 @@ pub front_from_outside : (first : Option FrontRefusal) (infile : Option Text) (b
 front_from_outside first infile before after r none (inl failed) = inl failed.0
 front_from_outside first infile before after r none (inr told) = absurd (none_refuses first r none told.0)
 
-length_input : (task : Task) (before : Seen) (passphrase : List ℕ) → IsOpened task before passphrase
+length_input : (task : Task) (before : Seen) (passphrase : List ℕ) → IsGenuine task before passphrase
     → length before.input ≡ 128 + length (released_text before.input passphrase)
 length_input task before passphrase h =
-    ap length h.genuine.bytes
-    ∙ length-encrypted_file passphrase h.genuine.salt h.genuine.costs (released_text before.input passphrase) h.genuine.salt_has_32_bytes
+    ap length h.encryption.bytes
+    ∙ length-encrypted_file passphrase h.encryption.salt h.encryption.costs (released_text before.input passphrase) h.encryption.salt_has_32_bytes
 
-admitted : (task : Task) (before : Seen) (passphrase : List ℕ) → IsOpened task before passphrase → limits_refusal_of task before ≡ None
+admitted : (task : Task) (before : Seen) (passphrase : List ℕ) → IsGenuine task before passphrase → limits_refusal_of task before ≡ None
 admitted task before passphrase h = limits_pass before.input task.limits.max_bytes task.limits.max_ops passphrase _ refl h.passes
 
-opening_from_outside : (task : Task) (before : Seen) (passphrase : List ℕ) (r : ScryptRefusal) → IsOpened task before passphrase
+opening_from_outside : (task : Task) (before : Seen) (passphrase : List ℕ) (r : ScryptRefusal) → IsGenuine task before passphrase
     → OpenRefused r (first_line_at task.source before) (take 96 before.input) → IsFromOutside r
 opening_from_outside task before passphrase r h (inl refused) = passphrase_from_outside _ passphrase r h.given refused
 opening_from_outside task before passphrase r h (inr (inl lacks)) = inr (inr (inr lacks.0))
@@ -137,7 +137,7 @@ opening_from_outside task before passphrase r h (inr (inr (is, other, given, wro
     ∙ front_refusal-wrong before.input task.limits.max_bytes task.limits.max_ops passphrase long (admitted task before passphrase h)
     (subst (λ p. HasRightHeaderCode (take 96 before.input) p → ⊥) same wrong)))
 
-releasing_from_outside : (task : Task) (before after : Seen) (passphrase other : List ℕ) (r : ScryptRefusal) → IsOpened task before passphrase
+releasing_from_outside : (task : Task) (before after : Seen) (passphrase other : List ℕ) (r : ScryptRefusal) → IsGenuine task before passphrase
     → HasPassphrase (first_line_at task.source before) other
     → ReleaseRefused r other (take 96 before.input) task.outfile (front_pulled task before) after → IsFromOutside r
 releasing_from_outside task before after passphrase other r h given (inl failed) = inr (inl failed.0)
@@ -145,13 +145,13 @@ releasing_from_outside task before after passphrase other r h given (inr (inl (i
 releasing_from_outside task before after passphrase other r h given (inr (inl (inr (inl writing)))) = inr (inl writing.0)
 releasing_from_outside task before after passphrase other r h given (inr (inl (inr (inr (is, long))))) =
     let rest : length (drop 96 before.input) ≡ length before.input - 96 = length-drop 96 before.input in
-    absurd (let w : ⊥ = omega (arith, length_input task before passphrase h, rest, h.genuine.below_limit, long.within, long.too_long) in w)
+    absurd (let w : ⊥ = omega (arith, length_input task before passphrase h, rest, h.encryption.below_limit, long.within, long.too_long) in w)
 releasing_from_outside task before after passphrase other r h given (inr (inr (is, damaged))) =
     let same : other ≡ passphrase = one_passphrase _ other passphrase given h.given in
     absurd (damaged.damaged (subst (λ f. IsEncryptionOf f other (released_text f other)) (sym (both_parts 96 before.input))
-    (subst (λ p. IsEncryptionOf before.input p (released_text before.input p)) (sym same) h.genuine)))
+    (subst (λ p. IsEncryptionOf before.input p (released_text before.input p)) (sym same) h.encryption)))
 
-pub decrypt_from_outside : (task : Task) (before after : Seen) (passphrase : List ℕ) (r : ScryptRefusal) → IsOpened task before passphrase
+pub decrypt_from_outside : (task : Task) (before after : Seen) (passphrase : List ℕ) (r : ScryptRefusal) → IsGenuine task before passphrase
     → DecryptRefused r task before after → IsFromOutside r
 decrypt_from_outside task before after passphrase r h (inl front) = front_from_outside _ task.infile before after r (admitted task before passphrase h) front
 decrypt_from_outside task before after passphrase r h (inr (inl opening)) = opening_from_outside task before passphrase r h opening.refused
@@ -161,4 +161,4 @@ decrypt_from_outside task before after passphrase r h (inr (inr releasing)) =
 pub file_from_outside : (task : Task) (before after : Seen) (passphrase salt : List ℕ) (costs : Parameters) (text : List ℕ) (r : ScryptRefusal)
     → CanBeOpened task before passphrase salt costs text → DecryptRefused r task before after → IsFromOutside r
 file_from_outside task before after passphrase salt costs text r h refused =
-    decrypt_from_outside task before after passphrase r (opened_by_file task before passphrase salt costs text h) refused
+    decrypt_from_outside task before after passphrase r (genuine_by_file task before passphrase salt costs text h) refused

@@ -13,7 +13,7 @@ use Rattle.scrypt_run.specs.Run.{RequestRefused, RequestSucceeds}
 use Rattle.scrypt_run.specs.Steps.{after_passing}
 use Rattle.scrypt_run.specs.declared.refusal.ScryptRefusal.{ScryptRefusal}
 use Rattle.scrypt_run.specs.declared.refusal.ScryptRefusal.TheVariants as refusal
-use Rattle.scrypt_run.proofs.Openings.{decrypt_from_outside, front_from_outside, none_refuses, one_passphrase, opened_by_success, passphrase_from_outside}
+use Rattle.scrypt_run.proofs.Openings.{decrypt_from_outside, front_from_outside, none_refuses, one_passphrase, genuine_by_success, passphrase_from_outside}
 
 -- ---- one success
 
@@ -83,5 +83,5 @@ pub refused_from_outside : (request : Request) (before after ended : Seen) (r : 
     → RequestRefused r request before ended → IsRefusedFromOutside request r
 refused_from_outside (encrypt asked) before after ended r done refused = encrypt_from_outside asked before after ended r done refused
 refused_from_outside (decrypt task) before after ended r done refused =
-    decrypt_from_outside task before ended done.passphrase r (opened_by_success task before after done) refused
+    decrypt_from_outside task before ended done.passphrase r (genuine_by_success task before after done) refused
 refused_from_outside (inspect infile) before after ended r done refused = inspect_from_outside infile before after ended r done refused

@@ -47,7 +47,7 @@ pub record IsEncrypted (passphrase salt : List ℕ) (costs : Parameters) (outfil
   pub encryption : IsEncryptionOf (encrypted_file passphrase salt costs before.input) passphrase before.input
   pub written : after ≡ after_passing (encrypted_file passphrase salt costs) (length before.input) (after_open_output outfile before)
 
--- a beginning of what the bytes pulled so far, fewer than the limit, decide was written, not the whole; at most 4,128
+-- fewer bytes than the limit were pulled, and a beginning of what they decide was written, not the whole; at most 4,128
 -- bytes of it are missing
 pub record FileCutShort (passphrase salt : List ℕ) (costs : Parameters) (opened after : Seen) : Type 0 where
   pub pulled : ℕ

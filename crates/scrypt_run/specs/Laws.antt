@@ -34,7 +34,7 @@ IsFromOutside r = (r ≡ refusal.InputFault)
     ⊎ (r ≡ refusal.PassphraseFault)
     ⊎ (r ≡ refusal.OutOfMemory)
 
--- and so it was at this request; the host's salt is asked for by `enc` alone, where no other is given
+-- and so it was, at this request; the host is asked for a salt by `enc` alone, where none is given
 abbrev pub IsRefusedFromOutside : Request → ScryptRefusal → Type 0
 IsRefusedFromOutside (encrypt asked) r = IsFromOutside r ⊎ ((r ≡ refusal.SaltFault) × (asked.salt ≡ None))
 IsRefusedFromOutside (decrypt task) r = IsFromOutside r

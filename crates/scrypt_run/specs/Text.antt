@@ -12,7 +12,7 @@ pub record FailsReading (limit : ℕ) (gives : List ℕ → List ℕ) (before af
   pub within : pulled ≤ length before.input
   pub passes : after ≡ after_passing gives pulled before
 
--- a beginning of what the bytes pulled so far give, fewer than the limit, was written, not the whole; at most `most`
+-- fewer bytes than the limit were pulled, and a beginning of what they give was written, not the whole; at most `most`
 -- bytes of it are missing
 pub record FailsWriting (limit most : ℕ) (gives : List ℕ → List ℕ) (before after : Seen) : Type 0 where
   pub pulled : ℕ
