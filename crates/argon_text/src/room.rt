@@ -2,7 +2,6 @@
 ghost use Rattle.std.specs.Prelude.{◌≡◌, IfOk, IfErr, vec_len};
 ghost use Rattle.base64.specs.Engines.{standard_no_pad};
 ghost use Rattle.base64.specs.GeneralPurpose.{IsBytes, IsDecodeFailure};
-
 ghost use Rattle.argon_text.specs.EncodedText.{base64_text};
 
 use argon::{Matrix, Params};
