@@ -45,10 +45,6 @@ pub use plan::plan_segment;
 pub use ticks::Ticks;
 
 #[cfg(test)]
-mod plain;
-#[cfg(test)]
-mod reference_tags;
-#[cfg(test)]
 mod tests;
 #[cfg(test)]
 mod vectors;

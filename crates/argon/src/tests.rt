@@ -2,13 +2,15 @@
 ghost use Rattle.std.specs.Prelude.{◌≡◌, ◌<◌, ◌^◌, true, length};
 ghost use Rattle.argon.specs.Reference.{is_independent};
 
+mod plain;
+mod reference_tags;
+
 use super::*;
 use crate::block::{Block, write_xor, write_xor_over};
 use crate::compression::{Scratch, compression};
 use crate::matrix::reserve_from;
-use crate::plain;
-use crate::reference_tags::{LONGEST, ROWS, Row};
 use crate::room::Room;
+use reference_tags::{LONGEST, ROWS, Row};
 use std::alloc::{AllocError, Global};
 use std::test::Fail;
 
