@@ -6,4 +6,5 @@ pub mod Fronts
 pub mod Lines
 pub mod Openings
 pub mod Passing
+pub mod Refusals
 pub mod Successes

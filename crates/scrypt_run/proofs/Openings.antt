@@ -1,6 +1,6 @@
 -- What a run of `dec` comes to on an encrypted file, under its passphrase, and what refuses it.
 use Rattle.std.proofs.Common.{◌≡◌, ◌≤◌, ◌++◌, inl, inr, ◌+◌, ◌-◌, ℕ, List, Option, Some, None, option_map, take, drop, length, ap, sym, subst, refl, ◌∙◌, arith}
-use Rattle.std.proofs.lemmas.Option.{none-some}
+use Rattle.std.proofs.lemmas.Option.{none-some, same_Some}
 use Rattle.std.proofs.lemmas.List.{length-drop}
 use Rattle.std.proofs.lemmas.Grind.{common_steps}
 use Rattle.romix.specs.Costs.{Parameters}
@@ -19,15 +19,12 @@ use Rattle.scrypt_run.specs.Refusal.{refusal_of}
 use Rattle.scrypt_run.specs.Request.{Task}
 use Rattle.scrypt_run.specs.declared.refusal.ScryptRefusal.{ScryptRefusal}
 
-some_same : {A : Type 0} (x y : A) → Some x ≡ Some y → x ≡ y
-some_same x y h = grind (arith, h)
-
 -- a source gives one passphrase
 pub one_passphrase : (line : Option (List ℕ)) (p q : List ℕ) → HasPassphrase line p → HasPassphrase line q → p ≡ q
-one_passphrase line p q hp hq = some_same p q (sym hp.is ∙ hq.is)
+one_passphrase line p q hp hq = same_Some p q (sym hp.is ∙ hq.is)
 
 -- a list is its first n and the rest
-both_parts : (n : ℕ) (xs : List ℕ) → take n xs ++ drop n xs ≡ xs
+pub both_parts : (n : ℕ) (xs : List ℕ) → take n xs ++ drop n xs ≡ xs
 both_parts n xs = grind (arith, common_steps)
 
 all_of_rest : (n : ℕ) (xs : List ℕ) → take n xs ++ take (length (drop n xs)) (drop n xs) ≡ xs
@@ -96,8 +93,8 @@ text_is_written task before after passphrase salt costs text h ends =
 
 -- ---- no refusal of the product's own
 
-limits_pass : (file : List ℕ) (max_bytes max_ops : ℕ) (passphrase : List ℕ) (first : Option FrontRefusal) → limits_refusal file max_bytes max_ops ≡ first
-    → front_refusal file max_bytes max_ops passphrase ≡ None → first ≡ None
+pub limits_pass : (file : List ℕ) (max_bytes max_ops : ℕ) (passphrase : List ℕ) (first : Option FrontRefusal)
+    → limits_refusal file max_bytes max_ops ≡ first → front_refusal file max_bytes max_ops passphrase ≡ None → first ≡ None
 limits_pass file max_bytes max_ops passphrase None is passes = refl
 limits_pass file max_bytes max_ops passphrase (Some r) is passes =
     absurd (none-some r (sym passes ∙ front_refusal-limits file max_bytes max_ops passphrase r is))
@@ -109,7 +106,7 @@ pub passphrase_from_outside : (line : Option (List ℕ)) (passphrase : List ℕ)
     → IsFromOutside r
 passphrase_from_outside line passphrase r given (inl failed) = inr (inr (inl failed))
 passphrase_from_outside line passphrase r given (inr (is, long, line_is, longer)) =
-    let same : long ≡ passphrase = some_same long passphrase (sym line_is ∙ given.is) in
+    let same : long ≡ passphrase = same_Some long passphrase (sym line_is ∙ given.is) in
     absurd (let h : ⊥ = omega (arith, ap length same, longer, given.fits) in h)
 
 pub front_from_outside : (first : Option FrontRefusal) (infile : Option Text) (before after : Seen) (r : ScryptRefusal) → first ≡ None

@@ -1,12 +1,13 @@
--- What follows from a request's success: no other comes, and what refuses the request is from outside.
-use Rattle.std.proofs.Common.{◌≡◌, ◌<◌, ◌^◌, ◌⊎◌, inl, inr, ℕ, List, Option, None, take, length, ap, sym, ◌∙◌, arith}
+-- What follows from a request's success: no other comes, `enc` wrote an encryption, and what refuses the request is from outside.
+use Rattle.std.proofs.Common.{◌≡◌, ◌<◌, ◌^◌, ◌++◌, ◌⊎◌, inl, inr, ℕ, List, Option, None, take, length, ap, sym, ◌∙◌, arith}
+use Rattle.std.proofs.lemmas.Grind.{common_steps}
 use Rattle.encfile.specs.EncryptedFile.{encrypted_file}
 use Rattle.encfile.specs.Front.{format_refusal}
 use Rattle.host.specs.Seen.{Seen, Text, after_open_output}
 use Rattle.scrypt_run.specs.Decrypting.{DecryptSucceeds, front_pulled, text_behind}
 use Rattle.scrypt_run.specs.Encrypting.{EncryptRefused, EncryptSucceeds, StartRefused, TextNotOpened, WriteRefused, costs_refusal, salt_used, text_opened}
 use Rattle.scrypt_run.specs.Inspecting.{InspectRefused, InspectSucceeds}
-use Rattle.scrypt_run.specs.Laws.{IsFromOutside, IsRefusedFromOutside}
+use Rattle.scrypt_run.specs.Laws.{IsFromOutside, IsRefusedFromOutside, WroteAnEncryption}
 use Rattle.scrypt_run.specs.Passphrase.{HasPassphrase, first_line_at}
 use Rattle.scrypt_run.specs.Request.{Encryption, Request, Task, decrypt, encrypt, inspect}
 use Rattle.scrypt_run.specs.Run.{RequestRefused, RequestSucceeds}
@@ -38,6 +39,22 @@ one_success (encrypt asked) before a b ha hb = one_encryption asked before a b h
 one_success (decrypt task) before a b ha hb = one_decryption task before a b ha hb
 one_success (inspect infile) before a b ha hb = ha.written ∙ sym hb.written
 
+-- ---- what `enc` wrote
+
+take_all : (xs : List ℕ) → take (length xs) xs ≡ xs
+take_all xs = grind (arith, common_steps)
+
+pub wrote_an_encryption : (asked : Encryption) (before after : Seen) → EncryptSucceeds asked before after → WroteAnEncryption asked before after
+wrote_an_encryption asked before after done =
+    let file_of : List ℕ → List ℕ = encrypted_file done.passphrase (salt_used asked.salt before) asked.costs in
+    record {
+      passphrase = done.passphrase;
+      file = file_of before.input;
+      given = done.given;
+      encryption = done.encrypted.encryption;
+      written = ap (λ (s : Seen). s.output) done.encrypted.written ∙ ap (λ xs. before.output ++ file_of xs) (take_all before.input);
+    }
+
 -- ---- no refusal of the product's own
 
 opening_from_outside : (asked : Encryption) (before ended : Seen) (r : ScryptRefusal) → costs_refusal asked ≡ None → TextNotOpened r asked before ended
@@ -68,7 +85,7 @@ encrypt_from_outside asked before after ended r done (inr (inl starting)) =
 encrypt_from_outside asked before after ended r done (inr (inr writing)) =
     inl (writing_from_outside asked (text_opened asked before) ended writing.passphrase (salt_used asked.salt before) r done.encrypted.below_limit writing.refused)
 
-line_from_outside : (r : ScryptRefusal) (Unwritten Left CutShort : Type 0)
+pub line_from_outside : (r : ScryptRefusal) (Unwritten Left CutShort : Type 0)
     → ((r ≡ refusal.OutOfMemory) × Unwritten) ⊎ ((r ≡ refusal.OutputFault) × Left) ⊎ ((r ≡ refusal.OutputFault) × CutShort) → IsFromOutside r
 line_from_outside r Unwritten Left CutShort (inl lacks) = inr (inr (inr lacks.0))
 line_from_outside r Unwritten Left CutShort (inr (inl failed)) = inr (inl failed.0)

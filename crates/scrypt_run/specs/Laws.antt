@@ -4,7 +4,7 @@ use Rattle.romix.specs.Costs.{FitsMemory, IsInRange, Parameters, cores}
 use Rattle.encfile.specs.EncryptedFile.{IsEncryptionOf, encrypted_file}
 use Rattle.host.specs.Seen.{Seen}
 use Rattle.scrypt_run.specs.Passphrase.{HasPassphrase, first_line_at}
-use Rattle.scrypt_run.specs.Request.{Request, Task, decrypt, encrypt, inspect}
+use Rattle.scrypt_run.specs.Request.{Encryption, Request, Task, decrypt, encrypt, inspect}
 use Rattle.scrypt_run.specs.declared.refusal.ScryptRefusal.{ScryptRefusal}
 use Rattle.scrypt_run.specs.declared.refusal.ScryptRefusal.TheVariants as refusal
 
@@ -26,6 +26,14 @@ pub record WroteWhatWasEncrypted (task : Task) (before after : Seen) : Type 0 wh
   pub given : HasPassphrase (first_line_at task.source before) passphrase
   pub encryption : IsEncryptionOf before.input passphrase text
   pub written : after.output ≡ before.output ++ text
+
+-- what was written is an encryption of the input, under the passphrase that the source gives
+pub record WroteAnEncryption (asked : Encryption) (before after : Seen) : Type 0 where
+  pub passphrase : List ℕ
+  pub file : List ℕ
+  pub given : HasPassphrase (first_line_at asked.task.source before) passphrase
+  pub encryption : IsEncryptionOf file passphrase before.input
+  pub written : after.output ≡ before.output ++ file
 
 -- the host failed, or a growth of memory was refused
 abbrev pub IsFromOutside : ScryptRefusal → Type 0

@@ -1,10 +1,11 @@
 //! Laws of the definitions: each function has no body, and its clauses are the law.
-ghost use Rattle.std.specs.Prelude.{◌≡◌, ◌++◌, ℕ, List};
+ghost use Rattle.std.specs.Prelude.{◌≡◌, ◌++◌, ◌⊎◌, ℕ, List};
 ghost use Rattle.romix.specs.Costs.{Parameters};
 ghost use Rattle.host.specs.Seen.{Seen};
 ghost use Rattle.scrypt_run.specs.Decrypting.{DecryptRefused, DecryptSucceeds};
-ghost use Rattle.scrypt_run.specs.Laws.{CanBeOpened, IsFromOutside, IsRefusedFromOutside, WroteWhatWasEncrypted};
-ghost use Rattle.scrypt_run.specs.Request.{Request, Task};
+ghost use Rattle.scrypt_run.specs.Encrypting.{EncryptSucceeds};
+ghost use Rattle.scrypt_run.specs.Laws.{CanBeOpened, IsFromOutside, IsRefusedFromOutside, WroteAnEncryption, WroteWhatWasEncrypted};
+ghost use Rattle.scrypt_run.specs.Request.{Encryption, Request, Task};
 ghost use Rattle.scrypt_run.specs.Run.{RequestRefused, RequestSucceeds};
 ghost use Rattle.scrypt_run.specs.declared.refusal.ScryptRefusal.{ScryptRefusal};
 
@@ -26,6 +27,12 @@ fn what_dec_wrote_was_encrypted()
         → WroteWhatWasEncrypted task before after }
 {}
 
+// A run of `enc` that ends well wrote an encryption of the input.
+fn what_enc_wrote_is_an_encryption()
+    ensures encryption { (asked : Encryption) (before after : Seen) → EncryptSucceeds asked before after
+        → WroteAnEncryption asked before after }
+{}
+
 // A request comes to one success: the same names are opened, and the same is read and written.
 fn one_success()
     ensures same { (request : Request) (before a b : Seen) → RequestSucceeds request before a
@@ -37,6 +44,14 @@ fn success_is_refused_from_outside_alone()
     ensures outside { (request : Request) (before after ended : Seen) (refusal : ScryptRefusal)
         → RequestSucceeds request before after → RequestRefused refusal request before ended
         → IsRefusedFromOutside request refusal }
+{}
+
+// Two refusals of a request are the same, or one of them is from outside: what else refuses it is
+// decided by the request and the host.
+fn one_refusal_from_inside()
+    ensures same { (request : Request) (before after ended : Seen) (one other : ScryptRefusal)
+        → RequestRefused one request before after → RequestRefused other request before ended
+        → (one ≡ other) ⊎ IsRefusedFromOutside request one ⊎ IsRefusedFromOutside request other }
 {}
 
 // Want of memory is never told after an output was opened.

@@ -1,15 +1,19 @@
 //! Laws of the definitions: each function has no body, and its clauses are the law.
-ghost use Rattle.std.specs.Prelude.{◌≡◌, List};
+ghost use Rattle.std.specs.Prelude.{◌≡◌, ◌⊎◌, List};
 ghost use Rattle.host.specs.Seen.{Seen, Text};
 ghost use Rattle.command.specs.Scrypt.Laws.{IsRefusedFromOutside};
 ghost use Rattle.command.specs.Scrypt.Run.{IsRefused, Succeeds};
 ghost use Rattle.scrypt_run.specs.declared.refusal.ScryptRefusal.{ScryptRefusal};
 
-// Words and a host come to one success, and are refused then from outside alone.
-fn words_come_to_one_success()
+// Words and a host come to one end, but for refusals from outside: to one success, beside which every
+// refusal is from outside, or to one refusal.
+fn words_come_to_one_end()
     ensures same { (words : List Text) (before a b : Seen) → Succeeds words before a
         → Succeeds words before b → a ≡ b }
     ensures outside { (words : List Text) (before after ended : Seen) (refusal : ScryptRefusal)
         → Succeeds words before after → IsRefused refusal words before ended
         → IsRefusedFromOutside words refusal }
+    ensures refusal { (words : List Text) (before after ended : Seen) (one other : ScryptRefusal)
+        → IsRefused one words before after → IsRefused other words before ended
+        → (one ≡ other) ⊎ IsRefusedFromOutside words one ⊎ IsRefusedFromOutside words other }
 {}
