@@ -1,56 +1,59 @@
-# Pikhsen: proves, builds, tests and installs scrypt and argon2.
+# Pikhsen: proves, builds, tests, installs and packages scrypt and argon2.
 
 PREFIX ?= /usr/local
-SCRYPT := crates/scrypt_tool/out/scrypt_tool
-ARGON2 := crates/argon_tool/out/argon_tool
+# Where make bench puts its table and its plot, without .tsv and .svg.
+BENCH ?= docs/benchmarks
 SOURCES := crates.txt $(shell find crates -name out -prune -o -type f \( -name '*.rt' -o -name '*.antt' \) -print)
+# The levels that this machine's processor has, of the two that can be built for, and the one that is built for.
+V3 := avx2 bmi1 bmi2 f16c fma movbe abm
+LEVELS := x86-64-v2 $(if $(filter-out $(shell sed -n 's/^flags.*: //p' /proc/cpuinfo | head -n 1),$(V3)),,x86-64-v3)
+CPU ?= $(lastword $(LEVELS))
 
 .DELETE_ON_ERROR:
-.PHONY: help run test install bench
+.NOTPARALLEL:
+.PHONY: help run check test install uninstall deb bench clean
 
 help: ## prints these lines
-	@sed -n 's/^\([a-z]*\):.*## /make \1\t/p' Makefile | expand -t 14
+	@sed -n 's/^\([a-z]*\):.*## /make \1\t/p' Makefile | expand -t 16
 
-run: bin/argon2 bin/scrypt ## proves and builds bin/argon2 and bin/scrypt, then hashes "password" as a first run
+run: bin/$(CPU)/argon2 bin/$(CPU)/scrypt ## proves and builds bin/argon2 and bin/scrypt (CPU=x86-64-v2 or x86-64-v3), then a first run
+	@packaging/chosen.sh $(CPU)
+	@echo 'bin/argon2 and bin/scrypt are proved, and built for processors of the level $(CPU) and above.' >&2
 	@printf password | bin/argon2 somesalt -d -t 1 -k 8 -e
 
-test: ## the gate: every proof from nothing, edits that must not be proved, all tests, and the built programs from the outside
+# There is no unproved build. A rule with several targets runs once for all of them.
+bin/%/argon2 bin/%/scrypt: $(SOURCES)
+	@packaging/build.sh $*
+
+check: ## proves what differs from the last commit, and runs the tests of the crates that changed
+	tests/changed.py
+
+# What was built for another level is tested, too, and built anew before, if the sources changed.
+test: $(filter bin/x86-64-v3/%,$(wildcard $(LEVELS:%=bin/%/scrypt))) ## the gate: all proofs from nothing, all edits and tests, the built programs
 	rt ci
+	@install -D -m 755 crates/argon_tool/out/argon_tool bin/x86-64-v2/argon2
+	@install -D -m 755 crates/scrypt_tool/out/scrypt_tool bin/x86-64-v2/scrypt
+	@test -f bin/level && test "$$(cat bin/level)" != x86-64-v2 || packaging/chosen.sh x86-64-v2
 	tests/sources.sh
 	tests/documents.py
-	tests/argon2.py $(ARGON2)
-	tests/scrypt.py $(SCRYPT)
+	@for level in $(LEVELS); do test ! -x bin/$$level/scrypt || tests/outside.sh bin/$$level || exit 1; done
 
-install: bin/argon2 bin/scrypt ## puts the programs, their manual pages and the documents below PREFIX (/usr/local)
-	install -D -m 755 -t '$(DESTDIR)$(PREFIX)/bin' bin/argon2 bin/scrypt
-	install -D -m 644 -t '$(DESTDIR)$(PREFIX)/share/man/man1' man/argon2.1 man/scrypt.1
-	install -D -m 644 -t '$(DESTDIR)$(PREFIX)/share/doc/pikhsen' README.md
-	install -D -m 644 -t '$(DESTDIR)$(PREFIX)/share/doc/pikhsen/docs' docs/*.md
+install: | bin/argon2 bin/scrypt ## puts what was built, with pages, completions and documents, below PREFIX
+	@packaging/install.sh install '$(DESTDIR)$(PREFIX)' bin
+	@echo "installed below $(PREFIX): argon2 and scrypt, built for $$(cat bin/level)" >&2
 
-bench: bin/argon2 bin/scrypt ## times hashes, backups, scrypt's derivation, AES and encrypted files beside the programs that are installed
-	bench/argon2.py bin/argon2
-	bench/backup.py bin/scrypt
-	bench/derivation.py
-	bench/counter_mode.py
-	bench/encrypted_file.py
+uninstall: ## takes away what make install put below PREFIX
+	@packaging/install.sh uninstall '$(DESTDIR)$(PREFIX)'
 
-bin/argon2: $(ARGON2)
-	@mkdir -p bin
-	@install -m 755 $(ARGON2) bin/argon2
+deb: bin/x86-64-v2/argon2 bin/x86-64-v2/scrypt ## makes a package for Debian in bin/, with programs for x86-64-v2
+	@packaging/deb.sh
 
-bin/scrypt: $(SCRYPT)
-	@mkdir -p bin
-	@install -m 755 $(SCRYPT) bin/scrypt
+bench: $(LEVELS:%=bin/%/argon2) $(LEVELS:%=bin/%/scrypt) ## times the programs beside those that are installed
+	bench/table.py $(LEVELS:%=bin/%) --out $(BENCH)
+	bench/logins.py
 
-# There is no unproved build: rt proves what it builds and runs, and leaves the program beside the crate.
-$(ARGON2): $(SOURCES)
-	@echo 'Proving and building argon2. The first time this takes some minutes.' >&2
-	@rm -f $(ARGON2)
-	@cd crates/argon_tool && { printf password | rt run -- somesalt -d -t 1 -k 8 -e >/dev/null || true; }
-	@test -x $(ARGON2) || { echo 'argon2 was not built: the lines above say why.' >&2; exit 1; }
+clean: ## takes away bin/ and all kept proofs: the next build proves everything again
+	rm -rf bin crates/*/out
 
-$(SCRYPT): $(SOURCES)
-	@echo 'Proving and building scrypt. The first time this takes some minutes.' >&2
-	@rm -f $(SCRYPT)
-	@cd crates/scrypt_tool && { rt run -- info - <stdin >/dev/null || true; }
-	@test -x $(SCRYPT) || { echo 'scrypt was not built: the lines above say why.' >&2; exit 1; }
+bin/argon2 bin/scrypt &:
+	@$(MAKE) --no-print-directory run

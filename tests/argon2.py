@@ -5,9 +5,11 @@
 
 Expected hashes are those of Debian's argon2 (package argon2, version 0~20171227) and of RFC 9106's reference values.
 """
+import os
 import shutil
 import subprocess
 import sys
+import tempfile
 
 from checking import Checks
 
@@ -17,6 +19,7 @@ USAGE = (
 )
 FIRST = b"$argon2d$v=19$m=8,t=1,p=1$c29tZXNhbHQ$xRnmA6xgPsGutbcexEpheePzl1sUwMl+ORTHnmNj4Xg\n"
 I_256 = b"$argon2i$v=19$m=256,t=2,p=1$c29tZXNhbHQ$iekCn0Y3spW+sCcFanM2xBT63UP2sghkUoHLIUpWRS8\n"
+I_256_10 = b"$argon2i$v=16$m=256,t=2,p=1$c29tZXNhbHQ$/U3YPXYsSb3q9XxHvc0MLxur+GP960kN9j7emXX8zwY\n"
 ID_256 = b"$argon2id$v=19$m=256,t=2,p=1$c29tZXNhbHQ$nf65EOgLrQMR/uIPnA4rEsF5h7TKyQwu9U1bMCHGi/4\n"
 ID_RAW = b"6d093c501fd5999645e0ea3bf620d7b8be7fd2db59c20d9fff9539da2bf57037\n"
 
@@ -45,7 +48,8 @@ TABLE = [
     ("an unknown word", "somesalt -e -q", b"password", refused(b"unknown word")),
     ("a missing value", "somesalt -e -t", b"password", refused(b"missing value")),
     ("the first fault decides", "somesalt -t x -q", b"password", refused(b"bad number")),
-    ("version 10", "somesalt -v 10 -e", b"password", refused(b"bad number")),
+    ("version 10", "somesalt -t 2 -m 8 -v 10 -e", b"password", hashed(I_256_10)),
+    ("version 10 in decimal", "somesalt -v 16 -e", b"password", refused(b"bad number")),
     ("no form of output", "somesalt", b"password", refused(b"exactly one of -e and -r is needed")),
     ("both forms of output", "somesalt -e -r", b"password", refused(b"exactly one of -e and -r is needed")),
     ("a short salt", "seven77 -e", b"password", refused(b"salt length out of range")),
@@ -57,14 +61,29 @@ TABLE = [
     ("a long password", "somesalt -e", b"p" * 128, refused(b"password is longer than 127 bytes")),
 ]
 
+# more than 64 MiB, and the longest tag, by Debian's argon2
+D_64_MIB = b"6c51226ce388e165ceaa1c9b5e0646e1bd532392cbf72680d8a8e71c00a35c2f\n"
+LONGEST_TAG = (
+    b"11164024bbb98e6e90b14957a1d51417df657057e0c245f9359366d794eb5f63",
+    b"b4e4162facc1fd3b88e73741e49c9fa04069973a7ee3fb65bcfef1cd394250e0\n",
+)
+
 # what is compared with the installed program, with the password of each
 COMPARED = [
+    ("somesalt -d -t 1 -k 8 -l 4096 -e", b"password"),
+    ("somesalt -id -t 1 -k 262144 -p 2 -v 10 -e", b"password"),
     ("somesalt -d -t 1 -k 8 -r", b"password"),
     ("somesalt -i -t 3 -m 12 -r", b"password\n"),
     ("somesalt -id -t 2 -k 1000 -p 3 -e", b"p" * 127),
     ("somesalt -d -t 4 -k 77 -p 2 -l 65 -e", b"\x00\xff password"),
     ("saltsaltsaltsalt -id -t 1 -m 16 -p 4 -l 64 -e", b"x"),
     ("somesalt -i -t 1 -k 2100 -l 4 -r", b"password"),
+    *[
+        (f"somesalt -{kind} -t {passes} -k {memory} -p {lanes} -v 10 {form}", b"password")
+        for kind in ("i", "d", "id")
+        for passes, memory, form in ((1, 64, "-e"), (2, 1000, "-r"), (3, 77, "-e"), (4, 40, "-r"))
+        for lanes in (1, 2, 3, 4)
+    ],
 ]
 
 
@@ -100,6 +119,53 @@ def words_of_bytes(checks):
     checks.that("a long salt", checks.run(["s" * 256, "-e"], b"password"), refused(b"salt length out of range"))
 
 
+def large(checks):
+    checks.that("more than 64 MiB", checks.run("somesalt -d -t 1 -k 65540 -r".split(), b"password"), hashed(D_64_MIB))
+    status, output, line = checks.run("somesalt -d -t 1 -k 8 -l 4096 -r".split(), b"password")
+    checks.that("the longest tag", (status, len(output), output[:64], output[-65:], line), (0, 8193, *LONGEST_TAG, b""))
+
+
+# Grants requests for memory up to the first of a size (the matrix), and refuses each one after it.
+REFUSING_AFTER = r"""
+#define _GNU_SOURCE
+#include <dlfcn.h>
+#include <stdlib.h>
+static int taken;
+static int refused(size_t size) {
+    if (taken) return 1;
+    if (size >= MATRIX) taken = 1;
+    return 0;
+}
+void *malloc(size_t size) {
+    static void *(*next)(size_t);
+    if (!next) next = dlsym(RTLD_NEXT, "malloc");
+    return refused(size) ? NULL : next(size);
+}
+void *realloc(void *old, size_t size) {
+    static void *(*next)(void *, size_t);
+    if (!next) next = dlsym(RTLD_NEXT, "realloc");
+    return refused(size) ? NULL : next(old, size);
+}
+"""
+
+
+def memory_before_the_hash(checks):
+    """Once the matrix of 1 MiB is taken each further request is refused, and the run doesn't notice."""
+    compiler = shutil.which("cc")
+    if compiler is None:
+        print("skipped: no C compiler to refuse memory with")
+        return
+    with tempfile.TemporaryDirectory() as folder:
+        library = os.path.join(folder, "refusing.so")
+        command = [compiler, "-shared", "-fPIC", "-DMATRIX=1048576", "-x", "c", "-", "-o", library]
+        subprocess.run(command, input=REFUSING_AFTER.encode(), check=True)
+        for form in ("-e", "-r"):
+            words = f"somesalt -d -t 1 -k 1024 {form}".split()
+            expected = checks.run(words, b"password")
+            found = checks.shell(f'LD_PRELOAD={library} "$0" {" ".join(words)}', b"password")
+            checks.that(f"memory refused after the matrix, {form}", found, expected)
+
+
 def beside_the_installed(checks):
     other = shutil.which("argon2")
     if other is None:
@@ -120,6 +186,8 @@ def main():
     closed_pipe(checks)
     slow_input(checks)
     words_of_bytes(checks)
+    large(checks)
+    memory_before_the_hash(checks)
     beside_the_installed(checks)
     checks.end()
 

@@ -4,6 +4,11 @@ import subprocess
 import time
 
 
+# In seconds, and blocks of 512 bytes: no run takes so long, and none writes a file so large.
+TIME_LIMIT = 60
+FILE_LIMIT = 16384
+
+
 class Checks:
     """A program, the folder and the environment in which it runs, and how many comparisons passed and failed."""
 
@@ -24,15 +29,15 @@ class Checks:
         """Status, standard output and standard error of the program with these words and this standard input."""
         ran = subprocess.run(
             [program or self.program, *words], input=given, stdout=subprocess.PIPE, stderr=subprocess.PIPE,
-            cwd=self.folder, env=self.environment, **more
+            cwd=self.folder, env=self.environment, timeout=TIME_LIMIT, **more
         )
         return ran.returncode, ran.stdout, ran.stderr
 
     def shell(self, text, given=b""):
         """The same of a shell's line, in which the program is $0."""
         ran = subprocess.run(
-            ["sh", "-c", text, self.program], input=given, stdout=subprocess.PIPE, stderr=subprocess.PIPE,
-            cwd=self.folder, env=self.environment
+            ["sh", "-c", f"ulimit -f {FILE_LIMIT}; {text}", self.program], input=given, stdout=subprocess.PIPE,
+            stderr=subprocess.PIPE, cwd=self.folder, env=self.environment, timeout=TIME_LIMIT
         )
         return ran.returncode, ran.stdout, ran.stderr
 

@@ -1,14 +1,21 @@
 #!/usr/bin/env python3
-"""Whether what the documents name is there: files, definitions, tests, clauses and calls.
+"""Whether what the documents name is there: files, definitions, tests, clauses and calls; and whether the manual pages tell
+every message, the completions every option, and all of them one version.
 
-Reads README.md and docs/ against crates/, says each name that it does not find, and fails where there is one.
+Reads README.md and the other pages, docs/ and man/ against crates/, says each name that it does not find, and fails where there
+is one.
 """
 import pathlib
 import re
+import shutil
+import subprocess
 import sys
 
 TOP = pathlib.Path(__file__).resolve().parent.parent
-DOCUMENTS = [TOP / "README.md", *sorted((TOP / "docs").glob("*.md"))]
+PAGES = sorted(TOP.glob("*.md"))
+MANUALS = sorted((TOP / "man").glob("*.1"))
+DOCUMENTS = [*PAGES, *sorted((TOP / "docs").glob("*.md")), *MANUALS]
+COMPLETIONS = {"argon2": ("bash/argon2", "zsh/_argon2"), "scrypt": ("bash/scrypt", "zsh/_scrypt")}
 IN_BACKTICKS = re.compile(r"`([^`]+)`")
 missing = []
 
@@ -62,7 +69,8 @@ def expect(is_there, document, name):
 
 # Files.
 for document in DOCUMENTS:
-    for path in re.findall(r"\b(?:crates|docs|tests|bench|man)/[\w./]*[\w]\.\w+", document.read_text(encoding="utf-8")):
+    named = r"\b(?:crates|docs|tests|bench|man|packaging|completions)/[\w./]*[\w]\.\w+"
+    for path in re.findall(named, document.read_text(encoding="utf-8")):
         expect((TOP / path).exists(), document, path)
 
 # Definitions, each in the file of specs/ that its row names.
@@ -97,6 +105,48 @@ for heading, cells in tables("PROMISES.md"):
         for name in IN_BACKTICKS.findall(cells[2]):
             found = any(is_definition(name, SPECS[crate]) for crate in ("scrypt_run", "command", "encfile"))
             expect(found, "PROMISES.md", name)
+
+
+def plain(roff):
+    """The text of a manual page, without what sets its type."""
+    text = roff.replace("\\\n", "").replace("\\-", "-").replace("\\(aq", "'")
+    return re.sub(r"^\.[A-Z]+ ", "", re.sub(r"\\f[A-Z]", "", text), flags=re.MULTILINE)
+
+
+# Messages and options, in the manual page of each program and in its completions.
+for manual in MANUALS:
+    program, roff = manual.stem, manual.read_text(encoding="utf-8")
+    text = plain(roff)
+    messages = [
+        cells[2].strip("`").replace("\\|", "|")
+        for heading, cells in tables("REFUSALS.md")
+        if heading == program and re.fullmatch(r"[AS]\d.*", cells[0]) and "`" in cells[2]
+    ]
+    messages = [re.sub(r"^(argon2: usage: ).*|`.*$", r"\1", message) or message for message in messages]
+    for message in messages:
+        expect(any(line.startswith(message) for line in text.splitlines()), manual, message)
+    for line in re.findall(rf"^{program}: .*$", text, re.MULTILINE):
+        expect(any(line.startswith(message) for message in messages), "REFUSALS.md", line)
+    options = set(re.findall(r"(?<![\w-])--?[A-Za-z]+", text.split("\nDESCRIPTION\n")[0].split("\nSYNOPSIS\n")[1]))
+    for file in COMPLETIONS[program]:
+        words = re.findall(r"(?<![\w-])--?[A-Za-z]+", (TOP / "completions" / file).read_text(encoding="utf-8"))
+        for option in sorted(options):
+            expect(option in words, f"completions/{file}", option)
+    if shutil.which("mandoc"):
+        lint = subprocess.run(["mandoc", "-T", "lint", manual], stdout=subprocess.PIPE, text=True).stdout
+        missing.extend(lint.splitlines())
+
+# One version.
+VERSION = (TOP / "VERSION").read_text(encoding="utf-8").strip()
+for manual in MANUALS:
+    expect(f'"Pikhsen {VERSION}"' in manual.read_text(encoding="utf-8").splitlines()[0], manual, f"version {VERSION}")
+expect(f"\n## {VERSION}" in (TOP / "CHANGELOG.md").read_text(encoding="utf-8"), "CHANGELOG.md", f"version {VERSION}")
+expect(f"pikhsen_{VERSION}_amd64.deb" in (TOP / "README.md").read_text(encoding="utf-8"), "README.md", f"version {VERSION}")
+
+# Lines that fit a screen.
+for document in PAGES:
+    for number, line in enumerate(document.read_text(encoding="utf-8").splitlines(), 1):
+        expect(len(line) <= 120, document, f"line {number} has {len(line)} columns")
 
 for line in missing:
     print(f"not there: {line}", file=sys.stderr)

@@ -3,9 +3,6 @@
 scrypt where it is installed.
 
     tests/scrypt.py PROGRAM
-
-The two short files were made by Python's hashlib.scrypt and hmac with OpenSSL's aes-256-ctr, and Debian's scrypt (package
-scrypt, version 1.3.1) opens them.
 """
 import hashlib
 import os
@@ -15,86 +12,9 @@ import sys
 import tempfile
 
 from checking import Checks
-
-USAGE = b"scrypt: usage: scrypt enc|dec|info [options] infile [outfile]\n"
-SALT = bytes(range(32)).hex()
-# The passphrase is pw, N is 16, r and p are 1, the salt is SALT; the text is empty, or hello.
-HEADER = bytes.fromhex(
-    "73637279707400040000000100000001000102030405060708090a0b0c0d0e0f101112131415161718191a1b1c1d1e1f"
-    "1d82fc58a29c853312a1e6a48fe98f8b051b8b6444079bef986b3d3c6d1df86cf5c61735c73ccf3a91c00c4042fac38a"
+from scrypt_files import (
+    COSTS, ENVIRONMENT, F0, F5, FILES, FIXED, FROM_PW, HEADER, LINES, PASSPHRASE_OF_BYTES, SALT, header_of
 )
-F0 = HEADER + bytes.fromhex("5bb3efa8e3ab1f98f2a734df4bdefbb608eb96705dc5ac5de43edab725b2541a")
-F5 = HEADER + bytes.fromhex("a3ca5b5806faf691951296a9925e754d1b00d8f6acaa79868e221cd3c40efb4bdd9ffb35b8")
-
-COSTS = "--logN 4 -r 1 -p 1"
-FIXED = f"{COSTS} --salt {SALT}"
-FROM_PW = "--passphrase file:pw"
-
-
-def with_check(front):
-    """The front of a header with the right checksum of its 48 bytes."""
-    return front + hashlib.sha256(front).digest()[:16]
-
-
-def header_of(log_n, r, p):
-    front = b"scrypt\0" + bytes([log_n]) + r.to_bytes(4, "big") + p.to_bytes(4, "big") + bytes(range(32))
-    return with_check(front) + bytes(32)
-
-
-# What lies in the folder in which the program runs.
-FILES = {
-    "empty": b"",
-    "hello": b"hello",
-    "F0": F0,
-    "F5": F5,
-    "F5-longer": F5 + b"\0",
-    "F5-cut-130": F5[:130],
-    "F5-cut-127": F5[:127],
-    "F5-cut-95": F5[:95],
-    "F5-other-magic": b"S" + F5[1:],
-    "F5-version-1": F5[:6] + b"\1" + F5[7:],
-    "F5-other-salt": F5[:20] + b"\0" + F5[21:],
-    "F5-other-code": F5[:-1] + b"\0",
-    "huge": header_of(63, 1, 1),
-    "no-r": header_of(4, 0, 1),
-    "no-log-n": header_of(0, 1, 1),
-    "4-gib-and-more": header_of(23, 8, 1),
-    "much-work": header_of(20, 1, 4096),
-    "pw": b"pw\n",
-    "pw-cr-lf": b"pw\r\nsecond line",
-    "pw-alone": b"pw",
-    "other-pw": b"pv\n",
-    "pw-bytes": b"\xff\x01\x80pw\n",
-    "pw-2048": b"p" * 2048,
-    "pw-2049": b"p" * 2049,
-    "pw-2048-line": b"p" * 2048 + b"\n" + b"q" * 3000,
-}
-
-# No text in UTF-8.
-PASSPHRASE_OF_BYTES = b"\xff\x01\x80pw"
-
-# The variables that it sees beside PATH.
-ENVIRONMENT = {"PW": "pw", "PW_LINE": "pw\nmore", "PW_2049": "p" * 2049, "PW_BYTES": PASSPHRASE_OF_BYTES}
-
-LINES = {
-    "S1": USAGE,
-    "S2a": b"scrypt: --logN, -r and -p are given together or not at all\n",
-    "S2b": b"scrypt: costs out of range\n",
-    "S2c": b"scrypt: passphrase and input cannot both come from standard input\n",
-    "S2d": b"scrypt: infile and outfile have the same name\n",
-    "S3": b"scrypt: one passphrase source is needed: -P, dev:stdin-once, env:NAME or file:NAME\n",
-    "S4a": b"scrypt: passphrase cannot be read\n",
-    "S4b": b"scrypt: passphrase is longer than 2048 bytes\n",
-    "S5a": b"scrypt: --salt takes 64 hexadecimal digits\n",
-    "S6": b"scrypt: not valid scrypt data\n",
-    "S7": b"scrypt: unsupported format version\n",
-    "S8": b"scrypt: more memory needed than -M allows\n",
-    "S9": b"scrypt: more work needed than --maxops allows\n",
-    "S10": b"scrypt: wrong passphrase\n",
-    "S11": b"scrypt: input is damaged or cut short\n",
-    "S12": b"scrypt: input cannot be opened or read\n",
-    "S13": b"scrypt: output cannot be opened or written\n",
-}
 
 
 def done(out=b""):
@@ -150,8 +70,27 @@ TABLE = [
     ("the memory limit where none is given", f"dec {FROM_PW} 4-gib-and-more", b"", refused("S8")),
     ("the work limit where none is given", f"dec {FROM_PW} much-work", b"", refused("S9")),
     ("the costs of a new file are limited", f"enc {FIXED} -M 2047 {FROM_PW} hello", b"", refused("S8")),
+    # a part of the table
+    ("a quarter of the table, its limits met", f"dec --keep 4 -M 512 --maxops 160 {FROM_PW} F5", b"", done(b"hello")),
+    ("a quarter of the table above its limit", f"dec --keep 4 -M 511 {FROM_PW} F5", b"", refused("S8")),
+    ("the work of a quarter above its limit", f"dec --keep 4 --maxops 159 {FROM_PW} F5", b"", refused("S9")),
+    ("one row, its limits met", f"dec --keep 16 -M 128 --maxops 544 {FROM_PW} F5", b"", done(b"hello")),
+    ("more than N", f"dec --keep 32 {FROM_PW} F5", b"", refused("S16b")),
+    ("more than N before memory", f"dec --keep 32 -M 1 {FROM_PW} F5", b"", refused("S16b")),
+    ("no row", f"dec --keep 0 {FROM_PW} F5", b"", refused("S16a")),
+    ("no power of two", f"dec --keep 3 {FROM_PW} F5", b"", refused("S16a")),
+    ("more than 1024", f"dec --keep 2048 {FROM_PW} F5", b"", refused("S16a")),
+    ("no number of rows", f"dec --keep x {FROM_PW} F5", b"", refused("S1")),
+    ("the whole table by its number", f"dec --keep 1 -M 512 {FROM_PW} F5", b"", refused("S8")),
+    ("one row in 1024 of the greatest N", f"dec --keep 1024 {FROM_PW} huge", b"", refused("S8")),
+    ("an empty file over half of the table", f"enc {FIXED} --keep 2 {FROM_PW} empty", b"", done(F0)),
+    ("five bytes over half of the table", f"enc {FIXED} --keep 2 {FROM_PW} hello", b"", done(F5)),
+    ("one number of rows wrong, and a salt", f"enc {COSTS} --salt 00 --keep 3 {FROM_PW} hello", b"", refused("S5a")),
+    ("info takes no part", "info --keep 2 F5", b"", refused("S1")),
     ("the work of a new file is limited", f"enc {FIXED} --maxops 63 {FROM_PW} hello", b"", refused("S9")),
     ("the costs where none are given", f"enc -M 134217727 {FROM_PW} hello", b"", refused("S8")),
+    ("memory past 64 bits for a new file", f"enc --logN 63 -r 8 -p 1 {FROM_PW} hello", b"", refused("S8")),
+    ("more memory than there is", f"enc --logN 50 -r 8 -p 1 {FROM_PW} hello", b"", refused("S8")),
     ("the work where no costs are given", f"enc --maxops 4194303 {FROM_PW} hello", b"", refused("S9")),
     # passphrases
     ("another passphrase", "dec --passphrase file:other-pw F5", b"", refused("S10")),
@@ -169,6 +108,7 @@ TABLE = [
     ("a first line of 2048 bytes", "dec --passphrase file:pw-2048-line F5", b"", refused("S10")),
     ("a passphrase of 2049 bytes", "dec --passphrase file:pw-2049 F5", b"", refused("S4b")),
     ("2049 bytes of a variable", "dec --passphrase env:PW_2049 F5", b"", refused("S4b")),
+    ("a long variable with a line end", "dec --passphrase env:PW_LONG F5", b"", done(b"hello")),
     ("2049 bytes of standard input", "dec -P F5", b"p" * 2049, refused("S4b")),
     ("no such secret file", "dec --passphrase file:missing F5", b"", refused("S4a")),
     ("a folder as a secret file", "dec --passphrase file:folder F5", b"", refused("S4a")),
@@ -350,9 +290,78 @@ def pipes(checks):
 
 
 def slow_input(checks):
-    """The file comes byte by byte."""
+    """The file, or the passphrase, comes byte by byte, or a secret file is a pipe with a name."""
     found = checks.slowly(f"dec {FROM_PW} -".split(), F5, 0.002)
     checks.that("a file in pieces", found, done(b"hello"))
+    found = checks.slowly("dec -P F5".split(), b"pw\nmore", 0.02)
+    checks.that("a passphrase in pieces", found, done(b"hello"))
+    slowly_named = "{ printf p; sleep 0.1; printf 'w\\nmore'; }"
+    found = checks.shell(f'mkfifo slow; {slowly_named} >slow & "$0" dec --passphrase file:slow F5; rm slow')
+    checks.that("a passphrase in pieces from a named pipe", found, done(b"hello"))
+    found = checks.shell(f'{slowly_named} | "$0" dec -P F5')
+    checks.that("a passphrase in pieces from a pipe", found, done(b"hello"))
+    found = checks.shell(f'{slowly_named} | "$0" enc {FIXED} --passphrase file:/dev/stdin hello')
+    checks.that("a passphrase in pieces from a pipe under a name", found, done(F5))
+
+
+def standard_input_that_is_left(checks):
+    """A run that reads neither its input nor its passphrase from standard input leaves that to others."""
+    for name, words in (("enc", f"enc {FIXED} {FROM_PW} hello out"), ("dec", f"dec {FROM_PW} F5 out"), ("info", "info F5")):
+        out = done(b"left") if name != "info" else done(b"N = 16; r = 1; p = 1; memory = 2048; cores = 64\nleft")
+        checks.that(f"{name} leaves standard input", checks.shell(f'printf left | {{ "$0" {words}; cat; }}'), out)
+    checks.put("out", None)
+
+
+def outputs_that_are_read(checks):
+    """An output that is the input, or the secret's file, under another name stays as it is."""
+    checks.put("kept", b"kept")
+    os.link(os.path.join(checks.folder, "kept"), os.path.join(checks.folder, "hard-link"))
+    os.symlink("kept", os.path.join(checks.folder, "symbolic-link"))
+    os.symlink("not-there", os.path.join(checks.folder, "dangling-link"))
+    for name in ("./kept", "folder/../kept", os.path.join(checks.folder, "kept"), "hard-link", "symbolic-link"):
+        for way, text in (
+            ("the input", f'"$0" enc {COSTS} {FROM_PW} kept {name}'),
+            ("the input by its other name", f'"$0" enc {COSTS} {FROM_PW} {name} kept'),
+            ("standard input", f'"$0" enc {COSTS} {FROM_PW} - {name} <kept'),
+            ("the secret's file", f'"$0" enc {COSTS} --passphrase file:kept hello {name}'),
+            ("the secret on standard input", f'"$0" enc {COSTS} -P hello {name} <kept'),
+        ):
+            found = checks.shell(text)
+            checks.that(f"{way} as {name}", (found, checks.content("kept")), (refused("S13"), b"kept"))
+    checks.that("the secret's own name", checks.shell(f'"$0" enc {COSTS} --passphrase file:kept hello kept'), refused("S13"))
+    checks.that("the secret's file after it", checks.content("kept"), b"kept")
+
+    found = checks.shell(f'"$0" dec {FROM_PW} F5 ./F5')
+    checks.that("a file to be decrypted", (found, checks.content("F5")), (refused("S13"), F5))
+    # Names of no regular file, and of another file.
+    checks.that("a device", checks.shell(f'"$0" enc {FIXED} {FROM_PW} /dev/null /dev/stdout'), done(F0))
+    checks.that("the same device", checks.shell(f'"$0" enc {FIXED} {FROM_PW} /dev/null /dev/../dev/null'), done())
+    found = checks.shell(f'mkfifo pipe; cat pipe & "$0" enc {FIXED} {FROM_PW} hello pipe; wait; rm pipe')
+    checks.that("a named pipe", found, done(F5))
+    found = checks.shell(f'"$0" enc {FIXED} {FROM_PW} kept dangling-link')
+    checks.that("a link to nothing", (found, len(checks.content("not-there"))), (done(), 128 + 4))
+    found = checks.shell(f'"$0" enc {FIXED} {FROM_PW} hello symbolic-link')
+    checks.that("a link to another file", (found, checks.content("kept")), (done(), F5))
+
+
+def output_by_a_bind_mount(checks):
+    """The same where a bind mount gives the input another name, which root alone can make."""
+    checks.put("kept", b"kept")
+    checks.put("mounted", b"")
+    if checks.shell("unshare -m sh -c 'mount --bind kept mounted'")[0] != 0:
+        print("skipped: a bind mount, which root alone can make")
+        return
+    text = f'mount --bind kept mounted; "$0" enc {COSTS} {FROM_PW} kept mounted'
+    found = checks.shell(f"unshare -m sh -c '{text}' \"$0\"")
+    checks.that("the input by a bind mount", (found, checks.content("kept")), (refused("S13"), b"kept"))
+
+
+def large_costs(checks):
+    """No memory is wanted where there is enough: a block past r of 32, and a table above 64 MiB."""
+    for costs in ("--logN 10 -r 33 -p 1", "--logN 10 -r 128 -p 2", "--logN 16 -r 9 -p 1", "--logN 15 -r 24 -p 1"):
+        status, made, said = checks.run(f"enc {costs} {FROM_PW} hello".split())
+        checks.that(f"made with {costs}", (status, len(made), said), (0, 133, b""))
+        checks.that(f"opened with {costs}", checks.run(f"dec {FROM_PW} -".split(), made), done(b"hello"))
 
 
 def words_of_bytes(checks):
@@ -420,6 +429,14 @@ def beside_the_installed(checks):
             made = checks.run(f"enc {costs} {FROM_PW} - theirs".split(), text, program=other)
             found = checks.run(f"dec {FROM_PW} theirs".split())
             checks.that(f"ours opens {other}'s of {len(text)} bytes, {costs}", (made[0], found), (0, done(text)))
+    costs = "--logN 10 -r 1 -p 2"
+    made = checks.run(f"enc {costs} {FROM_PW} - theirs".split(), b"hello", program=other)
+    for keep in (1 << power for power in range(11)):
+        checks.put("ours", checks.run(f"enc {costs} --keep {keep} {FROM_PW} -".split(), b"hello")[1])
+        found = checks.run(f"dec {FROM_PW} ours".split(), program=other)
+        checks.that(f"{other} opens ours of one row in {keep}", found[:2], (0, b"hello"))
+        found = checks.run(f"dec --keep {keep} {FROM_PW} theirs".split())
+        checks.that(f"ours opens {other}'s over one row in {keep}", (made[0], found), (0, done(b"hello")))
 
 
 def main():
@@ -440,11 +457,15 @@ def main():
         without_the_root_folder(checks)
         pipes(checks)
         slow_input(checks)
+        standard_input_that_is_left(checks)
+        outputs_that_are_read(checks)
+        output_by_a_bind_mount(checks)
         words_of_bytes(checks)
         passphrase_of_bytes(checks)
         lengths(checks)
         salts(checks)
         costs_where_none_are_given(checks)
+        large_costs(checks)
         beside_the_installed(checks)
     checks.end()
 

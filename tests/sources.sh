@@ -1,7 +1,7 @@
 #!/bin/sh
 # What a reader of the sources relies on, beside the proofs: proofs by hand are all listed in docs/GATE.md, each counter ticks in one
-# place, and a counter is made where a whole hash begins: no crate that is handed one makes its own. Tables that another program made
-# are what it makes.
+# place, and a counter is made where a whole run begins: no crate that is handed one makes its own. Memory is reserved and work begun
+# where contracts say what was tested before. Tables that another program made are what it makes.
 set -eu
 cd "$(dirname "$0")/.."
 status=0
@@ -22,13 +22,35 @@ places() {
     grep -rnF --include='*.rt' --exclude-dir=out --exclude-dir=tests --exclude=tests.rt --exclude=vectors.rt -- "$1" crates |
         grep -vE '^[^:]*:[0-9]+: *//' | cut -d: -f1 | sort
 }
-test "$(places '.tick()')" = "crates/argon/src/compression.rt
-crates/romix/src/salsa20.rt" || fail "the counters tick elsewhere than in the one block function and the one core"
-test "$(places 'Ticks::new()')" = "crates/argon_text/src/verifying.rt
-crates/command/src/argon2_command/output.rt
-crates/scrypt_run/src/decrypt.rt
-crates/scrypt_run/src/encrypt.rt" ||
-    fail "a counter is made elsewhere than by the test of a password and by the commands, each for its one hash or derivation"
+# expect TEXT REASON FILE..: the text stands once in each of these files, twice where it is named twice, and nowhere else.
+expect() {
+    text=$1 reason=$2
+    shift 2
+    test "$(places "$text")" = "$(test $# = 0 || printf '%s\n' "$@")" || fail "'$text' stands elsewhere: $reason"
+}
+expect '.tick()' "the counters tick in the one block function and the one core" \
+    crates/argon/src/compression.rt crates/romix/src/salsa20.rt
+expect 'Ticks::new()' "a counter is made by the test of a password and by the commands, each for its one hash or derivation" \
+    crates/argon_text/src/verifying.rt crates/command/src/argon2_command/run.rt \
+    crates/command/src/scrypt_command/run.rt
+
+# Memory is reserved, and work begun, in one place for each way to it, where contracts say what was tested before.
+expect '::reserve(' "only a source of memory reserves, on the condition that limits admit the work" \
+    crates/argon_text/src/room.rt crates/command/src/argon2_command/room.rt crates/scrypt_run/src/admission.rt
+expect '.allocator()' "no function takes the heap out of what it is lent, but the writing of a text" \
+    crates/argon_text/src/encoded.rt
+expect 'vec![in' "lists of a given length are made by the sources of memory alone" crates/argon/src/room.rt \
+    crates/argon/src/room.rt crates/argon_text/src/room.rt crates/command/src/argon2_command/room.rt \
+    crates/romix/src/reservation.rt
+expect 'with_capacity(' "room for a given length is asked for by the sources of memory alone, which use lists"
+expect '.hash(' "a hash is made by the test of a password and by argon2" \
+    crates/argon_text/src/verifying.rt crates/command/src/argon2_command/output.rt
+# What contracts see of a salt and of a known place stays as it was when they are asked, so that they are asked once is seen here.
+expect 'host.salt(' "a salt is asked for once, where enc is given none" crates/host/src/memory.rt crates/host/src/memory.rt \
+    crates/scrypt_run/src/encrypt.rt
+expect 'places.open(' "a secret and a salt are opened once" crates/tools/src/inputs.rt crates/tools/src/inputs.rt
+expect 'Enc::start(' "a derivation for a new file is begun by enc" crates/scrypt_run/src/encrypt.rt
+expect 'Dec::open(' "a derivation for a file that is read is begun by dec" crates/scrypt_run/src/decrypt.rt
 
 tests/encoded_texts.py crates/argon_text/src/tests/near_misses.rt || status=1
 

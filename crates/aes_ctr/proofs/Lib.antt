@@ -1,6 +1,7 @@
 pub mod Blocks
 pub mod Bytes
 pub mod Columns
+pub mod CounterBlock
 pub mod Doubles
 pub mod Held
 pub mod Keys

@@ -11,18 +11,16 @@ use crate::key_planes::KeyPlanes;
 use std::simd::prelude::*;
 
 // The nonce 0 and the number, both big-endian.
-fn counter_block(number: u64) -> [u8; 16]
+fn counter_block(number: u64) -> u8x16
     ensures block { result ≡ counter_block number }
 {
-    let mut block = [0u8; 16];
-    block[8..].copy_from_slice(&number.to_be_bytes());
-    block
+    u64x2::from_array([0, number.swap_bytes()]).to_le_bytes()
 }
 
 pub(crate) fn key_stream_block(aes: &Aes256, number: u64) -> [u8; 16]
     ensures block { result ≡ key_stream_block aes.now number }
 {
-    aes.block(&counter_block(number))
+    aes.block(&counter_block(number).to_array())
 }
 
 fn xor_into(bytes: &mut [u8], stream: u8x16)
@@ -48,14 +46,14 @@ fn eight_blocks(planes: &KeyPlanes, number: u64) -> [u8x16; 8]
     cipher_eight(
         planes,
         [
-            u8x16::from_array(counter_block(number)),
-            u8x16::from_array(counter_block(number + 1)),
-            u8x16::from_array(counter_block(number + 2)),
-            u8x16::from_array(counter_block(number + 3)),
-            u8x16::from_array(counter_block(number + 4)),
-            u8x16::from_array(counter_block(number + 5)),
-            u8x16::from_array(counter_block(number + 6)),
-            u8x16::from_array(counter_block(number + 7)),
+            counter_block(number),
+            counter_block(number + 1),
+            counter_block(number + 2),
+            counter_block(number + 3),
+            counter_block(number + 4),
+            counter_block(number + 5),
+            counter_block(number + 6),
+            counter_block(number + 7),
         ],
     )
 }

@@ -1,5 +1,24 @@
 //! AES-256 (FIPS 197) and its Counter mode (NIST SP 800-38A, 6.5) with the counter blocks of scrypt's encrypted files.
 //! No call takes memory, and none refuses.
+//!
+//! ```rust
+//! use aes_ctr::{Aes256, Ctr};
+//!
+//! let key = [7; 32];
+//!
+//! let mut bytes = *b"a text that is cut in two";
+//! let mut encryption = Ctr::new(Aes256::new(&key));
+//! encryption.apply(&mut bytes[..19]);
+//! encryption.apply(&mut bytes[19..]);
+//!
+//! // the same call decrypts
+//! let mut decryption = Ctr::new(Aes256::new(&key));
+//! decryption.apply(&mut bytes);
+//! assert_eq!(rt; bytes, *b"a text that is cut in two");
+//! assert_eq!(rt; decryption.position(), 25);
+//! ```
+//!
+//! `tests.rt` runs these lines.
 #![tactic(auto)]
 
 mod add_round_key;

@@ -1,8 +1,10 @@
-//! The S-box (FIPS 197, 5.1.1), the one look-up table. It is read row by row and never at a place that a key or a
-//! text decides.
-ghost use Rattle.std.specs.Prelude.{◌≡◌, map};
+//! The S-box (FIPS 197, 5.1.1), the one look-up table. It leaves this file in whole rows, and is never read at a place
+//! that a key or a text decides.
+ghost use Rattle.std.specs.Prelude.{◌≡◌, ◌*◌, ◌<◌, map};
 ghost use Rattle.std.specs.List.{range_with_len};
 ghost use Rattle.aes_ctr.specs.Aes.{sub_byte};
+
+use std::simd::prelude::*;
 
 // Figure 7.
 const S_BOX: [u8; 256] = [
@@ -24,10 +26,19 @@ const S_BOX: [u8; 256] = [
     0x8c, 0xa1, 0x89, 0x0d, 0xbf, 0xe6, 0x42, 0x68, 0x41, 0x99, 0x2d, 0x0f, 0xb0, 0x54, 0xbb, 0x16,
 ];
 
-// Each reader takes the table from here, so this clause goes through its 256 entries once for all.
+// The rows are taken from here, so this clause goes through the 256 entries once for all.
 #[inline(always)]
-pub(crate) fn s_box() -> &'static [u8; 256]
+fn s_box() -> &'static [u8; 256]
     ensures entries { result.now ≡ map sub_byte (range_with_len 0 256) }
 {
     &S_BOX
+}
+
+// Row n of the table: 16 entries.
+#[inline(always)]
+pub(crate) fn row(n: usize) -> u8x16
+    requires row { n < 16 }
+    ensures entries { result ≡ map sub_byte (range_with_len (16 * n) 16) }
+{
+    u8x16::from_slice(&s_box()[16 * n..])
 }

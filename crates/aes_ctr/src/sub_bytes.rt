@@ -1,21 +1,11 @@
 //! SubBytes (FIPS 197, 5.1.1) on sixteen bytes side by side: each of the sixteen rows of the S-box is looked up by
 //! the four low bits of the bytes, and the four high bits choose among the rows.
 ghost use Rattle.std.specs.Prelude.{◌≡◌, ◌*◌, ◌<◌, ℕ, map};
-ghost use Rattle.std.specs.List.{range_with_len};
 ghost use Rattle.aes_ctr.specs.Aes.{sub_byte, sub_bytes};
 ghost use Rattle.aes_ctr.specs.TableParts.{choice, part_entry};
 
-use crate::s_box::s_box;
+use crate::s_box::row;
 use std::simd::prelude::*;
-
-// Row n of the table: 16 entries.
-#[inline(always)]
-fn row(n: usize) -> u8x16
-    requires row { n < 16 }
-    ensures entries { result ≡ map sub_byte (range_with_len (16 * n) 16) }
-{
-    u8x16::from_slice(&s_box()[16 * n..])
-}
 
 // `set` where that bit of a byte is set, else `clear`.
 #[inline(always)]

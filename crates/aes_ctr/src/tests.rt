@@ -141,6 +141,29 @@ const LAST_BLOCK: [u8; 16] = [
     0xd4, 0xc6, 0xe1, 0x31, 0x29, 0x89, 0x1f, 0x69, 0xf3, 0x90, 0xd7, 0xa5, 0xa9, 0xb5, 0xbe, 0xbd,
 ];
 
+// The lines of lib.rt. The encryption is that of `openssl enc -aes-256-ctr -K 07..07 -iv 0` (OpenSSL 3.0.19).
+#[test]
+fn example_of_the_documentation(rt: HostRuntime) {
+    let key = [7; 32];
+
+    let mut bytes = *b"a text that is cut in two";
+    let mut encryption = Ctr::new(Aes256::new(&key));
+    encryption.apply(&mut bytes[..19]);
+    encryption.apply(&mut bytes[19..]);
+    assert_eq!(rt;
+        bytes,
+        [
+            0x6b, 0x6d, 0x9a, 0xe2, 0x9f, 0x18, 0xc0, 0xa0, 0x14, 0x0f, 0x68, 0xff, 0xae, 0x1e,
+            0x00, 0xc0, 0x2b, 0xaf, 0x71, 0x10, 0x38, 0xc1, 0x43, 0x89, 0x7b,
+        ]
+    );
+
+    let mut decryption = Ctr::new(Aes256::new(&key));
+    decryption.apply(&mut bytes);
+    assert_eq!(rt; bytes, *b"a text that is cut in two");
+    assert_eq!(rt; decryption.position(), 25);
+}
+
 #[test]
 fn blocks(rt: HostRuntime) {
     for (key, block, expected) in BLOCKS {

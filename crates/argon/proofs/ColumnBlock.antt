@@ -2,11 +2,12 @@
 use Rattle.std.proofs.Common.{◌≡◌, ℕ, zero, suc, ◌+◌, ◌-◌, ◌*◌, ◌/◌, ◌%◌, ◌^◌, ◌<◌, ◌≤◌, Bool, true, false, ◌&&◌, List, [], length, get_or, slice_index, refl, sym, ap, ◌∙◌, arith, nat_eq}
 use Rattle.std.specs.Prelude.{if◌then◌else◌}
 use Rattle.std.proofs.Math.Nat.{mul-le-mul_right, mul-add-mod_self_right, mod-eq_of_lt, add-mod_right}
-use Rattle.argon.specs.Argon2.{block_at, stored_block}
+use Rattle.argon.specs.Argon2.{block_at, is_xored_in, stored_block}
 use Rattle.argon.specs.Buffer.{block_held}
 use Rattle.argon.specs.Compression.{compression}
 use Rattle.argon.specs.Counts.{first_index}
 use Rattle.argon.specs.Parameters.{Parameters, lane_len, segment_len}
+use Rattle.argon.proofs.MatrixBlocks.{stored_block_same}
 use Rattle.argon.specs.Reference.{address_block, is_independent, reference_lane, reference_number, reference_set, reference_words, relative_place}
 
 -- the word that the code takes is J
@@ -22,12 +23,8 @@ words_are c pass lane slice index j false addresses previous e made free bound =
 old_place : (q n : ℕ) → q ≤ n → (n - q) % q ≡ n % q
 old_place q n h = let e : n - q + q ≡ n = omega arith in sym (ap (λ (x : ℕ). x % q) (sym e) ∙ add-mod_right (n - q) q)
 
-stored_block_same : (pass : ℕ) (a b new : List ℕ) → (0 < pass → a ≡ b) → stored_block pass a new ≡ stored_block pass b new
-stored_block_same zero a b new h = refl
-stored_block_same (suc before) a b new h = rw (h (omega arith)) refl
-
-step_own : (c : Parameters) (buf : List (List ℕ)) (pass slice index lane before j named other : ℕ) (previous reference old new : List ℕ)
-    → slice < 4 → index < segment_len c
+step_own : (c : Parameters) (buf : List (List ℕ)) (pass slice index lane before j named other : ℕ) (previous reference old new : List ℕ) (x : Bool)
+    → is_xored_in c pass ≡ x → slice < 4 → index < segment_len c
     → before ≡ (pass * lane_len c + (slice * segment_len c + index) - 1) % lane_len c
     → previous ≡ get_or buf (lane * lane_len c + before) []
     → j ≡ reference_words c pass lane slice index previous
@@ -36,10 +33,10 @@ step_own : (c : Parameters) (buf : List (List ℕ)) (pass slice index lane befor
     (relative_place (length (reference_set (segment_len c) pass slice index (nat_eq named lane))) (j % 2 ^ 32)) % lane_len c
     → reference ≡ get_or buf (named * lane_len c + other) []
     → old ≡ get_or buf (lane * lane_len c + (slice * segment_len c + index)) []
-    → new ≡ stored_block pass old (compression previous reference)
+    → new ≡ stored_block x old (compression previous reference)
     → new ≡ block_at c (block_held c buf) (pass * lane_len c + (slice * segment_len c + index)) lane pass slice index
 unfolding block_at reference_number
-step_own c buf pass slice index lane before j named other previous reference old new hl hi eb ep ej en eo er eold e =
+step_own c buf pass slice index lane before j named other previous reference old new x ex hl hi eb ep ej en eo er eold e =
     let q : ℕ = lane_len c in
     let n : ℕ = pass * lane_len c + (slice * segment_len c + index) in
     let le : (slice + 1) * segment_len c ≤ 4 * segment_len c = mul-le-mul_right (segment_len c) (omega arith) in
@@ -53,7 +50,8 @@ step_own c buf pass slice index lane before j named other previous reference old
     rw at eold in
     let ref : reference ≡ block_held c buf (reference_number c pass lane slice index j) (reference_lane c pass lane slice j) =
     er ∙ rw (eo, en) refl in
-    rw (word, prev, ← ref) (e ∙ stored_block_same pass old (block_held c buf (n - q) lane) (compression previous reference) same)
+    rw (word, prev, ← ref) (e ∙ ap (λ (b : Bool). stored_block b old (compression previous reference)) (sym ex)
+    ∙ stored_block_same c pass old (block_held c buf (n - q) lane) (compression previous reference) same)
 
 pub above_zero : (q s pass slice index : ℕ) → 2 ≤ s → 0 < q → (pass ≡ 0 → slice ≡ 0 → 2 ≤ index) → 0 < pass * q + (slice * s + index)
 above_zero q s zero zero index hs hq first = let h = first refl refl in omega arith
@@ -62,8 +60,8 @@ above_zero q s (suc k) slice index hs hq first = omega arith
 
 -- the same by the numbers that the code has
 pub step_is : (c : Parameters) (lanes seg : ℕ) → c.lanes ≡ lanes → segment_len c ≡ seg
-    → (buf : List (List ℕ)) (pass slice index lane before j named other : ℕ) (previous reference old new : List ℕ)
-    → slice < 4 → index < seg
+    → (buf : List (List ℕ)) (pass slice index lane before j named other : ℕ) (previous reference old new : List ℕ) (x : Bool)
+    → is_xored_in c pass ≡ x → slice < 4 → index < seg
     → before ≡ (pass * (4 * seg) + (slice * seg + index) - 1) % (4 * seg)
     → previous ≡ get_or buf (lane * (4 * seg) + before) []
     → j ≡ reference_words c pass lane slice index previous
@@ -72,7 +70,7 @@ pub step_is : (c : Parameters) (lanes seg : ℕ) → c.lanes ≡ lanes → segme
     (relative_place (length (reference_set seg pass slice index (nat_eq named lane))) (j % 2 ^ 32)) % (4 * seg)
     → reference ≡ get_or buf (named * (4 * seg) + other) []
     → old ≡ get_or buf (lane * (4 * seg) + (slice * seg + index)) []
-    → new ≡ stored_block pass old (compression previous reference)
+    → new ≡ stored_block x old (compression previous reference)
     → new ≡ block_at c (block_held c buf) (pass * (4 * seg) + (slice * seg + index)) lane pass slice index
 step_is c lanes seg el es = rw (← el, ← es) (step_own c)
 

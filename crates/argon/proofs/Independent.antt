@@ -9,7 +9,7 @@ use Rattle.argon.proofs.MatrixBlocks.{IsPlace, block_is_next}
 use Rattle.argon.proofs.ColumnBlock.{first_two}
 use Rattle.argon.proofs.Progress.{two_below}
 
-word_is : (c : Parameters) (pass lane slice index : ℕ) (previous : List ℕ) → is_independent c pass slice ≡ true
+pub word_is : (c : Parameters) (pass lane slice index : ℕ) (previous : List ℕ) → is_independent c pass slice ≡ true
     → reference_words c pass lane slice index previous ≡ planned_word c pass lane slice index
 unfolding reference_words
 word_is c pass lane slice index previous e = ap (λ (b : Bool). reference_words_by b c pass lane slice index previous) e

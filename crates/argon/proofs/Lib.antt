@@ -6,10 +6,15 @@ pub mod FourWords
 pub mod Independent
 pub mod LastColumn
 pub mod MatrixBlocks
+pub mod Orders
 pub mod Planning
 pub mod Progress
+pub mod ReadPlaces
 pub mod ReferenceSet
 pub mod RowsAndColumns
 pub mod Slices
+pub mod Weaving
+pub mod WorkLeft
 pub mod WordPlaces
+pub mod Woven
 pub mod XoredWords

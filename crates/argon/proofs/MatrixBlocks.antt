@@ -4,11 +4,13 @@ use Rattle.std.specs.Prelude.{if◌then◌else◌}
 use Rattle.std.specs.List.{range_with_len}
 use Rattle.std.proofs.lemmas.List.FromFn.{get_or-map-range_with_len}
 use Rattle.std.proofs.lemmas.List.{get_or_append_left}
+use Rattle.std.proofs.lemmas.Grind.{common_steps}
 use Rattle.std.proofs.lemmas.Nat.{div-mul-add}
 use Rattle.std.proofs.lemmas.Bool.{eq-eqb, ne_eqb}
 use Rattle.std.proofs.Math.Seq.{get_or-append_seam}
 use Rattle.std.proofs.Math.Nat.{mul-le-mul_right, mul-add-mod_self_right, mod-eq_of_lt}
-use Rattle.argon.specs.Argon2.{block_at, block_of, columns_made, first_block, matrix_block, next_block}
+use Rattle.argon.specs.Argon2.{block_at, block_of, columns_made, first_block, is_xored_in, matrix_block, next_block, stored_block}
+use Rattle.argon.specs.Compression.{compression}
 use Rattle.argon.specs.Parameters.{Parameters, lane_len, segment_len}
 use Rattle.argon.specs.Reference.{reference_lane, reference_number, reference_words}
 use Rattle.argon.proofs.ReferenceSet.{named_within}
@@ -40,6 +42,18 @@ block_of-columns_made c h0 k n lane lt =
     columns_made_stay c h0 (n - 1) n (k - (n - 1)) (omega arith) in
     ap (λ (col : List (List ℕ)). get_or col lane []) (rw e at same)
 
+stored_by : (x : Bool) (a b new : List ℕ) → (x ≡ true → a ≡ b) → stored_block x a new ≡ stored_block x b new
+stored_by false a b new same = refl
+stored_by true a b new same = rw (same refl) refl
+
+xored_later : (c : Parameters) (pass : ℕ) → is_xored_in c pass ≡ true → 0 < pass
+xored_later c pass e = grind (arith, common_steps)
+
+-- what is stored depends on the old block from the second pass on alone
+pub stored_block_same : (c : Parameters) (pass : ℕ) (a b new : List ℕ) → (0 < pass → a ≡ b)
+    → stored_block (is_xored_in c pass) a new ≡ stored_block (is_xored_in c pass) b new
+stored_block_same c pass a b new same = stored_by (is_xored_in c pass) a b new (λ e. same (xored_later c pass e))
+
 -- a block is the same from two sources that agree where it reads
 pub block_at_same : (c : Parameters) (a b : ℕ → ℕ → List ℕ) (n lane pass slice index : ℕ)
     → a (n - 1) lane ≡ b (n - 1) lane
@@ -47,12 +61,11 @@ pub block_at_same : (c : Parameters) (a b : ℕ → ℕ → List ℕ) (n lane pa
     → ((j r l : ℕ) → r ≡ reference_number c pass lane slice index j → l ≡ reference_lane c pass lane slice j → a r l ≡ b r l)
     → block_at c a n lane pass slice index ≡ block_at c b n lane pass slice index
 unfolding block_at
-block_at_same c a b n lane zero slice index prev old named =
-    let j : ℕ = reference_words c 0 lane slice index (b (n - 1) lane) in
-    rw (prev, named j (reference_number c 0 lane slice index j) (reference_lane c 0 lane slice j) refl refl) refl
-block_at_same c a b n lane (suc before) slice index prev old named =
-    let j : ℕ = reference_words c (suc before) lane slice index (b (n - 1) lane) in
-    rw (prev, old (omega arith), named j (reference_number c (suc before) lane slice index j) (reference_lane c (suc before) lane slice j) refl refl) refl
+block_at_same c a b n lane pass slice index prev old named =
+    let j : ℕ = reference_words c pass lane slice index (b (n - 1) lane) in
+    rw (prev, named j (reference_number c pass lane slice index j) (reference_lane c pass lane slice j) refl refl)
+    (stored_block_same c pass (a (n - lane_len c) lane) (b (n - lane_len c) lane)
+    (compression (b (n - 1) lane) (b (reference_number c pass lane slice index j) (reference_lane c pass lane slice j))) old)
 
 -- where a number stands
 pub record IsPlace (c : Parameters) (n pass slice index : ℕ) : Type 0 where

@@ -1,21 +1,13 @@
 -- One slice after another, and how many block functions all of them take.
-use Rattle.std.proofs.Common.{◌≡◌, ◌≢◌, ℕ, zero, suc, ◌+◌, ◌-◌, ◌*◌, ◌/◌, ◌%◌, ◌<◌, ◌≤◌, inl, inr, Bool, true, false, ◌&&◌, List, nat_eq, nat_lt, refl, sym, ap, ◌∙◌, arith}
+use Rattle.std.proofs.Common.{◌≡◌, ◌≢◌, ℕ, zero, suc, ◌+◌, ◌-◌, ◌*◌, ◌/◌, ◌%◌, ◌<◌, ◌≤◌, inl, inr, Bool, true, false, ◌&&◌, nat_eq, nat_lt, refl, sym, ap, ◌∙◌, arith}
 use Rattle.std.proofs.lemmas.Bool.{ne_eqb, le-ltb, cases_lt}
 use Rattle.std.proofs.lemmas.Bool.Decides.{eqb_tells}
 use Rattle.std.proofs.Math.Nat.{mul-le-mul_right, mul-le-mul_left}
-use Rattle.argon.specs.Buffer.{HoldsNewest, number_after_slices}
 use Rattle.argon.specs.Counts.{address_count, address_work, first_index, independent_segments, slice_work, slices_work, work}
 use Rattle.argon.specs.Parameters.{Parameters, segment_len}
 use Rattle.argon.specs.Range.{IsInRange}
 use Rattle.argon.specs.Reference.{is_independent}
 use Rattle.argon.proofs.Progress.{first_none}
-
-pub slice_newest : (c : Parameters) (h0 : List ℕ) (old new : List (List ℕ)) (s : ℕ)
-    → ((h : List ℕ) → HoldsNewest c h old (λ _. number_after_slices c (4 * (s / 4) + s % 4)) → HoldsNewest c h new (λ _. number_after_slices c (4 * (s / 4) + s % 4 + 1)))
-    → HoldsNewest c h0 old (λ _. number_after_slices c s) → HoldsNewest c h0 new (λ _. number_after_slices c (s + 1))
-slice_newest c h0 old new s fill =
-    let e : 4 * (s / 4) + s % 4 ≡ s = omega arith in
-    rw e at (fill h0)
 
 -- ---- counts
 

@@ -1,9 +1,10 @@
--- Argon2d, Argon2i and Argon2id, version 0x13 (RFC 9106, 3.2), as functions on lists of numbers.
+-- Argon2d, Argon2i and Argon2id, version 0x13 (RFC 9106, 3.2), as functions on lists of numbers. Version 0x10, which is
+-- older than the RFC, differs in two places: the number in H 0, and later passes overwrite without a xor.
 --
 -- The memory is not overwritten here, and lanes have no order: what is made is a list of columns by
 -- their numbers, in which column c of pass r has the number r * q + c, and each column is the list
 -- of its blocks by lanes.
-use Rattle.std.specs.Prelude.{ℕ, zero, suc, ◌-◌, ◌*◌, ◌/◌, ◌%◌, List, [], ◌∷◌, ◌++◌, length, map, fold, get_or}
+use Rattle.std.specs.Prelude.{ℕ, zero, suc, ◌-◌, ◌*◌, ◌/◌, ◌%◌, Bool, true, false, ◌&&◌, nat_eq, nat_lt, List, [], ◌∷◌, ◌++◌, length, map, fold, get_or}
 use Rattle.std.specs.List.{range_with_len}
 use Rattle.byteorder.specs.Endian.{little_bytes}
 use Rattle.blake.specs.Words.{words, bytes_of_words}
@@ -22,7 +23,7 @@ unfoldable pub first_hash : Parameters → Inputs → List ℕ
 first_hash parameters inputs =
     blake2b 64 (little_bytes 4 parameters.lanes ++ little_bytes 4 parameters.tag_len
     ++ little_bytes 4 parameters.memory ++ little_bytes 4 parameters.passes
-    ++ little_bytes 4 0x13 ++ little_bytes 4 parameters.kind
+    ++ little_bytes 4 parameters.version ++ little_bytes 4 parameters.kind
     ++ with_length inputs.password ++ with_length inputs.salt
     ++ with_length inputs.secret ++ with_length inputs.associated)
 
@@ -35,16 +36,20 @@ first_block h0 column lane =
 abbrev pub block_of : List (List (List ℕ)) → ℕ → ℕ → List ℕ
 block_of columns number lane = get_or (get_or columns number []) lane []
 
--- what is stored: from the second pass on the old block of the place is xored in (3.2, step 6)
-abbrev pub stored_block : ℕ → List ℕ → List ℕ → List ℕ
-stored_block zero old new = new
-stored_block (suc before) old new = xor_words new old
+-- whether the old block of a place is xored in: from the second pass on (3.2, step 6), but not in version 0x10
+abbrev pub is_xored_in : Parameters → ℕ → Bool
+is_xored_in parameters pass = nat_eq parameters.version 0x13 && nat_lt 0 pass
+
+-- what is stored (3.2, step 6)
+abbrev pub stored_block : Bool → List ℕ → List ℕ → List ℕ
+stored_block false old new = new
+stored_block true old new = xor_words new old
 
 -- the block of a place, of a pass, slice and index in the segment, by the word J and the blocks of
 -- lower numbers (3.2, steps 5 and 6)
 abbrev pub block_by_words : Parameters → (ℕ → ℕ → List ℕ) → ℕ → ℕ → ℕ → ℕ → ℕ → ℕ → List ℕ
 block_by_words parameters blocks number lane pass slice index j =
-    stored_block pass (blocks (number - lane_len parameters) lane)
+    stored_block (is_xored_in parameters pass) (blocks (number - lane_len parameters) lane)
     (compression (blocks (number - 1) lane)
     (blocks (reference_number parameters pass lane slice index j) (reference_lane parameters pass lane slice j)))
 

@@ -1,6 +1,6 @@
 -- The memory as one flat buffer of blocks, lane after lane, in which later passes overwrite (RFC
 -- 9106, 3.2).
-use Rattle.std.specs.Prelude.{◌≡◌, ℕ, zero, suc, ◌+◌, ◌*◌, ◌%◌, ◌<◌, ◌≤◌, nat_eq, nat_lt, List, [], get_or, if◌then◌else◌}
+use Rattle.std.specs.Prelude.{◌≡◌, ℕ, zero, suc, ◌+◌, ◌*◌, ◌%◌, ◌<◌, ◌≤◌, List, [], get_or}
 use Rattle.argon.specs.Argon2.{matrix_block}
 use Rattle.argon.specs.Parameters.{Parameters, segment_len, lane_len}
 
@@ -27,12 +27,3 @@ pub record IsInSlice (parameters : Parameters) (pass slice : ℕ) (next : ℕ �
       → pass * lane_len parameters + slice * segment_len parameters ≤ next lane
   pub to : (lane : ℕ) → lane < parameters.lanes
       → next lane ≤ pass * lane_len parameters + slice * segment_len parameters + segment_len parameters
-
--- the numbers that come next, with another one for a lane
-abbrev pub with_next_number : (ℕ → ℕ) → ℕ → ℕ → ℕ → ℕ
-with_next_number next own number lane = if nat_eq lane own then number else next lane
-
--- the numbers that come next where the first so many lanes are at the end of the slice and the
--- others at its start
-abbrev pub number_after_lanes : ℕ → ℕ → ℕ → ℕ → ℕ
-number_after_lanes count start end lane = if nat_lt lane count then end else start

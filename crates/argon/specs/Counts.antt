@@ -1,6 +1,6 @@
 -- How many block functions, that is, calls of G, a hash takes (RFC 9106, 3.2 and 3.4.1.2): by the
 -- parameters alone.
-use Rattle.std.specs.Prelude.{ℕ, zero, suc, ◌+◌, ◌-◌, ◌*◌, ◌/◌, ◌%◌, Bool, true, false, ◌&&◌, nat_eq, if◌then◌else◌}
+use Rattle.std.specs.Prelude.{ℕ, zero, suc, ◌+◌, ◌-◌, ◌*◌, ◌/◌, ◌%◌, Bool, true, false, ◌&&◌, nat_eq, nat_lt, if◌then◌else◌}
 use Rattle.argon.specs.Parameters.{Parameters, segment_len, block_count}
 use Rattle.argon.specs.Reference.{is_independent}
 
@@ -20,10 +20,24 @@ abbrev pub address_work : Bool → ℕ → ℕ
 address_work true count = 2 * count
 address_work false count = 0
 
+-- how many address blocks are made with the column of an index: one with each 128th column but the
+-- first, whose address block is made with the segment (3.4.1.2)
+abbrev pub addresses_begun : ℕ → ℕ
+addresses_begun index = if nat_lt 0 index && nat_eq (index % 128) 0 then 1 else 0
+
+-- the block functions of the column of an index
+abbrev pub column_work : Parameters → ℕ → ℕ → ℕ → ℕ
+column_work parameters pass slice index =
+    1 + address_work (is_independent parameters pass slice) (addresses_begun index)
+
+-- how many blocks of a segment come from other blocks
+abbrev pub blocks_of_segment : Parameters → ℕ → ℕ → ℕ
+blocks_of_segment parameters pass slice = segment_len parameters - first_index pass slice
+
 -- the block functions of a segment
 abbrev pub segment_work : Parameters → ℕ → ℕ → ℕ
 segment_work parameters pass slice =
-    segment_len parameters - first_index pass slice
+    blocks_of_segment parameters pass slice
     + address_work (is_independent parameters pass slice) (address_count (segment_len parameters))
 
 -- the block functions of a slice

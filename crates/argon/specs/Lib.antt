@@ -14,3 +14,8 @@ pub mod Matrix
 pub mod Places
 pub mod Segment
 pub mod Plan
+pub mod Weaving
+pub mod Woven
+pub mod Lanes
+pub mod Weave
+pub mod Laws

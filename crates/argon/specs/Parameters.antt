@@ -5,6 +5,8 @@ use Rattle.std.specs.Prelude.{ℕ, ◌*◌, ◌/◌, List}
 pub record Parameters : Type 0 where
   -- y, the type: 0 for Argon2d, 1 for Argon2i, 2 for Argon2id
   pub kind : ℕ
+  -- v, the version: 0x10 or 0x13
+  pub version : ℕ
   -- t
   pub passes : ℕ
   -- p

@@ -9,6 +9,7 @@ use Rattle.argon.specs.declared.params.Params.TheInside.{Inside}
 abbrev pub parameters_of : Inside → Parameters
 parameters_of params = record {
   kind = type_number params.kind;
+  version = params.version;
   passes = params.passes;
   lanes = params.lanes;
   memory = params.memory_kib;

@@ -1,6 +1,8 @@
 -- What is planned for a segment with independent addressing (RFC 9106, 3.4.1.2 and 3.4.2).
-use Rattle.std.specs.Prelude.{◌≡◌, ℕ, ◌+◌, ◌*◌, ◌/◌, ◌%◌, ◌^◌, ◌<◌, ◌≤◌, ◌&&◌, List, get_or, length, slice_index, nat_eq, if◌then◌else◌}
-use Rattle.argon.specs.Argon2.{block_by_words, matrix_block}
+use Rattle.std.specs.Prelude.{◌≡◌, ℕ, ◌+◌, ◌-◌, ◌*◌, ◌/◌, ◌%◌, ◌^◌, ◌<◌, ◌≤◌, ◌&&◌, List, [], get_or, length, slice_index, nat_eq, if◌then◌else◌}
+use Rattle.argon.specs.Argon2.{block_by_words, is_xored_in, matrix_block, stored_block}
+use Rattle.argon.specs.Buffer.{HoldsNewest, IsInSlice, block_held}
+use Rattle.argon.specs.Compression.{compression}
 use Rattle.argon.specs.Counts.{first_index}
 use Rattle.argon.specs.Parameters.{Parameters, segment_len, lane_len}
 use Rattle.argon.specs.Reference.{address_block, reference_lane, reference_number, reference_set, relative_place}
@@ -53,3 +55,15 @@ IsMadeAsPlanned parameters h0 pass lane slice index =
     matrix_block parameters h0 number lane
     ≡ block_by_words parameters (matrix_block parameters h0) number lane pass slice index
     (planned_word parameters pass lane slice index)
+
+-- in every memory that holds the newest blocks of this H 0 while the lane stands at that column: its block is G of the
+-- one before it and of the one that stands at the planned place, with the old block xored in where `is_xored_in`
+abbrev pub IsMadeAlongPlan : Parameters → List ℕ → List (List ℕ) → (ℕ → ℕ) → ℕ → ℕ → ℕ → ℕ → Type 0
+IsMadeAlongPlan parameters h0 blocks next pass lane slice index =
+    let number = pass * lane_len parameters + (slice * segment_len parameters + index) in
+    let place = planned_place parameters pass lane slice index in
+    HoldsNewest parameters h0 blocks next → IsInSlice parameters pass slice next → next lane ≡ number
+    → matrix_block parameters h0 number lane
+    ≡ stored_block (is_xored_in parameters pass) (block_held parameters blocks (number - lane_len parameters) lane)
+    (compression (block_held parameters blocks (number - 1) lane)
+    (get_or blocks (place.lane * lane_len parameters + place.column) []))

@@ -1,14 +1,19 @@
 -- The ranges of the parameters (RFC 9106, 3.1). The upper ends of tag, salt and password are
 -- narrower here.
-use Rattle.std.specs.Prelude.{ℕ, ◌*◌, ◌<◌, ◌≤◌, ◌^◌, Bool, ◌&&◌, nat_le, Result, Ok, Err, ⊤, if◌then◌else◌}
+use Rattle.std.specs.Prelude.{◌≡◌, ℕ, ◌*◌, ◌==◌, ◌<◌, ◌≤◌, ◌^◌, Bool, true, ◌&&◌, ◌||◌, nat_le, Result, Ok, Err, ⊤, if◌then◌else◌}
 use Rattle.argon.specs.Counts.{work}
 use Rattle.argon.specs.Parameters.{Parameters, block_count}
 use Rattle.argon.specs.declared.fault.ParamFault.{ParamFault}
 use Rattle.argon.specs.declared.fault.ParamFault.TheVariants as fault
 
+-- a version that there is: 0x13 (3.1), and 0x10, which was before it
+abbrev pub is_version : ℕ → Bool
+is_version version = (version == 0x10) || (version == 0x13)
+
 -- each parameter is in its range (3.1)
 pub record IsInRange (parameters : Parameters) : Type 0 where
   pub kind : parameters.kind ≤ 2
+  pub version : is_version parameters.version ≡ true
   pub passes : 1 ≤ parameters.passes
   pub passes_end : parameters.passes < 2 ^ 32
   pub lanes : 1 ≤ parameters.lanes

@@ -2,10 +2,10 @@
 --
 -- The columns of a lane are numbered in the order in which they are made: column c of pass r has
 -- the number r * q + c. A number comes once, where a column comes once in each pass.
-use Rattle.std.specs.Prelude.{ℕ, zero, suc, ◌+◌, ◌-◌, ◌*◌, ◌/◌, ◌%◌, ◌^◌, Bool, true, false, ◌&&◌, ◌||◌, nat_eq, nat_lt, List, [], ◌∷◌, ◌++◌, length, take, replicate, slice_index, if◌then◌else◌}
+use Rattle.std.specs.Prelude.{◌≡◌, ◌≢◌, ℕ, zero, suc, ◌+◌, ◌-◌, ◌*◌, ◌/◌, ◌%◌, ◌^◌, Bool, true, false, ◌&&◌, ◌||◌, nat_eq, nat_lt, List, [], ◌∷◌, ◌++◌, length, take, replicate, slice_index, if◌then◌else◌}
 use Rattle.std.specs.List.{range_with_len}
 use Rattle.argon.specs.Compression.{compression, zero_block}
-use Rattle.argon.specs.Parameters.{Parameters, segment_len, block_count}
+use Rattle.argon.specs.Parameters.{Parameters, segment_len, lane_len, block_count}
 
 -- whether J 1 and J 2 come from the position alone: always in Argon2i, never in Argon2d, and in
 -- Argon2id in the first two slices of the first pass (3.4.1.3)
@@ -22,6 +22,13 @@ address_input parameters pass lane slice counter =
 unfoldable pub address_block : Parameters → ℕ → ℕ → ℕ → ℕ → List ℕ
 address_block parameters pass lane slice counter =
     compression zero_block (compression zero_block (address_input parameters pass lane slice counter))
+
+-- the address block stands that has the word J of the column before an index, or the first one at
+-- index 0, where the addressing is independent (3.4.1.2)
+abbrev pub HasAddresses : Parameters → ℕ → ℕ → ℕ → ℕ → List ℕ → Type 0
+HasAddresses parameters pass lane slice index addresses =
+    is_independent parameters pass slice ≡ true
+    → addresses ≡ address_block parameters pass lane slice ((index - 1) / 128 + 1)
 
 -- J 1 and J 2 as one word J, J 1 its low half (3.4.1), where the addressing is independent
 -- (3.4.1.2) and where it is not (3.4.1.1)
@@ -75,3 +82,10 @@ reference_number parameters pass lane slice index j =
     let is_own = nat_eq (reference_lane parameters pass lane slice j) lane in
     let columns = reference_set (segment_len parameters) pass slice index is_own in
     slice_index columns (relative_place (length columns) (j % 2 ^ 32))
+
+-- whatever word J a column has, what it names in another lane stands in a finished segment, and not
+-- in the one that is being made (3.4.2)
+abbrev pub ReadsFinishedSegments : Parameters → ℕ → ℕ → ℕ → ℕ → Type 0
+ReadsFinishedSegments parameters pass lane slice index =
+    (j : ℕ) → reference_lane parameters pass lane slice j ≢ lane
+    → reference_number parameters pass lane slice index j % lane_len parameters / segment_len parameters ≢ slice

@@ -1,5 +1,6 @@
 -- A segment, against the parameters that it belongs to (RFC 9106, 3.4).
 use Rattle.std.specs.Prelude.{◌≡◌, ℕ, ◌+◌, ◌*◌, ◌<◌, ◌≤◌, ◌^◌, min, max}
+use Rattle.argon.specs.Argon2.{is_xored_in}
 use Rattle.argon.specs.Counts.{first_index}
 use Rattle.argon.specs.Parameters.{Parameters, segment_len}
 use Rattle.argon.specs.Reference.{is_independent}
@@ -17,6 +18,7 @@ pub record IsSegmentOf (parameters : Parameters) (at : Segment) : Type 0 where
   pub lanes : parameters.lanes ≡ at.lanes
   pub len : segment_len parameters ≡ at.len
   pub independent : is_independent parameters at.pass at.slice ≡ at.is_independent
+  pub xored : is_xored_in parameters at.pass ≡ at.is_xored
 
 -- the number of the column with an index in the segment
 abbrev pub column_number : Segment → ℕ → ℕ

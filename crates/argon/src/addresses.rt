@@ -1,7 +1,8 @@
 //! The address blocks of independent addressing (RFC 9106, section 3.4.1.2).
 ghost use Rattle.std.specs.Prelude.{◌≡◌, ◌+◌, ◌/◌, ◌<◌, ◌^◌, true};
-ghost use Rattle.argon.specs.Counts.{address_count, address_work};
-ghost use Rattle.argon.specs.Reference.{address_block};
+ghost use Rattle.argon.specs.Counts.{address_count, address_work, addresses_begun};
+ghost use Rattle.argon.specs.Reference.{HasAddresses, address_block};
+ghost use Rattle.argon.specs.Segment.{IsSegmentOf};
 
 use crate::block::{Block, write_xor};
 use crate::compression::{Scratch, compression};
@@ -64,5 +65,29 @@ pub(crate) fn prepare_addresses(
 {
     if at.is_independent {
         write_addresses(params, at, part, addresses, scratch, ticks);
+    }
+}
+
+/// Makes the address block that the word J of a column stands in, where the addressing of the
+/// segment is independent and the column is the first of a part after the first. Else it is the one
+/// of the column before.
+pub(crate) fn renew_addresses(
+    params: &Params,
+    at: &Segment,
+    index: u32,
+    addresses: &mut Block,
+    scratch: &mut Scratch,
+    ticks: &mut Ticks,
+)
+    requires is_of { IsSegmentOf params.now at.now }
+    requires addresses { HasAddresses params.now at.now.pass at.now.lane at.now.slice index
+        addresses.old }
+    ensures addresses { HasAddresses params.now at.now.pass at.now.lane at.now.slice
+        (index + 1) addresses.new }
+    ensures count { ticks.new
+        ≡ ticks.old + address_work at.now.is_independent (addresses_begun index) }
+{
+    if index > 0 && index % 128 == 0 {
+        prepare_addresses(params, at, index / 128, addresses, scratch, ticks);
     }
 }

@@ -54,9 +54,9 @@ fn fill_block_over(
     write_xor_over(&scratch.permuted, &scratch.xored, &mut blocks[at]);
 }
 
-/// Stores G of the blocks at `previous` and `reference` at the place `at`, as the pass has it.
+/// Stores G of the blocks at `previous` and `reference` at the place `at`, the old block xored in or not.
 pub(crate) fn store_block(
-    pass: u32,
+    is_xored: bool,
     blocks: &mut [Block],
     at: usize,
     previous: usize,
@@ -68,14 +68,14 @@ pub(crate) fn store_block(
     requires previous_within { previous < length blocks.old }
     requires reference_within { reference < length blocks.old }
     ensures value { blocks.new ≡ slice_set blocks.old at
-        (stored_block pass (slice_index_or blocks.old at [])
+        (stored_block is_xored (slice_index_or blocks.old at [])
         (compression (slice_index_or blocks.old previous [])
         (slice_index_or blocks.old reference []))) }
     ensures count { ticks.new ≡ ticks.old + 1 }
 {
-    if pass == 0 {
-        fill_block(blocks, at, previous, reference, scratch, ticks);
-    } else {
+    if is_xored {
         fill_block_over(blocks, at, previous, reference, scratch, ticks);
+    } else {
+        fill_block(blocks, at, previous, reference, scratch, ticks);
     }
 }

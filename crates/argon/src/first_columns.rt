@@ -51,7 +51,7 @@ pub(crate) fn first_hash(params: &Params, inputs: &Inputs<'_>) -> [u8; 64]
     put_number(&mut hash, params.tag_len() as u32);
     put_number(&mut hash, params.memory_kib());
     put_number(&mut hash, params.passes());
-    put_number(&mut hash, 0x13);
+    put_number(&mut hash, params.version());
     put_number(&mut hash, params.kind().number());
     put_with_length(&mut hash, inputs.password);
     put_with_length(&mut hash, inputs.salt);

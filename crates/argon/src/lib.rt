@@ -1,20 +1,38 @@
-//! Argon2d, Argon2i and Argon2id, version 0x13 (RFC 9106).
-//!
-//! A hash goes in three steps: [`Params::new`] tests the parameters, [`Matrix::reserve`] takes the
-//! memory, and [`Matrix::hash`] writes the tag, as often as is wanted. [`Matrix::start`], `next`,
-//! `slice` and `tag` do the same slice by slice, and [`plan_segment`] tells in advance which blocks
-//! a segment of independent addressing reads. A [`Ticks`] counts block functions, that is, calls of
-//! the compression function G. It takes no bytes and no time.
+//! Argon2d, Argon2i and Argon2id of RFC 9106 (version 0x13), and of version 0x10, which was before it.
 //!
 //! ```rust
 //! use argon::{Inputs, Kind, Matrix, Params, Ticks};
 //!
-//! let params = Params::new(Kind::Id, 0x13, 3, 1, 65536, 32, salt.len(), password.len())?;
+//! let params = Params::new(Kind::Id, 0x13, 3, 1, 64, 32, salt.len(), password.len())?;
 //! let mut matrix = Matrix::reserve(alloc, &params)?;
-//! let inputs = Inputs { password, salt, secret: &[], associated: &[] };
+//! let inputs = Inputs {
+//!     password,
+//!     salt,
+//!     secret: &[],
+//!     associated: &[],
+//! };
 //! let mut tag = [0; 32];
 //! matrix.hash(&inputs, &mut tag, &mut Ticks::new());
 //! ```
+//!
+//! A hash goes in three steps: [`Params::new`] tests the parameters, [`Matrix::reserve`] takes the
+//! memory, and [`Matrix::hash`] writes the tag, as often as is wanted. [`Matrix::start`], `next`,
+//! `slice` and `tag` do the same slice by slice. A [`Ticks`] counts block functions, that is, calls of
+//! the compression function G. It takes no bytes and no time.
+//!
+//! A [`Weave`] makes a slice block by block, by lanes in any order, with the room of [`Lanes`]. This
+//! makes the next slice of a matrix of two lanes, a block of each in turn:
+//!
+//! ```rust
+//! let mut weave = Weave::open(matrix, lanes, ticks);
+//! for _ in 0..weave.left(0) {
+//!     weave.step(1, ticks);
+//!     weave.step(0, ticks);
+//! }
+//! weave.close()
+//! ```
+//!
+//! [`plan_segment`] tells in advance which blocks a segment of independent addressing reads.
 #![tactic(auto)]
 
 mod addresses;
@@ -25,6 +43,8 @@ mod filling;
 mod first_columns;
 mod inputs;
 mod kind;
+mod lanes;
+mod laws;
 mod matrix;
 mod params;
 mod permutation;
@@ -34,15 +54,18 @@ mod room;
 mod segment;
 mod tag;
 mod ticks;
+mod weave;
 
 pub use fault::ParamFault;
 pub use inputs::Inputs;
 pub use kind::Kind;
+pub use lanes::Lanes;
 pub use matrix::Matrix;
 pub use params::Params;
 pub use places::Place;
 pub use plan::plan_segment;
 pub use ticks::Ticks;
+pub use weave::Weave;
 
 #[cfg(test)]
 mod tests;

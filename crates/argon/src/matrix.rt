@@ -5,6 +5,7 @@ ghost use Rattle.argon.specs.Counts.{slice_work, work};
 ghost use Rattle.argon.specs.Filling.{HasNext, IsDone, IsNewest, next_slice};
 ghost use Rattle.argon.specs.Inputs.{AreInputsOf, inputs_of};
 ghost use Rattle.argon.specs.Parameters.{block_count};
+ghost use Rattle.argon.specs.Woven.{with_next_slice};
 
 use crate::block::Block;
 use crate::first_columns::{first_hash, put_first_columns};
@@ -25,11 +26,11 @@ use std::marker::Model;
 /// newest version of its block, where one exists.
 #[derive(Drop)]
 pub struct Matrix {
-    params: Params,
-    h0: [u8; 64],
-    is_started: bool,
-    slices_made: u64,
-    blocks: Vec<Block>,
+    pub(crate) params: Params,
+    pub(crate) h0: [u8; 64],
+    pub(crate) is_started: bool,
+    pub(crate) slices_made: u64,
+    pub(crate) blocks: Vec<Block>,
 }
 
 impl Model for Matrix {
@@ -103,9 +104,11 @@ impl Matrix {
         }
     }
 
-    /// Makes the blocks of the next slice, lane by lane (RFC 9106, section 3.2, steps 5 and 6).
+    /// Makes the blocks of the next slice, lane by lane (RFC 9106, section 3.2, steps 5 and 6). Every other place of the
+    /// matrix stays as it was.
     pub fn slice(&mut self, ticks: &mut Ticks)
         requires next { HasNext self.old }
+        ensures matrix { self.new ≡ with_next_slice self.old }
         ensures parameters { self.new.parameters ≡ self.old.parameters }
         ensures started { self.new.is_started ≡ true }
         ensures first_hash { self.new.first_hash ≡ self.old.first_hash }

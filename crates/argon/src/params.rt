@@ -1,9 +1,10 @@
 //! The parameters (RFC 9106, section 3.1), tested once.
-ghost use Rattle.std.specs.Prelude.{◌≡◌, ◌*◌, ◌<◌, ◌≤◌, ◌^◌, IfOk, Result};
+ghost use Rattle.std.specs.Prelude.{◌≡◌, ◌*◌, ◌<◌, ◌≤◌, ◌^◌, true, IfOk, Result};
+ghost use Rattle.argon.specs.Argon2.{is_xored_in};
 ghost use Rattle.argon.specs.Counts.{independent_segments, work};
 ghost use Rattle.argon.specs.Kind.{type_number};
 ghost use Rattle.argon.specs.Parameters.{Parameters, block_count, segment_len};
-ghost use Rattle.argon.specs.Range.{IsInRange, admission, checked_parameters, is_between};
+ghost use Rattle.argon.specs.Range.{IsInRange, admission, checked_parameters, is_between, is_version};
 ghost use Rattle.argon.specs.Reference.{is_independent};
 
 use crate::addresses::address_count;
@@ -16,6 +17,7 @@ use std::marker::Model;
 #[derive(Drop)]
 pub struct Params {
     kind: Kind,
+    version: u32,
     passes: u32,
     lanes: u32,
     memory_kib: u32,
@@ -46,7 +48,7 @@ fn is_between(low: u64, number: u64, high: u64) -> bool
 }
 
 impl Params {
-    /// Tests the parameters of a hash. `version` is 0x13. The ranges are, in the order in which
+    /// Tests the parameters of a hash. `version` is 0x10 or 0x13. The ranges are, in the order in which
     /// they are tested: `passes` t 1 to 2^32-1, `lanes` p 1 to 2^24-1, `memory_kib` m 8p to 2^32-1
     /// in KiB, and the lengths in bytes of the tag, 4 to 4,096, the salt, 8 to 255, and the
     /// password, 1 to 127. The first that fails is the fault, 1 to 6.
@@ -60,9 +62,10 @@ impl Params {
         salt_len: usize,
         password_len: usize,
     ) -> Result<Params, ParamFault>
-        requires version { version ≡ 0x13 }
+        requires version { is_version version ≡ true }
         ensures exact { result ≡ checked_parameters (record {
           kind = type_number kind;
+          version = version;
           passes = passes;
           lanes = lanes;
           memory = memory_kib;
@@ -72,6 +75,7 @@ impl Params {
         }) }
         ensures value { IfOk result (λ p. p ≡ record {
           kind = type_number kind;
+          version = version;
           passes = passes;
           lanes = lanes;
           memory = memory_kib;
@@ -101,6 +105,7 @@ impl Params {
         }
         Ok(Params {
             kind,
+            version,
             passes,
             lanes,
             memory_kib,
@@ -118,6 +123,7 @@ impl Params {
     {
         Params {
             kind: self.kind,
+            version: self.version,
             passes: self.passes,
             lanes: self.lanes,
             memory_kib: self.memory_kib,
@@ -133,6 +139,13 @@ impl Params {
         ensures value { type_number result ≡ self.now.kind }
     {
         self.kind
+    }
+
+    /// The version v: 0x10 or 0x13.
+    pub fn version(&self) -> u32
+        ensures value { result ≡ self.now.version }
+    {
+        self.version
     }
 
     /// The passes t, 1 to 2^32-1.
@@ -215,6 +228,13 @@ impl Params {
             Kind::I => true,
             Kind::Id => pass == 0 && slice < 2,
         }
+    }
+
+    // Whether the old blocks of a pass are xored in.
+    pub(crate) fn is_xored_in(&self, pass: u32) -> bool
+        ensures value { result ≡ is_xored_in self.now pass }
+    {
+        self.version == 0x13 && 0 < pass
     }
 
     /// Whether a hash takes at most `max_kib` blocks of 1 KiB (else fault 7) and at most `max_ops`

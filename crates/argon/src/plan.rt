@@ -3,7 +3,7 @@
 ghost use Rattle.std.specs.Prelude.{◌≡◌, ℕ, ◌+◌, ◌*◌, ◌<◌, ◌≤◌, true, length, List};
 ghost use Rattle.argon.specs.Counts.{address_count, first_index};
 ghost use Rattle.argon.specs.Parameters.{segment_len};
-ghost use Rattle.argon.specs.Plan.{IsMadeAsPlanned, PlansPart, entry_at, place_by_segment, planned_place};
+ghost use Rattle.argon.specs.Plan.{IsMadeAlongPlan, IsMadeAsPlanned, PlansPart, entry_at, place_by_segment, planned_place};
 ghost use Rattle.argon.specs.Reference.{is_independent};
 ghost use Rattle.argon.specs.Segment.{IsInMatrix, index_after_parts};
 
@@ -73,6 +73,9 @@ pub fn plan_segment(
     ensures made { (h0 : List ℕ) (index : ℕ) → first_index pass slice ≤ index
         → index < segment_len params.now
         → IsMadeAsPlanned params.now h0 pass lane slice index }
+    ensures along { (h0 : List ℕ) (blocks : List (List ℕ)) (next : ℕ → ℕ) (index : ℕ)
+        → first_index pass slice ≤ index → index < segment_len params.now
+        → IsMadeAlongPlan params.now h0 blocks next pass lane slice index }
     ensures kept { (index : ℕ) → index < first_index pass slice
         → entry_at out.new index ≡ entry_at out.old index }
     ensures count { ticks.new ≡ ticks.old + 2 * address_count (segment_len params.now) }

@@ -1,13 +1,15 @@
 //! The blocks of a segment and of a slice (RFC 9106, section 3.2, steps 5 and 6, and section 3.4).
 ghost use Rattle.std.specs.Prelude.{◌≡◌, ℕ, ◌+◌, ◌*◌, ◌/◌, ◌%◌, ◌<◌, ◌≤◌, ◌^◌, List, length, true, false, slice_index, slice_set};
 ghost use Rattle.argon.specs.Argon2.{block_at};
-ghost use Rattle.argon.specs.Buffer.{HoldsNewest, IsInSlice, block_held, number_after_slices, with_next_number};
-ghost use Rattle.argon.specs.Counts.{first_index, segment_work, slice_work};
+ghost use Rattle.argon.specs.Buffer.{block_held};
+ghost use Rattle.argon.specs.Counts.{blocks_of_segment, column_work, first_index, segment_work, slice_work};
+ghost use Rattle.argon.specs.Filling.{Filling};
 ghost use Rattle.argon.specs.Parameters.{Parameters, block_count};
-ghost use Rattle.argon.specs.Reference.{address_block};
+ghost use Rattle.argon.specs.Reference.{HasAddresses, address_block};
 ghost use Rattle.argon.specs.Segment.{IsInMatrix, IsSegmentOf, column_number, index_after_parts};
+ghost use Rattle.argon.specs.Woven.{AreLeft, IsNextSlice, blocks_where_left, with_next_slice};
 
-use crate::addresses::{address_count, prepare_addresses};
+use crate::addresses::{prepare_addresses, renew_addresses};
 use crate::block::Block;
 use crate::compression::Scratch;
 use crate::filling::store_block;
@@ -28,6 +30,8 @@ pub(crate) struct Segment {
     pub(crate) lane: u32,
     // Whether its words J come from the position alone.
     pub(crate) is_independent: bool,
+    // Whether the old blocks of its places are xored in.
+    pub(crate) is_xored: bool,
 }
 
 impl Segment {
@@ -46,6 +50,7 @@ impl Segment {
             slice,
             lane,
             is_independent: params.is_independent(pass, slice),
+            is_xored: params.is_xored_in(pass),
         }
     }
 }
@@ -95,7 +100,7 @@ fn fill_column(
     let other = reference_column(at.len, at.pass, at.slice, index, lane == at.lane, j1);
     let reference = lane as usize * lane_len + other as usize;
     store_block(
-        at.pass,
+        at.is_xored,
         blocks,
         start + column,
         previous,
@@ -105,46 +110,49 @@ fn fill_column(
     );
 }
 
+/// The index of a segment's first column that comes from other blocks.
+pub(crate) fn first_index(pass: u32, slice: u32) -> u32
+    ensures value { result ≡ first_index pass slice }
+{
+    if pass == 0 && slice == 0 { 2 } else { 0 }
+}
+
 /// The index up to which a segment is made after so many parts of 128 columns.
 pub(crate) fn end_of_parts(at: &Segment, parts: u32) -> u32
     requires few { 128 * parts < 2 ^ 32 }
     ensures value { result ≡ index_after_parts at.now parts }
 {
-    let first = if at.pass == 0 && at.slice == 0 { 2 } else { 0 };
-    first.max((128 * parts).min(at.len))
+    first_index(at.pass, at.slice).max((128 * parts).min(at.len))
 }
 
-// Makes the blocks of a part: the columns whose words J stand in one address block.
-fn fill_part(
+/// Makes the block of a segment's next column, whose index is given, and before it the address
+/// block that its word J stands in, where that is not the one of the column before.
+pub(crate) fn fill_next_column(
     blocks: &mut [Block],
+    params: &Params,
     at: &Segment,
-    part: u32,
-    addresses: &Block,
+    index: u32,
+    addresses: &mut Block,
     scratch: &mut Scratch,
     ticks: &mut Ticks,
 )
     requires valid { IsInMatrix at.now }
-    requires parts { 128 * part < at.now.len }
+    requires is_of { IsSegmentOf params.now at.now }
+    requires indices { index < at.now.len }
+    requires first { first_index at.now.pass at.now.slice ≤ index }
     requires size { length blocks.old ≡ at.now.lanes * (4 * at.now.len) }
-    ensures size { length blocks.new ≡ length blocks.old }
-    ensures count { ticks.new + index_after_parts at.now part
-        ≡ ticks.old + index_after_parts at.now (part + 1) }
-    ensures newest { (parameters : Parameters) (h0 : List ℕ) (next : ℕ → ℕ)
-        → IsSegmentOf parameters at.now
-        → (at.now.is_independent ≡ true
-        → addresses.now
-        ≡ address_block parameters at.now.pass at.now.lane at.now.slice (part + 1))
-        → HoldsNewest parameters h0 blocks.old next
-        → IsInSlice parameters at.now.pass at.now.slice next
-        → next at.now.lane ≡ column_number at.now (index_after_parts at.now part)
-        → HoldsNewest parameters h0 blocks.new (with_next_number next at.now.lane
-        (column_number at.now (index_after_parts at.now (part + 1)))) }
+    requires addresses { HasAddresses params.now at.now.pass at.now.lane at.now.slice index
+        addresses.old }
+    ensures addresses { HasAddresses params.now at.now.pass at.now.lane at.now.slice
+        (index + 1) addresses.new }
+    ensures value { blocks.new ≡ slice_set blocks.old
+        (at.now.lane * (4 * at.now.len) + (at.now.slice * at.now.len + index))
+        (block_at params.now (block_held params.now blocks.old) (column_number at.now index)
+        at.now.lane at.now.pass at.now.slice index) }
+    ensures count { ticks.new ≡ ticks.old + column_work params.now at.now.pass at.now.slice index }
 {
-    let from = end_of_parts(at, part);
-    let to = end_of_parts(at, part + 1);
-    for index in from..to {
-        fill_column(blocks, at, index, addresses, scratch, ticks);
-    }
+    renew_addresses(params, at, index, addresses, scratch, ticks);
+    fill_column(blocks, at, index, addresses, scratch, ticks);
 }
 
 // Makes the blocks of a segment.
@@ -160,16 +168,17 @@ fn fill_segment(
     requires size { length blocks.old ≡ at.now.lanes * (4 * at.now.len) }
     ensures size { length blocks.new ≡ length blocks.old }
     ensures count { ticks.new ≡ ticks.old + segment_work params.now at.now.pass at.now.slice }
-    ensures newest { (h0 : List ℕ) (next : ℕ → ℕ) → HoldsNewest params.now h0 blocks.old next
-        → IsInSlice params.now at.now.pass at.now.slice next
-        → next at.now.lane ≡ column_number at.now (first_index at.now.pass at.now.slice)
-        → HoldsNewest params.now h0 blocks.new
-        (with_next_number next at.now.lane (column_number at.now at.now.len)) }
+    ensures made { (matrix : Filling) (left : List ℕ)
+        → IsNextSlice matrix params.now at.now.pass at.now.slice
+        → AreLeft params.now at.now.pass at.now.slice left
+        → slice_index left at.now.lane ≡ blocks_of_segment params.now at.now.pass at.now.slice
+        → blocks.old ≡ blocks_where_left matrix left
+        → blocks.new ≡ blocks_where_left matrix (slice_set left at.now.lane 0) }
 {
     let mut addresses = [0; 128];
-    for part in 0..address_count(at.len) {
-        prepare_addresses(params, at, part, &mut addresses, scratch, ticks);
-        fill_part(blocks, at, part, &addresses, scratch, ticks);
+    prepare_addresses(params, at, 0, &mut addresses, scratch, ticks);
+    for index in first_index(at.pass, at.slice)..at.len {
+        fill_next_column(blocks, params, at, index, &mut addresses, scratch, ticks);
     }
 }
 
@@ -185,11 +194,8 @@ pub(crate) fn fill_slice(
     requires size { length blocks.old ≡ block_count params.now }
     ensures size { length blocks.new ≡ length blocks.old }
     ensures count { ticks.new ≡ ticks.old + slice_work params.now pass slice }
-    ensures newest { (h0 : List ℕ)
-        → HoldsNewest params.now h0 blocks.old
-        (λ _. number_after_slices params.now (4 * pass + slice))
-        → HoldsNewest params.now h0 blocks.new
-        (λ _. number_after_slices params.now (4 * pass + slice + 1)) }
+    ensures made { (matrix : Filling) → IsNextSlice matrix params.now pass slice
+        → blocks.old ≡ matrix.blocks → blocks.new ≡ (with_next_slice matrix).blocks }
 {
     let mut scratch = Scratch::new();
     for lane in 0..params.lanes() {

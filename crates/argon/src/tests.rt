@@ -1,9 +1,13 @@
 //! Tags of RFC 9106 and of independent programs; the limits; the plan; a refused reservation.
 ghost use Rattle.std.specs.Prelude.{◌≡◌, ◌<◌, ◌^◌, true, length};
+ghost use Rattle.argon.specs.Range.{is_version};
 ghost use Rattle.argon.specs.Reference.{is_independent};
 
+mod examples;
+mod orders;
 mod plain;
 mod reference_tags;
+mod version_0x10;
 
 use super::*;
 use crate::block::{Block, write_xor, write_xor_over};
@@ -29,12 +33,14 @@ fn hex_text(alloc: Global, bytes: &[u8]) -> Result<String, AllocError> {
 fn tag_text(
     rt: HostRuntime,
     kind: Kind,
+    version: u32,
     passes: u32,
     memory_kib: u32,
     lanes: u32,
     tag_len: usize,
     inputs: &Inputs<'_>,
 ) -> Result<String, Fail>
+    requires version { is_version version ≡ true }
     requires short { tag_len < 2 ^ 32 }
     requires secret { length inputs.now.secret.now < 2 ^ 32 }
     requires associated { length inputs.now.associated.now < 2 ^ 32 }
@@ -44,7 +50,7 @@ fn tag_text(
     let password_len = inputs.password.len();
     let Ok(params) = Params::new(
         kind,
-        0x13,
+        version,
         passes,
         lanes,
         memory_kib,
@@ -90,7 +96,10 @@ fn tags_of_the_standard(rt: HostRuntime) -> Result<(), Fail> {
         associated: &[4; 12],
     };
     for (kind, tag, _) in STANDARD {
-        assert_eq!(rt; tag_text(rt, kind, 3, 32, 4, 32, &inputs)?.as_str(), tag);
+        assert_eq!(rt;
+            tag_text(rt, kind, 0x13, 3, 32, 4, 32, &inputs)?.as_str(),
+            tag
+        );
     }
     Ok(())
 }
@@ -139,7 +148,7 @@ fn tags_of_the_reference_tests(rt: HostRuntime) -> Result<(), Fail> {
     };
     for (kind, lanes, tag) in KNOWN {
         assert_eq!(rt;
-            tag_text(rt, kind, 2, 256, lanes, 32, &inputs)?.as_str(),
+            tag_text(rt, kind, 0x13, 2, 256, lanes, 32, &inputs)?.as_str(),
             tag
         );
     }
@@ -157,6 +166,7 @@ fn tag_of_row(rt: HostRuntime, row: &Row) -> Result<String, Fail> {
     tag_text(
         rt,
         row.kind,
+        0x13,
         row.passes,
         row.memory_kib,
         row.lanes,
@@ -182,7 +192,7 @@ fn longest_tag(rt: HostRuntime) -> Result<(), Fail> {
         associated: &[],
     };
     assert_eq!(rt;
-        tag_text(rt, Kind::Id, 1, 64, 1, 4096, &inputs)?.as_str(),
+        tag_text(rt, Kind::Id, 0x13, 1, 64, 1, 4096, &inputs)?.as_str(),
         LONGEST
     );
     Ok(())
@@ -255,6 +265,7 @@ fn tags_with_secret_and_data(rt: HostRuntime) -> Result<(), Fail> {
         let text = tag_text(
             rt,
             kind,
+            0x13,
             passes,
             memory_kib,
             lanes,
@@ -406,6 +417,14 @@ impl Room for Refusing {
         self.left -= 1;
         vec![in self.alloc; [0; 128]; count]
     }
+
+    fn numbers(&mut self, count: usize) -> Result<Vec<u32>, AllocError> {
+        if self.left == 0 {
+            return Err(AllocError);
+        }
+        self.left -= 1;
+        vec![in self.alloc; 0; count]
+    }
 }
 
 #[test]
@@ -424,6 +443,24 @@ fn the_one_request_is_refused(rt: HostRuntime) {
         assert_eq!(rt; room.left, 0);
     }
     assert!(rt; Matrix::reserve(rt.alloc(), &params).is_ok());
+}
+
+#[test]
+fn each_request_for_lanes_is_refused(rt: HostRuntime) {
+    let Ok(params) = Params::new(Kind::Id, 0x13, 1, 4, 32, 32, 8, 8) else {
+        assert!(rt; false);
+        return;
+    };
+    for left in [0u32, 1, 2] {
+        let mut room = Refusing {
+            alloc: rt.alloc(),
+            left,
+        };
+        let reserved = lanes::reserve_from(&mut room, &params);
+        assert_eq!(rt; reserved.is_ok(), left == 2);
+        assert_eq!(rt; room.left, 0);
+    }
+    assert!(rt; Lanes::reserve(rt.alloc(), &params).is_ok());
 }
 
 // Words that look like chance.

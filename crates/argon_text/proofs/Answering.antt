@@ -7,7 +7,7 @@ use Rattle.std.proofs.lemmas.Option.{same_Some}
 use Rattle.base64.specs.GeneralPurpose.{IsBytes}
 use Rattle.argon_text.specs.Answer.{IsAnswerOf, IsBase64Fault, IsFaultOf}
 use Rattle.argon_text.specs.Base64.{is_base64}
-use Rattle.argon_text.specs.EncodedText.{base64_text, encoded_text}
+use Rattle.argon_text.specs.EncodedText.{IsTextOf, base64_text}
 use Rattle.argon_text.specs.Grammar.{Fields, HasFields, IsText, IsTextInRange, value_of_fields, value_with}
 use Rattle.argon_text.specs.Reading.{fields_at}
 use Rattle.argon_text.specs.Value.{Value, IsValue, is_in_range}
@@ -57,18 +57,17 @@ module _ (s : List ℕ) (fields : Fields) (found : fields_at s ≡ Some fields) 
     )
 
     pub value_found : is_in_range (value_with fields salt tag) ≡ true
-        → IsValue (value_with fields salt tag) × (s ≡ encoded_text (value_with fields salt tag))
+        → IsValue (value_with fields salt tag) × IsTextOf (value_with fields salt tag) s
     value_found inside =
         let text = text_of_its_value s fields has_fields (ap is_in_range says ∙ inside) in
-        (record { in_range = inside; salt = are_salt; tag = are_tag }, text ∙ ap encoded_text says)
+        (record { in_range = inside; salt = are_salt; tag = are_tag }, subst (λ v. IsTextOf v s) says text)
 
--- the answer to the text of a value
-pub answer_to_text : (s : List ℕ) (r : Result Encoded ReadFault) → IsAnswerOf s r → (v : Value) → IsValue v → s ≡ encoded_text v
+-- the answer to a text of a value
+pub answer_to_text : (s : List ℕ) (r : Result Encoded ReadFault) → IsAnswerOf s r → (v : Value) → IsValue v → IsTextOf v s
     → MatchResult r (λ e. value_of e ≡ v) (λ f. f ≡ OutOfMemory)
-answer_to_text s (Ok e) is v valid text = one_value (value_of e) v is.0 valid (sym is.1 ∙ text)
+answer_to_text s (Ok e) is v valid text = one_value (value_of e) v s is.0 valid is.1 text
 answer_to_text s (Err NotInGrammar) is v valid text =
-    let told = text_in_range v valid in
-    let read : IsText (encoded_text v) = (told.0, told.1) in
-    absurd (is (subst IsText (sym text) read))
-answer_to_text s (Err OutOfRange) is v valid text = absurd (is.1 (subst IsTextInRange (sym text) (text_in_range v valid)))
+    let told = text_in_range v valid s text in
+    absurd (is (told.0, told.1))
+answer_to_text s (Err OutOfRange) is v valid text = absurd (is.1 (text_in_range v valid s text))
 answer_to_text s (Err OutOfMemory) is v valid text = refl

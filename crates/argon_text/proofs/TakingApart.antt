@@ -1,16 +1,17 @@
 -- The fields of a text are the only ones: taking a text apart undoes its writing, and is undone by it.
-use Rattle.std.proofs.Common.{◌≡◌, ◌≢◌, ◌∙◌, ◌==◌, ◌<◌, ℕ, Bool, true, false, not, List, [], ◌∷◌, ◌++◌, Option, Some, None, refl, sym, ap, cond, codes, arith, subst, append_assoc, ◌⊎◌, inl, inr}
+use Rattle.std.proofs.Common.{◌≡◌, ◌≢◌, ◌∙◌, ◌==◌, ◌<◌, ℕ, Bool, true, false, not, List, [], ◌∷◌, ◌++◌, Option, Some, None, refl, sym, ap, cond, codes, arith, subst, append_assoc, ◌⊎◌, inl, inr, take, IfSome}
 use Rattle.std.proofs.lemmas.Option.{cond_some, same_Some}
 use Rattle.std.proofs.lemmas.Slice.Eq.{bytes_eq-Decides}
 use Rattle.std.proofs.lemmas.Grind.{common_steps}
 use Rattle.std.specs.List.{list_all}
+use Rattle.std.specs.Option.{option_map}
 use Rattle.std.specs.Char.{is_ascii_digit}
 use Rattle.std.specs.Str.{bytes_eq}
 use Rattle.argon.specs.declared.kind.Kind.{Kind}
 use Rattle.argon.specs.declared.kind.Kind.TheVariants.{D, I, Id}
 use Rattle.argon_text.specs.EncodedText.{kind_name, text_of_fields}
-use Rattle.argon_text.specs.Grammar.{AreNumbers, Fields, is_number, text_of}
-use Rattle.argon_text.specs.Reading.{◌>>=◌, after, cut, fields_at, kind_at, kind_named, number_at}
+use Rattle.argon_text.specs.Grammar.{AreNumbers, Fields, is_number, text_of, version_part}
+use Rattle.argon_text.specs.Reading.{◌>>=◌, after, cut, fields_at, kind_at, kind_named, number_at, version_at}
 use Rattle.argon_text.proofs.Cutting.{IsFree, free_by, not_mark, after_gives, after_at, cut_gives, cut_at}
 
 bind_some : {A B : Type 0} (found : Option A) (f : A → Option B) (y : B) → (found >>= f) ≡ Some y → (x : A) × (found ≡ Some x) × (f x ≡ Some y)
@@ -53,11 +54,45 @@ number_again label mark ds rest low number =
     let split = cut_at mark ds rest (number_free mark ds low number) in
     rw (labelled, split, number) refl
 
--- ---- a type
+-- ---- a version
+
+-- a version and what stands behind it
+version_before : Option (List ℕ) → List ℕ → List ℕ
+version_before None rest = rest
+version_before (Some digits) rest = codes "v=" ++ (digits ++ 36 ∷ rest)
 
 chosen : {A : Type 0} (b : Bool) (x y z : Option A) → cond b x y ≡ z → ((b ≡ true) × (x ≡ z)) ⊎ ((b ≡ false) × (y ≡ z))
 chosen true x y z e = inl (refl, e)
 chosen false x y z e = inr (refl, e)
+
+numbered : (step : Option (List ℕ × List ℕ)) (found : Option (List ℕ) × List ℕ) → option_map (λ split. (Some split.0, split.1)) step ≡ Some found
+    → (split : List ℕ × List ℕ) × (step ≡ Some split) × ((Some split.0, split.1) ≡ found)
+numbered None found e = absurd (cc)
+numbered (Some split) found e = (split, refl, same_Some (Some split.0, split.1) found e)
+
+version_gives : (s : List ℕ) (found : Option (List ℕ) × List ℕ) → version_at s ≡ Some found
+    → (s ≡ version_before found.0 found.1) × IfSome found.0 (λ digits. is_number digits ≡ true)
+unfolding version_at version_before
+version_gives s found e =
+    elim (chosen (bytes_eq (take 2 s) (codes "v=")) _ _ (Some found) e) [
+      | inl there ↦
+          let split = numbered (number_at (codes "v=") 36 s) found there.1 in
+          let P : Option (List ℕ) × List ℕ → Type 0 = λ x. (s ≡ version_before x.0 x.1) × IfSome x.0 (λ digits. is_number digits ≡ true) in
+          subst P split.2 (number_gives (codes "v=") 36 s split.0 split.1)
+      | inr none ↦
+          let P : Option (List ℕ) × List ℕ → Type 0 = λ x. (s ≡ version_before x.0 x.1) × IfSome x.0 (λ digits. is_number digits ≡ true) in
+          subst P (same_Some (None, s) found none.1) (refl, tt)
+    ]
+
+-- behind a version the memory stands
+version_again : (version : Option (List ℕ)) (rest : List ℕ) → IfSome version (λ digits. is_number digits ≡ true)
+    → version_at (version_before version (codes "m=" ++ rest)) ≡ Some (version, codes "m=" ++ rest)
+unfolding version_at version_before
+version_again None rest number = refl
+version_again (Some digits) rest number =
+    ap (option_map (λ split. (Some split.0, split.1))) (number_again (codes "v=") 36 digits (codes "m=" ++ rest) (omega arith) number)
+
+-- ---- a type
 
 name_gives : (name : List ℕ) (kind : Kind) → kind_named name ≡ Some kind → name ≡ kind_name kind
 name_gives name kind e =
@@ -103,15 +138,16 @@ kind_again kind rest =
 -- ---- a text
 
 -- the fields, from the back
-nested : List ℕ → List ℕ → List ℕ → List ℕ → List ℕ → List ℕ → List ℕ → List ℕ
+nested : List ℕ → Option (List ℕ) → List ℕ → List ℕ → List ℕ → List ℕ → List ℕ → List ℕ
 nested kind version memory passes lanes salt tag =
-    codes "$argon2" ++ (kind ++ 36 ∷ (codes "v=" ++ (version ++ 36 ∷ (codes "m=" ++ (memory ++ 44 ∷ (codes "t=" ++ (passes
-    ++ 44 ∷ (codes "p=" ++ (lanes ++ 36 ∷ (salt ++ 36 ∷ tag))))))))))
+    codes "$argon2" ++ (kind ++ 36 ∷ version_before version (codes "m=" ++ (memory ++ 44 ∷ (codes "t=" ++ (passes
+    ++ 44 ∷ (codes "p=" ++ (lanes ++ 36 ∷ (salt ++ 36 ∷ tag))))))))
 
-regrouped : (kind version memory passes lanes salt tag : List ℕ)
-    → text_of_fields kind version memory passes lanes salt tag ≡ nested kind version memory passes lanes salt tag
-unfolding text_of_fields nested
-regrouped kind version memory passes lanes salt tag = simp append_assoc
+regrouped : (kind : List ℕ) (version : Option (List ℕ)) (memory passes lanes salt tag : List ℕ)
+    → text_of_fields kind (version_part version) memory passes lanes salt tag ≡ nested kind version memory passes lanes salt tag
+unfolding text_of_fields nested version_before
+regrouped kind None memory passes lanes salt tag = simp append_assoc
+regrouped kind (Some digits) memory passes lanes salt tag = simp append_assoc
 
 pub fields_again : (fields : Fields) → AreNumbers fields → IsFree 36 fields.salt → fields_at (text_of fields) ≡ Some fields
 unfolding fields_at nested
@@ -124,16 +160,16 @@ fields_again fields numbers free =
     let passes = number_again (codes "t=") 44 fields.passes r3 (omega arith) numbers.passes in
     let r2 : List ℕ = codes "t=" ++ (fields.passes ++ 44 ∷ r3) in
     let memory = number_again (codes "m=") 44 fields.memory r2 (omega arith) numbers.memory in
-    let r1 : List ℕ = codes "m=" ++ (fields.memory ++ 44 ∷ r2) in
-    let version = number_again (codes "v=") 36 fields.version r1 (omega arith) numbers.version in
-    let r0 : List ℕ = codes "v=" ++ (fields.version ++ 36 ∷ r1) in
+    let r1 : List ℕ = fields.memory ++ 44 ∷ r2 in
+    let version = version_again fields.version r1 numbers.version in
+    let r0 : List ℕ = version_before fields.version (codes "m=" ++ r1) in
     let kind = kind_again fields.kind r0 in
     ap fields_at whole ∙ bind_then _ _ _ _ kind (bind_then _ _ _ _ version (bind_then _ _ _ _ memory
     (bind_then _ _ _ _ passes (bind_then _ _ _ _ lanes (bind_then _ _ _ _ salt refl)))))
 
 -- what each step left, put together
-composed : (s kind s1 version s2 memory s3 passes s4 lanes s5 salt tag : List ℕ)
-    → s ≡ codes "$argon2" ++ (kind ++ 36 ∷ s1) → s1 ≡ codes "v=" ++ (version ++ 36 ∷ s2) → s2 ≡ codes "m=" ++ (memory ++ 44 ∷ s3)
+composed : (s kind s1 : List ℕ) (version : Option (List ℕ)) (s2 memory s3 passes s4 lanes s5 salt tag : List ℕ)
+    → s ≡ codes "$argon2" ++ (kind ++ 36 ∷ s1) → s1 ≡ version_before version s2 → s2 ≡ codes "m=" ++ (memory ++ 44 ∷ s3)
     → s3 ≡ codes "t=" ++ (passes ++ 44 ∷ s4) → s4 ≡ codes "p=" ++ (lanes ++ 36 ∷ s5) → s5 ≡ salt ++ 36 ∷ tag
     → s ≡ nested kind version memory passes lanes salt tag
 unfolding nested
@@ -143,13 +179,13 @@ pub fields_give : (s : List ℕ) (fields : Fields) → fields_at s ≡ Some fiel
 unfolding fields_at nested
 fields_give s fields e =
     let kind = bind_some (kind_at s) _ fields e in
-    let version = bind_some (number_at (codes "v=") 36 kind.0.1) _ fields kind.2 in
+    let version = bind_some (version_at kind.0.1) _ fields kind.2 in
     let memory = bind_some (number_at (codes "m=") 44 version.0.1) _ fields version.2 in
     let passes = bind_some (number_at (codes "t=") 44 memory.0.1) _ fields memory.2 in
     let lanes = bind_some (number_at (codes "p=") 36 passes.0.1) _ fields passes.2 in
     let salt = bind_some (cut 36 lanes.0.1) _ fields lanes.2 in
     let e0 = kind_gives s kind.0 kind.1 in
-    let e1 = number_gives (codes "v=") 36 kind.0.1 version.0 version.1 in
+    let e1 = version_gives kind.0.1 version.0 version.1 in
     let e2 = number_gives (codes "m=") 44 version.0.1 memory.0 memory.1 in
     let e3 = number_gives (codes "t=") 44 memory.0.1 passes.0 passes.1 in
     let e4 = number_gives (codes "p=") 36 passes.0.1 lanes.0 lanes.1 in

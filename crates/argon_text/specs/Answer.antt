@@ -1,8 +1,8 @@
 -- What reading may answer.
-use Rattle.std.specs.Prelude.{◌≡◌, ◌≢◌, ℕ, List, Result, Ok, Err, ⊤, true}
+use Rattle.std.specs.Prelude.{◌≢◌, ℕ, List, Result, Ok, Err, ⊤, true}
 use Rattle.argon_text.specs.Base64.{is_base64}
 use Rattle.argon_text.specs.Value.{IsValue}
-use Rattle.argon_text.specs.EncodedText.{encoded_text}
+use Rattle.argon_text.specs.EncodedText.{IsTextOf}
 use Rattle.argon_text.specs.Grammar.{IsText, IsTextInRange}
 use Rattle.argon_text.specs.View.{value_of}
 use Rattle.argon_text.specs.declared.encoded.Encoded.{Encoded}
@@ -17,7 +17,7 @@ IsFaultOf s OutOfMemory = ⊤
 
 -- an answer
 abbrev pub IsAnswerOf : List ℕ → Result Encoded ReadFault → Type 0
-IsAnswerOf s (Ok e) = IsValue (value_of e) × (s ≡ encoded_text (value_of e))
+IsAnswerOf s (Ok e) = IsValue (value_of e) × IsTextOf (value_of e) s
 IsAnswerOf s (Err f) = IsFaultOf s f
 
 -- why base64 isn't decoded

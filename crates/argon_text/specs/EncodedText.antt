@@ -1,5 +1,5 @@
 -- The encoded text of a value (the reference implementation of Argon2, encoding.c; base64 of RFC 4648, 4 and 3.2).
-use Rattle.std.specs.Prelude.{List, ℕ, ◌++◌, codes}
+use Rattle.std.specs.Prelude.{◌≡◌, ◌⊎◌, List, [], ℕ, ◌++◌, codes}
 use Rattle.std.specs.Fmt.{decimal}
 use Rattle.base64.specs.GeneralPurpose.{encode_of}
 use Rattle.base64.specs.Engines.{standard_no_pad}
@@ -17,14 +17,30 @@ kind_name Id = codes "id"
 unfoldable pub base64_text : List ℕ → List ℕ
 base64_text bytes = encode_of standard_no_pad bytes
 
--- the fields, one after another, behind their labels
+-- the field of a version in decimal
+abbrev pub version_field : List ℕ → List ℕ
+version_field digits = codes "$v=" ++ digits
+
+-- the fields, one after another, behind their labels; the version's field is whole, or empty where a text has none
 unfoldable pub text_of_fields : List ℕ → List ℕ → List ℕ → List ℕ → List ℕ → List ℕ → List ℕ → List ℕ
 text_of_fields kind version memory passes lanes salt tag =
-    codes "$argon2" ++ kind ++ codes "$v=" ++ version ++ codes "$m=" ++ memory ++ codes ",t=" ++ passes
+    codes "$argon2" ++ kind ++ version ++ codes "$m=" ++ memory ++ codes ",t=" ++ passes
     ++ codes ",p=" ++ lanes ++ codes "$" ++ salt ++ codes "$" ++ tag
 
--- the encoded text, its numbers in decimal
-abbrev pub encoded_text : Value → List ℕ
-encoded_text v =
-    text_of_fields (kind_name v.kind) (decimal v.version) (decimal v.memory) (decimal v.passes) (decimal v.lanes)
+-- the text of a value behind this field of the version, its numbers in decimal
+abbrev pub text_with : List ℕ → Value → List ℕ
+text_with version v =
+    text_of_fields (kind_name v.kind) version (decimal v.memory) (decimal v.passes) (decimal v.lanes)
     (base64_text v.salt) (base64_text v.tag)
+
+-- the encoded text
+abbrev pub encoded_text : Value → List ℕ
+encoded_text v = text_with (version_field (decimal v.version)) v
+
+-- the text of a value of version 0x10 as it was written before texts had versions
+abbrev pub short_text : Value → List ℕ
+short_text v = text_with [] v
+
+-- s is a text of the value: the encoded text, or at version 0x10 the short one
+abbrev pub IsTextOf : Value → List ℕ → Type 0
+IsTextOf v s = (s ≡ encoded_text v) ⊎ ((v.version ≡ 0x10) × (s ≡ short_text v))

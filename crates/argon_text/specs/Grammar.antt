@@ -1,13 +1,13 @@
 -- The form of an encoded text, whatever its numbers and lengths are (the reference implementation of Argon2,
 -- encoding.c), by cases on its bytes.
-use Rattle.std.specs.Prelude.{◌≡◌, ℕ, ◌==◌, Bool, false, true, ◌&&◌, ◌||◌, List, [], ◌∷◌, length, nat_le}
+use Rattle.std.specs.Prelude.{◌≡◌, ℕ, ◌==◌, Bool, false, true, ◌&&◌, ◌||◌, List, [], ◌∷◌, Option, Some, None, IfSome, length, nat_le}
 use Rattle.std.specs.List.{list_all}
 use Rattle.std.specs.Char.{is_ascii_digit}
 use Rattle.std.specs.Str.Parse.{digits_value}
 use Rattle.std.specs.Fmt.{decimal}
 use Rattle.argon.specs.declared.kind.Kind.{Kind}
 use Rattle.argon_text.specs.Base64.{base64_bytes, is_base64}
-use Rattle.argon_text.specs.EncodedText.{base64_text, kind_name, text_of_fields}
+use Rattle.argon_text.specs.EncodedText.{base64_text, kind_name, text_of_fields, version_field}
 use Rattle.argon_text.specs.Value.{Value, is_in_range}
 
 -- the digit 0 alone, or a digit from 1 to 9 and any digits after it
@@ -21,24 +21,31 @@ is_number (first ∷ others) =
 abbrev pub number_value : List ℕ → ℕ
 number_value digits = digits_value 10 digits
 
--- the fields of a text as they are written: its type, the digits of its numbers, the symbols of salt and tag
+-- the fields of a text as they are written: its type, the digits of its numbers, the symbols of salt and tag; the
+-- version may be left out
 pub record Fields : Type 0 where
   pub kind : Kind
-  pub version : List ℕ
+  pub version : Option (List ℕ)
   pub memory : List ℕ
   pub passes : List ℕ
   pub lanes : List ℕ
   pub salt : List ℕ
   pub tag : List ℕ
 
+-- the field of a version, or nothing where there is none
+abbrev pub version_part : Option (List ℕ) → List ℕ
+version_part None = []
+version_part (Some digits) = version_field digits
+
 -- the text of fields
 abbrev pub text_of : Fields → List ℕ
 text_of fields =
-    text_of_fields (kind_name fields.kind) fields.version fields.memory fields.passes fields.lanes fields.salt fields.tag
+    text_of_fields (kind_name fields.kind) (version_part fields.version) fields.memory fields.passes fields.lanes
+    fields.salt fields.tag
 
--- the four numbers have the form of numbers
+-- the numbers have the form of numbers
 pub record AreNumbers (fields : Fields) : Type 0 where
-  pub version : is_number fields.version ≡ true
+  pub version : IfSome fields.version (λ digits. is_number digits ≡ true)
   pub memory : is_number fields.memory ≡ true
   pub passes : is_number fields.passes ≡ true
   pub lanes : is_number fields.lanes ≡ true
@@ -54,11 +61,16 @@ pub record HasFields (s : List ℕ) (fields : Fields) : Type 0 where
 abbrev pub IsText : List ℕ → Type 0
 IsText s = (fields : Fields) × HasFields s fields
 
+-- the version that a text says: 0x10 where it has none
+abbrev pub version_said : Option (List ℕ) → ℕ
+version_said None = 0x10
+version_said (Some digits) = number_value digits
+
 -- what fields say, where salt and tag have these bytes
 abbrev pub value_with : Fields → List ℕ → List ℕ → Value
 value_with fields salt tag = record {
   kind = fields.kind;
-  version = number_value fields.version;
+  version = version_said fields.version;
   memory = number_value fields.memory;
   passes = number_value fields.passes;
   lanes = number_value fields.lanes;
@@ -74,14 +86,18 @@ value_of_fields fields = value_with fields (base64_bytes fields.salt) (base64_by
 abbrev pub IsTextInRange : List ℕ → Type 0
 IsTextInRange s = (fields : Fields) × HasFields s fields × (is_in_range (value_of_fields fields) ≡ true)
 
--- the fields that a value is written as, its numbers in decimal
-abbrev pub fields_of_value : Value → Fields
-fields_of_value v = record {
+-- the fields of a value's text behind these digits of the version, its other numbers in decimal
+abbrev pub fields_with : Option (List ℕ) → Value → Fields
+fields_with version v = record {
   kind = v.kind;
-  version = decimal v.version;
+  version = version;
   memory = decimal v.memory;
   passes = decimal v.passes;
   lanes = decimal v.lanes;
   salt = base64_text v.salt;
   tag = base64_text v.tag;
 }
+
+-- the fields that a value is written as
+abbrev pub fields_of_value : Value → Fields
+fields_of_value v = fields_with (Some (decimal v.version)) v

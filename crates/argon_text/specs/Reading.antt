@@ -49,11 +49,17 @@ kind_at s = do
   kind ← kind_named split.0
   Some (kind, split.1)
 
+-- the digits of the version, where the text has one, and what stands after its `$`
+unfoldable pub version_at : List ℕ → Option (Option (List ℕ) × List ℕ)
+version_at s =
+    if bytes_eq (take 2 s) (codes "v=") then option_map (λ found. (Some found.0, found.1)) (number_at (codes "v=") 36 s)
+    else Some (None, s)
+
 -- the fields of a text
 unfoldable pub fields_at : List ℕ → Option Fields
 fields_at s = do
   kind ← kind_at s
-  version ← number_at (codes "v=") 36 kind.1
+  version ← version_at kind.1
   memory ← number_at (codes "m=") 44 version.1
   passes ← number_at (codes "t=") 44 memory.1
   lanes ← number_at (codes "p=") 36 passes.1

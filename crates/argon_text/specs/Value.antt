@@ -1,7 +1,7 @@
 -- What an encoded text says, and its ranges.
-use Rattle.std.specs.Prelude.{◌≡◌, ℕ, ◌-◌, ◌*◌, ◌^◌, ◌==◌, Bool, true, ◌&&◌, List, length}
+use Rattle.std.specs.Prelude.{◌≡◌, ℕ, ◌-◌, ◌*◌, ◌^◌, Bool, true, ◌&&◌, List, length}
 use Rattle.base64.specs.GeneralPurpose.{IsBytes}
-use Rattle.argon.specs.Range.{is_between}
+use Rattle.argon.specs.Range.{is_between, is_version}
 use Rattle.argon.specs.declared.kind.Kind.{Kind}
 
 -- the type y, the version v, memory m in KiB, passes t, lanes p, salt S and tag T (RFC 9106, 3.1)
@@ -14,10 +14,10 @@ pub record Value : Type 0 where
   pub salt : List ℕ
   pub tag : List ℕ
 
--- version 0x13, and the ranges of RFC 9106, 3.1; the upper ends of salt and tag are own
+-- version 0x10 or 0x13, and the ranges of RFC 9106, 3.1; the upper ends of salt and tag are own
 abbrev pub are_in_range : ℕ → ℕ → ℕ → ℕ → ℕ → ℕ → Bool
 are_in_range version memory passes lanes salt_len tag_len =
-    (version == 0x13)
+    is_version version
     && is_between 1 passes (2 ^ 32 - 1)
     && is_between 1 lanes (2 ^ 24 - 1)
     && is_between (8 * lanes) memory (2 ^ 32 - 1)

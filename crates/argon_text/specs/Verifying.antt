@@ -12,6 +12,7 @@ use Rattle.argon_text.specs.declared.fault.VerifyFault.TheVariants.{PasswordLeng
 abbrev pub parameters_with : Value → List ℕ → Parameters
 parameters_with v password = record {
   kind = type_number v.kind;
+  version = v.version;
   passes = v.passes;
   lanes = v.lanes;
   memory = v.memory;

@@ -1,4 +1,5 @@
 -- What contracts see of this crate's types.
+use Rattle.std.specs.Prelude.{option_map}
 use Rattle.argon_text.specs.Value.{Value}
 use Rattle.argon_text.specs.Grammar.{Fields}
 use Rattle.argon_text.specs.declared.encoded.Encoded.{Encoded}
@@ -20,7 +21,7 @@ value_of e = record {
 abbrev pub fields_of : Borrowed → Fields
 fields_of fields = record {
   kind = fields.kind;
-  version = fields.version.now;
+  version = option_map (λ digits. digits.now) fields.version;
   memory = fields.memory.now;
   passes = fields.passes.now;
   lanes = fields.lanes.now;

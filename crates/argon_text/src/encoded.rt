@@ -1,10 +1,11 @@
 //! The value of an encoded text, and how it is written.
 ghost use Rattle.std.specs.Prelude.{◌≡◌, ◌++◌, true, length, IfOk, OnOk, OnErr, string_bytes, codes};
 ghost use Rattle.std.specs.Fmt.{decimal};
-ghost use Rattle.argon_text.specs.Value.{are_in_range};
-ghost use Rattle.argon_text.specs.EncodedText.{base64_text, kind_name};
+ghost use Rattle.argon_text.specs.Value.{Value, are_in_range};
+ghost use Rattle.argon_text.specs.EncodedText.{base64_text, encoded_text, kind_name};
 
 use argon::Kind;
+use base64::encoded_len;
 use base64::engine::general_purpose::STANDARD_NO_PAD;
 use std::alloc::{AllocError, Global};
 
@@ -16,7 +17,7 @@ use std::alloc::{AllocError, Global};
 pub struct Encoded {
     /// Argon2d, Argon2i or Argon2id.
     pub kind: Kind,
-    /// The version of Argon2: 0x13.
+    /// The version of Argon2: 0x10 or 0x13.
     pub version: u32,
     /// Memory in KiB: 8 * lanes to 2^32-1.
     pub memory: u32,
@@ -35,7 +36,8 @@ impl Encoded {
     ghost use Rattle.argon_text.specs.EncodedText.{encoded_text};
     ghost use Rattle.argon_text.specs.View.{value_of};
 
-    /// Appends the encoded text. After a refusal of memory `out` is unchanged.
+    /// Appends the encoded text, which has the version, 0x10 too. After a refusal of memory `out` is
+    /// unchanged.
     pub fn write(&self, out: &mut Vec<u8>) -> Result<(), AllocError>
         ensures ok { OnOk result (out.new.items ≡ out.old.items ++ encoded_text (value_of self.now)) }
         ensures err { OnErr result (out.new.items ≡ out.old.items) }
@@ -62,6 +64,20 @@ impl Encoded {
         push_part(&mut text, &salt)?;
         push_part(&mut text, &tag)?;
         Ok(text)
+    }
+}
+
+/// Writes a tag over the tag of an encoded text, of the same length. It takes no memory: whoever makes
+/// the text before the hash, with any tag, is refused nothing after it.
+pub fn put_tag(text: &mut [u8], tag: &[u8])
+    ensures text { (v : Value) → text.old ≡ encoded_text v → length v.tag ≡ length tag.now
+        → text.new ≡ encoded_text (record v { tag = tag.now }) }
+{
+    let Some(len) = encoded_len(tag.len(), false) else {
+        return;
+    };
+    if let Some(start) = text.len().checked_sub(len) {
+        let _ = STANDARD_NO_PAD.encode_slice(tag, &mut text[start..]);
     }
 }
 

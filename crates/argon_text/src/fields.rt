@@ -1,19 +1,20 @@
 //! The fields of an encoded text, taken from its bytes one after another, without memory.
-ghost use Rattle.std.specs.Prelude.{◌≡◌, ◌==◌, MatchOption, codes};
+ghost use Rattle.std.specs.Prelude.{◌≡◌, ◌==◌, MatchOption, codes, option_map};
 ghost use Rattle.std.specs.List.{list_all, position};
 ghost use Rattle.std.specs.Char.{is_ascii_digit};
 ghost use Rattle.argon_text.specs.Grammar.{is_number};
-ghost use Rattle.argon_text.specs.Reading.{Steps, after, cut, fields_at, kind_at, kind_named, number_at};
+ghost use Rattle.argon_text.specs.Reading.{Steps, after, cut, fields_at, kind_at, kind_named, number_at, version_at};
 ghost use Rattle.argon_text.specs.View.{fields_of};
 
 use argon::Kind;
 use std::marker::Model;
 
 /// The fields of a text as they are written: the digits of its numbers, the symbols of salt and tag.
+/// The version may be left out.
 #[derive(Clone, Copy)]
 pub(crate) struct Fields<'a> {
     pub kind: Kind,
-    pub version: &'a [u8],
+    pub version: Option<&'a [u8]>,
     pub memory: &'a [u8],
     pub passes: &'a [u8],
     pub lanes: &'a [u8],
@@ -81,11 +82,16 @@ impl<'a> Reader<'a> {
         kind_named(name)
     }
 
-    // The digits of the version.
-    fn version(&mut self) -> Option<&'a [u8]>
-        ensures found { Steps (λ digits. digits.now) result self.new (number_at (codes "v=") 36 self.old) }
+    // The digits of the version, where the text has one.
+    #[tactic(auto, unfolding(crate::specs::Reading::version_at))]
+    fn version(&mut self) -> Option<Option<&'a [u8]>>
+        ensures found { Steps (option_map (λ digits. digits.now)) result self.new (version_at self.old) }
     {
-        self.number(b"v=", b'$')
+        if self.left.starts_with(b"v=") {
+            Some(Some(self.number(b"v=", b'$')?))
+        } else {
+            Some(None)
+        }
     }
 
     // The digits of the memory.

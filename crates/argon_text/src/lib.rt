@@ -18,6 +18,6 @@ mod tests;
 mod vectors;
 mod verifying;
 
-pub use encoded::Encoded;
+pub use encoded::{Encoded, put_tag};
 pub use fault::{ReadFault, VerifyFault};
 pub use verifying::verify;

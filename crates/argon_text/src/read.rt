@@ -3,7 +3,7 @@ ghost use Rattle.std.specs.Prelude.{◌≡◌, ◌≤◌, ◌+◌, ◌^◌, true
 ghost use Rattle.std.specs.Char.{is_ascii_digit};
 ghost use Rattle.base64.specs.GeneralPurpose.{IsBytes};
 ghost use Rattle.argon_text.specs.Answer.{IsAnswerOf, IsBase64Fault};
-ghost use Rattle.argon_text.specs.EncodedText.{base64_text, encoded_text};
+ghost use Rattle.argon_text.specs.EncodedText.{IsTextOf, base64_text};
 ghost use Rattle.argon_text.specs.Grammar.{AreNumbers, IsText, IsTextInRange, is_number, number_value, value_with};
 ghost use Rattle.argon_text.specs.Value.{IsValue, Value, are_in_range, is_in_range};
 ghost use Rattle.argon_text.specs.View.{fields_of, value_of};
@@ -16,20 +16,20 @@ use base64::DecodeAllocError;
 use std::alloc::Global;
 
 impl Encoded {
-    /// Reads an encoded text, which is the whole of `text`: nothing may follow it. Numbers may have
-    /// any length, and are compared with their ranges as numbers. It asks for memory twice, for salt
-    /// and tag, together less than `text` has bytes.
+    /// Reads an encoded text, which is the whole of `text`: nothing may follow it. A text without a
+    /// version is one of version 0x10. Numbers may have any length, and are compared with their ranges
+    /// as numbers. It asks for memory twice, for salt and tag, together less than `text` has bytes.
     ///
     /// The faults, by their numbers: 1 where the bytes are no encoded text, 2 where they are one
     /// with a value out of range (`Encoded` has the ranges), 3 where memory was refused.
     pub fn read(alloc: Global, text: &[u8]) -> Result<Encoded, ReadFault>
-        // What is read is written so, each byte of it.
-        ensures found { IfOk result (λ e. text.now ≡ encoded_text (value_of e)) }
+        // What is read is a text of the value, each byte of it.
+        ensures found { IfOk result (λ e. IsTextOf (value_of e) text.now) }
         ensures not_in_grammar { IsErrOf result ReadFault.NotInGrammar → IsText text.now → ⊥ }
         ensures out_of_range { IsErrOf result ReadFault.OutOfRange
             → IsText text.now × (IsTextInRange text.now → ⊥) }
-        // The text of a value is read, unless memory is refused.
-        ensures again { (v : Value) → IsValue v → text.now ≡ encoded_text v
+        // A text of a value is read, unless memory is refused.
+        ensures again { (v : Value) → IsValue v → IsTextOf v text.now
             → MatchResult result (λ e. value_of e ≡ v) (λ f. f ≡ ReadFault.OutOfMemory) }
     {
         let mut room = alloc;
@@ -72,7 +72,10 @@ fn encoded_of(fields: &Fields<'_>, salt: Vec<u8>, tag: Vec<u8>) -> Option<Encode
         (is_in_range (value_with (fields_of fields.now) salt.items tag.items) ≡ false)
         (λ e. value_of e ≡ value_with (fields_of fields.now) salt.items tag.items) }
 {
-    let version = number_value(fields.version)?;
+    let version = match fields.version {
+        None => 0x10,
+        Some(digits) => number_value(digits)?,
+    };
     let memory = number_value(fields.memory)?;
     let passes = number_value(fields.passes)?;
     let lanes = number_value(fields.lanes)?;
@@ -127,7 +130,7 @@ fn are_in_range(
 ) -> bool
     ensures value { result ≡ are_in_range version memory passes lanes salt_len tag_len }
 {
-    version == 0x13
+    (version == 0x10 || version == 0x13)
         && 1 <= passes
         && (1 <= lanes && lanes <= 0xFF_FFFF)
         && 8 * u64::from(lanes) <= u64::from(memory)

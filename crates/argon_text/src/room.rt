@@ -1,5 +1,6 @@
 //! Where memory comes from: the heap, or what a test puts in its place to refuse it.
-ghost use Rattle.std.specs.Prelude.{◌≡◌, IfOk, IfErr, vec_len};
+ghost use Rattle.std.specs.Prelude.{◌≡◌, Ok, IfOk, IfErr, vec_len};
+ghost use Rattle.argon.specs.Range.{admission};
 ghost use Rattle.base64.specs.Engines.{standard_no_pad};
 ghost use Rattle.base64.specs.GeneralPurpose.{IsBytes, IsDecodeFailure};
 ghost use Rattle.argon_text.specs.EncodedText.{base64_text};
@@ -21,8 +22,10 @@ pub(crate) trait Room {
     fn zeros(&mut self, count: usize) -> Result<Vec<u8>, AllocError>
         ensures size { IfOk result (λ bytes. vec_len bytes ≡ count) };
 
-    /// The matrix of a hash with these parameters.
-    fn matrix(&mut self, params: &Params) -> Result<Matrix, AllocError>
+    /// The matrix of a hash with these parameters, which the limits admit: so none is asked for before
+    /// the limits are tested.
+    fn matrix(&mut self, params: &Params, max_kib: u32, max_ops: u64) -> Result<Matrix, AllocError>
+        requires admitted { admission params.now max_kib max_ops ≡ Ok tt }
         ensures parameters { IfOk result (λ matrix. matrix.parameters ≡ params.now) };
 }
 
@@ -36,7 +39,12 @@ impl Room for Global {
         vec![in *self; 0; count]
     }
 
-    fn matrix(&mut self, params: &Params) -> Result<Matrix, AllocError> {
+    fn matrix(
+        &mut self,
+        params: &Params,
+        _max_kib: u32,
+        _max_ops: u64,
+    ) -> Result<Matrix, AllocError> {
         Matrix::reserve(*self, params)
     }
 }

@@ -4,12 +4,14 @@ ghost use Rattle.std.specs.Prelude.{◌≡◌, true, length};
 ghost use Rattle.argon_text.specs.Value.{are_in_range};
 
 mod near_misses;
+mod other_programs;
 mod reading;
 mod reference_texts;
 mod refusing;
 mod verifying;
+mod version_0x10;
 
-use crate::Encoded;
+use crate::{Encoded, put_tag};
 use argon::Kind;
 use std::alloc::{AllocError, Global};
 use std::test::Fail;
@@ -86,6 +88,38 @@ fn writes_texts(rt: HostRuntime) -> Result<(), Fail> {
         let mut out = b"before: ".to_vec(alloc)?;
         value.write(&mut out)?;
         assert_eq!(rt; out.strip_prefix(b"before: "), Some(text.as_bytes()));
+    }
+    Ok(())
+}
+
+// The text of the password `another` and the tag of `password`, somesalt -d -t 1 -k 8 and -l 4, 5, 6, and the text of that.
+// A text that is too short for the tag stays as it was.
+const PUT_TAGS: [(&str, &[u8], &str); 4] = [
+    (
+        "$argon2d$v=19$m=8,t=1,p=1$c29tZXNhbHQ$/Chpog",
+        &[0x79, 0x3f, 0xf6, 0x94],
+        "$argon2d$v=19$m=8,t=1,p=1$c29tZXNhbHQ$eT/2lA",
+    ),
+    (
+        "$argon2d$v=19$m=8,t=1,p=1$c29tZXNhbHQ$YNSrsQE",
+        &[0xe3, 0x23, 0xa3, 0x2a, 0x81],
+        "$argon2d$v=19$m=8,t=1,p=1$c29tZXNhbHQ$4yOjKoE",
+    ),
+    (
+        "$argon2d$v=19$m=8,t=1,p=1$c29tZXNhbHQ$YHqhONFk",
+        &[0xa0, 0x6f, 0x77, 0xe2, 0x5f, 0x13],
+        "$argon2d$v=19$m=8,t=1,p=1$c29tZXNhbHQ$oG934l8T",
+    ),
+    ("$argo", &[0x79, 0x3f, 0xf6, 0x94], "$argo"),
+];
+
+#[test]
+fn puts_a_tag_into_a_text(rt: HostRuntime) -> Result<(), Fail> {
+    let alloc = rt.alloc();
+    for (before, tag, after) in PUT_TAGS {
+        let mut text = before.as_bytes().to_vec(alloc)?;
+        put_tag(&mut text, tag);
+        assert_eq!(rt; text.as_slice(), after.as_bytes());
     }
     Ok(())
 }

@@ -1,10 +1,10 @@
 //! The definitions, run on what the reference program and RFC 4648 give, and laws of them.
-ghost use Rattle.std.specs.Prelude.{◌≡◌, [], List, ℕ, codes, true, false};
+ghost use Rattle.std.specs.Prelude.{◌≡◌, ◌≢◌, [], List, ℕ, codes, true, false};
 ghost use Rattle.argon_text.specs.Base64.{base64_bytes, is_base64};
-ghost use Rattle.argon_text.specs.EncodedText.{encoded_text};
-ghost use Rattle.argon_text.specs.Grammar.{Fields, HasFields, IsTextInRange, value_of_fields};
-ghost use Rattle.argon_text.specs.Value.{IsValue, Value};
-ghost use Rattle.argon_text.specs.Vectors.{known_fields, known_text, known_value};
+ghost use Rattle.argon_text.specs.EncodedText.{IsTextOf, encoded_text, short_text};
+ghost use Rattle.argon_text.specs.Grammar.{Fields, HasFields, IsTextInRange, fields_of_value, value_of_fields};
+ghost use Rattle.argon_text.specs.Value.{IsValue, Value, is_in_range};
+ghost use Rattle.argon_text.specs.Vectors.{known_fields, known_text, known_value, old_short_fields, old_short_text, old_text, old_value};
 
 fn text_of_known_value()
     ensures text { encoded_text known_value ≡ known_text }
@@ -14,6 +14,14 @@ fn text_of_known_value()
 fn fields_of_known_text()
     ensures fields { HasFields known_text known_fields }
     ensures value { value_of_fields known_fields ≡ known_value }
+{}
+
+// A value of version 0x10 has two texts, and the fields of the short one say it.
+fn texts_of_old_value()
+    ensures whole { encoded_text old_value ≡ old_text }
+    ensures short { short_text old_value ≡ old_short_text }
+    ensures fields { HasFields old_short_text old_short_fields }
+    ensures value { value_of_fields old_short_fields ≡ old_value }
 {}
 
 // RFC 4648, 10, without the padding; and the last bits that must be zero (3.5).
@@ -34,8 +42,15 @@ fn one_reading()
     ensures one { (s : List ℕ) (p q : Fields) → HasFields s p → HasFields s q → p ≡ q }
 {}
 
-// The text of a value is told by the grammar and in range, and no other value has it.
+// A text of a value is told by the grammar and in range, says that value and no other, and is whole
+// or short and not both. A text in range is a text of what it says.
 fn one_value()
-    ensures told { (v : Value) → IsValue v → IsTextInRange (encoded_text v) }
-    ensures one { (v w : Value) → IsValue v → IsValue w → encoded_text v ≡ encoded_text w → v ≡ w }
+    ensures told { (v : Value) (s : List ℕ) → IsValue v → IsTextOf v s → IsTextInRange s }
+    ensures one { (v w : Value) (s : List ℕ) → IsValue v → IsValue w → IsTextOf v s → IsTextOf w s → v ≡ w }
+    ensures fields { (v : Value) → IsValue v → HasFields (encoded_text v) (fields_of_value v) }
+    ensures says { (v : Value) (s : List ℕ) (fields : Fields) → IsValue v → IsTextOf v s
+        → HasFields s fields → value_of_fields fields ≡ v }
+    ensures said { (s : List ℕ) (fields : Fields) → HasFields s fields
+        → is_in_range (value_of_fields fields) ≡ true → IsTextOf (value_of_fields fields) s }
+    ensures form { (v w : Value) → IsValue v → IsValue w → short_text v ≢ encoded_text w }
 {}

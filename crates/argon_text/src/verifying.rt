@@ -1,6 +1,7 @@
 //! Whether a password gives the tag of a value.
-ghost use Rattle.std.specs.Prelude.{◌≡◌, ◌↔◌, None, true, false, length, vec_len, IfOk, IfErr, IsTrue};
-ghost use Rattle.argon.specs.Range.{is_between};
+ghost use Rattle.std.specs.Prelude.{◌≡◌, ◌≢◌, ◌+◌, ◌↔◌, None, Ok, true, false, length, vec_len, IfOk, IfErr, IsTrue};
+ghost use Rattle.argon.specs.Counts.{work};
+ghost use Rattle.argon.specs.Range.{admission, is_between};
 ghost use Rattle.argon_text.specs.Verifying.{IsToldFault, parameters_with, tag_of_password, verify_fault};
 ghost use Rattle.argon_text.specs.View.{value_of};
 
@@ -34,7 +35,14 @@ pub fn verify(
     ensures fault { IfErr result (IsToldFault (verify_fault (value_of encoded.now) password.now max_kib max_ops)) }
 {
     let mut room = alloc;
-    verify_in(&mut room, encoded, password, max_kib, max_ops)
+    verify_in(
+        &mut room,
+        encoded,
+        password,
+        max_kib,
+        max_ops,
+        &mut Ticks::new(),
+    )
 }
 
 /// The same, with memory from `room`.
@@ -44,11 +52,17 @@ pub(crate) fn verify_in<R: Room>(
     password: &[u8],
     max_kib: u32,
     max_ops: u64,
+    ticks: &mut Ticks,
 ) -> Result<bool, VerifyFault>
     ensures answer { IfOk result (λ same. IsTrue same
         ↔ tag_of_password (value_of encoded.now) password.now ≡ encoded.now.tag.items) }
     ensures admitted { IfOk result (λ _. verify_fault (value_of encoded.now) password.now max_kib max_ops ≡ None) }
     ensures fault { IfErr result (IsToldFault (verify_fault (value_of encoded.now) password.now max_kib max_ops)) }
+    // Nothing is asked of the source of memory before every other refusal is ruled out.
+    ensures unasked { IfErr result (λ fault. fault ≢ VerifyFault.OutOfMemory → room.new ≡ room.old) }
+    // No hash begins before every refusal is ruled out, that of memory too.
+    ensures idle { IfErr result (λ _. ticks.new ≡ ticks.old) }
+    ensures count { IfOk result (λ _. ticks.new ≡ ticks.old + work (parameters_with (value_of encoded.now) password.now)) }
 {
     let params = params_of(encoded, password)?;
     match params.admitted(max_kib, max_ops) {
@@ -56,7 +70,7 @@ pub(crate) fn verify_in<R: Room>(
         Err(ParamFault::MemoryLimit) => return Err(VerifyFault::MemoryLimit),
         Err(_) => return Err(VerifyFault::WorkLimit),
     }
-    match tag_of(room, &params, encoded, password) {
+    match tag_of(room, &params, encoded, password, max_kib, max_ops, ticks) {
         Ok(tag) => Ok(are_same(&tag, &encoded.tag)),
         Err(_) => Err(VerifyFault::OutOfMemory),
     }
@@ -86,25 +100,31 @@ fn params_of(encoded: &Encoded, password: &[u8]) -> Result<Params, VerifyFault>
     }
 }
 
-// The tag of the password.
+// The tag of the password, under parameters that the limits admit.
 fn tag_of<R: Room>(
     room: &mut R,
     params: &Params,
     encoded: &Encoded,
     password: &[u8],
+    max_kib: u32,
+    max_ops: u64,
+    ticks: &mut Ticks,
 ) -> Result<Vec<u8>, AllocError>
+    requires admitted { admission params.now max_kib max_ops ≡ Ok tt }
     requires parameters { params.now ≡ parameters_with (value_of encoded.now) password.now }
     ensures tag { IfOk result (λ tag. tag.items ≡ tag_of_password (value_of encoded.now) password.now) }
     ensures size { IfOk result (λ tag. vec_len tag ≡ vec_len encoded.now.tag) }
+    ensures idle { IfErr result (λ _. ticks.new ≡ ticks.old) }
+    ensures count { IfOk result (λ _. ticks.new ≡ ticks.old + work params.now) }
 {
     let mut tag = room.zeros(encoded.tag.len())?;
-    let mut matrix = room.matrix(params)?;
+    let mut matrix = room.matrix(params, max_kib, max_ops)?;
     let inputs = Inputs {
         password,
         salt: &encoded.salt,
         secret: &[],
         associated: &[],
     };
-    matrix.hash(&inputs, &mut tag, &mut Ticks::new());
+    matrix.hash(&inputs, &mut tag, ticks);
     Ok(tag)
 }

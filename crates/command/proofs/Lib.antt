@@ -1,4 +1,5 @@
 -- Lemmas, by topic.
+pub mod InputsOfArgon2
 pub mod Arguments
 pub mod Digits
 pub mod WideCosts

@@ -2,7 +2,7 @@
 use Rattle.std.proofs.Common.{◌≡◌, ◌∙◌, ◌⊎◌, inl, inr, ap, sym, subst, List, Option, Some, None, Result, Ok, Err}
 use Rattle.std.proofs.lemmas.Option.{none-some, same_Some}
 use Rattle.host.specs.Seen.{Seen, Text}
-use Rattle.scrypt_run.specs.Laws.{IsRefusedFromOutside as RefusesFromOutside}
+use Rattle.scrypt_run.specs.Laws.{AreOneEnd, IsRefusedFromOutside as RefusesFromOutside}
 use Rattle.scrypt_run.specs.Request.{Request}
 use Rattle.scrypt_run.specs.Run.{RequestRefused, RequestSucceeds}
 use Rattle.scrypt_run.specs.declared.refusal.ScryptRefusal.{ScryptRefusal}
@@ -51,25 +51,26 @@ ends_from_outside words before after ended r h (inr (inr ends)) = inr (record {
 
 two_requests : (words : List Text) (before after ended : Seen) (one other : ScryptRefusal) (a : RefusesRequest one words before after)
     → RefusesRequest other words before ended
-    → (one ≡ other) ⊎ RefusesFromOutside a.request one ⊎ RefusesFromOutside a.request other
+    → AreOneEnd one other after ended ⊎ RefusesFromOutside a.request one ⊎ RefusesFromOutside a.request other
 two_requests words before after ended one other a b =
     one_refusal a.request before after ended one other a.refused
     (subst (λ request. RequestRefused other request before ended) (same_request words a.request b.request a.asked b.asked) b.refused)
 
 pub one_refusal_of_words : (words : List Text) (before after ended : Seen) (one other : ScryptRefusal)
     → IsRefused one words before after → IsRefused other words before ended
-    → (one ≡ other) ⊎ IsRefusedFromOutside words one ⊎ IsRefusedFromOutside words other
+    → AreOneEnd one other after ended ⊎ IsRefusedFromOutside words one ⊎ IsRefusedFromOutside words other
 one_refusal_of_words words before after ended one other (inr (inl lacks)) b = inr (inl (inl lacks.0))
 one_refusal_of_words words before after ended one other (inl told) (inr (inl lacks)) = inr (inr (inl lacks.0))
 one_refusal_of_words words before after ended one other (inr (inr a)) (inr (inl lacks)) = inr (inr (inl lacks.0))
-one_refusal_of_words words before after ended one other (inl told) (inl also) = inl (same_refusal words one other told.0 also.0)
+one_refusal_of_words words before after ended one other (inl told) (inl also) =
+    inl (record { told = same_refusal words one other told.0 also.0; left = inl (told.1 ∙ sym also.1) })
 one_refusal_of_words words before after ended one other (inl told) (inr (inr b)) = absurd (not_both words b.request one b.asked told.0)
 one_refusal_of_words words before after ended one other (inr (inr a)) (inl told) = absurd (not_both words a.request other a.asked told.0)
 one_refusal_of_words words before after ended one other (inr (inr a)) (inr (inr b)) =
     of_requests (two_requests words before after ended one other a b)
   where
-    of_requests : (one ≡ other) ⊎ RefusesFromOutside a.request one ⊎ RefusesFromOutside a.request other
-        → (one ≡ other) ⊎ IsRefusedFromOutside words one ⊎ IsRefusedFromOutside words other
+    of_requests : AreOneEnd one other after ended ⊎ RefusesFromOutside a.request one ⊎ RefusesFromOutside a.request other
+        → AreOneEnd one other after ended ⊎ IsRefusedFromOutside words one ⊎ IsRefusedFromOutside words other
     of_requests (inl same) = inl same
     of_requests (inr (inl outside)) = inr (inl (inr (record { request = a.request; asked = a.asked; outside = outside })))
     of_requests (inr (inr outside)) = inr (inr (inr (record { request = a.request; asked = a.asked; outside = outside })))

@@ -1,46 +1,27 @@
 -- Why a file is refused before its text is looked at.
-use Rattle.std.proofs.Common.{◌≡◌, ℕ, ◌<◌, ◌≤◌, List, [], ◌∷◌, ◌++◌, length, take, map, Bool, not, ◌||◌, true, false, arith, refl, ap, ap₂, sym, subst, ◌∙◌, length-take}
-use Rattle.std.specs.Prelude.{◌==◌, Option, Some, None, nat_lt, option_map, slice_index}
+use Rattle.std.proofs.Common.{◌≡◌, ℕ, ◌<◌, ◌≤◌, List, [], ◌∷◌, length, take, Bool, not, true, false, arith, refl, ap, ap₂, sym, subst, ◌∙◌, length-take}
+use Rattle.std.specs.Prelude.{◌==◌, Option, Some, None, nat_lt, option_map, slice_index, if◌then◌else◌}
+use Rattle.std.specs.Option.{option_or}
 use Rattle.std.specs.Cmp.Lexicographic.{bytes_decides}
 use Rattle.std.proofs.lemmas.Bool.Decides.{nat_tests}
 use Rattle.std.proofs.lemmas.List.{take-take}
 use Rattle.macs.specs.HmacSha256.{hmac_sha256}
-use Rattle.romix.specs.Costs.{FitsMemory, IsInRange, Parameters, cores, parts_bytes, table_bytes}
-use Rattle.romix.specs.Faults.{limit_fault}
+use Rattle.romix.specs.Allowance.{Admits, Allowance, with_keep_of}
+use Rattle.romix.specs.Costs.{IsInRange, Parameters, parts_bytes}
+use Rattle.romix.specs.Faults.{exceeds_work, is_keep_above_n, keep_fault, sparse_limit_fault}
 use Rattle.romix.specs.FirstOf.{first_of}
-use Rattle.romix.specs.declared.fault.CostFault.{CostFault}
-use Rattle.romix.specs.declared.fault.CostFault.TheVariants.{Memory, Work}
-use Rattle.encfile.specs.Header.{bytes_at, costs_of, has_magic, has_right_checksum, salt_of}
+use Rattle.romix.specs.SparseCosts.{is_keep, sparse_table_bytes}
+use Rattle.romix.specs.declared.fault.CostFault.TheVariants as fault
+use Rattle.encfile.specs.Header.{bytes_at, costs_of, has_magic, salt_of}
 use Rattle.encfile.specs.HeaderFaults.{are_out_of_range, header_fault}
 use Rattle.encfile.specs.EncryptedFile.{HasRightHeaderCode, code_key, encrypted_file, right_header_code}
-use Rattle.encfile.specs.Front.{FrontRefusal, code_tests, format_refusal, format_tests, front_refusal, has_right_header_code, header_refusal, limit_refusal, limit_tests, limits_refusal}
-use Rattle.encfile.specs.Front.FrontRefusal.{NotScryptData, OtherPassphrase}
+use Rattle.encfile.specs.Front.{FrontRefusal, costs_refusal, format_refusal, front_refusal, has_right_header_code, header_refusal, limits_refusal}
+use Rattle.encfile.specs.Front.FrontRefusal.{KeepAboveN, NotScryptData, OtherPassphrase, TooMuchMemory, TooMuchWork}
 use Rattle.encfile.specs.Laws.{IsDecidedByCalls, IsDecidedInOrder}
 use Rattle.encfile.specs.declared.fault.HeaderFault.{HeaderFault}
-use Rattle.encfile.specs.declared.fault.HeaderFault.TheVariants.{Magic, Version, Checksum, CostsOutOfRange}
 use Rattle.encfile.proofs.Files.{HasRightHeaderCode-encrypted_file, checksum-encrypted_file, costs_of-encrypted_file, encrypted_file-front, length-encrypted_file}
 use Rattle.encfile.proofs.Headers.{costs_of-take, header_fault-take}
 use Rattle.encfile.proofs.Pieces.{bytes_at-take}
-
--- ---- the first that holds of tests
-
--- the first answer, or else the second
-abbrev or_else : {A : Type 0} → Option A → Option A → Option A
-or_else None y = y
-or_else (Some x) y = Some x
-
--- of two lists of tests
-first_of-append : {A : Type 0} (tests more : List (Bool × A)) → first_of (tests ++ more) ≡ or_else (first_of tests) (first_of more)
-first_of-append [] more = refl
-first_of-append ((true, x) ∷ tests) more = refl
-first_of-append ((false, x) ∷ tests) more = first_of-append tests more
-
--- of tests whose faults come to refusals
-first_of-map : {A B : Type 0} (refusal : A → B) (tests : List (Bool × A))
-    → first_of (map (λ (t : Bool × A). (t.0, refusal t.1)) tests) ≡ option_map refusal (first_of tests)
-first_of-map refusal [] = refl
-first_of-map refusal ((true, x) ∷ tests) = refl
-first_of-map refusal ((false, x) ∷ tests) = first_of-map refusal tests
 
 -- ---- why a file has no header
 
@@ -50,20 +31,12 @@ format_refusal-short file h =
     let short : nat_lt (length file) 96 ≡ true = grind (arith, nat_tests) in
     rw short refl
 
-abbrev header_tests : List ℕ → List (Bool × HeaderFault)
-header_tests file =
-    (not (has_magic file), Magic)
-    ∷ (not (slice_index file 6 == 0), Version)
-    ∷ (not (has_right_checksum file), Checksum)
-    ∷ (are_out_of_range (costs_of file), CostsOutOfRange)
-    ∷ []
-
 -- by what is told of the header
 format_refusal-fault : (file : List ℕ) → 96 ≤ length file → format_refusal file ≡ option_map header_refusal (header_fault file)
-unfolding format_refusal header_refusal
+unfolding format_refusal
 format_refusal-fault file h =
     let long : nat_lt (length file) 96 ≡ false = grind (arith, nat_tests) in
-    rw long (first_of-map header_refusal (header_tests file))
+    rw long refl
 
 -- by what `Header::read` tells of the first 64 bytes
 pub format_refusal-header : (file : List ℕ) → 96 ≤ length file → format_refusal file ≡ option_map header_refusal (header_fault (take 64 file))
@@ -75,75 +48,120 @@ format_refusal-take file long =
     format_refusal-fault (take 96 file) (omega (arith, long, length-take 96 file))
     ∙ ap (option_map header_refusal) (header_fault-take 96 file (omega arith)) ∙ sym (format_refusal-fault file long)
 
--- ---- why limits refuse it
+-- ---- what `Sparse::new` and `Sparse::admitted` tell of costs
 
-abbrev cost_tests : Parameters → ℕ → ℕ → List (Bool × CostFault)
-cost_tests costs max_bytes max_ops =
-    (nat_lt max_bytes (table_bytes costs) || nat_lt max_bytes (parts_bytes costs), Memory)
-    ∷ (nat_lt max_ops (cores costs), Work)
-    ∷ []
+above_n : (kept above memory work : Bool) → first_of ((not kept, fault.Keep) ∷ (above, fault.KeepAboveN) ∷ []) ≡ Some fault.KeepAboveN
+    → first_of ((above, KeepAboveN) ∷ (memory, TooMuchMemory) ∷ (work, TooMuchWork) ∷ []) ≡ Some KeepAboveN
+above_n false above memory work h = cc
+above_n true false memory work h = cc
+above_n true true memory work h = refl
+
+not_above : (kept above : Bool) → first_of ((not kept, fault.Keep) ∷ (above, fault.KeepAboveN) ∷ []) ≡ None → above ≡ false
+not_above false above h = cc
+not_above true false h = refl
+not_above true true h = cc
+
+by_memory : (memory work : Bool) → first_of ((memory, fault.Memory) ∷ (work, fault.Work) ∷ []) ≡ Some fault.Memory → memory ≡ true
+by_memory true work h = refl
+by_memory false true h = cc
+by_memory false false h = cc
+
+by_work : (memory work : Bool) → first_of ((memory, fault.Memory) ∷ (work, fault.Work) ∷ []) ≡ Some fault.Work → (memory ≡ false) × (work ≡ true)
+by_work true work h = cc
+by_work false true h = (refl, refl)
+by_work false false h = cc
+
+by_none : (memory work : Bool) → first_of ((memory, fault.Memory) ∷ (work, fault.Work) ∷ []) ≡ None → (memory ≡ false) × (work ≡ false)
+by_none true work h = cc
+by_none false true h = cc
+by_none false false h = (refl, refl)
+
+pub costs_refusal-keep : (costs : Parameters) (allowed : Allowance) → keep_fault (with_keep_of allowed costs) ≡ Some fault.KeepAboveN
+    → costs_refusal costs allowed ≡ Some KeepAboveN
+costs_refusal-keep costs allowed told = above_n (is_keep allowed.keep) _ _ _ told
+
+pub costs_refusal-memory : (costs : Parameters) (allowed : Allowance) → keep_fault (with_keep_of allowed costs) ≡ None
+    → sparse_limit_fault (with_keep_of allowed costs) allowed.limits ≡ Some fault.Memory → costs_refusal costs allowed ≡ Some TooMuchMemory
+costs_refusal-memory costs allowed kept told = rw (not_above (is_keep allowed.keep) _ kept, by_memory _ _ told) refl
+
+pub costs_refusal-work : (costs : Parameters) (allowed : Allowance) → keep_fault (with_keep_of allowed costs) ≡ None
+    → sparse_limit_fault (with_keep_of allowed costs) allowed.limits ≡ Some fault.Work → costs_refusal costs allowed ≡ Some TooMuchWork
+costs_refusal-work costs allowed kept told =
+    let few = by_work _ _ told in
+    rw (not_above (is_keep allowed.keep) _ kept, few.0, few.1) refl
+
+pub costs_refusal-none : (costs : Parameters) (allowed : Allowance) → keep_fault (with_keep_of allowed costs) ≡ None
+    → sparse_limit_fault (with_keep_of allowed costs) allowed.limits ≡ None → costs_refusal costs allowed ≡ None
+costs_refusal-none costs allowed kept admitted =
+    let few = by_none _ _ admitted in
+    rw (not_above (is_keep allowed.keep) _ kept, few.0, few.1) refl
+
+-- costs that are admitted are not refused
+pub costs_refusal-admitted : (costs : Parameters) (allowed : Allowance) → Admits allowed costs → costs_refusal costs allowed ≡ None
+costs_refusal-admitted costs allowed h =
+    let keep : is_keep_above_n (with_keep_of allowed costs) ≡ false = grind (arith, nat_tests, h.keep) in
+    let table : nat_lt allowed.limits.max_bytes (sparse_table_bytes (with_keep_of allowed costs)) ≡ false = grind (arith, nat_tests, h.memory.table) in
+    let parts : nat_lt allowed.limits.max_bytes (parts_bytes costs) ≡ false = grind (arith, nat_tests, h.memory.parts) in
+    let work : exceeds_work (with_keep_of allowed costs) allowed.limits ≡ false = grind (arith, nat_tests, h.work) in
+    rw (keep, table, parts, work) refl
+
+-- ---- why its costs are not allowed
 
 -- by what is told of the costs
-limits_refusal-is : (file : List ℕ) (max_bytes max_ops : ℕ)
-    → limits_refusal file max_bytes max_ops ≡ or_else (format_refusal file) (option_map limit_refusal (limit_fault (costs_of file) max_bytes max_ops))
-unfolding format_refusal limits_refusal limit_refusal
-limits_refusal-is file max_bytes max_ops =
-    first_of-append (format_tests file) (limit_tests file max_bytes max_ops)
-    ∙ ap (or_else (first_of (format_tests file))) (first_of-map limit_refusal (cost_tests (costs_of file) max_bytes max_ops))
+limits_refusal-is : (file : List ℕ) (allowed : Allowance) → limits_refusal file allowed ≡ option_or (format_refusal file) (costs_refusal (costs_of file) allowed)
+unfolding limits_refusal
+limits_refusal-is file allowed = refl
 
 -- a file without a header
-pub limits_refusal-format : (file : List ℕ) (max_bytes max_ops : ℕ) (r : FrontRefusal) → format_refusal file ≡ Some r
-    → limits_refusal file max_bytes max_ops ≡ Some r
-limits_refusal-format file max_bytes max_ops r refused =
-    limits_refusal-is file max_bytes max_ops
-    ∙ ap (λ first. or_else first (option_map limit_refusal (limit_fault (costs_of file) max_bytes max_ops))) refused
+pub limits_refusal-format : (file : List ℕ) (allowed : Allowance) (r : FrontRefusal) → format_refusal file ≡ Some r → limits_refusal file allowed ≡ Some r
+limits_refusal-format file allowed r refused =
+    limits_refusal-is file allowed ∙ ap (λ first. option_or first (costs_refusal (costs_of file) allowed)) refused
 
 -- a file with a header
-pub limits_refusal-limits : (file : List ℕ) (max_bytes max_ops : ℕ) → format_refusal file ≡ None
-    → limits_refusal file max_bytes max_ops ≡ option_map limit_refusal (limit_fault (costs_of file) max_bytes max_ops)
-limits_refusal-limits file max_bytes max_ops valid =
-    limits_refusal-is file max_bytes max_ops
-    ∙ ap (λ first. or_else first (option_map limit_refusal (limit_fault (costs_of file) max_bytes max_ops))) valid
+pub limits_refusal-costs : (file : List ℕ) (allowed : Allowance) → format_refusal file ≡ None → limits_refusal file allowed ≡ costs_refusal (costs_of file) allowed
+limits_refusal-costs file allowed valid =
+    limits_refusal-is file allowed ∙ ap (λ first. option_or first (costs_refusal (costs_of file) allowed)) valid
 
-pub limits_refusal-take : (file : List ℕ) (max_bytes max_ops : ℕ) → 96 ≤ length file
-    → limits_refusal (take 96 file) max_bytes max_ops ≡ limits_refusal file max_bytes max_ops
-limits_refusal-take file max_bytes max_ops long =
-    limits_refusal-is (take 96 file) max_bytes max_ops
-    ∙ ap₂ (λ first (c : Parameters). or_else first (option_map limit_refusal (limit_fault c max_bytes max_ops)))
-    (format_refusal-take file long) (costs_of-take 96 file (omega arith))
-    ∙ sym (limits_refusal-is file max_bytes max_ops)
+pub limits_refusal-take : (file : List ℕ) (allowed : Allowance) → 96 ≤ length file → limits_refusal (take 96 file) allowed ≡ limits_refusal file allowed
+limits_refusal-take file allowed long =
+    limits_refusal-is (take 96 file) allowed
+    ∙ ap₂ (λ first (c : Parameters). option_or first (costs_refusal c allowed)) (format_refusal-take file long) (costs_of-take 96 file (omega arith))
+    ∙ sym (limits_refusal-is file allowed)
 
 -- ---- why it is refused under a passphrase
 
-front_refusal-is : (file : List ℕ) (max_bytes max_ops : ℕ) (passphrase : List ℕ)
-    → front_refusal file max_bytes max_ops passphrase ≡ or_else (limits_refusal file max_bytes max_ops) (first_of (code_tests file passphrase))
-unfolding limits_refusal front_refusal
-front_refusal-is file max_bytes max_ops passphrase =
-    first_of-append (format_tests file ++ limit_tests file max_bytes max_ops) (code_tests file passphrase)
+-- the refusal by the header's code
+abbrev code_refusal : List ℕ → List ℕ → Option FrontRefusal
+code_refusal file passphrase = if has_right_header_code file passphrase then None else Some OtherPassphrase
+
+front_refusal-is : (file : List ℕ) (allowed : Allowance) (passphrase : List ℕ)
+    → front_refusal file allowed passphrase ≡ option_or (limits_refusal file allowed) (code_refusal file passphrase)
+unfolding front_refusal
+front_refusal-is file allowed passphrase = refl
 
 -- whatever the passphrase
-pub front_refusal-limits : (file : List ℕ) (max_bytes max_ops : ℕ) (passphrase : List ℕ) (r : FrontRefusal)
-    → limits_refusal file max_bytes max_ops ≡ Some r → front_refusal file max_bytes max_ops passphrase ≡ Some r
-front_refusal-limits file max_bytes max_ops passphrase r refused =
-    front_refusal-is file max_bytes max_ops passphrase ∙ ap (λ first. or_else first (first_of (code_tests file passphrase))) refused
+pub front_refusal-limits : (file : List ℕ) (allowed : Allowance) (passphrase : List ℕ) (r : FrontRefusal)
+    → limits_refusal file allowed ≡ Some r → front_refusal file allowed passphrase ≡ Some r
+front_refusal-limits file allowed passphrase r refused =
+    front_refusal-is file allowed passphrase ∙ ap (λ first. option_or first (code_refusal file passphrase)) refused
 
-front_refusal-code : (file : List ℕ) (max_bytes max_ops : ℕ) (passphrase : List ℕ) → limits_refusal file max_bytes max_ops ≡ None
-    → front_refusal file max_bytes max_ops passphrase ≡ first_of (code_tests file passphrase)
-front_refusal-code file max_bytes max_ops passphrase admitted =
-    front_refusal-is file max_bytes max_ops passphrase ∙ ap (λ first. or_else first (first_of (code_tests file passphrase))) admitted
+front_refusal-code : (file : List ℕ) (allowed : Allowance) (passphrase : List ℕ) → limits_refusal file allowed ≡ None
+    → front_refusal file allowed passphrase ≡ code_refusal file passphrase
+front_refusal-code file allowed passphrase admitted =
+    front_refusal-is file allowed passphrase ∙ ap (λ first. option_or first (code_refusal file passphrase)) admitted
 
 false_where_not : (b : Bool) (Fact : Type 0) → (b ≡ true → Fact) → (Fact → ⊥) → b ≡ false
 false_where_not true Fact told h = absurd (h (told refl))
 false_where_not false Fact told h = refl
 
-code_tests-wrong : (file passphrase : List ℕ) → (HasRightHeaderCode file passphrase → ⊥) → first_of (code_tests file passphrase) ≡ Some OtherPassphrase
-code_tests-wrong file passphrase h =
+code_refusal-wrong : (file passphrase : List ℕ) → (HasRightHeaderCode file passphrase → ⊥) → code_refusal file passphrase ≡ Some OtherPassphrase
+code_refusal-wrong file passphrase h =
     let wrong : has_right_header_code file passphrase ≡ false =
     false_where_not (has_right_header_code file passphrase) (HasRightHeaderCode file passphrase) (bytes_decides _ _).0 h in
     rw wrong refl
 
-code_tests-right : (file passphrase : List ℕ) → HasRightHeaderCode file passphrase → first_of (code_tests file passphrase) ≡ None
-code_tests-right file passphrase h =
+code_refusal-right : (file passphrase : List ℕ) → HasRightHeaderCode file passphrase → code_refusal file passphrase ≡ None
+code_refusal-right file passphrase h =
     let right : has_right_header_code file passphrase ≡ true = (bytes_decides _ _).1 h in
     rw right refl
 
@@ -158,57 +176,62 @@ code-take : (file : List ℕ) → bytes_at (take 96 file) 64 32 ≡ bytes_at fil
 code-take file = bytes_at-take 96 64 32 file (omega arith)
 
 -- limits admit the file, and its code is the passphrase's
-pub front_refusal-right : (file : List ℕ) (max_bytes max_ops : ℕ) (passphrase : List ℕ) → 96 ≤ length file → limits_refusal file max_bytes max_ops ≡ None
-    → HasRightHeaderCode (take 96 file) passphrase → front_refusal file max_bytes max_ops passphrase ≡ None
-front_refusal-right file max_bytes max_ops passphrase long admitted right =
-    front_refusal-code file max_bytes max_ops passphrase admitted
-    ∙ code_tests-right file passphrase (sym (code-take file) ∙ right ∙ right_header_code-take file passphrase)
+pub front_refusal-right : (file : List ℕ) (allowed : Allowance) (passphrase : List ℕ) → 96 ≤ length file → limits_refusal file allowed ≡ None
+    → HasRightHeaderCode (take 96 file) passphrase → front_refusal file allowed passphrase ≡ None
+front_refusal-right file allowed passphrase long admitted right =
+    front_refusal-code file allowed passphrase admitted
+    ∙ code_refusal-right file passphrase (sym (code-take file) ∙ right ∙ right_header_code-take file passphrase)
 
 -- and its code isn't
-pub front_refusal-wrong : (file : List ℕ) (max_bytes max_ops : ℕ) (passphrase : List ℕ) → 96 ≤ length file → limits_refusal file max_bytes max_ops ≡ None
-    → (HasRightHeaderCode (take 96 file) passphrase → ⊥) → front_refusal file max_bytes max_ops passphrase ≡ Some OtherPassphrase
-front_refusal-wrong file max_bytes max_ops passphrase long admitted wrong =
-    front_refusal-code file max_bytes max_ops passphrase admitted
-    ∙ code_tests-wrong file passphrase (λ right. wrong (code-take file ∙ right ∙ sym (right_header_code-take file passphrase)))
+pub front_refusal-wrong : (file : List ℕ) (allowed : Allowance) (passphrase : List ℕ) → 96 ≤ length file → limits_refusal file allowed ≡ None
+    → (HasRightHeaderCode (take 96 file) passphrase → ⊥) → front_refusal file allowed passphrase ≡ Some OtherPassphrase
+front_refusal-wrong file allowed passphrase long admitted wrong =
+    front_refusal-code file allowed passphrase admitted
+    ∙ code_refusal-wrong file passphrase (λ right. wrong (code-take file ∙ right ∙ sym (right_header_code-take file passphrase)))
 
 -- ---- what is stated as laws
 
-pub front_refusal-short : (file : List ℕ) (max_bytes max_ops : ℕ) (passphrase : List ℕ) → length file < 96
-    → front_refusal file max_bytes max_ops passphrase ≡ Some NotScryptData
-front_refusal-short file max_bytes max_ops passphrase short =
-    front_refusal-limits file max_bytes max_ops passphrase NotScryptData
-    (limits_refusal-format file max_bytes max_ops NotScryptData (format_refusal-short file short))
+pub front_refusal-short : (file : List ℕ) (allowed : Allowance) (passphrase : List ℕ) → length file < 96
+    → front_refusal file allowed passphrase ≡ Some NotScryptData
+front_refusal-short file allowed passphrase short =
+    front_refusal-limits file allowed passphrase NotScryptData
+    (limits_refusal-format file allowed NotScryptData (format_refusal-short file short))
 
 -- in what order the tests refuse
-pub front_refusal-order : (file : List ℕ) (max_bytes max_ops : ℕ) (passphrase : List ℕ) → IsDecidedInOrder file max_bytes max_ops passphrase
-front_refusal-order file max_bytes max_ops passphrase = record {
-  format = limits_refusal-format file max_bytes max_ops;
-  limits = front_refusal-limits file max_bytes max_ops passphrase;
-  wrong = λ admitted wrong. front_refusal-code file max_bytes max_ops passphrase admitted ∙ code_tests-wrong file passphrase wrong;
-  right = λ admitted right. front_refusal-code file max_bytes max_ops passphrase admitted ∙ code_tests-right file passphrase right;
+pub front_refusal-order : (file : List ℕ) (allowed : Allowance) (passphrase : List ℕ) → IsDecidedInOrder file allowed passphrase
+front_refusal-order file allowed passphrase = record {
+  format = limits_refusal-format file allowed;
+  limits = front_refusal-limits file allowed passphrase;
+  wrong = λ admitted wrong. front_refusal-code file allowed passphrase admitted ∙ code_refusal-wrong file passphrase wrong;
+  right = λ admitted right. front_refusal-code file allowed passphrase admitted ∙ code_refusal-right file passphrase right;
 }
 
 -- what refuses a file of 96 bytes or more, by its first 96 bytes
-pub front_refusal-calls : (file : List ℕ) (max_bytes max_ops : ℕ) (passphrase front : List ℕ) → 96 ≤ length file → front ≡ take 96 file
-    → IsDecidedByCalls file max_bytes max_ops passphrase front
-front_refusal-calls file max_bytes max_ops passphrase front long same =
+pub front_refusal-calls : (file : List ℕ) (allowed : Allowance) (passphrase front : List ℕ) → 96 ≤ length file → front ≡ take 96 file
+    → IsDecidedByCalls file allowed passphrase front
+front_refusal-calls file allowed passphrase front long same =
     let first : take 64 front ≡ take 64 file = ap (take 64) same ∙ take-take 64 96 file (omega arith) in
     let format : format_refusal file ≡ option_map header_refusal (header_fault (take 64 front)) =
     format_refusal-header file long ∙ ap (λ f. option_map header_refusal (header_fault f)) (sym first) in
     let costs : costs_of file ≡ costs_of (take 64 front) = sym (ap costs_of first ∙ costs_of-take 64 file (omega arith)) in
-    let limits : (valid : header_fault (take 64 front) ≡ None)
-    → limits_refusal file max_bytes max_ops ≡ option_map limit_refusal (limit_fault (costs_of (take 64 front)) max_bytes max_ops) =
-    λ valid. limits_refusal-limits file max_bytes max_ops (format ∙ ap (option_map header_refusal) valid)
-    ∙ ap (λ (c : Parameters). option_map limit_refusal (limit_fault c max_bytes max_ops)) costs in
+    let limits : (told : Option FrontRefusal) → header_fault (take 64 front) ≡ None → costs_refusal (costs_of (take 64 front)) allowed ≡ told
+    → limits_refusal file allowed ≡ told =
+    λ told valid is. limits_refusal-costs file allowed (format ∙ ap (option_map header_refusal) valid) ∙ ap (λ (c : Parameters). costs_refusal c allowed) costs ∙ is in
     record {
-      header = λ fault told. front_refusal-limits file max_bytes max_ops passphrase (header_refusal fault)
-          (limits_refusal-format file max_bytes max_ops (header_refusal fault) (format ∙ ap (option_map header_refusal) told));
-      limits = λ fault valid told. front_refusal-limits file max_bytes max_ops passphrase (limit_refusal fault)
-          (limits valid ∙ ap (option_map limit_refusal) told);
-      wrong = λ valid admitted wrong. front_refusal-wrong file max_bytes max_ops passphrase long
-          (limits valid ∙ ap (option_map limit_refusal) admitted) (λ right. wrong (subst (λ f. HasRightHeaderCode f passphrase) (sym same) right));
-      right = λ valid admitted right. front_refusal-right file max_bytes max_ops passphrase long
-          (limits valid ∙ ap (option_map limit_refusal) admitted) (subst (λ f. HasRightHeaderCode f passphrase) same right);
+      header = λ fault told. front_refusal-limits file allowed passphrase (header_refusal fault)
+          (limits_refusal-format file allowed (header_refusal fault) (format ∙ ap (option_map header_refusal) told));
+      keep = λ valid told. front_refusal-limits file allowed passphrase KeepAboveN
+          (limits (Some KeepAboveN) valid (costs_refusal-keep (costs_of (take 64 front)) allowed told));
+      memory = λ valid kept told. front_refusal-limits file allowed passphrase TooMuchMemory
+          (limits (Some TooMuchMemory) valid (costs_refusal-memory (costs_of (take 64 front)) allowed kept told));
+      work = λ valid kept told. front_refusal-limits file allowed passphrase TooMuchWork
+          (limits (Some TooMuchWork) valid (costs_refusal-work (costs_of (take 64 front)) allowed kept told));
+      wrong = λ valid kept admitted wrong. front_refusal-wrong file allowed passphrase long
+          (limits None valid (costs_refusal-none (costs_of (take 64 front)) allowed kept admitted))
+          (λ right. wrong (subst (λ f. HasRightHeaderCode f passphrase) (sym same) right));
+      right = λ valid kept admitted right. front_refusal-right file allowed passphrase long
+          (limits None valid (costs_refusal-none (costs_of (take 64 front)) allowed kept admitted))
+          (subst (λ f. HasRightHeaderCode f passphrase) same right);
     }
 
 -- ---- the file of a text
@@ -220,13 +243,6 @@ four_pass b0 b1 b2 b3 r0 r1 r2 r3 h0 h1 h2 h3 = rw (h0, h1, h2, h3) refl
 are_out_of_range-false : (costs : Parameters) → IsInRange costs → are_out_of_range costs ≡ false
 are_out_of_range-false costs h = grind (arith, nat_tests, h.log_n_low, h.log_n_high, h.r_low, h.p_low, h.product)
 
-limit_fault-none : (costs : Parameters) (max_bytes max_ops : ℕ) → FitsMemory costs max_bytes → cores costs ≤ max_ops → limit_fault costs max_bytes max_ops ≡ None
-limit_fault-none costs max_bytes max_ops fits few =
-    let table : nat_lt max_bytes (table_bytes costs) ≡ false = grind (arith, nat_tests, fits.table) in
-    let parts : nat_lt max_bytes (parts_bytes costs) ≡ false = grind (arith, nat_tests, fits.parts) in
-    let work : nat_lt max_ops (cores costs) ≡ false = grind (arith, nat_tests, few) in
-    rw (table, parts, work) refl
-
 header_fault-encrypted_file : (passphrase salt : List ℕ) (costs : Parameters) (text : List ℕ) → length salt ≡ 32 → IsInRange costs
     → header_fault (encrypted_file passphrase salt costs text) ≡ None
 header_fault-encrypted_file passphrase salt costs text long range =
@@ -235,16 +251,15 @@ header_fault-encrypted_file passphrase salt costs text long range =
     ((bytes_decides _ _).1 (checksum-encrypted_file passphrase salt costs text long))
     (ap are_out_of_range (costs_of-encrypted_file passphrase salt costs text range) ∙ are_out_of_range-false costs range)
 
--- it isn't refused where the limits admit its costs
-pub front_refusal-encrypted_file : (passphrase salt : List ℕ) (costs : Parameters) (text : List ℕ) (max_bytes max_ops : ℕ) → length salt ≡ 32
-    → IsInRange costs → FitsMemory costs max_bytes → cores costs ≤ max_ops
-    → front_refusal (encrypted_file passphrase salt costs text) max_bytes max_ops passphrase ≡ None
-front_refusal-encrypted_file passphrase salt costs text max_bytes max_ops long range fits few =
+-- it isn't refused where its costs are admitted
+pub front_refusal-encrypted_file : (passphrase salt : List ℕ) (costs : Parameters) (text : List ℕ) (allowed : Allowance) → length salt ≡ 32
+    → IsInRange costs → Admits allowed costs → front_refusal (encrypted_file passphrase salt costs text) allowed passphrase ≡ None
+front_refusal-encrypted_file passphrase salt costs text allowed long range admits =
     let file : List ℕ = encrypted_file passphrase salt costs text in
     let len = length-encrypted_file passphrase salt costs text long in
     let valid : format_refusal file ≡ None =
     format_refusal-fault file (omega (arith, len)) ∙ ap (option_map header_refusal) (header_fault-encrypted_file passphrase salt costs text long range) in
-    let admitted : limit_fault (costs_of file) max_bytes max_ops ≡ None =
-    ap (λ (c : Parameters). limit_fault c max_bytes max_ops) (costs_of-encrypted_file passphrase salt costs text range) ∙ limit_fault-none costs max_bytes max_ops fits few in
-    front_refusal-code file max_bytes max_ops passphrase (limits_refusal-limits file max_bytes max_ops valid ∙ ap (option_map limit_refusal) admitted)
-    ∙ code_tests-right file passphrase (HasRightHeaderCode-encrypted_file passphrase salt costs text long range)
+    let admitted : costs_refusal (costs_of file) allowed ≡ None =
+    ap (λ (c : Parameters). costs_refusal c allowed) (costs_of-encrypted_file passphrase salt costs text range) ∙ costs_refusal-admitted costs allowed admits in
+    front_refusal-code file allowed passphrase (limits_refusal-costs file allowed valid ∙ admitted)
+    ∙ code_refusal-right file passphrase (HasRightHeaderCode-encrypted_file passphrase salt costs text long range)

@@ -5,3 +5,4 @@ pub mod Front
 pub mod Header
 pub mod HeaderFaults
 pub mod Laws
+pub mod Vectors

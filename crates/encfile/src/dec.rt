@@ -1,6 +1,8 @@
 //! Decryption in pieces.
-ghost use Rattle.std.specs.Prelude.{◌≡◌, ℕ, ◌+◌, ◌-◌, ◌^◌, ◌<◌, ◌≤◌, ◌++◌, List, [], length, take, IfOk, OnOk, OnErr};
+ghost use Rattle.std.specs.Prelude.{◌≡◌, ℕ, ◌+◌, ◌-◌, ◌*◌, ◌^◌, ◌<◌, ◌≤◌, ◌++◌, List, [], length, take, IfOk, OnOk, OnErr};
 ghost use Rattle.romix.specs.Costs.{cores};
+ghost use Rattle.romix.specs.Sparse.{sparse_cores};
+ghost use Rattle.romix.specs.SparseCosts.{cores_bound};
 ghost use Rattle.encfile.specs.Header.{IsHeaderOf};
 ghost use Rattle.encfile.specs.EncryptedFile.{HasRightHeaderCode, IsEncryptionOf, released_text};
 ghost use Rattle.encfile.specs.Encrypting.{FitsSha256};
@@ -46,8 +48,8 @@ impl Dec {
 
     /// Begins to read the file of these first 96 bytes, of which the first 64 were read as this
     /// header; or tells that bytes 64 to 95 are not right under the passphrase. The keys are
-    /// derived in the workspace, which was reserved for the header's costs, in 4 * N * r * p ticks,
-    /// whatever the answer.
+    /// derived in the workspace, which was reserved for the header's costs, whatever its S, in as
+    /// many ticks as `Workspace::derive` says, whatever the answer.
     pub fn open(
         front: &[u8; 96],
         header: Header,
@@ -56,13 +58,15 @@ impl Dec {
         ticks: &mut Ticks,
     ) -> Result<Dec, WrongPassphrase>
         requires header { IsHeaderOf (take 64 front.now) header }
-        requires workspace { workspace.old.costs ≡ header.costs }
+        requires workspace { workspace.old.sparse.costs ≡ header.costs }
         ensures opened { IfOk result (λ dec. HasRead dec passphrase.now front.now) }
         ensures nothing { OnOk result (released_text front.now passphrase.now ≡ []) }
         ensures right { OnOk result (HasRightHeaderCode front.now passphrase.now) }
         ensures wrong { OnErr result (HasRightHeaderCode front.now passphrase.now → ⊥) }
         ensures memory { workspace.new ≡ workspace.old }
-        ensures count { ticks.new ≡ ticks.old + cores header.costs }
+        ensures count { ticks.new ≡ ticks.old + sparse_cores passphrase.now header.salt workspace.old.sparse }
+        ensures bound { ticks.new ≤ ticks.old + cores_bound workspace.old.sparse }
+        ensures whole { workspace.old.sparse.keep ≡ 1 → ticks.new ≡ ticks.old + cores header.costs }
     {
         let keys = derived_key(passphrase, header.salt(), workspace, ticks);
         if !are_same(&front[64..], &header_code(&keys, &front[..64])) {

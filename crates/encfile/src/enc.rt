@@ -1,7 +1,9 @@
 //! Encryption in pieces.
-ghost use Rattle.std.specs.Prelude.{◌≡◌, ℕ, ◌+◌, ◌^◌, ◌<◌, ◌≤◌, ◌++◌, List, [], length, drop, OnOk, OnErr};
+ghost use Rattle.std.specs.Prelude.{◌≡◌, ℕ, ◌+◌, ◌*◌, ◌^◌, ◌<◌, ◌≤◌, ◌++◌, List, [], length, drop, OnOk, OnErr};
 ghost use Rattle.macs.specs.HmacSha256.{hmac_sha256};
 ghost use Rattle.romix.specs.Costs.{IsInRange, Parameters, cores};
+ghost use Rattle.romix.specs.Sparse.{sparse_cores};
+ghost use Rattle.romix.specs.SparseCosts.{cores_bound};
 ghost use Rattle.encfile.specs.Header.{header};
 ghost use Rattle.encfile.specs.EncryptedFile.{body, encrypted_file, head};
 ghost use Rattle.encfile.specs.Encrypting.{Encrypts, FitsSha256, HasEncrypted};
@@ -52,7 +54,8 @@ impl Enc {
     }
 
     /// Begins the encryption of a text. The keys are derived from the passphrase and the salt in
-    /// the workspace, which was reserved for these costs, in 4 * N * r * p ticks.
+    /// the workspace, which was reserved for these costs, whatever its S, in as many ticks as
+    /// `Workspace::derive` says.
     pub fn start(
         costs: &Costs,
         salt: &[u8; 32],
@@ -60,10 +63,12 @@ impl Enc {
         workspace: &mut Workspace,
         ticks: &mut Ticks,
     ) -> Enc
-        requires workspace { workspace.old.costs ≡ costs.now }
+        requires workspace { workspace.old.sparse.costs ≡ costs.now }
         ensures begun { HasEncrypted result passphrase.now salt.now costs.now [] }
         ensures memory { workspace.new ≡ workspace.old }
-        ensures count { ticks.new ≡ ticks.old + cores costs.now }
+        ensures count { ticks.new ≡ ticks.old + sparse_cores passphrase.now salt.now workspace.old.sparse }
+        ensures bound { ticks.new ≤ ticks.old + cores_bound workspace.old.sparse }
+        ensures whole { workspace.old.sparse.keep ≡ 1 → ticks.new ≡ ticks.old + cores costs.now }
     {
         let keys = derived_key(passphrase, salt, workspace, ticks);
         Enc::with_keys(head(costs, salt, &keys), &keys)

@@ -1,6 +1,7 @@
 //! Laws of the definitions: each function has no body, and its clause is the law.
 ghost use Rattle.std.specs.Prelude.{◌≡◌, ℕ, ◌+◌, ◌^◌, ◌<◌, ◌≤◌, List, length, take, Some, None};
-ghost use Rattle.romix.specs.Costs.{FitsMemory, IsInRange, Parameters, cores};
+ghost use Rattle.romix.specs.Allowance.{Admits, Allowance};
+ghost use Rattle.romix.specs.Costs.{IsInRange, Parameters};
 ghost use Rattle.encfile.specs.EncryptedFile.{encrypted_file};
 ghost use Rattle.encfile.specs.Front.{front_refusal};
 ghost use Rattle.encfile.specs.Front.FrontRefusal.{NotScryptData};
@@ -20,31 +21,29 @@ fn length_of_file()
         → length (encrypted_file passphrase salt costs text) ≡ 128 + length text }
 {}
 
-// It isn't refused by limits that admit its costs.
+// It isn't refused where its costs are admitted, whatever S is.
 fn file_is_not_refused()
-    ensures none { (passphrase salt : List ℕ) (costs : Parameters) (text : List ℕ)
-        (max_bytes max_ops : ℕ)
-        → length salt ≡ 32 → IsInRange costs → FitsMemory costs max_bytes → cores costs ≤ max_ops
-        → front_refusal (encrypted_file passphrase salt costs text) max_bytes max_ops passphrase
-        ≡ None }
+    ensures none { (passphrase salt : List ℕ) (costs : Parameters) (text : List ℕ) (allowed : Allowance)
+        → length salt ≡ 32 → IsInRange costs → Admits allowed costs
+        → front_refusal (encrypted_file passphrase salt costs text) allowed passphrase ≡ None }
 {}
 
 // A file of fewer than 96 bytes is refused.
 fn short_file_is_refused()
-    ensures short { (file : List ℕ) (max_bytes max_ops : ℕ) (passphrase : List ℕ)
-        → length file < 96 → front_refusal file max_bytes max_ops passphrase ≡ Some NotScryptData }
+    ensures short { (file : List ℕ) (allowed : Allowance) (passphrase : List ℕ)
+        → length file < 96 → front_refusal file allowed passphrase ≡ Some NotScryptData }
 {}
 
-// Any other is refused by what `Header::read`, `Costs::admitted` and `Dec::open` tell of its first
-// 96 bytes.
+// Any other is refused by what `Header::read`, `Sparse::new`, `Sparse::admitted` and `Dec::open`
+// tell of its first 96 bytes.
 fn front_is_decided_by_calls()
-    ensures decided { (file : List ℕ) (max_bytes max_ops : ℕ) (passphrase front : List ℕ)
+    ensures decided { (file : List ℕ) (allowed : Allowance) (passphrase front : List ℕ)
         → 96 ≤ length file → front ≡ take 96 file
-        → IsDecidedByCalls file max_bytes max_ops passphrase front }
+        → IsDecidedByCalls file allowed passphrase front }
 {}
 
-// What limits refuse is refused under each passphrase, and the rest by its header's code.
+// What is refused whatever the passphrase is refused under each, and the rest by its header's code.
 fn front_is_decided_in_order()
-    ensures decided { (file : List ℕ) (max_bytes max_ops : ℕ) (passphrase : List ℕ)
-        → IsDecidedInOrder file max_bytes max_ops passphrase }
+    ensures decided { (file : List ℕ) (allowed : Allowance) (passphrase : List ℕ)
+        → IsDecidedInOrder file allowed passphrase }
 {}

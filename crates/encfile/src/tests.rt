@@ -1,10 +1,10 @@
 //! Files of worked rows, of the usual program and of an independent one, in pieces of several sizes.
 ghost use Rattle.std.specs.Prelude.{◌≡◌, ◌≤◌, ◌^◌, length, take, IfOk};
-ghost use Rattle.romix.specs.Costs.{FitsMemory};
+ghost use Rattle.romix.specs.SparseCosts.{SparseFitsMemory};
 ghost use Rattle.encfile.specs.Header.{IsHeaderOf};
 
 use crate::{Dec, Enc, Header, HeaderFault};
-use romix::{Costs, Limits, Ticks, Workspace};
+use romix::{Costs, Limits, Sparse, Ticks, Workspace};
 use std::test::Fail;
 
 // Sizes of pieces; the last is more than any file here has.
@@ -123,21 +123,25 @@ fn first_of(front: &[u8; 96]) -> [u8; 64]
     first
 }
 
-// The header of a file, if it has one whose costs are small.
-fn header_of(front: &[u8; 96]) -> Result<Header, Outcome>
-    ensures header { IfOk result (λ header. IsHeaderOf (take 64 front.now) header) }
-    ensures memory { IfOk result (λ header. FitsMemory header.costs (2 ^ 40)) }
+// The header of a file, if it has one whose costs are small, and its costs with every `keep`-th row kept.
+fn header_of(front: &[u8; 96], keep: u64) -> Result<(Header, Sparse), Outcome>
+    ensures header { IfOk result (λ read. IsHeaderOf (take 64 front.now) read.0) }
+    ensures costs { IfOk result (λ read. read.1.costs ≡ read.0.costs) }
+    ensures memory { IfOk result (λ read. SparseFitsMemory read.1 (2 ^ 40)) }
 {
     let limits = Limits {
         max_bytes: 1 << 21,
-        max_ops: 1 << 16,
+        max_ops: 1 << 26,
     };
-    match Header::read(&first_of(front)) {
-        Err(_) => Err(Outcome::NoHeader),
-        Ok(header) => match header.costs().admitted(&limits) {
-            Err(_) => Err(Outcome::NotAdmitted),
-            Ok(()) => Ok(header),
-        },
+    let Ok(header) = Header::read(&first_of(front)) else {
+        return Err(Outcome::NoHeader);
+    };
+    let Ok(sparse) = Sparse::new(header.costs(), keep) else {
+        return Err(Outcome::NotAdmitted);
+    };
+    match sparse.admitted(&limits) {
+        Err(_) => Err(Outcome::NotAdmitted),
+        Ok(()) => Ok((header, sparse)),
     }
 }
 
@@ -148,16 +152,17 @@ fn encrypt_as(
     passphrase: &[u8],
     text: &[u8],
     size: usize,
+    keep: u64,
 ) -> Result<Vec<u8>, Fail> {
     let mut file = Vec::new(rt.alloc());
     if like.len() < 96 || size == 0 {
         return Ok(file);
     }
-    let header = match header_of(&front_of(like)) {
-        Ok(header) => header,
+    let (header, sparse) = match header_of(&front_of(like), keep) {
+        Ok(read) => read,
         Err(_) => return Ok(file),
     };
-    let mut workspace = Workspace::reserve(rt.alloc(), header.costs())?;
+    let mut workspace = Workspace::reserve(rt.alloc(), &sparse)?;
     let mut ticks = Ticks::new();
     let mut enc = Enc::start(
         header.costs(),
@@ -184,12 +189,13 @@ fn opened(
     rt: HostRuntime,
     front: &[u8; 96],
     passphrase: &[u8],
+    keep: u64,
 ) -> Result<Result<Dec, Outcome>, Fail> {
-    let header = match header_of(front) {
-        Ok(header) => header,
+    let (header, sparse) = match header_of(front, keep) {
+        Ok(read) => read,
         Err(outcome) => return Ok(Err(outcome)),
     };
-    let mut workspace = Workspace::reserve(rt.alloc(), header.costs())?;
+    let mut workspace = Workspace::reserve(rt.alloc(), &sparse)?;
     let mut ticks = Ticks::new();
     match Dec::open(front, header, passphrase, &mut workspace, &mut ticks) {
         Ok(dec) => Ok(Ok(dec)),
@@ -203,12 +209,13 @@ fn decrypt(
     file: &[u8],
     passphrase: &[u8],
     size: usize,
+    keep: u64,
 ) -> Result<(Vec<u8>, Outcome), Fail> {
     let mut text = Vec::new(rt.alloc());
     if file.len() < 96 || size == 0 {
         return Ok((text, Outcome::NoHeader));
     }
-    let mut dec = match opened(rt, &front_of(file), passphrase)? {
+    let mut dec = match opened(rt, &front_of(file), passphrase, keep)? {
         Ok(dec) => dec,
         Err(outcome) => return Ok((text, outcome)),
     };
@@ -259,9 +266,9 @@ const FILES: &[File] = &[
 fn files_are_those_of_other_programs(rt: HostRuntime) -> Result<(), Fail> {
     for file in FILES {
         for size in SIZES {
-            let made = encrypt_as(rt, file.bytes, file.passphrase, file.text, *size)?;
+            let made = encrypt_as(rt, file.bytes, file.passphrase, file.text, *size, 1)?;
             assert_eq!(rt; made.as_slice(), file.bytes);
-            let (text, outcome) = decrypt(rt, file.bytes, file.passphrase, *size)?;
+            let (text, outcome) = decrypt(rt, file.bytes, file.passphrase, *size, 1)?;
             assert_eq!(rt; outcome, Outcome::Whole);
             assert_eq!(rt; text.as_slice(), file.text);
         }
@@ -269,13 +276,36 @@ fn files_are_those_of_other_programs(rt: HostRuntime) -> Result<(), Fail> {
     Ok(())
 }
 
+// A file doesn't depend on how much of the table is kept while it is made, and opens whatever is.
+#[test]
+fn files_with_each_sparse_table(rt: HostRuntime) -> Result<(), Fail> {
+    for file in FILES {
+        for keep in [1u64, 2, 4, 8, 16] {
+            let made = encrypt_as(rt, file.bytes, file.passphrase, file.text, 200, keep)?;
+            assert_eq!(rt; made.as_slice(), file.bytes, "with {keep}");
+            let (text, outcome) = decrypt(rt, file.bytes, file.passphrase, 200, keep)?;
+            assert_eq!(rt; outcome, Outcome::Whole, "with {keep}");
+            assert_eq!(rt; text.as_slice(), file.text, "with {keep}");
+        }
+    }
+    for keep in [32u64, 64, 128, 256, 512, 1024] {
+        let (text, outcome) = decrypt(rt, DEBIAN_HELLO_FILE, b"pw", 200, keep)?;
+        assert_eq!(rt; outcome, Outcome::Whole, "with {keep}");
+        assert_eq!(rt; text.as_slice(), b"hello".as_slice(), "with {keep}");
+    }
+    // N is 16
+    let (_, outcome) = decrypt(rt, HELLO_FILE, b"pw", 200, 32)?;
+    assert_eq!(rt; outcome, Outcome::NotAdmitted);
+    Ok(())
+}
+
 #[test]
 fn file_of_a_passphrase_longer_than_a_block(rt: HostRuntime) -> Result<(), Fail> {
     let passphrase = [b'a'; 70];
     for size in SIZES {
-        let made = encrypt_as(rt, PYTHON_FILE, &passphrase, &TEXT[..45], *size)?;
+        let made = encrypt_as(rt, PYTHON_FILE, &passphrase, &TEXT[..45], *size, 1)?;
         assert_eq!(rt; made.as_slice(), PYTHON_FILE);
-        let (text, outcome) = decrypt(rt, PYTHON_FILE, &passphrase, *size)?;
+        let (text, outcome) = decrypt(rt, PYTHON_FILE, &passphrase, *size, 1)?;
         assert_eq!(rt; outcome, Outcome::Whole);
         assert_eq!(rt; text.as_slice(), &TEXT[..45]);
     }
@@ -296,14 +326,14 @@ fn files_that_are_cut_or_longer(rt: HostRuntime) -> Result<(), Fail> {
     ];
     for size in SIZES {
         for (len, released) in cuts {
-            let (text, outcome) = decrypt(rt, &HELLO_FILE[..*len], b"pw", *size)?;
+            let (text, outcome) = decrypt(rt, &HELLO_FILE[..*len], b"pw", *size, 1)?;
             assert_eq!(rt; outcome, Outcome::Damaged);
             assert_eq!(rt; text.as_slice(), &b"hello"[..*released]);
         }
         let mut longer = Vec::new(rt.alloc());
         longer.extend_from_slice(HELLO_FILE)?;
         longer.push(0)?;
-        let (text, outcome) = decrypt(rt, &longer, b"pw", *size)?;
+        let (text, outcome) = decrypt(rt, &longer, b"pw", *size, 1)?;
         assert_eq!(rt; outcome, Outcome::Damaged);
         assert_eq!(rt; text.len(), 6);
         assert_eq!(rt; &text[..5], b"hello".as_slice());
@@ -318,10 +348,42 @@ fn files_with_one_bit_changed(rt: HostRuntime) -> Result<(), Fail> {
         let mut file = Vec::new(rt.alloc());
         file.extend_from_slice(HELLO_FILE)?;
         file[place] ^= 0x10;
-        let (text, outcome) = decrypt(rt, &file, b"pw", 32)?;
+        let (text, outcome) = decrypt(rt, &file, b"pw", 32, 1)?;
         assert_eq!(rt; outcome, Outcome::Damaged);
         assert_eq!(rt; text.len(), 5);
     }
+    Ok(())
+}
+
+// The example at the head of the crate.
+#[test]
+fn example(rt: HostRuntime) -> Result<(), Fail> {
+    let costs = Costs::new(4, 1, 1)?;
+    let limits = Limits {
+        max_bytes: 1 << 20,
+        max_ops: 1 << 20,
+    };
+    let whole = Sparse::whole(&costs);
+    whole.admitted(&limits)?;
+    let mut whole = Workspace::reserve(rt.alloc(), &whole)?;
+    let salt = [7u8; 32];
+    let mut ticks = Ticks::new();
+    let mut enc = Enc::start(&costs, &salt, b"pw", &mut whole, &mut ticks);
+    let front = enc.header();
+    let mut text = *b"hello";
+    enc.feed(&mut text)?;
+    let code = enc.finish();
+
+    let header = Header::read(&first_of(&front))?;
+    let quarter = Sparse::new(header.costs(), 4)?;
+    quarter.admitted(&limits)?;
+    let mut quarter = Workspace::reserve(rt.alloc(), &quarter)?;
+    let mut dec = Dec::open(&front, header, b"pw", &mut quarter, &mut ticks)?;
+    let mut out = [0u8; 64];
+    assert_eq!(rt; dec.feed(&text, &mut out)?, 0);
+    assert_eq!(rt; dec.feed(&code, &mut out)?, 5);
+    assert!(rt; out.starts_with(b"hello"));
+    dec.finish()?;
     Ok(())
 }
 
@@ -332,7 +394,7 @@ fn bytes_that_are_held(rt: HostRuntime) -> Result<(), Fail> {
     let front = front_of(HELLO_FILE);
     let mut out = [0u8; 64];
     for size in SIZES {
-        let mut dec = match opened(rt, &front, b"pw")? {
+        let mut dec = match opened(rt, &front, b"pw", 1)? {
             Ok(dec) => dec,
             Err(_) => panic!(rt; "not opened"),
         };
@@ -351,17 +413,17 @@ fn bytes_that_are_held(rt: HostRuntime) -> Result<(), Fail> {
 
 #[test]
 fn fronts_that_are_refused(rt: HostRuntime) -> Result<(), Fail> {
-    let (text, outcome) = decrypt(rt, HELLO_FILE, b"other", 32)?;
+    let (text, outcome) = decrypt(rt, HELLO_FILE, b"other", 32, 1)?;
     assert_eq!(rt; outcome, Outcome::WrongPassphrase);
     assert_eq!(rt; text.len(), 0);
     // HMAC pads a short key with zeros, so this one has the same keys
-    let (_, outcome) = decrypt(rt, HELLO_FILE, b"pw\0", 32)?;
+    let (_, outcome) = decrypt(rt, HELLO_FILE, b"pw\0", 32, 1)?;
     assert_eq!(rt; outcome, Outcome::Whole);
     for place in 64..96 {
         let mut file = Vec::new(rt.alloc());
         file.extend_from_slice(HELLO_FILE)?;
         file[place] ^= 1;
-        let (_, outcome) = decrypt(rt, &file, b"pw", 32)?;
+        let (_, outcome) = decrypt(rt, &file, b"pw", 32, 1)?;
         assert_eq!(rt; outcome, Outcome::WrongPassphrase);
     }
     Ok(())

@@ -1,7 +1,10 @@
 //! Vectors that the checker computes by the definitions alone.
-ghost use Rattle.std.specs.Prelude.{◌≡◌, [], ◌∷◌, codes};
+ghost use Rattle.std.specs.Prelude.{◌≡◌, ◌^◌, [], ◌∷◌, codes, slice_set, take, Some, None};
 ghost use Rattle.std.specs.List.{range_with_len};
 ghost use Rattle.encfile.specs.EncryptedFile.{encrypted_file};
+ghost use Rattle.encfile.specs.Front.{format_refusal, limits_refusal};
+ghost use Rattle.encfile.specs.Front.FrontRefusal.{KeepAboveN, NotScryptData, OtherVersion, TooMuchMemory, TooMuchWork};
+ghost use Rattle.encfile.specs.Vectors.{allowance, front_of_costs};
 
 // The file of `hello` with log2 N 4, r 1, p 1, the passphrase `pw` and the salt 00 01 .. 1f, as
 // Python's `hashlib.scrypt` and `hmac`, and `openssl enc -aes-256-ctr`, give it.
@@ -20,4 +23,23 @@ fn file_of_hello()
         0x92 ∷ 0x5E ∷ 0x75 ∷ 0x4D ∷ 0x1B ∷ 0x00 ∷ 0xD8 ∷ 0xF6 ∷ 0xAC ∷ 0xAA ∷ 0x79 ∷ 0x86 ∷
         0x8E ∷ 0x22 ∷ 0x1C ∷ 0xD3 ∷ 0xC4 ∷ 0x0E ∷ 0xFB ∷ 0x4B ∷ 0xDD ∷ 0x9F ∷ 0xFB ∷ 0x35 ∷
         0xB8 ∷ [] }
+{}
+
+// Fronts of 96 bytes that are refused for their length, a byte, the checksum, a cost, S, memory and
+// work, and some that are not.
+fn refusals_of_fronts()
+    ensures short { format_refusal (take 95 (front_of_costs 4 1 1)) ≡ Some NotScryptData }
+    ensures magic { format_refusal (slice_set (front_of_costs 4 1 1) 5 0) ≡ Some NotScryptData }
+    ensures version { format_refusal (slice_set (front_of_costs 4 1 1) 6 1) ≡ Some OtherVersion }
+    ensures checksum { format_refusal (slice_set (front_of_costs 4 1 1) 20 0) ≡ Some NotScryptData }
+    ensures zero { format_refusal (front_of_costs 4 0 1) ≡ Some NotScryptData }
+    ensures memory { limits_refusal (front_of_costs 4 1 1) (allowance 1 2047 63) ≡ Some TooMuchMemory }
+    ensures work { limits_refusal (front_of_costs 4 1 1) (allowance 1 2048 63) ≡ Some TooMuchWork }
+    ensures admitted { limits_refusal (front_of_costs 4 1 1) (allowance 1 2048 64) ≡ None }
+    ensures greatest { limits_refusal (front_of_costs 63 1 1) (allowance 1 (2 ^ 40) (2 ^ 63)) ≡ Some TooMuchMemory }
+    ensures sparse { limits_refusal (front_of_costs 4 1 1) (allowance 4 512 160) ≡ None }
+    ensures sparse_memory { limits_refusal (front_of_costs 4 1 1) (allowance 4 511 160) ≡ Some TooMuchMemory }
+    ensures sparse_work { limits_refusal (front_of_costs 4 1 1) (allowance 4 512 159) ≡ Some TooMuchWork }
+    ensures sparsest { limits_refusal (front_of_costs 4 1 1) (allowance 16 128 544) ≡ None }
+    ensures keep { limits_refusal (front_of_costs 4 1 1) (allowance 32 1 1) ≡ Some KeepAboveN }
 {}

@@ -1,5 +1,6 @@
 -- What contracts see of a host, and what each call leaves of it.
 pub mod Seen
+pub mod Asked
 pub mod Faults
 pub mod Secret
 pub mod Lines

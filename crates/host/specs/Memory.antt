@@ -1,7 +1,7 @@
 -- What contracts see of a host in memory.
 use Rattle.std.specs.Prelude.{ℕ, ◌+◌, ◌-◌, ◌^◌, ◌==◌, List, [], ◌∷◌, Option, Some, None, option_map, bytes_eq, if◌then◌else◌}
 use Rattle.std.specs.List.{find}
-use Rattle.host.specs.Seen.{Seen, Text}
+use Rattle.host.specs.Seen.{SecretSource, Seen, Text}
 use Rattle.host.specs.Faults.{Faults, no_faults}
 
 -- a secret under a name
@@ -20,6 +20,7 @@ pub record Memory : Type 0 where
   pub output : List ℕ
   pub input_opened : Option (Option Text)
   pub output_opened : Option (Option Text)
+  pub asked : Option SecretSource
   pub said : List Text
   pub stdin : List ℕ
   pub variables : List Entry
@@ -31,13 +32,14 @@ pub record Memory : Type 0 where
   pub failing : ℕ
   pub calls : ℕ
 
--- a new host: nothing is opened, said or written, nothing failed, no call is to fail, and the sizes are not bounded
+-- a new host: nothing is opened, asked, said or written, nothing failed, no call is to fail, and the sizes are not bounded
 abbrev pub new_memory : List ℕ → List ℕ → List ℕ → Memory
 new_memory input stdin salt = record {
   input = input;
   output = [];
   input_opened = None;
   output_opened = None;
+  asked = None;
   said = [];
   stdin = stdin;
   variables = [];
@@ -57,6 +59,7 @@ memory_seen m = record {
   output = m.output;
   input_opened = m.input_opened;
   output_opened = m.output_opened;
+  asked = m.asked;
   said = m.said;
   stdin = Some m.stdin;
   variables = lookup m.variables;

@@ -5,23 +5,32 @@ use Rattle.std.specs.Prelude.{◌≡◌, ℕ, List, ◌∷◌, [], ◌++◌, dro
 abbrev pub Text : Type 0
 Text = List ℕ
 
+-- a secret source: standard input, a variable, or a file
+pub data SecretSource : Type 0 where
+  stdin_once : SecretSource
+  env : Text → SecretSource
+  file : Text → SecretSource
+
 -- the input that is left, the output so far, the names under which they were opened (None: not opened; Some None:
--- the standard stream), the lines said so far, the secret sources, and the salt
+-- the standard stream), the secret source that was asked (None: none was), the lines said so far, the secret sources,
+-- and the salt
 pub record Seen : Type 0 where
   pub input : List ℕ
   pub output : List ℕ
   pub input_opened : Option (Option Text)
   pub output_opened : Option (Option Text)
+  pub asked : Option SecretSource
   pub said : List Text
   pub stdin : Option (List ℕ)
   pub variables : Text → Option (List ℕ)
   pub files : Text → Option (List ℕ)
   pub salt : List ℕ
 
--- no input and no output is opened yet
-pub record IsUnopened (s : Seen) : Type 0 where
+-- no input and no output is opened yet, and no secret source was asked
+pub record IsFresh (s : Seen) : Type 0 where
   pub input : s.input_opened ≡ None
   pub output : s.output_opened ≡ None
+  pub asked : s.asked ≡ None
 
 -- n bytes of the input are gone
 abbrev pub after_pull : ℕ → Seen → Seen
@@ -43,6 +52,10 @@ after_open_input name s = record s { input_opened = Some name }
 abbrev pub after_open_output : Option Text → Seen → Seen
 after_open_output name s = record s { output_opened = Some name }
 
+-- this secret source was asked
+abbrev pub after_ask : SecretSource → Seen → Seen
+after_ask source s = record s { asked = Some source }
+
 -- stands where a host tells nothing
 abbrev pub nothing_seen : Seen
 nothing_seen = record {
@@ -50,6 +63,7 @@ nothing_seen = record {
   output = [];
   input_opened = None;
   output_opened = None;
+  asked = None;
   said = [];
   stdin = None;
   variables = λ _. None;

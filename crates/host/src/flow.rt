@@ -9,7 +9,7 @@ use crate::host::{Host, HostFault};
 
 /// Writes all of the bytes. After a fault a beginning of them has been written, not the whole.
 pub fn push_all<H: Host>(host: &mut H, bytes: &[u8]) -> Result<(), HostFault>
-    requires room { AreBelow (2 ^ 63) (H.faults host.old) }
+    requires room { AreBelow (2 ^ 64 - 1) (H.faults host.old) }
     ensures counts { OnOk result (H.faults host.new ≡ H.faults host.old) }
     ensures counted { OnErr result (H.faults host.new ≡ output_failed (H.faults host.old)) }
     ensures put { IsTrue H.tells →
@@ -27,7 +27,7 @@ pub fn push_all<H: Host>(host: &mut H, bytes: &[u8]) -> Result<(), HostFault>
 /// Opens standard output and writes all of the bytes. After a fault it was not opened, or a beginning
 /// of them has been written, not the whole.
 pub fn write_output<H: Host>(host: &mut H, bytes: &[u8]) -> Result<(), HostFault>
-    requires room { AreBelow (2 ^ 63) (H.faults host.old) }
+    requires room { AreBelow (2 ^ 64 - 1) (H.faults host.old) }
     requires unopened { IsTrue H.tells → (H.seen host.old).output_opened ≡ None }
     ensures counts { OnOk result (H.faults host.new ≡ H.faults host.old) }
     ensures counted { OnErr result (H.faults host.new ≡ output_failed (H.faults host.old)) }

@@ -1,13 +1,13 @@
 //! What a command asks of the world.
 ghost use Rattle.std.specs.Prelude.{◌≡◌, ◌-◌, ◌<◌, ◌≤◌, ◌^◌, Bool, [], None, take, length, option_map, IfOk, OnOk, OnErr, IsTrue};
 ghost use Rattle.host.specs.Faults.{Faults, AreBelow, input_failed, output_failed, secret_failed, salt_failed, line_failed};
-ghost use Rattle.host.specs.Secret.{secret_of, IsBeginning};
-ghost use Rattle.host.specs.Seen.{Seen, after_pull, after_push, after_say, after_open_input, after_open_output};
+ghost use Rattle.host.specs.Secret.{secret_of, source_of, IsBeginning};
+ghost use Rattle.host.specs.Seen.{Seen, after_ask, after_pull, after_push, after_say, after_open_input, after_open_output};
 
 use thiserror::Error;
 
 /// The host could not do what it was asked. Its count of such failures has risen by one, and
-/// nothing else has changed.
+/// nothing else has changed, but that a secret source was asked.
 #[derive(Clone, Copy, Debug, PartialEq, Eq, Error)]
 #[error("the host failed")]
 pub struct HostFault;
@@ -28,11 +28,12 @@ pub enum Source<'a> {
 /// Contracts see whether the host tells its bytes (`tells`), its bytes, names and lines (`seen`), and
 /// how often its calls have failed (`faults`). A call that answers `Ok` changes no count, and of
 /// `seen` only what its clauses say; a call that answers `Err` raises its count by one and changes
-/// nothing else. What is said of bytes, names and lines holds of a host that tells them; the counts
-/// and the bounds on lengths hold of every host.
+/// nothing else, but that a secret source was asked. What is said of bytes, names and lines holds of
+/// a host that tells them; the counts and the bounds on lengths hold of every host.
 ///
 /// An input is opened once, and so is an output: opened again under the same name, a file would be
-/// read from its beginning, or be emptied, and contracts would not see it.
+/// read from its beginning, or be emptied, and contracts would not see it. One secret source is asked,
+/// once: asked again, standard input would be at its end, or wait for more.
 pub trait Host {
     // Whether contracts may speak of the bytes, names and lines.
     ghost tells: { Bool };
@@ -91,13 +92,15 @@ pub trait Host {
             IfOk result (λ n. seen self.new ≡ after_push (take n bytes.now) (seen self.old)) };
 
     /// Puts the first bytes of a secret source into the buffer, as many as there are and as fit, and
-    /// says how many.
+    /// says how many. No source was asked before; this one is asked, whatever the answer.
     fn secret(&mut self, source: Source<'_>, buf: &mut [u8]) -> Result<usize, HostFault>
         requires room { AreBelow (2 ^ 64 - 1) (faults self.old) }
+        requires unasked { IsTrue tells → (seen self.old).asked ≡ None }
         ensures bound { IfOk result (λ n. n ≤ length buf.old) }
         ensures counts { OnOk result (faults self.new ≡ faults self.old) }
         ensures counted { OnErr result (faults self.new ≡ secret_failed (faults self.old)) }
-        ensures kept { IsTrue tells → seen self.new ≡ seen self.old }
+        ensures asks { IsTrue tells →
+            seen self.new ≡ after_ask (source_of source.entry) (seen self.old) }
         ensures bytes { IsTrue tells →
             IfOk result (λ n. IsBeginning (secret_of source.entry (seen self.old)) n buf.new) };
 

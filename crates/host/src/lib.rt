@@ -5,11 +5,13 @@
 //! comes to, whatever the host is.
 #![tactic(auto)]
 
+mod asked;
 mod flow;
 mod host;
 mod memory;
 mod named_secret;
 
+pub use asked::{Asked, Name};
 pub use flow::{push_all, refuse, write_output};
 pub use host::{Host, HostFault, Source};
 pub use memory::MemoryHost;

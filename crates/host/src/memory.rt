@@ -1,8 +1,10 @@
 //! A host in memory.
 ghost use Rattle.std.specs.Prelude.{◌≡◌, ◌<◌, ◌≤◌, ◌==◌, ℕ, true, List, take, drop, length, min, map, option_map, Some, IfOk, OnOk, OnErr, string_bytes, bytes_eq, if◌then◌else◌};
+ghost use Rattle.host.specs.Asked.{asked_source};
 ghost use Rattle.host.specs.Memory.{Memory, lookup, memory_seen, memory_faults, new_memory, next_call, with_variable, with_file};
 ghost use Rattle.host.specs.Secret.{secret_of};
 
+use crate::asked::Asked;
 use crate::host::{Host, HostFault, Source};
 use crate::named_secret::{NamedSecret, find, put_first};
 use std::alloc::{AllocError, Global};
@@ -22,6 +24,7 @@ pub struct MemoryHost {
     output: Vec<u8>,
     input_name: Option<Option<String>>,
     output_name: Option<Option<String>>,
+    asked: Option<Asked>,
     lines: Vec<String>,
     stdin: Vec<u8>,
     variables: Vec<NamedSecret>,
@@ -46,6 +49,7 @@ impl Model for MemoryHost {
       output = h.output.items;
       input_opened = option_map (option_map string_bytes) h.input_name;
       output_opened = option_map (option_map string_bytes) h.output_name;
+      asked = option_map asked_source h.asked;
       said = map string_bytes h.lines.items;
       stdin = h.stdin.items;
       variables = h.variables.items;
@@ -82,6 +86,7 @@ impl MemoryHost {
             output: Vec::new(alloc),
             input_name: None,
             output_name: None,
+            asked: None,
             lines: Vec::new(alloc),
             stdin,
             variables: Vec::new(alloc),
@@ -274,6 +279,7 @@ impl Host for MemoryHost {
     }
 
     fn secret(&mut self, source: Source<'_>, buf: &mut [u8]) -> Result<usize, HostFault> {
+        self.asked = Some(Asked::of(&source));
         if !self.is_failing()
             && let Some(bytes) = self.secret_bytes(source)
         {

@@ -19,7 +19,7 @@ fn salted_mac(password: &[u8], salt: &[u8]) -> Hmac
 }
 
 // The block of this index, on from the HMAC of the salt.
-fn block_after_salt(salted: &Hmac, index: u32) -> [u8; BLOCK_LEN]
+pub(crate) fn block_after_salt(salted: &Hmac, index: u32) -> [u8; BLOCK_LEN]
     ensures block { (password salt : List ℕ) → Holds salted.now password salt
         → result ≡ pbkdf2_block password salt index }
 {
@@ -39,17 +39,25 @@ pub fn pbkdf2_block(password: &[u8], salt: &[u8], index: u32) -> [u8; 32]
     block_after_salt(&salted_mac(password, salt), index)
 }
 
+// Fills `out` with the key that PBKDF2 derives, on from the HMAC of the salt.
+pub(crate) fn write_key(salted: &Hmac, out: &mut [u8])
+    requires fits { length out.old ≤ 32 * (2 ^ 32 - 1) }
+    ensures key { (password salt : List ℕ) → Holds salted.now password salt
+        → out.new ≡ pbkdf2 password salt (length out.old) }
+{
+    for done in 0..out.len().div_ceil(BLOCK_LEN) {
+        let block = block_after_salt(salted, done as u32 + 1);
+        let start = BLOCK_LEN * done;
+        let len = BLOCK_LEN.min(out.len() - start);
+        out[start..start + len].copy_from_slice(&block[..len]);
+    }
+}
+
 /// Fills `out`, at most 32 * (2^32 - 1) bytes, with the key that PBKDF2 with one iteration derives
 /// from the password and the salt (RFC 8018, section 5.2; RFC 7914, section 6).
 pub fn pbkdf2(password: &[u8], salt: &[u8], out: &mut [u8])
     requires fits { length out.old ≤ 32 * (2 ^ 32 - 1) }
     ensures key { out.new ≡ pbkdf2 password.now salt.now (length out.old) }
 {
-    let salted = salted_mac(password, salt);
-    for done in 0..out.len().div_ceil(BLOCK_LEN) {
-        let block = block_after_salt(&salted, done as u32 + 1);
-        let start = BLOCK_LEN * done;
-        let len = BLOCK_LEN.min(out.len() - start);
-        out[start..start + len].copy_from_slice(&block[..len]);
-    }
+    write_key(&salted_mac(password, salt), out);
 }

@@ -1,5 +1,5 @@
 //! Outside vectors: the standards' own, and values that Python 3's hmac and hashlib gave.
-use crate::{Hmac, pbkdf2, pbkdf2_block};
+use crate::{Hmac, Pbkdf2Pair, pbkdf2, pbkdf2_block};
 use sha2::{Digest, Sha256};
 use std::test::Fail;
 
@@ -106,6 +106,19 @@ const KEY_OF_PASSWD: [u8; 100] = [
     0x4b, 0x8f, 0x89, 0x23,
 ];
 
+// Python, hashlib.pbkdf2_hmac("sha256", b"Password", b"NaCl", 1, 130).
+const KEY_OF_NACL: [u8; 130] = [
+    0xc6, 0x00, 0x40, 0x4e, 0x39, 0xc9, 0xe9, 0x7a, 0x7d, 0x7a, 0x74, 0x5b, 0x32, 0xc3, 0xe7, 0x42,
+    0x63, 0x87, 0xb3, 0x65, 0x69, 0x3c, 0x7f, 0x59, 0x30, 0x0f, 0xd8, 0xa0, 0x3a, 0xab, 0x4c, 0x6e,
+    0x53, 0xe2, 0xed, 0x2f, 0x8b, 0xaa, 0x34, 0xfb, 0x8c, 0x7a, 0x6b, 0xff, 0xa6, 0x8b, 0xeb, 0x15,
+    0x5a, 0x1f, 0xf7, 0xfb, 0xdf, 0xe6, 0x86, 0xf3, 0xa5, 0x42, 0x0d, 0xb4, 0xba, 0x59, 0x2c, 0x5e,
+    0x42, 0x2a, 0xb5, 0x13, 0x4e, 0xdb, 0x66, 0x83, 0xe0, 0xea, 0x7c, 0xe8, 0x00, 0x09, 0x4d, 0x46,
+    0xe5, 0x55, 0xc7, 0x1f, 0x1b, 0xcd, 0x11, 0x72, 0xaf, 0x43, 0x24, 0xd5, 0x28, 0xd9, 0x36, 0x28,
+    0x16, 0x92, 0x64, 0x49, 0xdb, 0x8b, 0x47, 0xb3, 0x0e, 0xbe, 0xd8, 0x84, 0x0f, 0x4a, 0x93, 0x82,
+    0x9b, 0x31, 0x66, 0x16, 0x1e, 0xd7, 0xf6, 0x81, 0x31, 0x89, 0x0c, 0x74, 0xfd, 0xba, 0x46, 0xb7,
+    0xb2, 0xbe,
+];
+
 // Python, hashlib.pbkdf2_hmac("sha256", b"", b"", 1, 33).
 const KEY_OF_NOTHING: [u8; 33] = [
     0xf7, 0xce, 0x0b, 0x65, 0x3d, 0x2d, 0x72, 0xa4, 0x10, 0x8c, 0xf5, 0xab, 0xe9, 0x12, 0xff, 0xdd,
@@ -184,6 +197,80 @@ fn pbkdf2_blocks(rt: HostRuntime) {
         &KEY_OF_PASSWD[32..64]
     );
     assert_eq!(rt; pbkdf2_block(b"passwd", b"salt", 0x0102_0304), HIGH_BLOCK);
+}
+
+// A pair whose salt is handed in by pieces of so many bytes.
+fn pair_in_pieces(password: &[u8], salt: &[u8], size: usize) -> Pbkdf2Pair {
+    let mut pair = Pbkdf2Pair::new(password);
+    for piece in salt.chunks(size.max(1)) {
+        pair.update(piece);
+        pair.update(&[]);
+    }
+    pair
+}
+
+// The example at the head of the crate.
+#[test]
+fn example(rt: HostRuntime) {
+    let mut pair = Pbkdf2Pair::new(b"passwd");
+    pair.update(b"sa");
+    pair.update(b"lt");
+    let mut key = [0u8; 64];
+    pair.finish(&mut key);
+    assert_eq!(rt; &key[..4], [0x55, 0xac, 0x04, 0x6e].as_slice());
+    assert_eq!(rt; key.as_slice(), &KEY_OF_PASSWD[..64]);
+}
+
+#[test]
+fn pair_of_64_bytes(rt: HostRuntime) {
+    for (password, salt, expected) in [
+        (
+            b"passwd".as_slice(),
+            b"salt".as_slice(),
+            &KEY_OF_PASSWD[..64],
+        ),
+        (
+            b"Password".as_slice(),
+            b"NaCl".as_slice(),
+            &KEY_OF_NACL[..64],
+        ),
+    ] {
+        for size in [1usize, 3, 100] {
+            let mut key = [0u8; 64];
+            pair_in_pieces(password, salt, size).finish(&mut key);
+            assert_eq!(rt; key.as_slice(), expected, "in pieces of {size}");
+        }
+    }
+}
+
+#[test]
+fn pair_of_other_lengths(rt: HostRuntime) {
+    for len in [0usize, 1, 31, 32, 33, 63, 64, 65, 96, 97, 130] {
+        let mut key = [0u8; 130];
+        pair_in_pieces(b"Password", b"NaCl", 2).write_key(&mut key[..len]);
+        assert_eq!(rt; &key[..len], &KEY_OF_NACL[..len], "{len} bytes");
+        assert!(rt;
+            key[len..].iter().all(|&byte| byte == 0),
+            "past {len} bytes"
+        );
+    }
+}
+
+#[test]
+fn pair_of_blocks(rt: HostRuntime) {
+    let pair = pair_in_pieces(b"Password", b"NaCl", 3);
+    for i in 0..4u32 {
+        let at = 32 * i as usize;
+        assert_eq!(rt;
+            pair.block(i + 1).as_slice(),
+            &KEY_OF_NACL[at..at + 32],
+            "block {i}"
+        );
+    }
+    assert_eq!(rt;
+        pair_in_pieces(b"passwd", b"salt", 1).block(0x0102_0304),
+        HIGH_BLOCK
+    );
 }
 
 #[test]

@@ -1,7 +1,11 @@
 pub mod Counter
 pub mod FourLanes
+pub mod Keeps
+pub mod Kept
 pub mod Mixing
 pub mod Naturals
 pub mod Octets
+pub mod PartBlocks
 pub mod Rows
 pub mod XoredBlocks
+pub mod Work

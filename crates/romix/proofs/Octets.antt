@@ -21,7 +21,7 @@ words_read octets words read =
     read k h ∙ sym (get_or-map f places k 0 0 (omega arith) ∙ ap f (get_or-range_with_len 0 n k 0 h ∙ e)))
 
 -- one more part
-mixed_parts-more : (b t o : List ℕ) (n r k : ℕ) → t ≡ mixed_parts b n r k → o ≡ mixed_part (part_at b r k) n r → t ++ o ≡ mixed_parts b n r (k + 1)
+pub mixed_parts-more : (b t o : List ℕ) (n r k : ℕ) → t ≡ mixed_parts b n r k → o ≡ mixed_part (part_at b r k) n r → t ++ o ≡ mixed_parts b n r (k + 1)
 unfolding mixed_parts
 mixed_parts-more b t o n r k ht ho = rw (add-one k, ht, ho)
 

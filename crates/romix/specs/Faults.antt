@@ -1,9 +1,11 @@
 -- Which costs are refused, and why. A product in a test is a whole number, so none wraps.
-use Rattle.std.specs.Prelude.{ℕ, ◌*◌, ◌^◌, not, ◌&&◌, ◌||◌, [], ◌∷◌, nat_eq, nat_lt, nat_le, Option}
+use Rattle.std.specs.Prelude.{ℕ, ◌*◌, ◌^◌, Bool, not, ◌&&◌, ◌||◌, [], ◌∷◌, nat_eq, nat_lt, nat_le, Option}
 use Rattle.romix.specs.Costs.{Parameters, cores, parts_bytes, table_bytes}
 use Rattle.romix.specs.FirstOf.{first_of}
+use Rattle.romix.specs.SparseCosts.{SparseParameters, cores_bound, is_keep, sparse_table_bytes}
+use Rattle.romix.specs.declared.limits.Limits.{Limits}
 use Rattle.romix.specs.declared.fault.CostFault.{CostFault}
-use Rattle.romix.specs.declared.fault.CostFault.TheVariants.{LogN, Zero, Product, Memory, Work}
+use Rattle.romix.specs.declared.fault.CostFault.TheVariants.{LogN, Zero, Product, Memory, Work, Keep, KeepAboveN}
 
 -- why these numbers are no costs (RFC 7914, 2 and 6), if they aren't
 abbrev pub cost_fault : ℕ → ℕ → ℕ → Option CostFault
@@ -13,9 +15,31 @@ cost_fault log_n r p = first_of (
     ∷ (nat_le (2 ^ 30) (r * p), Product)
     ∷ [])
 
--- why limits on bytes and on cores don't admit the costs, if they don't
-abbrev pub limit_fault : Parameters → ℕ → ℕ → Option CostFault
-limit_fault c max_bytes max_ops = first_of (
-    (nat_lt max_bytes (table_bytes c) || nat_lt max_bytes (parts_bytes c), Memory)
-    ∷ (nat_lt max_ops (cores c), Work)
+-- why the limits don't admit the costs, if they don't
+abbrev pub limit_fault : Parameters → Limits → Option CostFault
+limit_fault c limits = first_of (
+    (nat_lt limits.max_bytes (table_bytes c) || nat_lt limits.max_bytes (parts_bytes c), Memory)
+    ∷ (nat_lt limits.max_ops (cores c), Work)
     ∷ [])
+
+-- ---- over a sparse table
+
+-- S is above N
+abbrev pub is_keep_above_n : SparseParameters → Bool
+is_keep_above_n s = nat_lt (2 ^ s.costs.log_n) s.keep
+
+-- the rows of V that are kept, or B, have more bytes than the limit
+abbrev pub exceeds_memory : SparseParameters → Limits → Bool
+exceeds_memory s limits = nat_lt limits.max_bytes (sparse_table_bytes s) || nat_lt limits.max_bytes (parts_bytes s.costs)
+
+-- there may be more Salsa20/8 cores than the limit
+abbrev pub exceeds_work : SparseParameters → Limits → Bool
+exceeds_work s limits = nat_lt limits.max_ops (cores_bound s)
+
+-- why S doesn't go with the costs, if it doesn't
+abbrev pub keep_fault : SparseParameters → Option CostFault
+keep_fault s = first_of ((not (is_keep s.keep), Keep) ∷ (is_keep_above_n s, KeepAboveN) ∷ [])
+
+-- why the limits don't admit the costs with S, if they don't
+abbrev pub sparse_limit_fault : SparseParameters → Limits → Option CostFault
+sparse_limit_fault s limits = first_of ((exceeds_memory s limits, Memory) ∷ (exceeds_work s limits, Work) ∷ [])

@@ -1,3 +1,4 @@
+pub mod Allowance
 pub mod BlockMix
 pub mod Costs
 pub mod Diagonals
@@ -7,5 +8,7 @@ pub mod Lanes
 pub mod Romix
 pub mod Salsa20
 pub mod Scrypt
+pub mod Sparse
+pub mod SparseCosts
 pub mod Table
 pub mod Workspace

@@ -1,18 +1,20 @@
 -- What contracts see of a workspace.
-use Rattle.std.specs.Prelude.{◌≡◌, ℕ, ◌*◌, ◌^◌}
-use Rattle.romix.specs.Costs.{Parameters}
+use Rattle.std.specs.Prelude.{◌≡◌, ℕ, ◌*◌, ◌/◌, ◌^◌, ◌<◌}
+use Rattle.romix.specs.SparseCosts.{SparseParameters}
 
--- its costs and the lengths of what it holds, in words of four bytes and in bytes
+-- its costs and S, and the lengths of what it holds, in words of four bytes
 pub record Memory : Type 0 where
-  pub costs : Parameters
+  pub sparse : SparseParameters
   pub table_words : ℕ
   pub row_words : ℕ
   pub other_row_words : ℕ
-  pub parts_bytes : ℕ
+  pub spare_row_words : ℕ
 
--- the lengths are those of V, of X and of T (RFC 7914, 4 and 5), and of B (section 6)
+-- the lengths are those of the kept rows of V, of X and of T (RFC 7914, 4 and 5), and of one row more if not
+-- every row is kept
 pub record HasLengths (m : Memory) : Type 0 where
-  pub table : m.table_words ≡ 32 * 2 ^ m.costs.log_n * m.costs.r
-  pub row : m.row_words ≡ 32 * m.costs.r
-  pub other_row : m.other_row_words ≡ 32 * m.costs.r
-  pub parts : m.parts_bytes ≡ 128 * m.costs.r * m.costs.p
+  pub table : m.table_words ≡ 32 * m.sparse.costs.r * (2 ^ m.sparse.costs.log_n / m.sparse.keep)
+  pub row : m.row_words ≡ 32 * m.sparse.costs.r
+  pub other_row : m.other_row_words ≡ 32 * m.sparse.costs.r
+  pub no_spare_row : m.sparse.keep ≡ 1 → m.spare_row_words ≡ 0
+  pub spare_row : 1 < m.sparse.keep → m.spare_row_words ≡ 32 * m.sparse.costs.r

@@ -77,9 +77,19 @@ impl Costs {
         self.p
     }
 
+    // The same costs, with what `new` has tested of them.
+    pub(crate) fn tested(&self) -> Costs
+        ensures same { result ≡ self.now }
+        ensures in_range { IsInRange result }
+    {
+        let Costs { log_n, r, p } = *self;
+        Costs { log_n, r, p }
+    }
+
     // N.
-    fn n(&self) -> u64
+    pub(crate) fn n(&self) -> u64
         ensures n { result ≡ 2 ^ self.now.log_n }
+        ensures in_range { IsInRange self.now }
     {
         1 << self.log_n
     }
@@ -111,9 +121,8 @@ impl Costs {
     pub fn admitted(&self, limits: &Limits) -> Result<(), CostFault>
         ensures memory { OnOk result (FitsMemory self.now limits.now.max_bytes) }
         ensures work { OnOk result (cores self.now ≤ limits.now.max_ops) }
-        ensures ok { OnOk result (limit_fault self.now limits.now.max_bytes limits.now.max_ops ≡ None) }
-        ensures fault { IfErr result (λ fault.
-            limit_fault self.now limits.now.max_bytes limits.now.max_ops ≡ Some fault) }
+        ensures ok { OnOk result (limit_fault self.now limits.now ≡ None) }
+        ensures fault { IfErr result (λ fault. limit_fault self.now limits.now ≡ Some fault) }
     {
         let max_bytes = u128::from(limits.max_bytes);
         if self.table_bytes() > max_bytes || self.parts_bytes() > max_bytes {

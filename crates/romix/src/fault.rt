@@ -2,7 +2,7 @@
 use thiserror::Error;
 
 /// Why costs are refused: the first that holds, in this order. `Costs::new` answers 1 to 3,
-/// `Costs::admitted` 4 and 5.
+/// `Costs::admitted` and `Sparse::admitted` 4 and 5, `Sparse::new` 6 and 7.
 #[derive(Debug, Clone, Copy, PartialEq, Eq, Drop, Error)]
 pub enum CostFault {
     /// 1: log2 N is not 1 to 63.
@@ -21,4 +21,10 @@ pub enum CostFault {
     /// 5: the Salsa20/8 cores, 4 * N * r * p, are more than the limit.
     #[error("more work needed than the limit allows")]
     Work,
+    /// 6: the number of rows of which one is kept is no power of two from 1 to 1,024.
+    #[error("not a power of two from 1 to 1024")]
+    Keep,
+    /// 7: it is above N.
+    #[error("more rows than N")]
+    KeepAboveN,
 }

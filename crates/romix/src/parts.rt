@@ -1,38 +1,78 @@
-//! ROMix of each part (RFC 7914, section 6, step 2).
-ghost use Rattle.std.specs.Prelude.{◌≡◌, ◌+◌, ◌*◌, ◌/◌, ◌%◌, ◌^◌, ◌<◌, ◌≤◌, length};
-ghost use Rattle.romix.specs.BlockMix.{block_count};
-ghost use Rattle.romix.specs.Scrypt.{mixed_parts};
+//! The parts of scrypt (RFC 7914, section 6), one at a time: each is made, mixed, and handed on.
+ghost use Rattle.std.specs.Prelude.{◌≡◌, ℕ, ◌+◌, ◌*◌, ◌/◌, ◌%◌, ◌^◌, ◌<◌, ◌≤◌, ◌++◌, List, length};
+ghost use Rattle.macs.specs.KeyPair.{HoldsSalt};
+ghost use Rattle.macs.specs.Pbkdf2.{pbkdf2};
+ghost use Rattle.romix.specs.Costs.{parts_bytes};
+ghost use Rattle.romix.specs.Scrypt.{mixed_parts, octets_of, part_at, words_of};
+ghost use Rattle.romix.specs.Sparse.{sparse_cores};
 
 use crate::rom_mixing::romix;
+use crate::sparse::Sparse;
 use crate::ticks::Ticks;
 use byteorder::{ByteOrder, LittleEndian};
+use macs::Pbkdf2Pair;
 
-/// Replaces each of the `p` parts, of as many bytes as a row has, by its ROMix for N = 2^log_n.
-/// The rows and the table, of N rows, are overwritten by each part in turn.
+// Fills the row with part `k`, from 0, of the key that `salted` derives: so many of its blocks, of
+// eight words each.
+fn read_part(salted: &Pbkdf2Pair, k: usize, row: &mut [u32])
+    requires whole { length row.old % 32 ≡ 0 }
+    requires fits { length row.old / 8 * (k + 1) < 2 ^ 32 }
+    ensures part { (password salt : List ℕ) → HoldsSalt salted.now password salt → (p : ℕ) → k < p
+        → row.new ≡ words_of (part_at (pbkdf2 password salt (128 * (length row.old / 32) * p)) (length row.old / 32) k)
+        (length row.old) }
+{
+    let count = row.len() / 8;
+    for i in 0..count {
+        let block = salted.block((count * k + i + 1) as u32);
+        LittleEndian::read_u32_into(&block, &mut row[8 * i..8 * i + 8]);
+    }
+}
+
+// Appends the octets of the row to the salt of `pair`.
+fn feed(pair: &mut Pbkdf2Pair, row: &[u32])
+    requires whole { length row.now % 16 ≡ 0 }
+    ensures fed { (password salt : List ℕ) → HoldsSalt pair.old password salt
+        → HoldsSalt pair.new password (salt ++ octets_of row.now) }
+{
+    let mut octets = [0u8; 64];
+    for i in 0..row.len() / 16 {
+        LittleEndian::write_u32_into(&row[16 * i..16 * i + 16], &mut octets);
+        pair.update(&octets);
+    }
+}
+
+/// The PBKDF2 under the password whose salt is the ROMix of each of the parts that are made of the
+/// password and the salt. The rows and the table are overwritten by each part in turn.
 pub(crate) fn mix_parts(
-    parts: &mut [u8],
-    p: usize,
+    password: &[u8],
+    salt: &[u8],
+    sparse: &Sparse,
     row: &mut [u32],
     other: &mut [u32],
+    spare: &mut [u32],
     table: &mut [u32],
-    log_n: u32,
     ticks: &mut Ticks,
-)
-    requires log_n_low { 1 ≤ log_n }
-    requires log_n_high { log_n < 64 }
-    requires pairs { length row.old % 32 ≡ 0 }
-    requires some { 0 < length row.old }
-    requires same { length other.old ≡ length row.old }
-    requires table { length table.old ≡ length row.old * 2 ^ log_n }
-    requires parts { length parts.old ≡ 4 * length row.old * p }
-    ensures bytes { parts.new ≡ mixed_parts parts.old (2 ^ log_n) (length row.old / 32) p }
-    ensures count { ticks.new ≡ ticks.old + 2 * 2 ^ log_n * block_count row.old * p }
+) -> Pbkdf2Pair
+    requires row { length row.old ≡ 32 * sparse.now.costs.r }
+    requires other { length other.old ≡ 32 * sparse.now.costs.r }
+    requires spare { 1 < sparse.now.keep → length spare.old ≡ 32 * sparse.now.costs.r }
+    requires table { length table.old
+        ≡ 32 * sparse.now.costs.r * (2 ^ sparse.now.costs.log_n / sparse.now.keep) }
+    ensures fed { HoldsSalt result password.now (mixed_parts
+        (pbkdf2 password.now salt.now (parts_bytes sparse.now.costs))
+        (2 ^ sparse.now.costs.log_n) sparse.now.costs.r sparse.now.costs.p) }
+    ensures count { ticks.new ≡ ticks.old + sparse_cores password.now salt.now sparse.now }
 {
-    let len = 4 * row.len();
-    'parts: for k in 0..p {
-        let part = &mut parts[len * k..len * (k + 1)];
-        LittleEndian::read_u32_into(part, row);
-        romix(row, other, table, log_n, ticks);
-        LittleEndian::write_u32_into(row, part);
+    let costs = sparse.costs();
+    let log_n = u32::from(costs.log_n());
+    let keep = sparse.keep() as usize;
+    let mut salted = Pbkdf2Pair::new(password);
+    salted.update(salt);
+    let mut pair = Pbkdf2Pair::new(password);
+    'parts: for k in 0..costs.p() as usize {
+        read_part(&salted, k, row);
+        romix(row, other, spare, table, log_n, keep, ticks);
+        feed(&mut pair, row);
     }
+    pair
 }

@@ -9,9 +9,9 @@ pub(crate) trait Reservation {
     fn zero_words(&mut self, len: usize) -> Result<Vec<u32>, AllocError>
         ensures len { IfOk result (λ words. vec_len words ≡ len) };
 
-    /// So many bytes, all 0.
-    fn zero_bytes(&mut self, len: usize) -> Result<Vec<u8>, AllocError>
-        ensures len { IfOk result (λ bytes. vec_len bytes ≡ len) };
+    /// No words, for which nothing is asked for.
+    fn no_words(&self) -> Vec<u32>
+        ensures none { vec_len result ≡ 0 };
 }
 
 impl Reservation for Global {
@@ -19,7 +19,7 @@ impl Reservation for Global {
         vec![in *self; 0; len]
     }
 
-    fn zero_bytes(&mut self, len: usize) -> Result<Vec<u8>, AllocError> {
-        vec![in *self; 0; len]
+    fn no_words(&self) -> Vec<u32> {
+        Vec::new(*self)
     }
 }

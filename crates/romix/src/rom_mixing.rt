@@ -3,11 +3,13 @@
 ghost use Rattle.std.specs.Prelude.{◌≡◌, ◌+◌, ◌*◌, ◌/◌, ◌%◌, ◌^◌, ◌<◌, ◌≤◌, length};
 ghost use Rattle.romix.specs.BlockMix.{block_count, block_mix, xored_words};
 ghost use Rattle.romix.specs.Diagonals.{natural_row};
-ghost use Rattle.romix.specs.Romix.{integerify, romix};
+ghost use Rattle.romix.specs.Romix.{integerify, romix, table_row};
+ghost use Rattle.romix.specs.Sparse.{mixes};
+ghost use Rattle.romix.specs.Table.{row_at};
 
 use crate::lanes::Lanes;
 use crate::salsa20::core_by_diagonals;
-use crate::table::{load_row, store_row};
+use crate::table::{keep_row, load_row};
 use crate::ticks::Ticks;
 
 // BlockMix (RFC 7914, section 4) of a row by diagonals, with X in four vectors throughout.
@@ -79,61 +81,126 @@ fn turn_to_rows(row: &mut [u32])
     }
 }
 
+// Fills `out` with the row of V that stands `steps` after `from`, by diagonals.
+fn step_on(from: &[u32], steps: usize, out: &mut [u32], spare: &mut [u32], ticks: &mut Ticks)
+    requires some_steps { 1 ≤ steps }
+    requires pairs { length from.now % 32 ≡ 0 }
+    requires some { 0 < length from.now }
+    requires out { length out.old ≡ length from.now }
+    requires spare { length spare.old ≡ length from.now }
+    ensures words { natural_row out.new ≡ table_row (natural_row from.now) steps }
+    ensures count { ticks.new ≡ ticks.old + steps * block_count from.now }
+{
+    // one or two, so that the last of the pairs ends in `out`
+    if steps % 2 == 1 {
+        block_mix_by_diagonals(from, out, ticks);
+    } else {
+        block_mix_by_diagonals(from, spare, ticks);
+        block_mix_by_diagonals(spare, out, ticks);
+    }
+    'pairs: for _pair in 0..(steps - 1) / 2 {
+        block_mix_by_diagonals(out, spare, ticks);
+        block_mix_by_diagonals(spare, out, ticks);
+    }
+}
+
+// Xors row `j` of V into a row, by diagonals, over two rows to work in. Where every row is kept
+// they are left alone, and `spare` may have any length.
+#[inline(always)]
+fn xor_table_row(
+    row: &mut [u32],
+    table: &[u32],
+    keep: usize,
+    j: usize,
+    work: &mut [u32],
+    spare: &mut [u32],
+    ticks: &mut Ticks,
+)
+    requires keep { 0 < keep }
+    requires pairs { length row.old % 32 ≡ 0 }
+    requires some { 0 < length row.old }
+    requires room { length row.old * (j / keep + 1) ≤ length table.now }
+    requires work { length work.old ≡ length row.old }
+    requires spare { 1 < keep → length spare.old ≡ length row.old }
+    ensures words { natural_row row.new ≡ xored_words (natural_row row.old)
+        (table_row (natural_row (row_at table.now (length row.old) (j / keep))) (j % keep)) }
+    ensures count { ticks.new ≡ ticks.old + j % keep * block_count row.old }
+{
+    let from = load_row(table, row.len(), j / keep);
+    let steps = j % keep;
+    if steps == 0 {
+        xor_rows(row, from);
+    } else {
+        step_on(from, steps, work, spare, ticks);
+        xor_rows(row, work);
+    }
+}
+
 // ROMix of a row by diagonals. N is even, so that each turn of a loop mixes from one row to the
-// other and back, and no row is copied but into the table.
+// other and back, and no row is copied but into the table. The table keeps the rows of V whose
+// number `keep` divides; a row between them is mixed anew from the kept one below it.
 fn romix_by_diagonals(
     row: &mut [u32],
     other: &mut [u32],
+    spare: &mut [u32],
     table: &mut [u32],
     log_n: u32,
+    keep: usize,
     ticks: &mut Ticks,
 )
     requires log_n_low { 1 ≤ log_n }
     requires log_n_high { log_n < 64 }
+    requires keep { 0 < keep }
+    requires divides { 2 ^ log_n % keep ≡ 0 }
     requires pairs { length row.old % 32 ≡ 0 }
     requires some { 0 < length row.old }
     requires same { length other.old ≡ length row.old }
-    requires table { length table.old ≡ length row.old * 2 ^ log_n }
+    requires spare { 1 < keep → length spare.old ≡ length row.old }
+    requires table { length table.old ≡ length row.old * (2 ^ log_n / keep) }
     ensures words { natural_row row.new ≡ romix (natural_row row.old) (2 ^ log_n) }
-    ensures count { ticks.new ≡ ticks.old + 2 * 2 ^ log_n * block_count row.old }
+    ensures count { ticks.new ≡ ticks.old + mixes (natural_row row.old) (2 ^ log_n) keep * block_count row.old }
 {
-    let len = row.len();
     let half: usize = 1 << (log_n - 1);
     'fill: for i in 0..half {
-        store_row(table, len, 2 * i, row);
+        keep_row(table, keep, 2 * i, row);
         block_mix_by_diagonals(row, other, ticks);
-        store_row(table, len, 2 * i + 1, other);
+        keep_row(table, keep, 2 * i + 1, other);
         block_mix_by_diagonals(other, row, ticks);
     }
     'turns: for turn in 0..half {
         let j = integerify(row, log_n) as usize;
-        xor_rows(row, load_row(table, len, j));
+        xor_table_row(row, table, keep, j, other, spare, ticks);
         block_mix_by_diagonals(row, other, ticks);
         let j = integerify(other, log_n) as usize;
-        xor_rows(other, load_row(table, len, j));
+        xor_table_row(other, table, keep, j, row, spare, ticks);
         block_mix_by_diagonals(other, row, ticks);
     }
 }
 
-/// Replaces the row by its ROMix (RFC 7914, section 5), for N = 2^log_n. The other row and the
-/// table, of N rows, are overwritten.
+/// Replaces the row by its ROMix (RFC 7914, section 5), for N = 2^log_n. The other rows and the
+/// table are overwritten. The table has the N / `keep` rows of V whose number `keep` divides.
 pub(crate) fn romix(
     row: &mut [u32],
     other: &mut [u32],
+    spare: &mut [u32],
     table: &mut [u32],
     log_n: u32,
+    keep: usize,
     ticks: &mut Ticks,
 )
     requires log_n_low { 1 ≤ log_n }
     requires log_n_high { log_n < 64 }
+    requires keep { 0 < keep }
+    requires divides { 2 ^ log_n % keep ≡ 0 }
     requires pairs { length row.old % 32 ≡ 0 }
     requires some { 0 < length row.old }
     requires same { length other.old ≡ length row.old }
-    requires table { length table.old ≡ length row.old * 2 ^ log_n }
+    requires spare { 1 < keep → length spare.old ≡ length row.old }
+    requires table { length table.old ≡ length row.old * (2 ^ log_n / keep) }
     ensures words { row.new ≡ romix row.old (2 ^ log_n) }
-    ensures count { ticks.new ≡ ticks.old + 2 * 2 ^ log_n * block_count row.old }
+    ensures count { ticks.new ≡ ticks.old + mixes row.old (2 ^ log_n) keep * block_count row.old }
 {
     turn_to_diagonals(row);
-    romix_by_diagonals(row, other, table, log_n, ticks);
+    romix_by_diagonals(row, other, spare, table, log_n, keep, ticks);
     turn_to_rows(row);
 }

@@ -1,5 +1,5 @@
 //! The table V of ROMix (RFC 7914, section 5): rows of one length, one after another.
-ghost use Rattle.std.specs.Prelude.{◌≡◌, ℕ, ◌+◌, ◌*◌, ◌<◌, ◌≤◌, length};
+ghost use Rattle.std.specs.Prelude.{◌≡◌, ℕ, ◌+◌, ◌*◌, ◌/◌, ◌%◌, ◌<◌, ◌≤◌, length};
 ghost use Rattle.romix.specs.Table.{row_at};
 
 /// Writes a row of `len` words as row `i` of the table.
@@ -21,4 +21,18 @@ pub(crate) fn load_row(table: &[u32], len: usize, i: usize) -> &[u32]
 {
     let at = len * i;
     &table[at..at + len]
+}
+
+/// Writes row `i` of V into a table that keeps the rows whose number `keep` divides, if it is one
+/// of these.
+pub(crate) fn keep_row(table: &mut [u32], keep: usize, i: usize, row: &[u32])
+    requires keep { 0 < keep }
+    requires room { length row.now * (i / keep + 1) ≤ length table.old }
+    ensures kept { i % keep ≡ 0 → row_at table.new (length row.now) (i / keep) ≡ row.now }
+    ensures below { (k : ℕ) → keep * k < i
+        → row_at table.new (length row.now) k ≡ row_at table.old (length row.now) k }
+{
+    if i % keep == 0 {
+        store_row(table, row.len(), i / keep, row);
+    }
 }

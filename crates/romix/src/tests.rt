@@ -1,13 +1,17 @@
-//! Outside vectors: the standard's own, and values that Python 3's hashlib gave; both forms of the
-//! kernels beside one another; and each growth refused in turn.
+//! Outside vectors: the standard's own, and values that Python 3's hashlib gave; and both forms of
+//! the kernels beside one another. The files below have the limits of costs, sparse tables, each
+//! growth refused in turn, and the example at the head of the crate.
 
+ghost use Rattle.std.specs.Prelude.{◌≡◌, IfOk};
+
+mod costs;
+mod example;
 mod plain;
+mod sparse;
 
-use crate::reservation::Reservation;
 use crate::rom_mixing::romix;
-use crate::workspace::reserve_from;
-use crate::{CostFault, Costs, Limits, Ticks, Workspace, block_mix, salsa8};
-use std::alloc::{AllocError, Global};
+use crate::{Costs, Limits, Sparse, Ticks, Workspace, block_mix, salsa8};
+use std::alloc::Global;
 use std::test::Fail;
 
 // RFC 7914, section 8, as words.
@@ -107,6 +111,18 @@ const LONG_KEY: [u8; 100] = [
     0x6e, 0x4e, 0xcd, 0x51, 0xc8, 0x02, 0xd3, 0x57, 0xb4, 0x9d, 0x77, 0x56, 0x07, 0x4a, 0x96, 0xcc,
     0xbb, 0x5b, 0x9b, 0x2a, 0x40, 0x02, 0xc3, 0x4e, 0xb3, 0x74, 0xa9, 0xa1, 0x4d, 0x87, 0x01, 0x14,
     0x8d, 0x55, 0x81, 0xcd,
+];
+
+// Python, hashlib.scrypt(b"", salt=b"", n=16, r=1, p=1, dklen=100): the first 64 bytes are those of RFC
+// 7914, section 12.
+const KEY_OF_NOTHING: [u8; 100] = [
+    0x77, 0xd6, 0x57, 0x62, 0x38, 0x65, 0x7b, 0x20, 0x3b, 0x19, 0xca, 0x42, 0xc1, 0x8a, 0x04, 0x97,
+    0xf1, 0x6b, 0x48, 0x44, 0xe3, 0x07, 0x4a, 0xe8, 0xdf, 0xdf, 0xfa, 0x3f, 0xed, 0xe2, 0x14, 0x42,
+    0xfc, 0xd0, 0x06, 0x9d, 0xed, 0x09, 0x48, 0xf8, 0x32, 0x6a, 0x75, 0x3a, 0x0f, 0xc8, 0x1f, 0x17,
+    0xe8, 0xd3, 0xe0, 0xfb, 0x2e, 0x0d, 0x36, 0x28, 0xcf, 0x35, 0xe2, 0x0c, 0x38, 0xd1, 0x89, 0x06,
+    0xce, 0x73, 0x20, 0x66, 0x56, 0xcf, 0x8c, 0x1e, 0xad, 0x7f, 0x4f, 0x66, 0x30, 0xd0, 0xad, 0xae,
+    0x1f, 0xd8, 0x87, 0x8b, 0x77, 0xc3, 0xb4, 0x69, 0xdb, 0x91, 0x9f, 0x01, 0x59, 0x7f, 0x61, 0x3a,
+    0xc2, 0xf7, 0x8a, 0xec,
 ];
 
 // Python, hashlib.scrypt(b"pleaseletmein", salt=b"SodiumChloride", n=8, r=r, p=p, dklen=16), by r
@@ -331,12 +347,20 @@ static SMALL_COSTS: [(u32, u32, [u8; 16]); 27] = [
 ];
 
 fn workspace(alloc: Global, log_n: u8, r: u32, p: u32) -> Result<Workspace, Fail> {
+    sparse_workspace(alloc, log_n, r, p, 1)
+}
+
+fn sparse_workspace(alloc: Global, log_n: u8, r: u32, p: u32, keep: u64) -> Result<Workspace, Fail>
+    ensures sparse { IfOk result (λ workspace. workspace.sparse
+        ≡ record { costs = record { log_n = log_n; r = r; p = p }; keep = keep }) }
+{
     let costs = Costs::new(log_n, r, p)?;
-    costs.admitted(&Limits {
+    let sparse = Sparse::new(&costs, keep)?;
+    sparse.admitted(&Limits {
         max_bytes: 1 << 30,
         max_ops: 1 << 30,
     })?;
-    Ok(Workspace::reserve(alloc, &costs)?)
+    Ok(Workspace::reserve(alloc, &sparse)?)
 }
 
 #[test]
@@ -358,7 +382,16 @@ fn romix_vector(rt: HostRuntime) {
     let mut row = ROW;
     let mut other = [0u32; 32];
     let mut table = [0u32; 512];
-    romix(&mut row, &mut other, &mut table, 4, &mut Ticks::new());
+    let mut spare = [0u32; 0];
+    romix(
+        &mut row,
+        &mut other,
+        &mut spare,
+        &mut table,
+        4,
+        1,
+        &mut Ticks::new(),
+    );
     assert_eq!(rt; row, ROW_ROMIXED);
 }
 
@@ -405,6 +438,17 @@ fn scrypt_cases(rt: HostRuntime) -> Result<(), Fail> {
     Ok(())
 }
 
+// A longer key begins with the shorter one.
+#[test]
+fn key_of_100_bytes(rt: HostRuntime) -> Result<(), Fail> {
+    let mut workspace = workspace(rt.alloc(), 4, 1, 1)?;
+    let mut key = [0u8; 100];
+    workspace.derive(b"", b"", &mut key, &mut Ticks::new());
+    assert_eq!(rt; key, KEY_OF_NOTHING);
+    assert_eq!(rt; SCRYPT_CASES[0].key.as_slice(), &KEY_OF_NOTHING[..64]);
+    Ok(())
+}
+
 #[test]
 fn lengths(rt: HostRuntime) -> Result<(), Fail> {
     let mut workspace = workspace(rt.alloc(), 4, 1, 1)?;
@@ -433,115 +477,6 @@ fn small_costs(rt: HostRuntime) -> Result<(), Fail> {
             &mut Ticks::new(),
         );
         assert_eq!(rt; key, expected, "r = {r}, p = {p}");
-    }
-    Ok(())
-}
-
-#[test]
-fn costs_out_of_range(rt: HostRuntime) {
-    for (log_n, r, p, fault) in [
-        (0, 1, 1, Some(CostFault::LogN)),
-        (1, 1, 1, None),
-        (63, 1, 1, None),
-        (64, 1, 1, Some(CostFault::LogN)),
-        (0, 0, 0, Some(CostFault::LogN)),
-        (1, 0, 1, Some(CostFault::Zero)),
-        (1, 1, 0, Some(CostFault::Zero)),
-        (1, 0, u32::MAX, Some(CostFault::Zero)),
-        (1, (1 << 30) - 1, 1, None),
-        (1, 1 << 30, 1, Some(CostFault::Product)),
-        (1, 1 << 15, 1 << 15, Some(CostFault::Product)),
-        (1, u32::MAX, u32::MAX, Some(CostFault::Product)),
-    ] {
-        assert_eq!(rt; Costs::new(log_n, r, p).err(), fault, "{log_n}, {r}, {p}");
-    }
-}
-
-#[test]
-fn what_costs_take(rt: HostRuntime) -> Result<(), Fail> {
-    let costs = Costs::new(14, 8, 3)?;
-    assert_eq!(rt; (costs.log_n(), costs.r(), costs.p()), (14, 8, 3));
-    assert_eq!(rt; costs.table_bytes(), 128 * 16384 * 8);
-    assert_eq!(rt; costs.cores(), 4 * 16384 * 8 * 3);
-    let largest = Costs::new(63, 1 << 29, 1)?;
-    assert_eq!(rt; largest.table_bytes(), 1 << 99);
-    assert_eq!(rt; largest.cores(), 1 << 94);
-    Ok(())
-}
-
-#[test]
-fn limits_that_do_not_admit(rt: HostRuntime) -> Result<(), Fail> {
-    for (log_n, r, p, max_bytes, max_ops, fault) in [
-        (4, 1, 1, 2048, 64, None),
-        (4, 1, 1, 2047, 64, Some(CostFault::Memory)),
-        (4, 1, 1, 2048, 63, Some(CostFault::Work)),
-        (4, 1, 1, 2047, 63, Some(CostFault::Memory)),
-        (1, 1, 100, 12800, 800, None),
-        (1, 1, 100, 12799, 800, Some(CostFault::Memory)),
-        (63, 1, 1, u64::MAX, u64::MAX, Some(CostFault::Memory)),
-        (
-            1,
-            1,
-            (1 << 30) - 1,
-            u64::MAX,
-            (1 << 33) - 9,
-            Some(CostFault::Work),
-        ),
-    ] {
-        let limits = Limits { max_bytes, max_ops };
-        let costs = Costs::new(log_n, r, p)?;
-        assert_eq!(rt; costs.admitted(&limits).err(), fault, "{limits:?}");
-    }
-    Ok(())
-}
-
-// A source that refuses the request after so many.
-#[derive(Drop)]
-struct Refusing {
-    alloc: Global,
-    left: u32,
-}
-
-impl Refusing {
-    fn next(&mut self) -> Result<(), AllocError> {
-        if self.left == 0 {
-            return Err(AllocError);
-        }
-        self.left -= 1;
-        Ok(())
-    }
-}
-
-impl Reservation for Refusing {
-    fn zero_words(&mut self, len: usize) -> Result<Vec<u32>, AllocError> {
-        self.next()?;
-        vec![in self.alloc; 0; len]
-    }
-
-    fn zero_bytes(&mut self, len: usize) -> Result<Vec<u8>, AllocError> {
-        self.next()?;
-        vec![in self.alloc; 0; len]
-    }
-}
-
-#[test]
-fn each_growth_may_be_refused(rt: HostRuntime) -> Result<(), Fail> {
-    let costs = Costs::new(4, 1, 1)?;
-    costs.admitted(&Limits {
-        max_bytes: 2048,
-        max_ops: 64,
-    })?;
-    for left in 0..=4u32 {
-        let mut source = Refusing {
-            alloc: rt.alloc(),
-            left,
-        };
-        let workspace = reserve_from(&mut source, &costs);
-        assert_eq!(rt;
-            workspace.is_ok(),
-            left == 4,
-            "with {left} requests granted"
-        );
     }
     Ok(())
 }

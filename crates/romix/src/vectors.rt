@@ -1,7 +1,7 @@
 //! Vectors that the checker computes by the definitions alone.
-ghost use Rattle.std.specs.Prelude.{◌≡◌, [], ◌∷◌};
+ghost use Rattle.std.specs.Prelude.{◌≡◌, ◌+◌, ◌*◌, ◌^◌, ◌++◌, [], ◌∷◌, replicate};
 ghost use Rattle.romix.specs.BlockMix.{block_mix};
-ghost use Rattle.romix.specs.Romix.{romix};
+ghost use Rattle.romix.specs.Romix.{integerify, romix};
 ghost use Rattle.romix.specs.Salsa20.{quarter_round, salsa20_8};
 ghost use Rattle.romix.specs.Scrypt.{scrypt};
 
@@ -67,4 +67,10 @@ fn scrypt_of_nothing()
         0x32 ∷ 0x6A ∷ 0x75 ∷ 0x3A ∷ 0x0F ∷ 0xC8 ∷ 0x1F ∷ 0x17 ∷
         0xE8 ∷ 0xD3 ∷ 0xE0 ∷ 0xFB ∷ 0x2E ∷ 0x0D ∷ 0x36 ∷ 0x28 ∷
         0xCF ∷ 0x35 ∷ 0xE2 ∷ 0x0C ∷ 0x38 ∷ 0xD1 ∷ 0x89 ∷ 0x06 ∷ [] }
+{}
+
+// All sixteen words of the last block count, the lowest first.
+fn integerify_of_a_row()
+    ensures number { integerify (replicate 16 9 ++ 1 ∷ 2 ∷ 3 ∷ replicate 12 0 ++ 4 ∷ [])
+        ≡ 1 + 2 * 2 ^ 32 + 3 * 2 ^ 64 + 4 * 2 ^ 480 }
 {}

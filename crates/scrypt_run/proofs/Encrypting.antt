@@ -1,19 +1,15 @@
 -- The beginnings of an encrypted file, as a run writes them.
-use Rattle.std.proofs.Common.{◌≡◌, ◌≤◌, ◌<◌, ◌+◌, ◌^◌, ◌++◌, ◌⊎◌, ◌==◌, ◌∙◌, inl, inr, ℕ, Bool, true, false, List, [], Some, option_map, take, length, if◌then◌else◌, ap, sym, refl, subst, arith, length-append}
+use Rattle.std.proofs.Common.{◌≡◌, ◌≤◌, ◌<◌, ◌+◌, ◌^◌, ◌++◌, ◌⊎◌, ◌==◌, ◌∙◌, inl, inr, ℕ, Bool, true, false, List, [], take, length, if◌then◌else◌, ap, sym, refl, subst, arith, length-append}
 use Rattle.std.proofs.lemmas.Grind.{common_steps}
 use Rattle.std.proofs.lemmas.List.{append-nil}
 use Rattle.romix.specs.Costs.{Parameters}
-use Rattle.romix.specs.Faults.{limit_fault}
-use Rattle.romix.specs.declared.fault.CostFault.{CostFault}
 use Rattle.encfile.specs.EncryptedFile.{body, encrypted_file, final_code}
 use Rattle.encfile.specs.Encrypting.{HasEncrypted, length_encrypted}
-use Rattle.encfile.specs.Front.{limit_refusal}
 use Rattle.encfile.specs.declared.enc.Enc.{Enc}
 use Rattle.encfile.proofs.Files.{length-body, length-encrypted_file, length_encrypted-is}
 use Rattle.host.specs.Seen.{Seen, after_pull, after_push}
 use Rattle.scrypt_run.specs.Encrypting.{FileCutShort, decided, salt_used, text_opened}
 use Rattle.scrypt_run.specs.Passphrase.{HasPassphrase, first_line_at}
-use Rattle.scrypt_run.specs.Refusal.{refusal_of}
 use Rattle.scrypt_run.specs.Request.{Encryption}
 use Rattle.scrypt_run.specs.Steps.{after_passing}
 use Rattle.scrypt_run.specs.Text.{EndsText, FailsReading, FailsWriting, IsTooLong}
@@ -22,14 +18,6 @@ use Rattle.scrypt_run.specs.declared.refusal.ScryptRefusal.TheVariants as refusa
 use Rattle.host.proofs.Pushes.{push_push}
 use Rattle.scrypt_run.proofs.Ends.{first_line_at-reading, salt_used-opening}
 use Rattle.scrypt_run.proofs.Passing.{begun_on}
-
--- ---- the limits
-
--- a fault of the limits is told as its refusal
-pub costs_refused : (costs : Parameters) (max_bytes max_ops : ℕ) (fault : CostFault) (r : ScryptRefusal) → limit_fault costs max_bytes max_ops ≡ Some fault
-    → r ≡ refusal_of (limit_refusal fault) → option_map refusal_of (option_map limit_refusal (limit_fault costs max_bytes max_ops)) ≡ Some r
-costs_refused costs max_bytes max_ops fault r is told =
-    ap (λ f. option_map refusal_of (option_map limit_refusal f)) is ∙ ap Some (sym told)
 
 -- ---- the passphrase and the salt
 

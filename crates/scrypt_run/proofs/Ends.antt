@@ -1,8 +1,7 @@
 -- What holds of a result, carried on to what follows from it; and what reading the input keeps.
-use Rattle.std.proofs.Common.{◌≡◌, ℕ, List, Option, Some, None, Result, Ok, Err, OnOk, IfErr, IfOk, refl}
-use Rattle.host.specs.Seen.{Seen, Text, after_open_input}
-use Rattle.host.specs.Secret.{SecretSource}
-use Rattle.host.specs.Secret.SecretSource.{env as variable, file as secret_file, stdin_once}
+use Rattle.std.proofs.Common.{◌≡◌, ℕ, List, Option, Some, None, Result, Ok, Err, OnOk, IfErr, IfOk, IsErrAnd, refl}
+use Rattle.host.specs.Seen.{SecretSource, Seen, Text, after_open_input}
+use Rattle.host.specs.Seen.SecretSource.{env as variable, file as secret_file, stdin_once}
 use Rattle.scrypt_run.specs.Encrypting.{salt_used}
 use Rattle.scrypt_run.specs.Passphrase.{first_line_at}
 use Rattle.scrypt_run.specs.Steps.{after_reading}
@@ -30,3 +29,8 @@ first_line_at-reading (secret_file name) infile n s = refl
 pub salt_used-opening : (salt : Option (List ℕ)) (infile : Option Text) (s : Seen) → salt_used salt (after_open_input infile s) ≡ salt_used salt s
 salt_used-opening None infile s = refl
 salt_used-opening (Some salt) infile s = refl
+
+-- what a `?` hands on is what was refused
+pub handed_on : {A E : Type 0} {P Q : E → Type 0} (r : Result A E) → IsErrAnd r Q → ((e : E) → Q e → P e) → IfErr r P
+handed_on (Ok a) told f = absurd told
+handed_on (Err e) told f = f e told

@@ -4,14 +4,13 @@ use Rattle.std.specs.Prelude.{option_map}
 use Rattle.std.proofs.lemmas.List.{append_assoc}
 use Rattle.std.proofs.lemmas.Option.{none-some}
 use Rattle.std.specs.Fmt.{decimal}
+use Rattle.romix.specs.Allowance.{Allowance}
 use Rattle.romix.specs.Costs.{Parameters, cores, table_bytes}
-use Rattle.romix.specs.Faults.{limit_fault}
-use Rattle.romix.specs.declared.fault.CostFault.{CostFault}
-use Rattle.encfile.specs.Front.{FrontRefusal, format_refusal, header_refusal, limit_refusal, limits_refusal}
+use Rattle.encfile.specs.Front.{FrontRefusal, costs_refusal, format_refusal, header_refusal, limits_refusal}
 use Rattle.encfile.specs.Header.{costs_of}
 use Rattle.encfile.specs.HeaderFaults.{header_fault}
 use Rattle.encfile.specs.declared.fault.HeaderFault.{HeaderFault}
-use Rattle.encfile.proofs.Fronts.{format_refusal-header, format_refusal-short, format_refusal-take, limits_refusal-format, limits_refusal-limits, limits_refusal-take}
+use Rattle.encfile.proofs.Fronts.{format_refusal-header, format_refusal-short, format_refusal-take, limits_refusal-costs, limits_refusal-format, limits_refusal-take}
 use Rattle.encfile.proofs.Headers.{costs_of-take}
 use Rattle.host.specs.Seen.{Seen, Text, after_open_input, after_pull}
 use Rattle.scrypt_run.specs.Front.{FrontRefused}
@@ -61,25 +60,16 @@ pub format_refused : (front bytes : List ℕ) (fault : HeaderFault) (r : ScryptR
 format_refused front bytes fault r long first told is =
     ap (option_map refusal_of) (format_told front bytes (Some fault) long first told) ∙ ap Some (sym is)
 
--- ---- the limits
+-- ---- the costs
 
-pub limits_front : (front file : List ℕ) (max_bytes max_ops : ℕ) → 96 ≤ length file → front ≡ take 96 file
-    → limits_refusal front max_bytes max_ops ≡ limits_refusal file max_bytes max_ops
-limits_front front file max_bytes max_ops long first =
-    ap (λ f. limits_refusal f max_bytes max_ops) first ∙ limits_refusal-take file max_bytes max_ops long
+pub limits_front : (front file : List ℕ) (allowed : Allowance) → 96 ≤ length file → front ≡ take 96 file
+    → limits_refusal front allowed ≡ limits_refusal file allowed
+limits_front front file allowed long first = ap (λ f. limits_refusal f allowed) first ∙ limits_refusal-take file allowed long
 
--- what `Costs::admitted` tells
-pub limits_told : (front : List ℕ) (costs : Parameters) (max_bytes max_ops : ℕ) (told : Option CostFault) → format_refusal front ≡ None → costs ≡ costs_of front
-    → limit_fault costs max_bytes max_ops ≡ told → limits_refusal front max_bytes max_ops ≡ option_map limit_refusal told
-limits_told front costs max_bytes max_ops told valid same is =
-    limits_refusal-limits front max_bytes max_ops valid
-    ∙ ap (λ (c : Parameters). option_map limit_refusal (limit_fault c max_bytes max_ops)) (sym same) ∙ ap (option_map limit_refusal) is
-
-pub limits_refused : (front : List ℕ) (costs : Parameters) (max_bytes max_ops : ℕ) (fault : CostFault) (r : ScryptRefusal) → format_refusal front ≡ None
-    → costs ≡ costs_of front → limit_fault costs max_bytes max_ops ≡ Some fault → r ≡ refusal_of (limit_refusal fault)
-    → option_map refusal_of (limits_refusal front max_bytes max_ops) ≡ Some r
-limits_refused front costs max_bytes max_ops fault r valid same told is =
-    ap (option_map refusal_of) (limits_told front costs max_bytes max_ops (Some fault) valid same told) ∙ ap Some (sym is)
+-- what refuses costs refuses the file that has them
+pub limits_told : (front : List ℕ) (costs : Parameters) (allowed : Allowance) → format_refusal front ≡ None → costs ≡ costs_of front
+    → limits_refusal front allowed ≡ costs_refusal costs allowed
+limits_told front costs allowed valid same = limits_refusal-costs front allowed valid ∙ ap (λ (c : Parameters). costs_refusal c allowed) (sym same)
 
 -- a refusal stays where another test goes on from it
 goes_on : (first later : Option FrontRefusal) (r : ScryptRefusal) → ((x : FrontRefusal) → first ≡ Some x → later ≡ Some x)
@@ -88,11 +78,11 @@ goes_on None later r more h = absurd (none-some r h)
 goes_on (Some x) later r more h = ap (option_map refusal_of) (more x refl) ∙ h
 
 -- what refuses the header refuses the file under each limits
-pub format_first : (r : ScryptRefusal) (max_bytes max_ops : ℕ) (infile : Option Text) (s u : Seen) → FrontRefused r (format_refusal s.input) infile s u
-    → FrontRefused r (limits_refusal s.input max_bytes max_ops) infile s u
-format_first r max_bytes max_ops infile s u (inl h) = inl h
-format_first r max_bytes max_ops infile s u (inr h) =
-    inr (goes_on (format_refusal s.input) (limits_refusal s.input max_bytes max_ops) r (limits_refusal-format s.input max_bytes max_ops) h.0, h.1)
+pub format_first : (r : ScryptRefusal) (allowed : Allowance) (infile : Option Text) (s u : Seen) → FrontRefused r (format_refusal s.input) infile s u
+    → FrontRefused r (limits_refusal s.input allowed) infile s u
+format_first r allowed infile s u (inl h) = inl h
+format_first r allowed infile s u (inr h) =
+    inr (goes_on (format_refusal s.input) (limits_refusal s.input allowed) r (limits_refusal-format s.input allowed) h.0, h.1)
 
 -- ---- the line of costs
 

@@ -1,8 +1,10 @@
 -- Lemmas, by topic.
+pub mod Asking
 pub mod Decrypting
 pub mod Encrypting
 pub mod Ends
 pub mod Fronts
+pub mod Keeping
 pub mod Lines
 pub mod Openings
 pub mod Passing

@@ -3,6 +3,7 @@ use Rattle.std.proofs.Common.{◌≡◌, ◌≤◌, ◌++◌, inl, inr, ◌+◌,
 use Rattle.std.proofs.lemmas.Option.{none-some, same_Some}
 use Rattle.std.proofs.lemmas.List.{length-drop}
 use Rattle.std.proofs.lemmas.Grind.{common_steps}
+use Rattle.romix.specs.Allowance.{Allowance}
 use Rattle.romix.specs.Costs.{Parameters}
 use Rattle.encfile.specs.EncryptedFile.{HasRightHeaderCode, IsEncryptionOf, released_text}
 use Rattle.encfile.specs.Front.{FrontRefusal, front_refusal, limits_refusal}
@@ -11,12 +12,12 @@ use Rattle.encfile.specs.Laws.{GivesBack}
 use Rattle.encfile.proofs.Files.{GivesBack-is, length-encrypted_file}
 use Rattle.encfile.proofs.Fronts.{front_refusal-encrypted_file, front_refusal-limits, front_refusal-wrong}
 use Rattle.host.specs.Seen.{Seen, Text}
-use Rattle.scrypt_run.specs.Decrypting.{DecryptRefused, DecryptSucceeds, OpenRefused, ReleaseRefused, front_pulled, front_refusal_of, limits_refusal_of}
+use Rattle.scrypt_run.specs.Decrypting.{DecryptRefused, DecryptSucceeds, OpenRefused, ReleaseRefused, front_refusal_of, limits_refusal_of, passphrase_asked}
 use Rattle.scrypt_run.specs.Laws.{CanBeOpened, IsFromOutside, WroteWhatWasEncrypted}
 use Rattle.scrypt_run.specs.Passphrase.{HasPassphrase, PassphraseRefused, first_line_at}
 use Rattle.scrypt_run.specs.Front.{FrontRefused}
 use Rattle.scrypt_run.specs.Refusal.{refusal_of}
-use Rattle.scrypt_run.specs.Request.{Task}
+use Rattle.scrypt_run.specs.Request.{Task, allowance_of}
 use Rattle.scrypt_run.specs.declared.refusal.ScryptRefusal.{ScryptRefusal}
 
 -- a source gives one passphrase
@@ -78,8 +79,8 @@ genuine_by_file : (task : Task) (before : Seen) (passphrase salt : List ℕ) (co
     → CanBeOpened task before passphrase salt costs text → IsGenuine task before passphrase
 genuine_by_file task before passphrase salt costs text h = record {
   given = h.given;
-  passes = ap (λ f. front_refusal f task.limits.max_bytes task.limits.max_ops passphrase) h.input
-      ∙ front_refusal-encrypted_file passphrase salt costs text task.limits.max_bytes task.limits.max_ops h.salt_has_32_bytes h.in_range h.memory h.work;
+  passes = ap (λ f. front_refusal f (allowance_of task) passphrase) h.input
+      ∙ front_refusal-encrypted_file passphrase salt costs text (allowance_of task) h.salt_has_32_bytes h.in_range h.admitted;
   encryption = subst (λ xs. IsEncryptionOf before.input passphrase xs) (sym (released task before passphrase salt costs text h))
       (subst (λ f. IsEncryptionOf f passphrase text) (sym h.input) (gives_back task before passphrase salt costs text h).encryption);
 }
@@ -93,11 +94,11 @@ text_is_written task before after passphrase salt costs text h ends =
 
 -- ---- no refusal of the product's own
 
-pub limits_pass : (file : List ℕ) (max_bytes max_ops : ℕ) (passphrase : List ℕ) (first : Option FrontRefusal)
-    → limits_refusal file max_bytes max_ops ≡ first → front_refusal file max_bytes max_ops passphrase ≡ None → first ≡ None
-limits_pass file max_bytes max_ops passphrase None is passes = refl
-limits_pass file max_bytes max_ops passphrase (Some r) is passes =
-    absurd (none-some r (sym passes ∙ front_refusal-limits file max_bytes max_ops passphrase r is))
+pub limits_pass : (file : List ℕ) (allowed : Allowance) (passphrase : List ℕ) (first : Option FrontRefusal)
+    → limits_refusal file allowed ≡ first → front_refusal file allowed passphrase ≡ None → first ≡ None
+limits_pass file allowed passphrase None is passes = refl
+limits_pass file allowed passphrase (Some r) is passes =
+    absurd (none-some r (sym passes ∙ front_refusal-limits file allowed passphrase r is))
 
 pub none_refuses : (first : Option FrontRefusal) (r : ScryptRefusal) → first ≡ None → option_map refusal_of first ≡ Some r → ⊥
 none_refuses first r none told = none-some r (sym (ap (option_map refusal_of) none) ∙ told)
@@ -121,7 +122,7 @@ length_input task before passphrase h =
     ∙ length-encrypted_file passphrase h.encryption.salt h.encryption.costs (released_text before.input passphrase) h.encryption.salt_has_32_bytes
 
 admitted : (task : Task) (before : Seen) (passphrase : List ℕ) → IsGenuine task before passphrase → limits_refusal_of task before ≡ None
-admitted task before passphrase h = limits_pass before.input task.limits.max_bytes task.limits.max_ops passphrase _ refl h.passes
+admitted task before passphrase h = limits_pass before.input (allowance_of task) passphrase _ refl h.passes
 
 opening_from_outside : (task : Task) (before : Seen) (passphrase : List ℕ) (r : ScryptRefusal) → IsGenuine task before passphrase
     → OpenRefused r (first_line_at task.source before) (take 96 before.input) → IsFromOutside r
@@ -131,12 +132,12 @@ opening_from_outside task before passphrase r h (inr (inr (is, other, given, wro
     let long : 96 ≤ length before.input = omega (arith, length_input task before passphrase h) in
     let same : other ≡ passphrase = one_passphrase _ other passphrase given h.given in
     absurd (none-some OtherPassphrase (sym h.passes
-    ∙ front_refusal-wrong before.input task.limits.max_bytes task.limits.max_ops passphrase long (admitted task before passphrase h)
+    ∙ front_refusal-wrong before.input (allowance_of task) passphrase long (admitted task before passphrase h)
     (subst (λ p. HasRightHeaderCode (take 96 before.input) p → ⊥) same wrong)))
 
 releasing_from_outside : (task : Task) (before after : Seen) (passphrase other : List ℕ) (r : ScryptRefusal) → IsGenuine task before passphrase
     → HasPassphrase (first_line_at task.source before) other
-    → ReleaseRefused r other (take 96 before.input) task.outfile (front_pulled task before) after → IsFromOutside r
+    → ReleaseRefused r other (take 96 before.input) task.outfile (passphrase_asked task before) after → IsFromOutside r
 releasing_from_outside task before after passphrase other r h given (inl failed) = inr (inl failed.0)
 releasing_from_outside task before after passphrase other r h given (inr (inl (inl reading))) = inl reading.0
 releasing_from_outside task before after passphrase other r h given (inr (inl (inr (inl writing)))) = inr (inl writing.0)

@@ -1,4 +1,4 @@
--- Two refusals of a request are the same, or one is from outside: the others are decided by the request and the host.
+-- Two refusals of a request are one end, or one is from outside: the others are decided by the request and the host.
 use Rattle.std.proofs.Common.{◌≡◌, ◌<◌, ◌≤◌, ◌+◌, ◌-◌, ◌^◌, ◌⊎◌, inl, inr, ℕ, Bool, List, Option, Some, None, ap, drop, take, length, option_map, refl, sym, subst, true, false, ◌∙◌, arith}
 use Rattle.std.specs.Prelude.{if◌then◌else◌, nat_lt}
 use Rattle.std.proofs.lemmas.Bool.Decides.{nat_tests}
@@ -7,16 +7,17 @@ use Rattle.std.proofs.lemmas.Option.{none-some, same_Some}
 use Rattle.encfile.specs.Front.{FrontRefusal, format_refusal}
 use Rattle.encfile.specs.Front.FrontRefusal.{NotScryptData, OtherPassphrase}
 use Rattle.encfile.proofs.Fronts.{format_refusal-short, front_refusal-wrong, limits_refusal-format}
-use Rattle.host.specs.Seen.{Seen, Text}
-use Rattle.scrypt_run.specs.Decrypting.{DecryptRefused, OpenRefused, ReleaseRefused, front_pulled, front_refusal_of, limits_refusal_of}
-use Rattle.scrypt_run.specs.Encrypting.{EncryptRefused, StartRefused, TextNotOpened, WriteRefused, costs_refusal, salt_used, text_opened}
-use Rattle.scrypt_run.specs.Front.{FrontRefused}
+use Rattle.host.specs.Seen.{Seen, Text, after_open_output}
+use Rattle.scrypt_run.specs.Decrypting.{DecryptRefused, OpenRefused, ReleaseRefused, front_refusal_of, limits_refusal_of, text_behind, passphrase_asked as passphrase_asked_by_dec}
+use Rattle.scrypt_run.specs.Encrypting.{EncryptRefused, StartRefused, TextNotOpened, WriteRefused, costs_refusal_of, passphrase_asked, salt_used}
+use Rattle.scrypt_run.specs.Front.{FrontRefused, after_front}
 use Rattle.scrypt_run.specs.Inspecting.{InspectRefused}
-use Rattle.scrypt_run.specs.Laws.{IsFromOutside, IsRefusedFromOutside}
+use Rattle.scrypt_run.specs.Laws.{AreOneEnd, IsFromOutside, IsRefusedFromOutside}
 use Rattle.scrypt_run.specs.Passphrase.{HasPassphrase, PassphraseRefused, first_line_at}
 use Rattle.scrypt_run.specs.Refusal.{refusal_of}
-use Rattle.scrypt_run.specs.Request.{Encryption, Request, Task, decrypt, encrypt, inspect}
+use Rattle.scrypt_run.specs.Request.{Encryption, Request, Task, allowance_of, decrypt, encrypt, inspect}
 use Rattle.scrypt_run.specs.Run.{RequestRefused}
+use Rattle.scrypt_run.specs.Steps.{after_passing}
 use Rattle.scrypt_run.specs.declared.refusal.ScryptRefusal.{ScryptRefusal}
 use Rattle.scrypt_run.specs.declared.refusal.ScryptRefusal.TheVariants as refusal
 use Rattle.scrypt_run.proofs.Openings.{both_parts, limits_pass}
@@ -24,136 +25,175 @@ use Rattle.scrypt_run.proofs.Successes.{line_from_outside}
 
 -- ---- what may refuse a request from inside
 
+-- the refusal, and the state that the run is left in, where there is one such state
+record Inside : Type 0 where
+  refusal : ScryptRefusal
+  end : Option Seen
+
+abbrev inside : ScryptRefusal → Option Seen → Inside
+inside r end = record { refusal = r; end = end }
+
 -- by the first test of a front that holds, or else the next
-abbrev by_front : Option FrontRefusal → Option ScryptRefusal → Option ScryptRefusal
-by_front (Some first) next = Some (refusal_of first)
-by_front None next = next
+abbrev by_front : Option FrontRefusal → Seen → Option Inside → Option Inside
+by_front (Some first) at next = Some (inside (refusal_of first) (Some at))
+by_front None at next = next
 
 -- by the length of the passphrase's line, or else under this passphrase
-abbrev by_line : Option (List ℕ) → (List ℕ → Option ScryptRefusal) → Option ScryptRefusal
-by_line None next = None
-by_line (Some line) next = if nat_lt 2048 (length line) then Some refusal.LongPassphrase else next line
+abbrev by_line : Option (List ℕ) → Seen → (List ℕ → Option Inside) → Option Inside
+by_line None at next = None
+by_line (Some line) at next = if nat_lt 2048 (length line) then Some (inside refusal.LongPassphrase (Some at)) else next line
 
 -- by the length of a file whose first 96 bytes are right: it is refused from inside as damaged or as too long
-abbrev by_length : ℕ → ScryptRefusal
-by_length n = if nat_lt n (2 ^ 60 + 128) then refusal.Damaged else refusal.TooLong
+abbrev by_length : ℕ → Seen → Inside
+by_length n released = if nat_lt n (2 ^ 60 + 128) then inside refusal.Damaged (Some released) else inside refusal.TooLong None
+
+-- the whole text of a file was released
+abbrev all_released : Task → Seen → List ℕ → Seen
+all_released task s passphrase =
+    let asked = passphrase_asked_by_dec task s in
+    after_passing (text_behind passphrase (take 96 s.input)) (length asked.input) (after_open_output task.outfile asked)
 
 -- of `enc`, once the limits admit the costs; under a passphrase a text is refused from inside as too long alone
-abbrev of_text : Encryption → Seen → Option ScryptRefusal
-of_text asked s = by_line (first_line_at asked.task.source s) (λ _. Some refusal.TooLong)
+abbrev of_text : Encryption → Seen → Option Inside
+of_text asked s = by_line (first_line_at asked.task.source s) (passphrase_asked asked s) (λ _. Some (inside refusal.TooLong None))
 
 -- of `dec`, once there is a passphrase
-abbrev under_passphrase : Task → Seen → List ℕ → Option ScryptRefusal
-under_passphrase task s passphrase = by_front (front_refusal_of task s passphrase) (Some (by_length (length s.input)))
+abbrev under_passphrase : Task → Seen → List ℕ → Option Inside
+under_passphrase task s passphrase =
+    by_front (front_refusal_of task s passphrase) (passphrase_asked_by_dec task s)
+    (Some (by_length (length s.input) (all_released task s passphrase)))
 
 -- of `dec`, once the limits admit the file
-abbrev of_file : Task → Seen → Option ScryptRefusal
-of_file task s = by_line (first_line_at task.source s) (under_passphrase task s)
+abbrev of_file : Task → Seen → Option Inside
+of_file task s = by_line (first_line_at task.source s) (passphrase_asked_by_dec task s) (under_passphrase task s)
 
--- the one refusal of a request that may come from inside, if any may
-abbrev from_inside : Request → Seen → Option ScryptRefusal
-from_inside (encrypt asked) s = by_front (costs_refusal asked) (of_text asked s)
-from_inside (decrypt task) s = by_front (limits_refusal_of task s) (of_file task s)
-from_inside (inspect infile) s = by_front (format_refusal s.input) None
+-- the one end of a request that may come from inside, if any may
+abbrev from_inside : Request → Seen → Option Inside
+from_inside (encrypt asked) s = by_front (costs_refusal_of asked) s (of_text asked s)
+from_inside (decrypt task) s = by_front (limits_refusal_of task s) (after_front task.infile s) (of_file task s)
+from_inside (inspect infile) s = by_front (format_refusal s.input) (after_front infile s) None
 
 -- ---- what each test comes to
 
-front_told : (first : Option FrontRefusal) (next : Option ScryptRefusal) (r : ScryptRefusal) → option_map refusal_of first ≡ Some r
-    → by_front first next ≡ Some r
-front_told None next r told = absurd (none-some r told)
-front_told (Some first) next r told = told
+front_told : (first : Option FrontRefusal) (at : Seen) (next : Option Inside) (r : ScryptRefusal) → option_map refusal_of first ≡ Some r
+    → by_front first at next ≡ Some (inside r (Some at))
+front_told None at next r told = absurd (none-some r told)
+front_told (Some first) at next r told = ap (λ x. Some (inside x (Some at))) (same_Some (refusal_of first) r told)
 
-front_passed : (first : Option FrontRefusal) (next : Option ScryptRefusal) → first ≡ None → by_front first next ≡ next
-front_passed first next none = ap (λ f. by_front f next) none
+front_passed : (first : Option FrontRefusal) (at : Seen) (next : Option Inside) → first ≡ None → by_front first at next ≡ next
+front_passed first at next none = ap (λ f. by_front f at next) none
 
-line_too_long : (line : Option (List ℕ)) (next : List ℕ → Option ScryptRefusal) (long : List ℕ) → line ≡ Some long → 2048 < length long
-    → by_line line next ≡ Some refusal.LongPassphrase
-line_too_long line next long is longer =
+line_too_long : (line : Option (List ℕ)) (at : Seen) (next : List ℕ → Option Inside) (long : List ℕ) → line ≡ Some long → 2048 < length long
+    → by_line line at next ≡ Some (inside refusal.LongPassphrase (Some at))
+line_too_long line at next long is longer =
     let test : nat_lt 2048 (length long) ≡ true = grind (arith, nat_tests, longer) in
-    ap (λ l. by_line l next) is ∙ rw test refl
+    ap (λ l. by_line l at next) is ∙ rw test refl
 
-line_passed : (line : Option (List ℕ)) (next : List ℕ → Option ScryptRefusal) (passphrase : List ℕ) → HasPassphrase line passphrase
-    → by_line line next ≡ next passphrase
-line_passed line next passphrase given =
+line_passed : (line : Option (List ℕ)) (at : Seen) (next : List ℕ → Option Inside) (passphrase : List ℕ) → HasPassphrase line passphrase
+    → by_line line at next ≡ next passphrase
+line_passed line at next passphrase given =
     let test : nat_lt 2048 (length passphrase) ≡ false = grind (arith, nat_tests, given.fits) in
-    ap (λ l. by_line l next) given.is ∙ rw test refl
+    ap (λ l. by_line l at next) given.is ∙ rw test refl
 
-length_too_long : (n : ℕ) → 2 ^ 60 + 128 ≤ n → by_length n ≡ refusal.TooLong
-length_too_long n long =
+length_too_long : (n : ℕ) (released : Seen) → 2 ^ 60 + 128 ≤ n → by_length n released ≡ inside refusal.TooLong None
+length_too_long n released long =
     let test : nat_lt n (2 ^ 60 + 128) ≡ false = grind (arith, nat_tests, long) in
     rw test refl
 
-length_damaged : (n : ℕ) → n < 2 ^ 60 + 128 → by_length n ≡ refusal.Damaged
-length_damaged n short =
+length_damaged : (n : ℕ) (released : Seen) → n < 2 ^ 60 + 128 → by_length n released ≡ inside refusal.Damaged (Some released)
+length_damaged n released short =
     let test : nat_lt n (2 ^ 60 + 128) ≡ true = grind (arith, nat_tests, short) in
     rw test refl
 
 -- ---- a refusal is from outside, or is the one from inside
 
+-- the run is left in this state; where there are several, its input was too long
+abbrev FitsEnd : Option Seen → ScryptRefusal → Seen → Type 0
+FitsEnd (Some end) r after = after ≡ end
+FitsEnd None r after = r ≡ refusal.TooLong
+
+-- the refusal is due, and the run is left in the state that is due
+record IsDue (due : Option Inside) (r : ScryptRefusal) (after : Seen) : Type 0 where
+  end : Option Seen
+  is : due ≡ Some (inside r end)
+  fits : FitsEnd end r after
+
 -- at a step: the refusal is from outside, or is this one
-abbrev OutsideOr : Option ScryptRefusal → ScryptRefusal → Type 0
-OutsideOr due r = IsFromOutside r ⊎ (due ≡ Some r)
+abbrev OutsideOr : Option Inside → ScryptRefusal → Seen → Type 0
+OutsideOr due r after = IsFromOutside r ⊎ IsDue due r after
 
 -- the steps before passed
-later : (r : ScryptRefusal) (all next : Option ScryptRefusal) → all ≡ next → OutsideOr next r → OutsideOr all r
-later r all next same (inl outside) = inl outside
-later r all next same (inr due) = inr (same ∙ due)
+due_later : (r : ScryptRefusal) (after : Seen) (all next : Option Inside) → all ≡ next → IsDue next r after → IsDue all r after
+due_later r after all next same h = record { end = h.end; is = same ∙ h.is; fits = h.fits }
 
-some_refusal : (r due : ScryptRefusal) → r ≡ due → Some due ≡ Some r
-some_refusal r due is = ap (λ (x : ScryptRefusal). Some x) (sym is)
+later : (r : ScryptRefusal) (after : Seen) (all next : Option Inside) → all ≡ next → OutsideOr next r after → OutsideOr all r after
+later r after all next same (inl outside) = inl outside
+later r after all next same (inr due) = inr (due_later r after all next same due)
 
-front_refused : (first : Option FrontRefusal) (infile : Option Text) (before after : Seen) (r : ScryptRefusal) (next : Option ScryptRefusal)
-    → FrontRefused r first infile before after → OutsideOr (by_front first next) r
+told_as : (r due : ScryptRefusal) (end : Option Seen) → r ≡ due → inside due end ≡ inside r end
+told_as r due end is = ap (λ x. inside x end) (sym is)
+
+due_at : (due : Option Inside) (r : ScryptRefusal) (at after : Seen) → due ≡ Some (inside r (Some at)) → after ≡ at → IsDue due r after
+due_at due r at after is same = record { end = Some at; is = is; fits = same }
+
+front_refused : (first : Option FrontRefusal) (infile : Option Text) (before after : Seen) (r : ScryptRefusal) (next : Option Inside)
+    → FrontRefused r first infile before after → OutsideOr (by_front first (after_front infile before) next) r after
 front_refused first infile before after r next (inl failed) = inl (inl failed.0)
-front_refused first infile before after r next (inr told) = inr (front_told first next r told.0)
+front_refused first infile before after r next (inr told) =
+    inr (due_at _ r (after_front infile before) after (front_told first (after_front infile before) next r told.0) told.1)
 
-passphrase_refused : (line : Option (List ℕ)) (r : ScryptRefusal) (next : List ℕ → Option ScryptRefusal) → PassphraseRefused r line
-    → OutsideOr (by_line line next) r
-passphrase_refused line r next (inl failed) = inl (inr (inr (inl failed)))
-passphrase_refused line r next (inr (is, long, line_is, longer)) =
-    inr (line_too_long line next long line_is longer ∙ some_refusal r refusal.LongPassphrase is)
+passphrase_refused : (line : Option (List ℕ)) (at after : Seen) (r : ScryptRefusal) (next : List ℕ → Option Inside) → after ≡ at
+    → PassphraseRefused r line → OutsideOr (by_line line at next) r after
+passphrase_refused line at after r next same (inl failed) = inl (inr (inr (inl failed)))
+passphrase_refused line at after r next same (inr (is, long, line_is, longer)) =
+    inr (due_at _ r at after (line_too_long line at next long line_is longer ∙ ap Some (told_as r refusal.LongPassphrase (Some at) is)) same)
 
 -- ---- of `enc`
 
-abbrev EncryptDecided : Encryption → Seen → ScryptRefusal → Type 0
-EncryptDecided asked s r = IsRefusedFromOutside (encrypt asked) r ⊎ (from_inside (encrypt asked) s ≡ Some r)
+abbrev EncryptDecided : Encryption → Seen → ScryptRefusal → Seen → Type 0
+EncryptDecided asked s r after = IsRefusedFromOutside (encrypt asked) r ⊎ IsDue (from_inside (encrypt asked) s) r after
 
-encrypt_decided : (asked : Encryption) (s : Seen) (r : ScryptRefusal) → OutsideOr (from_inside (encrypt asked) s) r → EncryptDecided asked s r
-encrypt_decided asked s r (inl outside) = inl (inl outside)
-encrypt_decided asked s r (inr due) = inr due
+encrypt_decided : (asked : Encryption) (s : Seen) (r : ScryptRefusal) (after : Seen) → OutsideOr (from_inside (encrypt asked) s) r after
+    → EncryptDecided asked s r after
+encrypt_decided asked s r after (inl outside) = inl (inl outside)
+encrypt_decided asked s r after (inr due) = inr due
 
 text_not_opened : (asked : Encryption) (before after : Seen) (r : ScryptRefusal) → TextNotOpened r asked before after
-    → OutsideOr (from_inside (encrypt asked) before) r
-text_not_opened asked before after r (same, inl told) = inr (front_told (costs_refusal asked) (of_text asked before) r told)
+    → OutsideOr (from_inside (encrypt asked) before) r after
+text_not_opened asked before after r (same, inl told) =
+    inr (due_at _ r before after (front_told (costs_refusal_of asked) before (of_text asked before) r told) same)
 text_not_opened asked before after r (same, inr failed) = inl (inl failed.1)
 
 -- the costs are admitted
-to_text : (asked : Encryption) (s : Seen) → costs_refusal asked ≡ None → from_inside (encrypt asked) s ≡ of_text asked s
-to_text asked s admitted = front_passed (costs_refusal asked) (of_text asked s) admitted
+to_text : (asked : Encryption) (s : Seen) → costs_refusal_of asked ≡ None → from_inside (encrypt asked) s ≡ of_text asked s
+to_text asked s admitted = front_passed (costs_refusal_of asked) s (of_text asked s) admitted
 
-start_refused : (asked : Encryption) (before : Seen) (r : ScryptRefusal) → costs_refusal asked ≡ None
-    → StartRefused r asked.salt (first_line_at asked.task.source before) → EncryptDecided asked before r
-start_refused asked before r admitted (inl refused) =
-    encrypt_decided asked before r
-    (later r _ (of_text asked before) (to_text asked before admitted) (passphrase_refused (first_line_at asked.task.source before) r _ refused))
-start_refused asked before r admitted (inr (inl failed)) = inl (inr (failed.0, failed.1))
-start_refused asked before r admitted (inr (inr lacks)) = inl (inl (inr (inr (inr lacks.0))))
+start_refused : (asked : Encryption) (before after : Seen) (r : ScryptRefusal) → costs_refusal_of asked ≡ None → after ≡ passphrase_asked asked before
+    → StartRefused r asked.salt (first_line_at asked.task.source before) → EncryptDecided asked before r after
+start_refused asked before after r admitted same (inl refused) =
+    encrypt_decided asked before r after
+    (later r after _ (of_text asked before) (to_text asked before admitted)
+    (passphrase_refused (first_line_at asked.task.source before) (passphrase_asked asked before) after r _ same refused))
+start_refused asked before after r admitted same (inr (inl failed)) = inl (inr (failed.0, failed.1))
+start_refused asked before after r admitted same (inr (inr lacks)) = inl (inl (inr (inr (inr lacks.0))))
 
 write_refused : (asked : Encryption) (passphrase salt : List ℕ) (before after : Seen) (r : ScryptRefusal)
-    → WriteRefused r passphrase salt asked.costs asked.task.outfile before after → OutsideOr (Some refusal.TooLong) r
+    → WriteRefused r passphrase salt asked.costs asked.task.outfile before after → OutsideOr (Some (inside refusal.TooLong None)) r after
 write_refused asked passphrase salt before after r (inl failed) = inl (inr (inl failed.0))
 write_refused asked passphrase salt before after r (inr (inl writing)) = inl (inr (inl writing.0))
 write_refused asked passphrase salt before after r (inr (inr (inl reading))) = inl (inl reading.0)
-write_refused asked passphrase salt before after r (inr (inr (inr long))) = inr (some_refusal r refusal.TooLong long.0)
+write_refused asked passphrase salt before after r (inr (inr (inr long))) =
+    inr (record { end = None; is = ap Some (told_as r refusal.TooLong None long.0); fits = long.0 })
 
-encrypt_refused : (asked : Encryption) (before after : Seen) (r : ScryptRefusal) → EncryptRefused r asked before after → EncryptDecided asked before r
-encrypt_refused asked before after r (inl opening) = encrypt_decided asked before r (text_not_opened asked before after r opening)
-encrypt_refused asked before after r (inr (inl starting)) = start_refused asked before r starting.admitted starting.refused
+encrypt_refused : (asked : Encryption) (before after : Seen) (r : ScryptRefusal) → EncryptRefused r asked before after → EncryptDecided asked before r after
+encrypt_refused asked before after r (inl opening) = encrypt_decided asked before r after (text_not_opened asked before after r opening)
+encrypt_refused asked before after r (inr (inl starting)) = start_refused asked before after r starting.admitted starting.unopened starting.refused
 encrypt_refused asked before after r (inr (inr ends)) =
-    encrypt_decided asked before r
-    (later r _ (Some refusal.TooLong)
-    (to_text asked before ends.admitted ∙ line_passed (first_line_at asked.task.source before) _ ends.passphrase ends.given)
-    (write_refused asked ends.passphrase (salt_used asked.salt before) (text_opened asked before) after r ends.refused))
+    encrypt_decided asked before r after
+    (later r after _ (Some (inside refusal.TooLong None))
+    (to_text asked before ends.admitted
+    ∙ line_passed (first_line_at asked.task.source before) (passphrase_asked asked before) _ ends.passphrase ends.given)
+    (write_refused asked ends.passphrase (salt_used asked.salt before) (passphrase_asked asked before) after r ends.refused))
 
 -- ---- of `dec`
 
@@ -163,81 +203,111 @@ front_by_length task s false is admitted = grind (arith, nat_tests, is)
 front_by_length task s true is admitted =
     let short : length s.input < 96 = grind (arith, nat_tests, is) in
     absurd (none-some NotScryptData (sym admitted
-    ∙ limits_refusal-format s.input task.limits.max_bytes task.limits.max_ops NotScryptData (format_refusal-short s.input short)))
+    ∙ limits_refusal-format s.input (allowance_of task) NotScryptData (format_refusal-short s.input short)))
 
 -- a file that limits admit has its first 96 bytes
 has_front : (task : Task) (s : Seen) → limits_refusal_of task s ≡ None → 96 ≤ length s.input
 has_front task s admitted = front_by_length task s (nat_lt (length s.input) 96) refl admitted
 
-open_refused : (task : Task) (before : Seen) (r : ScryptRefusal) → limits_refusal_of task before ≡ None
-    → OpenRefused r (first_line_at task.source before) (take 96 before.input) → OutsideOr (of_file task before) r
-open_refused task before r admitted (inl refused) = passphrase_refused (first_line_at task.source before) r (under_passphrase task before) refused
-open_refused task before r admitted (inr (inl lacks)) = inl (inr (inr (inr lacks.0)))
-open_refused task before r admitted (inr (inr (is, passphrase, given, wrong))) =
+open_refused : (task : Task) (before after : Seen) (r : ScryptRefusal) → limits_refusal_of task before ≡ None
+    → after ≡ passphrase_asked_by_dec task before → OpenRefused r (first_line_at task.source before) (take 96 before.input)
+    → OutsideOr (of_file task before) r after
+open_refused task before after r admitted same (inl refused) =
+    passphrase_refused (first_line_at task.source before) (passphrase_asked_by_dec task before) after r (under_passphrase task before) same refused
+open_refused task before after r admitted same (inr (inl lacks)) = inl (inr (inr (inr lacks.0)))
+open_refused task before after r admitted same (inr (inr (is, passphrase, given, wrong))) =
+    let at = passphrase_asked_by_dec task before in
     let other : front_refusal_of task before passphrase ≡ Some OtherPassphrase =
-    front_refusal-wrong before.input task.limits.max_bytes task.limits.max_ops passphrase (has_front task before admitted) admitted wrong in
-    inr (line_passed (first_line_at task.source before) (under_passphrase task before) passphrase given
-    ∙ front_told (front_refusal_of task before passphrase) _ refusal.WrongPassphrase (ap (option_map refusal_of) other)
-    ∙ some_refusal r refusal.WrongPassphrase is)
+    front_refusal-wrong before.input (allowance_of task) passphrase (has_front task before admitted) admitted wrong in
+    inr (due_at _ r at after
+    (line_passed (first_line_at task.source before) at (under_passphrase task before) passphrase given
+    ∙ front_told (front_refusal_of task before passphrase) at _ refusal.WrongPassphrase (ap (option_map refusal_of) other)
+    ∙ ap Some (told_as r refusal.WrongPassphrase (Some at) is)) same)
 
 release_refused : (task : Task) (passphrase : List ℕ) (before after : Seen) (r : ScryptRefusal)
-    → ReleaseRefused r passphrase (take 96 before.input) task.outfile (front_pulled task before) after
-    → OutsideOr (Some (by_length (length before.input))) r
+    → ReleaseRefused r passphrase (take 96 before.input) task.outfile (passphrase_asked_by_dec task before) after
+    → OutsideOr (Some (by_length (length before.input) (all_released task before passphrase))) r after
 release_refused task passphrase before after r (inl failed) = inl (inr (inl failed.0))
 release_refused task passphrase before after r (inr (inl (inl reading))) = inl (inl reading.0)
 release_refused task passphrase before after r (inr (inl (inr (inl writing)))) = inl (inr (inl writing.0))
 release_refused task passphrase before after r (inr (inl (inr (inr (is, long))))) =
     let rest : length (drop 96 before.input) ≡ length before.input - 96 = length-drop 96 before.input in
-    inr (some_refusal r (by_length (length before.input)) (is
-    ∙ sym (length_too_long (length before.input) (omega (arith, rest, long.within, long.too_long)))))
+    inr (record {
+      end = None;
+      is = ap Some (length_too_long (length before.input) _ (omega (arith, rest, long.within, long.too_long)) ∙ told_as r refusal.TooLong None is);
+      fits = is;
+    })
 release_refused task passphrase before after r (inr (inr (is, damaged))) =
-    inr (some_refusal r (by_length (length before.input)) (is
-    ∙ sym (length_damaged (length before.input) (subst (λ xs. length xs < 2 ^ 60 + 128) (both_parts 96 before.input) damaged.below_limit))))
+    let released = all_released task before passphrase in
+    let short : length before.input < 2 ^ 60 + 128 = subst (λ xs. length xs < 2 ^ 60 + 128) (both_parts 96 before.input) damaged.below_limit in
+    inr (due_at _ r released after
+    (ap Some (length_damaged (length before.input) released short ∙ told_as r refusal.Damaged (Some released) is)) damaged.released)
 
 -- the file is admitted
 to_file : (task : Task) (s : Seen) → limits_refusal_of task s ≡ None → from_inside (decrypt task) s ≡ of_file task s
-to_file task s admitted = front_passed (limits_refusal_of task s) (of_file task s) admitted
+to_file task s admitted = front_passed (limits_refusal_of task s) (after_front task.infile s) (of_file task s) admitted
 
 -- and it is under the passphrase
 to_length : (task : Task) (s : Seen) (passphrase : List ℕ) → HasPassphrase (first_line_at task.source s) passphrase
-    → front_refusal_of task s passphrase ≡ None → from_inside (decrypt task) s ≡ Some (by_length (length s.input))
+    → front_refusal_of task s passphrase ≡ None
+    → from_inside (decrypt task) s ≡ Some (by_length (length s.input) (all_released task s passphrase))
 to_length task s passphrase given passes =
-    to_file task s (limits_pass s.input task.limits.max_bytes task.limits.max_ops passphrase _ refl passes)
-    ∙ line_passed (first_line_at task.source s) (under_passphrase task s) passphrase given
-    ∙ front_passed (front_refusal_of task s passphrase) (Some (by_length (length s.input))) passes
+    let at = passphrase_asked_by_dec task s in
+    to_file task s (limits_pass s.input (allowance_of task) passphrase _ refl passes)
+    ∙ line_passed (first_line_at task.source s) at (under_passphrase task s) passphrase given
+    ∙ front_passed (front_refusal_of task s passphrase) at (Some (by_length (length s.input) (all_released task s passphrase))) passes
 
 decrypt_refused : (task : Task) (before after : Seen) (r : ScryptRefusal) → DecryptRefused r task before after
-    → OutsideOr (from_inside (decrypt task) before) r
+    → OutsideOr (from_inside (decrypt task) before) r after
 decrypt_refused task before after r (inl front) = front_refused (limits_refusal_of task before) task.infile before after r (of_file task before) front
 decrypt_refused task before after r (inr (inl opening)) =
-    later r _ (of_file task before) (to_file task before opening.checked) (open_refused task before r opening.checked opening.refused)
+    later r after _ (of_file task before) (to_file task before opening.checked)
+    (open_refused task before after r opening.checked opening.unopened opening.refused)
 decrypt_refused task before after r (inr (inr ends)) =
-    later r _ (Some (by_length (length before.input))) (to_length task before ends.passphrase ends.given ends.passes)
+    later r after _ (Some (by_length (length before.input) (all_released task before ends.passphrase)))
+    (to_length task before ends.passphrase ends.given ends.passes)
     (release_refused task ends.passphrase before after r ends.refused)
 
 -- ---- of `info`
 
 inspect_refused : (infile : Option Text) (before after : Seen) (r : ScryptRefusal) → InspectRefused r infile before after
-    → OutsideOr (from_inside (inspect infile) before) r
+    → OutsideOr (from_inside (inspect infile) before) r after
 inspect_refused infile before after r (inl front) = front_refused (format_refusal before.input) infile before after r None front
 inspect_refused infile before after r (inr ends) = inl (line_from_outside r _ _ _ ends.refused)
 
 -- ---- of a request
 
 decided : (request : Request) (before after : Seen) (r : ScryptRefusal) → RequestRefused r request before after
-    → IsRefusedFromOutside request r ⊎ (from_inside request before ≡ Some r)
+    → IsRefusedFromOutside request r ⊎ IsDue (from_inside request before) r after
 decided (encrypt asked) before after r refused = encrypt_refused asked before after r refused
 decided (decrypt task) before after r refused = decrypt_refused task before after r refused
 decided (inspect infile) before after r refused = inspect_refused infile before after r refused
 
-same_or_outside : (Outside : ScryptRefusal → Type 0) (due : Option ScryptRefusal) (one other : ScryptRefusal) → Outside one ⊎ (due ≡ Some one)
-    → Outside other ⊎ (due ≡ Some other) → (one ≡ other) ⊎ Outside one ⊎ Outside other
-same_or_outside Outside due one other (inl outside) h2 = inr (inl outside)
-same_or_outside Outside due one other (inr h1) (inl outside) = inr (inr outside)
-same_or_outside Outside due one other (inr h1) (inr h2) = inl (same_Some one other (sym h1 ∙ h2))
+-- two runs that are left in the state that is due
+same_state : (one other : ScryptRefusal) (after ended : Seen) (a b : Option Seen) → one ≡ other → a ≡ b → FitsEnd a one after → FitsEnd b other ended
+    → (after ≡ ended) ⊎ (one ≡ refusal.TooLong)
+same_state one other after ended None b same ends h1 h2 = inr h1
+same_state one other after ended (Some a) None same ends h1 h2 = inr (same ∙ h2)
+same_state one other after ended (Some a) (Some b) same ends h1 h2 = inl (h1 ∙ same_Some a b ends ∙ sym h2)
+
+one_end : (due : Option Inside) (one other : ScryptRefusal) (after ended : Seen) → IsDue due one after → IsDue due other ended
+    → AreOneEnd one other after ended
+one_end due one other after ended h1 h2 =
+    let same : inside one h1.end ≡ inside other h2.end = same_Some (inside one h1.end) (inside other h2.end) (sym h1.is ∙ h2.is) in
+    let told : one ≡ other = ap (λ (x : Inside). x.refusal) same in record {
+      told = told;
+      left = same_state one other after ended h1.end h2.end told (ap (λ (x : Inside). x.end) same) h1.fits h2.fits;
+    }
+
+end_or_outside : (Outside : ScryptRefusal → Type 0) (due : Option Inside) (one other : ScryptRefusal) (after ended : Seen)
+    → Outside one ⊎ IsDue due one after → Outside other ⊎ IsDue due other ended → AreOneEnd one other after ended ⊎ Outside one ⊎ Outside other
+end_or_outside Outside due one other after ended (inl outside) h2 = inr (inl outside)
+end_or_outside Outside due one other after ended (inr h1) (inl outside) = inr (inr outside)
+end_or_outside Outside due one other after ended (inr h1) (inr h2) = inl (one_end due one other after ended h1 h2)
 
 pub one_refusal : (request : Request) (before after ended : Seen) (one other : ScryptRefusal) → RequestRefused one request before after
-    → RequestRefused other request before ended → (one ≡ other) ⊎ IsRefusedFromOutside request one ⊎ IsRefusedFromOutside request other
+    → RequestRefused other request before ended
+    → AreOneEnd one other after ended ⊎ IsRefusedFromOutside request one ⊎ IsRefusedFromOutside request other
 one_refusal request before after ended one other h1 h2 =
-    same_or_outside (IsRefusedFromOutside request) (from_inside request before) one other (decided request before after one h1)
+    end_or_outside (IsRefusedFromOutside request) (from_inside request before) one other after ended (decided request before after one h1)
     (decided request before ended other h2)

@@ -4,8 +4,8 @@ use Rattle.std.proofs.lemmas.Grind.{common_steps}
 use Rattle.encfile.specs.EncryptedFile.{encrypted_file}
 use Rattle.encfile.specs.Front.{format_refusal}
 use Rattle.host.specs.Seen.{Seen, Text, after_open_output}
-use Rattle.scrypt_run.specs.Decrypting.{DecryptSucceeds, front_pulled, text_behind}
-use Rattle.scrypt_run.specs.Encrypting.{EncryptRefused, EncryptSucceeds, StartRefused, TextNotOpened, WriteRefused, costs_refusal, salt_used, text_opened}
+use Rattle.scrypt_run.specs.Decrypting.{DecryptSucceeds, text_behind, passphrase_asked as passphrase_asked_by_dec}
+use Rattle.scrypt_run.specs.Encrypting.{EncryptRefused, EncryptSucceeds, StartRefused, TextNotOpened, WriteRefused, costs_refusal_of, passphrase_asked, salt_used}
 use Rattle.scrypt_run.specs.Inspecting.{InspectRefused, InspectSucceeds}
 use Rattle.scrypt_run.specs.Laws.{IsFromOutside, IsRefusedFromOutside, WroteAnEncryption}
 use Rattle.scrypt_run.specs.Passphrase.{HasPassphrase, first_line_at}
@@ -20,7 +20,7 @@ use Rattle.scrypt_run.proofs.Openings.{decrypt_from_outside, front_from_outside,
 
 one_encryption : (asked : Encryption) (before a b : Seen) → EncryptSucceeds asked before a → EncryptSucceeds asked before b → a ≡ b
 one_encryption asked before a b ha hb =
-    let opened = text_opened asked before in
+    let opened = passphrase_asked asked before in
     ha.encrypted.written
     ∙ ap (λ p. after_passing (encrypted_file p (salt_used asked.salt before) asked.costs) (length opened.input) (after_open_output asked.task.outfile opened))
     (one_passphrase _ ha.passphrase hb.passphrase ha.given hb.given)
@@ -28,7 +28,7 @@ one_encryption asked before a b ha hb =
 
 one_decryption : (task : Task) (before a b : Seen) → DecryptSucceeds task before a → DecryptSucceeds task before b → a ≡ b
 one_decryption task before a b ha hb =
-    let pulled = front_pulled task before in
+    let pulled = passphrase_asked_by_dec task before in
     ha.decrypted.released
     ∙ ap (λ p. after_passing (text_behind p (take 96 before.input)) (length pulled.input) (after_open_output task.outfile pulled))
     (one_passphrase _ ha.passphrase hb.passphrase ha.given hb.given)
@@ -57,9 +57,9 @@ wrote_an_encryption asked before after done =
 
 -- ---- no refusal of the product's own
 
-opening_from_outside : (asked : Encryption) (before ended : Seen) (r : ScryptRefusal) → costs_refusal asked ≡ None → TextNotOpened r asked before ended
+opening_from_outside : (asked : Encryption) (before ended : Seen) (r : ScryptRefusal) → costs_refusal_of asked ≡ None → TextNotOpened r asked before ended
     → IsFromOutside r
-opening_from_outside asked before ended r admitted (same, inl told) = absurd (none_refuses (costs_refusal asked) r admitted told)
+opening_from_outside asked before ended r admitted (same, inl told) = absurd (none_refuses (costs_refusal_of asked) r admitted told)
 opening_from_outside asked before ended r admitted (same, inr failed) = inl failed.1
 
 starting_from_outside : (asked : Encryption) (before : Seen) (passphrase : List ℕ) (r : ScryptRefusal)
@@ -83,7 +83,7 @@ encrypt_from_outside asked before after ended r done (inl opening) = inl (openin
 encrypt_from_outside asked before after ended r done (inr (inl starting)) =
     starting_from_outside asked before done.passphrase r done.given starting.refused
 encrypt_from_outside asked before after ended r done (inr (inr writing)) =
-    inl (writing_from_outside asked (text_opened asked before) ended writing.passphrase (salt_used asked.salt before) r done.encrypted.below_limit writing.refused)
+    inl (writing_from_outside asked (passphrase_asked asked before) ended writing.passphrase (salt_used asked.salt before) r done.encrypted.below_limit writing.refused)
 
 pub line_from_outside : (r : ScryptRefusal) (Unwritten Left CutShort : Type 0)
     → ((r ≡ refusal.OutOfMemory) × Unwritten) ⊎ ((r ≡ refusal.OutputFault) × Left) ⊎ ((r ≡ refusal.OutputFault) × CutShort) → IsFromOutside r

@@ -2,10 +2,10 @@
 use Rattle.std.specs.Prelude.{◌≡◌, ◌+◌, ◌<◌, ◌^◌, ◌++◌, ◌⊎◌, ℕ, List, Option, None, length, take}
 use Rattle.encfile.specs.EncryptedFile.{HasRightHeaderCode, IsEncryptionOf, released_text}
 use Rattle.encfile.specs.Front.{FrontRefusal, front_refusal, limits_refusal}
-use Rattle.host.specs.Seen.{Seen, Text, after_open_output}
+use Rattle.host.specs.Seen.{Seen, Text, after_ask, after_open_output}
 use Rattle.scrypt_run.specs.Front.{FrontRefused}
 use Rattle.scrypt_run.specs.Passphrase.{HasPassphrase, PassphraseRefused, first_line_at}
-use Rattle.scrypt_run.specs.Request.{Task}
+use Rattle.scrypt_run.specs.Request.{Task, allowance_of}
 use Rattle.scrypt_run.specs.Steps.{after_passing, after_reading}
 use Rattle.scrypt_run.specs.Text.{EndsText}
 use Rattle.scrypt_run.specs.declared.refusal.ScryptRefusal.{ScryptRefusal}
@@ -52,35 +52,39 @@ ReleaseRefused r passphrase front outfile before after =
 
 -- why the file is refused whatever the passphrase, if it is
 abbrev pub limits_refusal_of : Task → Seen → Option FrontRefusal
-limits_refusal_of task s = limits_refusal s.input task.limits.max_bytes task.limits.max_ops
+limits_refusal_of task s = limits_refusal s.input (allowance_of task)
 
 -- why the file is refused under the passphrase, if it is
 abbrev pub front_refusal_of : Task → Seen → List ℕ → Option FrontRefusal
-front_refusal_of task s passphrase = front_refusal s.input task.limits.max_bytes task.limits.max_ops passphrase
+front_refusal_of task s passphrase = front_refusal s.input (allowance_of task) passphrase
 
 -- the host after the first 96 bytes were pulled
 abbrev pub front_pulled : Task → Seen → Seen
 front_pulled task before = after_reading task.infile 96 before
+
+-- and after the passphrase's source was asked
+abbrev pub passphrase_asked : Task → Seen → Seen
+passphrase_asked task before = after_ask task.source (front_pulled task before)
 
 -- the run ends with status 0
 pub record DecryptSucceeds (task : Task) (before after : Seen) : Type 0 where
   pub passphrase : List ℕ
   pub given : HasPassphrase (first_line_at task.source before) passphrase
   pub passes : front_refusal_of task before passphrase ≡ None
-  pub decrypted : Decrypted passphrase (take 96 before.input) task.outfile (front_pulled task before) after
+  pub decrypted : Decrypted passphrase (take 96 before.input) task.outfile (passphrase_asked task before) after
 
 -- the run passed the checks that need no passphrase, and ended before the output was opened
 pub record EndsOpening (r : ScryptRefusal) (task : Task) (before after : Seen) : Type 0 where
   pub checked : limits_refusal_of task before ≡ None
   pub refused : OpenRefused r (first_line_at task.source before) (take 96 before.input)
-  pub unopened : after ≡ front_pulled task before
+  pub unopened : after ≡ passphrase_asked task before
 
 -- the run passed every check up to the header's code, and ended later
 pub record EndsReleasing (r : ScryptRefusal) (task : Task) (before after : Seen) : Type 0 where
   pub passphrase : List ℕ
   pub given : HasPassphrase (first_line_at task.source before) passphrase
   pub passes : front_refusal_of task before passphrase ≡ None
-  pub refused : ReleaseRefused r passphrase (take 96 before.input) task.outfile (front_pulled task before) after
+  pub refused : ReleaseRefused r passphrase (take 96 before.input) task.outfile (passphrase_asked task before) after
 
 -- the run ends with this refusal
 abbrev pub DecryptRefused : ScryptRefusal → Task → Seen → Seen → Type 0

@@ -1,13 +1,12 @@
 -- `scrypt enc`: what a run comes to.
 use Rattle.std.specs.Prelude.{◌≡◌, ◌+◌, ◌<◌, ◌≤◌, ◌^◌, ◌⊎◌, ◌==◌, ℕ, List, Option, Some, None, option_map, length, take, if◌then◌else◌}
 use Rattle.romix.specs.Costs.{Parameters}
-use Rattle.romix.specs.Faults.{limit_fault}
 use Rattle.encfile.specs.EncryptedFile.{IsEncryptionOf, body, encrypted_file}
-use Rattle.encfile.specs.Front.{FrontRefusal, limit_refusal}
-use Rattle.host.specs.Seen.{Seen, Text, after_open_input, after_open_output, after_pull, after_push}
+use Rattle.encfile.specs.Front.{FrontRefusal, costs_refusal}
+use Rattle.host.specs.Seen.{Seen, Text, after_ask, after_open_input, after_open_output, after_pull, after_push}
 use Rattle.scrypt_run.specs.Passphrase.{HasPassphrase, PassphraseRefused, first_line_at}
 use Rattle.scrypt_run.specs.Refusal.{refusal_of}
-use Rattle.scrypt_run.specs.Request.{Encryption}
+use Rattle.scrypt_run.specs.Request.{Encryption, allowance_of}
 use Rattle.scrypt_run.specs.Steps.{after_passing}
 use Rattle.scrypt_run.specs.Text.{FailsReading, IsTooLong}
 use Rattle.scrypt_run.specs.declared.refusal.ScryptRefusal.{ScryptRefusal}
@@ -18,15 +17,15 @@ abbrev pub salt_used : Option (List ℕ) → Seen → List ℕ
 salt_used None s = s.salt
 salt_used (Some salt) s = salt
 
--- why the limits refuse the costs, if they do
-abbrev pub costs_refusal : Encryption → Option FrontRefusal
-costs_refusal asked = option_map limit_refusal (limit_fault asked.costs asked.task.limits.max_bytes asked.task.limits.max_ops)
+-- why the costs are not allowed, if they aren't
+abbrev pub costs_refusal_of : Encryption → Option FrontRefusal
+costs_refusal_of asked = costs_refusal asked.costs (allowance_of asked.task)
 
 -- the costs are refused, or the input could not be opened
 abbrev pub TextNotOpened : ScryptRefusal → Encryption → Seen → Seen → Type 0
 TextNotOpened r asked before after = (after ≡ before)
-    × ((option_map refusal_of (costs_refusal asked) ≡ Some r)
-    ⊎ ((costs_refusal asked ≡ None) × (r ≡ refusal.InputFault)))
+    × ((option_map refusal_of (costs_refusal_of asked) ≡ Some r)
+    ⊎ ((costs_refusal_of asked ≡ None) × (r ≡ refusal.InputFault)))
 
 -- no passphrase, no salt or no memory; `line` is the first line of the passphrase's source
 abbrev pub StartRefused : ScryptRefusal → Option (List ℕ) → Option (List ℕ) → Type 0
@@ -72,25 +71,29 @@ WriteRefused r passphrase salt costs outfile before after =
 abbrev pub text_opened : Encryption → Seen → Seen
 text_opened asked before = after_open_input asked.task.infile before
 
+-- and after the passphrase's source was asked
+abbrev pub passphrase_asked : Encryption → Seen → Seen
+passphrase_asked asked before = after_ask asked.task.source (text_opened asked before)
+
 -- the run ends with status 0
 pub record EncryptSucceeds (asked : Encryption) (before after : Seen) : Type 0 where
-  pub admitted : costs_refusal asked ≡ None
+  pub admitted : costs_refusal_of asked ≡ None
   pub passphrase : List ℕ
   pub given : HasPassphrase (first_line_at asked.task.source before) passphrase
-  pub encrypted : IsEncrypted passphrase (salt_used asked.salt before) asked.costs asked.task.outfile (text_opened asked before) after
+  pub encrypted : IsEncrypted passphrase (salt_used asked.salt before) asked.costs asked.task.outfile (passphrase_asked asked before) after
 
 -- the run opened the input, and ended before the output was opened
 pub record EndsStarting (r : ScryptRefusal) (asked : Encryption) (before after : Seen) : Type 0 where
-  pub admitted : costs_refusal asked ≡ None
+  pub admitted : costs_refusal_of asked ≡ None
   pub refused : StartRefused r asked.salt (first_line_at asked.task.source before)
-  pub unopened : after ≡ text_opened asked before
+  pub unopened : after ≡ passphrase_asked asked before
 
 -- the run ended later
 pub record EndsFile (r : ScryptRefusal) (asked : Encryption) (before after : Seen) : Type 0 where
-  pub admitted : costs_refusal asked ≡ None
+  pub admitted : costs_refusal_of asked ≡ None
   pub passphrase : List ℕ
   pub given : HasPassphrase (first_line_at asked.task.source before) passphrase
-  pub refused : WriteRefused r passphrase (salt_used asked.salt before) asked.costs asked.task.outfile (text_opened asked before) after
+  pub refused : WriteRefused r passphrase (salt_used asked.salt before) asked.costs asked.task.outfile (passphrase_asked asked before) after
 
 -- the run ends with this refusal
 abbrev pub EncryptRefused : ScryptRefusal → Encryption → Seen → Seen → Type 0

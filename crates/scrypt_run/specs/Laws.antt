@@ -1,10 +1,13 @@
 -- What is proved of the definitions of a run alone.
-use Rattle.std.specs.Prelude.{◌≡◌, ◌++◌, ◌<◌, ◌≤◌, ◌^◌, ◌⊎◌, ℕ, List, None, length}
-use Rattle.romix.specs.Costs.{FitsMemory, IsInRange, Parameters, cores}
+use Rattle.std.specs.Prelude.{◌≡◌, ◌++◌, ◌<◌, ◌^◌, ◌⊎◌, ℕ, List, Option, Some, None, length, ⊤}
+use Rattle.romix.specs.Allowance.{Admits}
+use Rattle.romix.specs.Costs.{IsInRange, Parameters}
 use Rattle.encfile.specs.EncryptedFile.{IsEncryptionOf, encrypted_file}
-use Rattle.host.specs.Seen.{Seen}
+use Rattle.encfile.specs.Front.{costs_refusal}
+use Rattle.encfile.specs.Header.{costs_of}
+use Rattle.host.specs.Seen.{SecretSource, Seen}
 use Rattle.scrypt_run.specs.Passphrase.{HasPassphrase, first_line_at}
-use Rattle.scrypt_run.specs.Request.{Encryption, Request, Task, decrypt, encrypt, inspect}
+use Rattle.scrypt_run.specs.Request.{Encryption, Request, Task, allowance_of, decrypt, encrypt, inspect}
 use Rattle.scrypt_run.specs.declared.refusal.ScryptRefusal.{ScryptRefusal}
 use Rattle.scrypt_run.specs.declared.refusal.ScryptRefusal.TheVariants as refusal
 
@@ -16,8 +19,7 @@ pub record CanBeOpened (task : Task) (before : Seen) (passphrase salt : List ℕ
   pub below_limit : length text < 2 ^ 60
   pub input : before.input ≡ encrypted_file passphrase salt costs text
   pub given : HasPassphrase (first_line_at task.source before) passphrase
-  pub memory : FitsMemory costs task.limits.max_bytes
-  pub work : cores costs ≤ task.limits.max_ops
+  pub admitted : Admits (allowance_of task) costs
 
 -- the input is an encryption of what was written, under the passphrase that the source gives
 pub record WroteWhatWasEncrypted (task : Task) (before after : Seen) : Type 0 where
@@ -35,6 +37,16 @@ pub record WroteAnEncryption (asked : Encryption) (before after : Seen) : Type 0
   pub encryption : IsEncryptionOf file passphrase before.input
   pub written : after.output ≡ before.output ++ file
 
+-- the secret source that a request names, if it needs one
+abbrev pub source_of_request : Request → Option SecretSource
+source_of_request (encrypt asked) = Some asked.task.source
+source_of_request (decrypt task) = Some task.source
+source_of_request (inspect infile) = None
+
+-- no secret source was asked, or the one that the request names
+abbrev pub AsksNoOther : Request → Seen → Seen → Type 0
+AsksNoOther request before after = (after.asked ≡ before.asked) ⊎ (after.asked ≡ source_of_request request)
+
 -- the host failed, or a growth of memory was refused
 abbrev pub IsFromOutside : ScryptRefusal → Type 0
 IsFromOutside r = (r ≡ refusal.InputFault)
@@ -47,3 +59,21 @@ abbrev pub IsRefusedFromOutside : Request → ScryptRefusal → Type 0
 IsRefusedFromOutside (encrypt asked) r = IsFromOutside r ⊎ ((r ≡ refusal.SaltFault) × (asked.salt ≡ None))
 IsRefusedFromOutside (decrypt task) r = IsFromOutside r
 IsRefusedFromOutside (inspect infile) r = IsFromOutside r
+
+-- two refusals are one end: the same is told, and the same is left, but that an input which is too long may be pulled and
+-- handed on by pieces of other sizes
+pub record AreOneEnd (one other : ScryptRefusal) (after ended : Seen) : Type 0 where
+  pub told : one ≡ other
+  pub left : (after ≡ ended) ⊎ (one ≡ refusal.TooLong)
+
+-- the request with another S
+abbrev pub with_keep : ℕ → Request → Request
+with_keep keep (encrypt asked) = let task : Task = record (asked.task) { keep = keep } in encrypt (record asked { task = task })
+with_keep keep (decrypt task) = decrypt (record task { keep = keep })
+with_keep keep (inspect infile) = inspect infile
+
+-- S is at most N and the limits are not exceeded: by the costs of the new file, or by those of the file that is read
+abbrev pub AdmitsCosts : Request → Seen → Type 0
+AdmitsCosts (encrypt asked) s = costs_refusal asked.costs (allowance_of asked.task) ≡ None
+AdmitsCosts (decrypt task) s = costs_refusal (costs_of s.input) (allowance_of task) ≡ None
+AdmitsCosts (inspect infile) s = ⊤

@@ -1,7 +1,7 @@
 -- The passphrase of a run: the first line of its source.
 use Rattle.std.specs.Prelude.{◌≡◌, ◌<◌, ◌≤◌, ◌==◌, ◌||◌, ◌⊎◌, ℕ, Bool, List, [], ◌∷◌, Option, Some, option_map, length, if◌then◌else◌}
-use Rattle.host.specs.Seen.{Seen}
-use Rattle.host.specs.Secret.{SecretSource, secret_at}
+use Rattle.host.specs.Seen.{SecretSource, Seen}
+use Rattle.host.specs.Secret.{secret_at}
 use Rattle.scrypt_run.specs.declared.refusal.ScryptRefusal.{ScryptRefusal}
 use Rattle.scrypt_run.specs.declared.refusal.ScryptRefusal.TheVariants as refusal
 

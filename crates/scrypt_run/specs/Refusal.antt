@@ -1,7 +1,7 @@
 -- The refusals of scrypt: the line of each, and the count of the host's failures that it raises.
-use Rattle.std.specs.Prelude.{◌≡◌, codes}
+use Rattle.std.specs.Prelude.{◌≡◌, Bool, true, false, codes}
 use Rattle.encfile.specs.Front.{FrontRefusal}
-use Rattle.encfile.specs.Front.FrontRefusal.{NotScryptData, OtherPassphrase, OtherVersion, TooMuchMemory, TooMuchWork}
+use Rattle.encfile.specs.Front.FrontRefusal.{KeepAboveN, NotScryptData, OtherPassphrase, OtherVersion, TooMuchMemory, TooMuchWork}
 use Rattle.host.specs.Seen.{Text}
 use Rattle.host.specs.Faults.{Faults, input_failed, output_failed, secret_failed, salt_failed}
 use Rattle.scrypt_run.specs.declared.refusal.ScryptRefusal.{ScryptRefusal}
@@ -19,10 +19,20 @@ counted_by r f = f
 abbrev pub RaisesNoCount : ScryptRefusal → Type 0
 RaisesNoCount r = (f : Faults) → counted_by r f ≡ f
 
+-- whether the refusal may be told after a derivation has begun: of the others none comes after work
+abbrev pub may_follow_work : ScryptRefusal → Bool
+may_follow_work refusal.WrongPassphrase = true
+may_follow_work refusal.Damaged = true
+may_follow_work refusal.InputFault = true
+may_follow_work refusal.OutputFault = true
+may_follow_work refusal.TooLong = true
+may_follow_work r = false
+
 -- the refusal of a file's first 96 bytes
 abbrev pub refusal_of : FrontRefusal → ScryptRefusal
 refusal_of NotScryptData = refusal.NotScryptData
 refusal_of OtherVersion = refusal.UnsupportedVersion
+refusal_of KeepAboveN = refusal.KeepAboveN
 refusal_of TooMuchMemory = refusal.MemoryLimit
 refusal_of TooMuchWork = refusal.WorkLimit
 refusal_of OtherPassphrase = refusal.WrongPassphrase
@@ -49,3 +59,5 @@ line_of refusal.InputFault = codes "scrypt: input cannot be opened or read"
 line_of refusal.OutputFault = codes "scrypt: output cannot be opened or written"
 line_of refusal.TooLong = codes "scrypt: input is too long"
 line_of refusal.OutOfMemory = codes "scrypt: out of memory"
+line_of refusal.KeepOutOfRange = codes "scrypt: --keep takes a power of two from 1 to 1024"
+line_of refusal.KeepAboveN = codes "scrypt: --keep is larger than N"

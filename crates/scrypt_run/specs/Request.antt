@@ -1,18 +1,22 @@
 -- What a run of scrypt is asked for.
-use Rattle.std.specs.Prelude.{◌^◌, ◌≤◌, List, ℕ, Option, option_map, ⊤}
+use Rattle.std.specs.Prelude.{◌≡◌, ◌^◌, ◌≤◌, true, List, ℕ, Option, option_map, ⊤}
 use Rattle.std.specs.Borrow.{Bor}
+use Rattle.romix.specs.Allowance.{Allowance}
 use Rattle.romix.specs.Costs.{Parameters}
+use Rattle.romix.specs.SparseCosts.{SparseFitsMemory, SparseParameters, cores_bound, is_keep}
 use Rattle.romix.specs.declared.limits.Limits.{Limits}
-use Rattle.host.specs.Seen.{Text}
-use Rattle.host.specs.Secret.{SecretSource, source_of}
+use Rattle.host.specs.Seen.{SecretSource, Text}
+use Rattle.host.specs.Secret.{source_of}
 use Rattle.scrypt_run.specs.declared.request.Task.{Task as TaskInCode}
 use Rattle.scrypt_run.specs.declared.request.Encryption.{Encryption as EncryptionInCode}
 use Rattle.scrypt_run.specs.declared.request.Request.{Request as RequestInCode}
 use Rattle.scrypt_run.specs.declared.request.Request.TheVariants as in_code
 
--- the limits, the passphrase's source, and the files; None is the standard stream
+-- the limits, S, of which row i of the table is kept where it divides i, the passphrase's source, and the files; None is
+-- the standard stream
 pub record Task : Type 0 where
   pub limits : Limits
+  pub keep : ℕ
   pub source : SecretSource
   pub infile : Option Text
   pub outfile : Option Text
@@ -29,11 +33,21 @@ pub data Request : Type 0 where
   decrypt : Task → Request
   inspect : Option Text → Request
 
--- -M is in its range
-abbrev pub HasAllowedLimits : Task → Type 0
-HasAllowedLimits task = task.limits.max_bytes ≤ 2 ^ 40
+-- what the derivation of a task may take
+abbrev pub allowance_of : Task → Allowance
+allowance_of task = record { limits = task.limits; keep = task.keep }
 
--- and so is that of the request, if it has one
+-- the limits admit the costs with S
+pub record IsAdmitted (sparse : SparseParameters) (limits : Limits) : Type 0 where
+  pub memory : SparseFitsMemory sparse limits.max_bytes
+  pub work : cores_bound sparse ≤ limits.max_ops
+
+-- -M is in its range, and S is a power of two from 1 to 1,024
+pub record HasAllowedLimits (task : Task) : Type 0 where
+  pub memory : task.limits.max_bytes ≤ 2 ^ 40
+  pub keep : is_keep task.keep ≡ true
+
+-- so it is with the request, if it has such
 abbrev pub IsAllowed : Request → Type 0
 IsAllowed (encrypt encryption) = HasAllowedLimits encryption.task
 IsAllowed (decrypt task) = HasAllowedLimits task
@@ -48,6 +62,7 @@ text_of = option_map (λ s. s.now)
 abbrev pub task_seen : TaskInCode → Task
 task_seen t = record {
   limits = t.limits;
+  keep = t.keep;
   source = source_of t.source;
   infile = text_of t.infile;
   outfile = text_of t.outfile;

@@ -1,4 +1,7 @@
 -- A whole run of scrypt for a request.
+use Rattle.std.specs.Prelude.{◌≡◌, ℕ, ⊤}
+use Rattle.romix.specs.Costs.{cores}
+use Rattle.encfile.specs.Header.{costs_of}
 use Rattle.host.specs.Seen.{Seen}
 use Rattle.scrypt_run.specs.Decrypting.{DecryptRefused, DecryptSucceeds}
 use Rattle.scrypt_run.specs.Encrypting.{EncryptRefused, EncryptSucceeds}
@@ -17,3 +20,21 @@ abbrev pub RequestRefused : ScryptRefusal → Request → Seen → Seen → Type
 RequestRefused r (encrypt asked) before after = EncryptRefused r asked before after
 RequestRefused r (decrypt task) before after = DecryptRefused r task before after
 RequestRefused r (inspect infile) before after = InspectRefused r infile before after
+
+-- every row of the table is kept: S is 1
+abbrev pub KeepsAll : Request → Type 0
+KeepsAll (encrypt asked) = asked.task.keep ≡ 1
+KeepsAll (decrypt task) = task.keep ≡ 1
+KeepsAll (inspect infile) = ⊤
+
+-- the Salsa20/8 cores of the derivation that is asked for: by its costs, or by those of the file
+abbrev pub cores_asked : Request → Seen → ℕ
+cores_asked (encrypt asked) before = cores asked.costs
+cores_asked (decrypt task) before = cores (costs_of before.input)
+cores_asked (inspect infile) before = 0
+
+-- the most that a run may take, whatever its end
+abbrev pub most_cores : Request → ℕ
+most_cores (encrypt asked) = asked.task.limits.max_ops
+most_cores (decrypt task) = task.limits.max_ops
+most_cores (inspect infile) = 0

@@ -23,7 +23,8 @@ pub record FailsWriting (limit most : ℕ) (gives : List ℕ → List ℕ) (befo
   pub missing : length (gives (take pulled before.input)) ≤ written + most
   pub passes : after ≡ after_push (take written (gives (take pulled before.input))) (after_pull pulled before)
 
--- the input reaches the limit: its bytes before the last piece were handed on, and all that they give was written
+-- the input reaches the limit: its bytes before the last piece were handed on, and all that they give was written; of the
+-- last piece no more was pulled than one buffer of 4,096 bytes
 pub record IsTooLong (limit : ℕ) (gives : List ℕ → List ℕ) (before after : Seen) : Type 0 where
   pub handed_on : ℕ
   pub least : limit - 4096 ≤ handed_on
@@ -31,6 +32,7 @@ pub record IsTooLong (limit : ℕ) (gives : List ℕ → List ℕ) (before after
   pub pulled : ℕ
   pub within : pulled ≤ length before.input
   pub too_long : limit ≤ pulled
+  pub most : pulled ≤ handed_on + 4096
   pub passes : after ≡ after_push (gives (take handed_on before.input)) (after_pull pulled before)
 
 -- the passing ended before the input's end

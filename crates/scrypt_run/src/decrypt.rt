@@ -1,63 +1,67 @@
 //! `scrypt dec`: the text of an encrypted file.
-ghost use Rattle.std.specs.Prelude.{◌≡◌, ◌+◌, ◌^◌, ℕ, List, ◌++◌, None, take, length, MatchResult, IfOk, IfErr, OnOk, IsTrue};
-ghost use Rattle.romix.specs.Costs.{FitsMemory};
+ghost use Rattle.std.specs.Prelude.{◌≡◌, ◌+◌, ◌≤◌, ◌^◌, true, false, ℕ, List, ◌++◌, None, take, length, MatchResult, IfOk, IfErr, OnOk, IsTrue};
+ghost use Rattle.romix.specs.Costs.{cores};
 ghost use Rattle.encfile.specs.Decrypting.{HasRead, length_read};
 ghost use Rattle.encfile.specs.EncryptedFile.{HasRightHeaderCode};
-ghost use Rattle.encfile.specs.Header.{IsHeaderOf};
+ghost use Rattle.encfile.specs.Header.{IsHeaderOf, costs_of};
 ghost use Rattle.host.specs.Faults.{AreBelow};
 ghost use Rattle.host.specs.Secret.{source_of};
-ghost use Rattle.host.specs.Seen.{IsUnopened};
+ghost use Rattle.host.specs.Seen.{IsFresh, after_ask};
 ghost use Rattle.scrypt_run.specs.Decrypting.{DecryptRefused, DecryptSucceeds, Decrypted, OpenRefused, ReleaseRefused, text_behind};
 ghost use Rattle.scrypt_run.specs.Passphrase.{HasPassphrase, first_line_at};
-ghost use Rattle.scrypt_run.specs.Refusal.{counted_by};
-ghost use Rattle.scrypt_run.specs.Request.{HasAllowedLimits, task_seen, text_of};
+ghost use Rattle.scrypt_run.specs.Refusal.{counted_by, may_follow_work};
+ghost use Rattle.scrypt_run.specs.Request.{HasAllowedLimits, IsAdmitted, task_seen, text_of};
 ghost use Rattle.scrypt_run.specs.Steps.{after_passing};
 ghost use Rattle.scrypt_run.specs.Text.{EndsText};
 
+use crate::admission::reserve;
 use crate::front::open_admitted_front;
 use crate::passphrase::read_passphrase;
 use crate::refusal::ScryptRefusal;
 use crate::request::Task;
 use encfile::{Dec, Header};
-use host::{Host, Source, push_all};
-use romix::{Ticks, Workspace};
+use host::{Host, push_all};
+use romix::{Sparse, Ticks};
 use std::alloc::Global;
 
 // Reads the passphrase, takes the memory of the derivation, and tests the passphrase against the
-// code of the header.
+// code of the header. The memory is there when the work begins.
 fn open<H: Host>(
     alloc: Global,
     host: &mut H,
-    source: Source<'_>,
+    task: &Task<'_>,
     front: &[u8; 96],
     header: Header,
+    sparse: &Sparse,
+    ticks: &mut Ticks,
 ) -> Result<Dec, ScryptRefusal>
     requires room { AreBelow (2 ^ 63) (H.faults host.old) }
+    requires unasked { IsTrue H.tells → (H.seen host.old).asked ≡ None }
     requires header { IsHeaderOf (take 64 front.now) header }
-    requires memory { FitsMemory header.costs (2 ^ 40) }
+    requires allowed { HasAllowedLimits (task_seen task.now) }
+    requires costs { sparse.now.costs ≡ header.costs }
+    requires admitted { IsAdmitted sparse.now task.now.limits }
     ensures counts { MatchResult result (λ _. H.faults host.new ≡ H.faults host.old)
         (λ r. H.faults host.new ≡ counted_by r (H.faults host.old)) }
-    ensures kept { IsTrue H.tells → H.seen host.new ≡ H.seen host.old }
+    ensures asks { IsTrue H.tells →
+        H.seen host.new ≡ after_ask (source_of task.now.source) (H.seen host.old) }
     ensures read { IfOk result (λ dec. (passphrase : List ℕ) × HasRead dec passphrase front.now) }
     ensures opened { IsTrue H.tells → IfOk result (λ dec. (passphrase : List ℕ)
-        × HasPassphrase (first_line_at (source_of source.entry) (H.seen host.old)) passphrase
+        × HasPassphrase (first_line_at (source_of task.now.source) (H.seen host.old)) passphrase
         × HasRightHeaderCode front.now passphrase
         × HasRead dec passphrase front.now) }
     ensures refused { IsTrue H.tells → IfErr result (λ r. OpenRefused r
-        (first_line_at (source_of source.entry) (H.seen host.old)) front.now) }
+        (first_line_at (source_of task.now.source) (H.seen host.old)) front.now) }
+    ensures work { sparse.now.keep ≡ 1 →
+        OnOk result (ticks.new ≡ ticks.old + cores header.costs) }
+    ensures work_bound { ticks.new ≤ ticks.old + task.now.limits.max_ops }
+    ensures idle { IfErr result (λ r. may_follow_work r ≡ false → ticks.new ≡ ticks.old) }
 {
-    let passphrase = read_passphrase(host, source)?;
-    let Ok(mut workspace) = Workspace::reserve(alloc, header.costs()) else {
+    let passphrase = read_passphrase(host, task.source)?;
+    let Ok(mut workspace) = reserve(alloc, sparse, &task.limits) else {
         return Err(ScryptRefusal::OutOfMemory);
     };
-    let mut ticks = Ticks::new();
-    match Dec::open(
-        front,
-        header,
-        passphrase.as_slice(),
-        &mut workspace,
-        &mut ticks,
-    ) {
+    match Dec::open(front, header, passphrase.as_slice(), &mut workspace, ticks) {
         Ok(dec) => Ok(dec),
         Err(_) => Err(ScryptRefusal::WrongPassphrase),
     }
@@ -82,6 +86,7 @@ fn release<H: Host>(host: &mut H, dec: &mut Dec) -> Result<(), ScryptRefusal>
         → HasRead dec.old passphrase front
         → EndsText r (2 ^ 60 + 32) 4128 (text_behind passphrase front)
         (H.seen host.old) (H.seen host.new)) }
+    ensures late { IfErr result (λ r. may_follow_work r ≡ true) }
 {
     let mut buf = [0u8; 4096];
     let mut out = [0u8; 4128];
@@ -117,6 +122,7 @@ fn finish<H: Host>(host: &mut H, outfile: Option<&str>, dec: Dec) -> Result<(), 
         → HasRead dec passphrase front
         → ReleaseRefused r passphrase front (text_of outfile.entry)
         (H.seen host.old) (H.seen host.new)) }
+    ensures late { IfErr result (λ r. may_follow_work r ≡ true) }
 {
     let Ok(()) = host.open_output(outfile) else {
         return Err(ScryptRefusal::OutputFault);
@@ -135,9 +141,14 @@ fn finish<H: Host>(host: &mut H, outfile: Option<&str>, dec: Dec) -> Result<(), 
 /// The output is opened once the passphrase is found right, and no refusal after that takes back
 /// what was written. The text can be trusted only after `Ok`, since the final code is tested when
 /// all of it is written.
-pub fn decrypt<H: Host>(alloc: Global, host: &mut H, task: &Task<'_>) -> Result<(), ScryptRefusal>
+pub fn decrypt<H: Host>(
+    alloc: Global,
+    host: &mut H,
+    task: &Task<'_>,
+    ticks: &mut Ticks,
+) -> Result<(), ScryptRefusal>
     requires room { AreBelow (2 ^ 63) (H.faults host.old) }
-    requires unopened { IsTrue H.tells → IsUnopened (H.seen host.old) }
+    requires fresh { IsTrue H.tells → IsFresh (H.seen host.old) }
     requires limits { HasAllowedLimits (task_seen task.now) }
     ensures counts { MatchResult result (λ _. H.faults host.new ≡ H.faults host.old)
         (λ r. H.faults host.new ≡ counted_by r (H.faults host.old)) }
@@ -145,8 +156,12 @@ pub fn decrypt<H: Host>(alloc: Global, host: &mut H, task: &Task<'_>) -> Result<
         (DecryptSucceeds (task_seen task.now) (H.seen host.old) (H.seen host.new)) }
     ensures refused { IsTrue H.tells → IfErr result (λ r.
         DecryptRefused r (task_seen task.now) (H.seen host.old) (H.seen host.new)) }
+    ensures work { IsTrue H.tells → task.now.keep ≡ 1 → OnOk result
+        (ticks.new ≡ ticks.old + cores (costs_of (H.seen host.old).input)) }
+    ensures work_bound { ticks.new ≤ ticks.old + task.now.limits.max_ops }
+    ensures idle { IfErr result (λ r. may_follow_work r ≡ false → ticks.new ≡ ticks.old) }
 {
-    let (front, header) = open_admitted_front(host, task.infile, &task.limits)?;
-    let dec = open(alloc, host, task.source, &front, header)?;
+    let (front, header, sparse) = open_admitted_front(host, task)?;
+    let dec = open(alloc, host, task, &front, header, &sparse, ticks)?;
     finish(host, task.outfile, dec)
 }

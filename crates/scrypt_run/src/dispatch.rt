@@ -1,10 +1,10 @@
 //! A run for a request.
-ghost use Rattle.std.specs.Prelude.{◌≡◌, ◌^◌, MatchResult, IfErr, OnOk, IsTrue};
+ghost use Rattle.std.specs.Prelude.{◌≡◌, ◌+◌, ◌≤◌, ◌^◌, false, MatchResult, IfErr, OnOk, IsTrue};
 ghost use Rattle.host.specs.Faults.{AreBelow};
-ghost use Rattle.host.specs.Seen.{IsUnopened};
-ghost use Rattle.scrypt_run.specs.Refusal.{counted_by};
+ghost use Rattle.host.specs.Seen.{IsFresh};
+ghost use Rattle.scrypt_run.specs.Refusal.{counted_by, may_follow_work};
 ghost use Rattle.scrypt_run.specs.Request.{IsAllowed, request_seen};
-ghost use Rattle.scrypt_run.specs.Run.{RequestRefused, RequestSucceeds};
+ghost use Rattle.scrypt_run.specs.Run.{KeepsAll, RequestRefused, RequestSucceeds, cores_asked, most_cores};
 
 use crate::decrypt::decrypt;
 use crate::encrypt::encrypt;
@@ -12,17 +12,26 @@ use crate::inspect::inspect;
 use crate::refusal::ScryptRefusal;
 use crate::request::Request;
 use host::Host;
+use romix::Ticks;
 use std::alloc::Global;
 
 /// Does what a request asks for: all of a run but its words and the line of a refusal. Nothing is
 /// opened yet, and the limit `-M` is at most 2^40 bytes.
 ///
-/// The faults are S4a, S4b, S5b and S6 to S15, in the order of the subcommand. Whatever was written
+/// The faults are S4a, S4b, S5b, S6 to S15 and S16b, in the order of the subcommand. Whatever was written
 /// before a fault stays written, and no output is opened before every check up to the header's code
 /// has passed; `OutOfMemory` is never told after an output was opened.
-pub fn run<H: Host>(alloc: Global, host: &mut H, request: &Request<'_>) -> Result<(), ScryptRefusal>
+///
+/// `ticks` counts the Salsa20/8 cores: none where the words, the limits, the header, the passphrase,
+/// the salt or want of memory refuse, and never more than the limit on work.
+pub fn run<H: Host>(
+    alloc: Global,
+    host: &mut H,
+    request: &Request<'_>,
+    ticks: &mut Ticks,
+) -> Result<(), ScryptRefusal>
     requires room { AreBelow (2 ^ 63) (H.faults host.old) }
-    requires unopened { IsTrue H.tells → IsUnopened (H.seen host.old) }
+    requires fresh { IsTrue H.tells → IsFresh (H.seen host.old) }
     requires allowed { IsAllowed (request_seen request.now) }
     ensures counts { MatchResult result (λ _. H.faults host.new ≡ H.faults host.old)
         (λ r. H.faults host.new ≡ counted_by r (H.faults host.old)) }
@@ -30,10 +39,14 @@ pub fn run<H: Host>(alloc: Global, host: &mut H, request: &Request<'_>) -> Resul
         (H.seen host.old) (H.seen host.new)) }
     ensures refused { IsTrue H.tells → IfErr result (λ r. RequestRefused r
         (request_seen request.now) (H.seen host.old) (H.seen host.new)) }
+    ensures work { IsTrue H.tells → KeepsAll (request_seen request.now) → OnOk result (ticks.new
+        ≡ ticks.old + cores_asked (request_seen request.now) (H.seen host.old)) }
+    ensures work_bound { ticks.new ≤ ticks.old + most_cores (request_seen request.now) }
+    ensures idle { IfErr result (λ r. may_follow_work r ≡ false → ticks.new ≡ ticks.old) }
 {
     match request {
-        Request::Encrypt(asked) => encrypt(alloc, host, asked),
-        Request::Decrypt(task) => decrypt(alloc, host, task),
+        Request::Encrypt(asked) => encrypt(alloc, host, asked, ticks),
+        Request::Decrypt(task) => decrypt(alloc, host, task, ticks),
         Request::Inspect(infile) => inspect(alloc, host, *infile),
     }
 }

@@ -1,19 +1,20 @@
 //! The first 96 bytes of a file, and the checks that need no passphrase.
 ghost use Rattle.std.specs.Prelude.{◌≡◌, ◌<◌, ◌≤◌, ◌^◌, ℕ, Some, None, take, length, option_map, MatchResult, IfOk, IfErr, OnOk, OnErr, IsTrue};
-ghost use Rattle.romix.specs.Costs.{FitsMemory};
 ghost use Rattle.encfile.specs.Front.{format_refusal, limits_refusal};
 ghost use Rattle.encfile.specs.Header.{IsHeaderOf, costs_of};
 ghost use Rattle.host.specs.Faults.{AreBelow, input_failed};
 ghost use Rattle.host.specs.Seen.{after_pull};
 ghost use Rattle.scrypt_run.specs.Front.{FrontRefused};
 ghost use Rattle.scrypt_run.specs.Refusal.{counted_by, refusal_of};
-ghost use Rattle.scrypt_run.specs.Request.{text_of};
+ghost use Rattle.scrypt_run.specs.Request.{HasAllowedLimits, IsAdmitted, allowance_of, task_seen, text_of};
 ghost use Rattle.scrypt_run.specs.Steps.{after_reading};
 
-use crate::refusal::{ScryptRefusal, header_refusal, limit_refusal};
+use crate::admission::admit;
+use crate::refusal::{ScryptRefusal, header_refusal};
+use crate::request::Task;
 use encfile::Header;
 use host::{Host, HostFault};
-use romix::Limits;
+use romix::Sparse;
 
 // Pulls 96 bytes, or all where there are fewer, and says how many.
 fn pull_front<H: Host>(host: &mut H, front: &mut [u8; 96]) -> Result<usize, HostFault>
@@ -86,19 +87,18 @@ fn read_header(front: &[u8; 96]) -> Result<Header, ScryptRefusal>
 }
 
 // Holds the costs of a header against the limits.
-fn test_limits(front: &[u8; 96], header: &Header, limits: &Limits) -> Result<(), ScryptRefusal>
+fn test_limits(front: &[u8; 96], header: &Header, task: &Task<'_>) -> Result<Sparse, ScryptRefusal>
     requires valid { format_refusal front.now ≡ None }
     requires costs { header.now.costs ≡ costs_of front.now }
-    ensures admitted { OnOk result
-        (limits_refusal front.now limits.now.max_bytes limits.now.max_ops ≡ None) }
-    ensures memory { OnOk result (FitsMemory header.now.costs limits.now.max_bytes) }
+    requires allowed { HasAllowedLimits (task_seen task.now) }
+    ensures passes { OnOk result (limits_refusal front.now (allowance_of (task_seen task.now)) ≡ None) }
+    ensures costs { IfOk result (λ sparse. sparse.costs ≡ header.now.costs) }
+    ensures keep { IfOk result (λ sparse. sparse.keep ≡ task.now.keep) }
+    ensures admitted { IfOk result (λ sparse. IsAdmitted sparse task.now.limits) }
     ensures refused { IfErr result (λ r. option_map refusal_of
-        (limits_refusal front.now limits.now.max_bytes limits.now.max_ops) ≡ Some r) }
+        (limits_refusal front.now (allowance_of (task_seen task.now))) ≡ Some r) }
 {
-    match header.costs().admitted(limits) {
-        Ok(()) => Ok(()),
-        Err(fault) => Err(limit_refusal(fault)),
-    }
+    admit(header.costs(), task)
 }
 
 /// Opens the input, reads its first 96 bytes, and reads the header in them.
@@ -135,27 +135,31 @@ pub fn open_front<H: Host>(
 /// the limits.
 pub fn open_admitted_front<H: Host>(
     host: &mut H,
-    infile: Option<&str>,
-    limits: &Limits,
-) -> Result<([u8; 96], Header), ScryptRefusal>
+    task: &Task<'_>,
+) -> Result<([u8; 96], Header, Sparse), ScryptRefusal>
     requires room { AreBelow (2 ^ 63) (H.faults host.old) }
     requires unopened { IsTrue H.tells → (H.seen host.old).input_opened ≡ None }
+    requires allowed { HasAllowedLimits (task_seen task.now) }
     ensures counts { MatchResult result (λ _. H.faults host.new ≡ H.faults host.old)
         (λ r. H.faults host.new ≡ counted_by r (H.faults host.old)) }
     ensures long { IsTrue H.tells → OnOk result (96 ≤ length (H.seen host.old).input) }
     ensures front { IsTrue H.tells →
         IfOk result (λ read. read.0 ≡ take 96 (H.seen host.old).input) }
     ensures header { IfOk result (λ read. IsHeaderOf (take 64 read.0) read.1) }
-    ensures memory { IfOk result (λ read. FitsMemory read.1.costs limits.now.max_bytes) }
-    ensures checked { IsTrue H.tells → OnOk result (limits_refusal (H.seen host.old).input
-        limits.now.max_bytes limits.now.max_ops ≡ None) }
+    ensures same_costs { IsTrue H.tells →
+        IfOk result (λ read. read.1.costs ≡ costs_of (H.seen host.old).input) }
+    ensures costs { IfOk result (λ read. read.2.costs ≡ read.1.costs) }
+    ensures keep { IfOk result (λ read. read.2.keep ≡ task.now.keep) }
+    ensures admitted { IfOk result (λ read. IsAdmitted read.2 task.now.limits) }
+    ensures checked { IsTrue H.tells → OnOk result
+        (limits_refusal (H.seen host.old).input (allowance_of (task_seen task.now)) ≡ None) }
     ensures reads { IsTrue H.tells → OnOk result
-        (H.seen host.new ≡ after_reading (text_of infile.entry) 96 (H.seen host.old)) }
-    ensures refused { IsTrue H.tells → IfErr result (λ r. FrontRefused r (limits_refusal
-        (H.seen host.old).input limits.now.max_bytes limits.now.max_ops) (text_of infile.entry)
-        (H.seen host.old) (H.seen host.new)) }
+        (H.seen host.new ≡ after_reading (text_of task.now.infile) 96 (H.seen host.old)) }
+    ensures refused { IsTrue H.tells → IfErr result (λ r. FrontRefused r
+        (limits_refusal (H.seen host.old).input (allowance_of (task_seen task.now)))
+        (text_of task.now.infile) (H.seen host.old) (H.seen host.new)) }
 {
-    let (front, header) = open_front(host, infile)?;
-    test_limits(&front, &header, limits)?;
-    Ok((front, header))
+    let (front, header) = open_front(host, task.infile)?;
+    let sparse = test_limits(&front, &header, task)?;
+    Ok((front, header, sparse))
 }

@@ -1,7 +1,7 @@
 //! `scrypt info`: the costs of a file, told without a passphrase.
 ghost use Rattle.std.specs.Prelude.{◌≡◌, ◌^◌, MatchResult, IfOk, IfErr, OnOk, IsTrue, string_bytes};
 ghost use Rattle.host.specs.Faults.{AreBelow};
-ghost use Rattle.host.specs.Seen.{IsUnopened};
+ghost use Rattle.host.specs.Seen.{IsFresh};
 ghost use Rattle.scrypt_run.specs.Inspecting.{InspectRefused, InspectSucceeds, costs_line};
 ghost use Rattle.scrypt_run.specs.Refusal.{counted_by};
 ghost use Rattle.scrypt_run.specs.Request.{text_of};
@@ -39,7 +39,7 @@ pub fn inspect<H: Host>(
     infile: Option<&str>,
 ) -> Result<(), ScryptRefusal>
     requires room { AreBelow (2 ^ 63) (H.faults host.old) }
-    requires unopened { IsTrue H.tells → IsUnopened (H.seen host.old) }
+    requires fresh { IsTrue H.tells → IsFresh (H.seen host.old) }
     ensures counts { MatchResult result (λ _. H.faults host.new ≡ H.faults host.old)
         (λ r. H.faults host.new ≡ counted_by r (H.faults host.old)) }
     ensures succeeds { IsTrue H.tells → OnOk result

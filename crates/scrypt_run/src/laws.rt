@@ -4,7 +4,7 @@ ghost use Rattle.romix.specs.Costs.{Parameters};
 ghost use Rattle.host.specs.Seen.{Seen};
 ghost use Rattle.scrypt_run.specs.Decrypting.{DecryptRefused, DecryptSucceeds};
 ghost use Rattle.scrypt_run.specs.Encrypting.{EncryptSucceeds};
-ghost use Rattle.scrypt_run.specs.Laws.{CanBeOpened, IsFromOutside, IsRefusedFromOutside, WroteAnEncryption, WroteWhatWasEncrypted};
+ghost use Rattle.scrypt_run.specs.Laws.{AdmitsCosts, AreOneEnd, AsksNoOther, CanBeOpened, IsFromOutside, IsRefusedFromOutside, WroteAnEncryption, WroteWhatWasEncrypted, with_keep};
 ghost use Rattle.scrypt_run.specs.Request.{Encryption, Request, Task};
 ghost use Rattle.scrypt_run.specs.Run.{RequestRefused, RequestSucceeds};
 ghost use Rattle.scrypt_run.specs.declared.refusal.ScryptRefusal.{ScryptRefusal};
@@ -46,12 +46,35 @@ fn success_is_refused_from_outside_alone()
         → IsRefusedFromOutside request refusal }
 {}
 
-// Two refusals of a request are the same, or one of them is from outside: what else refuses it is
-// decided by the request and the host.
+// Two refusals of a request are one end, or one of them is from outside: what else refuses it, and
+// what it leaves, is decided by the request and the host.
 fn one_refusal_from_inside()
     ensures same { (request : Request) (before after ended : Seen) (one other : ScryptRefusal)
         → RequestRefused one request before after → RequestRefused other request before ended
-        → (one ≡ other) ⊎ IsRefusedFromOutside request one ⊎ IsRefusedFromOutside request other }
+        → AreOneEnd one other after ended
+        ⊎ IsRefusedFromOutside request one ⊎ IsRefusedFromOutside request other }
+{}
+
+// A run asks no secret source but the request's.
+fn no_other_source_is_asked()
+    ensures succeeds { (request : Request) (before after : Seen)
+        → RequestSucceeds request before after → AsksNoOther request before after }
+    ensures refused { (request : Request) (before after : Seen) (refusal : ScryptRefusal)
+        → RequestRefused refusal request before after → AsksNoOther request before after }
+{}
+
+// Where both are admitted, a run with one S and a run with another come to the same ends: the same
+// file, text, bytes and refusals.
+fn ends_do_not_depend_on_keep()
+    ensures succeeds { (request : Request) (keep : ℕ) (before after : Seen)
+        → AdmitsCosts request before → AdmitsCosts (with_keep keep request) before
+        → RequestSucceeds request before after
+        → RequestSucceeds (with_keep keep request) before after }
+    ensures refused { (request : Request) (keep : ℕ) (before after : Seen)
+        (refusal : ScryptRefusal)
+        → AdmitsCosts request before → AdmitsCosts (with_keep keep request) before
+        → RequestRefused refusal request before after
+        → RequestRefused refusal (with_keep keep request) before after }
 {}
 
 // Want of memory is never told after an output was opened.

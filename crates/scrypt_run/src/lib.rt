@@ -2,6 +2,7 @@
 //!
 //! | file | what |
 //! |---|---|
+//! | `admission` | the costs held against S and the limits |
 //! | `encrypt` | `enc`, in the order of its refusals |
 //! | `decrypt` | `dec`, likewise, behind the first 96 bytes |
 //! | `front` | the first 96 bytes of a file, for `dec` and `info` |
@@ -9,6 +10,7 @@
 //! | `passphrase` | the first line of a secret source |
 #![tactic(auto)]
 
+mod admission;
 mod decrypt;
 mod dispatch;
 mod encrypt;

@@ -1,7 +1,8 @@
 //! The passphrase of a run: the first line of its source.
-ghost use Rattle.std.specs.Prelude.{◌≡◌, ◌<◌, ◌≤◌, ◌^◌, ℕ, List, take, length, MatchResult, IfOk, IfErr, IsTrue};
+ghost use Rattle.std.specs.Prelude.{◌≡◌, ◌<◌, ◌≤◌, ◌^◌, ℕ, List, None, take, length, MatchResult, IfOk, IfErr, IsTrue};
 ghost use Rattle.host.specs.Faults.{AreBelow};
 ghost use Rattle.host.specs.Secret.{source_of};
+ghost use Rattle.host.specs.Seen.{after_ask};
 ghost use Rattle.scrypt_run.specs.Passphrase.{HasPassphrase, PassphraseRefused, first_line, first_line_at, is_line_end};
 ghost use Rattle.scrypt_run.specs.Refusal.{counted_by};
 
@@ -52,15 +53,17 @@ fn line_length(bytes: &[u8]) -> usize
         .unwrap_or(bytes.len())
 }
 
-/// Reads the passphrase from its source.
+/// Reads the passphrase from its source. No source was asked before.
 pub fn read_passphrase<H: Host>(
     host: &mut H,
     source: Source<'_>,
 ) -> Result<Passphrase, ScryptRefusal>
     requires room { AreBelow (2 ^ 63) (H.faults host.old) }
+    requires unasked { IsTrue H.tells → (H.seen host.old).asked ≡ None }
     ensures counts { MatchResult result (λ _. H.faults host.new ≡ H.faults host.old)
         (λ r. H.faults host.new ≡ counted_by r (H.faults host.old)) }
-    ensures kept { IsTrue H.tells → H.seen host.new ≡ H.seen host.old }
+    ensures asks { IsTrue H.tells →
+        H.seen host.new ≡ after_ask (source_of source.entry) (H.seen host.old) }
     ensures read { IsTrue H.tells → IfOk result
         (HasPassphrase (first_line_at (source_of source.entry) (H.seen host.old))) }
     ensures refused { IsTrue H.tells → IfErr result (λ r.

@@ -1,13 +1,12 @@
 //! The refusals of `scrypt`, and the line that tells each.
 ghost use Rattle.std.specs.Prelude.{◌≡◌};
-ghost use Rattle.encfile.specs.Front.{header_refusal, limit_refusal};
-ghost use Rattle.scrypt_run.specs.Refusal.{RaisesNoCount, line_of, refusal_of};
+ghost use Rattle.encfile.specs.Front.{header_refusal};
+ghost use Rattle.scrypt_run.specs.Refusal.{line_of, refusal_of};
 
 use encfile::HeaderFault;
-use romix::CostFault;
 
 /// Why a run of `scrypt` ends with status 1. Each has its number, when it holds, and its line. Of the
-/// words, S1, S2a, S2b, S2c, S2d, S3 and S5a are tested in this order, and the first that holds is
+/// words, S1, S2a, S2b, S2c, S2d, S3, S5a and S16a are tested in this order, and the first that holds is
 /// told.
 #[derive(Clone, Copy, Debug, PartialEq, Eq)]
 pub enum ScryptRefusal {
@@ -61,6 +60,11 @@ pub enum ScryptRefusal {
     TooLong,
     /// S15: a growth of memory was refused. `scrypt: out of memory`
     OutOfMemory,
+    /// S16a: `--keep` is not a power of two from 1 to 1,024.
+    /// `scrypt: --keep takes a power of two from 1 to 1024`
+    KeepOutOfRange,
+    /// S16b: `--keep` is above N. `scrypt: --keep is larger than N`
+    KeepAboveN,
 }
 
 impl ScryptRefusal {
@@ -97,6 +101,8 @@ impl ScryptRefusal {
             ScryptRefusal::OutputFault => "scrypt: output cannot be opened or written",
             ScryptRefusal::TooLong => "scrypt: input is too long",
             ScryptRefusal::OutOfMemory => "scrypt: out of memory",
+            ScryptRefusal::KeepOutOfRange => "scrypt: --keep takes a power of two from 1 to 1024",
+            ScryptRefusal::KeepAboveN => "scrypt: --keep is larger than N",
         }
     }
 }
@@ -111,19 +117,6 @@ pub fn header_refusal(fault: HeaderFault) -> ScryptRefusal
         HeaderFault::Magic | HeaderFault::Checksum | HeaderFault::CostsOutOfRange => {
             ScryptRefusal::NotScryptData
         }
-    }
-}
-
-/// The refusal of costs that the limits don't admit.
-#[tactic(auto, unfolding(encfile::specs::Front::limit_refusal))]
-pub fn limit_refusal(fault: CostFault) -> ScryptRefusal
-    ensures refusal { result ≡ refusal_of (limit_refusal fault) }
-    ensures uncounted { RaisesNoCount result }
-{
-    match fault {
-        CostFault::Memory => ScryptRefusal::MemoryLimit,
-        CostFault::Work => ScryptRefusal::WorkLimit,
-        CostFault::LogN | CostFault::Zero | CostFault::Product => ScryptRefusal::NotScryptData,
     }
 }
 

@@ -7,6 +7,9 @@ use romix::{Costs, Limits};
 pub struct Task<'a> {
     /// `-M`, 1 to 2^40 bytes, and `--maxops`, 1 to 2^63-1 cores.
     pub limits: Limits,
+    /// `--keep`: of the rows of the table those are kept whose number it divides. It is a power of
+    /// two from 1 to 1,024; with 1 the table is whole.
+    pub keep: u64,
     /// Where the passphrase comes from.
     pub source: Source<'a>,
     /// The input's name; `None` is standard input.

@@ -2,6 +2,9 @@
 #![tactic(auto)]
 
 mod arguments;
+mod identity;
+mod inputs;
+mod outputs;
 mod placeholders;
 mod streams;
 mod system_host;

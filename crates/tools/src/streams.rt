@@ -1,6 +1,7 @@
 //! Reading and writing streams that signals may interrupt.
 ghost use Rattle.std.specs.Prelude.{◌<◌, ◌≤◌, ℕ, take, length, IfOk, OnErr};
 ghost use Rattle.std.specs.Io.KnownBytes.{Appends, Consumes, IsAtEnd, ReadConsumes, WriteAppends};
+ghost use Rattle.tools.specs.Beginning.{IsKnownBeginning};
 
 use host::HostFault;
 use std::io::{ErrorKind, Read, Write};
@@ -30,6 +31,7 @@ pub fn read_full<R: Read>(reader: &mut R, buf: &mut [u8]) -> Result<usize, HostF
     ensures bytes { IfOk result (λ n.
         Consumes (R.remaining reader.old) (R.remaining reader.new) (take n buf.new)) }
     ensures end { IfOk result (λ n. n < length buf.old → IsAtEnd (R.remaining reader.new)) }
+    ensures whole { IfOk result (λ n. IsKnownBeginning (R.remaining reader.old) n buf.new) }
 {
     let mut at = 0;
     while at < buf.len() {

@@ -1,6 +1,6 @@
 //! Texts near the known text, byte by byte. `tests/encoded_texts.py` prints these answers, by a
 //! regular expression and Python's base64: 0 where a text is read, 1 where it is not in the grammar,
-//! 2 where a value is out of range. The nth digit stands for place n of the known text.
+//! 2 where a value is out of range. The nth digit stands for place n of the text.
 
 /// The byte that stands in the place of another, and the answers.
 pub const REPLACED: &[(u8, &str)] = &[
@@ -29,6 +29,10 @@ pub const REPLACED: &[(u8, &str)] = &[
         "11111111111121111001112111210000000000010000000000000000000000000000000000000000000",
     ),
     (
+        b'6',
+        "11111111111201110001110111010000000000110000000000000000000000000000000000000000001",
+    ),
+    (
         b'A',
         "11111111111111111111111111110000000000010000000000000000000000000000000000000000000",
     ),
@@ -46,14 +50,26 @@ pub const REPLACED: &[(u8, &str)] = &[
     ),
 ];
 
-/// The byte at each place left out.
+/// The byte at each place of the known text left out.
 pub const LEFT_OUT: &str =
     "11111111111221110001111111112222222222111111111111111111111111111111111111111111111";
 
-/// The byte at each place twice.
+/// The byte at each place of it twice.
 pub const TWICE: &str =
     "11111111111221110001110111010000000000010000000000000000000000000000000000000000000";
 
-/// What stands before each place, alone.
+/// What stands before each place of it, alone.
 pub const PREFIXES: &str =
     "11111111111111111111111111111111111111112112211001110110011001110111010101110111011";
+
+/// The byte at each place of the short text left out.
+pub const SHORT_LEFT_OUT: &str =
+    "111111111110001111111112222222222111111111111111111111111111111111111111111110";
+
+/// The byte at each place of it twice.
+pub const SHORT_TWICE: &str =
+    "111111111110001110111010000000000010000000000000000000000000000000000000000000";
+
+/// What stands before each place of it, alone.
+pub const SHORT_PREFIXES: &str =
+    "111111111111111111111111111111111112111211001110111011001110111011001110111010";

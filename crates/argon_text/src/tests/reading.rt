@@ -1,9 +1,12 @@
 //! What reading takes and refuses: texts of the reference program, worked examples, near misses.
 ghost use Rattle.std.specs.Prelude.{◌≤◌};
 
-use super::near_misses::{LEFT_OUT, PREFIXES, REPLACED, TWICE};
+use super::near_misses::{
+    LEFT_OUT, PREFIXES, REPLACED, SHORT_LEFT_OUT, SHORT_PREFIXES, SHORT_TWICE, TWICE,
+};
 use super::reference_texts::{KNOWN, ROWS};
 use super::refusing::Refusing;
+use super::version_0x10::SHORT;
 use crate::read::read_from;
 use crate::{Encoded, ReadFault};
 use std::alloc::{AllocError, Global};
@@ -48,7 +51,7 @@ const CHANGED: &[(u8, &str)] = &[
         "$argon2i$v=19$m=256,t=2,p=1$c29tZXNhbHR$iekCn0Y3spW+sCcFanM2xBT63UP2sghkUoHLIUpWRS8",
     ),
     (
-        1,
+        0,
         "$argon2i$m=256,t=2,p=1$c29tZXNhbHQ$iekCn0Y3spW+sCcFanM2xBT63UP2sghkUoHLIUpWRS8",
     ),
     (
@@ -90,6 +93,108 @@ const CHANGED: &[(u8, &str)] = &[
     (
         2,
         "$argon2i$v=20$m=256,t=2,p=1$c29tZXNhbHQ$iekCn0Y3spW+sCcFanM2xBT63UP2sghkUoHLIUpWRS8",
+    ),
+    (
+        2,
+        "$argon2i$v=10$m=256,t=2,p=1$c29tZXNhbHQ$iekCn0Y3spW+sCcFanM2xBT63UP2sghkUoHLIUpWRS8",
+    ),
+    // no whole field of a version
+    (
+        1,
+        "$argon2i$$m=256,t=2,p=1$c29tZXNhbHQ$iekCn0Y3spW+sCcFanM2xBT63UP2sghkUoHLIUpWRS8",
+    ),
+    (
+        1,
+        "$argon2i$v19$m=256,t=2,p=1$c29tZXNhbHQ$iekCn0Y3spW+sCcFanM2xBT63UP2sghkUoHLIUpWRS8",
+    ),
+    (
+        1,
+        "$argon2i$19$m=256,t=2,p=1$c29tZXNhbHQ$iekCn0Y3spW+sCcFanM2xBT63UP2sghkUoHLIUpWRS8",
+    ),
+    (
+        1,
+        "$argon2i$v=19,m=256,t=2,p=1$c29tZXNhbHQ$iekCn0Y3spW+sCcFanM2xBT63UP2sghkUoHLIUpWRS8",
+    ),
+    (
+        1,
+        "$argon2im=256,t=2,p=1$c29tZXNhbHQ$iekCn0Y3spW+sCcFanM2xBT63UP2sghkUoHLIUpWRS8",
+    ),
+    // near the field of version 16, and near a text without one (the answers of tests/encoded_texts.py)
+    (
+        1,
+        "$argon2i$v=16$v=16$m=256,t=2,p=1$c29tZXNhbHQ$/U3YPXYsSb3q9XxHvc0MLxur+GP960kN9j7emXX8zwY",
+    ),
+    (
+        1,
+        "$argon2i$v=19$v=16$m=256,t=2,p=1$c29tZXNhbHQ$/U3YPXYsSb3q9XxHvc0MLxur+GP960kN9j7emXX8zwY",
+    ),
+    (
+        1,
+        "$argon2i$v=$m=256,t=2,p=1$c29tZXNhbHQ$/U3YPXYsSb3q9XxHvc0MLxur+GP960kN9j7emXX8zwY",
+    ),
+    (
+        1,
+        "$argon2i$v$m=256,t=2,p=1$c29tZXNhbHQ$/U3YPXYsSb3q9XxHvc0MLxur+GP960kN9j7emXX8zwY",
+    ),
+    (
+        1,
+        "$argon2i$v=010$m=256,t=2,p=1$c29tZXNhbHQ$/U3YPXYsSb3q9XxHvc0MLxur+GP960kN9j7emXX8zwY",
+    ),
+    (
+        1,
+        "$argon2i$v=016$m=256,t=2,p=1$c29tZXNhbHQ$/U3YPXYsSb3q9XxHvc0MLxur+GP960kN9j7emXX8zwY",
+    ),
+    (
+        2,
+        "$argon2i$v=17$m=256,t=2,p=1$c29tZXNhbHQ$/U3YPXYsSb3q9XxHvc0MLxur+GP960kN9j7emXX8zwY",
+    ),
+    (
+        1,
+        "$argon2i$v=0x10$m=256,t=2,p=1$c29tZXNhbHQ$/U3YPXYsSb3q9XxHvc0MLxur+GP960kN9j7emXX8zwY",
+    ),
+    (
+        1,
+        "$argon2i$V=16$m=256,t=2,p=1$c29tZXNhbHQ$/U3YPXYsSb3q9XxHvc0MLxur+GP960kN9j7emXX8zwY",
+    ),
+    (
+        1,
+        "$argon2i$v=16,$m=256,t=2,p=1$c29tZXNhbHQ$/U3YPXYsSb3q9XxHvc0MLxur+GP960kN9j7emXX8zwY",
+    ),
+    (
+        1,
+        "$argon2i$m=256$v=16$t=2,p=1$c29tZXNhbHQ$/U3YPXYsSb3q9XxHvc0MLxur+GP960kN9j7emXX8zwY",
+    ),
+    (
+        1,
+        "$argon2i$m=256,v=16,t=2,p=1$c29tZXNhbHQ$/U3YPXYsSb3q9XxHvc0MLxur+GP960kN9j7emXX8zwY",
+    ),
+    (
+        1,
+        "$argon2i$m=256,t=2,p=1,v=16$c29tZXNhbHQ$/U3YPXYsSb3q9XxHvc0MLxur+GP960kN9j7emXX8zwY",
+    ),
+    (
+        1,
+        "$argon2i$m=256,t=2,p=1$v=16$c29tZXNhbHQ$/U3YPXYsSb3q9XxHvc0MLxur+GP960kN9j7emXX8zwY",
+    ),
+    (
+        1,
+        "$v=16$argon2i$m=256,t=2,p=1$c29tZXNhbHQ$/U3YPXYsSb3q9XxHvc0MLxur+GP960kN9j7emXX8zwY",
+    ),
+    (
+        1,
+        "$argon2i,$m=256,t=2,p=1$c29tZXNhbHQ$/U3YPXYsSb3q9XxHvc0MLxur+GP960kN9j7emXX8zwY",
+    ),
+    (
+        1,
+        "$argon2i$,m=256,t=2,p=1$c29tZXNhbHQ$/U3YPXYsSb3q9XxHvc0MLxur+GP960kN9j7emXX8zwY",
+    ),
+    (
+        1,
+        "$argon2i$m=256,t=2,p=1,$c29tZXNhbHQ$/U3YPXYsSb3q9XxHvc0MLxur+GP960kN9j7emXX8zwY",
+    ),
+    (
+        1,
+        "$argon2i$m=256,t=2,p=1$c29tZXNhbHQ$/U3YPXYsSb3q9XxHvc0MLxur+GP960kN9j7emXX8zwY,",
     ),
     // a field twice, in another order, left out, one more
     (
@@ -216,22 +321,28 @@ fn each_byte_replaced(rt: HostRuntime) -> Result<(), Fail> {
 #[test]
 fn each_byte_left_out_and_twice_and_each_prefix(rt: HostRuntime) -> Result<(), Fail> {
     let alloc = rt.alloc();
-    let mut left_out = Vec::new(alloc);
-    let mut twice = Vec::new(alloc);
-    let mut prefixes = Vec::new(alloc);
-    for place in 0..KNOWN.len() {
-        let mut text = KNOWN[..place].to_vec(alloc)?;
-        prefixes.push(digit(alloc, &text))?;
-        text.extend_from_slice(&KNOWN[place + 1..])?;
-        left_out.push(digit(alloc, &text))?;
-        text.truncate(place);
-        text.push(KNOWN[place])?;
-        text.extend_from_slice(&KNOWN[place..])?;
-        twice.push(digit(alloc, &text))?;
+    for (known, answers) in [
+        (KNOWN, [LEFT_OUT, TWICE, PREFIXES]),
+        (SHORT, [SHORT_LEFT_OUT, SHORT_TWICE, SHORT_PREFIXES]),
+    ] {
+        let mut left_out = Vec::new(alloc);
+        let mut twice = Vec::new(alloc);
+        let mut prefixes = Vec::new(alloc);
+        for place in 0..known.len() {
+            let mut text = known[..place].to_vec(alloc)?;
+            prefixes.push(digit(alloc, &text))?;
+            text.extend_from_slice(&known[place + 1..])?;
+            left_out.push(digit(alloc, &text))?;
+            text.truncate(place);
+            text.push(known[place])?;
+            text.extend_from_slice(&known[place..])?;
+            twice.push(digit(alloc, &text))?;
+        }
+        let [expected_left_out, expected_twice, expected_prefixes] = answers;
+        assert_eq!(rt; left_out.as_slice(), expected_left_out.as_bytes());
+        assert_eq!(rt; twice.as_slice(), expected_twice.as_bytes());
+        assert_eq!(rt; prefixes.as_slice(), expected_prefixes.as_bytes());
     }
-    assert_eq!(rt; left_out.as_slice(), LEFT_OUT.as_bytes());
-    assert_eq!(rt; twice.as_slice(), TWICE.as_bytes());
-    assert_eq!(rt; prefixes.as_slice(), PREFIXES.as_bytes());
     Ok(())
 }
 
@@ -261,8 +372,13 @@ const NUMBERS: &[(&str, &str, &[(u8, &str)])] = &[
             (2, "18"),
             (2, "20"),
             (2, "0"),
-            (2, "16"),
+            (2, "10"),
+            (2, "15"),
+            (0, "16"),
+            (2, "17"),
+            (2, "4294967312"),
             (2, "4294967315"),
+            (1, "016"),
             (1, "019"),
             (1, ""),
         ],
@@ -380,6 +496,18 @@ fn lengths_of_salt_and_tag_at_their_bounds(rt: HostRuntime) -> Result<(), Fail> 
             assert_eq!(rt; answer(alloc, &text), *expected, "{count}");
         }
     }
+    Ok(())
+}
+
+// Both at their longest.
+#[test]
+fn longest_text(rt: HostRuntime) -> Result<(), Fail> {
+    let alloc = rt.alloc();
+    let front = repeated(alloc, b"$argon2id$v=19$m=8,t=1,p=1$", b'A', 340, b"$")?;
+    assert_eq!(rt;
+        answer(alloc, &repeated(alloc, &front, b'A', 5462, b"")?),
+        0
+    );
     Ok(())
 }
 

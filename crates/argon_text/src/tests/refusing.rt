@@ -37,10 +37,15 @@ impl Room for Refusing {
         self.alloc.zeros(count)
     }
 
-    fn matrix(&mut self, params: &Params) -> Result<Matrix, AllocError> {
+    fn matrix(
+        &mut self,
+        params: &Params,
+        max_kib: u32,
+        max_ops: u64,
+    ) -> Result<Matrix, AllocError> {
         if !self.grants() {
             return Err(AllocError);
         }
-        self.alloc.matrix(params)
+        self.alloc.matrix(params, max_kib, max_ops)
     }
 }

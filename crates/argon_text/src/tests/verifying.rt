@@ -3,6 +3,7 @@ use super::reference_texts::{KNOWN, ROWS};
 use super::refusing::Refusing;
 use crate::verifying::verify_in;
 use crate::{Encoded, ReadFault, VerifyFault, verify};
+use argon::Ticks;
 use std::alloc::Global;
 use std::test::Fail;
 
@@ -77,7 +78,14 @@ fn each_request_is_refused(rt: HostRuntime) -> Result<(), Fail> {
             alloc: rt.alloc(),
             left,
         };
-        let found = verify_in(&mut room, &encoded, b"password", 256, max_ops);
+        let found = verify_in(
+            &mut room,
+            &encoded,
+            b"password",
+            256,
+            max_ops,
+            &mut Ticks::new(),
+        );
         assert_eq!(rt; number_of(found), expected, "{left}");
     }
     Ok(())

@@ -1,7 +1,8 @@
 -- What argon2 writes.
-use Rattle.std.specs.Prelude.{ℕ, ◌==◌, ◌++◌, List, [], ◌∷◌, Option, Some, None, Result, Ok, Err, length, nat_le, if◌then◌else◌}
+use Rattle.std.specs.Prelude.{◌≡◌, ℕ, ◌==◌, ◌++◌, List, [], ◌∷◌, Option, Some, None, Result, Ok, Err, length, nat_le, if◌then◌else◌}
 use Rattle.hex.specs.Hex.{encode_lower}
 use Rattle.argon.specs.Argon2.{Parameters, argon2_tag}
+use Rattle.argon.specs.Counts.{work}
 use Rattle.argon.specs.Kind.{type_number}
 use Rattle.argon.specs.Range.{admission, checked_parameters}
 use Rattle.argon.specs.declared.fault.ParamFault.{ParamFault}
@@ -25,10 +26,15 @@ password_in (Some bytes) =
     else if nat_le 128 (length bytes) then Err refusal.LongPassword
     else Ok bytes
 
+-- some standard input is refused so
+abbrev pub RefusesInput : Argon2Refusal → Type 0
+RefusesInput r = (stdin : Option (List ℕ)) × (password_in stdin ≡ Err r)
+
 -- the parameters of a request and a password (RFC 9106, 3.1)
 abbrev pub parameters_of : Request → List ℕ → Parameters
 parameters_of q password = record {
   kind = type_number q.settings.kind;
+  version = version_number q.settings.version;
   passes = q.settings.passes;
   lanes = q.settings.lanes;
   memory = q.settings.memory_kib;
@@ -70,15 +76,27 @@ abbrev pub tag_text : Form → Request → List ℕ → List ℕ
 tag_text Encoded q tag = encoded_text (value_with q tag)
 tag_text Hex q tag = encode_lower tag
 
+-- the line of a tag, in the form that was asked for
+abbrev pub tag_line : Request → List ℕ → List ℕ
+tag_line q tag = tag_text q.form q tag ++ 10 ∷ []
+
 -- the line that a request, a password and its parameters give
 abbrev pub output_line : Request → List ℕ → Parameters → List ℕ
-output_line q password p = tag_text q.form q (tag_of q.salt password p) ++ 10 ∷ []
+output_line q password p = tag_line q (tag_of q.salt password p)
 
--- what standard output gets where no call of the host fails and memory is there, or the refusal: first of the words,
--- then of the password, then of the parameters, then of the limits
-abbrev pub argon2_output : List Text → Seen → Result (List ℕ) Argon2Refusal
-argon2_output words seen = do
+-- how many block functions the hash of a request takes, which no password changes
+abbrev pub request_work : Request → ℕ
+request_work q = work (parameters_of q [])
+
+-- what standard output gets where standard input gives this, no call of the host fails and memory is there, or the
+-- refusal: first of the words, then of the password, then of the parameters, then of the limits
+abbrev pub output_for : List Text → Option (List ℕ) → Result (List ℕ) Argon2Refusal
+output_for words stdin = do
   request ← argon2_request words
-  password ← password_in seen.stdin
+  password ← password_in stdin
   parameters ← admitted_parameters request password
   Ok (output_line request password parameters)
+
+-- the same of a host
+abbrev pub argon2_output : List Text → Seen → Result (List ℕ) Argon2Refusal
+argon2_output words seen = output_for words seen.stdin

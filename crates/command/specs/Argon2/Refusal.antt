@@ -30,6 +30,12 @@ IsEarly refusal.OutputFault = ⊥
 IsEarly refusal.OutOfMemory = ⊥
 IsEarly r = Unit {0}
 
+-- the refusal is one that comes where no other is due: of memory, or of the output
+abbrev pub IsLate : Argon2Refusal → Type 0
+IsLate refusal.OutOfMemory = Unit {0}
+IsLate refusal.OutputFault = Unit {0}
+IsLate r = ⊥
+
 -- the refusal is none of a failing host call
 abbrev pub RaisesNoCount : Argon2Refusal → Type 0
 RaisesNoCount r = (f : Faults) → counted_by r f ≡ f

@@ -15,7 +15,7 @@ use Rattle.command.specs.declared.argon2_command.items.Form.TheVariants.{Encoded
 use Rattle.command.specs.declared.argon2_command.refusal.Argon2Refusal.{Argon2Refusal}
 use Rattle.command.specs.declared.argon2_command.refusal.Argon2Refusal.TheVariants as refusal
 use Rattle.command.specs.declared.argon2_command.settings.Version.{Version}
-use Rattle.command.specs.declared.argon2_command.settings.Version.TheVariants.{V13}
+use Rattle.command.specs.declared.argon2_command.settings.Version.TheVariants.{V10, V13}
 use Rattle.command.specs.declared.argon2_command.settings.Settings.{Settings}
 
 -- ---- values
@@ -30,7 +30,10 @@ power_in text = option_map (λ n. 2 ^ n) (number_in 1 32 text)
 
 -- the value of -v
 abbrev pub version_named : Text → Option Version
-version_named text = if bytes_eq text (codes "13") then Some V13 else None
+version_named text =
+    if bytes_eq text (codes "10") then Some V10
+    else if bytes_eq text (codes "13") then Some V13
+    else None
 
 -- the value of --maxmem
 abbrev pub memory_limit_in : Text → Option ℕ
@@ -40,8 +43,9 @@ memory_limit_in text = number_in 1 (2 ^ 32) text
 abbrev pub work_limit_in : Text → Option ℕ
 work_limit_in text = number_in 1 (2 ^ 63) text
 
--- the number of a version (RFC 9106, 3.1)
+-- the number of a version (RFC 9106, 3.1; 0x10 was before it)
 abbrev pub version_number : Version → ℕ
+version_number V10 = 0x10
 version_number V13 = 0x13
 
 -- ---- faults

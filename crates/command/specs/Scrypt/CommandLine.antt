@@ -21,9 +21,10 @@ stdin_flag = record (new_rule (codes "P")) { short = Some 80; action = Some SetT
 abbrev pub file_word : Text → Rule
 file_word name = new_rule name
 
--- -M and --maxops
+-- -M, --maxops and --keep
 abbrev pub with_limits : App → App
-with_limits app = with_rule (with_rule app (short_option (codes "M") 77)) (long_option (codes "maxops"))
+with_limits app = with_rule (with_rule (with_rule app
+    (short_option (codes "M") 77)) (long_option (codes "maxops"))) (long_option (codes "keep"))
 
 -- -P and --passphrase
 abbrev pub with_passphrase : App → App

@@ -8,11 +8,11 @@ use Rattle.hex.specs.Hex.{decode_sized}
 use Rattle.romix.specs.Costs.{Parameters}
 use Rattle.romix.specs.Faults.{cost_fault}
 use Rattle.romix.specs.FirstOf.{first_of}
+use Rattle.romix.specs.SparseCosts.{is_keep}
 use Rattle.romix.specs.declared.limits.Limits.{Limits}
-use Rattle.host.specs.Seen.{Text}
+use Rattle.host.specs.Seen.{SecretSource, Text, env, file, stdin_once}
 use Rattle.command.specs.Answer.{◌>>=◌, unless_refused}
 use Rattle.command.specs.Number.{number_in, number_of}
-use Rattle.host.specs.Secret.{SecretSource, stdin_once, env, file}
 use Rattle.scrypt_run.specs.Request.{Encryption, Request, Task, encrypt, decrypt, inspect}
 use Rattle.command.specs.Scrypt.Words.{CommonWords, EncWords, Words, enc, dec, info, scrypt_words}
 use Rattle.scrypt_run.specs.declared.refusal.ScryptRefusal.{ScryptRefusal}
@@ -37,6 +37,10 @@ max_bytes_given w = limit_given (2 ^ 40 + 1) (2 ^ 32) w.max_bytes
 -- --maxops, in cores
 abbrev pub max_ops_given : CommonWords → Option ℕ
 max_ops_given w = limit_given (2 ^ 63) (2 ^ 33) w.max_ops
+
+-- --keep
+abbrev pub keep_given : CommonWords → Option ℕ
+keep_given w = number_given 1 w.keep
 
 -- `prefix` and a name that is not empty
 abbrev pub has_name : Text → Text → Bool
@@ -87,9 +91,9 @@ limits_given w = record {
 
 -- ---- tests
 
--- -M or --maxops is no number word or out of range
+-- -M or --maxops is no number word or out of range, or --keep is no number word
 abbrev pub has_bad_limit : CommonWords → Bool
-has_bad_limit w = not (is_some (max_bytes_given w) && is_some (max_ops_given w))
+has_bad_limit w = not (is_some (max_bytes_given w) && (is_some (max_ops_given w) && is_some (keep_given w)))
 
 -- a cost is no number word
 abbrev pub has_bad_number : EncWords → Bool
@@ -124,6 +128,10 @@ has_no_source w = not (is_some (one_source w.is_stdin w.passphrase))
 abbrev pub has_bad_salt : EncWords → Bool
 has_bad_salt w = option_map_or (λ text. not (is_some (salt_in text))) w.salt false
 
+-- --keep is no power of two from 1 to 1,024
+abbrev pub has_bad_keep : CommonWords → Bool
+has_bad_keep w = not (is_keep (unwrap_or (keep_given w) 1))
+
 -- ---- tests in their order, each with its refusal
 
 -- of the limits
@@ -150,7 +158,17 @@ source_refusals w =
 abbrev pub salt_refusals : EncWords → List (Bool × ScryptRefusal)
 salt_refusals w = (has_bad_salt w, refusal.SaltDigits) ∷ []
 
+-- of S
+abbrev pub keep_refusals : CommonWords → List (Bool × ScryptRefusal)
+keep_refusals w = (has_bad_keep w, refusal.KeepOutOfRange) ∷ []
+
 -- ---- the request, step by step: the first refusal decides
+
+-- the passphrase's source and the files; None is the standard stream
+pub record Files : Type 0 where
+  pub source : SecretSource
+  pub infile : Option Text
+  pub outfile : Option Text
 
 -- S1
 abbrev pub limits_asked : CommonWords → Result Limits ScryptRefusal
@@ -160,10 +178,9 @@ limits_asked w = unless_refused (first_of (limit_refusals w)) (limits_given w)
 abbrev pub costs_asked : EncWords → Result Parameters ScryptRefusal
 costs_asked w = unless_refused (first_of (cost_refusals w)) (costs_given w)
 
--- S2c, S2d, S3, under these limits
-abbrev pub task_asked : Limits → CommonWords → Result Task ScryptRefusal
-task_asked limits w = unless_refused (first_of (source_refusals w)) (record {
-  limits = limits;
+-- S2c, S2d, S3
+abbrev pub files_asked : CommonWords → Result Files ScryptRefusal
+files_asked w = unless_refused (first_of (source_refusals w)) (record {
   source = unwrap_or (one_source w.is_stdin w.passphrase) stdin_once;
   infile = infile_named w.infile;
   outfile = w.outfile;
@@ -173,20 +190,37 @@ task_asked limits w = unless_refused (first_of (source_refusals w)) (record {
 abbrev pub salt_asked : EncWords → Result (Option (List ℕ)) ScryptRefusal
 salt_asked w = unless_refused (first_of (salt_refusals w)) (salt_given w.salt)
 
+-- S16a
+abbrev pub keep_asked : CommonWords → Result ℕ ScryptRefusal
+keep_asked w = unless_refused (first_of (keep_refusals w)) (unwrap_or (keep_given w) 1)
+
+-- what enc and dec both ask for
+abbrev pub task_of : Limits → ℕ → Files → Task
+task_of limits keep files = record {
+  limits = limits;
+  keep = keep;
+  source = files.source;
+  infile = files.infile;
+  outfile = files.outfile;
+}
+
 -- what the words of enc ask for
 abbrev pub encryption_asked : EncWords → Result Encryption ScryptRefusal
 encryption_asked w = do
   limits ← limits_asked w.common
   costs ← costs_asked w
-  task ← task_asked limits w.common
+  files ← files_asked w.common
   salt ← salt_asked w
-  Ok (record { costs = costs; salt = salt; task = task })
+  keep ← keep_asked w.common
+  Ok (record { costs = costs; salt = salt; task = task_of limits keep files })
 
 -- what the words of dec ask for
 abbrev pub decryption_asked : CommonWords → Result Task ScryptRefusal
 decryption_asked w = do
   limits ← limits_asked w
-  task_asked limits w
+  files ← files_asked w
+  keep ← keep_asked w
+  Ok (task_of limits keep files)
 
 -- what the words of a subcommand ask for
 abbrev pub request_of_words : Words → Result Request ScryptRefusal

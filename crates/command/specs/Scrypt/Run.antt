@@ -44,3 +44,14 @@ pub record Refuses (tells : Bool) (words : List Text) (before after : Seen) (fau
   pub unsaid : Seen
   pub says : SaysOneLine tells (line_of told) unsaid after (counted_by told faults_before) faults_after
   pub refused : IsTrue tells → IsRefused told words before unsaid
+
+-- words whose refusal is due are told so, or want of memory is told, which may come while they are read
+abbrev pub TellsWords : ScryptRefusal → ScryptRefusal → Type 0
+TellsWords told due = (told ≡ due) ⊎ (told ≡ refusal.OutOfMemory)
+
+-- the run did nothing but say the line of the words' refusal, or that of want of memory
+pub record TellsOfWords (tells : Bool) (due : ScryptRefusal) (before after : Seen) (faults_before faults_after : Faults)
+    : Type 0 where
+  pub told : ScryptRefusal
+  pub fits : TellsWords told due
+  pub says : SaysOneLine tells (line_of told) before after faults_before faults_after

@@ -1,8 +1,7 @@
 -- Words as they are typed, and what they ask for.
 use Rattle.std.specs.Prelude.{ℕ, ◌==◌, ◌^◌, List, [], ◌∷◌, Option, None, if◌then◌else◌}
 use Rattle.romix.specs.Costs.{Parameters}
-use Rattle.host.specs.Seen.{Text}
-use Rattle.host.specs.Secret.{SecretSource}
+use Rattle.host.specs.Seen.{SecretSource, Text}
 use Rattle.scrypt_run.specs.Request.{Encryption, Task}
 
 -- the words with one byte more before the first
@@ -15,10 +14,11 @@ abbrev pub typed : Text → List Text
 typed [] = [] ∷ []
 typed (byte ∷ bytes) = if byte == 32 then [] ∷ typed bytes else with_byte byte (typed bytes)
 
--- the limits where no word gives them
+-- the limits and S where no word gives them
 abbrev pub plain_task : SecretSource → Option Text → Option Text → Task
 plain_task source infile outfile = record {
   limits = record { max_bytes = 2 ^ 32; max_ops = 2 ^ 33 };
+  keep = 1;
   source = source;
   infile = infile;
   outfile = outfile;

@@ -7,10 +7,11 @@ use Rattle.clap.specs.Words.{first_of as first_value}
 use Rattle.host.specs.Seen.{Text}
 use Rattle.command.specs.Scrypt.CommandLine.{scrypt_app}
 
--- the words that enc and dec both take: -M, --maxops, -P, --passphrase and the files
+-- the words that enc and dec both take: -M, --maxops, --keep, -P, --passphrase and the files
 pub record CommonWords : Type 0 where
   pub max_bytes : Option Text
   pub max_ops : Option Text
+  pub keep : Option Text
   pub is_stdin : Bool
   pub passphrase : Option Text
   pub infile : Text
@@ -39,6 +40,7 @@ abbrev pub common_words : List Row → Option CommonWords
 common_words rows = option_map (λ infile. record {
   max_bytes = first_value (codes "M") rows;
   max_ops = first_value (codes "maxops") rows;
+  keep = first_value (codes "keep") rows;
   is_stdin = is_set (codes "P") rows;
   passphrase = first_value (codes "passphrase") rows;
   infile = infile;

@@ -1,6 +1,9 @@
 -- What contracts see of the words as the code has them.
+use Rattle.host.specs.Secret.{source_of}
 use Rattle.scrypt_run.specs.Request.{text_of}
+use Rattle.command.specs.Scrypt.Request.{Files as Named}
 use Rattle.command.specs.Scrypt.Words.{CommonWords as Common, EncWords as Enc, Words as Said, enc, dec, info}
+use Rattle.command.specs.declared.scrypt_command.task.Files.{Files}
 use Rattle.command.specs.declared.scrypt_command.words.CommonWords.{CommonWords}
 use Rattle.command.specs.declared.scrypt_command.words.EncWords.{EncWords}
 use Rattle.command.specs.declared.scrypt_command.words.Words.{Words}
@@ -10,11 +13,15 @@ abbrev pub common_of : CommonWords → Common
 common_of w = record {
   max_bytes = text_of w.max_bytes;
   max_ops = text_of w.max_ops;
+  keep = text_of w.keep;
   is_stdin = w.is_stdin;
   passphrase = text_of w.passphrase;
   infile = w.infile.now;
   outfile = text_of w.outfile;
 }
+
+abbrev pub files_of : Files → Named
+files_of f = record { source = source_of f.source; infile = text_of f.infile; outfile = text_of f.outfile }
 
 abbrev pub enc_of : EncWords → Enc
 enc_of w = record {

@@ -1,9 +1,11 @@
 //! The command `argon2`: one hash of the whole standard input.
 mod items;
+mod line;
 mod output;
 mod password;
 mod refusal;
 mod request;
+mod room;
 mod run;
 mod settings;
 #[cfg(test)]

@@ -1,7 +1,8 @@
 //! The password: the whole standard input.
-ghost use Rattle.std.specs.Prelude.{◌≡◌, ◌<◌, ◌^◌, ◌⊎◌, ℕ, List, Ok, Err, take, length, MatchResult, IfOk, IfErr, IsTrue};
+ghost use Rattle.std.specs.Prelude.{◌≡◌, ◌<◌, ◌^◌, ◌⊎◌, ℕ, List, None, Some, Ok, Err, take, length, MatchResult, IfOk, IfErr, IsTrue};
 ghost use Rattle.host.specs.Faults.{AreBelow};
-ghost use Rattle.command.specs.Argon2.Output.{password_in};
+ghost use Rattle.host.specs.Seen.{after_ask, stdin_once};
+ghost use Rattle.command.specs.Argon2.Output.{RefusesInput, password_in};
 ghost use Rattle.command.specs.Argon2.Refusal.{IsEarly, counted_by};
 ghost use Rattle.command.specs.declared.argon2_command.refusal.Argon2Refusal.TheVariants.{PasswordFault};
 
@@ -36,13 +37,17 @@ impl Password {
     }
 }
 
-/// Reads the password.
+/// Reads the password. No source was asked before.
 pub fn read_password<H: Host>(host: &mut H) -> Result<Password, Argon2Refusal>
     requires room { AreBelow (2 ^ 63) (H.faults host.old) }
+    requires unasked { IsTrue H.tells → (H.seen host.old).asked ≡ None }
     ensures counts { MatchResult result (λ _. H.faults host.new ≡ H.faults host.old)
         (λ r. H.faults host.new ≡ counted_by r (H.faults host.old)) }
     ensures early { IfErr result IsEarly }
-    ensures kept { IsTrue H.tells → H.seen host.new ≡ H.seen host.old }
+    // of every host, also one that tells nothing
+    ensures valid { IfOk result (λ p. password_in (Some p) ≡ Ok p) }
+    ensures some_input { IfErr result RefusesInput }
+    ensures asks { IsTrue H.tells → H.seen host.new ≡ after_ask stdin_once (H.seen host.old) }
     ensures read { IsTrue H.tells → IfOk result (λ p. password_in (H.seen host.old).stdin ≡ Ok p) }
     ensures refused { IsTrue H.tells →
         IfErr result (λ r. (password_in (H.seen host.old).stdin ≡ Err r) ⊎ (r ≡ PasswordFault)) }

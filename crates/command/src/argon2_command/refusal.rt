@@ -3,6 +3,7 @@ ghost use Rattle.std.specs.Prelude.{◌≡◌};
 ghost use Rattle.command.specs.Argon2.Refusal.{line_of, refusal_of};
 
 use argon::ParamFault;
+use std::alloc::AllocError;
 
 /// Why a run of `argon2` ends with status 1, in the order in which the reasons are tested: the first
 /// that holds is told, and of A1 to A4 the first faulty item from the left decides. Each has its
@@ -90,5 +91,15 @@ impl From<ParamFault> for Argon2Refusal {
             ParamFault::MemoryLimit => Argon2Refusal::MemoryLimit,
             ParamFault::WorkLimit => Argon2Refusal::WorkLimit,
         }
+    }
+}
+
+impl From<AllocError> for Argon2Refusal {
+    ghost use Rattle.command.specs.declared.argon2_command.refusal.Argon2Refusal.TheVariants.{OutOfMemory};
+
+    ghost from_gives = { λ fault refusal. refusal ≡ OutOfMemory };
+
+    fn from(_fault: AllocError) -> Argon2Refusal {
+        Argon2Refusal::OutOfMemory
     }
 }

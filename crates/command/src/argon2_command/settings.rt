@@ -1,5 +1,6 @@
 //! What the items of the words set.
 ghost use Rattle.std.specs.Prelude.{◌≡◌, ◌∷◌, [], ◌^◌, true, false, None, Some, MatchResult, MatchOption, IfErr, map, string_bytes};
+ghost use Rattle.argon.specs.Range.{is_version};
 ghost use Rattle.command.specs.Argon2.Items.{items, valued};
 ghost use Rattle.command.specs.Argon2.ItemView.{item_of};
 ghost use Rattle.command.specs.Argon2.Refusal.{IsEarly, RaisesNoCount};
@@ -14,7 +15,9 @@ use argon::Kind;
 /// The versions of Argon2 that `-v` names.
 #[derive(Clone, Copy, Debug, PartialEq, Eq)]
 pub enum Version {
-    /// `13`: 0x13.
+    /// `10`: 0x10, before RFC 9106.
+    V10,
+    /// `13`: 0x13, that of RFC 9106.
     V13,
 }
 
@@ -22,9 +25,10 @@ impl Version {
     /// Its number, as parameters and texts have it.
     pub fn number(self) -> u32
         ensures number { result ≡ version_number self }
-        ensures known { result ≡ 0x13 }
+        ensures known { is_version result ≡ true }
     {
         match self {
+            Version::V10 => 0x10,
             Version::V13 => 0x13,
         }
     }
@@ -88,10 +92,10 @@ fn power_in(text: &str) -> Option<u32>
 fn version_named(text: &str) -> Option<Version>
     ensures value { result ≡ version_named text.now }
 {
-    if text == "13" {
-        Some(Version::V13)
-    } else {
-        None
+    match text {
+        "10" => Some(Version::V10),
+        "13" => Some(Version::V13),
+        _ => None,
     }
 }
 

@@ -1,7 +1,12 @@
 //! Whole runs over a host in memory. Hashes come from the reference program, as `printf password | argon2 ..` with the
 //! words of the row gives them; its report on standard output is what a run writes.
-use super::argon2;
+mod refusing;
+
+use self::refusing::{Asked, Refusing};
+use super::run::attempt;
+use super::{Argon2Refusal, argon2};
 use crate::testing::{only_line, words};
+use argon::Ticks;
 use host::MemoryHost;
 use std::alloc::{AllocError, Global};
 use std::process::Abort;
@@ -48,7 +53,7 @@ const ONE_PASS: &str =
     "$argon2d$v=19$m=8,t=1,p=1$c29tZXNhbHQ$xRnmA6xgPsGutbcexEpheePzl1sUwMl+ORTHnmNj4Xg";
 
 // Words and what standard output gets before its line feed.
-const HASHES: [(&str, &str); 16] = [
+const HASHES: [(&str, &str); 21] = [
     ("somesalt -t 2 -m 8 -e", TWO_PASSES),
     ("somesalt -i -v 13 -p 1 -l 32 -t 2 -m 8 -e -e", TWO_PASSES),
     (
@@ -93,10 +98,29 @@ const HASHES: [(&str, &str); 16] = [
     // Two times 256 blocks less the first two, and 8 segments with two address blocks each.
     ("somesalt -t 2 -m 8 -e --maxops 526", TWO_PASSES),
     ("somesalt -t 2 -m 8 -e --maxmem 256", TWO_PASSES),
+    // The version before RFC 9106.
+    (
+        "somesalt -t 2 -m 8 -v 10 -r",
+        "fd4dd83d762c49bdeaf57c47bdcd0c2f1babf863fdeb490df63ede9975fccf06",
+    ),
+    (
+        "somesalt -t 2 -m 8 -v 10 -e",
+        "$argon2i$v=16$m=256,t=2,p=1$c29tZXNhbHQ$/U3YPXYsSb3q9XxHvc0MLxur+GP960kN9j7emXX8zwY",
+    ),
+    (
+        "somesalt -v 13 -id -t 3 -k 64 -p 4 -l 6 -v 10 -e",
+        "$argon2id$v=16$m=64,t=3,p=4$c29tZXNhbHQ$3H/HyDRR",
+    ),
+    ("somesalt -v 10 -t 2 -m 8 -v 13 -e", TWO_PASSES),
+    // More than 64 MiB.
+    (
+        "somesalt -d -t 1 -k 65540 -r",
+        "6c51226ce388e165ceaa1c9b5e0646e1bd532392cbf72680d8a8e71c00a35c2f",
+    ),
 ];
 
 // Words and the line of their refusal.
-const REFUSALS: [(&str, &str); 48] = [
+const REFUSALS: [(&str, &str); 50] = [
     ("", USAGE),
     ("-h", USAGE),
     ("-h -q", USAGE),
@@ -117,7 +141,9 @@ const REFUSALS: [(&str, &str); 48] = [
     ("somesalt -k 99999999999999999999 -e", BAD_NUMBER),
     ("somesalt -m 0 -e", BAD_NUMBER),
     ("somesalt -m 32 -e", BAD_NUMBER),
-    ("somesalt -v 10 -e", BAD_NUMBER),
+    ("somesalt -v 16 -e", BAD_NUMBER),
+    ("somesalt -v 010 -e", BAD_NUMBER),
+    ("somesalt -v 11 -e", BAD_NUMBER),
     ("somesalt -v 19 -e", BAD_NUMBER),
     ("somesalt -v 013 -e", BAD_NUMBER),
     ("somesalt --maxmem 0 -e", BAD_NUMBER),
@@ -287,6 +313,71 @@ fn says_nothing(rt: HostRuntime) -> Result<(), Fail> {
         assert_eq!(rt; argon2(alloc, &words(alloc, line)?, &mut host), 1, "{line}");
         assert_eq!(rt; host.lines().len(), 0, "{line}");
         assert_eq!(rt; host.output().len(), 0, "{line}");
+    }
+    Ok(())
+}
+
+// The longest tag, by the first and the last 32 bytes that the reference program gives.
+#[test]
+fn longest_tag(rt: HostRuntime) -> Result<(), Fail> {
+    let alloc = rt.alloc();
+    let words = words(alloc, "somesalt -d -t 1 -k 8 -l 4096 -r")?;
+    let mut host = MemoryHost::new(alloc, Vec::new(alloc), b"password".to_vec(alloc)?, [0; 32]);
+    assert_eq!(rt; argon2(alloc, &words, &mut host), 0);
+    let output = host.output();
+    assert_eq!(rt; output.len(), 8193);
+    assert!(rt;
+        output.starts_with(b"11164024bbb98e6e90b14957a1d51417df657057e0c245f9359366d794eb5f63")
+    );
+    assert!(rt;
+        output.ends_with(b"b4e4162facc1fd3b88e73741e49c9fa04069973a7ee3fb65bcfef1cd394250e0\n")
+    );
+    Ok(())
+}
+
+// The tag, the line and the matrix are the requests, in this order and behind every other refusal: so the hash, which
+// needs the matrix, comes behind them all, and nothing is asked for after it.
+#[test]
+fn each_request_is_refused(rt: HostRuntime) -> Result<(), Fail> {
+    let alloc = rt.alloc();
+    let refused = Some(Argon2Refusal::OutOfMemory);
+    for (line, left, expected, last) in [
+        ("somesalt -t 2 -m 8 -e", 0, refused, Some(Asked::Zeros)),
+        ("somesalt -t 2 -m 8 -e", 1, refused, Some(Asked::Line)),
+        ("somesalt -t 2 -m 8 -e", 2, refused, Some(Asked::Matrix)),
+        ("somesalt -t 2 -m 8 -e", 3, None, Some(Asked::Matrix)),
+        ("somesalt -t 2 -m 8 -r", 2, refused, Some(Asked::Matrix)),
+        ("somesalt -t 2 -m 8 -r", 3, None, Some(Asked::Matrix)),
+        ("somesalt -e -t", 0, Some(Argon2Refusal::MissingValue), None),
+        ("seven77 -e", 0, Some(Argon2Refusal::SaltLength), None),
+        (
+            "somesalt -t 2 -m 8 -e --maxmem 255",
+            0,
+            Some(Argon2Refusal::MemoryLimit),
+            None,
+        ),
+        (
+            "somesalt -t 2 -m 8 -e --maxops 525",
+            0,
+            Some(Argon2Refusal::WorkLimit),
+            None,
+        ),
+    ] {
+        let words = words(alloc, line)?;
+        let mut room = Refusing {
+            alloc,
+            left,
+            last: None,
+        };
+        let mut host = MemoryHost::new(alloc, Vec::new(alloc), b"password".to_vec(alloc)?, [0; 32]);
+        let answer = attempt(&mut room, &words, &mut host, &mut Ticks::new());
+        assert_eq!(rt; answer.err(), expected, "{line} {left}");
+        assert_eq!(rt; room.last, last, "{line} {left}");
+        assert_eq!(rt;
+            host.output_name().is_some(),
+            expected.is_none(),
+            "{line} {left}"
+        );
     }
     Ok(())
 }

@@ -10,6 +10,7 @@ ghost use Rattle.command.specs.Argon2.Settings.{defaults};
 ghost use Rattle.host.specs.Seen.{nothing_seen};
 ghost use Rattle.command.specs.declared.argon2_command.items.Form.TheVariants.{Encoded};
 ghost use Rattle.command.specs.declared.argon2_command.refusal.Argon2Refusal.TheVariants.{BadNumber, MissingValue, OneForm, Usage};
+ghost use Rattle.command.specs.declared.argon2_command.settings.Version.TheVariants.{V10};
 
 fn settings_of_two_passes()
     ensures request { argon2_request (codes "somesalt" ∷ codes "-t" ∷ codes "2" ∷ codes "-m" ∷ codes "8"
@@ -31,6 +32,17 @@ fn last_type_counts()
         }) }
 {}
 
+fn version_is_hexadecimal()
+    ensures request { argon2_request (codes "somesalt" ∷ codes "-v" ∷ codes "10" ∷ codes "-e" ∷ []) ≡
+        Ok (record {
+          salt = codes "somesalt";
+          settings = record defaults { version = V10; encoded = true };
+          form = Encoded;
+        }) }
+    ensures decimal { argon2_request (codes "somesalt" ∷ codes "-v" ∷ codes "16" ∷ codes "-e" ∷ []) ≡
+        Err BadNumber }
+{}
+
 fn first_faulty_item_decides()
     ensures both_forms { argon2_request (codes "somesalt" ∷ codes "-e" ∷ codes "-r" ∷ []) ≡ Err OneForm }
     ensures no_form { argon2_request (codes "somesalt" ∷ []) ≡ Err OneForm }
@@ -46,6 +58,7 @@ fn output_of_one_pass()
     ensures output { argon2_tag
         (record {
           kind = 0;
+          version = 0x13;
           passes = 1;
           lanes = 1;
           memory = 8;

@@ -66,6 +66,7 @@ fn with_common_words<'a>(alloc: Global, command: Command<'a>) -> Result<Command<
 {
     let command = with_short(alloc, command, "M", 'M')?;
     let command = with_long(alloc, command, "maxops")?;
+    let command = with_long(alloc, command, "keep")?;
     let command = with_stdin_flag(alloc, command)?;
     let command = with_long(alloc, command, "passphrase")?;
     let command = with_file(alloc, command, "infile")?;

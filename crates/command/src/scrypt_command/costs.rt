@@ -19,8 +19,8 @@ struct Numbers {
     p: u128,
 }
 
-// The number that an option gives, or the number without the option.
-fn number_given(default: u128, text: Option<&str>) -> Option<u128>
+/// The number that an option gives, or the number without the option.
+pub fn number_given(default: u128, text: Option<&str>) -> Option<u128>
     ensures number { result ≡ number_given default (text_of text.entry) }
 {
     match text {

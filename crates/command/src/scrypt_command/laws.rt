@@ -3,10 +3,11 @@ ghost use Rattle.std.specs.Prelude.{◌≡◌, ◌⊎◌, List};
 ghost use Rattle.host.specs.Seen.{Seen, Text};
 ghost use Rattle.command.specs.Scrypt.Laws.{IsRefusedFromOutside};
 ghost use Rattle.command.specs.Scrypt.Run.{IsRefused, Succeeds};
+ghost use Rattle.scrypt_run.specs.Laws.{AreOneEnd};
 ghost use Rattle.scrypt_run.specs.declared.refusal.ScryptRefusal.{ScryptRefusal};
 
 // Words and a host come to one end, but for refusals from outside: to one success, beside which every
-// refusal is from outside, or to one refusal.
+// refusal is from outside, or to one refusal, which leaves one state.
 fn words_come_to_one_end()
     ensures same { (words : List Text) (before a b : Seen) → Succeeds words before a
         → Succeeds words before b → a ≡ b }
@@ -15,5 +16,5 @@ fn words_come_to_one_end()
         → IsRefusedFromOutside words refusal }
     ensures refusal { (words : List Text) (before after ended : Seen) (one other : ScryptRefusal)
         → IsRefused one words before after → IsRefused other words before ended
-        → (one ≡ other) ⊎ IsRefusedFromOutside words one ⊎ IsRefusedFromOutside words other }
+        → AreOneEnd one other after ended ⊎ IsRefusedFromOutside words one ⊎ IsRefusedFromOutside words other }
 {}

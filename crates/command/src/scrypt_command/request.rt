@@ -8,7 +8,7 @@ ghost use Rattle.command.specs.Scrypt.WordsView.{common_of, enc_of, words_of};
 
 use crate::scrypt_command::costs::costs_given;
 use crate::scrypt_command::salt::salt_given;
-use crate::scrypt_command::task::{infile_named, limits_given, task_under};
+use crate::scrypt_command::task::{files_given, infile_named, keep_given, limits_given};
 use crate::scrypt_command::words::{CommonWords, EncWords, Words, WordsFault, read_words};
 use scrypt_run::{Encryption, Request, ScryptRefusal, Task};
 use std::alloc::Global;
@@ -21,9 +21,14 @@ fn encryption_asked<'a>(words: &EncWords<'a>) -> Result<Encryption<'a>, ScryptRe
 {
     let limits = limits_given(&words.common)?;
     let costs = costs_given(words)?;
-    let task = task_under(limits, &words.common)?;
+    let files = files_given(&words.common)?;
     let salt = salt_given(words)?;
-    Ok(Encryption { costs, salt, task })
+    let keep = keep_given(&words.common)?;
+    Ok(Encryption {
+        costs,
+        salt,
+        task: files.task(limits, keep),
+    })
 }
 
 // What the words of `dec` ask for.
@@ -33,7 +38,9 @@ fn decryption_asked<'a>(words: &CommonWords<'a>) -> Result<Task<'a>, ScryptRefus
     ensures counts { IfErr result RaisesNoCount }
 {
     let limits = limits_given(words)?;
-    task_under(limits, words)
+    let files = files_given(words)?;
+    let keep = keep_given(words)?;
+    Ok(files.task(limits, keep))
 }
 
 // What the words of a subcommand ask for.

@@ -1,17 +1,27 @@
-//! What `enc` and `dec` both ask for: limits, the passphrase's source, and the files.
-ghost use Rattle.std.specs.Prelude.{◌≡◌, ◌<◌, ◌≤◌, ◌^◌, IfOk, IfErr, IfSome, option_map};
+//! What `enc` and `dec` both ask for: limits, S, the passphrase's source, and the files.
+ghost use Rattle.std.specs.Prelude.{◌≡◌, ◌<◌, ◌≤◌, ◌^◌, true, IfOk, IfErr, IfSome, option_map};
 ghost use Rattle.scrypt_run.specs.Refusal.{RaisesNoCount};
-ghost use Rattle.command.specs.Scrypt.Request.{has_same_name, infile_named, limit_given, limits_asked, one_source, source_named, task_asked, wants_stdin_twice};
-ghost use Rattle.command.specs.Scrypt.WordsView.{common_of};
+ghost use Rattle.command.specs.Scrypt.Request.{files_asked, has_same_name, infile_named, keep_asked, limit_given, limits_asked, one_source, source_named, task_of, wants_stdin_twice};
+ghost use Rattle.command.specs.Scrypt.WordsView.{common_of, files_of};
+ghost use Rattle.romix.specs.SparseCosts.{is_keep};
 ghost use Rattle.scrypt_run.specs.Request.{HasAllowedLimits, task_seen, text_of};
 ghost use Rattle.command.specs.Answer.{answered};
 ghost use Rattle.host.specs.Secret.{source_of};
 
 use crate::number::number_in;
+use crate::scrypt_command::costs::number_given;
 use crate::scrypt_command::words::CommonWords;
 use host::Source;
 use romix::Limits;
 use scrypt_run::{ScryptRefusal, Task};
+
+/// Where the passphrase, the input and the output are: `None` is the standard stream.
+#[derive(Clone, Copy, Debug)]
+pub struct Files<'a> {
+    pub source: Source<'a>,
+    pub infile: Option<&'a str>,
+    pub outfile: Option<&'a str>,
+}
 
 // The greatest -M is 2^40 bytes.
 const MAX_BYTES_END: u64 = (1 << 40) + 1;
@@ -31,7 +41,8 @@ fn limit_given(end: u64, default: u64, text: Option<&str>) -> Option<u64>
     }
 }
 
-/// The limits that the words give, or 2^32 bytes and 2^33 cores where they give none.
+/// The limits that the words give, or 2^32 bytes and 2^33 cores where they give none. What is said of
+/// S is a number word, too.
 pub fn limits_given(words: &CommonWords<'_>) -> Result<Limits, ScryptRefusal>
     ensures limits { result ≡ limits_asked (common_of words.now) }
     ensures allowed { IfOk result (λ limits. limits.max_bytes ≤ 2 ^ 40) }
@@ -39,10 +50,35 @@ pub fn limits_given(words: &CommonWords<'_>) -> Result<Limits, ScryptRefusal>
 {
     let max_bytes = limit_given(MAX_BYTES_END, 1 << 32, words.max_bytes);
     let max_ops = limit_given(MAX_OPS_END, 1 << 33, words.max_ops);
-    match (max_bytes, max_ops) {
-        (Some(max_bytes), Some(max_ops)) => Ok(Limits { max_bytes, max_ops }),
+    let keep = number_given(1, words.keep);
+    match (max_bytes, max_ops, keep) {
+        (Some(max_bytes), Some(max_ops), Some(_)) => Ok(Limits { max_bytes, max_ops }),
         _ => Err(ScryptRefusal::Usage),
     }
+}
+
+// Whether a number is a power of two from 1 to 1,024.
+fn is_keep(number: u128) -> bool
+    ensures keep { result ≡ is_keep number }
+    ensures small { result ≡ true → number ≤ 1024 }
+{
+    matches!(
+        number,
+        1 | 2 | 4 | 8 | 16 | 32 | 64 | 128 | 256 | 512 | 1024
+    )
+}
+
+/// S that the words give, or 1 where they give none.
+pub fn keep_given(words: &CommonWords<'_>) -> Result<u64, ScryptRefusal>
+    ensures keep { result ≡ keep_asked (common_of words.now) }
+    ensures power { IfOk result (λ keep. is_keep keep ≡ true) }
+    ensures counts { IfErr result RaisesNoCount }
+{
+    let keep = number_given(1, words.keep).unwrap_or(1);
+    if !is_keep(keep) {
+        return Err(ScryptRefusal::KeepOutOfRange);
+    }
+    Ok(keep as u64)
 }
 
 // The source that a word names.
@@ -106,11 +142,9 @@ pub fn infile_named<'a>(word: &'a str) -> Option<&'a str>
     if word == "-" { None } else { Some(word) }
 }
 
-/// What the words ask for under these limits.
-pub fn task_under<'a>(limits: Limits, words: &CommonWords<'a>) -> Result<Task<'a>, ScryptRefusal>
-    requires allowed { limits.max_bytes ≤ 2 ^ 40 }
-    ensures task { answered task_seen result ≡ task_asked limits (common_of words.now) }
-    ensures allowed { IfOk result (λ task. HasAllowedLimits (task_seen task)) }
+/// The passphrase's source and the files that the words name.
+pub fn files_given<'a>(words: &CommonWords<'a>) -> Result<Files<'a>, ScryptRefusal>
+    ensures files { answered files_of result ≡ files_asked (common_of words.now) }
     ensures counts { IfErr result RaisesNoCount }
 {
     if wants_stdin_twice(words) {
@@ -122,10 +156,27 @@ pub fn task_under<'a>(limits: Limits, words: &CommonWords<'a>) -> Result<Task<'a
     let Some(source) = one_source(words) else {
         return Err(ScryptRefusal::PassphraseSource);
     };
-    Ok(Task {
-        limits,
+    Ok(Files {
         source,
         infile: infile_named(words.infile),
         outfile: words.outfile,
     })
+}
+
+impl<'a> Files<'a> {
+    /// The task with these limits and this S.
+    pub fn task(self, limits: Limits, keep: u64) -> Task<'a>
+        requires allowed { limits.max_bytes ≤ 2 ^ 40 }
+        requires power { is_keep keep ≡ true }
+        ensures task { task_seen result ≡ task_of limits keep (files_of self.entry) }
+        ensures allowed { HasAllowedLimits (task_seen result) }
+    {
+        Task {
+            limits,
+            keep,
+            source: self.source,
+            infile: self.infile,
+            outfile: self.outfile,
+        }
+    }
 }

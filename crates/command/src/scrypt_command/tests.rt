@@ -3,7 +3,7 @@
 ghost use Rattle.std.specs.Prelude.{◌^◌, IfOk};
 ghost use Rattle.host.specs.Faults.{AreBelow};
 ghost use Rattle.host.specs.Memory.{memory_faults, memory_seen};
-ghost use Rattle.host.specs.Seen.{IsUnopened};
+ghost use Rattle.host.specs.Seen.{IsFresh};
 
 use super::scrypt;
 use crate::testing::{only_line, words};
@@ -65,6 +65,10 @@ const OUTPUT_FAULT: &str = "scrypt: output cannot be opened or written";
 
 const NO_SALT: &str = "scrypt: no salt can be read";
 
+const KEEP_OUT_OF_RANGE: &str = "scrypt: --keep takes a power of two from 1 to 1024";
+
+const KEEP_ABOVE_N: &str = "scrypt: --keep is larger than N";
+
 // The file of no text, and the file of `hello`.
 fn file(alloc: Global, rest: &str) -> Result<Vec<u8>, Fail> {
     let mut file = hex::decode(alloc, FRONT)?;
@@ -76,7 +80,7 @@ fn file(alloc: Global, rest: &str) -> Result<Vec<u8>, Fail> {
 // beginning of standard input.
 fn host_with(alloc: Global, input: &[u8], passphrase: &[u8]) -> Result<MemoryHost, AllocError>
     ensures room { IfOk result (λ host. AreBelow (2 ^ 63) (memory_faults host)) }
-    ensures unopened { IfOk result (λ host. IsUnopened (memory_seen host)) }
+    ensures fresh { IfOk result (λ host. IsFresh (memory_seen host)) }
 {
     let mut salt = [0; 32];
     for (i, byte) in salt.iter_mut().enumerate() {
@@ -181,6 +185,14 @@ fn check_file(rt: &impl Abort, alloc: Global, text: &[u8], rest: &str) -> Result
         rt,
         alloc,
         "enc --logN 4 -r 1 -p 1 -P in",
+        b"",
+        text,
+        done(&file),
+    )?;
+    check_run(
+        rt,
+        alloc,
+        "enc --logN 4 -r 1 -p 1 --keep 16 -P in",
         b"",
         text,
         done(&file),
@@ -294,6 +306,28 @@ const LIMITS: &[(&str, &[u8], Result<&[u8], &str>)] = &[
     // 2^17 rows of 1,024 bytes
     ("enc -M 134217727 -P F5", b"", Err(MEMORY_LIMIT)),
     ("enc --maxops 4194303 -P F5", b"", Err(WORK_LIMIT)),
+    // 2^60 and 2^73 bytes
+    ("enc --logN 50 -r 8 -p 1 -P F5", b"", Err(MEMORY_LIMIT)),
+    ("enc --logN 63 -r 8 -p 1 -P F5", b"", Err(MEMORY_LIMIT)),
+    // 16 / S rows of 128 bytes, and 32 * (1 + S) cores
+    ("dec --keep 4 -M 512 --maxops 160 -P F5", b"", Ok(b"hello")),
+    ("dec --keep 4 -M 511 -P F5", b"", Err(MEMORY_LIMIT)),
+    ("dec --keep 4 --maxops 159 -P F5", b"", Err(WORK_LIMIT)),
+    ("dec --keep 16 -M 128 --maxops 544 -P F5", b"", Ok(b"hello")),
+    (
+        "dec --keep 32 -M 1 --maxops 1 -P F5",
+        b"",
+        Err(KEEP_ABOVE_N),
+    ),
+    (
+        "enc --logN 4 -r 1 -p 1 --keep 32 -M 1 -P F5",
+        b"",
+        Err(KEEP_ABOVE_N),
+    ),
+    ("dec --keep 0 -P F5", b"", Err(KEEP_OUT_OF_RANGE)),
+    ("dec --keep 3 -P F5", b"", Err(KEEP_OUT_OF_RANGE)),
+    ("dec --keep 2048 -P F5", b"", Err(KEEP_OUT_OF_RANGE)),
+    ("dec --keep x -P F5", b"", Err(USAGE)),
 ];
 
 #[test]
@@ -314,6 +348,36 @@ fn greatest_costs(rt: HostRuntime) -> Result<(), Fail> {
     check_run(&rt, alloc, "info huge", b"", &huge, done(line))?;
     let open = "dec -M 1099511627776 --maxops 9223372036854775807 --passphrase file:missing huge";
     check_run(&rt, alloc, open, b"", &huge, refused(MEMORY_LIMIT))?;
+    Ok(())
+}
+
+// The file of `hello` with r 40, made as the others were,
+const WIDE_FILE: &str =
+    "73637279707400040000002800000001000102030405060708090a0b0c0d0e0f101112131415161718191a1b1c1d1e1f9a994128cda79f2a35a1820ea9d9efe02a345a5a629ad2e35c30398810c372147b5920868feaa0946b9b4204428082ea5931df181617addefd23275accb056ecd25d4bc1f8122aadd1bf95e648f61734c522f3e443";
+
+// and that with log2 N 17 and r 5, whose table has 80 MiB.
+const LARGE_FILE: &str =
+    "73637279707400110000000500000001000102030405060708090a0b0c0d0e0f101112131415161718191a1b1c1d1e1f7eaee8c998cf8a73a11ce408cbe48bc068de719286582072ef932d19bda0e3a7ebd092d26231e60e27af25a84ba0b761eaba7e0ba0fd0713ba35e4ad9ff178ede110d7e427552f23696f52d95a07c965c7bca5bb3e";
+
+// A block size above 32; and a sixteenth of its table, one row of 5,120 bytes, at 8.5 times the cores.
+#[test]
+fn greater_block_size(rt: HostRuntime) -> Result<(), Fail> {
+    let alloc = rt.alloc();
+    let wide = hex::decode(alloc, WIDE_FILE)?;
+    let make = "enc --logN 4 -r 40 -p 1 -P in";
+    check_run(&rt, alloc, make, b"", b"hello", done(&wide))?;
+    let open = "dec --keep 16 -M 5120 --maxops 21760 -P F";
+    check_run(&rt, alloc, open, b"", &wide, done(b"hello"))?;
+    Ok(())
+}
+
+// A table above 64 MiB.
+#[test]
+fn greater_table(rt: HostRuntime) -> Result<(), Fail> {
+    let alloc = rt.alloc();
+    let large = hex::decode(alloc, LARGE_FILE)?;
+    let make = "enc --logN 17 -r 5 -p 1 -P in";
+    check_run(&rt, alloc, make, b"", b"hello", done(&large))?;
     Ok(())
 }
 

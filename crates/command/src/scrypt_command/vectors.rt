@@ -4,8 +4,8 @@ ghost use Rattle.std.specs.Prelude.{◌≡◌, ◌-◌, ◌^◌, [], Ok, Err, So
 ghost use Rattle.scrypt_run.specs.Request.{decrypt, encrypt, inspect};
 ghost use Rattle.command.specs.Scrypt.Request.{scrypt_request};
 ghost use Rattle.command.specs.Scrypt.Vectors.{costs, counted_salt, plain_encryption, plain_task, typed};
-ghost use Rattle.host.specs.Secret.{env, file, stdin_once};
-ghost use Rattle.scrypt_run.specs.declared.refusal.ScryptRefusal.TheVariants.{CostsOutOfRange, PassphraseSource, SaltDigits, SameName, SomeCosts, StandardInputTwice, Usage};
+ghost use Rattle.host.specs.Seen.{env, file, stdin_once};
+ghost use Rattle.scrypt_run.specs.declared.refusal.ScryptRefusal.TheVariants.{CostsOutOfRange, KeepOutOfRange, PassphraseSource, SaltDigits, SameName, SomeCosts, StandardInputTwice, Usage};
 
 // The costs and the salt of a new file, and its digits in upper case.
 #[tactic(auto, unfolding(clap::proofs::OnLiterals::clap_on_literals, hex::proofs::OnLiterals::hex_on_literals))]
@@ -38,6 +38,27 @@ fn limits()
     ensures empty_number { scrypt_request (typed (codes "dec --maxops= -P F5")) ≡ Err Usage }
     ensures long_number { scrypt_request (typed (codes "dec -M 000000000000000002048 -P F5")) ≡
         Err Usage }
+{}
+
+// S, and the ends of its range.
+#[tactic(auto, unfolding(clap::proofs::OnLiterals::clap_on_literals, hex::proofs::OnLiterals::hex_on_literals))]
+fn keeps()
+    ensures given { scrypt_request (typed (codes "dec --keep 4 -M 512 --maxops 160 -P F5")) ≡
+        Ok (decrypt (record (plain_task stdin_once (Some (codes "F5")) None) { limits = record { max_bytes = 512; max_ops = 160 }; keep = 4 })) }
+    ensures greatest { scrypt_request (typed (codes "enc --keep 1024 -P a")) ≡
+        Ok (encrypt (plain_encryption (costs 17 8 1) (record (plain_task stdin_once (Some (codes "a")) None) { keep = 1024 }))) }
+    ensures zero { scrypt_request (typed (codes "dec --keep 0 -P F5")) ≡ Err KeepOutOfRange }
+    ensures three { scrypt_request (typed (codes "dec --keep 3 -P F5")) ≡ Err KeepOutOfRange }
+    ensures above { scrypt_request (typed (codes "dec --keep 2048 -P F5")) ≡ Err KeepOutOfRange }
+    ensures wide { scrypt_request (typed (codes "dec --keep 18446744073709551617 -P F5")) ≡
+        Err KeepOutOfRange }
+    ensures no_number { scrypt_request (typed (codes "dec --keep x -P F5")) ≡ Err Usage }
+    ensures empty_number { scrypt_request (typed (codes "dec --keep= -P F5")) ≡ Err Usage }
+    ensures behind_salt { scrypt_request (typed (codes "enc --keep 3 --salt 00 -P a")) ≡
+        Err SaltDigits }
+    ensures behind_source { scrypt_request (typed (codes "dec --keep 3 a")) ≡
+        Err PassphraseSource }
+    ensures of_info { scrypt_request (typed (codes "info --keep 4 F5")) ≡ Err Usage }
 {}
 
 // Costs at the ends of their ranges, and beyond.

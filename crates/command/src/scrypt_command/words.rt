@@ -17,6 +17,8 @@ pub struct CommonWords<'a> {
     pub max_bytes: Option<&'a str>,
     /// `--maxops`
     pub max_ops: Option<&'a str>,
+    /// `--keep`
+    pub keep: Option<&'a str>,
     /// `-P`
     pub is_stdin: bool,
     /// `--passphrase`
@@ -91,6 +93,7 @@ fn common_words<'a>(matches: &ArgMatches<'a>) -> Option<CommonWords<'a>>
     Some(CommonWords {
         max_bytes: text(matches, "M"),
         max_ops: text(matches, "maxops"),
+        keep: text(matches, "keep"),
         is_stdin: is_given(matches, "P"),
         passphrase: text(matches, "passphrase"),
         infile,

@@ -1,5 +1,5 @@
 //! Streams that are interrupted, that fail in the middle, and that take or give little.
-ghost use Rattle.std.specs.Prelude.{◌≡◌, IfOk};
+ghost use Rattle.std.specs.Prelude.{◌≡◌, length, IfOk};
 
 use super::*;
 use std::io;
@@ -77,6 +77,56 @@ fn asks_again_sixteen_times(rt: HostRuntime) {
             "{times} times"
         );
     }
+}
+
+// A stream that fails once, and then takes and gives all that it is asked for.
+#[derive(Drop)]
+struct FailsOnce {
+    failed: bool,
+}
+
+impl FailsOnce {
+    fn new() -> FailsOnce {
+        FailsOnce { failed: false }
+    }
+
+    fn all_of(&mut self, buf: &[u8]) -> io::Result<usize>
+        ensures all { IfOk result (λ n. n ≡ length buf.now) }
+    {
+        if self.failed {
+            return Ok(buf.len());
+        }
+        self.failed = true;
+        Err(io::Error::from(ErrorKind::WouldBlock))
+    }
+}
+
+impl Read for FailsOnce {
+    fn read(&mut self, buf: &mut [u8]) -> io::Result<usize> {
+        self.all_of(buf)
+    }
+}
+
+impl Write for FailsOnce {
+    fn write(&mut self, buf: &[u8]) -> io::Result<usize> {
+        self.all_of(buf)
+    }
+
+    fn flush(&mut self) -> io::Result<()> {
+        Ok(())
+    }
+}
+
+// Only what was interrupted is asked again.
+#[test]
+fn tells_another_fault(rt: HostRuntime) {
+    let mut buf = [0; 4];
+    assert_eq!(rt; read_some(&mut FailsOnce::new(), &mut buf), Err(HostFault));
+    assert_eq!(rt; read_full(&mut FailsOnce::new(), &mut buf), Err(HostFault));
+    assert_eq!(rt; write_some(&mut FailsOnce::new(), &buf), Err(HostFault));
+    let mut stream = FailsOnce { failed: true };
+    assert_eq!(rt; read_full(&mut stream, &mut buf), Ok(4));
+    assert_eq!(rt; write_some(&mut stream, &buf), Ok(4));
 }
 
 // A reader that gives two bytes at a time, and then fails or ends.

@@ -3,6 +3,7 @@
 use super::*;
 use host::refuse;
 use std::fs;
+use std::os::unix::fs::symlink;
 use std::test::Fail;
 
 #[test]
@@ -68,54 +69,57 @@ fn reads_secrets(rt: HostRuntime) -> Result<(), Fail> {
     Ok(())
 }
 
-// An environment whose one variable holds six bytes.
-#[derive(Clone, Copy)]
-struct Environment;
-
-impl Env for Environment {
-    fn arg(&self, _i: usize, _buf: &mut [u8]) -> Result<usize, FillError> {
-        Err(FillError::NotPresent)
-    }
-
-    fn var(&self, name: &str, buf: &mut [u8]) -> Result<usize, FillError> {
-        if name != "SET" {
-            return Err(FillError::NotPresent);
-        }
-        match read_full(&mut b"longer".as_slice(), buf) {
-            Ok(6) => Ok(6),
-            _ => Err(FillError::TooLong),
+// Each place of a salt is another byte in some salt: that eight random salts meet in a place has a chance of 2^-51.
+#[test]
+fn salts_are_random_in_each_place(rt: HostRuntime) {
+    let mut first = [0; 32];
+    assert_eq!(rt; SystemHost::new(rt).salt(&mut first), Ok(()));
+    let mut varies = [false; 32];
+    for _ in 0..7 {
+        let mut salt = [0; 32];
+        assert_eq!(rt; SystemHost::new(rt).salt(&mut salt), Ok(()));
+        for i in 0..32 {
+            varies[i] |= salt[i] != first[i];
         }
     }
-
-    fn var_at(&self, _i: usize, _buf: &mut [u8]) -> Result<usize, FillError> {
-        Err(FillError::NotPresent)
-    }
+    assert_eq!(rt; varies, [true; 32]);
 }
 
 #[test]
-fn reads_variables(rt: HostRuntime) {
-    let mut buf = [0; 8];
-    assert_eq!(rt; read_variable(&Environment, "SET", &mut buf), Ok(6));
-    assert_eq!(rt; &buf[..6], b"longer".as_slice());
-    assert_eq!(rt; read_variable(&Environment, "SET", &mut buf[..5]), Ok(5));
-    assert_eq!(rt;
-        read_variable(&Environment, "UNSET", &mut buf),
-        Err(HostFault)
-    );
-}
+fn files_that_are_read_stay_under_each_name(rt: HostRuntime) -> Result<(), Fail> {
+    fs::write(&rt, "one", "kept")?;
+    fs::write(&rt, "other", "lost")?;
+    fs::hard_link(&rt, "one", "hard-link")?;
+    symlink(&rt, "one", "symbolic-link")?;
+    for name in ["one", "./one", "hard-link", "symbolic-link"] {
+        let mut host = SystemHost::new(rt);
+        assert_eq!(rt; host.open_input(Some("one")), Ok(()));
+        assert_eq!(rt; host.open_output(Some(name)), Err(HostFault), "{name}");
+        assert_eq!(rt; host.output_faults, 1);
 
-#[test]
-fn takes_whole_salts(rt: HostRuntime) {
-    let given = [7; 33];
-    let mut salt = [0; 32];
-    assert_eq!(rt; read_salt(&mut &given[..31], &mut salt), Err(HostFault));
-    assert_eq!(rt; read_salt(&mut given.as_slice(), &mut salt), Ok(()));
-    assert_eq!(rt; salt, [7; 32]);
+        let mut host = SystemHost::new(rt);
+        assert_eq!(rt; host.secret(Source::File("one"), &mut [0; 8]), Ok(4));
+        assert_eq!(rt; host.open_output(Some(name)), Err(HostFault), "{name}");
+        assert_eq!(rt;
+            fs::read(&rt, "one")?.as_slice(),
+            b"kept".as_slice(),
+            "{name}"
+        );
+    }
     let mut host = SystemHost::new(rt);
-    let mut other = [0; 32];
-    assert_eq!(rt; host.salt(&mut salt), Ok(()));
-    assert_eq!(rt; host.salt(&mut other), Ok(()));
-    assert!(rt; salt != other);
+    assert_eq!(rt; host.open_input(Some("one")), Ok(()));
+    assert_eq!(rt; host.secret(Source::File("one"), &mut [0; 8]), Ok(4));
+    assert_eq!(rt; host.open_output(Some("other")), Ok(()));
+    assert_eq!(rt; fs::read(&rt, "other")?.len(), 0);
+    Ok(())
+}
+
+#[test]
+fn a_device_may_be_input_and_output(rt: HostRuntime) {
+    let mut host = SystemHost::new(rt);
+    assert_eq!(rt; host.open_input(Some("/dev/null")), Ok(()));
+    assert_eq!(rt; host.open_output(Some("/dev/null")), Ok(()));
+    assert_eq!(rt; host.push(b"hello"), Ok(5));
 }
 
 #[test]

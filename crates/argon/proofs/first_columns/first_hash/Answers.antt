@@ -74,5 +74,5 @@ returns c = record {
   value = c.finish.ensures.hash 64 _ (c.put_with_length-4.ensures.holds 64 _ (c.put_with_length-3.ensures.holds 64 _ (c.put_with_length-2.ensures.holds 64 _
       (c.put_with_length.ensures.holds 64 _ (c.put_number-6.ensures.holds 64 _ (c.put_number-5.ensures.holds 64 _ (c.put_number-4.ensures.holds 64 _
       (c.put_number-3.ensures.holds 64 _ (c.put_number-2.ensures.holds 64 _ (c.put_number.ensures.holds 64 [] c.new-hash.ensures.holds))))))))))
-      ∙ rw (c.number.ensures.value, c.kind.ensures.value, c.passes.ensures.value, c.memory_kib.ensures.value, c.tag_len.ensures.value, c.lanes.ensures.value) refl;
+      ∙ rw (c.number.ensures.value, c.kind.ensures.value, c.version.ensures.value, c.passes.ensures.value, c.memory_kib.ensures.value, c.tag_len.ensures.value, c.lanes.ensures.value) refl;
 }

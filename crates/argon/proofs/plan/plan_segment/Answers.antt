@@ -5,6 +5,7 @@ use Rattle.argon.specs.Segment.{index_after_parts}
 use Rattle.argon.proofs.Independent.{made_as_planned}
 use Rattle.argon.proofs.Planning.{part_more}
 use Rattle.argon.proofs.Progress.{first_index-le}
+use Rattle.argon.proofs.ReadPlaces.{made_along_plan}
 use Rattle.argon.proofs.plan.plan_segment.Goals as goal
 
 pub loop-part-preserved : goal.loop-part-preserved
@@ -46,3 +47,9 @@ pub returns-clause-made : goal.returns-clause-made
 returns-clause-made c = λ h0 index low high.
     let long : 2 ≤ segment_len c.args.params.now = rw c.new-at.ensures.is_of.len c.new-at.ensures.valid.long in
     made_as_planned c.args.params.now h0 c.args.pass c.args.lane c.args.slice index long c.requires.slices c.requires.lanes c.requires.independent low high
+
+pub returns-clause-along : goal.returns-clause-along
+returns-clause-along c = λ h0 blocks next index low high.
+    let long : 2 ≤ segment_len c.args.params.now = rw c.new-at.ensures.is_of.len c.new-at.ensures.valid.long in
+    made_along_plan c.args.params.now h0 blocks next c.args.pass c.args.lane c.args.slice index
+    (record { long = long; lanes = c.requires.lanes; slices = c.requires.slices; from = low; to = high }) c.requires.independent

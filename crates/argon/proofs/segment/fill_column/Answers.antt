@@ -14,5 +14,5 @@ returns-clause-value c = λ parameters is_of addresses.
     c.store_block.ensures.value
     ∙ ap (λ (new : List ℕ). set blocks (at.lane * (4 * at.len) + (at.slice * at.len + c.args.index)) new)
     (step_is parameters at.lanes at.len is_of.lanes is_of.len blocks at.pass at.slice c.args.index at.lane c.previous_column.result c.reference_words-j.result
-    c.reference_lane-lane.result c.reference_column-other.result _ _ _ _ c.requires.valid.slices c.requires.indices
+    c.reference_lane-lane.result c.reference_column-other.result _ _ _ _ at.is_xored is_of.xored c.requires.valid.slices c.requires.indices
     (c.previous_column.ensures.value at.pass zero_first) refl word c.reference_lane-lane.ensures.value c.reference_column-other.ensures.value refl refl refl)

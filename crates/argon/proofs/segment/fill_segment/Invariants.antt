@@ -1,14 +1,17 @@
-use Rattle.std.proofs.Common.{◌≡◌, ℕ, ◌+◌, List, length}
-use Rattle.argon.specs.Buffer.{HoldsNewest, IsInSlice, with_next_number}
-use Rattle.argon.specs.Counts.{address_work, first_index}
-use Rattle.argon.specs.Segment.{column_number, index_after_parts}
+use Rattle.std.proofs.Common.{◌≡◌, ℕ, ◌+◌, ◌-◌, List, length, set, slice_index}
+use Rattle.std.specs.Prelude.{max}
+use Rattle.argon.specs.Counts.{address_count, address_work, blocks_of_segment, first_index}
+use Rattle.argon.specs.Filling.{Filling}
+use Rattle.argon.specs.Reference.{HasAddresses}
+use Rattle.argon.specs.Woven.{AreLeft, IsNextSlice, blocks_where_left}
 use Rattle.argon.proofs.segment.fill_segment.Given as goal
 
-abbrev pub invariant-loop-part : goal.invariant-loop-part
-invariant-loop-part l =
+abbrev pub invariant-loop-index : goal.invariant-loop-index
+invariant-loop-index l =
     (length l.blocks ≡ length l.fn.blocks)
-    × (l.ticks + first_index l.at.pass l.at.slice ≡ l.fn.ticks + index_after_parts l.at l.part + address_work l.at.is_independent l.part)
-    × ((h0 : List ℕ) (next : ℕ → ℕ) → HoldsNewest l.params h0 l.fn.blocks next
-    → IsInSlice l.params l.at.pass l.at.slice next
-    → next l.at.lane ≡ column_number l.at (first_index l.at.pass l.at.slice)
-    → HoldsNewest l.params h0 l.blocks (with_next_number next l.at.lane (column_number l.at (index_after_parts l.at l.part))))
+    × (l.ticks + first_index l.at.pass l.at.slice ≡ l.fn.ticks + l.index + address_work l.at.is_independent (max 1 (address_count l.index)))
+    × HasAddresses l.params l.at.pass l.at.lane l.at.slice l.index l.addresses
+    × ((matrix : Filling) (left : List ℕ) → IsNextSlice matrix l.params l.at.pass l.at.slice → AreLeft l.params l.at.pass l.at.slice left
+    → slice_index left l.at.lane ≡ blocks_of_segment l.params l.at.pass l.at.slice
+    → l.fn.blocks ≡ blocks_where_left matrix left
+    → l.blocks ≡ blocks_where_left matrix (set left l.at.lane (l.at.len - l.index)))

@@ -1,6 +1,6 @@
 use Rattle.std.proofs.Common.{◌≡◌, ◌∙◌, true, Err, ap, sym, subst, rules}
 use Rattle.argon_text.specs.Answer.{IsAnswerOf}
-use Rattle.argon_text.specs.EncodedText.{encoded_text}
+use Rattle.argon_text.specs.EncodedText.{IsTextOf}
 use Rattle.argon_text.specs.Grammar.{value_with}
 use Rattle.argon_text.specs.Value.{Value, IsValue, is_in_range}
 use Rattle.argon_text.specs.View.{fields_of, value_of}
@@ -42,7 +42,7 @@ returns-in-Some-encoded_of g c =
     let v : Value = value_with (fields_of c.in-Some.fields) c.in_ok-salt.salt.items c.in_ok-tag.tag.items in
     let same : value_of c.in-Some-encoded_of.encoded ≡ v = c.in-Some-encoded_of.ensures.value in
     let inside : is_in_range v ≡ true = sym (ap is_in_range same) ∙ c.in-Some-encoded_of.encoded.in_range in
-    let P : Value → Type 0 = λ w. IsValue w × (c.args.text.now ≡ encoded_text w) in
+    let P : Value → Type 0 = λ w. IsValue w × IsTextOf w c.args.text.now in
     record {
       answer = subst P (sym same)
           (value_found c.args.text.now (fields_of c.in-Some.fields) c.in-Some.ensures.fields c.in_ok-salt.salt.items c.in_ok-tag.tag.items

@@ -1,48 +1,75 @@
-use Rattle.std.proofs.Common.{◌≡◌, ℕ, List, ◌+◌, ◌-◌, ◌*◌, ◌/◌, ◌^◌, ◌≤◌, take, drop, refl, arith, ◌∙◌, ap, length, length-take, length-drop}
+use Rattle.std.proofs.Common.{◌≡◌, ℕ, List, ◌+◌, ◌*◌, ◌/◌, ◌^◌, ◌≤◌, length, arith, refl, ap, subst, ◌∙◌}
 use Rattle.std.proofs.Math.Nat.{mul-le-mul_left}
-use Rattle.std.proofs.lemmas.List.{take_all}
-use Rattle.std.proofs.lemmas.Slice.{take-put_mid, drop-put_mid}
+use Rattle.macs.specs.KeyPair.{HoldsSalt}
+use Rattle.macs.specs.Pbkdf2.{pbkdf2}
+use Rattle.romix.specs.Costs.{Parameters, parts_bytes}
 use Rattle.romix.specs.Romix.{romix}
-use Rattle.romix.specs.Scrypt.{mixed_parts, octets_of, words_of}
-use Rattle.romix.proofs.Octets.{left_more, part_done, words_read}
+use Rattle.romix.specs.Scrypt.{mixed_parts, octets_of, part_at, words_of}
+use Rattle.romix.specs.Sparse.{mixes, mixes_of_parts, sparse_cores}
+use Rattle.romix.specs.SparseCosts.{SparseParameters}
+use Rattle.romix.proofs.Keeps.{keep_divides}
+use Rattle.romix.proofs.Kept.{count_part, mixes_more}
+use Rattle.romix.proofs.Octets.{mixed_parts-more}
 use Rattle.romix.proofs.parts.mix_parts.Goals as goal
 
 pub parts-init : goal.parts-init
-unfolding mixed_parts
-parts-init c =
-    let z : 4 * length c.args.row.now * 0 ≡ 0 = omega arith in
-    record { done = rw z refl; left = refl; count = omega arith }
+unfolding mixed_parts mixes_of_parts
+parts-init c = record { fed = c.new-pair.ensures.empty; count = omega arith }
+
+pub read_part-requires-clause-fits : goal.read_part-requires-clause-fits
+read_part-requires-clause-fits c =
+    let r : ℕ = c.args.sparse.now.costs.r in
+    let eighth : length c.parts.row / 8 ≡ 4 * r = omega arith in
+    let p : c.p-k-end.result ≡ c.args.sparse.now.costs.p = c.p-k-end.ensures.p ∙ ap (λ (m : Parameters). m.p) c.costs-costs.ensures.costs in
+    let few : c.parts.k + 1 ≤ c.args.sparse.now.costs.p = omega arith in
+    rw eighth (omega (arith, mul-le-mul_left r few, c.keep-keep.ensures.in_range.costs.product))
+
+pub romix-requires-clause-divides : goal.romix-requires-clause-divides
+romix-requires-clause-divides c =
+    let s : SparseParameters = c.args.sparse.now in
+    let log : c.from-log_n.result ≡ s.costs.log_n = c.from-log_n.ensures ∙ c.log_n.ensures.log_n ∙ ap (λ (m : Parameters). m.log_n) c.costs-costs.ensures.costs in
+    rw (log, c.keep-keep.ensures.keep) (keep_divides s.costs.log_n s.keep c.keep-keep.ensures.in_range.power c.keep-keep.ensures.in_range.at_most_n)
+
+pub romix-requires-clause-table : goal.romix-requires-clause-table
+romix-requires-clause-table c =
+    let s : SparseParameters = c.args.sparse.now in
+    let log : c.from-log_n.result ≡ s.costs.log_n = c.from-log_n.ensures ∙ c.log_n.ensures.log_n ∙ ap (λ (m : Parameters). m.log_n) c.costs-costs.ensures.costs in
+    let row : length c.read_part.new.row ≡ 32 * s.costs.r = omega arith in
+    rw (log, c.keep-keep.ensures.keep, row) (omega arith)
 
 pub parts-preserved : goal.parts-preserved
 parts-preserved c =
-    let r : ℕ = length c.args.row.now / 32 in
-    let len : ℕ = 4 * length c.args.row.now in
+    let s : SparseParameters = c.args.sparse.now in
+    let r : ℕ = s.costs.r in
     let k : ℕ = c.parts.k in
-    let n : ℕ = 2 ^ c.args.log_n in
-    let b : List ℕ = c.args.parts.now in
-    let whole : len ≡ 128 * r = omega arith in
-    let all : len * (k + 1) ≤ length c.parts.parts = omega (arith, mul-le-mul_left len (let h : k + 1 ≤ c.args.p = omega arith in h)) in
-    let step : len * (k + 1) - len * k ≡ len = omega arith in
-    let wide : length c.write_u32_into.new.dst ≡ len * (k + 1) - len * k = omega (arith, length-take {A = ℕ}, length-drop {A = ℕ}) in
-    let read : c.read_u32_into.new.dst ≡ words_of (take (len * (k + 1) - len * k) (drop (len * k) c.parts.parts)) (length c.parts.row) =
-    words_read _ _ c.read_u32_into.ensures ∙ ap (words_of (take (len * (k + 1) - len * k) (drop (len * k) c.parts.parts))) (let same : length c.read_u32_into.new.dst ≡ length c.parts.row = omega arith in same) in
-    let made : c.write_u32_into.new.dst ≡ octets_of (romix (words_of (take (len * (k + 1) - len * k) (drop (len * k) c.parts.parts)) (length c.parts.row)) n) =
-    c.write_u32_into.ensures ∙ ap octets_of (c.romix.ensures.words ∙ ap (λ w. romix w n) read) in
+    let n : ℕ = 2 ^ s.costs.log_n in
+    let password : List ℕ = c.args.password.now in
+    let b : List ℕ = pbkdf2 password c.args.salt.now (parts_bytes s.costs) in
+    let wide : length c.parts.row ≡ 32 * r = omega arith in
+    let blocks : length c.parts.row / 32 ≡ r = omega arith in
+    let log : c.from-log_n.result ≡ s.costs.log_n = c.from-log_n.ensures ∙ c.log_n.ensures.log_n ∙ ap (λ (m : Parameters). m.log_n) c.costs-costs.ensures.costs in
+    let p : c.p-k-end.result ≡ c.args.sparse.now.costs.p = c.p-k-end.ensures.p ∙ ap (λ (m : Parameters). m.p) c.costs-costs.ensures.costs in
+    let salted = c.update.ensures.appended password _ c.new-salted.ensures.empty in
+    let read : c.read_part.new.row ≡ words_of (part_at b r k) (32 * r) =
+    c.read_part.ensures.part password c.args.salt.now salted s.costs.p (omega arith) ∙ rw (blocks, wide) refl in
     record {
-      done = take-put_mid (len * k) _ c.parts.parts c.write_u32_into.new.dst (len * (k + 1)) (omega arith) (omega arith)
-          ∙ part_done b c.parts.parts c.write_u32_into.new.dst n r k len _ _ whole (omega arith) step c.parts.invariant.left c.parts.invariant.done made;
-      left = left_more b c.parts.parts _ len k
-          (drop-put_mid (len * k) _ c.parts.parts c.write_u32_into.new.dst (len * (k + 1)) (omega arith) (omega arith) wide) c.parts.invariant.left;
-      count = omega (
-        arith,
-        c.parts.invariant.count,
-        c.romix.ensures.count,
-        ap (λ (m : ℕ). 2 * n * (m / 16)) (let same : length c.read_u32_into.new.dst ≡ length c.args.row.now = omega arith in same),
-      );
+      fed = subst (λ (t : List ℕ). HoldsSalt c.feed.new.pair password t)
+          (mixed_parts-more b _ _ n r k refl (ap octets_of (c.romix.ensures.words ∙ ap (λ (m : ℕ). romix c.read_part.new.row (2 ^ m)) log ∙ ap (λ (w : List ℕ). romix w n) read)))
+          (c.feed.ensures.fed password _ c.parts.invariant.fed);
+      count = count_part c.args.ticks.now _ _ (mixes_of_parts b s k) (mixes c.read_part.new.row n s.keep) _ r (length c.read_part.new.row) c.parts.invariant.count
+          (c.romix.ensures.count ∙ rw (log, c.keep-keep.ensures.keep) refl)
+          (let long : length c.read_part.new.row ≡ 32 * r = omega arith in long) (mixes_more b c.read_part.new.row s k read);
     }
 
-pub returns-clause-bytes : goal.returns-clause-bytes
-returns-clause-bytes c =
-    let all : c.parts.k ≡ c.args.p = omega arith in
-    let whole : take (4 * length c.args.row.now * c.args.p) c.parts.parts ≡ c.parts.parts = take_all _ c.parts.parts (omega arith) in
-    rw (all, whole) at c.parts.invariant.done
+pub returns-clause-fed : goal.returns-clause-fed
+returns-clause-fed c =
+    let p : c.p-k-end.result ≡ c.args.sparse.now.costs.p = c.p-k-end.ensures.p ∙ ap (λ (m : Parameters). m.p) c.costs-costs.ensures.costs in
+    let all : c.parts.k ≡ c.args.sparse.now.costs.p = omega arith in
+    rw all at c.parts.invariant.fed
+
+pub returns-clause-count : goal.returns-clause-count
+unfolding sparse_cores
+returns-clause-count c =
+    let p : c.p-k-end.result ≡ c.args.sparse.now.costs.p = c.p-k-end.ensures.p ∙ ap (λ (m : Parameters). m.p) c.costs-costs.ensures.costs in
+    let all : c.parts.k ≡ c.args.sparse.now.costs.p = omega arith in
+    rw all at c.parts.invariant.count

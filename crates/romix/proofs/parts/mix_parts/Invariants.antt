@@ -1,11 +1,15 @@
-use Rattle.std.proofs.Common.{◌≡◌, ◌+◌, ◌*◌, ◌/◌, ◌^◌, length, take, drop}
-use Rattle.romix.specs.BlockMix.{block_count}
+use Rattle.std.proofs.Common.{◌≡◌, ◌+◌, ◌*◌, ◌^◌}
+use Rattle.macs.specs.KeyPair.{HoldsSalt}
+use Rattle.macs.specs.Pbkdf2.{pbkdf2}
+use Rattle.romix.specs.Costs.{parts_bytes}
 use Rattle.romix.specs.Scrypt.{mixed_parts}
+use Rattle.romix.specs.Sparse.{mixes_of_parts}
 use Rattle.romix.proofs.parts.mix_parts.Given as goal
 
 abbrev pub invariant-parts : goal.invariant-parts
 invariant-parts l = record {
-  done : take (l.len * l.k) l.parts ≡ mixed_parts l.fn.parts (2 ^ l.log_n) (length l.fn.row / 32) l.k;
-  left : drop (l.len * l.k) l.parts ≡ drop (l.len * l.k) l.fn.parts;
-  count : l.ticks ≡ l.fn.ticks + 2 * 2 ^ l.log_n * block_count l.fn.row * l.k;
+  fed : HoldsSalt l.pair l.password
+      (mixed_parts (pbkdf2 l.password l.salt (parts_bytes l.sparse.costs)) (2 ^ l.sparse.costs.log_n) l.sparse.costs.r l.k);
+  count : l.ticks ≡ l.fn.ticks
+      + 2 * l.sparse.costs.r * mixes_of_parts (pbkdf2 l.password l.salt (parts_bytes l.sparse.costs)) l.sparse l.k;
 }

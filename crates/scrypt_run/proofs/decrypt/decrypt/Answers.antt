@@ -1,12 +1,13 @@
-use Rattle.std.proofs.Common.{rules, ◌≡◌, ◌∙◌, ap, subst, inl, inr, take}
+use Rattle.std.proofs.Common.{rules, ◌≡◌, ◌∙◌, ap, subst, sym, inl, inr, take}
 use Rattle.encfile.specs.Decrypting.{HasRead}
 use Rattle.encfile.specs.EncryptedFile.{HasRightHeaderCode}
 use Rattle.encfile.proofs.Fronts.{front_refusal-right}
+use Rattle.host.specs.Seen.{after_ask}
 use Rattle.scrypt_run.specs.Decrypting.{DecryptRefused, Decrypted, OpenRefused, ReleaseRefused}
 use Rattle.scrypt_run.specs.Passphrase.{HasPassphrase, first_line_at}
-use Rattle.scrypt_run.specs.Request.{task_seen}
+use Rattle.scrypt_run.specs.Request.{allowance_of, task_seen}
 use Rattle.scrypt_run.proofs.Decrypting.{length_read-first}
-use Rattle.scrypt_run.proofs.Ends.{first_line_at-reading, if_err, on_ok}
+use Rattle.scrypt_run.proofs.Ends.{first_line_at-reading, handed_on, if_err, on_ok}
 use Rattle.scrypt_run.proofs.decrypt.decrypt.Goals as goal
 
 pub returns-in_err-dec-clause-refused : goal.returns-in_err-dec-clause-refused
@@ -22,9 +23,10 @@ returns-in_err-dec-clause-refused g c = λ t.
       checked = c.in_ok-front.ensures.checked t;
       refused = subst (λ l. OpenRefused r l (take 96 s.input)) line
           (subst (λ front. OpenRefused r (first_line_at task.source read) front) (c.in_ok-front.ensures.front t) (c.in_err-dec.ensures.refused t));
-      unopened = c.in_err-dec.ensures.kept t ∙ c.in_ok-front.ensures.reads t;
+      unopened = c.in_err-dec.ensures.asks t ∙ ap (after_ask task.source) (c.in_ok-front.ensures.reads t);
     })) in
-    search (rules, ends)
+    handed_on c.from_residual-in_err-dec.result c.from_residual-in_err-dec.ensures.1 (λ e same.
+    subst (λ x. DecryptRefused x task s after) (sym same) ends)
 
 pub finish-requires-clause-new : goal.finish-requires-clause-new
 finish-requires-clause-new g c =
@@ -39,12 +41,12 @@ returns-clause-succeeds g c = λ t.
     let here = c.in_ok-front.ensures.front t in
     let opened = c.in_ok-dec.ensures.opened t in
     let passphrase = opened.0 in
-    let before = c.in_ok-dec.ensures.kept t ∙ c.in_ok-front.ensures.reads t in
+    let before = c.in_ok-dec.ensures.asks t ∙ ap (after_ask task.source) (c.in_ok-front.ensures.reads t) in
     let line = ap (first_line_at task.source) (c.in_ok-front.ensures.reads t) ∙ first_line_at-reading task.source task.infile 96 s in
     on_ok c.finish.result (λ done. record {
       passphrase = passphrase;
       given = subst (λ l. HasPassphrase l passphrase) line opened.1;
-      passes = front_refusal-right s.input task.limits.max_bytes task.limits.max_ops passphrase (c.in_ok-front.ensures.long t) (c.in_ok-front.ensures.checked t)
+      passes = front_refusal-right s.input (allowance_of task) passphrase (c.in_ok-front.ensures.long t) (c.in_ok-front.ensures.checked t)
           (subst (λ f. HasRightHeaderCode f passphrase) here opened.2);
       decrypted = subst (λ w. Decrypted passphrase front task.outfile w (g.H.Host.seen c.finish.new.host)) before
           (done passphrase front (subst (λ f. HasRead c.in_ok-dec.dec passphrase f) here opened.3));
@@ -58,12 +60,12 @@ returns-clause-refused g c = λ t.
     let here = c.in_ok-front.ensures.front t in
     let opened = c.in_ok-dec.ensures.opened t in
     let passphrase = opened.0 in
-    let before = c.in_ok-dec.ensures.kept t ∙ c.in_ok-front.ensures.reads t in
+    let before = c.in_ok-dec.ensures.asks t ∙ ap (after_ask task.source) (c.in_ok-front.ensures.reads t) in
     let line = ap (first_line_at task.source) (c.in_ok-front.ensures.reads t) ∙ first_line_at-reading task.source task.infile 96 s in
     if_err c.finish.result (λ r ends. inr (inr (record {
       passphrase = passphrase;
       given = subst (λ l. HasPassphrase l passphrase) line opened.1;
-      passes = front_refusal-right s.input task.limits.max_bytes task.limits.max_ops passphrase (c.in_ok-front.ensures.long t) (c.in_ok-front.ensures.checked t)
+      passes = front_refusal-right s.input (allowance_of task) passphrase (c.in_ok-front.ensures.long t) (c.in_ok-front.ensures.checked t)
           (subst (λ f. HasRightHeaderCode f passphrase) here opened.2);
       refused = subst (λ w. ReleaseRefused r passphrase front task.outfile w (g.H.Host.seen c.finish.new.host)) before
           (ends passphrase front (subst (λ f. HasRead c.in_ok-dec.dec passphrase f) here opened.3));

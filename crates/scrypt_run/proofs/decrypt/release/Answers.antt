@@ -58,6 +58,7 @@ returns-in_default-feed-clause-refused g c = λ t passphrase front h.
         pulled = j + n;
         within = fits_on j n s before (i.left t) (i.within t) (c.in-Ok.ensures.within t);
         too_long = reached;
+        most = omega (arith, c.in-Ok.ensures.bound, i.buf_long);
         passes = pass_none (text_behind passphrase front) j n s before pulled (i.passes t passphrase front h) (c.in-Ok.ensures.taken t);
       },
     ))

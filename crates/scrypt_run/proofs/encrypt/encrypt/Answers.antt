@@ -1,4 +1,5 @@
-use Rattle.std.proofs.Common.{◌∙◌, inr, subst}
+use Rattle.std.proofs.Common.{◌∙◌, ap, inr, subst}
+use Rattle.host.specs.Seen.{after_ask}
 use Rattle.scrypt_run.specs.Encrypting.{IsEncrypted, WriteRefused, salt_used}
 use Rattle.scrypt_run.specs.Request.{encryption_seen}
 use Rattle.scrypt_run.proofs.Encrypting.{started_before}
@@ -11,13 +12,13 @@ returns-clause-succeeds g c = λ t.
     let before = g.H.Host.seen c.args.host.now in
     let after = g.H.Host.seen c.write_file.new.host in
     let salt = salt_used asked.salt before in
-    let opens = c.in_ok-open_text.ensures.opens t in
+    let opens = c.in_ok-sparse.ensures.opens t in
     let started = started_before asked c.in_ok-enc.enc before (g.H.Host.seen c.open_text.new.host) opens (c.in_ok-enc.ensures.started t) in
     on_ok c.write_file.result (λ written. record {
-      admitted = c.in_ok-open_text.ensures.admitted;
+      admitted = c.in_ok-sparse.ensures.passes;
       passphrase = started.0;
       given = started.1;
-      encrypted = subst (λ s. IsEncrypted started.0 salt asked.costs asked.task.outfile s after) (c.in_ok-enc.ensures.kept t ∙ opens) written;
+      encrypted = subst (λ s. IsEncrypted started.0 salt asked.costs asked.task.outfile s after) (c.in_ok-enc.ensures.asks t ∙ ap (after_ask asked.task.source) opens) written;
     }) (c.write_file.ensures.written t started.0 salt asked.costs started.2)
 
 pub returns-clause-refused : goal.returns-clause-refused
@@ -26,11 +27,11 @@ returns-clause-refused g c = λ t.
     let before = g.H.Host.seen c.args.host.now in
     let after = g.H.Host.seen c.write_file.new.host in
     let salt = salt_used asked.salt before in
-    let opens = c.in_ok-open_text.ensures.opens t in
+    let opens = c.in_ok-sparse.ensures.opens t in
     let started = started_before asked c.in_ok-enc.enc before (g.H.Host.seen c.open_text.new.host) opens (c.in_ok-enc.ensures.started t) in
     if_err c.write_file.result (λ r refused. inr (inr (record {
-      admitted = c.in_ok-open_text.ensures.admitted;
+      admitted = c.in_ok-sparse.ensures.passes;
       passphrase = started.0;
       given = started.1;
-      refused = subst (λ s. WriteRefused r started.0 salt asked.costs asked.task.outfile s after) (c.in_ok-enc.ensures.kept t ∙ opens) refused;
+      refused = subst (λ s. WriteRefused r started.0 salt asked.costs asked.task.outfile s after) (c.in_ok-enc.ensures.asks t ∙ ap (after_ask asked.task.source) opens) refused;
     }))) (c.write_file.ensures.refused t started.0 salt asked.costs started.2)

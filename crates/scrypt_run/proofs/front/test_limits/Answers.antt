@@ -1,13 +1,16 @@
-use Rattle.std.proofs.Common.{None, ◌∙◌}
-use Rattle.scrypt_run.proofs.Fronts.{limits_refused, limits_told}
+use Rattle.std.proofs.Common.{◌∙◌, ap, option_map}
+use Rattle.scrypt_run.specs.Refusal.{refusal_of}
+use Rattle.scrypt_run.specs.Request.{allowance_of, task_seen}
+use Rattle.scrypt_run.proofs.Ends.{if_err, on_ok}
+use Rattle.scrypt_run.proofs.Fronts.{limits_told}
 use Rattle.scrypt_run.proofs.front.test_limits.Goals as goal
 
-pub returns-in-Ok-clause-admitted : goal.returns-in-Ok-clause-admitted
-returns-in-Ok-clause-admitted c =
-    limits_told c.args.front.now c.costs.result.now c.args.limits.now.max_bytes c.args.limits.now.max_ops None c.requires.valid
-    (c.costs.ensures.costs ∙ c.requires.costs) c.in-Ok.ensures.ok
+pub returns-clause-passes : goal.returns-clause-passes
+returns-clause-passes c =
+    let told = limits_told c.args.front.now c.costs.result.now (allowance_of (task_seen c.args.task.now)) c.requires.valid (c.costs.ensures.costs ∙ c.requires.costs) in
+    on_ok c.admit.result (λ passes. told ∙ passes) c.admit.ensures.passes
 
-pub returns-in-Err-clause-refused : goal.returns-in-Err-clause-refused
-returns-in-Err-clause-refused c =
-    limits_refused c.args.front.now c.costs.result.now c.args.limits.now.max_bytes c.args.limits.now.max_ops c.in-Err.fault c.limit_refusal.result c.requires.valid
-    (c.costs.ensures.costs ∙ c.requires.costs) c.in-Err.ensures.fault c.limit_refusal.ensures.refusal
+pub returns-clause-refused : goal.returns-clause-refused
+returns-clause-refused c =
+    let told = limits_told c.args.front.now c.costs.result.now (allowance_of (task_seen c.args.task.now)) c.requires.valid (c.costs.ensures.costs ∙ c.requires.costs) in
+    if_err c.admit.result (λ r refused. ap (option_map refusal_of) told ∙ refused) c.admit.ensures.refused

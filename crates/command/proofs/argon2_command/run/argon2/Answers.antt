@@ -13,6 +13,7 @@ returns-in-Err-clause-refuses g c = λ _.
     record {
       told = c.in-Err.refusal;
       unsaid = unsaid;
+      some_input = c.in-Err.ensures.some_input;
       says = subst (λ line. says line counted) c.line.ensures.line (subst (says c.line.result.now) c.in-Err.ensures.counted c.refuse.ensures.says);
       refused = c.in-Err.ensures.refused;
     }

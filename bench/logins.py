@@ -1,0 +1,303 @@
+#!/usr/bin/env python3
+"""Judges 10,000 logins, half of them hostile, as a service would, and times honest ones beside Debian's libargon2.
+
+    bench/logins.py [ROUNDS]
+
+The program of bench/logins.txt reads each text by `argon_text::Encoded::read` and judges it by `argon_text::verify`
+under limits; and once more with one `argon::Matrix`, reserved at the start, for the honest ones. Each answer must be
+the one that is due: by a regular expression, by numbers of Python, and by the tag that libargon2 gives. The greatest
+resident size must not grow between the thousandth and the last login.
+
+Then each row is so many honest logins, half of them with a wrong password: user and system time and page faults of
+one login, without the start of the process, least of all rounds (7), in turn with `argon2id_verify` of libargon2. It
+needs libargon2 (Debian: apt-get install libargon2-1), without which it says that it was skipped.
+"""
+import base64
+import collections
+import ctypes
+import ctypes.util
+import os
+import random
+import re
+import resource
+import subprocess
+import sys
+import tempfile
+
+from scratch import built
+
+# What a hash may take: 256 blocks of 1 KiB, and as many block functions as Argon2d of that memory in four passes.
+MAX_KIB, MAX_OPS = 256, 4 * 256 - 2
+KINDS = ["d", "i", "id"]
+PASSWORD_LEN, SALT_LEN, TAG_LEN = 12, 16, 32
+COUNT, PART = 10_000, 1_000
+# memory in KiB, passes, and how many logins a round has
+ROWS = [(64, 1, 4000), (64, 2, 2000), (64, 3, 2000), (4096, 3, 30), (19456, 2, 12), (65536, 3, 6)]
+MORE_THAN_LIMITS = (1 << 32) - 1
+NUMBER = rb"(0|[1-9][0-9]*)"
+TEXT = re.compile(
+    rb"\$argon2(d|i|id)(?:\$v=N)?\$m=N,t=N,p=N\$([A-Za-z0-9+/]*)\$([A-Za-z0-9+/]*)".replace(b"N", NUMBER)
+)
+
+library = ctypes.CDLL("libargon2.so.1") if ctypes.util.find_library("argon2") else None
+made = random.Random(1)
+
+
+def tag_of(kind, version, memory, passes, lanes, salt, password, length):
+    """The tag, by libargon2."""
+    tag = ctypes.create_string_buffer(length)
+    status = library.argon2_hash(
+        ctypes.c_uint32(passes), ctypes.c_uint32(memory), ctypes.c_uint32(lanes), password,
+        ctypes.c_size_t(len(password)), salt, ctypes.c_size_t(len(salt)), tag, ctypes.c_size_t(length), None,
+        ctypes.c_size_t(0), KINDS.index(kind), ctypes.c_uint32(version),
+    )  # fmt: skip
+    if status != 0:
+        raise SystemExit(f"libargon2 answers {status}")
+    return tag.raw
+
+
+def symbols(data):
+    return base64.b64encode(data).rstrip(b"=")
+
+
+def text_of(kind, version, memory, passes, lanes, salt, tag):
+    """The text, without its version where that is None."""
+    said = "" if version is None else f"$v={version}"
+    front = f"$argon2{kind}{said}$m={memory},t={passes},p={lanes}$"
+    return front.encode() + symbols(salt) + b"$" + symbols(tag)
+
+
+def honest_text(password, kind="id", version=0x13, memory=64, passes=1, lanes=1, salt_len=SALT_LEN, tag_len=TAG_LEN):
+    salt = made.randbytes(salt_len)
+    tag = tag_of(kind, version or 0x10, memory, passes, lanes, salt, password, tag_len)
+    return text_of(kind, version, memory, passes, lanes, salt, tag)
+
+
+def bytes_of_symbols(found):
+    """None where the symbols are no base64: a length that no bytes give, or last bits that are not zero."""
+    if len(found) % 4 == 1:
+        return None
+    data = base64.b64decode(found + b"=" * (-len(found) % 4), validate=True)
+    return data if symbols(data) == found else None
+
+
+def work_of(kind, memory, passes, lanes):
+    """The block functions of a hash (RFC 9106, 3.2 and 3.4.1.2)."""
+    segment = memory // (4 * lanes)
+    independent = {"d": 0, "i": 4 * lanes * passes, "id": 2 * lanes}[kind]
+    return passes * 4 * lanes * segment - 2 * lanes + 2 * -(-segment // 128) * independent
+
+
+def answer_due(password, text):
+    """The answer to a login, as bench/logins.txt has it."""
+    found = TEXT.fullmatch(text)
+    if not found:
+        return "1"
+    salt, tag = bytes_of_symbols(found[6]), bytes_of_symbols(found[7])
+    if salt is None or tag is None:
+        return "1"
+    # a number of more digits than ten is out of each range, and Python refuses to read one of more than 4,300
+    version, memory, passes, lanes = (int(digits[:11]) for digits in (found[2] or b"16", *found.group(3, 4, 5)))
+    if not (
+        version in (0x10, 0x13)
+        and 1 <= passes < 2**32
+        and 1 <= lanes < 2**24
+        and 8 * lanes <= memory < 2**32
+        and 8 <= len(salt) <= 255
+        and 4 <= len(tag) <= 4096
+    ):
+        return "2"
+    kind = found[1].decode()
+    if not 1 <= len(password) <= 127:
+        return "6"
+    if 4 * lanes * (memory // (4 * lanes)) > MAX_KIB:
+        return "7"
+    if work_of(kind, memory, passes, lanes) > MAX_OPS:
+        return "8"
+    return "y" if tag_of(kind, version, memory, passes, lanes, salt, password, len(tag)) == tag else "n"
+
+
+def hostile():
+    """Logins that may come from anyone, of each kind, without end."""
+    password = b"correct hors"
+    while True:
+        text = honest_text(password)
+        salt, tag = made.randbytes(SALT_LEN), made.randbytes(TAG_LEN)
+        place = made.randrange(len(text))
+        other = bytes([made.choice(b"$,=+/06A-. \n\0\xff")])
+        kind = made.choice(KINDS)
+        # no texts at all, and texts near one
+        yield password, made.randbytes(made.randrange(200))
+        long = made.choice([b"A" * 65_535, b"$argon2id$" * 6_000])
+        yield password, made.choice([b"", b"$", b"$argon2id", long, text + b"\n", b" " + text])
+        yield password, text[:place] + other + text[place + 1 :]
+        yield password, text[:place] + text[place + 1 :]
+        yield password, text[: place + 1] + text[place:]
+        yield password, text[:place]
+        yield password, text + b"$" + symbols(salt)
+        # numbers: leading zeros, signs, no digits, out of range, past 64 bits, of 60,000 digits
+        small = ["", "0", "00", "064", "+64", "-1", "0x40"]
+        number = made.choice([*small, "4294967295", "4294967296", "18446744073709551680", "9" * 60_000])
+        field = made.choice(["memory", "passes", "lanes", "version"])
+        said = {"version": 19, "memory": 64, "passes": 1, "lanes": 1, field: number}
+        yield password, text_of(kind, **said, salt=salt, tag=tag)
+        yield password, text_of(kind, 19, 8 * 16777215 if place % 2 else 64, 1, 16777215 + place % 2, salt, tag)
+        yield password, text_of(kind, 19, 8 * (place % 7 + 1) - 1, 1, place % 7 + 1, salt, tag)
+        yield password, text_of(kind, made.choice([0, 15, 17, 18, 20, 1619]), 64, 1, 1, salt, tag)
+        # lengths of salt and tag around their ranges, with their honest tag where there is one
+        for salt_len, tag_len in ((7, 32), (8, 4), (255, 4096), (256, 32), (16, 3), (16, 4097), (0, 0), (45_000, 32)):
+            if 8 <= salt_len <= 255 and 4 <= tag_len <= 4096:
+                yield password, honest_text(password, kind, salt_len=salt_len, tag_len=tag_len)
+            else:
+                yield password, text_of(kind, 19, 64, 1, 1, made.randbytes(salt_len), made.randbytes(tag_len))
+        # base64 of a length that no bytes give, with last bits, padded, of the other alphabet
+        for wrong in (symbols(salt) + b"AAA", symbols(salt)[:-1] + b"B", symbols(salt) + b"==", b"-_" * 11):
+            yield password, b"$argon2id$v=19$m=64,t=1,p=1$" + wrong + b"$" + symbols(tag)
+        # costs at the limits, judged, and above them
+        for costs in (("d", 256, 4, 1), ("d", 259, 4, 1), ("i", 32, 5, 4), ("id", 256, 3, 1), ("id", 256, 1, 32)):
+            yield password, honest_text(password, costs[0], 19, *costs[1:])
+        for costs in (("d", 260, 1, 1), ("d", 256, 5, 1), ("id", 256, 4, 1), ("i", 256, 4, 1), ("d", 261, 4, 1)):
+            yield password, text_of(costs[0], 19, *costs[1:], salt, tag)
+        yield password, text_of(kind, 19, MORE_THAN_LIMITS, MORE_THAN_LIMITS, 1, salt, tag)
+        yield password, text_of(kind, 19, 64, MORE_THAN_LIMITS, 1, salt, tag)
+        yield password, text_of(kind, 19, MORE_THAN_LIMITS, 1, 16777215, salt, tag)
+        # passwords that are too short or too long, at costs within the limits and above them
+        for length in (0, 1, 127, 128, 255):
+            yield b"p" * length, text
+            yield b"p" * length, text_of(kind, 19, 64, MORE_THAN_LIMITS, 1, salt, tag)
+        # other settings than the service's own, the older version with and without its version; right and wrong
+        for version in (0x13, 0x10, None):
+            memory, passes, lanes = (made.randrange(*ends) for ends in ((16, 128), (1, 4), (1, 3)))
+            other_text = honest_text(password, kind, version, memory, passes, lanes)
+            yield password, other_text
+            yield password[::-1], other_text
+
+
+def honest(memory, passes, texts):
+    """Honest logins of the service's own settings, over so many texts, each with its password and with another."""
+    kept = []
+    for place in range(texts):
+        password = b"password%04d" % place
+        kept.append((password, honest_text(password, memory=memory, passes=passes)))
+    while True:
+        for password, text in kept:
+            yield password, text
+            yield password[:-1] + b"x", text
+
+
+def packed(logins):
+    return b"".join(
+        len(password).to_bytes(1, "big") + len(text).to_bytes(2, "big") + password + text for password, text in logins
+    )
+
+
+def high_water(process):
+    """The greatest resident size of a running process so far, in KiB."""
+    with open(f"/proc/{process.pid}/status", encoding="ascii") as status:
+        return int(re.search(r"VmHWM:\s*(\d+) kB", status.read())[1])
+
+
+def judge_all(name, words, logins):
+    """Gives the logins, 1,000 at a time, compares each answer, and prints the greatest resident sizes."""
+    running = subprocess.Popen(words, stdin=subprocess.PIPE, stdout=subprocess.PIPE)
+    sizes, counts = [], collections.Counter()
+    for start in range(0, len(logins), PART):
+        part = logins[start : start + PART]
+        running.stdin.write(packed(part))
+        running.stdin.flush()
+        answers = running.stdout.read(len(part)).decode()
+        sizes.append(high_water(running))
+        for (password, text), answer in zip(part, answers, strict=True):
+            if answer != answer_due(password, text):
+                due = answer_due(password, text)
+                raise SystemExit(f"{name}: {answer} and not {due} for {password!r}, {text[:200]!r}")
+        counts.update(answers)
+    running.stdin.close()
+    if running.wait() != 0:
+        raise SystemExit(f"{name} ended with {running.returncode}")
+    answers = ", ".join(f"{key} {counts[key]}" for key in sorted(counts))
+    print(f"{name}: {len(logins)} logins, every answer right: {answers}")
+    growth = f"{sizes[0]} KiB after {PART}, {sizes[-1]} KiB after {len(logins)}"
+    print(f"{name}: greatest resident size {growth}", flush=True)
+    if sizes[-1] > sizes[0]:
+        raise SystemExit(f"{name}: it grows: {sizes}")
+
+
+def usage_of(words, given):
+    """User and system time in seconds and the page faults of one run, and what it printed."""
+    with tempfile.TemporaryFile() as source:
+        source.write(given)
+        source.seek(0)
+        running = subprocess.Popen(words, stdin=source, stdout=subprocess.PIPE)
+        printed = running.stdout.read()
+        _, status, usage = os.wait4(running.pid, 0)
+    running.returncode = os.waitstatus_to_exitcode(status)
+    if running.returncode != 0:
+        raise SystemExit(f"{words} ended with {running.returncode}")
+    return usage.ru_utime + usage.ru_stime, usage.ru_minflt, printed
+
+
+def by_libargon2(logins):
+    """User and system time and page faults of the logins by `argon2id_verify`, and its answers."""
+    verify = library.argon2id_verify
+    verify.argtypes = [ctypes.c_char_p, ctypes.c_char_p, ctypes.c_size_t]
+    before = resource.getrusage(resource.RUSAGE_SELF)
+    answers = [verify(text, password, len(password)) for password, text in logins]
+    after = resource.getrusage(resource.RUSAGE_SELF)
+    cpu = after.ru_utime + after.ru_stime - before.ru_utime - before.ru_stime
+    return cpu, after.ru_minflt - before.ru_minflt, answers
+
+
+def race(program, rounds, memory, passes, count):
+    source = honest(memory, passes, min(count // 2, 50))
+    logins = [next(source) for _ in range(count)]
+    given, due = packed(logins), b"yn" * (count // 2)
+    limits = [str(memory), "4294967295"]
+    runs = {"verify": [program, *limits], "kept matrix": [program, *limits, str(memory), str(passes)]}
+    cpu, faults = {}, {}
+
+    def note(name, time, pages):
+        cpu[name] = min(time, cpu.get(name, time))
+        faults[name] = min(pages, faults.get(name, pages))
+
+    for _ in range(rounds):
+        time, pages, answers = by_libargon2(logins)
+        if answers != [0, -35] * (count // 2):
+            raise SystemExit(f"libargon2 answers {answers[:10]}")
+        note("libargon2", time, pages)
+        for name, words in runs.items():
+            note(name + ", start", *usage_of(words, b"")[:2])
+            time, pages, printed = usage_of(words, given)
+            if printed != due:
+                raise SystemExit(f"{name}: the answers are {printed[:20]!r}")
+            note(name, time, pages)
+    base = cpu["libargon2"] / count
+    for name in ("libargon2", *runs):
+        one = (cpu[name] - cpu.get(name + ", start", 0)) / count
+        pages = (faults[name] - faults.get(name + ", start", 0)) / count
+        ratio = f"{one * 1e6:9.1f} us  {one / base:4.2f}"
+        print(f"-id -t {passes} -k {memory:5}: {name:12} {ratio}  {pages:8.1f} page faults a login", flush=True)
+
+
+def main():
+    rounds = int(sys.argv[1]) if len(sys.argv) > 1 else 7
+    if library is None:
+        print("skipped: no libargon2 is installed to say what is due")
+        return
+    program = built("logins_bench", "argon argon_text comparison", "logins.txt")
+    load = os.getloadavg()[0]
+    print(f"processors {os.cpu_count()}, load {load:.1f}; user and system time, least of {rounds}", flush=True)
+    bad, good = hostile(), honest(64, 1, 500)
+    logins = []
+    for _ in range(COUNT // PART):
+        part = [next(bad) for _ in range(PART // 2)] + [next(good) for _ in range(PART // 2)]
+        made.shuffle(part)
+        logins += part
+    judge_all("verify", [program, str(MAX_KIB), str(MAX_OPS)], logins)
+    judge_all("kept matrix", [program, str(MAX_KIB), str(MAX_OPS), "64", "1"], logins)
+    for row in ROWS:
+        race(program, rounds, *row)
+    print(f"load at the end {os.getloadavg()[0]:.1f}")
+
+
+main()

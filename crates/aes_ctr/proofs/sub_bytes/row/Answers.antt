@@ -1,5 +1,0 @@
-use Rattle.aes_ctr.proofs.Lookup.{take-table}
-use Rattle.aes_ctr.proofs.sub_bytes.row.Goals as goal
-
-pub returns : goal.returns
-returns c = record { entries = rw c.s_box.ensures.entries (take-table c.args.n c.requires.row) }

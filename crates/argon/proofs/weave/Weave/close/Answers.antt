@@ -1,0 +1,33 @@
+use Rattle.std.proofs.Common.{arith}
+use Rattle.argon.specs.Weave.{weaving_of}
+use Rattle.argon.specs.Weaving.{HasNoneLeft}
+use Rattle.argon.proofs.Weaving.{closed}
+use Rattle.argon.proofs.WorkLeft.{share_closed}
+use Rattle.argon.proofs.Woven.{closed_woven}
+use Rattle.argon.proofs.weave.Weave.close.Goals as goal
+
+pub invariant_of-matrix : goal.invariant_of-matrix
+invariant_of-matrix c =
+    let weaving = c.self.invariant.weaving in
+    let none_left : HasNoneLeft (weaving_of c.self.inside) = rw c.self.view_is c.requires.none_left in
+    record {
+      in_range = weaving.in_range;
+      size = weaving.size;
+      position = let left = weaving.next.left in omega arith;
+      newest = λ started. closed (weaving_of c.self.inside) weaving.newest none_left;
+    }
+
+pub returns-clause-newest : goal.returns-clause-newest
+returns-clause-newest c =
+    let none_left : HasNoneLeft (weaving_of c.self.inside) = rw c.self.view_is c.requires.none_left in
+    closed (weaving_of c.self.inside) c.self.invariant.weaving.newest none_left
+
+pub returns-clause-share : goal.returns-clause-share
+returns-clause-share c =
+    let none_left : HasNoneLeft (weaving_of c.self.inside) = rw c.self.view_is c.requires.none_left in
+    rw (← c.self.view_is) (share_closed (weaving_of c.self.inside) c.self.invariant.weaving none_left)
+
+pub returns-clause-woven : goal.returns-clause-woven
+returns-clause-woven c = λ matrix.
+    let none_left : HasNoneLeft (weaving_of c.self.inside) = rw c.self.view_is c.requires.none_left in
+    rw (← c.self.view_is) (closed_woven matrix (weaving_of c.self.inside) c.self.invariant.weaving none_left)

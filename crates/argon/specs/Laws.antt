@@ -1,0 +1,39 @@
+-- Laws over the definitions, which src/laws.rt proves.
+use Rattle.std.specs.Prelude.{ℕ, ◌+◌, ◌/◌, ◌%◌, ◌<◌, ◌≤◌, nat_lt, List, [], ◌∷◌, slice_index, if◌then◌else◌}
+use Rattle.argon.specs.Counts.{column_work, first_index}
+use Rattle.argon.specs.Filling.{Filling}
+use Rattle.argon.specs.Parameters.{Parameters, segment_len}
+use Rattle.argon.specs.Weaving.{HasNoneLeft, Weaving, after_step, next_index, weaving_from}
+
+-- a block that is made from another one: its segment, and its index there (RFC 9106, 3.4)
+pub record IsMadeByReference (c : Parameters) (pass lane slice index : ℕ) : Type 0 where
+  pub long : 2 ≤ segment_len c
+  pub lanes : lane < c.lanes
+  pub slices : slice < 4
+  pub from : first_index pass slice ≤ index
+  pub to : index < segment_len c
+
+-- the weave where a lane went on, if it had some left
+abbrev pub after_turn : Weaving → ℕ → Weaving
+after_turn weaving lane = if nat_lt 0 (slice_index weaving.left lane) then after_step weaving lane else weaving
+
+-- the block functions that this took
+abbrev pub turn_work : Weaving → ℕ → ℕ
+turn_work weaving lane =
+    if nat_lt 0 (slice_index weaving.left lane)
+    then column_work weaving.matrix.parameters (weaving.matrix.slices_made / 4) (weaving.matrix.slices_made % 4) (next_index weaving lane)
+    else 0
+
+-- the weave after the lanes of a list had their turns, one after another
+abbrev pub after_turns : Weaving → List ℕ → Weaving
+after_turns weaving [] = weaving
+after_turns weaving (lane ∷ order) = after_turns (after_turn weaving lane) order
+
+-- the block functions that these took
+abbrev pub turns_work : Weaving → List ℕ → ℕ
+turns_work weaving [] = 0
+turns_work weaving (lane ∷ order) = turn_work weaving lane + turns_work (after_turn weaving lane) order
+
+-- the list names each lane as often as it has blocks to make in the next slice, or more often
+abbrev pub IsWholeOrder : Filling → List ℕ → Type 0
+IsWholeOrder matrix order = HasNoneLeft (after_turns (weaving_from matrix) order)

@@ -1,0 +1,26 @@
+-- A weave, as contracts see it.
+use Rattle.std.specs.Prelude.{◌≡◌, ℕ, ◌/◌, ◌%◌, ◌<◌, true, length, slice_index_or, []}
+use Rattle.argon.specs.Reference.{HasAddresses}
+use Rattle.argon.specs.Weaving.{IsWeaving, Weaving, next_index}
+use Rattle.argon.specs.declared.weave.Weave.TheInside.{Inside}
+
+-- what the fields of a weave say
+abbrev pub weaving_of : Inside → Weaving
+weaving_of weave = record {
+  matrix = record {
+    parameters = weave.params;
+    is_started = true;
+    first_hash = weave.h0;
+    slices_made = weave.slices_made;
+    blocks = weave.blocks.items;
+  };
+  left = weave.left.items;
+}
+
+-- what holds of the fields: beside the rest, each lane has the address block of its columns
+pub record IsWeave (weave : Inside) : Type 0 where
+  pub weaving : IsWeaving (weaving_of weave)
+  pub addresses_size : length weave.addresses.items ≡ weave.params.lanes
+  pub addresses : (lane : ℕ) → lane < weave.params.lanes
+      → HasAddresses weave.params (weave.slices_made / 4) lane (weave.slices_made % 4)
+      (next_index (weaving_of weave) lane) (slice_index_or weave.addresses.items lane [])

@@ -1,0 +1,86 @@
+-- A matrix of which one slice is being made, block by block, by lanes in any order, as contracts see
+-- it (RFC 9106, 3.4).
+use Rattle.std.specs.Prelude.{◌≡◌, ℕ, ◌+◌, ◌-◌, ◌*◌, ◌/◌, ◌%◌, ◌<◌, ◌≤◌, List, length, max, replicate, set, slice_index}
+use Rattle.std.specs.List.{sum_by}
+use Rattle.argon.specs.Argon2.{matrix_block}
+use Rattle.argon.specs.Buffer.{HoldsNewest}
+use Rattle.argon.specs.Counts.{address_count, address_work, blocks_of_segment}
+use Rattle.argon.specs.Filling.{Filling, HasNext}
+use Rattle.argon.specs.Parameters.{Parameters, block_count, lane_len, segment_len}
+use Rattle.argon.specs.Range.{IsInRange}
+use Rattle.argon.specs.Reference.{is_independent}
+
+-- what contracts see of a weave
+pub record Weaving : Type 0 where
+  -- the matrix before the slice, but with the blocks of the slice that are made so far
+  pub matrix : Filling
+  -- how many blocks of the slice each lane has still to make
+  pub left : List ℕ
+
+-- a weave of which nothing is made
+abbrev pub weaving_from : Filling → Weaving
+weaving_from filling = record {
+  matrix = filling;
+  left = replicate filling.parameters.lanes
+      (blocks_of_segment filling.parameters (filling.slices_made / 4) (filling.slices_made % 4));
+}
+
+-- the index in its segment of the column that a lane makes next
+abbrev pub next_index : Weaving → ℕ → ℕ
+next_index weaving lane = segment_len weaving.matrix.parameters - slice_index weaving.left lane
+
+-- that column
+abbrev pub next_column : Weaving → ℕ → ℕ
+next_column weaving lane =
+    weaving.matrix.slices_made % 4 * segment_len weaving.matrix.parameters + next_index weaving lane
+
+-- its number
+abbrev pub next_number : Weaving → ℕ → ℕ
+next_number weaving lane =
+    weaving.matrix.slices_made / 4 * lane_len weaving.matrix.parameters + next_column weaving lane
+
+-- the columns of the slice that each lane has made hold B's blocks, and every other place holds the
+-- newest version from before the slice, where one exists
+abbrev pub IsNewestByLanes : Weaving → Type 0
+IsNewestByLanes weaving =
+    HoldsNewest weaving.matrix.parameters weaving.matrix.first_hash weaving.matrix.blocks (next_number weaving)
+
+-- the blocks where a lane has made its next one: one place is another
+abbrev pub with_next_block : Weaving → ℕ → List (List ℕ)
+with_next_block weaving lane =
+    set weaving.matrix.blocks (lane * lane_len weaving.matrix.parameters + next_column weaving lane)
+    (matrix_block weaving.matrix.parameters weaving.matrix.first_hash (next_number weaving lane) lane)
+
+-- the weave where a lane has made its next block: that lane has one less left
+abbrev pub after_step : Weaving → ℕ → Weaving
+after_step weaving lane = record {
+  matrix = record weaving.matrix { blocks = with_next_block weaving lane };
+  left = set weaving.left lane (slice_index weaving.left lane - 1);
+}
+
+-- no lane has any block left to make
+pub record HasNoneLeft (weaving : Weaving) : Type 0 where
+  pub none : (lane : ℕ) → lane < weaving.matrix.parameters.lanes → slice_index weaving.left lane ≡ 0
+
+-- the block functions that a lane has still to take, where it has so many blocks of the slice left:
+-- one for each, and those of the address blocks that are not yet made
+abbrev pub lane_work_left : Parameters → ℕ → ℕ → ℕ → ℕ
+lane_work_left parameters pass slice left =
+    left + address_work (is_independent parameters pass slice)
+    (address_count (segment_len parameters) - max 1 (address_count (segment_len parameters - left)))
+
+-- the block functions that are left of the slice's share
+abbrev pub work_left : Weaving → ℕ
+work_left weaving =
+    sum_by (lane_work_left weaving.matrix.parameters (weaving.matrix.slices_made / 4) (weaving.matrix.slices_made % 4))
+    weaving.left
+
+-- what holds of every weave
+pub record IsWeaving (weaving : Weaving) : Type 0 where
+  pub in_range : IsInRange weaving.matrix.parameters
+  pub next : HasNext weaving.matrix
+  pub size : length weaving.matrix.blocks ≡ block_count weaving.matrix.parameters
+  pub lanes : length weaving.left ≡ weaving.matrix.parameters.lanes
+  pub left : (lane : ℕ) → lane < weaving.matrix.parameters.lanes → slice_index weaving.left lane
+      ≤ blocks_of_segment weaving.matrix.parameters (weaving.matrix.slices_made / 4) (weaving.matrix.slices_made % 4)
+  pub newest : IsNewestByLanes weaving

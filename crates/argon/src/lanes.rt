@@ -1,0 +1,59 @@
+//! What each lane holds beside the matrix while a slice is made by lanes in any order.
+ghost use Rattle.std.specs.Prelude.{◌≡◌, IfOk};
+
+use crate::block::Block;
+use crate::params::Params;
+use crate::room::Room;
+use std::alloc::{AllocError, Global};
+use std::marker::Model;
+
+/// A column and an address block of 1,024 bytes for each lane, with which a
+/// [`Weave`](crate::Weave) makes a slice. It serves any number of slices of its parameters, one
+/// after another. Contracts see its parameters.
+#[derive(Drop)]
+pub struct Lanes {
+    pub(crate) params: Params,
+    // How many blocks of the slice each lane has still to make.
+    pub(crate) left: Vec<u32>,
+    // The address block that the words J of each lane stand in, where the addressing is
+    // independent.
+    pub(crate) addresses: Vec<Block>,
+}
+
+impl Model for Lanes {
+    ghost use Rattle.argon.specs.Parameters.{Parameters};
+
+    ghost Value = { Parameters };
+
+    ghost use Rattle.argon.specs.Lanes.{IsForLanes};
+
+    ghost view = { λ lanes. lanes.params };
+
+    ghost invariant = { IsForLanes };
+}
+
+/// Lanes whose memory comes from `room`.
+pub(crate) fn reserve_from<R: Room>(room: &mut R, params: &Params) -> Result<Lanes, AllocError>
+    ensures parameters { IfOk result (λ lanes. lanes ≡ params.now) }
+{
+    let count = params.lanes() as usize;
+    let left = room.numbers(count)?;
+    let addresses = room.blocks(count)?;
+    Ok(Lanes {
+        params: params.copied(),
+        left,
+        addresses,
+    })
+}
+
+impl Lanes {
+    /// Takes the memory for the lanes of these parameters: for each a number of four bytes and a
+    /// block of 1,024 bytes, in two requests. `AllocError` where one is refused, and then nothing is
+    /// held.
+    pub fn reserve(alloc: Global, params: &Params) -> Result<Lanes, AllocError>
+        ensures parameters { IfOk result (λ lanes. lanes ≡ params.now) }
+    {
+        let mut room = alloc;
+        reserve_from(&mut room, params)
+    }
+}

@@ -1,0 +1,79 @@
+//! Texts of version 0x10, with the version and without it.
+use super::reference_texts::KNOWN;
+use crate::{Encoded, verify};
+use argon::Kind;
+use std::test::Fail;
+
+/// What `printf password | argon2 somesalt -t 2 -m 8 -v 10 -e` of the reference program writes, as it
+/// was written before texts had versions.
+pub const SHORT: &[u8] =
+    b"$argon2i$m=256,t=2,p=1$c29tZXNhbHQ$/U3YPXYsSb3q9XxHvc0MLxur+GP960kN9j7emXX8zwY";
+
+// Texts of the reference program, as Debian packs it (argon2 0~20171227), their passwords being
+// `password`. Each stands in two parts, between which the version may stand; the words are beside.
+const ROWS: [(Kind, &str, &str); 6] = [
+    // somesalt -t 2 -m 8 -v 10 -e
+    (
+        Kind::I,
+        "$argon2i",
+        "$m=256,t=2,p=1$c29tZXNhbHQ$/U3YPXYsSb3q9XxHvc0MLxur+GP960kN9j7emXX8zwY",
+    ),
+    // somesalt -d -t 1 -k 8 -l 4 -v 10 -e
+    (Kind::D, "$argon2d", "$m=8,t=1,p=1$c29tZXNhbHQ$lnZLpg"),
+    // saltsalt9 -i -t 2 -k 16 -p 2 -l 5 -v 10 -e
+    (Kind::I, "$argon2i", "$m=16,t=2,p=2$c2FsdHNhbHQ5$ScXHvOA"),
+    // 0123456789 -id -t 3 -k 64 -p 4 -l 6 -v 10 -e
+    (
+        Kind::Id,
+        "$argon2id",
+        "$m=64,t=3,p=4$MDEyMzQ1Njc4OQ$l0s3pn7A",
+    ),
+    // somesalt -i -t 3 -k 37 -p 3 -l 16 -v 10 -e
+    (
+        Kind::I,
+        "$argon2i",
+        "$m=37,t=3,p=3$c29tZXNhbHQ$3YWS19VWaem1d5Y3iB7IJA",
+    ),
+    // somesalt -d -t 2 -k 40 -v 10 -e
+    (
+        Kind::D,
+        "$argon2d",
+        "$m=40,t=2,p=1$c29tZXNhbHQ$/pFMcWoVk6sy4PzdA9MUM8XoaRr5a93xkqdxMenijTY",
+    ),
+];
+
+// Both texts are read as one value, which is written with its version, and a password is tested.
+#[test]
+fn reads_both_texts_and_writes_one(rt: HostRuntime) -> Result<(), Fail> {
+    let alloc = rt.alloc();
+    for (kind, name, rest) in ROWS {
+        let mut whole = name.as_bytes().to_vec(alloc)?;
+        whole.extend_from_slice(b"$v=16")?;
+        whole.extend_from_slice(rest.as_bytes())?;
+        let mut short = name.as_bytes().to_vec(alloc)?;
+        short.extend_from_slice(rest.as_bytes())?;
+        for text in [&whole, &short] {
+            let encoded = Encoded::read(alloc, text)?;
+            assert!(rt; encoded.kind == kind, "{rest}");
+            assert_eq!(rt; encoded.version, 0x10, "{rest}");
+            let mut out = Vec::new(alloc);
+            encoded.write(&mut out)?;
+            assert_eq!(rt; out.as_slice(), whole.as_slice(), "{rest}");
+            assert!(rt; verify(alloc, &encoded, b"password", 256, 526)?, "{rest}");
+            assert!(rt; !verify(alloc, &encoded, b"Password", 256, 526)?, "{rest}");
+        }
+    }
+    Ok(())
+}
+
+// A text of version 0x13 that lost its version is a text of version 0x10, and its tag is another.
+#[test]
+fn text_that_lost_its_version(rt: HostRuntime) -> Result<(), Fail> {
+    let alloc = rt.alloc();
+    let mut text = KNOWN[..8].to_vec(alloc)?;
+    text.extend_from_slice(&KNOWN[13..])?;
+    let encoded = Encoded::read(alloc, &text)?;
+    assert_eq!(rt; encoded.version, 0x10);
+    assert!(rt; !verify(alloc, &encoded, b"password", 256, 526)?);
+    Ok(())
+}

@@ -1,0 +1,17 @@
+-- What contracts see of the secret source that a host was asked for.
+use Rattle.std.specs.Prelude.{ℕ, List, [], ◌∷◌}
+use Rattle.host.specs.Seen.{SecretSource, Text, env, file, stdin_once}
+use Rattle.host.specs.declared.asked.Name.{Name, End, Byte'}
+use Rattle.host.specs.declared.asked.Asked.{Asked}
+use Rattle.host.specs.declared.asked.Asked.TheVariants as asked
+
+-- the bytes of a name; what is held behind a byte has none of its own, and is the rest of the name
+abbrev pub name_bytes : Name → Text
+name_bytes End = []
+name_bytes (Byte' byte held rest) = byte ∷ name_bytes rest
+
+-- the source
+abbrev pub asked_source : Asked → SecretSource
+asked_source asked.StdinOnce = stdin_once
+asked_source (asked.Env name) = env (name_bytes name)
+asked_source (asked.File name) = file (name_bytes name)

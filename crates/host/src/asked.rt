@@ -1,0 +1,55 @@
+//! The secret source that a host was asked for, which a host keeps without asking for memory.
+ghost use Rattle.std.specs.Prelude.{◌≡◌};
+ghost use Rattle.host.specs.Asked.{asked_source, name_bytes};
+ghost use Rattle.host.specs.Secret.{source_of};
+
+use crate::host::Source;
+use std::snapshot::Snapshot;
+
+/// A name, of which contracts alone see all bytes: behind the first there is nothing at run time.
+#[derive(Drop)]
+pub enum Name {
+    /// No byte.
+    End,
+    /// A byte, and the name behind it.
+    Byte(u8, Snapshot<Name>),
+}
+
+/// A secret source, as it was asked for. Its name takes no memory, so a call can say which source it
+/// asked even where it fails.
+#[derive(Drop)]
+pub enum Asked {
+    /// All of standard input.
+    StdinOnce,
+    /// The environment variable of this name.
+    Env(Name),
+    /// The file of this name.
+    File(Name),
+}
+
+// The name of this text, from its last byte to its first.
+fn name_of(text: &str) -> Name
+    ensures bytes { name_bytes result ≡ text.now }
+{
+    let bytes = text.as_bytes();
+    let mut name = Name::End;
+    let mut at = bytes.len();
+    while at > 0 {
+        at -= 1;
+        name = Name::Byte(bytes[at], Snapshot::of(&name));
+    }
+    name
+}
+
+impl Asked {
+    /// The source that is asked for.
+    pub fn of(source: &Source<'_>) -> Asked
+        ensures source { asked_source result ≡ source_of source.now }
+    {
+        match source {
+            Source::StdinOnce => Asked::StdinOnce,
+            Source::Env(name) => Asked::Env(name_of(name)),
+            Source::File(name) => Asked::File(name_of(name)),
+        }
+    }
+}

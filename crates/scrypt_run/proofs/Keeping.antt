@@ -1,0 +1,104 @@
+-- The ends of a run do not depend on S, where its costs are admitted.
+use Rattle.std.proofs.Common.{◌≡◌, inl, inr, ℕ, List, Option, Some, None, option_map, refl, ap, sym, subst, ◌∙◌}
+use Rattle.std.specs.Prelude.{if◌then◌else◌}
+use Rattle.std.specs.Option.{option_or}
+use Rattle.romix.specs.Allowance.{Allowance}
+use Rattle.encfile.specs.Front.{FrontRefusal, costs_refusal, format_refusal, front_refusal, has_right_header_code, limits_refusal}
+use Rattle.encfile.specs.Front.FrontRefusal.{OtherPassphrase}
+use Rattle.encfile.specs.Header.{costs_of}
+use Rattle.encfile.proofs.Fronts.{limits_refusal-costs, limits_refusal-format}
+use Rattle.host.specs.Seen.{Seen}
+use Rattle.scrypt_run.specs.Decrypting.{DecryptRefused, DecryptSucceeds}
+use Rattle.scrypt_run.specs.Encrypting.{EncryptRefused, EncryptSucceeds}
+use Rattle.scrypt_run.specs.Laws.{AdmitsCosts, with_keep}
+use Rattle.scrypt_run.specs.Refusal.{refusal_of}
+use Rattle.scrypt_run.specs.Request.{Encryption, Request, Task, allowance_of, decrypt, encrypt, inspect}
+use Rattle.scrypt_run.specs.Run.{RequestRefused, RequestSucceeds}
+use Rattle.scrypt_run.specs.declared.refusal.ScryptRefusal.{ScryptRefusal}
+use Rattle.scrypt_run.proofs.Openings.{none_refuses}
+
+-- ---- what refuses a file
+
+by_format : (file : List ℕ) (a b : Allowance) (told : Option FrontRefusal) → format_refusal file ≡ told → costs_refusal (costs_of file) a ≡ None
+    → costs_refusal (costs_of file) b ≡ None → limits_refusal file a ≡ limits_refusal file b
+by_format file a b None valid ha hb = limits_refusal-costs file a valid ∙ ha ∙ sym (limits_refusal-costs file b valid ∙ hb)
+by_format file a b (Some r) told ha hb = limits_refusal-format file a r told ∙ sym (limits_refusal-format file b r told)
+
+-- where both admit its costs
+same_limits : (file : List ℕ) (a b : Allowance) → costs_refusal (costs_of file) a ≡ None → costs_refusal (costs_of file) b ≡ None
+    → limits_refusal file a ≡ limits_refusal file b
+same_limits file a b ha hb = by_format file a b (format_refusal file) refl ha hb
+
+same_front : (file : List ℕ) (a b : Allowance) (passphrase : List ℕ) → limits_refusal file a ≡ limits_refusal file b
+    → front_refusal file a passphrase ≡ front_refusal file b passphrase
+unfolding front_refusal
+same_front file a b passphrase same =
+    ap (λ first. option_or first (if has_right_header_code file passphrase then None else Some OtherPassphrase)) same
+
+-- ---- the runs
+
+abbrev encryption_with : ℕ → Encryption → Encryption
+encryption_with keep asked = let task : Task = record (asked.task) { keep = keep } in record asked { task = task }
+
+abbrev task_with : ℕ → Task → Task
+task_with keep task = record task { keep = keep }
+
+encrypted_with : (asked : Encryption) (keep : ℕ) (before after : Seen) → AdmitsCosts (encrypt (encryption_with keep asked)) before
+    → EncryptSucceeds asked before after → EncryptSucceeds (encryption_with keep asked) before after
+encrypted_with asked keep before after admits done = record {
+  admitted = admits;
+  passphrase = done.passphrase;
+  given = done.given;
+  encrypted = done.encrypted;
+}
+
+decrypted_with : (task : Task) (keep : ℕ) (before after : Seen)
+    → limits_refusal before.input (allowance_of task) ≡ limits_refusal before.input (allowance_of (task_with keep task))
+    → DecryptSucceeds task before after → DecryptSucceeds (task_with keep task) before after
+decrypted_with task keep before after same done = record {
+  passphrase = done.passphrase;
+  given = done.given;
+  passes = sym (same_front before.input (allowance_of task) (allowance_of (task_with keep task)) done.passphrase same) ∙ done.passes;
+  decrypted = done.decrypted;
+}
+
+pub succeeds_with_any : (request : Request) (keep : ℕ) (before after : Seen) → AdmitsCosts request before → AdmitsCosts (with_keep keep request) before
+    → RequestSucceeds request before after → RequestSucceeds (with_keep keep request) before after
+succeeds_with_any (encrypt asked) keep before after one other done = encrypted_with asked keep before after other done
+succeeds_with_any (decrypt task) keep before after one other done =
+    decrypted_with task keep before after (same_limits before.input (allowance_of task) (allowance_of (task_with keep task)) one other) done
+succeeds_with_any (inspect infile) keep before after one other done = done
+
+encrypt_refused_with : (asked : Encryption) (keep : ℕ) (before after : Seen) (r : ScryptRefusal) → AdmitsCosts (encrypt asked) before
+    → AdmitsCosts (encrypt (encryption_with keep asked)) before → EncryptRefused r asked before after
+    → EncryptRefused r (encryption_with keep asked) before after
+encrypt_refused_with asked keep before after r one other (inl (same, inl told)) =
+    absurd (none_refuses (costs_refusal asked.costs (allowance_of asked.task)) r one told)
+encrypt_refused_with asked keep before after r one other (inl (same, inr failed)) = inl (same, inr (other, failed.1))
+encrypt_refused_with asked keep before after r one other (inr (inl starting)) =
+    inr (inl (record { admitted = other; refused = starting.refused; unopened = starting.unopened }))
+encrypt_refused_with asked keep before after r one other (inr (inr ends)) =
+    inr (inr (record { admitted = other; passphrase = ends.passphrase; given = ends.given; refused = ends.refused }))
+
+decrypt_refused_with : (task : Task) (keep : ℕ) (before after : Seen) (r : ScryptRefusal)
+    → limits_refusal before.input (allowance_of task) ≡ limits_refusal before.input (allowance_of (task_with keep task))
+    → DecryptRefused r task before after → DecryptRefused r (task_with keep task) before after
+decrypt_refused_with task keep before after r same (inl (inl failed)) = inl (inl failed)
+decrypt_refused_with task keep before after r same (inl (inr told)) =
+    inl (inr (subst (λ first. option_map refusal_of first ≡ Some r) same told.0, told.1))
+decrypt_refused_with task keep before after r same (inr (inl opening)) =
+    inr (inl (record { checked = sym same ∙ opening.checked; refused = opening.refused; unopened = opening.unopened }))
+decrypt_refused_with task keep before after r same (inr (inr ends)) =
+    inr (inr (record {
+      passphrase = ends.passphrase;
+      given = ends.given;
+      passes = sym (same_front before.input (allowance_of task) (allowance_of (task_with keep task)) ends.passphrase same) ∙ ends.passes;
+      refused = ends.refused;
+    }))
+
+pub refused_with_any : (request : Request) (keep : ℕ) (before after : Seen) (r : ScryptRefusal) → AdmitsCosts request before
+    → AdmitsCosts (with_keep keep request) before → RequestRefused r request before after → RequestRefused r (with_keep keep request) before after
+refused_with_any (encrypt asked) keep before after r one other refused = encrypt_refused_with asked keep before after r one other refused
+refused_with_any (decrypt task) keep before after r one other refused =
+    decrypt_refused_with task keep before after r (same_limits before.input (allowance_of task) (allowance_of (task_with keep task)) one other) refused
+refused_with_any (inspect infile) keep before after r one other refused = refused

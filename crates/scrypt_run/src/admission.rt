@@ -1,0 +1,48 @@
+//! The costs of a derivation, held against what a run allows, and the memory that they take.
+ghost use Rattle.std.specs.Prelude.{◌≡◌, ◌≤◌, ◌^◌, Some, None, true, option_map, IfOk, IfErr, OnOk};
+ghost use Rattle.romix.specs.SparseCosts.{cores_bound, is_keep};
+ghost use Rattle.encfile.specs.Front.{costs_refusal};
+ghost use Rattle.scrypt_run.specs.Refusal.{RaisesNoCount, refusal_of};
+ghost use Rattle.scrypt_run.specs.Request.{IsAdmitted, allowance_of, task_seen};
+
+use crate::refusal::ScryptRefusal;
+use crate::request::Task;
+use romix::{CostFault, Costs, Limits, Sparse, Workspace};
+use std::alloc::{AllocError, Global};
+
+/// The costs over a table of which every S-th row is kept, if S is at most N and the limits admit
+/// them; or the first refusal that holds.
+pub fn admit(costs: &Costs, task: &Task<'_>) -> Result<Sparse, ScryptRefusal>
+    requires power { is_keep task.now.keep ≡ true }
+    ensures costs { IfOk result (λ sparse. sparse.costs ≡ costs.now) }
+    ensures keep { IfOk result (λ sparse. sparse.keep ≡ task.now.keep) }
+    ensures admitted { IfOk result (λ sparse. IsAdmitted sparse task.now.limits) }
+    ensures passes { OnOk result
+        (costs_refusal costs.now (allowance_of (task_seen task.now)) ≡ None) }
+    ensures refused { IfErr result (λ r. option_map refusal_of
+        (costs_refusal costs.now (allowance_of (task_seen task.now))) ≡ Some r) }
+    ensures uncounted { IfErr result (λ r. RaisesNoCount r) }
+{
+    let sparse = match Sparse::new(costs, task.keep) {
+        Ok(sparse) => sparse,
+        Err(CostFault::KeepAboveN) => return Err(ScryptRefusal::KeepAboveN),
+        Err(_) => unreachable!(),
+    };
+    match sparse.admitted(&task.limits) {
+        Ok(()) => Ok(sparse),
+        Err(CostFault::Memory) => Err(ScryptRefusal::MemoryLimit),
+        Err(CostFault::Work) => Err(ScryptRefusal::WorkLimit),
+        Err(_) => unreachable!(),
+    }
+}
+
+/// Takes the memory of a derivation of costs that the limits of the request admit: here and nowhere
+/// else, so never before the limits were tested.
+pub fn reserve(alloc: Global, sparse: &Sparse, limits: &Limits) -> Result<Workspace, AllocError>
+    requires allowed { limits.now.max_bytes ≤ 2 ^ 40 }
+    requires admitted { IsAdmitted sparse.now limits.now }
+    ensures same { IfOk result (λ w. w.sparse ≡ sparse.now) }
+    ensures work { IfOk result (λ w. cores_bound w.sparse ≤ limits.now.max_ops) }
+{
+    Workspace::reserve(alloc, sparse)
+}

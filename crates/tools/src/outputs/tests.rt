@@ -1,0 +1,90 @@
+//! Which opened outputs are emptied, and which are faults.
+
+ghost use Rattle.std.specs.Prelude.{None};
+
+use super::*;
+
+// A file of four bytes, which is this one, and which may fail to tell it or to be emptied.
+#[derive(Drop)]
+struct FourBytes {
+    identity: Result<Option<FileIdentity>, HostFault>,
+    emptying: Result<(), HostFault>,
+    length: usize,
+}
+
+impl Write for FourBytes {
+    fn write(&mut self, buf: &[u8]) -> io::Result<usize> {
+        Ok(buf.len())
+    }
+
+    fn flush(&mut self) -> io::Result<()> {
+        Ok(())
+    }
+}
+
+impl Writable for FourBytes {
+    ghost known = { λ _. None };
+
+    fn identity(&self) -> Result<Option<FileIdentity>, HostFault> {
+        self.identity
+    }
+
+    fn empty(&mut self) -> Result<(), HostFault> {
+        if self.emptying.is_ok() {
+            self.length = 0;
+        }
+        self.emptying
+    }
+}
+
+#[test]
+fn files_that_are_read_stay(rt: HostRuntime) {
+    let this = FileIdentity {
+        device: 1,
+        inode: 2,
+    };
+    let on_another_device = FileIdentity {
+        device: 3,
+        inode: 2,
+    };
+    let another = FileIdentity {
+        device: 1,
+        inode: 4,
+    };
+    for (input, secret, identity, emptying, outcome, length) in [
+        (None, None, Ok(Some(this)), Ok(()), Ok(()), 0),
+        (
+            Some(another),
+            Some(on_another_device),
+            Ok(Some(this)),
+            Ok(()),
+            Ok(()),
+            0,
+        ),
+        (Some(this), None, Ok(Some(this)), Ok(()), Err(HostFault), 4),
+        (None, Some(this), Ok(Some(this)), Ok(()), Err(HostFault), 4),
+        (
+            None,
+            None,
+            Ok(Some(this)),
+            Err(HostFault),
+            Err(HostFault),
+            4,
+        ),
+        (None, None, Ok(None), Ok(()), Ok(()), 4),
+        (None, None, Err(HostFault), Ok(()), Err(HostFault), 4),
+    ] {
+        let mut file = FourBytes {
+            identity,
+            emptying,
+            length: 4,
+        };
+        let read = FilesRead { input, secret };
+        assert_eq!(rt;
+            empty_unless_read(&mut file, &read),
+            outcome,
+            "{identity:?} {read:?}"
+        );
+        assert_eq!(rt; file.length, length, "{identity:?} {read:?}");
+    }
+}

@@ -1,0 +1,130 @@
+/* Loaded before a program, this stands between it and the system: it refuses requests for memory, and fails, interrupts or cuts
+   short a call that opens, looks at, reads, writes or empties a file. Variables say which:
+       HOSTILE_MEMORY=FIRST-LAST    the requests for memory with these numbers, from 1, are refused
+       HOSTILE_CALLS=FIRST-LAST     the calls with these numbers, from 1,
+       HOSTILE_WAY=fails            fail with EIO,
+       HOSTILE_WAY=interrupted      or with EINTR,
+       HOSTILE_WAY=short            or read or write one byte, where they read or write
+       HOSTILE_LOG=DESCRIPTOR       a line for each call and the count of requests for memory go there
+   What the loader does before `main` is not counted. */
+#define _GNU_SOURCE
+#include <errno.h>
+#include <fcntl.h>
+#include <stdarg.h>
+#include <stdio.h>
+#include <stdlib.h>
+#include <string.h>
+#include <sys/stat.h>
+#include <sys/syscall.h>
+#include <unistd.h>
+
+void *__libc_malloc(size_t);
+void *__libc_calloc(size_t, size_t);
+void *__libc_realloc(void *, size_t);
+
+struct range {
+    long first, last;
+};
+
+enum way { FAILS, INTERRUPTED, SHORT };
+
+static struct range refused_requests, bad_calls;
+static enum way way;
+static long requests, calls;
+static int log_descriptor = -1;
+static char names[16][64] = {"standard input", "standard output", "standard error"};
+
+static struct range range_of(const char *variable) {
+    struct range range = {0, 0};
+    const char *text = getenv(variable);
+    if (text && sscanf(text, "%ld-%ld", &range.first, &range.last) != 2)
+        _exit(99);
+    return range;
+}
+
+__attribute__((constructor)) static void begin(void) {
+    const char *text = getenv("HOSTILE_WAY");
+    refused_requests = range_of("HOSTILE_MEMORY");
+    bad_calls = range_of("HOSTILE_CALLS");
+    if (text)
+        way = !strcmp(text, "short") ? SHORT : !strcmp(text, "interrupted") ? INTERRUPTED : FAILS;
+    text = getenv("HOSTILE_LOG");
+    if (text)
+        log_descriptor = atoi(text);
+    requests = calls = 0;
+}
+
+static int is_within(struct range range, long number) { return range.first <= number && number <= range.last; }
+
+void *malloc(size_t size) { return is_within(refused_requests, ++requests) ? NULL : __libc_malloc(size); }
+
+void *calloc(size_t count, size_t size) {
+    return is_within(refused_requests, ++requests) ? NULL : __libc_calloc(count, size);
+}
+
+void *realloc(void *old, size_t size) {
+    return is_within(refused_requests, ++requests) ? NULL : __libc_realloc(old, size);
+}
+
+static void tell(const char *call, const char *name) {
+    char line[128];
+    int length = snprintf(line, sizeof line, "%s %s\n", call, name);
+    if (log_descriptor >= 0)
+        syscall(SYS_write, log_descriptor, line, length);
+}
+
+/* Whether this call is made: if not, errno says why. */
+static int goes_on(const char *call, const char *name) {
+    tell(call, name);
+    if (!is_within(bad_calls, ++calls) || way == SHORT)
+        return 1;
+    errno = way == FAILS ? EIO : EINTR;
+    return 0;
+}
+
+static const char *name_of(int descriptor) {
+    return descriptor < 0 || descriptor >= 16 ? "a file" : names[descriptor];
+}
+
+static size_t cut(size_t size) { return way == SHORT && is_within(bad_calls, calls) && size > 1 ? 1 : size; }
+
+int open(const char *path, int flags, ...) {
+    va_list rest;
+    va_start(rest, flags);
+    mode_t mode = flags & O_CREAT ? va_arg(rest, mode_t) : 0;
+    va_end(rest);
+    if (!goes_on("open", path))
+        return -1;
+    int descriptor = syscall(SYS_openat, AT_FDCWD, path, flags, mode);
+    if (descriptor >= 0 && descriptor < 16)
+        snprintf(names[descriptor], sizeof names[descriptor], "%s", path);
+    return descriptor;
+}
+
+ssize_t read(int descriptor, void *bytes, size_t size) {
+    return goes_on("read", name_of(descriptor)) ? syscall(SYS_read, descriptor, bytes, cut(size)) : -1;
+}
+
+ssize_t write(int descriptor, const void *bytes, size_t size) {
+    return goes_on("write", name_of(descriptor)) ? syscall(SYS_write, descriptor, bytes, cut(size)) : -1;
+}
+
+int statx(int folder, const char *path, int flags, unsigned mask, struct statx *found) {
+    if (!goes_on("look at", *path ? path : name_of(folder)))
+        return -1;
+    return syscall(SYS_statx, folder, path, flags, mask, found);
+}
+
+static int emptied(int descriptor, off_t length) {
+    return goes_on("empty", name_of(descriptor)) ? syscall(SYS_ftruncate, descriptor, length) : -1;
+}
+
+int ftruncate(int descriptor, off_t length) { return emptied(descriptor, length); }
+
+int ftruncate64(int descriptor, off_t length) { return emptied(descriptor, length); }
+
+__attribute__((destructor)) static void end(void) {
+    char text[32];
+    snprintf(text, sizeof text, "%ld", requests);
+    tell("memory", text);
+}

@@ -1,0 +1,90 @@
+"""What the tests of the built scrypt share: files and what opens them, and the lines of its refusals.
+
+The two short files were made by Python's hashlib.scrypt and hmac with OpenSSL's aes-256-ctr, and Debian's scrypt (package
+scrypt, version 1.3.1) opens them.
+"""
+import hashlib
+
+USAGE = b"scrypt: usage: scrypt enc|dec|info [options] infile [outfile]\n"
+SALT = bytes(range(32)).hex()
+# The passphrase is pw, N is 16, r and p are 1, the salt is SALT; the text is empty, or hello.
+HEADER = bytes.fromhex(
+    "73637279707400040000000100000001000102030405060708090a0b0c0d0e0f101112131415161718191a1b1c1d1e1f"
+    "1d82fc58a29c853312a1e6a48fe98f8b051b8b6444079bef986b3d3c6d1df86cf5c61735c73ccf3a91c00c4042fac38a"
+)
+F0 = HEADER + bytes.fromhex("5bb3efa8e3ab1f98f2a734df4bdefbb608eb96705dc5ac5de43edab725b2541a")
+F5 = HEADER + bytes.fromhex("a3ca5b5806faf691951296a9925e754d1b00d8f6acaa79868e221cd3c40efb4bdd9ffb35b8")
+
+COSTS = "--logN 4 -r 1 -p 1"
+FIXED = f"{COSTS} --salt {SALT}"
+FROM_PW = "--passphrase file:pw"
+
+
+def with_check(front):
+    """The front of a header with the right checksum of its 48 bytes."""
+    return front + hashlib.sha256(front).digest()[:16]
+
+
+def header_of(log_n, r, p):
+    front = b"scrypt\0" + bytes([log_n]) + r.to_bytes(4, "big") + p.to_bytes(4, "big") + bytes(range(32))
+    return with_check(front) + bytes(32)
+
+
+# What lies in the folder in which the program runs.
+FILES = {
+    "empty": b"",
+    "hello": b"hello",
+    "F0": F0,
+    "F5": F5,
+    "F5-longer": F5 + b"\0",
+    "F5-cut-130": F5[:130],
+    "F5-cut-127": F5[:127],
+    "F5-cut-95": F5[:95],
+    "F5-other-magic": b"S" + F5[1:],
+    "F5-version-1": F5[:6] + b"\1" + F5[7:],
+    "F5-other-salt": F5[:20] + b"\0" + F5[21:],
+    "F5-other-code": F5[:-1] + b"\0",
+    "huge": header_of(63, 1, 1),
+    "no-r": header_of(4, 0, 1),
+    "no-log-n": header_of(0, 1, 1),
+    "4-gib-and-more": header_of(23, 8, 1),
+    "much-work": header_of(20, 1, 4096),
+    "pw": b"pw\n",
+    "pw-cr-lf": b"pw\r\nsecond line",
+    "pw-alone": b"pw",
+    "other-pw": b"pv\n",
+    "pw-bytes": b"\xff\x01\x80pw\n",
+    "pw-2048": b"p" * 2048,
+    "pw-2049": b"p" * 2049,
+    "pw-2048-line": b"p" * 2048 + b"\n" + b"q" * 3000,
+}
+
+# No text in UTF-8.
+PASSPHRASE_OF_BYTES = b"\xff\x01\x80pw"
+
+# The variables that it sees beside PATH.
+ENVIRONMENT = {
+    "PW": "pw", "PW_LINE": "pw\nmore", "PW_LONG": "pw\n" + "x" * 5000, "PW_2049": "p" * 2049, "PW_BYTES": PASSPHRASE_OF_BYTES
+}
+
+LINES = {
+    "S1": USAGE,
+    "S2a": b"scrypt: --logN, -r and -p are given together or not at all\n",
+    "S2b": b"scrypt: costs out of range\n",
+    "S2c": b"scrypt: passphrase and input cannot both come from standard input\n",
+    "S2d": b"scrypt: infile and outfile have the same name\n",
+    "S3": b"scrypt: one passphrase source is needed: -P, dev:stdin-once, env:NAME or file:NAME\n",
+    "S4a": b"scrypt: passphrase cannot be read\n",
+    "S4b": b"scrypt: passphrase is longer than 2048 bytes\n",
+    "S5a": b"scrypt: --salt takes 64 hexadecimal digits\n",
+    "S6": b"scrypt: not valid scrypt data\n",
+    "S7": b"scrypt: unsupported format version\n",
+    "S8": b"scrypt: more memory needed than -M allows\n",
+    "S9": b"scrypt: more work needed than --maxops allows\n",
+    "S10": b"scrypt: wrong passphrase\n",
+    "S11": b"scrypt: input is damaged or cut short\n",
+    "S12": b"scrypt: input cannot be opened or read\n",
+    "S13": b"scrypt: output cannot be opened or written\n",
+    "S16a": b"scrypt: --keep takes a power of two from 1 to 1024\n",
+    "S16b": b"scrypt: --keep is larger than N\n",
+}
