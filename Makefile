@@ -34,6 +34,7 @@ test: $(filter bin/x86-64-v3/%,$(wildcard $(LEVELS:%=bin/%/scrypt))) ## the gate
 	@install -D -m 755 crates/argon_tool/out/argon_tool bin/x86-64-v2/argon2
 	@install -D -m 755 crates/scrypt_tool/out/scrypt_tool bin/x86-64-v2/scrypt
 	@test -f bin/level && test "$$(cat bin/level)" != x86-64-v2 || packaging/chosen.sh x86-64-v2
+	tests/wrong_bodies.py
 	tests/sources.sh
 	tests/documents.py
 	@for level in $(LEVELS); do test ! -x bin/$$level/scrypt || tests/outside.sh bin/$$level || exit 1; done

@@ -4,7 +4,8 @@
     tests/changed.py [COMMIT]
 
 What differs from the commit (HEAD), files that are not committed too, names the crates that changed. Lowest first,
-each of them is checked and tested, and each crate that stands on one of them is checked. No wrong body is tried.
+each of them is checked and tested, and each crate that stands on one of them is checked. No wrong body is tried; that
+each replaces what stands in the sources once is seen.
 """
 import pathlib
 import subprocess
@@ -51,7 +52,8 @@ def run(words, folder):
 
 def main():
     paths = [pathlib.PurePath(line).parts for line in changed_files(sys.argv[1] if len(sys.argv) > 1 else "HEAD")]
-    changed = {parts[1] for parts in paths if parts[0] == "crates" and len(parts) > 2 and parts[2] != "must-fail"}
+    inside = [parts for parts in paths if parts[0] == "crates" and len(parts) > 2]
+    changed = {name for _, name, part, *_ in inside if part not in ("must-fail", "wrong-bodies")}
     uses = below()
     touched = set(changed)
     for name in in_order(uses):
@@ -61,6 +63,7 @@ def main():
             run(["rt", "check"], TOP / "crates" / name)
         if name in changed:
             run(["rt", "test"], TOP / "crates" / name)
+    run(["tests/wrong_bodies.py", "--read"], TOP)
     run(["tests/sources.sh"], TOP)
     run(["tests/documents.py"], TOP)
 
