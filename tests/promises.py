@@ -63,7 +63,7 @@ def carriers(crate, promise, cell, wrong):
     found = [hit for name in IN_BACKTICKS.findall(promise) for hit in calls_named(name, crate)]
     for part in re.sub(r" \(.*?\)|its clauses, and those of |the clauses of ", "", cell).split("; "):
         law = re.match("laws?: ", part)
-        named, _, clauses = part.rpartition(": ") if "`: " in part else ("", "", part)
+        named, _, clauses = part.rpartition(": ") if ": `" in part else ("", "", part)
         if law or "::" in clauses:
             named, clauses = part, ""
         if calls := IN_BACKTICKS.findall(named):
