@@ -11,7 +11,7 @@ CPU ?= $(lastword $(LEVELS))
 
 .DELETE_ON_ERROR:
 .NOTPARALLEL:
-.PHONY: help run check test install uninstall deb bench clean
+.PHONY: help run check test map install uninstall deb bench clean
 
 help: ## prints these lines
 	@sed -n 's/^\([a-z]*\):.*## /make \1\t/p' Makefile | expand -t 16
@@ -38,6 +38,9 @@ test: $(filter bin/x86-64-v3/%,$(wildcard $(LEVELS:%=bin/%/scrypt))) ## the gate
 	tests/sources.sh
 	tests/documents.py
 	@for level in $(LEVELS); do test ! -x bin/$$level/scrypt || tests/outside.sh bin/$$level || exit 1; done
+
+map: ## draws docs/proof-map.svg anew: which promise stands on what
+	tests/proof_map.py docs/proof-map.svg
 
 install: | bin/argon2 bin/scrypt ## puts what was built, with pages, completions and documents, below PREFIX
 	@packaging/install.sh install '$(DESTDIR)$(PREFIX)' bin

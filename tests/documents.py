@@ -1,6 +1,6 @@
 #!/usr/bin/env python3
-"""Whether what the documents name is there: files, definitions, tests, clauses and calls; and whether the manual pages tell
-every message, the completions every option, and all of them one version.
+"""Whether what the documents name is there: files, definitions, tests, clauses and calls; whether docs/proof-map.svg is drawn
+from them as they are; and whether the manual pages tell every message, the completions every option, and all of them one version.
 
 Reads README.md and the other pages, docs/ and man/ against crates/, says each name that it does not find, and fails where there
 is one.
@@ -10,6 +10,8 @@ import re
 import shutil
 import subprocess
 import sys
+
+from proof_map import drawn
 
 TOP = pathlib.Path(__file__).resolve().parent.parent
 PAGES = sorted(TOP.glob("*.md"))
@@ -37,14 +39,6 @@ SPECS = {crate: "\n".join(texts(crate, "specs", ".antt").values()) for crate in 
 
 def is_function(name, crate):
     return re.search(rf"\bfn {re.escape(name)}\b", SOURCES[crate]) is not None
-
-
-def is_clause(name, crate):
-    return re.search(rf"\b(ensures|requires) {re.escape(name)} \{{", SOURCES[crate]) is not None
-
-
-def is_type(name):
-    return any(re.search(rf"\b(?:struct|enum|trait) {re.escape(name)}\b", source) for source in SOURCES.values())
 
 
 def is_definition(name, text):
@@ -93,15 +87,13 @@ for heading, cells in tables("EXAMPLES.md"):
             for name in named:
                 expect(any(is_function(name, crate) for crate in owner), "EXAMPLES.md", f"row {cells[0]}: {name}")
 
-# Clauses, calls and definitions that carry a promise.
+# Calls and clauses that carry a promise, and the picture of what they stand on; the definitions of each run.
+picture, wrong = drawn()
+missing += wrong
+if picture != (TOP / "docs/proof-map.svg").read_text(encoding="utf-8"):
+    missing.append("docs/proof-map.svg as it would be drawn now (make map)")
 for heading, cells in tables("PROMISES.md"):
-    if heading.startswith("The calls") and len(cells) == 3 and cells[0].strip("`") in SOURCES:
-        crate = cells[0].strip("`")
-        for name in IN_BACKTICKS.findall(cells[2]):
-            last = name.split("::")[-1]
-            found = is_function(last, crate) or is_clause(last, crate) or is_definition(last, SPECS[crate])
-            expect(found or is_type(last), "PROMISES.md", f"{crate}: {name}")
-    elif heading == "scrypt" and len(cells) == 3 and cells[0] != "the run":
+    if heading == "scrypt" and len(cells) == 3 and cells[0] != "the run":
         for name in IN_BACKTICKS.findall(cells[2]):
             found = any(is_definition(name, SPECS[crate]) for crate in ("scrypt_run", "command", "encfile"))
             expect(found, "PROMISES.md", name)

@@ -1,6 +1,6 @@
 #!/bin/sh
-# Runs the built programs of a folder from the outside: words, files and streams, a system that refuses, and the story of
-# README.md.
+# Runs the built programs of a folder from the outside: words, files and streams, damaged files, a system that refuses, and
+# the story of README.md.
 #
 #     tests/outside.sh FOLDER      as bin/x86-64-v2, in which argon2 and scrypt lie
 set -eu
@@ -8,5 +8,6 @@ cd "$(dirname "$0")/.."
 echo "the programs in $1"
 tests/argon2.py "$1/argon2"
 tests/scrypt.py "$1/scrypt"
+tests/damage.py "$1/scrypt"
 tests/hostile.py "$1/argon2" "$1/scrypt"
 tests/story.py "$1"

@@ -1,0 +1,193 @@
+#!/usr/bin/env python3
+"""Draws which promise stands on what: from the headline to the calls, to the standards, and to what is trusted.
+
+    tests/proof_map.py docs/proof-map.svg
+
+What it says is read from crates.txt, the sources, README.md, docs/PROMISES.md and docs/DEFINITIONS.md; promises.py has the
+reading of promises. It fails where docs/PROMISES.md names a call or a clause that the sources lack, or where an arrow and those
+pages do not agree. Only the places of boxes and arrows stand here.
+"""
+import pathlib
+import re
+import sys
+from xml.sax.saxutils import escape
+
+from promises import CRATES, ROOT, code, promises, read
+
+WIDTH, COLUMNS = 1200, [(30, 372), (446, 336), (826, 344)]
+PLACES = [["scrypt_run", "encfile", "aes_ctr"], ["host", "tools", "comparison", "romix", "macs"],
+          ["argon_text", "argon", "blake"]]
+# Crates without a promise: lemmas, and the programs.
+UNDRAWN = ["four_words", "argon_tool", "scrypt_tool"]
+# Each standard as docs/DEFINITIONS.md names it, below the column of the crates that restate it.
+STANDARDS = [{"FORMAT": "scrypt's file", "SP 800-38A": "CTR mode", "FIPS 197": "AES", "FIPS 180-4": "SHA-256"},
+             {"RFC 2104": "HMAC", "RFC 8018": "PBKDF2", "RFC 7914": "scrypt"},
+             {"RFC 4648": "base64", "RFC 7693": "BLAKE2b", "RFC 9106": "Argon2"}]
+SYSTEM = "the system's calls"
+STRAIGHT = [("command", "scrypt_run"), ("command", "host"), ("command", "argon_text"), ("scrypt_run", "encfile"),
+            ("encfile", "aes_ctr"), ("aes_ctr", "FORMAT"), ("aes_ctr", "SP 800-38A"), ("aes_ctr", "FIPS 197"),
+            ("tools", "host"), ("tools", SYSTEM), ("romix", "macs"), ("macs", "RFC 2104"), ("macs", "RFC 8018"),
+            ("macs", "RFC 7914"), ("argon_text", "argon"), ("argon", "blake"), ("blake", "RFC 7693"), ("blake", "RFC 9106")]
+# The other arrows, each with the x on which it goes down.
+ASIDE = {("scrypt_run", "host"): 430, ("encfile", "comparison"): 418, ("encfile", "romix"): 418, ("encfile", "FIPS 180-4"): 418,
+         ("macs", "FIPS 180-4"): 430, ("encfile", "FORMAT"): 14, ("romix", "RFC 7914"): 797, ("argon_text", "comparison"): 811,
+         ("argon_text", "RFC 4648"): 811, ("argon_text", "RFC 9106"): 1186, ("argon", "RFC 9106"): 1186}
+STYLE = """svg{--page:#fff;--box:#f6f8fa;--line:#818b98;--text:#1f2328;--soft:#59636e;--code:#0550ae;
+--mark:#ddf4ff;--base:#fff8c5}
+@media (prefers-color-scheme:dark){svg{--page:#0d1117;--box:#161b22;--line:#7d8590;--text:#e6edf3;--soft:#9198a1;--code:#79c0ff;
+--mark:#12283d;--base:#2e2a14}}
+text{font:11.5px Helvetica,Arial,sans-serif;fill:var(--text)} .name,.number{font-size:14px;font-weight:bold} .number{font-size:12.5px}
+.soft{fill:var(--soft);font-size:10.5px} .code{font:10.5px monospace;fill:var(--code)}
+rect{fill:var(--box);stroke:var(--line)} .mark{fill:var(--mark)} .base{fill:var(--base)} .trusted{stroke-dasharray:5 3}
+.page{fill:var(--page);stroke:none} .way{fill:none;stroke:var(--line);stroke-width:1.4} .head{fill:var(--line)}"""
+
+
+def wrapped(text, width, size=11.5, fixed=False):
+    """The text in lines of this width, by letters that are as wide as those of a wide font."""
+    wide = {**dict.fromkeys("ijlftr.,:;'()- ", 0.34), **dict.fromkeys("mwMW=+", 0.88)}
+    lines = [""]
+    for word in text.split():
+        longer = f"{lines[-1]} {word}".strip()
+        fits = sum(0.605 if fixed else wide.get(letter, 0.6) for letter in longer) * size <= width
+        lines[-1:] = [longer] if fits or not lines[-1] else [lines[-1], word]
+    return lines
+
+
+class Picture:
+    def __init__(self):
+        self.boxes, self.texts, self.arrows = {}, [], []
+
+    def text(self, x, y, lines, kind="text", step=14):
+        """Lines from this y on; the y after them."""
+        for number, line in enumerate(lines):
+            self.texts.append(f'<text x="{x}" y="{y + number * step}" class="{kind}">{escape(line)}</text>')
+        return y + len(lines) * step
+
+    def entry(self, x, y, width, promise, carried):
+        """The first sentence of a promise and what carries it, with the whole promise as its title."""
+        first, *others = re.split(r"\. (?=[A-Z`])", promise.replace(" (below)", "").rstrip("."))
+        self.texts.append(f"<g><title>{escape('. '.join([first, *others])).replace('`', '')}</title>")
+        y = self.text(x, y, wrapped(first.replace("`", ""), width))
+        for line in carried:
+            y = self.text(x, y - 1, wrapped(line.replace("`", ""), width, 10.5, True), "code", 13)
+        self.texts.append("</g>")
+        return y + 5
+
+    def box(self, name, title, x, y, width, role="", entries=(), notes=(), kind="box", columns=1):
+        """A box of a name, what it is for, its promises in columns, and notes; the y of its end."""
+        begun, inner, rows = len(self.texts), (width - 18 * columns) // columns, -(-len(entries) // columns)
+        top = self.text(x + 9, y + 19, wrapped(name, width - 18, 12.5), "number" if kind == "base" else "name", 17)
+        top = self.text(x + 9, top, wrapped(role, width - 18, 10.5), "soft", 13) + 4 if role else top + 2
+        ends = [top - 4]
+        for column in range(columns if rows else 0):
+            end = top
+            for promise, carried in entries[column * rows:column * rows + rows]:
+                end = self.entry(x + 9 + column * (inner + 18), end, inner, promise, carried)
+            ends.append(end)
+        end = max(ends)
+        for note in notes:
+            end = self.text(x + 9, end, wrapped(note, width - 18, 10.5), "soft", 13)
+        rect = f'<rect x="{x}" y="{y}" width="{width}" height="{end - y}" rx="5" class="{kind}"/>'
+        self.texts.insert(begun, f"<g><title>{escape(title)}</title>{rect}")
+        self.texts.append("</g>")
+        self.boxes[name] = (x, y, width, end - y)
+        return end
+
+    def arrow(self, start, end, way=None):
+        """From box to box: straight where one is above the other, else aside, down on this x, and back."""
+        (x, y, width, height), (to_x, to_y, to_width, to_height) = self.boxes[start], self.boxes[end]
+        if way is None:
+            middle = to_x + to_width // 2 if to_width < width else x + width // 2
+            points = [(middle, y + height), (middle, to_y)] if y < to_y else [(middle, y), (middle, to_y + to_height)]
+        else:
+            sides = [left + (wide if way > left else 0) for left, wide in ((x, width), (to_x, to_width))]
+            points = [(sides[0], y + 16), (way, y + 16), (way, to_y + 16), (sides[1], to_y + 16)]
+        path = "M" + " L".join(f"{across} {down}" for across, down in points)
+        self.arrows.append(f'<path class="way" d="{path}" marker-end="url(#head)"><title>{start} stands on {end}</title></path>')
+
+    def svg(self, height):
+        frame = f'viewBox="0 0 {WIDTH} {height}" width="{WIDTH}" height="{height}"'
+        marker = '<marker id="head" markerWidth="8" markerHeight="8" refX="7" refY="4" orient="auto">'
+        title = "<title>Which promise stands on what</title>"
+        parts = [f'<svg xmlns="http://www.w3.org/2000/svg" {frame}>', f"{title}<style>{STYLE}</style>",
+                 f'<defs>{marker}<path class="head" d="M0 0 L8 4 L0 8z"/></marker></defs>',
+                 f'<rect class="page" width="{WIDTH}" height="{height}"/>', *self.arrows, *self.texts, "</svg>"]
+        return "\n".join(parts) + "\n"
+
+
+def notes(crate):
+    """What the crate's code names of the crates below it, and the crates of the kit that it uses."""
+    named = {}
+    for owner, many, one in re.findall(r"^use (\w+)::(?:\{(.*)\}|(\w+));", "\n".join(code(crate)), re.MULTILINE):
+        named.setdefault(owner, set()).update((many or one).split(", "))
+    kit = [each for each in CRATES[crate] if each not in CRATES]
+    lines = [f"uses {each}: {', '.join(sorted(named[each]))}" for each in CRATES[crate] if each in CRATES and each in named]
+    return lines + ([f"of the kit: {', '.join(kit)}"] if kit else [])
+
+
+def standards(crate):
+    """The standards that the tables of docs/DEFINITIONS.md name for the crate, and that of the kit's sha2 where it cites it."""
+    section = re.search(rf"^## {crate}\n(.*?)(?=^## |\Z)", read("docs/DEFINITIONS.md"), re.MULTILINE | re.DOTALL)
+    sources = " ".join(line.split("|")[4] for line in (section[1] if section else "").splitlines() if line.count("|") > 4)
+    cites = any("use Rattle.sha2." in file.read_text("utf-8") for file in (ROOT / "crates" / crate / "specs").rglob("*.antt"))
+    sources += " FIPS 180-4" if cites else ""
+    return {name for row in STANDARDS for name in row if re.search(rf"\b{name}\b", sources)}
+
+
+def disagreements():
+    """Arrows that no page gives, and what a page gives that no way of arrows says."""
+    arrows = {*STRAIGHT, *ASIDE}
+    given = {(crate, below) for crate in CRATES for below in [*CRATES[crate], *standards(crate)] if crate not in UNDRAWN}
+    reached = set(arrows)
+    for _ in CRATES:
+        reached |= {(start, end) for start, middle in reached for other, end in arrows if middle == other}
+    said = {(start, end) for start, end in given if end in {end for _, end in arrows}}
+    return [f"arrow {start} to {end}" for start, end in sorted((arrows - given - {("tools", SYSTEM)}) | (said - reached))]
+
+
+def drawn():
+    """The picture, and what is wrong with what it is drawn from."""
+    held, wrong = promises()
+    readme, picture = read("README.md"), Picture()
+    roles = dict(re.findall(r"^\| `(\w+)` \| (.*) \|$", readme.split("# Using the libraries")[1], re.MULTILINE))
+    headline = " ".join(re.findall(r"^> (.*)$", read("docs/PROMISES.md"), re.MULTILINE))
+
+    def crate_box(crate, x, y, width, columns=1):
+        role = roles[crate].replace("`", "")
+        lines = notes(crate) if columns == 1 else ["; ".join(notes(crate))]
+        return picture.box(crate, f"{crate}: {role}", x, y, width, role, held[crate], lines, columns=columns)
+
+    end = picture.box("The headline", "What the whole promises", 30, 14, WIDTH - 60, "", [(headline, [])],
+                      ["The programs argon2 and scrypt run these calls over the system, of which no contract knows the bytes:"
+                       " that step is tested."], "mark")
+    top, ends = crate_box("command", 30, end + 14, WIDTH - 60, 3), []
+    for (x, width), names in zip(COLUMNS, PLACES):
+        end = top
+        for name in names:
+            end = crate_box(name, x, end + 30, width)
+            if name == "tools":
+                role = "files, variables, streams, random bytes: no contract knows what they hold; tests run them"
+                end = picture.box(SYSTEM, "Trusted and tested", x, end + 26, width, role, kind="trusted")
+        ends.append(end)
+    for (x, width), row in zip(COLUMNS, STANDARDS):
+        share = (width + 8) // len(row)
+        for number, (name, subject) in enumerate(row.items()):
+            end = picture.box(name, f"{name}: {subject}", x + number * share, max(ends) + 34, share - 8, subject, kind="base")
+    end = picture.box("Of every function", "Beside its own clauses", 30, end + 26, WIDTH - 60, "", held["all"], kind="mark")
+    bullets = re.findall(r"^- (.*(?:\n  .*)*)", readme.split("**Trusted**:")[1].split("\n\n")[1], re.MULTILINE)
+    end = picture.box("Trusted, under all of it", "What no proof shows", 30, end + 12, WIDTH - 60, "",
+                      [(" ".join(each.split()), []) for each in bullets], kind="trusted", columns=3)
+    for arrow in STRAIGHT:
+        picture.arrow(*arrow)
+    for arrow, way in ASIDE.items():
+        picture.arrow(*arrow, way)
+    return picture.svg(end + 14), wrong + disagreements()
+
+
+if __name__ == "__main__":
+    if len(sys.argv) != 2:
+        raise SystemExit(__doc__)
+    svg, wrong = drawn()
+    if wrong:
+        raise SystemExit("\n".join(wrong))
+    pathlib.Path(sys.argv[1]).write_text(svg, encoding="utf-8")
