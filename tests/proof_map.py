@@ -32,14 +32,15 @@ STRAIGHT = [("command", "scrypt_run"), ("command", "host"), ("command", "argon_t
 ASIDE = {("scrypt_run", "host"): 430, ("encfile", "comparison"): 418, ("encfile", "romix"): 418, ("encfile", "FIPS 180-4"): 418,
          ("macs", "FIPS 180-4"): 430, ("encfile", "FORMAT"): 14, ("romix", "RFC 7914"): 797, ("argon_text", "comparison"): 811,
          ("argon_text", "RFC 4648"): 811, ("argon_text", "RFC 9106"): 1186, ("argon", "RFC 9106"): 1186}
-STYLE = """svg{--page:#fff;--box:#f6f8fa;--line:#818b98;--text:#1f2328;--soft:#59636e;--code:#0550ae;
---mark:#ddf4ff;--base:#fff8c5}
-@media (prefers-color-scheme:dark){svg{--page:#0d1117;--box:#161b22;--line:#7d8590;--text:#e6edf3;--soft:#9198a1;--code:#79c0ff;
---mark:#12283d;--base:#2e2a14}}
-text{font:11.5px Helvetica,Arial,sans-serif;fill:var(--text)} .name,.number{font-size:14px;font-weight:bold} .number{font-size:12.5px}
-.soft{fill:var(--soft);font-size:10.5px} .code{font:10.5px monospace;fill:var(--code)}
-rect{fill:var(--box);stroke:var(--line)} .mark{fill:var(--mark)} .base{fill:var(--base)} .trusted{stroke-dasharray:5 3}
-.page{fill:var(--page);stroke:none} .way{fill:none;stroke:var(--line);stroke-width:1.4} .head{fill:var(--line)}"""
+# Colours for a light page and for a dark one: page, box, line, text, soft text, code, headline, standards.
+LIGHT = "#fff #f6f8fa #818b98 #1f2328 #59636e #0550ae #ddf4ff #fff8c5".split()
+DARK = "#0d1117 #161b22 #7d8590 #e6edf3 #9198a1 #79c0ff #12283d #2e2a14".split()
+COLOURS = """.page{fill:%s;stroke:none} rect{fill:%s;stroke:%s} text{fill:%s} .soft{fill:%s} .code{fill:%s} .mark{fill:%s}
+.base{fill:%s} .head{fill:%s} .way{stroke:%s}"""
+STYLE = """text{font:11.5px Helvetica,Arial,sans-serif} .name,.number{font-size:14px;font-weight:bold} .number{font-size:12.5px}
+.soft{font-size:10.5px} .code{font:10.5px monospace} .trusted{stroke-dasharray:5 3} .way{fill:none;stroke-width:1.4}
+""" + "\n".join(begin + COLOURS % (*colours, colours[2], colours[2]) + end for begin, colours, end in [
+    ("", LIGHT, ""), ("@media (prefers-color-scheme:dark){", DARK, "}")])
 
 
 def wrapped(text, width, size=11.5, fixed=False):
