@@ -1,0 +1,118 @@
+#!/usr/bin/env python3
+"""What a reader of a public call's contract has to read: the definitions that its clauses reach.
+
+    tests/reading.py CALL..     prints them, file by file, with their lines
+    tests/reading.py --check    fails where docs/DEFINITIONS.md gives other lengths than these
+
+A call is written CRATE::FUNCTION or CRATE::TRAIT. Lines of comments and imports, and blank ones, are not counted, nor
+what the toolchain's own libraries define.
+"""
+import pathlib
+import re
+import sys
+
+TOP = pathlib.Path(__file__).resolve().parent.parent
+CRATES = TOP / "crates"
+ITEM = re.compile(r"(?:(?:pub|abbrev|unfoldable|opaque|data|record)\s+)*([^\s:(){},=]+)(?:\s+[({].*)?\s+:(?:\s|$)")
+PART = re.compile(r"\s+(?:pub )?([^\s:]+) :")
+IMPORT = re.compile(r"(?m)^(?:pub |ghost )?use Rattle\.(\w+\.specs\.[\w.]+)\.\{([^}]*)\}")
+WORD = re.compile(r"[^\s(){}\[\],;.]+")
+
+
+def imports(text):
+    """What a file imports, by the name that it has there: the module, and its name in it."""
+    found = {}
+    for module, names in IMPORT.findall(text):
+        for name in names.split(","):
+            given, _, here = name.strip().partition(" as ")
+            found[here or given] = (module, given)
+    return found
+
+
+class File:
+    """A file of specs/: the lines of each item, what it imports, and the item of each constructor and field."""
+
+    def __init__(self, path):
+        text = path.read_text(encoding="utf-8")
+        self.imports, self.items, self.owners, item = imports(text), {}, {}, ""
+        for line in text.split("\n"):
+            if not line.strip() or line.lstrip().startswith("--") or re.match(r"#|((pub )?(use|mod) )", line):
+                continue
+            if begun := ITEM.match(line):
+                item = begun[1]
+            elif part := PART.match(line):
+                self.owners[part[1]] = item
+            self.items.setdefault(item, []).append(line)
+
+
+def all_files():
+    found = {}
+    for path in sorted(CRATES.glob("*/specs/**/*.antt")):
+        crate, _, *inside = path.relative_to(CRATES).with_suffix("").parts
+        found[".".join([crate, "specs", *inside])] = File(path)
+    return found
+
+
+def cited(text, names, files, module=None):
+    """The items of the repository's definitions that a text cites."""
+    own = files[module] if module else None
+    for word in dict.fromkeys(WORD.findall(text)):
+        for name in (word, f"◌{word}◌", f"{word}◌"):
+            at, given = names.get(name, (module, name))
+            if at in files:
+                item = files[at].owners.get(given, given)
+                if item in files[at].items and (name in names or own):
+                    yield at, item
+
+
+def contract(crate, name):
+    """The contract of a public function, or all of a trait, and what its file imports."""
+    for path in sorted((CRATES / crate / "src").glob("**/*.rt")):
+        text = path.read_text(encoding="utf-8")
+        if found := re.search(rf"(?ms)^pub fn {name}\b.*?^\{{$|^pub trait {name}\b.*?^\}}$", text):
+            return found[0], imports(text)
+    sys.exit(f"no public function or trait {crate}::{name}")
+
+
+def reached(call, files):
+    """The items that a call's contract reaches, through all that they cite: the nearest first."""
+    text, names = contract(*call.split("::"))
+    found = dict.fromkeys(cited(text, names, files))
+    if "Host>" in text:
+        found |= dict.fromkeys(cited(*contract("host", "Host"), files))
+    left = list(found)
+    for module, item in left:
+        for other in cited("\n".join(files[module].items[item]), files[module].imports, files, module):
+            if other not in found:
+                found[other] = None
+                left.append(other)
+    return left
+
+
+def by_module(found):
+    """The items of each module, in the order in which a reader meets them."""
+    modules = {}
+    for module, item in found:
+        modules.setdefault(module, []).append(item)
+    return modules
+
+
+def main():
+    files, page = all_files(), (TOP / "docs" / "DEFINITIONS.md").read_text(encoding="utf-8")
+    lines = lambda items: sum(len(files[module].items[item]) for module, item in items)
+    sizes = lambda found: (len(found), len(by_module(found)), lines(found))
+    if sys.argv[1:] == ["--check"]:
+        stated = re.findall(r"(?m)^\| `(\w+::\w+)` \| (\d+) \| (\d+) \| (\d+) \|", page)
+        wrong = [(call, now) for call, *of in stated if (now := sizes(reached(call, files))) != tuple(map(int, of))]
+        for call, now in wrong:
+            print("docs/DEFINITIONS.md: {}: {} definitions, {} files, {} lines".format(call, *now), file=sys.stderr)
+        return 1 if wrong or not stated else 0
+    for call in sys.argv[1:]:
+        found = reached(call, files)
+        for module, items in by_module(found).items():
+            print(f"{module}: {lines((module, item) for item in items)}: {' '.join(items)}")
+        print("{}: {} definitions in {} files, {} lines".format(call, *sizes(found)))
+    return 0
+
+
+sys.exit(main())
