@@ -37,6 +37,7 @@ test: $(filter bin/x86-64-v3/%,$(wildcard $(LEVELS:%=bin/%/scrypt))) ## the gate
 	tests/sources.sh
 	tests/documents.py
 	@for level in $(LEVELS); do test ! -x bin/$$level/scrypt || tests/outside.sh bin/$$level || exit 1; done
+	tests/story.py --prove
 
 map: ## draws docs/proof-map.svg anew: which promise stands on what
 	tests/proof_map.py docs/proof-map.svg
