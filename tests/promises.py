@@ -93,7 +93,9 @@ def promises():
         if not row or row[0] in ("promise", "crate", "law", "the run") or row[0].startswith("---"):
             continue
         if heading == "The headline":
-            found["command"].append((row[0], carriers("command", "`scrypt`, `argon2`", row[1], wrong)))
+            for call in ("scrypt", "argon2"):
+                carriers("command", f"`{call}`", row[1], wrong)
+            found["command"].append((row[0], carriers("command", "`scrypt`, `argon2`", row[1], [])))
         elif heading.startswith("The calls"):
             crate = row[0].strip("`")
             found[crate].append((row[1], [row[2]] if crate == "all" else carriers(crate, row[1], row[2], wrong)))
