@@ -74,13 +74,15 @@ def carriers(crate, promise, cell, wrong):
             found += hits
             if not hits:
                 wrong.append(f"PROMISES.md: {crate} has no {name}")
-        key = ("law " if law else "") + ", ".join(dict.fromkeys(found))
-        for clause in IN_BACKTICKS.findall(clauses):
-            is_type = clause[0].isupper() and clause in FUNCTIONS[crate]
-            if not is_type and not any(clause in FUNCTIONS[crate][name] for name in found):
-                wrong.append(f"PROMISES.md: {crate}: {key} has no clause {clause}")
-            said.setdefault(key, []).append(f"each clause of {clause}" if is_type else clause)
+        clauses = IN_BACKTICKS.findall(clauses)
+        meant = found if calls else [name for name in found if FUNCTIONS[crate][name] & {*clauses}] or found
+        key = ("law " if law else "") + ", ".join(dict.fromkeys(meant))
         said.setdefault(key, [])
+        for clause in clauses:
+            is_type = clause[0].isupper() and clause in FUNCTIONS[crate]
+            if not is_type and not any(clause in FUNCTIONS[crate][name] for name in meant):
+                wrong.append(f"PROMISES.md: {crate}: {key} has no clause {clause}")
+            said[key].append(f"each clause of {clause}" if is_type else clause)
     return [calls + (": " + ", ".join(dict.fromkeys(clauses)) if clauses else "") for calls, clauses in said.items()]
 
 
@@ -93,7 +95,9 @@ def promises():
         if not row or row[0] in ("promise", "crate", "law", "the run") or row[0].startswith("---"):
             continue
         if heading == "The headline":
-            found["command"].append((row[0], carriers("command", "`scrypt`, `argon2`", row[1], wrong)))
+            for call in ("scrypt", "argon2"):
+                carriers("command", f"`{call}`", row[1], wrong)
+            found["command"].append((row[0], carriers("command", "`scrypt`, `argon2`", row[1], [])))
         elif heading.startswith("The calls"):
             crate = row[0].strip("`")
             found[crate].append((row[1], [row[2]] if crate == "all" else carriers(crate, row[1], row[2], wrong)))

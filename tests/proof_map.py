@@ -160,7 +160,8 @@ def drawn():
 
     end = picture.box("The headline", "What the whole promises", 30, 14, WIDTH - 60, "", [(headline, [])],
                       ["The programs argon2 and scrypt run these calls over the system, of which no contract knows the bytes:"
-                       " that step is tested."], "mark")
+                       " that step is tested.", "An arrow leads to what a crate stands on; one that follows from others is left"
+                       " out. Each promise is here by its first sentence, and whole where the pointer rests on it."], "mark")
     top, ends = crate_box("command", 30, end + 14, WIDTH - 60, 3), []
     for (x, width), names in zip(COLUMNS, PLACES):
         end = top
@@ -170,11 +171,12 @@ def drawn():
                 role = "files, variables, streams, random bytes: no contract knows what they hold; tests run them"
                 end = picture.box(SYSTEM, "Trusted and tested", x, end + 26, width, role, kind="trusted")
         ends.append(end)
+    top, ends = max(ends) + 34, []
     for (x, width), row in zip(COLUMNS, STANDARDS):
         share = (width + 8) // len(row)
         for number, (name, subject) in enumerate(row.items()):
-            end = picture.box(name, f"{name}: {subject}", x + number * share, max(ends) + 34, share - 8, subject, kind="base")
-    end = picture.box("Of every function", "Beside its own clauses", 30, end + 26, WIDTH - 60, "", held["all"], kind="mark")
+            ends.append(picture.box(name, f"{name}: {subject}", x + number * share, top, share - 8, subject, kind="base"))
+    end = picture.box("Of every function", "Beside its own clauses", 30, max(ends) + 26, WIDTH - 60, "", held["all"], kind="mark")
     bullets = re.findall(r"^- (.*(?:\n  .*)*)", readme.split("**Trusted**:")[1].split("\n\n")[1], re.MULTILINE)
     end = picture.box("Trusted, under all of it", "What no proof shows", 30, end + 12, WIDTH - 60, "",
                       [(" ".join(each.split()), []) for each in bullets], kind="trusted", columns=3)

@@ -1,5 +1,6 @@
 #!/usr/bin/env python3
-"""Types the story of README.md in an empty folder and compares what comes; its Rust functions are those of tests.
+"""Types the story of README.md in an empty folder and compares what comes; its login is that of a test, and the text that its
+Rust program enrols is what the built argon2 writes.
 
     tests/story.py FOLDER       in which the programs argon2 and scrypt lie
     tests/story.py --prove      proves, builds and runs the README's Rust program over the crates (some minutes)
@@ -64,6 +65,16 @@ def compare_functions(checks):
         checks.that(f"README's {name} is that of a test", shown[name], tested[name])
 
 
+def compare_enrolled(checks, folder):
+    """The first line that the Rust program prints, by the program argon2 with the password, salt and settings that stand there."""
+    program, shown = rust_program()
+    password, salt = re.findall(r'enrol\(alloc, b"(.*)", b"(.*)"\)', program)[0]
+    passes, lanes, memory = re.findall(r"Params::new\(Kind::Id, 0x13, (\d+), (\d+), ([\d_]+), 32,", program)[0]
+    words = [salt, "-id", "-t", passes, "-p", lanes, "-k", memory.replace("_", ""), "-e"]
+    found = checks.run(words, password.encode(), program=os.path.abspath(os.path.join(folder, "argon2")))
+    checks.that("README's enrolled text", found, (0, shown.splitlines(keepends=True)[0].encode(), b""))
+
+
 def prove():
     sys.path.insert(0, str(TOP / "bench"))
     from scratch import built
@@ -84,6 +95,7 @@ def main():
         return prove()
     checks = Checks(os.path.join(sys.argv[1], "scrypt"))
     compare_functions(checks)
+    compare_enrolled(checks, sys.argv[1])
     typed = story()
     found = printed([command for command, _ in typed], sys.argv[1])
     checks.that("as many answers as commands", len(found), len(typed))
