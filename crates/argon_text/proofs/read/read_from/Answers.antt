@@ -1,15 +1,15 @@
-use Rattle.std.proofs.Common.{◌≡◌, ◌∙◌, true, Err, ap, sym, subst, rules}
+use Rattle.std.proofs.Common.{◌≡◌, ◌∙◌, true, Err, refl, ap, sym, subst, rules}
 use Rattle.argon_text.specs.Answer.{IsAnswerOf}
 use Rattle.argon_text.specs.EncodedText.{IsTextOf}
 use Rattle.argon_text.specs.Grammar.{value_with}
 use Rattle.argon_text.specs.Value.{Value, IsValue, is_in_range}
 use Rattle.argon_text.specs.View.{fields_of, value_of}
-use Rattle.argon_text.proofs.Answering.{no_text, out_of_range, salt_fault, tag_fault, value_found}
+use Rattle.argon_text.proofs.Answering.{no_text, out_of_range, salt_fault, tag_fault, value_found, with_fields}
 use Rattle.argon_text.proofs.TakingApart.{fields_give}
 use Rattle.argon_text.proofs.read.read_from.Goals as goal
 
 pub returns-in_default : goal.returns-in_default
-returns-in_default g c = record { answer = no_text c.args.text.now c.in_default.ensures.fields }
+returns-in_default g c = record { answer = no_text c.args.text.now c.in_default.ensures.fields; unasked = λ none. refl }
 
 pub returns-in_err-salt : goal.returns-in_err-salt
 returns-in_err-salt g c =
@@ -17,6 +17,7 @@ returns-in_err-salt g c =
     record {
       answer = subst (IsAnswerOf c.args.text.now) (sym told)
           (salt_fault c.args.text.now (fields_of c.in-Some.fields) c.in-Some.ensures.fields c.in_err-salt.field-0.0 c.in_err-salt.ensures.err);
+      unasked = with_fields c.args.text.now (fields_of c.in-Some.fields) c.in-Some.ensures.fields;
     }
 
 pub returns-in_err-tag : goal.returns-in_err-tag
@@ -25,6 +26,7 @@ returns-in_err-tag g c =
     record {
       answer = subst (IsAnswerOf c.args.text.now) (sym told)
           (tag_fault c.args.text.now (fields_of c.in-Some.fields) c.in-Some.ensures.fields c.in_err-tag.field-0.0 c.in_err-tag.ensures.err);
+      unasked = with_fields c.args.text.now (fields_of c.in-Some.fields) c.in-Some.ensures.fields;
     }
 
 pub encoded_of-requires : goal.encoded_of-requires
@@ -35,6 +37,7 @@ returns-in-None g c =
     record {
       answer = out_of_range c.args.text.now (fields_of c.in-Some.fields) c.in-Some.ensures.fields c.in_ok-salt.salt.items c.in_ok-tag.tag.items
           c.in_ok-salt.ensures.bytes c.in_ok-tag.ensures.bytes c.in_ok-salt.ensures.text c.in_ok-tag.ensures.text c.in-None.ensures.value;
+      unasked = with_fields c.args.text.now (fields_of c.in-Some.fields) c.in-Some.ensures.fields;
     }
 
 pub returns-in-Some-encoded_of : goal.returns-in-Some-encoded_of
@@ -47,4 +50,5 @@ returns-in-Some-encoded_of g c =
       answer = subst P (sym same)
           (value_found c.args.text.now (fields_of c.in-Some.fields) c.in-Some.ensures.fields c.in_ok-salt.salt.items c.in_ok-tag.tag.items
           c.in_ok-salt.ensures.bytes c.in_ok-tag.ensures.bytes c.in_ok-salt.ensures.text c.in_ok-tag.ensures.text inside);
+      unasked = with_fields c.args.text.now (fields_of c.in-Some.fields) c.in-Some.ensures.fields;
     }
