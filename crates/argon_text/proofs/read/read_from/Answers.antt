@@ -1,4 +1,4 @@
-use Rattle.std.proofs.Common.{◌≡◌, ◌∙◌, true, Err, refl, ap, sym, subst, rules}
+use Rattle.std.proofs.Common.{◌≡◌, ◌∙◌, true, Err, ap, sym, subst, rules}
 use Rattle.argon_text.specs.Answer.{IsAnswerOf}
 use Rattle.argon_text.specs.EncodedText.{IsTextOf}
 use Rattle.argon_text.specs.Grammar.{value_with}
@@ -8,8 +8,8 @@ use Rattle.argon_text.proofs.Answering.{no_text, out_of_range, salt_fault, tag_f
 use Rattle.argon_text.proofs.TakingApart.{fields_give}
 use Rattle.argon_text.proofs.read.read_from.Goals as goal
 
-pub returns-in_default : goal.returns-in_default
-returns-in_default g c = record { answer = no_text c.args.text.now c.in_default.ensures.fields; unasked = λ none. refl }
+pub returns-in_default-clause-answer : goal.returns-in_default-clause-answer
+returns-in_default-clause-answer g c = no_text c.args.text.now c.in_default.ensures.fields
 
 pub returns-in_err-salt : goal.returns-in_err-salt
 returns-in_err-salt g c =
