@@ -204,12 +204,7 @@ fn count_of_argon2id(matrix: &mut Matrix, inputs: &Inputs<'_>, out: &mut [u8], t
 
 // The block functions of a plan in Argon2i with one lane and one pass, by the contract of `plan_segment`: a segment of two
 // columns has one address block.
-fn count_of_a_plan_of_two_columns(
-    params: &Params,
-    slice: u32,
-    out: &mut [Place],
-    ticks: &mut Ticks,
-)
+fn count_of_a_plan_of_two_columns(params: &Params, slice: u32, out: &mut [Place], ticks: &mut Ticks)
     requires parameters { params.now ≡ record {
       kind = 1;
       version = 0x13;
@@ -228,12 +223,7 @@ fn count_of_a_plan_of_two_columns(
 }
 
 // The same of a segment of 129 columns, which has two address blocks.
-fn count_of_a_plan_of_129_columns(
-    params: &Params,
-    slice: u32,
-    out: &mut [Place],
-    ticks: &mut Ticks,
-)
+fn count_of_a_plan_of_129_columns(params: &Params, slice: u32, out: &mut [Place], ticks: &mut Ticks)
     requires parameters { params.now ≡ record {
       kind = 1;
       version = 0x13;
