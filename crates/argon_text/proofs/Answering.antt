@@ -38,12 +38,6 @@ module _ (s : List ℕ) (fields : Fields) (found : fields_at s ≡ Some fields) 
   tag_fault OutOfRange none = absurd none
   tag_fault OutOfMemory none = (let give = fields_give s fields found in (fields, give.0, give.1))
 
-  -- a text with fields is none without them
-  pub with_fields : {A : Type 0} → fields_at s ≡ None → A
-  with_fields none =
-      let both : None ≡ Some fields = sym none ∙ found in
-      cc both
-
   -- the answers where salt and tag were decoded, too
   module _ (salt tag : List ℕ) (are_salt : IsBytes salt) (are_tag : IsBytes tag) (salt_text : fields.salt ≡ base64_text salt)
       (tag_text : fields.tag ≡ base64_text tag) where

@@ -1,5 +1,5 @@
 //! How an encoded text is read.
-ghost use Rattle.std.specs.Prelude.{◌≡◌, ◌≤◌, ◌+◌, ◌^◌, true, false, length, None, IfOk, IfErr, IsErrOf, MatchOption, MatchResult};
+ghost use Rattle.std.specs.Prelude.{◌≡◌, ◌≤◌, ◌+◌, ◌^◌, ◌⊎◌, true, false, length, None, IfSome, IfOk, IfErr, OnOk, OnErr, IsErrOf, MatchOption, MatchResult};
 ghost use Rattle.std.specs.Char.{is_ascii_digit};
 ghost use Rattle.base64.specs.GeneralPurpose.{IsBytes};
 ghost use Rattle.argon_text.specs.Answer.{IsAnswerOf, IsBase64Fault};
@@ -46,6 +46,12 @@ pub(crate) fn read_from<R: Room>(room: &mut R, text: &[u8]) -> Result<Encoded, R
     ensures answer { IsAnswerOf text.now result }
     // Nothing is asked of the source of memory for a text whose fields are not found.
     ensures unasked { fields_at text.now ≡ None → room.new ≡ room.old }
+    // For any other the bytes of the salt are asked for, and then, unless that was refused, those of the tag.
+    ensures asked { IfSome (fields_at text.now) (λ fields. OnOk result
+        (room.new ≡ R.after_decoded (R.after_decoded room.old fields.salt) fields.tag)) }
+    ensures refused { IfSome (fields_at text.now) (λ fields. OnErr result
+        ((room.new ≡ R.after_decoded room.old fields.salt)
+        ⊎ (room.new ≡ R.after_decoded (R.after_decoded room.old fields.salt) fields.tag))) }
 {
     let Some(fields) = fields_in(text) else {
         return Err(ReadFault::NotInGrammar);
@@ -63,6 +69,7 @@ fn decoded<R: Room>(room: &mut R, symbols: &[u8]) -> Result<Vec<u8>, ReadFault>
     ensures bytes { IfOk result (λ bytes. IsBytes bytes.items) }
     ensures text { IfOk result (λ bytes. symbols.now ≡ base64_text bytes.items) }
     ensures err { IfErr result (IsBase64Fault symbols.now) }
+    ensures asked { room.new ≡ R.after_decoded room.old symbols.now }
 {
     match room.decoded(symbols) {
         Ok(bytes) => Ok(bytes),
