@@ -40,8 +40,7 @@ expect '::reserve(' "only a source of memory reserves, on the condition that lim
 expect '.allocator()' "no function takes the heap out of what it is lent, but the writing of a text" \
     crates/argon_text/src/encoded.rt
 expect 'vec![in' "lists of a given length are made by the sources of memory alone" crates/argon/src/room.rt \
-    crates/argon/src/room.rt crates/argon_text/src/room.rt crates/command/src/argon2_command/room.rt \
-    crates/romix/src/reservation.rt
+    crates/argon/src/room.rt crates/command/src/argon2_command/room.rt crates/romix/src/reservation.rt
 expect 'with_capacity(' "room for a given length is asked for by the sources of memory alone, which use lists"
 expect '.hash(' "a hash is made by the test of a password and by argon2" \
     crates/argon_text/src/verifying.rt crates/command/src/argon2_command/output.rt

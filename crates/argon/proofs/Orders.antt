@@ -1,12 +1,11 @@
 -- Lanes that go on in any order.
-use Rattle.std.proofs.Common.{◌≡◌, ℕ, ◌+◌, ◌-◌, ◌/◌, ◌%◌, ◌<◌, inl, inr, Bool, List, [], ◌∷◌, replicate, set, slice_index, refl, sym, ap, subst, ◌∙◌, arith, nat_lt}
-use Rattle.std.specs.Prelude.{if◌then◌else◌}
+use Rattle.std.proofs.Common.{◌≡◌, ℕ, ◌+◌, ◌-◌, ◌/◌, ◌%◌, inl, inr, Bool, List, [], ◌∷◌, replicate, set, slice_index, refl, sym, ap, subst, ◌∙◌, arith}
 use Rattle.std.proofs.lemmas.Bool.{cases_lt, lt-ltb, le-ltb}
 use Rattle.argon.specs.Filling.{Filling, HasNext, IsFilling}
 use Rattle.argon.specs.Parameters.{segment_len}
 use Rattle.argon.specs.Laws.{IsWholeOrder, after_turn, after_turns, turn_work, turns_work}
-use Rattle.argon.specs.Weaving.{IsWeaving, Weaving, after_step, weaving_from, with_next_block, work_left}
-use Rattle.argon.specs.Woven.{IsWovenFrom, blocks_where_left, with_next_slice, woven}
+use Rattle.argon.specs.Weaving.{IsWeaving, Weaving, weaving_from, with_next_block, work_left}
+use Rattle.argon.specs.Woven.{IsWovenFrom, with_next_slice, woven}
 use Rattle.argon.proofs.Weaving.{opened, step_weaving}
 use Rattle.argon.proofs.WorkLeft.{share_closed, share_stepped}
 use Rattle.argon.proofs.Woven.{all_none, closed_woven, opened_woven, step_woven}

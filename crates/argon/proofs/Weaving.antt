@@ -3,17 +3,17 @@ use Rattle.std.proofs.Common.{◌≡◌, ◌≢◌, ℕ, ◌+◌, ◌-◌, ◌*�
 use Rattle.std.proofs.lemmas.List.{get_or-set_same, get_or-set_other, get_or_past, get_or-replicate, length-replicate}
 use Rattle.std.proofs.lemmas.Bool.{cases_lt}
 use Rattle.std.proofs.lemmas.Bool.Decides.{eqb_tells}
-use Rattle.std.proofs.Math.Nat.{mul-le-mul_right, mul-add-mod_self_right, mod-eq_of_lt, mod-lt}
+use Rattle.std.proofs.Math.Nat.{mul-le-mul_right, mul-add-mod_self_right, mod-eq_of_lt}
 use Rattle.argon.specs.Argon2.{block_at, matrix_block}
 use Rattle.argon.specs.Buffer.{HoldsNewest, IsInSlice, block_held, number_after_slices}
 use Rattle.argon.specs.Counts.{blocks_of_segment, first_index}
 use Rattle.argon.specs.Filling.{Filling, HasNext, IsFilling}
 use Rattle.argon.specs.Parameters.{Parameters, lane_len, segment_len}
-use Rattle.argon.specs.Reference.{HasAddresses, ReadsFinishedSegments, reference_lane, reference_number}
+use Rattle.argon.specs.Reference.{HasAddresses, ReadsFinishedSegments}
 use Rattle.argon.specs.Weaving.{IsWeaving, HasNoneLeft, IsNewestByLanes, Weaving, after_step, next_column, next_index, next_number, weaving_from, with_next_block}
 use Rattle.argon.proofs.Buffer.{block_at_is_block, newest_same, step_newest}
 use Rattle.argon.proofs.ColumnBlock.{first_two}
-use Rattle.argon.proofs.MatrixBlocks.{IsPlace, reads}
+use Rattle.argon.proofs.MatrixBlocks.{IsPlace}
 use Rattle.argon.proofs.Progress.{first_index-le, next_end, next_is, two_below}
 use Rattle.argon.proofs.ReadPlaces.{reads_finished}
 use Rattle.argon.proofs.Slices.{range_long}

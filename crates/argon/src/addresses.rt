@@ -20,6 +20,7 @@ pub(crate) fn address_count(segment_len: u32) -> u32
 }
 
 // Makes the address block of a part, counted from 0: G(0, G(0, Z)).
+#[tactic(auto, unfolding(crate::specs::Reference::address_block))]
 fn write_addresses(
     params: &Params,
     at: &Segment,

@@ -1,5 +1,5 @@
 //! What each lane holds beside the matrix while a slice is made by lanes in any order.
-ghost use Rattle.std.specs.Prelude.{◌≡◌, IfOk};
+ghost use Rattle.std.specs.Prelude.{◌≡◌, ◌⊎◌, IfOk, OnErr, OnOk};
 
 use crate::block::Block;
 use crate::params::Params;
@@ -32,9 +32,13 @@ impl Model for Lanes {
     ghost invariant = { IsForLanes };
 }
 
-/// Lanes whose memory comes from `room`.
+/// Lanes whose memory comes from `room`: a number for each, and a block for each unless that was refused.
 pub(crate) fn reserve_from<R: Room>(room: &mut R, params: &Params) -> Result<Lanes, AllocError>
     ensures parameters { IfOk result (λ lanes. lanes ≡ params.now) }
+    ensures asked { OnOk result (room.new
+        ≡ R.after_blocks (R.after_numbers room.old params.now.lanes) params.now.lanes) }
+    ensures refused { OnErr result ((room.new ≡ R.after_numbers room.old params.now.lanes)
+        ⊎ (room.new ≡ R.after_blocks (R.after_numbers room.old params.now.lanes) params.now.lanes)) }
 {
     let count = params.lanes() as usize;
     let left = room.numbers(count)?;

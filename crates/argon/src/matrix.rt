@@ -45,8 +45,9 @@ impl Model for Matrix {
     ghost invariant = { IsMatrix };
 }
 
-/// A matrix whose blocks come from `room`.
+/// A matrix whose blocks come from `room`, in one request for m' of them.
 pub(crate) fn reserve_from<R: Room>(room: &mut R, params: &Params) -> Result<Matrix, AllocError>
+    ensures asked { room.new ≡ R.after_blocks room.old (block_count params.now) }
     ensures parameters { IfOk result (λ matrix. matrix.parameters ≡ params.now) }
     ensures size { IfOk result (λ matrix. length matrix.blocks ≡ block_count params.now) }
     ensures started { IfOk result (λ matrix. matrix.is_started ≡ false) }

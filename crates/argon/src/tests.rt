@@ -1,5 +1,5 @@
 //! Tags of RFC 9106 and of independent programs; the limits; the plan; a refused reservation.
-ghost use Rattle.std.specs.Prelude.{◌≡◌, ◌<◌, ◌^◌, true, length};
+ghost use Rattle.std.specs.Prelude.{◌≡◌, ◌-◌, ◌<◌, ◌^◌, true, length};
 ghost use Rattle.argon.specs.Range.{is_version};
 ghost use Rattle.argon.specs.Reference.{is_independent};
 
@@ -409,20 +409,33 @@ struct Refusing {
     left: u32,
 }
 
+impl Refusing {
+    // Whether a request is granted.
+    fn grants(&mut self) -> bool
+        ensures left { self.new ≡ record self.old { left = self.old.left - 1 } }
+    {
+        let grants = self.left > 0;
+        self.left = self.left.saturating_sub(1);
+        grants
+    }
+}
+
 impl Room for Refusing {
+    ghost after_blocks = { λ room _. record room { left = room.left - 1 } };
+
+    ghost after_numbers = { λ room _. record room { left = room.left - 1 } };
+
     fn blocks(&mut self, count: usize) -> Result<Vec<Block>, AllocError> {
-        if self.left == 0 {
+        if !self.grants() {
             return Err(AllocError);
         }
-        self.left -= 1;
         vec![in self.alloc; [0; 128]; count]
     }
 
     fn numbers(&mut self, count: usize) -> Result<Vec<u32>, AllocError> {
-        if self.left == 0 {
+        if !self.grants() {
             return Err(AllocError);
         }
-        self.left -= 1;
         vec![in self.alloc; 0; count]
     }
 }

@@ -1,6 +1,6 @@
 //! What the checker computes of the definitions in specs/: each function's clause is an equation,
 //! which is proved by computing both sides. So the definitions are run, and not the code.
-ghost use Rattle.std.specs.Prelude.{◌≡◌, ◌+◌, ◌*◌, ◌%◌, ◌^◌, [], ◌∷◌, codes, length, map};
+ghost use Rattle.std.specs.Prelude.{◌≡◌, ◌+◌, ◌*◌, ◌%◌, ◌^◌, ◌<◌, [], ◌∷◌, codes, length, map};
 ghost use Rattle.std.specs.List.{range_with_len};
 ghost use Rattle.argon.specs.Argon2.{argon2_tag};
 ghost use Rattle.argon.specs.Compression.{compression};
@@ -8,6 +8,9 @@ ghost use Rattle.argon.specs.Inputs.{AreInputsOf, inputs_of};
 
 use crate::inputs::Inputs;
 use crate::matrix::Matrix;
+use crate::params::Params;
+use crate::places::Place;
+use crate::plan::plan_segment;
 use crate::ticks::Ticks;
 
 // G of two blocks of 128 different words each, whose 128 words are different too, as a Python program of RFC 9106 gives
@@ -96,6 +99,29 @@ fn tag_of_argon2id_in_two_passes()
         0xB5 ∷ 0xA1 ∷ 0xDD ∷ 0xE8 ∷ 0xB1 ∷ 0x07 ∷ 0x16 ∷ 0x46 ∷ [] }
 {}
 
+// printf password | argon2 somesalt -id -t 2 -k 16 -p 2 -l 32 -r
+fn tag_of_argon2id_with_two_lanes()
+    ensures tag { argon2_tag (record {
+      kind = 2;
+      version = 0x13;
+      passes = 2;
+      lanes = 2;
+      memory = 16;
+      tag_len = 32;
+      salt_len = 8;
+      password_len = 8;
+    }) (record {
+      password = codes "password";
+      salt = codes "somesalt";
+      secret = [];
+      associated = [];
+    }) ≡
+        0x74 ∷ 0x7D ∷ 0x76 ∷ 0x31 ∷ 0xB1 ∷ 0x82 ∷ 0xFA ∷ 0xF7 ∷
+        0x49 ∷ 0xD7 ∷ 0xEF ∷ 0xC3 ∷ 0x1A ∷ 0xEC ∷ 0x31 ∷ 0xDF ∷
+        0x4E ∷ 0xCF ∷ 0xE3 ∷ 0xB5 ∷ 0x7C ∷ 0x79 ∷ 0x2F ∷ 0x53 ∷
+        0x80 ∷ 0x0A ∷ 0xC2 ∷ 0xC9 ∷ 0x97 ∷ 0x8B ∷ 0x48 ∷ 0x88 ∷ [] }
+{}
+
 // printf password | argon2 somesalt -d -t 2 -k 8 -p 1 -l 32 -v 10 -r
 fn tag_of_argon2d_of_version_0x10()
     ensures tag { argon2_tag (record {
@@ -174,4 +200,43 @@ fn count_of_argon2id(matrix: &mut Matrix, inputs: &Inputs<'_>, out: &mut [u8], t
     ensures count { ticks.new ≡ ticks.old + 104 }
 {
     matrix.hash(inputs, out, ticks);
+}
+
+// The block functions of a plan in Argon2i with one lane and one pass, by the contract of `plan_segment`: a segment of two
+// columns has one address block.
+fn count_of_a_plan_of_two_columns(params: &Params, slice: u32, out: &mut [Place], ticks: &mut Ticks)
+    requires parameters { params.now ≡ record {
+      kind = 1;
+      version = 0x13;
+      passes = 1;
+      lanes = 1;
+      memory = 8;
+      tag_len = 32;
+      salt_len = 8;
+      password_len = 8;
+    } }
+    requires slices { slice < 4 }
+    requires size { length out.old ≡ 2 }
+    ensures count { ticks.new ≡ ticks.old + 2 }
+{
+    plan_segment(params, 0, 0, slice, out, ticks);
+}
+
+// The same of a segment of 129 columns, which has two address blocks.
+fn count_of_a_plan_of_129_columns(params: &Params, slice: u32, out: &mut [Place], ticks: &mut Ticks)
+    requires parameters { params.now ≡ record {
+      kind = 1;
+      version = 0x13;
+      passes = 1;
+      lanes = 1;
+      memory = 516;
+      tag_len = 32;
+      salt_len = 8;
+      password_len = 8;
+    } }
+    requires slices { slice < 4 }
+    requires size { length out.old ≡ 129 }
+    ensures count { ticks.new ≡ ticks.old + 4 }
+{
+    plan_segment(params, 0, 0, slice, out, ticks);
 }

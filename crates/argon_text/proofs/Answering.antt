@@ -15,6 +15,7 @@ use Rattle.argon_text.specs.View.{value_of}
 use Rattle.argon_text.specs.declared.encoded.Encoded.{Encoded}
 use Rattle.argon_text.specs.declared.fault.ReadFault.{ReadFault}
 use Rattle.argon_text.specs.declared.fault.ReadFault.TheVariants.{NotInGrammar, OutOfRange, OutOfMemory}
+use Rattle.argon_text.proofs.TakingApart.{fields_give}
 use Rattle.argon_text.proofs.Readings.{fields_of_text, one_reading, one_value, text_in_range, text_of_found, text_of_its_value, value_of_found}
 
 pub no_text : (s : List ℕ) → fields_at s ≡ None → IsText s → ⊥
@@ -30,12 +31,12 @@ module _ (s : List ℕ) (fields : Fields) (found : fields_at s ≡ Some fields) 
   pub salt_fault : (f : ReadFault) → IsBase64Fault fields.salt f → IsFaultOf s f
   salt_fault NotInGrammar none = λ has. none (ap (λ (x : Fields). is_base64 x.salt) (sym (are_fields has.0 has.1)) ∙ has.1.salt)
   salt_fault OutOfRange none = absurd none
-  salt_fault OutOfMemory none = tt
+  salt_fault OutOfMemory none = (let give = fields_give s fields found in (fields, give.0, give.1))
 
   pub tag_fault : (f : ReadFault) → IsBase64Fault fields.tag f → IsFaultOf s f
   tag_fault NotInGrammar none = λ has. none (ap (λ (x : Fields). is_base64 x.tag) (sym (are_fields has.0 has.1)) ∙ has.1.tag)
   tag_fault OutOfRange none = absurd none
-  tag_fault OutOfMemory none = tt
+  tag_fault OutOfMemory none = (let give = fields_give s fields found in (fields, give.0, give.1))
 
   -- the answers where salt and tag were decoded, too
   module _ (salt tag : List ℕ) (are_salt : IsBytes salt) (are_tag : IsBytes tag) (salt_text : fields.salt ≡ base64_text salt)

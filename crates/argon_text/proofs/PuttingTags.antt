@@ -1,7 +1,7 @@
 -- The tag's symbols are the end of a text, as many for each tag of one length.
-use Rattle.std.proofs.Common.{◌≡◌, ◌∙◌, ℕ, ◌+◌, ◌-◌, ◌<◌, ◌≤◌, ◌^◌, List, [], ◌++◌, length, take, drop, refl, ap, sym, subst, arith, codes, Result, Ok, OnOk}
+use Rattle.std.proofs.Common.{◌≡◌, ◌∙◌, ℕ, ◌+◌, ◌-◌, ◌≤◌, List, [], ◌++◌, length, take, drop, refl, ap, sym, subst, arith, codes, Result, Ok, OnOk}
 use Rattle.std.specs.Fmt.{decimal}
-use Rattle.std.proofs.lemmas.List.{append-nil, append_assoc, drop_all, length-append, length-drop, length-take, take_at}
+use Rattle.std.proofs.lemmas.List.{append-nil, drop_all, length-append, length-drop, length-take, take_at}
 use borrow.Rule.Slice.PartMut.{put_mid, post_of}
 use Rattle.base64.specs.Rfc4648.{encode_symbols, unpadded_len}
 use Rattle.base64.specs.Engines.{standard_no_pad}
@@ -21,7 +21,7 @@ text_by_front : (v : Value) → encoded_text v ≡ front v ++ base64_text v.tag
 unfolding text_of_fields
 text_by_front v = refl
 
-length-base64_text : (m : List ℕ) → length (base64_text m) ≡ unpadded_len (length m)
+pub length-base64_text : (m : List ℕ) → length (base64_text m) ≡ unpadded_len (length m)
 unfolding base64_text
 length-base64_text m = ap length (append-nil (encode_symbols standard_no_pad.encode_table m)) ∙ length-encode_symbols standard_no_pad.encode_table m
 
@@ -41,14 +41,13 @@ other_tag v text tag start is same place =
     ap (λ (l : List ℕ). l ++ base64_text tag) kept ∙ sym (text_by_front (record v { tag = tag }))
 
 -- what the tag's symbols leave of the end of a text that they were written over
-pub tag_put : (v : Value) (text tag new : List ℕ) (start : ℕ) (r : Result ℕ EncodeSliceError) → text ≡ encoded_text v → length v.tag ≡ length tag
-    → start + unpadded_len (length tag) ≡ length text
+pub end_put : (text tag new : List ℕ) (start : ℕ) (r : Result ℕ EncodeSliceError) → start + unpadded_len (length tag) ≡ length text
     → let end : List ℕ = take (length text - start) (drop start text) in
     (unpadded_len (length tag) ≤ length end → r ≡ Ok (unpadded_len (length tag)))
     → OnOk r (IsEncodedOver standard_no_pad tag end new)
-    → put_mid start (length text - start) text new ≡ encoded_text (record v { tag = tag })
+    → put_mid start (length text - start) text new ≡ take start text ++ base64_text tag
 unfolding base64_text
-tag_put v text tag new start r is same place fits over =
+end_put text tag new start r place fits over =
     let size : ℕ = unpadded_len (length tag) in
     let end : List ℕ = take (length text - start) (drop start text) in
     let long : length end ≡ size = omega (arith, length-take (length text - start) (drop start text), length-drop start text, place) in
@@ -56,4 +55,9 @@ tag_put v text tag new start r is same place fits over =
     let rest : drop size end ≡ [] = drop_all size end (omega (arith, long)) in
     let symbols : new ≡ base64_text tag = wrote ∙ ap (λ (l : List ℕ). base64_text tag ++ l) rest ∙ append-nil (base64_text tag) in
     let left : post_of start (length text - start) text ≡ [] = drop_all (length text - start) (drop start text) (omega (arith, length-drop start text)) in
-    rw (left, append-nil, symbols) (other_tag v text tag start is same place)
+    rw (left, append-nil, symbols) refl
+
+-- the same where the text is that of a value
+pub tag_put : (v : Value) (text tag new : List ℕ) (start : ℕ) → text ≡ encoded_text v → length v.tag ≡ length tag
+    → start + unpadded_len (length tag) ≡ length text → new ≡ take start text ++ base64_text tag → new ≡ encoded_text (record v { tag = tag })
+tag_put v text tag new start is same place end = end ∙ other_tag v text tag start is same place

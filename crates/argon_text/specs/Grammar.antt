@@ -61,6 +61,10 @@ pub record HasFields (s : List ℕ) (fields : Fields) : Type 0 where
 abbrev pub IsText : List ℕ → Type 0
 IsText s = (fields : Fields) × HasFields s fields
 
+-- s is the text of some fields whose numbers have their form, whatever stands for salt and tag
+abbrev pub HasNumbers : List ℕ → Type 0
+HasNumbers s = (fields : Fields) × (s ≡ text_of fields) × AreNumbers fields
+
 -- the version that a text says: 0x10 where it has none
 abbrev pub version_said : Option (List ℕ) → ℕ
 version_said None = 0x10

@@ -5,6 +5,7 @@ pub mod EncodedText
 pub mod Base64
 pub mod Grammar
 pub mod View
+pub mod Claim
 pub mod Reading
 pub mod Answer
 pub mod Verifying

@@ -1,5 +1,5 @@
 //! The value of an encoded text, and how it is written.
-ghost use Rattle.std.specs.Prelude.{◌≡◌, ◌++◌, true, length, IfOk, OnOk, OnErr, string_bytes, codes};
+ghost use Rattle.std.specs.Prelude.{◌≡◌, ◌++◌, ◌-◌, ◌<◌, ◌≤◌, take, true, length, IfOk, OnOk, OnErr, string_bytes, codes};
 ghost use Rattle.std.specs.Fmt.{decimal};
 ghost use Rattle.argon_text.specs.Value.{Value, are_in_range};
 ghost use Rattle.argon_text.specs.EncodedText.{base64_text, encoded_text, kind_name};
@@ -67,11 +67,17 @@ impl Encoded {
     }
 }
 
-/// Writes a tag over the tag of an encoded text, of the same length. It takes no memory: whoever makes
-/// the text before the hash, with any tag, is refused nothing after it.
+/// Writes a tag over the tag of an encoded text, of the same length: its symbols take the place of as many at the end of
+/// `text`, which stays where it has fewer. It takes no memory: whoever makes the text before the hash, with any tag, is
+/// refused nothing after it.
 pub fn put_tag(text: &mut [u8], tag: &[u8])
     ensures text { (v : Value) → text.old ≡ encoded_text v → length v.tag ≡ length tag.now
         → text.new ≡ encoded_text (record v { tag = tag.now }) }
+    // Of any text the end is written over, and what is before it stays.
+    ensures end { length (base64_text tag.now) ≤ length text.old
+        → text.new ≡ take (length text.old - length (base64_text tag.now)) text.old ++ base64_text tag.now }
+    // A text that is too short for the tag stays.
+    ensures short { length text.old < length (base64_text tag.now) → text.new ≡ text.old }
 {
     let Some(len) = encoded_len(tag.len(), false) else {
         return;

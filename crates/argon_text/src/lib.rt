@@ -7,6 +7,7 @@
 //! told by is `specs/Grammar.antt`.
 #![tactic(auto)]
 
+mod claim;
 mod encoded;
 mod fault;
 mod fields;

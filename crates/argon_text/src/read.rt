@@ -1,10 +1,11 @@
 //! How an encoded text is read.
-ghost use Rattle.std.specs.Prelude.{◌≡◌, ◌≤◌, ◌+◌, ◌^◌, true, false, length, IfOk, IfErr, IsErrOf, MatchOption, MatchResult};
+ghost use Rattle.std.specs.Prelude.{◌≡◌, ◌≤◌, ◌+◌, ◌^◌, ◌⊎◌, true, false, length, None, IfSome, IfOk, IfErr, OnOk, OnErr, IsErrOf, MatchOption, MatchResult};
 ghost use Rattle.std.specs.Char.{is_ascii_digit};
 ghost use Rattle.base64.specs.GeneralPurpose.{IsBytes};
 ghost use Rattle.argon_text.specs.Answer.{IsAnswerOf, IsBase64Fault};
 ghost use Rattle.argon_text.specs.EncodedText.{IsTextOf, base64_text};
-ghost use Rattle.argon_text.specs.Grammar.{AreNumbers, IsText, IsTextInRange, is_number, number_value, value_with};
+ghost use Rattle.argon_text.specs.Grammar.{AreNumbers, HasNumbers, IsText, IsTextInRange, is_number, number_value, value_with};
+ghost use Rattle.argon_text.specs.Reading.{fields_at};
 ghost use Rattle.argon_text.specs.Value.{IsValue, Value, are_in_range, is_in_range};
 ghost use Rattle.argon_text.specs.View.{fields_of, value_of};
 
@@ -18,7 +19,8 @@ use std::alloc::Global;
 impl Encoded {
     /// Reads an encoded text, which is the whole of `text`: nothing may follow it. A text without a
     /// version is one of version 0x10. Numbers may have any length, and are compared with their ranges
-    /// as numbers. It asks for memory twice, for salt and tag, together less than `text` has bytes.
+    /// as numbers. It asks for memory twice, for salt and tag, together less than `text` has bytes; for
+    /// a text whose labels, type or numbers are wrong it asks for none.
     ///
     /// The faults, by their numbers: 1 where the bytes are no encoded text, 2 where they are one
     /// with a value out of range (`Encoded` has the ranges), 3 where memory was refused.
@@ -28,6 +30,8 @@ impl Encoded {
         ensures not_in_grammar { IsErrOf result ReadFault.NotInGrammar → IsText text.now → ⊥ }
         ensures out_of_range { IsErrOf result ReadFault.OutOfRange
             → IsText text.now × (IsTextInRange text.now → ⊥) }
+        // Memory is refused of no text but one whose numbers have their form.
+        ensures out_of_memory { IsErrOf result ReadFault.OutOfMemory → HasNumbers text.now }
         // A text of a value is read, unless memory is refused.
         ensures again { (v : Value) → IsValue v → IsTextOf v text.now
             → MatchResult result (λ e. value_of e ≡ v) (λ f. f ≡ ReadFault.OutOfMemory) }
@@ -40,6 +44,14 @@ impl Encoded {
 /// Reads an encoded text, with memory from `room`.
 pub(crate) fn read_from<R: Room>(room: &mut R, text: &[u8]) -> Result<Encoded, ReadFault>
     ensures answer { IsAnswerOf text.now result }
+    // Nothing is asked of the source of memory for a text whose fields are not found.
+    ensures unasked { fields_at text.now ≡ None → room.new ≡ room.old }
+    // For any other the bytes of the salt are asked for, and then, unless that was refused, those of the tag.
+    ensures asked { IfSome (fields_at text.now) (λ fields. OnOk result
+        (room.new ≡ R.after_decoded (R.after_decoded room.old fields.salt) fields.tag)) }
+    ensures refused { IfSome (fields_at text.now) (λ fields. OnErr result
+        ((room.new ≡ R.after_decoded room.old fields.salt)
+        ⊎ (room.new ≡ R.after_decoded (R.after_decoded room.old fields.salt) fields.tag))) }
 {
     let Some(fields) = fields_in(text) else {
         return Err(ReadFault::NotInGrammar);
@@ -57,6 +69,7 @@ fn decoded<R: Room>(room: &mut R, symbols: &[u8]) -> Result<Vec<u8>, ReadFault>
     ensures bytes { IfOk result (λ bytes. IsBytes bytes.items) }
     ensures text { IfOk result (λ bytes. symbols.now ≡ base64_text bytes.items) }
     ensures err { IfErr result (IsBase64Fault symbols.now) }
+    ensures asked { room.new ≡ R.after_decoded room.old symbols.now }
 {
     match room.decoded(symbols) {
         Ok(bytes) => Ok(bytes),

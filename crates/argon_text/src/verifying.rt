@@ -1,10 +1,12 @@
 //! Whether a password gives the tag of a value.
-ghost use Rattle.std.specs.Prelude.{◌≡◌, ◌≢◌, ◌+◌, ◌↔◌, None, Ok, true, false, length, vec_len, IfOk, IfErr, IsTrue};
+ghost use Rattle.std.specs.Prelude.{◌≡◌, ◌≢◌, ◌+◌, ◌↔◌, None, Ok, true, false, length, IfOk, IfErr, OnOk, IsTrue};
 ghost use Rattle.argon.specs.Counts.{work};
 ghost use Rattle.argon.specs.Range.{admission, is_between};
+ghost use Rattle.argon_text.specs.Claim.{value_claimed};
 ghost use Rattle.argon_text.specs.Verifying.{IsToldFault, parameters_with, tag_of_password, verify_fault};
 ghost use Rattle.argon_text.specs.View.{value_of};
 
+use crate::claim::Claim;
 use crate::encoded::Encoded;
 use crate::fault::VerifyFault;
 use crate::room::Room;
@@ -37,7 +39,7 @@ pub fn verify(
     let mut room = alloc;
     verify_in(
         &mut room,
-        encoded,
+        &Claim::of(encoded),
         password,
         max_kib,
         max_ops,
@@ -45,54 +47,60 @@ pub fn verify(
     )
 }
 
-/// The same, with memory from `room`.
+/// The same, with memory from `room`: one request, for the matrix.
 pub(crate) fn verify_in<R: Room>(
     room: &mut R,
-    encoded: &Encoded,
+    claim: &Claim<'_>,
     password: &[u8],
     max_kib: u32,
     max_ops: u64,
     ticks: &mut Ticks,
 ) -> Result<bool, VerifyFault>
     ensures answer { IfOk result (λ same. IsTrue same
-        ↔ tag_of_password (value_of encoded.now) password.now ≡ encoded.now.tag.items) }
-    ensures admitted { IfOk result (λ _. verify_fault (value_of encoded.now) password.now max_kib max_ops ≡ None) }
-    ensures fault { IfErr result (IsToldFault (verify_fault (value_of encoded.now) password.now max_kib max_ops)) }
+        ↔ tag_of_password (value_claimed claim.now) password.now ≡ claim.now.tag.now) }
+    ensures admitted { IfOk result (λ _. verify_fault (value_claimed claim.now) password.now max_kib max_ops ≡ None) }
+    ensures fault { IfErr result (IsToldFault (verify_fault (value_claimed claim.now) password.now max_kib max_ops)) }
     // Nothing is asked of the source of memory before every other refusal is ruled out.
     ensures unasked { IfErr result (λ fault. fault ≢ VerifyFault.OutOfMemory → room.new ≡ room.old) }
+    // And then the matrix alone.
+    ensures asked { IfOk result (λ _. room.new
+        ≡ R.after_matrix room.old (parameters_with (value_claimed claim.now) password.now)) }
+    ensures refused { IfErr result (λ fault. fault ≡ VerifyFault.OutOfMemory
+        → room.new ≡ R.after_matrix room.old (parameters_with (value_claimed claim.now) password.now)) }
     // No hash begins before every refusal is ruled out, that of memory too.
     ensures idle { IfErr result (λ _. ticks.new ≡ ticks.old) }
-    ensures count { IfOk result (λ _. ticks.new ≡ ticks.old + work (parameters_with (value_of encoded.now) password.now)) }
+    ensures count { IfOk result (λ _. ticks.new ≡ ticks.old + work (parameters_with (value_claimed claim.now) password.now)) }
 {
-    let params = params_of(encoded, password)?;
+    let params = params_of(claim, password)?;
     match params.admitted(max_kib, max_ops) {
         Ok(()) => {}
         Err(ParamFault::MemoryLimit) => return Err(VerifyFault::MemoryLimit),
         Err(_) => return Err(VerifyFault::WorkLimit),
     }
-    match tag_of(room, &params, encoded, password, max_kib, max_ops, ticks) {
-        Ok(tag) => Ok(are_same(&tag, &encoded.tag)),
+    // the longest tag
+    let mut room_for_tag = [0; 4096];
+    let tag = &mut room_for_tag[..claim.tag.len()];
+    match write_tag(room, &params, claim, password, max_kib, max_ops, tag, ticks) {
+        Ok(()) => Ok(are_same(tag, claim.tag)),
         Err(_) => Err(VerifyFault::OutOfMemory),
     }
 }
 
 // The parameters of the hash. All but the password's length are in range.
-fn params_of(encoded: &Encoded, password: &[u8]) -> Result<Params, VerifyFault>
-    ensures parameters { IfOk result (λ params. params ≡ parameters_with (value_of encoded.now) password.now) }
+fn params_of(claim: &Claim<'_>, password: &[u8]) -> Result<Params, VerifyFault>
+    ensures parameters { IfOk result (λ params. params ≡ parameters_with (value_claimed claim.now) password.now) }
     ensures admitted { IfOk result (λ _. is_between 1 (length password.now) 127 ≡ true) }
     ensures fault { IfErr result (λ fault. (is_between 1 (length password.now) 127 ≡ false)
         × (fault ≡ VerifyFault.PasswordLength)) }
 {
-    let salt: &[u8] = &encoded.salt;
-    let tag: &[u8] = &encoded.tag;
     match Params::new(
-        encoded.kind,
-        encoded.version,
-        encoded.passes,
-        encoded.lanes,
-        encoded.memory,
-        tag.len(),
-        salt.len(),
+        claim.kind,
+        claim.version,
+        claim.passes,
+        claim.lanes,
+        claim.memory,
+        claim.tag.len(),
+        claim.salt.len(),
         password.len(),
     ) {
         Ok(params) => Ok(params),
@@ -100,31 +108,32 @@ fn params_of(encoded: &Encoded, password: &[u8]) -> Result<Params, VerifyFault>
     }
 }
 
-// The tag of the password, under parameters that the limits admit.
-fn tag_of<R: Room>(
+// Writes the tag of the password, under parameters that the limits admit.
+fn write_tag<R: Room>(
     room: &mut R,
     params: &Params,
-    encoded: &Encoded,
+    claim: &Claim<'_>,
     password: &[u8],
     max_kib: u32,
     max_ops: u64,
+    out: &mut [u8],
     ticks: &mut Ticks,
-) -> Result<Vec<u8>, AllocError>
+) -> Result<(), AllocError>
     requires admitted { admission params.now max_kib max_ops ≡ Ok tt }
-    requires parameters { params.now ≡ parameters_with (value_of encoded.now) password.now }
-    ensures tag { IfOk result (λ tag. tag.items ≡ tag_of_password (value_of encoded.now) password.now) }
-    ensures size { IfOk result (λ tag. vec_len tag ≡ vec_len encoded.now.tag) }
+    requires parameters { params.now ≡ parameters_with (value_claimed claim.now) password.now }
+    requires size { length out.old ≡ length claim.now.tag.now }
+    ensures tag { OnOk result (out.new ≡ tag_of_password (value_claimed claim.now) password.now) }
+    ensures asked { room.new ≡ R.after_matrix room.old params.now }
     ensures idle { IfErr result (λ _. ticks.new ≡ ticks.old) }
     ensures count { IfOk result (λ _. ticks.new ≡ ticks.old + work params.now) }
 {
-    let mut tag = room.zeros(encoded.tag.len())?;
     let mut matrix = room.matrix(params, max_kib, max_ops)?;
     let inputs = Inputs {
         password,
-        salt: &encoded.salt,
+        salt: claim.salt,
         secret: &[],
         associated: &[],
     };
-    matrix.hash(&inputs, &mut tag, ticks);
-    Ok(tag)
+    matrix.hash(&inputs, out, ticks);
+    Ok(())
 }

@@ -1,4 +1,6 @@
 //! A source of memory that refuses one request.
+ghost use Rattle.std.specs.Prelude.{◌≡◌, ◌-◌};
+
 use crate::room::Room;
 use argon::{Matrix, Params};
 use base64::DecodeAllocError;
@@ -13,28 +15,26 @@ pub struct Refusing {
 
 impl Refusing {
     // Whether a request is granted.
-    fn grants(&mut self) -> bool {
-        if self.left == 0 {
-            return false;
-        }
-        self.left -= 1;
-        true
+    fn grants(&mut self) -> bool
+        ensures left { self.new ≡ record self.old { left = self.old.left - 1 } }
+    {
+        let grants = self.left > 0;
+        self.left = self.left.saturating_sub(1);
+        grants
     }
 }
 
 impl Room for Refusing {
+    ghost after_decoded = { λ room _. record room { left = room.left - 1 } };
+
+    ghost after_matrix = { λ room _. record room { left = room.left - 1 } };
+
     fn decoded(&mut self, symbols: &[u8]) -> Result<Vec<u8>, DecodeAllocError> {
         if !self.grants() {
             return Err(DecodeAllocError::OutOfMemory);
         }
-        self.alloc.decoded(symbols)
-    }
-
-    fn zeros(&mut self, count: usize) -> Result<Vec<u8>, AllocError> {
-        if !self.grants() {
-            return Err(AllocError);
-        }
-        self.alloc.zeros(count)
+        let mut alloc = self.alloc;
+        alloc.decoded(symbols)
     }
 
     fn matrix(
@@ -46,6 +46,7 @@ impl Room for Refusing {
         if !self.grants() {
             return Err(AllocError);
         }
-        self.alloc.matrix(params, max_kib, max_ops)
+        let mut alloc = self.alloc;
+        alloc.matrix(params, max_kib, max_ops)
     }
 }

@@ -8,43 +8,35 @@ use Rattle.argon_text.proofs.Answering.{no_text, out_of_range, salt_fault, tag_f
 use Rattle.argon_text.proofs.TakingApart.{fields_give}
 use Rattle.argon_text.proofs.read.read_from.Goals as goal
 
-pub returns-in_default : goal.returns-in_default
-returns-in_default g c = record { answer = no_text c.args.text.now c.in_default.ensures.fields }
+pub returns-in_default-clause-answer : goal.returns-in_default-clause-answer
+returns-in_default-clause-answer g c = no_text c.args.text.now c.in_default.ensures.fields
 
-pub returns-in_err-salt : goal.returns-in_err-salt
-returns-in_err-salt g c =
+pub returns-in_err-salt-clause-answer : goal.returns-in_err-salt-clause-answer
+returns-in_err-salt-clause-answer g c =
     let told : c.from_residual.result ≡ Err c.in_err-salt.field-0.0 = search rules in
-    record {
-      answer = subst (IsAnswerOf c.args.text.now) (sym told)
-          (salt_fault c.args.text.now (fields_of c.in-Some.fields) c.in-Some.ensures.fields c.in_err-salt.field-0.0 c.in_err-salt.ensures.err);
-    }
+    subst (IsAnswerOf c.args.text.now) (sym told)
+    (salt_fault c.args.text.now (fields_of c.in-Some.fields) c.in-Some.ensures.fields c.in_err-salt.field-0.0 c.in_err-salt.ensures.err)
 
-pub returns-in_err-tag : goal.returns-in_err-tag
-returns-in_err-tag g c =
+pub returns-in_err-tag-clause-answer : goal.returns-in_err-tag-clause-answer
+returns-in_err-tag-clause-answer g c =
     let told : c.from_residual-in_err-tag.result ≡ Err c.in_err-tag.field-0.0 = search rules in
-    record {
-      answer = subst (IsAnswerOf c.args.text.now) (sym told)
-          (tag_fault c.args.text.now (fields_of c.in-Some.fields) c.in-Some.ensures.fields c.in_err-tag.field-0.0 c.in_err-tag.ensures.err);
-    }
+    subst (IsAnswerOf c.args.text.now) (sym told)
+    (tag_fault c.args.text.now (fields_of c.in-Some.fields) c.in-Some.ensures.fields c.in_err-tag.field-0.0 c.in_err-tag.ensures.err)
 
 pub encoded_of-requires : goal.encoded_of-requires
 encoded_of-requires g c = record { numbers = (fields_give c.args.text.now (fields_of c.in-Some.fields) c.in-Some.ensures.fields).1 }
 
-pub returns-in-None : goal.returns-in-None
-returns-in-None g c =
-    record {
-      answer = out_of_range c.args.text.now (fields_of c.in-Some.fields) c.in-Some.ensures.fields c.in_ok-salt.salt.items c.in_ok-tag.tag.items
-          c.in_ok-salt.ensures.bytes c.in_ok-tag.ensures.bytes c.in_ok-salt.ensures.text c.in_ok-tag.ensures.text c.in-None.ensures.value;
-    }
+pub returns-in-None-clause-answer : goal.returns-in-None-clause-answer
+returns-in-None-clause-answer g c =
+    out_of_range c.args.text.now (fields_of c.in-Some.fields) c.in-Some.ensures.fields c.in_ok-salt.salt.items c.in_ok-tag.tag.items
+    c.in_ok-salt.ensures.bytes c.in_ok-tag.ensures.bytes c.in_ok-salt.ensures.text c.in_ok-tag.ensures.text c.in-None.ensures.value
 
-pub returns-in-Some-encoded_of : goal.returns-in-Some-encoded_of
-returns-in-Some-encoded_of g c =
+pub returns-in-Some-encoded_of-clause-answer : goal.returns-in-Some-encoded_of-clause-answer
+returns-in-Some-encoded_of-clause-answer g c =
     let v : Value = value_with (fields_of c.in-Some.fields) c.in_ok-salt.salt.items c.in_ok-tag.tag.items in
     let same : value_of c.in-Some-encoded_of.encoded ≡ v = c.in-Some-encoded_of.ensures.value in
     let inside : is_in_range v ≡ true = sym (ap is_in_range same) ∙ c.in-Some-encoded_of.encoded.in_range in
     let P : Value → Type 0 = λ w. IsValue w × IsTextOf w c.args.text.now in
-    record {
-      answer = subst P (sym same)
-          (value_found c.args.text.now (fields_of c.in-Some.fields) c.in-Some.ensures.fields c.in_ok-salt.salt.items c.in_ok-tag.tag.items
-          c.in_ok-salt.ensures.bytes c.in_ok-tag.ensures.bytes c.in_ok-salt.ensures.text c.in_ok-tag.ensures.text inside);
-    }
+    subst P (sym same)
+    (value_found c.args.text.now (fields_of c.in-Some.fields) c.in-Some.ensures.fields c.in_ok-salt.salt.items c.in_ok-tag.tag.items
+    c.in_ok-salt.ensures.bytes c.in_ok-tag.ensures.bytes c.in_ok-salt.ensures.text c.in_ok-tag.ensures.text inside)
