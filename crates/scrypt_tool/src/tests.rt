@@ -56,3 +56,32 @@ fn file_that_is_cut(rt: HostRuntime) -> Result<(), Fail> {
     }
     Ok(())
 }
+
+// How many rows of the table are kept changes neither the file nor the text; a limit that they meet to the byte and to
+// the core admits them, and one below, or more rows apart than there are, leaves the output as it was.
+#[test]
+fn rows_that_are_kept(rt: HostRuntime) -> Result<(), Fail> {
+    fs::write(&rt, "pw", "pw\n")?;
+    fs::write(&rt, "text", "hello")?;
+    for keep in [2u64, 16] {
+        let enc = format!(in rt.alloc();
+            "enc --logN 4 -r 1 -p 1 --keep {keep} --salt {SALT} --passphrase file:pw text file"
+        )?;
+        assert_eq!(rt; status(rt, enc.as_str())?, 0);
+        assert_eq!(rt; fs::read(&rt, "file")?.as_slice(), FILE_OF_HELLO);
+    }
+    let rows = [
+        ("--keep 4 -M 512 --maxops 160", 0, "hello"),
+        ("--keep 4 -M 511", 1, "before"),
+        ("--keep 4 --maxops 159", 1, "before"),
+        ("--keep 32", 1, "before"),
+        ("--keep 3", 1, "before"),
+    ];
+    for (words, ends, back) in rows {
+        fs::write(&rt, "back", "before")?;
+        let dec = format!(in rt.alloc(); "dec {words} --passphrase file:pw file back")?;
+        assert_eq!(rt; status(rt, dec.as_str())?, ends);
+        assert_eq!(rt; fs::read(&rt, "back")?.as_slice(), back.as_bytes());
+    }
+    Ok(())
+}
