@@ -1,5 +1,5 @@
 -- What contracts see of the secret source that a host was asked for.
-use Rattle.std.specs.Prelude.{ℕ, List, [], ◌∷◌}
+use Rattle.std.specs.Prelude.{[], ◌∷◌}
 use Rattle.host.specs.Seen.{SecretSource, Text, env, file, stdin_once}
 use Rattle.host.specs.declared.asked.Name.{Name, End, Byte'}
 use Rattle.host.specs.declared.asked.Asked.{Asked}

@@ -1,5 +1,5 @@
 -- What contracts see of a host in memory.
-use Rattle.std.specs.Prelude.{ℕ, ◌+◌, ◌-◌, ◌^◌, ◌==◌, List, [], ◌∷◌, Option, Some, None, option_map, bytes_eq, if◌then◌else◌}
+use Rattle.std.specs.Prelude.{Bool, false, ℕ, ◌+◌, ◌-◌, ◌^◌, ◌==◌, List, [], ◌∷◌, Option, Some, None, option_map, bytes_eq, if◌then◌else◌}
 use Rattle.std.specs.List.{find}
 use Rattle.host.specs.Seen.{SecretSource, Seen, Text}
 use Rattle.host.specs.Faults.{Faults, no_faults}
@@ -21,6 +21,7 @@ pub record Memory : Type 0 where
   pub input_opened : Option (Option Text)
   pub output_opened : Option (Option Text)
   pub asked : Option SecretSource
+  pub salted : Bool
   pub said : List Text
   pub stdin : List ℕ
   pub variables : List Entry
@@ -40,6 +41,7 @@ new_memory input stdin salt = record {
   input_opened = None;
   output_opened = None;
   asked = None;
+  salted = false;
   said = [];
   stdin = stdin;
   variables = [];
@@ -60,6 +62,7 @@ memory_seen m = record {
   input_opened = m.input_opened;
   output_opened = m.output_opened;
   asked = m.asked;
+  salted = m.salted;
   said = m.said;
   stdin = Some m.stdin;
   variables = lookup m.variables;

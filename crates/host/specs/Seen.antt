@@ -1,5 +1,5 @@
 -- What contracts see of a host that tells its bytes, and what each call leaves of it.
-use Rattle.std.specs.Prelude.{◌≡◌, ℕ, List, ◌∷◌, [], ◌++◌, drop, Option, Some, None}
+use Rattle.std.specs.Prelude.{◌≡◌, Bool, true, false, ℕ, List, ◌∷◌, [], ◌++◌, drop, Option, Some, None}
 
 -- a text: its bytes
 abbrev pub Text : Type 0
@@ -12,25 +12,27 @@ pub data SecretSource : Type 0 where
   file : Text → SecretSource
 
 -- the input that is left, the output so far, the names under which they were opened (None: not opened; Some None:
--- the standard stream), the secret source that was asked (None: none was), the lines said so far, the secret sources,
--- and the salt
+-- the standard stream), the secret source that was asked (None: none was), whether a salt was asked for, the lines said
+-- so far, the secret sources, and the salt
 pub record Seen : Type 0 where
   pub input : List ℕ
   pub output : List ℕ
   pub input_opened : Option (Option Text)
   pub output_opened : Option (Option Text)
   pub asked : Option SecretSource
+  pub salted : Bool
   pub said : List Text
   pub stdin : Option (List ℕ)
   pub variables : Text → Option (List ℕ)
   pub files : Text → Option (List ℕ)
   pub salt : List ℕ
 
--- no input and no output is opened yet, and no secret source was asked
+-- no input and no output is opened yet, no secret source was asked, and no salt was asked for
 pub record IsFresh (s : Seen) : Type 0 where
   pub input : s.input_opened ≡ None
   pub output : s.output_opened ≡ None
   pub asked : s.asked ≡ None
+  pub unsalted : s.salted ≡ false
 
 -- n bytes of the input are gone
 abbrev pub after_pull : ℕ → Seen → Seen
@@ -56,6 +58,10 @@ after_open_output name s = record s { output_opened = Some name }
 abbrev pub after_ask : SecretSource → Seen → Seen
 after_ask source s = record s { asked = Some source }
 
+-- a salt was asked for
+abbrev pub after_salt : Seen → Seen
+after_salt s = record s { salted = true }
+
 -- stands where a host tells nothing
 abbrev pub nothing_seen : Seen
 nothing_seen = record {
@@ -64,6 +70,7 @@ nothing_seen = record {
   input_opened = None;
   output_opened = None;
   asked = None;
+  salted = false;
   said = [];
   stdin = None;
   variables = λ _. None;

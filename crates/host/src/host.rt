@@ -1,13 +1,13 @@
 //! What a command asks of the world.
-ghost use Rattle.std.specs.Prelude.{◌≡◌, ◌-◌, ◌<◌, ◌≤◌, ◌^◌, Bool, [], None, take, length, option_map, IfOk, OnOk, OnErr, IsTrue};
+ghost use Rattle.std.specs.Prelude.{◌≡◌, ◌-◌, ◌<◌, ◌≤◌, ◌^◌, Bool, false, [], None, take, length, option_map, IfOk, OnOk, OnErr, IsTrue};
 ghost use Rattle.host.specs.Faults.{Faults, AreBelow, input_failed, output_failed, secret_failed, salt_failed, line_failed};
 ghost use Rattle.host.specs.Secret.{secret_of, source_of, IsBeginning};
-ghost use Rattle.host.specs.Seen.{Seen, after_ask, after_pull, after_push, after_say, after_open_input, after_open_output};
+ghost use Rattle.host.specs.Seen.{Seen, after_ask, after_pull, after_push, after_salt, after_say, after_open_input, after_open_output};
 
 use thiserror::Error;
 
 /// The host could not do what it was asked. Its count of such failures has risen by one, and
-/// nothing else has changed, but that a secret source was asked.
+/// nothing else has changed, but that a secret source was asked, or a salt was asked for.
 #[derive(Clone, Copy, Debug, PartialEq, Eq, Error)]
 #[error("the host failed")]
 pub struct HostFault;
@@ -28,12 +28,14 @@ pub enum Source<'a> {
 /// Contracts see whether the host tells its bytes (`tells`), its bytes, names and lines (`seen`), and
 /// how often its calls have failed (`faults`). A call that answers `Ok` changes no count, and of
 /// `seen` only what its clauses say; a call that answers `Err` raises its count by one and changes
-/// nothing else, but that a secret source was asked. What is said of bytes, names and lines holds of
-/// a host that tells them; the counts and the bounds on lengths hold of every host.
+/// nothing else, but that a secret source was asked, or a salt was asked for. What is said of bytes,
+/// names and lines holds of a host that tells them; the counts and the bounds on lengths hold of every
+/// host.
 ///
 /// An input is opened once, and so is an output: opened again under the same name, a file would be
 /// read from its beginning, or be emptied, and contracts would not see it. One secret source is asked,
-/// once: asked again, standard input would be at its end, or wait for more.
+/// once: asked again, standard input would be at its end, or wait for more. A salt is asked for once:
+/// asked for again, another would come, and a command could take the one that it likes.
 pub trait Host {
     // Whether contracts may speak of the bytes, names and lines.
     ghost tells: { Bool };
@@ -104,12 +106,14 @@ pub trait Host {
         ensures bytes { IsTrue tells →
             IfOk result (λ n. IsBeginning (secret_of source.entry (seen self.old)) n buf.new) };
 
-    /// Fills the buffer with the salt of a new file.
+    /// Fills the buffer with the salt of a new file. No salt was asked for before; now one was,
+    /// whatever the answer.
     fn salt(&mut self, out: &mut [u8; 32]) -> Result<(), HostFault>
         requires room { AreBelow (2 ^ 64 - 1) (faults self.old) }
+        requires unsalted { IsTrue tells → (seen self.old).salted ≡ false }
         ensures counts { OnOk result (faults self.new ≡ faults self.old) }
         ensures counted { OnErr result (faults self.new ≡ salt_failed (faults self.old)) }
-        ensures kept { IsTrue tells → seen self.new ≡ seen self.old }
+        ensures salts { IsTrue tells → seen self.new ≡ after_salt (seen self.old) }
         ensures bytes { IsTrue tells → OnOk result (out.new ≡ (seen self.old).salt) };
 
     /// Says a line, which comes without a line feed.

@@ -25,6 +25,7 @@ pub struct MemoryHost {
     input_name: Option<Option<String>>,
     output_name: Option<Option<String>>,
     asked: Option<Asked>,
+    salted: bool,
     lines: Vec<String>,
     stdin: Vec<u8>,
     variables: Vec<NamedSecret>,
@@ -50,6 +51,7 @@ impl Model for MemoryHost {
       input_opened = option_map (option_map string_bytes) h.input_name;
       output_opened = option_map (option_map string_bytes) h.output_name;
       asked = option_map asked_source h.asked;
+      salted = h.salted;
       said = map string_bytes h.lines.items;
       stdin = h.stdin.items;
       variables = h.variables.items;
@@ -87,6 +89,7 @@ impl MemoryHost {
             input_name: None,
             output_name: None,
             asked: None,
+            salted: false,
             lines: Vec::new(alloc),
             stdin,
             variables: Vec::new(alloc),
@@ -290,6 +293,7 @@ impl Host for MemoryHost {
     }
 
     fn salt(&mut self, out: &mut [u8; 32]) -> Result<(), HostFault> {
+        self.salted = true;
         if self.is_failing() {
             self.salt_faults += 1;
             return Err(HostFault);
@@ -372,13 +376,13 @@ mod tests {
     #[test]
     fn gives_the_salt(rt: HostRuntime) {
         let alloc = rt.alloc();
-        let mut host = MemoryHost::new(alloc, Vec::new(alloc), Vec::new(alloc), [7; 32]);
-        let mut salt = [0u8; 32];
-        host.fail_at(1);
-        assert_eq!(rt; host.salt(&mut salt), Err(HostFault));
-        assert_eq!(rt; salt, [0; 32]);
-        assert_eq!(rt; host.salt(&mut salt), Ok(()));
-        assert_eq!(rt; salt, [7; 32]);
+        for (failing, outcome, filled) in [(0, Ok(()), [7; 32]), (1, Err(HostFault), [0; 32])] {
+            let mut host = MemoryHost::new(alloc, Vec::new(alloc), Vec::new(alloc), [7; 32]);
+            host.fail_at(failing);
+            let mut salt = [0u8; 32];
+            assert_eq!(rt; host.salt(&mut salt), outcome);
+            assert_eq!(rt; salt, filled);
+        }
     }
 
     #[test]
