@@ -5,14 +5,14 @@ ghost use Rattle.host.specs.Seen.{Text};
 ghost use Rattle.tools.specs.Beginning.{IsFirstOf, IsKnownBeginning, random_bytes, secret_bytes};
 ghost use Rattle.tools.specs.Opened.{IsNamedInput, IsStandardInput};
 
-use crate::identity::{FileIdentity, regular, regular_file};
+use crate::identity::{FileIdentity, regular_file, regular_stream};
 use crate::placeholders::beside_standard_streams;
 use crate::streams::read_full;
 use host::{HostFault, Source};
 use std::env::{Env, FillError};
 use std::fs::File;
+use std::io;
 use std::io::{Read, Stdin};
-use std::{fs, io};
 
 /// An input that is opened.
 #[derive(Drop)]
@@ -33,14 +33,10 @@ impl Read for Input {
 }
 
 impl Input {
-    /// The regular file that is read. What standard input is, the system tells under the name of its
-    /// descriptor; where it does not, none is known.
+    /// The regular file that is read.
     pub fn identity(&self, rt: HostRuntime) -> Result<Option<FileIdentity>, HostFault> {
         match self {
-            Input::Standard(_) => match fs::metadata(&rt, "/proc/self/fd/0") {
-                Ok(metadata) => Ok(regular(&metadata)),
-                Err(_) => Ok(None),
-            },
+            Input::Standard(_) => Ok(regular_stream(rt, "/proc/self/fd/0")),
             Input::Named(file) => regular_file(file),
         }
     }

@@ -13,9 +13,9 @@ use host::{Host, HostFault, Source};
 /// Files, the environment, the standard streams, and the system's random bytes for salts.
 ///
 /// A named output is made, or emptied where it is there; one that is the opened input or the secret's
-/// file, under whatever name, is a fault and stays as it is. A push is written at once. A read or a
-/// write that a signal interrupts is asked again at most 16 times, and a write of no bytes is a
-/// fault; a line goes out by the toolchain's printing, with its line feed in one call. A standard
+/// file, under whatever name or as standard output, is a fault and stays as it is. A push is written at
+/// once. A read or a write that a signal interrupts is asked again at most 16 times, and a write of no
+/// bytes is a fault; a line goes out by the toolchain's printing, with its line feed in one call. A standard
 /// stream that is closed when the host is made stays without use: no file that is opened later takes
 /// its place, and reading or writing it is a fault. Where the root folder may not be opened, opening
 /// a file is a fault as long as a standard stream is closed.
