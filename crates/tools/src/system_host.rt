@@ -129,14 +129,14 @@ impl Host for SystemHost {
     }
 
     fn secret(&mut self, source: Source<'_>, buf: &mut [u8]) -> Result<usize, HostFault> {
-        let read = read_secret(&self.rt, source, buf);
+        let read = read_secret(&mut self.rt, source, buf);
         let Secret { length, opened } = counted(&mut self.secret_faults, read)?;
         self.secret = opened;
         Ok(length)
     }
 
     fn salt(&mut self, out: &mut [u8; 32]) -> Result<(), HostFault> {
-        counted(&mut self.salt_faults, read_salt(&self.rt, out))
+        counted(&mut self.salt_faults, read_salt(&mut self.rt, out))
     }
 
     fn say(&mut self, line: &str) -> Result<(), HostFault> {
