@@ -2,9 +2,11 @@
 ghost use Rattle.std.specs.Prelude.{◌≡◌, ◌^◌, [], ◌∷◌, codes, slice_set, take, Some, None};
 ghost use Rattle.std.specs.List.{range_with_len};
 ghost use Rattle.encfile.specs.EncryptedFile.{encrypted_file};
-ghost use Rattle.encfile.specs.Front.{format_refusal, limits_refusal};
-ghost use Rattle.encfile.specs.Front.FrontRefusal.{KeepAboveN, NotScryptData, OtherVersion, TooMuchMemory, TooMuchWork};
-ghost use Rattle.encfile.specs.Vectors.{allowance, front_of_costs};
+ghost use Rattle.encfile.specs.Front.{format_refusal, front_refusal, limits_refusal};
+ghost use Rattle.encfile.specs.Front.FrontRefusal.{KeepAboveN, NotScryptData, OtherPassphrase, OtherVersion, TooMuchMemory, TooMuchWork};
+ghost use Rattle.encfile.specs.HeaderFaults.{header_fault};
+ghost use Rattle.encfile.specs.Vectors.{allowance, front_of_costs, front_of_hello};
+ghost use Rattle.encfile.specs.declared.fault.HeaderFault.TheVariants.{Checksum, CostsOutOfRange, Magic, Version};
 
 // The file of `hello` with log2 N 4, r 1, p 1, the passphrase `pw` and the salt 00 01 .. 1f, as
 // Python's `hashlib.scrypt` and `hmac`, and `openssl enc -aes-256-ctr`, give it.
@@ -42,4 +44,24 @@ fn refusals_of_fronts()
     ensures sparse_work { limits_refusal (front_of_costs 4 1 1) (allowance 4 512 159) ≡ Some TooMuchWork }
     ensures sparsest { limits_refusal (front_of_costs 4 1 1) (allowance 16 128 544) ≡ None }
     ensures keep { limits_refusal (front_of_costs 4 1 1) (allowance 32 1 1) ≡ Some KeepAboveN }
+{}
+
+// The same fronts by the fault of the header: the first of text, version, checksum and costs.
+fn faults_of_headers()
+    ensures none { header_fault (front_of_costs 4 1 1) ≡ None }
+    ensures magic { header_fault (slice_set (front_of_costs 4 1 1) 5 0) ≡ Some Magic }
+    ensures magic_first { header_fault (slice_set (slice_set (front_of_costs 4 1 1) 5 0) 6 1) ≡ Some Magic }
+    ensures version { header_fault (slice_set (front_of_costs 4 1 1) 6 1) ≡ Some Version }
+    ensures checksum { header_fault (slice_set (front_of_costs 4 0 1) 20 0) ≡ Some Checksum }
+    ensures log_n { header_fault (front_of_costs 64 1 1) ≡ Some CostsOutOfRange }
+    ensures zero { header_fault (front_of_costs 4 0 1) ≡ Some CostsOutOfRange }
+    ensures product { header_fault (front_of_costs 4 (2 ^ 15) (2 ^ 15)) ≡ Some CostsOutOfRange }
+{}
+
+// The file of `hello` above, by its first 96 bytes: under its passphrase, under another, and where
+// the limits refuse it first.
+fn passphrases_of_hello()
+    ensures own { front_refusal front_of_hello (allowance 1 2048 64) (codes "pw") ≡ None }
+    ensures other { front_refusal front_of_hello (allowance 1 2048 64) (codes "pv") ≡ Some OtherPassphrase }
+    ensures limits_first { front_refusal front_of_hello (allowance 1 2047 64) (codes "pv") ≡ Some TooMuchMemory }
 {}

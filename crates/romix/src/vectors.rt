@@ -4,6 +4,7 @@ ghost use Rattle.romix.specs.BlockMix.{block_mix};
 ghost use Rattle.romix.specs.Romix.{integerify, romix};
 ghost use Rattle.romix.specs.Salsa20.{quarter_round, salsa20_8};
 ghost use Rattle.romix.specs.Scrypt.{scrypt};
+ghost use Rattle.romix.specs.Sparse.{sparse_cores};
 
 // Salsa20 specification, section 3, the last example.
 fn quarter_round_example()
@@ -67,6 +68,15 @@ fn scrypt_of_nothing()
         0x32 ∷ 0x6A ∷ 0x75 ∷ 0x3A ∷ 0x0F ∷ 0xC8 ∷ 0x1F ∷ 0x17 ∷
         0xE8 ∷ 0xD3 ∷ 0xE0 ∷ 0xFB ∷ 0x2E ∷ 0x0D ∷ 0x36 ∷ 0x28 ∷
         0xCF ∷ 0x35 ∷ 0xE2 ∷ 0x0C ∷ 0x38 ∷ 0xD1 ∷ 0x89 ∷ 0x06 ∷ [] }
+{}
+
+// The same over sparse tables, of eight rows down to one. A program in Python that makes the rows
+// between again, and gives the key above, counted its cores.
+fn sparse_cores_of_nothing()
+    ensures keep_2 { sparse_cores [] [] (record { costs = record { log_n = 4; r = 1; p = 1 }; keep = 2 }) ≡ 82 }
+    ensures keep_4 { sparse_cores [] [] (record { costs = record { log_n = 4; r = 1; p = 1 }; keep = 4 }) ≡ 122 }
+    ensures keep_8 { sparse_cores [] [] (record { costs = record { log_n = 4; r = 1; p = 1 }; keep = 8 }) ≡ 178 }
+    ensures keep_16 { sparse_cores [] [] (record { costs = record { log_n = 4; r = 1; p = 1 }; keep = 16 }) ≡ 290 }
 {}
 
 // All sixteen words of the last block count, the lowest first.

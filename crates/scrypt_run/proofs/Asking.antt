@@ -5,7 +5,7 @@ use Rattle.encfile.specs.Front.{FrontRefusal}
 use Rattle.host.specs.Output.{IsCutShort}
 use Rattle.host.specs.Seen.{Seen, Text}
 use Rattle.scrypt_run.specs.Decrypting.{DecryptRefused, ReleaseRefused}
-use Rattle.scrypt_run.specs.Encrypting.{EncryptRefused, WriteRefused}
+use Rattle.scrypt_run.specs.Encrypting.{EncryptRefused, StartRefused, WriteRefused}
 use Rattle.scrypt_run.specs.Front.{FrontRefused}
 use Rattle.scrypt_run.specs.Inspecting.{InspectRefused}
 use Rattle.scrypt_run.specs.Laws.{AsksNoOther}
@@ -45,6 +45,11 @@ of_write r passphrase salt costs outfile before after (inr (inl cut)) = same_sou
 of_write r passphrase salt costs outfile before after (inr (inr (inl reading))) = same_source _ after reading.1.passes
 of_write r passphrase salt costs outfile before after (inr (inr (inr long))) = same_source _ after long.1.passes
 
+of_start : (r : ScryptRefusal) (salt line : Option (List ℕ)) (before after : Seen) → StartRefused r salt line before after → after.asked ≡ before.asked
+of_start r salt line before after (inl refused) = same_source _ after refused.1
+of_start r salt line before after (inr (inl failed)) = same_source _ after failed.2
+of_start r salt line before after (inr (inr lacks)) = same_source _ after lacks.1
+
 of_line : (LacksMemory FailsOutput : Type 0) (line : List ℕ) (before after : Seen)
     → (LacksMemory × (after ≡ before)) ⊎ (FailsOutput × (after ≡ before)) ⊎ (FailsOutput × IsCutShort None line before after) → after.asked ≡ before.asked
 of_line LacksMemory FailsOutput line before after (inl lacks) = same_source _ after lacks.1
@@ -55,7 +60,7 @@ of_line LacksMemory FailsOutput line before after (inr (inr cut)) = same_source 
 
 of_enc : (r : ScryptRefusal) (asked : Encryption) (before after : Seen) → EncryptRefused r asked before after → AsksNoOther (encrypt asked) before after
 of_enc r asked before after (inl opening) = inl (same_source _ after opening.0)
-of_enc r asked before after (inr (inl starting)) = inr (same_source _ after starting.unopened)
+of_enc r asked before after (inr (inl starting)) = inr (of_start r asked.salt _ _ after starting.refused)
 of_enc r asked before after (inr (inr writing)) = inr (of_write r _ _ _ _ _ after writing.refused)
 
 of_dec : (r : ScryptRefusal) (task : Task) (before after : Seen) → DecryptRefused r task before after → AsksNoOther (decrypt task) before after

@@ -19,6 +19,14 @@ pub if_ok : {A E : Type 0} {P Q : A → Type 0} (r : Result A E) → ((a : A) �
 if_ok (Ok a) f h = f a h
 if_ok (Err e) f h = h
 
+pub always_ok : {A E : Type 0} {P : Type 0} (r : Result A E) → P → OnOk r P
+always_ok (Ok a) h = h
+always_ok (Err e) h = tt
+
+pub always_err : {A E : Type 0} {P : E → Type 0} (r : Result A E) → ((e : E) → P e) → IfErr r P
+always_err (Ok a) f = tt
+always_err (Err e) f = f e
+
 -- reading the input leaves the secrets
 pub first_line_at-reading : (source : SecretSource) (infile : Option Text) (n : ℕ) (s : Seen) → first_line_at source (after_reading infile n s) ≡ first_line_at source s
 first_line_at-reading stdin_once infile n s = refl

@@ -7,11 +7,12 @@ use Rattle.std.specs.Fmt.{decimal}
 use Rattle.romix.specs.Allowance.{Allowance}
 use Rattle.romix.specs.Costs.{Parameters, cores, table_bytes}
 use Rattle.encfile.specs.Front.{FrontRefusal, costs_refusal, format_refusal, header_refusal, limits_refusal}
-use Rattle.encfile.specs.Header.{costs_of}
+use Rattle.encfile.specs.Header.{costs_of, salt_of}
 use Rattle.encfile.specs.HeaderFaults.{header_fault}
 use Rattle.encfile.specs.declared.fault.HeaderFault.{HeaderFault}
 use Rattle.encfile.proofs.Fronts.{format_refusal-header, format_refusal-short, format_refusal-take, limits_refusal-costs, limits_refusal-format, limits_refusal-take}
 use Rattle.encfile.proofs.Headers.{costs_of-take}
+use Rattle.encfile.proofs.Pieces.{bytes_at-take}
 use Rattle.host.specs.Seen.{Seen, Text, after_open_input, after_pull}
 use Rattle.scrypt_run.specs.Front.{FrontRefused}
 use Rattle.scrypt_run.specs.Inspecting.{costs_line}
@@ -48,6 +49,9 @@ format_front front file long first = ap format_refusal first ∙ format_refusal-
 
 pub costs_front : (n : ℕ) (front file : List ℕ) (costs : Parameters) → 16 ≤ n → front ≡ take n file → costs ≡ costs_of front → costs ≡ costs_of file
 costs_front n front file costs long first is = is ∙ ap costs_of first ∙ costs_of-take n file long
+
+pub salt_front : (n : ℕ) (front file salt : List ℕ) → 48 ≤ n → front ≡ take n file → salt ≡ salt_of front → salt ≡ salt_of file
+salt_front n front file salt long first is = is ∙ ap salt_of first ∙ bytes_at-take n 16 32 file (omega (arith, long))
 
 -- what `Header::read` tells of the first 64 of them
 pub format_told : (front bytes : List ℕ) (told : Option HeaderFault) → length front ≡ 96 → bytes ≡ take 64 front → header_fault bytes ≡ told

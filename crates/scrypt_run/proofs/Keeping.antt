@@ -19,14 +19,15 @@ use Rattle.scrypt_run.proofs.Openings.{none_refuses}
 
 -- ---- what refuses a file
 
-by_format : (file : List ℕ) (a b : Allowance) (told : Option FrontRefusal) → format_refusal file ≡ told → costs_refusal (costs_of file) a ≡ None
-    → costs_refusal (costs_of file) b ≡ None → limits_refusal file a ≡ limits_refusal file b
-by_format file a b None valid ha hb = limits_refusal-costs file a valid ∙ ha ∙ sym (limits_refusal-costs file b valid ∙ hb)
+by_format : (file : List ℕ) (a b : Allowance) (told : Option FrontRefusal) → format_refusal file ≡ told
+    → (format_refusal file ≡ None → costs_refusal (costs_of file) a ≡ None) → (format_refusal file ≡ None → costs_refusal (costs_of file) b ≡ None)
+    → limits_refusal file a ≡ limits_refusal file b
+by_format file a b None valid ha hb = limits_refusal-costs file a valid ∙ ha valid ∙ sym (limits_refusal-costs file b valid ∙ hb valid)
 by_format file a b (Some r) told ha hb = limits_refusal-format file a r told ∙ sym (limits_refusal-format file b r told)
 
--- where both admit its costs
-same_limits : (file : List ℕ) (a b : Allowance) → costs_refusal (costs_of file) a ≡ None → costs_refusal (costs_of file) b ≡ None
-    → limits_refusal file a ≡ limits_refusal file b
+-- where both admit its costs, if it has a header
+same_limits : (file : List ℕ) (a b : Allowance) → (format_refusal file ≡ None → costs_refusal (costs_of file) a ≡ None)
+    → (format_refusal file ≡ None → costs_refusal (costs_of file) b ≡ None) → limits_refusal file a ≡ limits_refusal file b
 same_limits file a b ha hb = by_format file a b (format_refusal file) refl ha hb
 
 same_front : (file : List ℕ) (a b : Allowance) (passphrase : List ℕ) → limits_refusal file a ≡ limits_refusal file b
@@ -76,7 +77,7 @@ encrypt_refused_with asked keep before after r one other (inl (same, inl told)) 
     absurd (none_refuses (costs_refusal asked.costs (allowance_of asked.task)) r one told)
 encrypt_refused_with asked keep before after r one other (inl (same, inr failed)) = inl (same, inr (other, failed.1))
 encrypt_refused_with asked keep before after r one other (inr (inl starting)) =
-    inr (inl (record { admitted = other; refused = starting.refused; unopened = starting.unopened }))
+    inr (inl (record { admitted = other; refused = starting.refused }))
 encrypt_refused_with asked keep before after r one other (inr (inr ends)) =
     inr (inr (record { admitted = other; passphrase = ends.passphrase; given = ends.given; refused = ends.refused }))
 

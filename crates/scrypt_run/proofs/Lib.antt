@@ -10,3 +10,4 @@ pub mod Openings
 pub mod Passing
 pub mod Refusals
 pub mod Successes
+pub mod Working

@@ -9,7 +9,7 @@ use Rattle.encfile.specs.Front.FrontRefusal.{NotScryptData, OtherPassphrase}
 use Rattle.encfile.proofs.Fronts.{format_refusal-short, front_refusal-wrong, limits_refusal-format}
 use Rattle.host.specs.Seen.{Seen, Text, after_open_output}
 use Rattle.scrypt_run.specs.Decrypting.{DecryptRefused, OpenRefused, ReleaseRefused, front_refusal_of, limits_refusal_of, text_behind, passphrase_asked as passphrase_asked_by_dec}
-use Rattle.scrypt_run.specs.Encrypting.{EncryptRefused, StartRefused, TextNotOpened, WriteRefused, costs_refusal_of, passphrase_asked, salt_used}
+use Rattle.scrypt_run.specs.Encrypting.{EncryptRefused, StartRefused, TextNotOpened, WriteRefused, costs_refusal_of, passphrase_asked, salt_asked, salt_used}
 use Rattle.scrypt_run.specs.Front.{FrontRefused, after_front}
 use Rattle.scrypt_run.specs.Inspecting.{InspectRefused}
 use Rattle.scrypt_run.specs.Laws.{AreOneEnd, IsFromOutside, IsRefusedFromOutside}
@@ -168,14 +168,14 @@ text_not_opened asked before after r (same, inr failed) = inl (inl failed.1)
 to_text : (asked : Encryption) (s : Seen) → costs_refusal_of asked ≡ None → from_inside (encrypt asked) s ≡ of_text asked s
 to_text asked s admitted = front_passed (costs_refusal_of asked) s (of_text asked s) admitted
 
-start_refused : (asked : Encryption) (before after : Seen) (r : ScryptRefusal) → costs_refusal_of asked ≡ None → after ≡ passphrase_asked asked before
-    → StartRefused r asked.salt (first_line_at asked.task.source before) → EncryptDecided asked before r after
-start_refused asked before after r admitted same (inl refused) =
+start_refused : (asked : Encryption) (before after : Seen) (r : ScryptRefusal) → costs_refusal_of asked ≡ None
+    → StartRefused r asked.salt (first_line_at asked.task.source before) (passphrase_asked asked before) after → EncryptDecided asked before r after
+start_refused asked before after r admitted (inl refused) =
     encrypt_decided asked before r after
     (later r after _ (of_text asked before) (to_text asked before admitted)
-    (passphrase_refused (first_line_at asked.task.source before) (passphrase_asked asked before) after r _ same refused))
-start_refused asked before after r admitted same (inr (inl failed)) = inl (inr (failed.0, failed.1))
-start_refused asked before after r admitted same (inr (inr lacks)) = inl (inl (inr (inr (inr lacks.0))))
+    (passphrase_refused (first_line_at asked.task.source before) (passphrase_asked asked before) after r _ refused.1 refused.0))
+start_refused asked before after r admitted (inr (inl failed)) = inl (inr (failed.0, failed.1))
+start_refused asked before after r admitted (inr (inr lacks)) = inl (inl (inr (inr (inr lacks.0))))
 
 write_refused : (asked : Encryption) (passphrase salt : List ℕ) (before after : Seen) (r : ScryptRefusal)
     → WriteRefused r passphrase salt asked.costs asked.task.outfile before after → OutsideOr (Some (inside refusal.TooLong None)) r after
@@ -187,13 +187,13 @@ write_refused asked passphrase salt before after r (inr (inr (inr long))) =
 
 encrypt_refused : (asked : Encryption) (before after : Seen) (r : ScryptRefusal) → EncryptRefused r asked before after → EncryptDecided asked before r after
 encrypt_refused asked before after r (inl opening) = encrypt_decided asked before r after (text_not_opened asked before after r opening)
-encrypt_refused asked before after r (inr (inl starting)) = start_refused asked before after r starting.admitted starting.unopened starting.refused
+encrypt_refused asked before after r (inr (inl starting)) = start_refused asked before after r starting.admitted starting.refused
 encrypt_refused asked before after r (inr (inr ends)) =
     encrypt_decided asked before r after
     (later r after _ (Some (inside refusal.TooLong None))
     (to_text asked before ends.admitted
     ∙ line_passed (first_line_at asked.task.source before) (passphrase_asked asked before) _ ends.passphrase ends.given)
-    (write_refused asked ends.passphrase (salt_used asked.salt before) (passphrase_asked asked before) after r ends.refused))
+    (write_refused asked ends.passphrase (salt_used asked.salt before) (salt_asked asked before) after r ends.refused))
 
 -- ---- of `dec`
 

@@ -5,7 +5,7 @@ use Rattle.encfile.specs.EncryptedFile.{encrypted_file}
 use Rattle.encfile.specs.Front.{format_refusal}
 use Rattle.host.specs.Seen.{Seen, Text, after_open_output}
 use Rattle.scrypt_run.specs.Decrypting.{DecryptSucceeds, text_behind, passphrase_asked as passphrase_asked_by_dec}
-use Rattle.scrypt_run.specs.Encrypting.{EncryptRefused, EncryptSucceeds, StartRefused, TextNotOpened, WriteRefused, costs_refusal_of, passphrase_asked, salt_used}
+use Rattle.scrypt_run.specs.Encrypting.{EncryptRefused, EncryptSucceeds, StartRefused, TextNotOpened, WriteRefused, costs_refusal_of, passphrase_asked, salt_asked, salt_used}
 use Rattle.scrypt_run.specs.Inspecting.{InspectRefused, InspectSucceeds}
 use Rattle.scrypt_run.specs.Laws.{IsFromOutside, IsRefusedFromOutside, WroteAnEncryption}
 use Rattle.scrypt_run.specs.Passphrase.{HasPassphrase, first_line_at}
@@ -20,7 +20,7 @@ use Rattle.scrypt_run.proofs.Openings.{decrypt_from_outside, front_from_outside,
 
 one_encryption : (asked : Encryption) (before a b : Seen) → EncryptSucceeds asked before a → EncryptSucceeds asked before b → a ≡ b
 one_encryption asked before a b ha hb =
-    let opened = passphrase_asked asked before in
+    let opened = salt_asked asked before in
     ha.encrypted.written
     ∙ ap (λ p. after_passing (encrypted_file p (salt_used asked.salt before) asked.costs) (length opened.input) (after_open_output asked.task.outfile opened))
     (one_passphrase _ ha.passphrase hb.passphrase ha.given hb.given)
@@ -62,12 +62,12 @@ opening_from_outside : (asked : Encryption) (before ended : Seen) (r : ScryptRef
 opening_from_outside asked before ended r admitted (same, inl told) = absurd (none_refuses (costs_refusal_of asked) r admitted told)
 opening_from_outside asked before ended r admitted (same, inr failed) = inl failed.1
 
-starting_from_outside : (asked : Encryption) (before : Seen) (passphrase : List ℕ) (r : ScryptRefusal)
-    → HasPassphrase (first_line_at asked.task.source before) passphrase → StartRefused r asked.salt (first_line_at asked.task.source before)
+starting_from_outside : (asked : Encryption) (before ended : Seen) (passphrase : List ℕ) (r : ScryptRefusal)
+    → HasPassphrase (first_line_at asked.task.source before) passphrase → StartRefused r asked.salt (first_line_at asked.task.source before) (passphrase_asked asked before) ended
     → IsRefusedFromOutside (encrypt asked) r
-starting_from_outside asked before passphrase r given (inl refused) = inl (passphrase_from_outside _ passphrase r given refused)
-starting_from_outside asked before passphrase r given (inr (inl failed)) = inr (failed.0, failed.1)
-starting_from_outside asked before passphrase r given (inr (inr lacks)) = inl (inr (inr (inr lacks.0)))
+starting_from_outside asked before ended passphrase r given (inl refused) = inl (passphrase_from_outside _ passphrase r given refused.0)
+starting_from_outside asked before ended passphrase r given (inr (inl failed)) = inr (failed.0, failed.1)
+starting_from_outside asked before ended passphrase r given (inr (inr lacks)) = inl (inr (inr (inr lacks.0)))
 
 writing_from_outside : (asked : Encryption) (before ended : Seen) (passphrase salt : List ℕ) (r : ScryptRefusal) → length before.input < 2 ^ 60
     → WriteRefused r passphrase salt asked.costs asked.task.outfile before ended → IsFromOutside r
@@ -81,9 +81,9 @@ encrypt_from_outside : (asked : Encryption) (before after ended : Seen) (r : Scr
     → EncryptRefused r asked before ended → IsRefusedFromOutside (encrypt asked) r
 encrypt_from_outside asked before after ended r done (inl opening) = inl (opening_from_outside asked before ended r done.admitted opening)
 encrypt_from_outside asked before after ended r done (inr (inl starting)) =
-    starting_from_outside asked before done.passphrase r done.given starting.refused
+    starting_from_outside asked before ended done.passphrase r done.given starting.refused
 encrypt_from_outside asked before after ended r done (inr (inr writing)) =
-    inl (writing_from_outside asked (passphrase_asked asked before) ended writing.passphrase (salt_used asked.salt before) r done.encrypted.below_limit writing.refused)
+    inl (writing_from_outside asked (salt_asked asked before) ended writing.passphrase (salt_used asked.salt before) r done.encrypted.below_limit writing.refused)
 
 pub line_from_outside : (r : ScryptRefusal) (Unwritten Left CutShort : Type 0)
     → ((r ≡ refusal.OutOfMemory) × Unwritten) ⊎ ((r ≡ refusal.OutputFault) × Left) ⊎ ((r ≡ refusal.OutputFault) × CutShort) → IsFromOutside r

@@ -1,5 +1,5 @@
 -- `scrypt enc`: what a run comes to.
-use Rattle.std.specs.Prelude.{◌≡◌, ◌+◌, ◌<◌, ◌≤◌, ◌^◌, ◌⊎◌, ◌==◌, ℕ, List, Option, Some, None, option_map, length, take, if◌then◌else◌}
+use Rattle.std.specs.Prelude.{◌≡◌, ◌+◌, ◌<◌, ◌≤◌, ◌^◌, ◌⊎◌, ◌==◌, Bool, true, ℕ, List, Option, Some, None, option_map, length, take, if◌then◌else◌}
 use Rattle.romix.specs.Costs.{Parameters}
 use Rattle.encfile.specs.EncryptedFile.{IsEncryptionOf, body, encrypted_file}
 use Rattle.encfile.specs.Front.{FrontRefusal, costs_refusal}
@@ -17,6 +17,15 @@ abbrev pub salt_used : Option (List ℕ) → Seen → List ℕ
 salt_used None s = s.salt
 salt_used (Some salt) s = salt
 
+-- whether a salt was asked for once there is one: where none is given, it was
+abbrev pub is_salted : Option (List ℕ) → Seen → Bool
+is_salted None s = true
+is_salted (Some salt) s = s.salted
+
+-- the host once there is a salt
+abbrev pub after_salting : Option (List ℕ) → Seen → Seen
+after_salting salt s = record s { salted = is_salted salt s }
+
 -- why the costs are not allowed, if they aren't
 abbrev pub costs_refusal_of : Encryption → Option FrontRefusal
 costs_refusal_of asked = costs_refusal asked.costs (allowance_of asked.task)
@@ -27,12 +36,13 @@ TextNotOpened r asked before after = (after ≡ before)
     × ((option_map refusal_of (costs_refusal_of asked) ≡ Some r)
     ⊎ ((costs_refusal_of asked ≡ None) × (r ≡ refusal.InputFault)))
 
--- no passphrase, no salt or no memory; `line` is the first line of the passphrase's source
-abbrev pub StartRefused : ScryptRefusal → Option (List ℕ) → Option (List ℕ) → Type 0
-StartRefused r salt line =
-    PassphraseRefused r line
-    ⊎ ((r ≡ refusal.SaltFault) × (salt ≡ None) × (passphrase : List ℕ) × HasPassphrase line passphrase)
-    ⊎ ((r ≡ refusal.OutOfMemory) × (passphrase : List ℕ) × HasPassphrase line passphrase)
+-- no passphrase; or no salt or no memory, once the salt was asked for where none is given; `line` is the first line of the
+-- passphrase's source
+abbrev pub StartRefused : ScryptRefusal → Option (List ℕ) → Option (List ℕ) → Seen → Seen → Type 0
+StartRefused r salt line before after =
+    (PassphraseRefused r line × (after ≡ before))
+    ⊎ ((r ≡ refusal.SaltFault) × (salt ≡ None) × (after ≡ after_salting salt before) × (passphrase : List ℕ) × HasPassphrase line passphrase)
+    ⊎ ((r ≡ refusal.OutOfMemory) × (after ≡ after_salting salt before) × (passphrase : List ℕ) × HasPassphrase line passphrase)
 
 -- what the first n bytes of a text decide: the file up to their cipher, and with the whole text the final code too
 abbrev pub decided : List ℕ → List ℕ → Parameters → ℕ → List ℕ → List ℕ
@@ -75,25 +85,28 @@ text_opened asked before = after_open_input asked.task.infile before
 abbrev pub passphrase_asked : Encryption → Seen → Seen
 passphrase_asked asked before = after_ask asked.task.source (text_opened asked before)
 
+-- and after the salt was asked for, where none is given
+abbrev pub salt_asked : Encryption → Seen → Seen
+salt_asked asked before = after_salting asked.salt (passphrase_asked asked before)
+
 -- the run ends with status 0
 pub record EncryptSucceeds (asked : Encryption) (before after : Seen) : Type 0 where
   pub admitted : costs_refusal_of asked ≡ None
   pub passphrase : List ℕ
   pub given : HasPassphrase (first_line_at asked.task.source before) passphrase
-  pub encrypted : IsEncrypted passphrase (salt_used asked.salt before) asked.costs asked.task.outfile (passphrase_asked asked before) after
+  pub encrypted : IsEncrypted passphrase (salt_used asked.salt before) asked.costs asked.task.outfile (salt_asked asked before) after
 
 -- the run opened the input, and ended before the output was opened
 pub record EndsStarting (r : ScryptRefusal) (asked : Encryption) (before after : Seen) : Type 0 where
   pub admitted : costs_refusal_of asked ≡ None
-  pub refused : StartRefused r asked.salt (first_line_at asked.task.source before)
-  pub unopened : after ≡ passphrase_asked asked before
+  pub refused : StartRefused r asked.salt (first_line_at asked.task.source before) (passphrase_asked asked before) after
 
 -- the run ended later
 pub record EndsFile (r : ScryptRefusal) (asked : Encryption) (before after : Seen) : Type 0 where
   pub admitted : costs_refusal_of asked ≡ None
   pub passphrase : List ℕ
   pub given : HasPassphrase (first_line_at asked.task.source before) passphrase
-  pub refused : WriteRefused r passphrase (salt_used asked.salt before) asked.costs asked.task.outfile (passphrase_asked asked before) after
+  pub refused : WriteRefused r passphrase (salt_used asked.salt before) asked.costs asked.task.outfile (salt_asked asked before) after
 
 -- the run ends with this refusal
 abbrev pub EncryptRefused : ScryptRefusal → Encryption → Seen → Seen → Type 0

@@ -3,7 +3,7 @@ use Rattle.std.specs.Prelude.{◌≡◌, ◌++◌, ◌<◌, ◌^◌, ◌⊎◌, 
 use Rattle.romix.specs.Allowance.{Admits}
 use Rattle.romix.specs.Costs.{IsInRange, Parameters}
 use Rattle.encfile.specs.EncryptedFile.{IsEncryptionOf, encrypted_file}
-use Rattle.encfile.specs.Front.{costs_refusal}
+use Rattle.encfile.specs.Front.{costs_refusal, format_refusal}
 use Rattle.encfile.specs.Header.{costs_of}
 use Rattle.host.specs.Seen.{SecretSource, Seen}
 use Rattle.scrypt_run.specs.Passphrase.{HasPassphrase, first_line_at}
@@ -72,8 +72,9 @@ with_keep keep (encrypt asked) = let task : Task = record (asked.task) { keep = 
 with_keep keep (decrypt task) = decrypt (record task { keep = keep })
 with_keep keep (inspect infile) = inspect infile
 
--- S is at most N and the limits are not exceeded: by the costs of the new file, or by those of the file that is read
+-- S is at most N and the limits are not exceeded: by the costs of the new file, or by those of the file that is read, where
+-- its header is not refused
 abbrev pub AdmitsCosts : Request → Seen → Type 0
 AdmitsCosts (encrypt asked) s = costs_refusal asked.costs (allowance_of asked.task) ≡ None
-AdmitsCosts (decrypt task) s = costs_refusal (costs_of s.input) (allowance_of task) ≡ None
+AdmitsCosts (decrypt task) s = format_refusal s.input ≡ None → costs_refusal (costs_of s.input) (allowance_of task) ≡ None
 AdmitsCosts (inspect infile) s = ⊤

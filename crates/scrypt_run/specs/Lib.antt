@@ -8,5 +8,6 @@ pub mod Text
 pub mod Encrypting
 pub mod Decrypting
 pub mod Inspecting
+pub mod Work
 pub mod Run
 pub mod Laws

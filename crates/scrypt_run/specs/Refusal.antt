@@ -28,6 +28,14 @@ may_follow_work refusal.OutputFault = true
 may_follow_work refusal.TooLong = true
 may_follow_work r = false
 
+-- whether the refusal is told behind the derivation alone: of those that may follow work S12 may come before it, too
+abbrev pub follows_work : ScryptRefusal → Bool
+follows_work refusal.WrongPassphrase = true
+follows_work refusal.Damaged = true
+follows_work refusal.OutputFault = true
+follows_work refusal.TooLong = true
+follows_work r = false
+
 -- the refusal of a file's first 96 bytes
 abbrev pub refusal_of : FrontRefusal → ScryptRefusal
 refusal_of NotScryptData = refusal.NotScryptData

@@ -1,8 +1,8 @@
 //! The costs of a derivation, held against what a run allows, and the memory that they take.
-ghost use Rattle.std.specs.Prelude.{◌≡◌, ◌≤◌, ◌^◌, Some, None, true, option_map, IfOk, IfErr, OnOk};
+ghost use Rattle.std.specs.Prelude.{◌≡◌, ◌≤◌, ◌^◌, Some, None, true, false, option_map, IfOk, IfErr, OnOk};
 ghost use Rattle.romix.specs.SparseCosts.{cores_bound, is_keep};
 ghost use Rattle.encfile.specs.Front.{costs_refusal};
-ghost use Rattle.scrypt_run.specs.Refusal.{RaisesNoCount, refusal_of};
+ghost use Rattle.scrypt_run.specs.Refusal.{RaisesNoCount, follows_work, refusal_of};
 ghost use Rattle.scrypt_run.specs.Request.{IsAdmitted, allowance_of, task_seen};
 
 use crate::refusal::ScryptRefusal;
@@ -22,6 +22,7 @@ pub fn admit(costs: &Costs, task: &Task<'_>) -> Result<Sparse, ScryptRefusal>
     ensures refused { IfErr result (λ r. option_map refusal_of
         (costs_refusal costs.now (allowance_of (task_seen task.now))) ≡ Some r) }
     ensures uncounted { IfErr result (λ r. RaisesNoCount r) }
+    ensures early { IfErr result (λ r. follows_work r ≡ false) }
 {
     let sparse = match Sparse::new(costs, task.keep) {
         Ok(sparse) => sparse,

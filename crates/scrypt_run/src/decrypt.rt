@@ -1,5 +1,6 @@
 //! `scrypt dec`: the text of an encrypted file.
 ghost use Rattle.std.specs.Prelude.{◌≡◌, ◌+◌, ◌≤◌, ◌^◌, true, false, ℕ, List, ◌++◌, None, take, length, MatchResult, IfOk, IfErr, OnOk, IsTrue};
+ghost use Rattle.romix.specs.Allowance.{with_keep_of};
 ghost use Rattle.romix.specs.Costs.{cores};
 ghost use Rattle.encfile.specs.Decrypting.{HasRead, length_read};
 ghost use Rattle.encfile.specs.EncryptedFile.{HasRightHeaderCode};
@@ -9,10 +10,11 @@ ghost use Rattle.host.specs.Secret.{source_of};
 ghost use Rattle.host.specs.Seen.{IsFresh, after_ask};
 ghost use Rattle.scrypt_run.specs.Decrypting.{DecryptRefused, DecryptSucceeds, Decrypted, OpenRefused, ReleaseRefused, text_behind};
 ghost use Rattle.scrypt_run.specs.Passphrase.{HasPassphrase, first_line_at};
-ghost use Rattle.scrypt_run.specs.Refusal.{counted_by, may_follow_work};
-ghost use Rattle.scrypt_run.specs.Request.{HasAllowedLimits, IsAdmitted, task_seen, text_of};
+ghost use Rattle.scrypt_run.specs.Refusal.{counted_by, follows_work, may_follow_work};
+ghost use Rattle.scrypt_run.specs.Request.{HasAllowedLimits, IsAdmitted, allowance_of, task_seen, text_of};
 ghost use Rattle.scrypt_run.specs.Steps.{after_passing};
 ghost use Rattle.scrypt_run.specs.Text.{EndsText};
+ghost use Rattle.scrypt_run.specs.Work.{DecryptWorks, DerivesOnce, EndsAfterWork};
 
 use crate::admission::reserve;
 use crate::front::open_admitted_front;
@@ -40,6 +42,7 @@ fn open<H: Host>(
     requires header { IsHeaderOf (take 64 front.now) header }
     requires allowed { HasAllowedLimits (task_seen task.now) }
     requires costs { sparse.now.costs ≡ header.costs }
+    requires keep { sparse.now.keep ≡ task.now.keep }
     requires admitted { IsAdmitted sparse.now task.now.limits }
     ensures counts { MatchResult result (λ _. H.faults host.new ≡ H.faults host.old)
         (λ r. H.faults host.new ≡ counted_by r (H.faults host.old)) }
@@ -52,6 +55,13 @@ fn open<H: Host>(
         × HasRead dec passphrase front.now) }
     ensures refused { IsTrue H.tells → IfErr result (λ r. OpenRefused r
         (first_line_at (source_of task.now.source) (H.seen host.old)) front.now) }
+    ensures count { IsTrue H.tells → OnOk result (DerivesOnce
+        (first_line_at (source_of task.now.source) (H.seen host.old)) header.salt
+        (with_keep_of (allowance_of (task_seen task.now)) header.costs) ticks.old ticks.new) }
+    ensures worked { IsTrue H.tells → IfErr result (λ r. follows_work r ≡ true → DerivesOnce
+        (first_line_at (source_of task.now.source) (H.seen host.old)) header.salt
+        (with_keep_of (allowance_of (task_seen task.now)) header.costs) ticks.old ticks.new) }
+    ensures unworked { IfErr result (λ r. follows_work r ≡ false → ticks.new ≡ ticks.old) }
     ensures work { sparse.now.keep ≡ 1 →
         OnOk result (ticks.new ≡ ticks.old + cores header.costs) }
     ensures work_bound { ticks.new ≤ ticks.old + task.now.limits.max_ops }
@@ -156,6 +166,12 @@ pub fn decrypt<H: Host>(
         (DecryptSucceeds (task_seen task.now) (H.seen host.old) (H.seen host.new)) }
     ensures refused { IsTrue H.tells → IfErr result (λ r.
         DecryptRefused r (task_seen task.now) (H.seen host.old) (H.seen host.new)) }
+    ensures count { IsTrue H.tells → OnOk result
+        (DecryptWorks (task_seen task.now) (H.seen host.old) ticks.old ticks.new) }
+    ensures worked { IsTrue H.tells → IfErr result (λ r. EndsAfterWork r (H.seen host.new)
+        → DecryptWorks (task_seen task.now) (H.seen host.old) ticks.old ticks.new) }
+    ensures unworked { IsTrue H.tells → IfErr result (λ r.
+        (EndsAfterWork r (H.seen host.new) → ⊥) → ticks.new ≡ ticks.old) }
     ensures work { IsTrue H.tells → task.now.keep ≡ 1 → OnOk result
         (ticks.new ≡ ticks.old + cores (costs_of (H.seen host.old).input)) }
     ensures work_bound { ticks.new ≤ ticks.old + task.now.limits.max_ops }

@@ -5,6 +5,7 @@ ghost use Rattle.host.specs.Seen.{IsFresh};
 ghost use Rattle.scrypt_run.specs.Refusal.{counted_by, may_follow_work};
 ghost use Rattle.scrypt_run.specs.Request.{IsAllowed, request_seen};
 ghost use Rattle.scrypt_run.specs.Run.{KeepsAll, RequestRefused, RequestSucceeds, cores_asked, most_cores};
+ghost use Rattle.scrypt_run.specs.Work.{EndsAfterWork, RequestWorks};
 
 use crate::decrypt::decrypt;
 use crate::encrypt::encrypt;
@@ -23,7 +24,9 @@ use std::alloc::Global;
 /// has passed; `OutOfMemory` is never told after an output was opened.
 ///
 /// `ticks` counts the Salsa20/8 cores: none where the words, the limits, the header, the passphrase,
-/// the salt or want of memory refuse, and never more than the limit on work.
+/// the salt or want of memory refuse, and never more than the limit on work. A run that ends well, or
+/// is refused by S10, S11, S13 or S14, or by S12 with its output opened, has counted exactly one
+/// derivation, with the request's S; `info` none.
 pub fn run<H: Host>(
     alloc: Global,
     host: &mut H,
@@ -39,6 +42,12 @@ pub fn run<H: Host>(
         (H.seen host.old) (H.seen host.new)) }
     ensures refused { IsTrue H.tells → IfErr result (λ r. RequestRefused r
         (request_seen request.now) (H.seen host.old) (H.seen host.new)) }
+    ensures count { IsTrue H.tells → OnOk result (RequestWorks (request_seen request.now)
+        (H.seen host.old) ticks.old ticks.new) }
+    ensures worked { IsTrue H.tells → IfErr result (λ r. EndsAfterWork r (H.seen host.new)
+        → RequestWorks (request_seen request.now) (H.seen host.old) ticks.old ticks.new) }
+    ensures unworked { IsTrue H.tells → IfErr result (λ r.
+        (EndsAfterWork r (H.seen host.new) → ⊥) → ticks.new ≡ ticks.old) }
     ensures work { IsTrue H.tells → KeepsAll (request_seen request.now) → OnOk result (ticks.new
         ≡ ticks.old + cores_asked (request_seen request.now) (H.seen host.old)) }
     ensures work_bound { ticks.new ≤ ticks.old + most_cores (request_seen request.now) }

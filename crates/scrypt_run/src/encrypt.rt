@@ -6,12 +6,13 @@ ghost use Rattle.encfile.specs.Encrypting.{HasEncrypted};
 ghost use Rattle.host.specs.Faults.{AreBelow};
 ghost use Rattle.host.specs.Secret.{source_of};
 ghost use Rattle.host.specs.Seen.{IsFresh, after_ask, after_open_input};
-ghost use Rattle.scrypt_run.specs.Encrypting.{EncryptRefused, EncryptSucceeds, IsEncrypted, StartRefused, TextNotOpened, WriteRefused, costs_refusal_of, salt_used};
+ghost use Rattle.scrypt_run.specs.Encrypting.{EncryptRefused, EncryptSucceeds, IsEncrypted, StartRefused, TextNotOpened, WriteRefused, after_salting, costs_refusal_of, salt_used};
 ghost use Rattle.scrypt_run.specs.Passphrase.{HasPassphrase, first_line_at};
-ghost use Rattle.scrypt_run.specs.Refusal.{counted_by, may_follow_work};
+ghost use Rattle.scrypt_run.specs.Refusal.{counted_by, follows_work, may_follow_work};
 ghost use Rattle.scrypt_run.specs.Request.{HasAllowedLimits, IsAdmitted, encryption_seen, task_seen, text_of};
 ghost use Rattle.scrypt_run.specs.Steps.{after_passing};
 ghost use Rattle.scrypt_run.specs.Text.{EndsText};
+ghost use Rattle.scrypt_run.specs.Work.{EncryptWorks, EndsAfterWork};
 ghost use Rattle.scrypt_run.specs.declared.refusal.ScryptRefusal.TheVariants.{SaltFault};
 
 use crate::admission::{admit, reserve};
@@ -38,6 +39,7 @@ fn open_text<H: Host>(host: &mut H, asked: &Encryption<'_>) -> Result<Sparse, Sc
         ≡ after_open_input (text_of asked.now.task.infile) (H.seen host.old)) }
     ensures refused { IsTrue H.tells → IfErr result (λ r.
         TextNotOpened r (encryption_seen asked.now) (H.seen host.old) (H.seen host.new)) }
+    ensures early { IfErr result (λ r. follows_work r ≡ false) }
 {
     let sparse = admit(&asked.costs, &asked.task)?;
     let Ok(()) = host.open_input(asked.task.infile) else {
@@ -49,9 +51,11 @@ fn open_text<H: Host>(host: &mut H, asked: &Encryption<'_>) -> Result<Sparse, Sc
 // The salt that was asked for, or the host's.
 fn read_salt<H: Host>(host: &mut H, salt: Option<[u8; 32]>) -> Result<[u8; 32], ScryptRefusal>
     requires room { AreBelow (2 ^ 63) (H.faults host.old) }
+    requires unsalted { IsTrue H.tells → (H.seen host.old).salted ≡ false }
     ensures counts { MatchResult result (λ _. H.faults host.new ≡ H.faults host.old)
         (λ r. H.faults host.new ≡ counted_by r (H.faults host.old)) }
-    ensures kept { IsTrue H.tells → H.seen host.new ≡ H.seen host.old }
+    ensures salts { IsTrue H.tells →
+        H.seen host.new ≡ after_salting salt (H.seen host.old) }
     ensures salt { IsTrue H.tells →
         IfOk result (λ used. used ≡ salt_used salt (H.seen host.old)) }
     ensures fault { IfErr result (λ r. r ≡ SaltFault) }
@@ -78,20 +82,26 @@ fn start<H: Host>(
 ) -> Result<Enc, ScryptRefusal>
     requires room { AreBelow (2 ^ 63) (H.faults host.old) }
     requires unasked { IsTrue H.tells → (H.seen host.old).asked ≡ None }
+    requires unsalted { IsTrue H.tells → (H.seen host.old).salted ≡ false }
     requires allowed { HasAllowedLimits (task_seen asked.now.task) }
     requires costs { sparse.now.costs ≡ asked.now.costs }
+    requires keep { sparse.now.keep ≡ asked.now.task.keep }
     requires admitted { IsAdmitted sparse.now asked.now.task.limits }
     ensures counts { MatchResult result (λ _. H.faults host.new ≡ H.faults host.old)
         (λ r. H.faults host.new ≡ counted_by r (H.faults host.old)) }
-    ensures asks { IsTrue H.tells → H.seen host.new
-        ≡ after_ask (source_of asked.now.task.source) (H.seen host.old) }
+    ensures asks { IsTrue H.tells → OnOk result (H.seen host.new ≡ after_salting asked.now.salt
+        (after_ask (source_of asked.now.task.source) (H.seen host.old))) }
     ensures begun { IfOk result (λ enc. (passphrase salt : List ℕ)
         × HasEncrypted enc passphrase salt asked.now.costs []) }
     ensures started { IsTrue H.tells → IfOk result (λ enc. (passphrase : List ℕ)
         × HasPassphrase (first_line_at (source_of asked.now.task.source) (H.seen host.old)) passphrase
         × HasEncrypted enc passphrase (salt_used asked.now.salt (H.seen host.old)) asked.now.costs []) }
     ensures refused { IsTrue H.tells → IfErr result (λ r. StartRefused r asked.now.salt
-        (first_line_at (source_of asked.now.task.source) (H.seen host.old))) }
+        (first_line_at (source_of asked.now.task.source) (H.seen host.old))
+        (after_ask (source_of asked.now.task.source) (H.seen host.old)) (H.seen host.new)) }
+    ensures early { IfErr result (λ r. follows_work r ≡ false) }
+    ensures count { IsTrue H.tells → OnOk result (EncryptWorks (encryption_seen asked.now)
+        (H.seen host.old) ticks.old ticks.new) }
     ensures work { sparse.now.keep ≡ 1 →
         OnOk result (ticks.new ≡ ticks.old + cores asked.now.costs) }
     ensures work_bound { ticks.new ≤ ticks.old + asked.now.task.limits.max_ops }
@@ -187,7 +197,8 @@ fn write_file<H: Host>(host: &mut H, outfile: Option<&str>, enc: Enc) -> Result<
 /// The refusals, of which the first that holds is told, in this order: S16b, S8 and S9 by the costs, S12
 /// where the input can't be opened, S4a and S4b, S5b where no salt was given, S15, and S13 where the
 /// output can't be opened. Then, as the file is written, S12, S13 and S14. What was written stays.
-/// The work, of as many cores as the costs say, begins when S15 can come no more.
+/// The work is one derivation with the request's costs, salt and S. It begins when S15 can come no
+/// more, and it is done before the output is opened.
 pub fn encrypt<H: Host>(
     alloc: Global,
     host: &mut H,
@@ -203,6 +214,12 @@ pub fn encrypt<H: Host>(
         (H.seen host.old) (H.seen host.new)) }
     ensures refused { IsTrue H.tells → IfErr result (λ r. EncryptRefused r
         (encryption_seen asked.now) (H.seen host.old) (H.seen host.new)) }
+    ensures count { IsTrue H.tells → OnOk result (EncryptWorks (encryption_seen asked.now)
+        (H.seen host.old) ticks.old ticks.new) }
+    ensures worked { IsTrue H.tells → IfErr result (λ r. EndsAfterWork r (H.seen host.new)
+        → EncryptWorks (encryption_seen asked.now) (H.seen host.old) ticks.old ticks.new) }
+    ensures unworked { IsTrue H.tells → IfErr result (λ r.
+        (EndsAfterWork r (H.seen host.new) → ⊥) → ticks.new ≡ ticks.old) }
     ensures work { asked.now.task.keep ≡ 1 →
         OnOk result (ticks.new ≡ ticks.old + cores asked.now.costs) }
     ensures work_bound { ticks.new ≤ ticks.old + asked.now.task.limits.max_ops }

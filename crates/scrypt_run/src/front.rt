@@ -1,11 +1,11 @@
 //! The first 96 bytes of a file, and the checks that need no passphrase.
-ghost use Rattle.std.specs.Prelude.{◌≡◌, ◌<◌, ◌≤◌, ◌^◌, ℕ, Some, None, take, length, option_map, MatchResult, IfOk, IfErr, OnOk, OnErr, IsTrue};
+ghost use Rattle.std.specs.Prelude.{◌≡◌, ◌<◌, ◌≤◌, ◌^◌, false, ℕ, Some, None, take, length, option_map, MatchResult, IfOk, IfErr, OnOk, OnErr, IsTrue};
 ghost use Rattle.encfile.specs.Front.{format_refusal, limits_refusal};
-ghost use Rattle.encfile.specs.Header.{IsHeaderOf, costs_of};
+ghost use Rattle.encfile.specs.Header.{IsHeaderOf, costs_of, salt_of};
 ghost use Rattle.host.specs.Faults.{AreBelow, input_failed};
 ghost use Rattle.host.specs.Seen.{after_pull};
 ghost use Rattle.scrypt_run.specs.Front.{FrontRefused};
-ghost use Rattle.scrypt_run.specs.Refusal.{counted_by, refusal_of};
+ghost use Rattle.scrypt_run.specs.Refusal.{counted_by, follows_work, refusal_of};
 ghost use Rattle.scrypt_run.specs.Request.{HasAllowedLimits, IsAdmitted, allowance_of, task_seen, text_of};
 ghost use Rattle.scrypt_run.specs.Steps.{after_reading};
 
@@ -58,6 +58,7 @@ fn read_front<H: Host>(host: &mut H, infile: Option<&str>) -> Result<[u8; 96], S
     ensures refused { IsTrue H.tells → IfErr result (λ r.
         FrontRefused r (format_refusal (H.seen host.old).input) (text_of infile.entry)
         (H.seen host.old) (H.seen host.new)) }
+    ensures early { IfErr result (λ r. follows_work r ≡ false) }
 {
     let Ok(()) = host.open_input(infile) else {
         return Err(ScryptRefusal::InputFault);
@@ -77,6 +78,8 @@ fn read_header(front: &[u8; 96]) -> Result<Header, ScryptRefusal>
         option_map refusal_of (format_refusal front.now) ≡ Some r) }
     ensures header { IfOk result (λ header. IsHeaderOf (take 64 front.now) header) }
     ensures costs { IfOk result (λ header. header.costs ≡ costs_of front.now) }
+    ensures salt { IfOk result (λ header. header.salt ≡ salt_of front.now) }
+    ensures early { IfErr result (λ r. follows_work r ≡ false) }
 {
     let mut bytes = [0u8; 64];
     bytes.copy_from_slice(&front[..64]);
@@ -97,6 +100,7 @@ fn test_limits(front: &[u8; 96], header: &Header, task: &Task<'_>) -> Result<Spa
     ensures admitted { IfOk result (λ sparse. IsAdmitted sparse task.now.limits) }
     ensures refused { IfErr result (λ r. option_map refusal_of
         (limits_refusal front.now (allowance_of (task_seen task.now))) ≡ Some r) }
+    ensures early { IfErr result (λ r. follows_work r ≡ false) }
 {
     admit(header.costs(), task)
 }
@@ -117,6 +121,8 @@ pub fn open_front<H: Host>(
     ensures costs { IfOk result (λ read. read.1.costs ≡ costs_of read.0) }
     ensures same_costs { IsTrue H.tells →
         IfOk result (λ read. read.1.costs ≡ costs_of (H.seen host.old).input) }
+    ensures same_salt { IsTrue H.tells →
+        IfOk result (λ read. read.1.salt ≡ salt_of (H.seen host.old).input) }
     ensures valid { IfOk result (λ read. format_refusal read.0 ≡ None) }
     ensures valid_input { IsTrue H.tells →
         OnOk result (format_refusal (H.seen host.old).input ≡ None) }
@@ -125,6 +131,7 @@ pub fn open_front<H: Host>(
     ensures refused { IsTrue H.tells → IfErr result (λ r.
         FrontRefused r (format_refusal (H.seen host.old).input) (text_of infile.entry)
         (H.seen host.old) (H.seen host.new)) }
+    ensures early { IfErr result (λ r. follows_work r ≡ false) }
 {
     let front = read_front(host, infile)?;
     let header = read_header(&front)?;
@@ -148,6 +155,8 @@ pub fn open_admitted_front<H: Host>(
     ensures header { IfOk result (λ read. IsHeaderOf (take 64 read.0) read.1) }
     ensures same_costs { IsTrue H.tells →
         IfOk result (λ read. read.1.costs ≡ costs_of (H.seen host.old).input) }
+    ensures same_salt { IsTrue H.tells →
+        IfOk result (λ read. read.1.salt ≡ salt_of (H.seen host.old).input) }
     ensures costs { IfOk result (λ read. read.2.costs ≡ read.1.costs) }
     ensures keep { IfOk result (λ read. read.2.keep ≡ task.now.keep) }
     ensures admitted { IfOk result (λ read. IsAdmitted read.2 task.now.limits) }
@@ -158,6 +167,7 @@ pub fn open_admitted_front<H: Host>(
     ensures refused { IsTrue H.tells → IfErr result (λ r. FrontRefused r
         (limits_refusal (H.seen host.old).input (allowance_of (task_seen task.now)))
         (text_of task.now.infile) (H.seen host.old) (H.seen host.new)) }
+    ensures early { IfErr result (λ r. follows_work r ≡ false) }
 {
     let (front, header) = open_front(host, task.infile)?;
     let sparse = test_limits(&front, &header, task)?;

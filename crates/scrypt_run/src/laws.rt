@@ -63,8 +63,8 @@ fn no_other_source_is_asked()
         → RequestRefused refusal request before after → AsksNoOther request before after }
 {}
 
-// Where both are admitted, a run with one S and a run with another come to the same ends: the same
-// file, text, bytes and refusals.
+// Where both are admitted, or a file's header is refused, a run with one S and a run with another
+// come to the same ends: the same file, text, bytes and refusals.
 fn ends_do_not_depend_on_keep()
     ensures succeeds { (request : Request) (keep : ℕ) (before after : Seen)
         → AdmitsCosts request before → AdmitsCosts (with_keep keep request) before

@@ -1,10 +1,10 @@
 //! The passphrase of a run: the first line of its source.
-ghost use Rattle.std.specs.Prelude.{◌≡◌, ◌<◌, ◌≤◌, ◌^◌, ℕ, List, None, take, length, MatchResult, IfOk, IfErr, IsTrue};
+ghost use Rattle.std.specs.Prelude.{◌≡◌, ◌<◌, ◌≤◌, ◌^◌, false, ℕ, List, None, take, length, MatchResult, IfOk, IfErr, IsTrue};
 ghost use Rattle.host.specs.Faults.{AreBelow};
 ghost use Rattle.host.specs.Secret.{source_of};
 ghost use Rattle.host.specs.Seen.{after_ask};
 ghost use Rattle.scrypt_run.specs.Passphrase.{HasPassphrase, PassphraseRefused, first_line, first_line_at, is_line_end};
-ghost use Rattle.scrypt_run.specs.Refusal.{counted_by};
+ghost use Rattle.scrypt_run.specs.Refusal.{counted_by, follows_work};
 
 use crate::refusal::ScryptRefusal;
 use host::{Host, Source};
@@ -68,6 +68,7 @@ pub fn read_passphrase<H: Host>(
         (HasPassphrase (first_line_at (source_of source.entry) (H.seen host.old))) }
     ensures refused { IsTrue H.tells → IfErr result (λ r.
         PassphraseRefused r (first_line_at (source_of source.entry) (H.seen host.old))) }
+    ensures early { IfErr result (λ r. follows_work r ≡ false) }
 {
     let mut room = [0u8; 2049];
     let Ok(n) = host.secret(source, &mut room) else {

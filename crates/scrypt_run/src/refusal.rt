@@ -1,7 +1,7 @@
 //! The refusals of `scrypt`, and the line that tells each.
-ghost use Rattle.std.specs.Prelude.{◌≡◌};
+ghost use Rattle.std.specs.Prelude.{◌≡◌, false};
 ghost use Rattle.encfile.specs.Front.{header_refusal};
-ghost use Rattle.scrypt_run.specs.Refusal.{line_of, refusal_of};
+ghost use Rattle.scrypt_run.specs.Refusal.{follows_work, line_of, refusal_of};
 
 use encfile::HeaderFault;
 
@@ -111,6 +111,7 @@ impl ScryptRefusal {
 #[tactic(auto, unfolding(encfile::specs::Front::header_refusal))]
 pub fn header_refusal(fault: HeaderFault) -> ScryptRefusal
     ensures refusal { result ≡ refusal_of (header_refusal fault) }
+    ensures early { follows_work result ≡ false }
 {
     match fault {
         HeaderFault::Version => ScryptRefusal::UnsupportedVersion,

@@ -1,13 +1,15 @@
-use Rattle.std.proofs.Common.{rules, ◌≡◌, ◌∙◌, ap, subst, sym, inl, inr, take}
+use Rattle.std.proofs.Common.{rules, ◌≡◌, ◌∙◌, None, ap, subst, sym, inl, inr, take}
 use Rattle.encfile.specs.Decrypting.{HasRead}
 use Rattle.encfile.specs.EncryptedFile.{HasRightHeaderCode}
 use Rattle.encfile.proofs.Fronts.{front_refusal-right}
-use Rattle.host.specs.Seen.{after_ask}
+use Rattle.host.specs.Seen.{Seen, after_ask}
 use Rattle.scrypt_run.specs.Decrypting.{DecryptRefused, Decrypted, OpenRefused, ReleaseRefused}
 use Rattle.scrypt_run.specs.Passphrase.{HasPassphrase, first_line_at}
 use Rattle.scrypt_run.specs.Request.{allowance_of, task_seen}
+use Rattle.scrypt_run.specs.Work.{DecryptWorks, EndsAfterWork}
 use Rattle.scrypt_run.proofs.Decrypting.{length_read-first}
-use Rattle.scrypt_run.proofs.Ends.{first_line_at-reading, handed_on, if_err, on_ok}
+use Rattle.scrypt_run.proofs.Ends.{always_err, always_ok, first_line_at-reading, handed_on, if_err, on_ok}
+use Rattle.scrypt_run.proofs.Working.{early_of, file_works, front_unopened, late_of, not_after, release_after}
 use Rattle.scrypt_run.proofs.decrypt.decrypt.Goals as goal
 
 pub returns-in_err-dec-clause-refused : goal.returns-in_err-dec-clause-refused
@@ -70,3 +72,56 @@ returns-clause-refused g c = λ t.
       refused = subst (λ w. ReleaseRefused r passphrase front task.outfile w (g.H.Host.seen c.finish.new.host)) before
           (ends passphrase front (subst (λ f. HasRead c.in_ok-dec.dec passphrase f) here opened.3));
     }))) (c.finish.ensures.refused t)
+
+pub returns-clause-count : goal.returns-clause-count
+returns-clause-count g c = λ t.
+    let s = g.H.Host.seen c.args.host.now in
+    let task = task_seen c.args.task.now in
+    always_ok c.finish.result (file_works task s (g.H.Host.seen c.open_admitted_front.new.host) _ _ c.args.ticks.now c.«open».new.ticks (c.in_ok-front.ensures.reads t)
+    (c.in_ok-front.ensures.same_salt t) (c.in_ok-front.ensures.same_costs t) (c.in_ok-dec.ensures.count t))
+
+pub returns-clause-worked : goal.returns-clause-worked
+returns-clause-worked g c = λ t.
+    let s = g.H.Host.seen c.args.host.now in
+    let task = task_seen c.args.task.now in
+    always_err c.finish.result (λ r late. file_works task s (g.H.Host.seen c.open_admitted_front.new.host) _ _ c.args.ticks.now c.«open».new.ticks (c.in_ok-front.ensures.reads t)
+    (c.in_ok-front.ensures.same_salt t) (c.in_ok-front.ensures.same_costs t) (c.in_ok-dec.ensures.count t))
+
+pub returns-clause-unworked : goal.returns-clause-unworked
+returns-clause-unworked g c = λ t.
+    let task = task_seen c.args.task.now in
+    let after = g.H.Host.seen c.finish.new.host in
+    let opened = c.in_ok-dec.ensures.opened t in
+    if_err c.finish.result (λ r ends early. absurd (early (release_after r opened.0 _ task.outfile _ after (ends opened.0 _ opened.3))))
+    (c.finish.ensures.refused t)
+
+pub returns-in_err-dec-clause-worked : goal.returns-in_err-dec-clause-worked
+returns-in_err-dec-clause-worked g c = λ t.
+    let s = g.H.Host.seen c.args.host.now in
+    let read = g.H.Host.seen c.open_admitted_front.new.host in
+    let after = g.H.Host.seen c.«open».new.host in
+    let task = task_seen c.args.task.now in
+    let r = c.in_err-dec.field-0.0 in
+    let unopened : after.output_opened ≡ None =
+    ap (λ (w : Seen). w.output_opened) (c.in_err-dec.ensures.asks t ∙ ap (after_ask task.source) (c.in_ok-front.ensures.reads t)) ∙ (c.requires.fresh t).output in
+    handed_on c.from_residual-in_err-dec.result c.from_residual-in_err-dec.ensures.1 (λ e same.
+    subst (λ x. EndsAfterWork x after → DecryptWorks task s c.args.ticks.now c.«open».new.ticks) (sym same) (λ late.
+    file_works task s read _ _ c.args.ticks.now c.«open».new.ticks (c.in_ok-front.ensures.reads t) (c.in_ok-front.ensures.same_salt t) (c.in_ok-front.ensures.same_costs t)
+    (c.in_err-dec.ensures.worked t (late_of r after unopened late))))
+
+pub returns-in_err-dec-clause-unworked : goal.returns-in_err-dec-clause-unworked
+returns-in_err-dec-clause-unworked g c = λ t.
+    let after = g.H.Host.seen c.«open».new.host in
+    let r = c.in_err-dec.field-0.0 in
+    handed_on c.from_residual-in_err-dec.result c.from_residual-in_err-dec.ensures.1 (λ e same.
+    subst (λ x. (EndsAfterWork x after → ⊥) → c.«open».new.ticks ≡ c.args.ticks.now) (sym same) (λ early. c.in_err-dec.ensures.unworked (early_of r after early)))
+
+pub returns-in_err-front-clause-worked : goal.returns-in_err-front-clause-worked
+returns-in_err-front-clause-worked g c = λ t.
+    let s = g.H.Host.seen c.args.host.now in
+    let after = g.H.Host.seen c.open_admitted_front.new.host in
+    let task = task_seen c.args.task.now in
+    let r = c.in_err-front.field-0.0 in
+    let unopened : after.output_opened ≡ None = front_unopened r _ _ s after (c.in_err-front.ensures.refused t) ∙ (c.requires.fresh t).output in
+    handed_on c.from_residual.result c.from_residual.ensures.1 (λ e same.
+    subst (λ x. EndsAfterWork x after → DecryptWorks task s c.args.ticks.now c.args.ticks.now) (sym same) (λ late. absurd (not_after r after c.in_err-front.ensures.early unopened late)))

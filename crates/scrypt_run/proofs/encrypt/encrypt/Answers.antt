@@ -1,9 +1,10 @@
 use Rattle.std.proofs.Common.{◌∙◌, ap, inr, subst}
 use Rattle.host.specs.Seen.{after_ask}
-use Rattle.scrypt_run.specs.Encrypting.{IsEncrypted, WriteRefused, salt_used}
+use Rattle.scrypt_run.specs.Encrypting.{IsEncrypted, WriteRefused, after_salting, salt_used}
 use Rattle.scrypt_run.specs.Request.{encryption_seen}
 use Rattle.scrypt_run.proofs.Encrypting.{started_before}
-use Rattle.scrypt_run.proofs.Ends.{if_err, on_ok}
+use Rattle.scrypt_run.proofs.Ends.{always_err, always_ok, if_err, on_ok}
+use Rattle.scrypt_run.proofs.Working.{works_before, write_after}
 use Rattle.scrypt_run.proofs.encrypt.encrypt.Goals as goal
 
 pub returns-clause-succeeds : goal.returns-clause-succeeds
@@ -18,7 +19,7 @@ returns-clause-succeeds g c = λ t.
       admitted = c.in_ok-sparse.ensures.passes;
       passphrase = started.0;
       given = started.1;
-      encrypted = subst (λ s. IsEncrypted started.0 salt asked.costs asked.task.outfile s after) (c.in_ok-enc.ensures.asks t ∙ ap (after_ask asked.task.source) opens) written;
+      encrypted = subst (λ s. IsEncrypted started.0 salt asked.costs asked.task.outfile s after) (c.in_ok-enc.ensures.asks t ∙ ap (λ w. after_salting asked.salt (after_ask asked.task.source w)) opens) written;
     }) (c.write_file.ensures.written t started.0 salt asked.costs started.2)
 
 pub returns-clause-refused : goal.returns-clause-refused
@@ -33,5 +34,27 @@ returns-clause-refused g c = λ t.
       admitted = c.in_ok-sparse.ensures.passes;
       passphrase = started.0;
       given = started.1;
-      refused = subst (λ s. WriteRefused r started.0 salt asked.costs asked.task.outfile s after) (c.in_ok-enc.ensures.asks t ∙ ap (after_ask asked.task.source) opens) refused;
+      refused = subst (λ s. WriteRefused r started.0 salt asked.costs asked.task.outfile s after) (c.in_ok-enc.ensures.asks t ∙ ap (λ w. after_salting asked.salt (after_ask asked.task.source w)) opens) refused;
     }))) (c.write_file.ensures.refused t started.0 salt asked.costs started.2)
+
+pub returns-clause-count : goal.returns-clause-count
+returns-clause-count g c = λ t.
+    let asked = encryption_seen c.args.asked.now in
+    let before = g.H.Host.seen c.args.host.now in
+    let works = works_before asked before (g.H.Host.seen c.open_text.new.host) c.args.ticks.now c.start.new.ticks (c.in_ok-sparse.ensures.opens t) (c.in_ok-enc.ensures.count t) in
+    always_ok c.write_file.result works
+
+pub returns-clause-worked : goal.returns-clause-worked
+returns-clause-worked g c = λ t.
+    let asked = encryption_seen c.args.asked.now in
+    let before = g.H.Host.seen c.args.host.now in
+    let works = works_before asked before (g.H.Host.seen c.open_text.new.host) c.args.ticks.now c.start.new.ticks (c.in_ok-sparse.ensures.opens t) (c.in_ok-enc.ensures.count t) in
+    always_err c.write_file.result (λ r late. works)
+
+pub returns-clause-unworked : goal.returns-clause-unworked
+returns-clause-unworked g c = λ t.
+    let asked = encryption_seen c.args.asked.now in
+    let after = g.H.Host.seen c.write_file.new.host in
+    let started = c.in_ok-enc.ensures.started t in
+    if_err c.write_file.result (λ r refused early. absurd (early (write_after r started.0 _ asked.costs asked.task.outfile _ after refused)))
+    (c.write_file.ensures.refused t started.0 _ asked.costs started.2)

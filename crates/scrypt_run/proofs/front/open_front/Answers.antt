@@ -1,12 +1,16 @@
 use Rattle.std.proofs.Common.{arith, rules, ◌∙◌, sym}
 use Rattle.encfile.specs.Front.{format_refusal}
 use Rattle.scrypt_run.specs.Request.{text_of}
-use Rattle.scrypt_run.proofs.Fronts.{costs_front, format_front, refused_front}
+use Rattle.scrypt_run.proofs.Fronts.{costs_front, format_front, refused_front, salt_front}
 use Rattle.scrypt_run.proofs.front.open_front.Goals as goal
 
 pub returns-clause-same_costs : goal.returns-clause-same_costs
 returns-clause-same_costs g c = λ t.
     costs_front 96 c.in_ok-front.front (g.H.Host.seen c.args.host.now).input c.in_ok-header.header.costs (omega arith) (c.in_ok-front.ensures.front t) c.in_ok-header.ensures.costs
+
+pub returns-clause-same_salt : goal.returns-clause-same_salt
+returns-clause-same_salt g c = λ t.
+    salt_front 96 c.in_ok-front.front (g.H.Host.seen c.args.host.now).input c.in_ok-header.header.salt (omega arith) (c.in_ok-front.ensures.front t) c.in_ok-header.ensures.salt
 
 pub returns-clause-valid_input : goal.returns-clause-valid_input
 returns-clause-valid_input g c = λ t.

@@ -1,0 +1,39 @@
+-- What a run counts: the Salsa20/8 cores of its one derivation.
+use Rattle.std.specs.Prelude.{◌≡◌, ◌+◌, ◌⊎◌, true, ℕ, List, Option, None}
+use Rattle.romix.specs.Allowance.{with_keep_of}
+use Rattle.romix.specs.Sparse.{sparse_cores}
+use Rattle.romix.specs.SparseCosts.{SparseParameters}
+use Rattle.encfile.specs.Header.{costs_of, salt_of}
+use Rattle.host.specs.Seen.{Seen}
+use Rattle.scrypt_run.specs.Encrypting.{salt_used}
+use Rattle.scrypt_run.specs.Passphrase.{HasPassphrase, first_line_at}
+use Rattle.scrypt_run.specs.Refusal.{follows_work}
+use Rattle.scrypt_run.specs.Request.{Encryption, Request, Task, allowance_of, decrypt, encrypt, inspect}
+use Rattle.scrypt_run.specs.declared.refusal.ScryptRefusal.{ScryptRefusal}
+
+-- the counter went on by exactly one derivation: of the passphrase in this line, with this salt, these costs and this S
+pub record DerivesOnce (line : Option (List ℕ)) (salt : List ℕ) (sparse : SparseParameters) (before after : ℕ) : Type 0 where
+  pub passphrase : List ℕ
+  pub given : HasPassphrase line passphrase
+  pub count : after ≡ before + sparse_cores passphrase salt sparse
+
+-- by that of an encryption, with the costs, the salt and S that were asked for, or the host's salt
+abbrev pub EncryptWorks : Encryption → Seen → ℕ → ℕ → Type 0
+EncryptWorks asked s before after =
+    DerivesOnce (first_line_at asked.task.source s) (salt_used asked.salt s) (with_keep_of (allowance_of asked.task) asked.costs) before after
+
+-- by that of the input, with the costs and the salt of its header and the S that was asked for
+abbrev pub DecryptWorks : Task → Seen → ℕ → ℕ → Type 0
+DecryptWorks task s before after =
+    DerivesOnce (first_line_at task.source s) (salt_of s.input) (with_keep_of (allowance_of task) (costs_of s.input)) before after
+
+-- by that of a request; `info` has none
+abbrev pub RequestWorks : Request → Seen → ℕ → ℕ → Type 0
+RequestWorks (encrypt asked) s before after = EncryptWorks asked s before after
+RequestWorks (decrypt task) s before after = DecryptWorks task s before after
+RequestWorks (inspect infile) s before after = after ≡ before
+
+-- the run ended behind its derivation: its refusal comes only there, or its output was opened. So S12 is told apart: no
+-- output is opened where the input could not be opened, or failed in its first 96 bytes
+abbrev pub EndsAfterWork : ScryptRefusal → Seen → Type 0
+EndsAfterWork r s = (follows_work r ≡ true) ⊎ (s.output_opened ≡ None → ⊥)
