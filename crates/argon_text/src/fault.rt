@@ -5,10 +5,10 @@ use thiserror::Error;
 #[derive(Clone, Copy, Debug, PartialEq, Eq, Error)]
 pub enum ReadFault {
     /// 1: the bytes are no text of the grammar, whatever its numbers and lengths are.
-    #[error("not an encoded text")]
+    #[error("the text is not of the encoded form of Argon2")]
     NotInGrammar,
     /// 2: they are one, and a number, or the length of salt or tag, is out of range.
-    #[error("a value of the encoded text is out of range")]
+    #[error("a number of the encoded text, or the length of its salt or tag, is out of range")]
     OutOfRange,
     /// 3: memory was refused.
     #[error("out of memory")]
@@ -20,13 +20,13 @@ pub enum ReadFault {
 #[derive(Clone, Copy, Debug, PartialEq, Eq, Error)]
 pub enum VerifyFault {
     /// 6: the length of the password, in bytes, is not 1 to 127.
-    #[error("password length out of range")]
+    #[error("the password is not 1 to 127 bytes long")]
     PasswordLength,
     /// 7: the hash takes more blocks of 1 KiB than are allowed.
-    #[error("more memory needed than is allowed")]
+    #[error("the matrix would have more blocks of 1 KiB than the limit allows")]
     MemoryLimit,
     /// 8: the hash takes more block functions than are allowed.
-    #[error("more work needed than is allowed")]
+    #[error("the hash would take more block functions than the limit allows")]
     WorkLimit,
     /// 9: memory was refused.
     #[error("out of memory")]

@@ -14,17 +14,17 @@ pub enum CostFault {
     /// 3: r * p is 2^30 or more (RFC 7914, section 2).
     #[error("r * p is 2^30 or more")]
     Product,
-    /// 4: the table of 128 * N * r bytes, or the parts of 128 * r * p bytes, are more bytes than the
-    /// limit.
-    #[error("more memory needed than the limit allows")]
+    /// 4: the table of 128 * r * (N / S) bytes, or the parts of 128 * r * p bytes, are more bytes than
+    /// the limit. S is the number of rows of which one is kept: 1, where a whole table is.
+    #[error("the table, or the parts, would take more bytes than the limit allows")]
     Memory,
-    /// 5: the Salsa20/8 cores, 4 * N * r * p, are more than the limit.
-    #[error("more work needed than the limit allows")]
+    /// 5: the bound 2 * r * p * N * (1 + S) on the Salsa20/8 cores is above the limit.
+    #[error("the derivation could take more Salsa20/8 cores than the limit allows")]
     Work,
     /// 6: the number of rows of which one is kept is no power of two from 1 to 1,024.
-    #[error("not a power of two from 1 to 1024")]
+    #[error("the rows of which one is kept are not a power of two from 1 to 1024")]
     Keep,
     /// 7: it is above N.
-    #[error("more rows than N")]
+    #[error("the rows of which one is kept are more than N")]
     KeepAboveN,
 }
