@@ -1,0 +1,44 @@
+#!/usr/bin/env python3
+"""Memory and time of a file that is opened with every S-th row of the table, for each S (--keep S).
+
+    bench/keep.py [BIN] [LOG_N..]       BIN is the folder of scrypt, bin without it; log2 N is 17 and 20
+
+Files of no text are made with r = 8, p = 1 and opened with S = 1, 4, 16 and 64. Peak is the greatest resident size of
+the process by GNU time, time its processor time (user and system), cores the bound 2 * r * p * N * (1 + S) that --maxops is held
+against.
+"""
+import pathlib
+import subprocess
+import sys
+import tempfile
+
+R = 8
+
+
+def run(words, folder):
+    """Processor seconds, elapsed seconds and peak memory in MiB of a run that ends well, as GNU time reports them."""
+    words = ["/usr/bin/time", "-f", "%U %S %e %M", *words]
+    ran = subprocess.run(words, cwd=folder, stdin=subprocess.DEVNULL, stderr=subprocess.PIPE, text=True)
+    if ran.returncode:
+        sys.exit(ran.stderr)
+    user, system, elapsed, peak = map(float, ran.stderr.split())
+    return user + system, elapsed, peak / 1024
+
+
+def main():
+    folder = pathlib.Path(sys.argv[1] if len(sys.argv) > 1 else "bin").resolve()
+    scrypt, logs = str(folder / "scrypt"), [int(it) for it in sys.argv[2:]] or [17, 20]
+    print("log2 N    S  table MiB  peak MiB  time s  elapsed s  cores")
+    with tempfile.TemporaryDirectory() as room:
+        pathlib.Path(room, "pw").write_text("pw\n")
+        for log_n in logs:
+            limits = ["-M", str(1 << 40), "--maxops", str((1 << 63) - 1), "--passphrase", "file:pw"]
+            costs = ["--logN", str(log_n), "-r", str(R), "-p", "1"]
+            run([scrypt, "enc", *costs, *limits, "/dev/null", "file"], room)
+            for keep in [1, 4, 16, 64]:
+                time, elapsed, peak = run([scrypt, "dec", "--keep", str(keep), *limits, "file", "back"], room)
+                table, cores = R * 2.0 ** (log_n - 13) / keep, 2 * R * (1 << log_n) * (1 + keep)
+                print(f"{log_n:6}{keep:5}{table:11g}{peak:10.1f}{time:8.2f}{elapsed:11.2f}  {cores}", flush=True)
+
+
+main()
