@@ -166,6 +166,22 @@ def memory_before_the_hash(checks):
             checks.that(f"memory refused after the matrix, {form}", found, expected)
 
 
+def standard_output_that_is_read(checks):
+    """The file of the password is not written, and another file is, behind what it held."""
+    with tempfile.TemporaryDirectory() as folder:
+        password, other = os.path.join(folder, "password"), os.path.join(folder, "other")
+        for path in (password, other):
+            with open(path, "wb") as file:
+                file.write(b"password")
+        for path, expected, after in (
+            (password, refused(b"output cannot be written"), b"password"),
+            (other, hashed(b""), b"password" + FIRST),
+        ):
+            found = checks.shell(f'"$0" somesalt -d -t 1 -k 8 -e <{password} >>{path}')
+            with open(path, "rb") as file:
+                checks.that(f"standard output that is {os.path.basename(path)}", (found, file.read()), (expected, after))
+
+
 def beside_the_installed(checks):
     other = shutil.which("argon2")
     if other is None:
@@ -188,6 +204,7 @@ def main():
     words_of_bytes(checks)
     large(checks)
     memory_before_the_hash(checks)
+    standard_output_that_is_read(checks)
     beside_the_installed(checks)
     checks.end()
 

@@ -1,6 +1,6 @@
 #!/usr/bin/env python3
-"""Runs the built programs over a system that refuses: each request for memory, alone and from there on, all memory above a limit,
-and each call that opens, looks at, reads, writes or empties a file, which fails, is interrupted, or comes short.
+"""Runs the built programs over a system that refuses: each request for memory, alone and from there on, each that is too large, all
+memory above a limit, and each call that opens, looks at, reads, writes or empties a file, which fails, is interrupted, or comes short.
 
     tests/hostile.py ARGON2 SCRYPT
 
@@ -8,6 +8,8 @@ hostile_system.c, which stands between a program and the system, is compiled her
 (package argon2, version 0~20171227) and of RFC 9106's reference program; scrypt_files.py says where its files come from.
 """
 import concurrent.futures
+import hashlib
+import hmac
 import os
 import resource
 import shutil
@@ -18,7 +20,7 @@ import threading
 from dataclasses import dataclass
 
 from checking import Checks
-from scrypt_files import COSTS, F0, F5, FILES, FIXED, FROM_PW, HEADER, LINES
+from scrypt_files import COSTS, F0, F5, FILES, FIXED, FROM_PW, HEADER, LINES, SALT, header_of
 
 ARGON2_LINES = {
     "A4": b"argon2: bad number\n",
@@ -80,7 +82,8 @@ def password(*rows):
     return calls(("read standard input", "A8a"), ("read standard input", "A8a"), *rows)
 
 
-WRITTEN = [("look at /proc/self/fd/0", None), ("write standard output", "A9", 0)]
+LOOKED = ("look at /proc/self/fd/1", None)
+WRITTEN = [("look at /proc/self/fd/0", None), LOOKED, ("write standard output", "A9", 0)]
 LINE = ("write standard error", "no line")
 OPENED_OUT = [("open out", "S13"), ("look at out", "S13", 0), ("empty out", "S13", 0)]
 
@@ -122,7 +125,7 @@ RUNS = [
     Run(
         "scrypt", f"enc {FIXED} {FROM_PW} -", b"", F0,
         calls(
-            ("open pw", "S4a"), *read_twice("pw", "S4a"), ("look at /proc/self/fd/0", None), ("look at pw", "S13"),
+            ("open pw", "S4a"), *read_twice("pw", "S4a"), ("look at /proc/self/fd/0", None), ("look at pw", "S13"), LOOKED,
             ("write standard output", "S13", 0), ("read standard input", "S12", 96), ("write standard output", "S13", 96),
         ),
     ),
@@ -138,14 +141,14 @@ RUNS = [
         "scrypt", f"enc {FIXED} -P hello", b"pw", F5,
         calls(
             ("open hello", "S12"), *read_twice("standard input", "S4a"), ("look at hello", "S13"), ("look at /proc/self/fd/0", None),
-            *enc_body("hello", "standard output"),
+            LOOKED, *enc_body("hello", "standard output"),
         ),
     ),
     Run(
         "scrypt", f"dec {FROM_PW} F5", b"", b"hello",
         calls(
             ("open F5", "S12"), ("read F5", "S12"), ("open pw", "S4a"), *read_twice("pw", "S4a"), ("look at F5", "S13"),
-            ("look at pw", "S13"), ("read F5", "S12", 0), ("write standard output", "S13", 0), ("read F5", "S12", 5),
+            ("look at pw", "S13"), LOOKED, ("read F5", "S12", 0), ("write standard output", "S13", 0), ("read F5", "S12", 5),
         ),
     ),
     Run(
@@ -159,13 +162,13 @@ RUNS = [
     Run(
         "scrypt", "dec --passphrase env:PW -", F5, b"hello",
         calls(
-            ("read standard input", "S12"), ("look at /proc/self/fd/0", None), ("read standard input", "S12", 0),
+            ("read standard input", "S12"), ("look at /proc/self/fd/0", None), LOOKED, ("read standard input", "S12", 0),
             ("write standard output", "S13", 0), ("read standard input", "S12", 5),
         ),
     ),
     Run(
         "scrypt", "info F5", b"", b"N = 16; r = 1; p = 1; memory = 2048; cores = 64\n",
-        calls(("open F5", "S12"), ("read F5", "S12"), ("look at F5", "S13"), ("write standard output", "S13", 0)),
+        calls(("open F5", "S12"), ("read F5", "S12"), ("look at F5", "S13"), LOOKED, ("write standard output", "S13", 0)),
     ),
     Run(
         "scrypt", "dec --passphrase file:other-pw F5 out", b"", b"",
@@ -249,6 +252,48 @@ def memory(system, run):
     if past != run.plain():
         wrong.append(("past the last", past))
     return requests > 0, harmless, wrong
+
+
+def file_of_no_text(log_n):
+    """The file of no text under the passphrase pw, with r and p of 1, by Python's hashlib and hmac."""
+    front = header_of(log_n, 1, 1)[:64]
+    keys = hashlib.scrypt(b"pw", salt=bytes(range(32)), n=1 << log_n, r=1, p=1, maxmem=1 << 26, dklen=64)
+    head = front + hmac.digest(keys[32:], front, "sha256")
+    return head + hmac.digest(keys[32:], head, "sha256")
+
+
+# Words, what is given and written, and the bytes of the matrix or of the table: 128 N, or 128 N / S.
+F_MIB = file_of_no_text(13)
+LARGE_REQUESTS = [
+    (
+        Run(
+            "argon2", "somesalt -d -t 1 -k 1024 -e", b"password",
+            b"$argon2d$v=19$m=1024,t=1,p=1$c29tZXNhbHQ$Li5eBf5XrCz0cuzQRe9oflYqmA/VAzmzichw4ZYrvEU\n", password(*WRITTEN),
+        ),
+        1 << 20,
+    ),
+    (
+        Run(
+            "argon2", "somesalt -id -t 2 -k 1024 -p 2 -e", b"password",
+            b"$argon2id$v=19$m=1024,t=2,p=2$c29tZXNhbHQ$kEfNQbPvk6Q7hokW6Jrvn1Mjb9kdT/I7OXVDKsviazk\n", password(*WRITTEN),
+        ),
+        1 << 20,
+    ),
+    *((Run("scrypt", f"enc --logN 13 -r 1 -p 1 --salt {SALT} {keep} {FROM_PW} -", b"", F_MIB, calls(LINE)), table)
+      for keep, table in (("", 1 << 20), ("--keep 4", 1 << 18))),
+    *((Run("scrypt", f"dec {keep} {FROM_PW} -", F_MIB, b"", calls(LINE)), table)
+      for keep, table in (("", 1 << 20), ("--keep 4", 1 << 18))),
+]
+
+
+def largest_requests(checks, system):
+    """No request is for more than 65,536 bytes above those of the matrix or the table, and one is for no fewer."""
+    for run, size in LARGE_REQUESTS:
+        name = f"{run.program} {run.words}"
+        found = system.run(run, {"HOSTILE_LARGEST": str(size + 65536)})
+        checks.that(f"no larger request: {name}", found, (0, run.output, b"", None))
+        found = system.run(run, {"HOSTILE_LARGEST": str(size - 1)})
+        checks.that(f"a request as large: {name}", found, run.after("A10" if run.program == "argon2" else "S15", None))
 
 
 # In bytes; a limit below which the loader starts no program is passed over.
@@ -359,6 +404,7 @@ def main():
             checks.that(f"a call refused: {name}", called.result(), [])
             checks.that(f"memory refused: {name}", requested.result(), (True, REQUESTS_THAT_MAY_FAIL, []))
             checks.that(f"memory limited: {name}", limited.result(), (["plain"], []))
+        largest_requests(checks, system)
         salts(checks, system)
         lines(checks, system)
         no_other_calls(checks, system)

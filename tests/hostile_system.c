@@ -1,6 +1,7 @@
 /* Loaded before a program, this stands between it and the system: it refuses requests for memory, and fails, interrupts or cuts
    short a call that opens, looks at, reads, writes or empties a file. Variables say which:
        HOSTILE_MEMORY=FIRST-LAST    the requests for memory with these numbers, from 1, are refused
+       HOSTILE_LARGEST=BYTES        each request for more bytes is refused
        HOSTILE_CALLS=FIRST-LAST     the calls with these numbers, from 1,
        HOSTILE_WAY=fails            fail with EIO,
        HOSTILE_WAY=interrupted      or with EINTR,
@@ -11,6 +12,7 @@
 #include <errno.h>
 #include <fcntl.h>
 #include <stdarg.h>
+#include <stdint.h>
 #include <stdio.h>
 #include <stdlib.h>
 #include <string.h>
@@ -31,6 +33,7 @@ enum way { FAILS, INTERRUPTED, SHORT };
 static struct range refused_requests, bad_calls;
 static enum way way;
 static long requests, calls;
+static size_t largest_request = SIZE_MAX;
 static int log_descriptor = -1;
 static char names[16][64] = {"standard input", "standard output", "standard error"};
 
@@ -48,6 +51,9 @@ __attribute__((constructor)) static void begin(void) {
     bad_calls = range_of("HOSTILE_CALLS");
     if (text)
         way = !strcmp(text, "short") ? SHORT : !strcmp(text, "interrupted") ? INTERRUPTED : FAILS;
+    text = getenv("HOSTILE_LARGEST");
+    if (text)
+        largest_request = strtoull(text, NULL, 10);
     text = getenv("HOSTILE_LOG");
     if (text)
         log_descriptor = atoi(text);
@@ -56,15 +62,15 @@ __attribute__((constructor)) static void begin(void) {
 
 static int is_within(struct range range, long number) { return range.first <= number && number <= range.last; }
 
-void *malloc(size_t size) { return is_within(refused_requests, ++requests) ? NULL : __libc_malloc(size); }
+static int is_refused(size_t size) { return is_within(refused_requests, ++requests) || size > largest_request; }
+
+void *malloc(size_t size) { return is_refused(size) ? NULL : __libc_malloc(size); }
 
 void *calloc(size_t count, size_t size) {
-    return is_within(refused_requests, ++requests) ? NULL : __libc_calloc(count, size);
+    return is_refused(size && count > SIZE_MAX / size ? SIZE_MAX : count * size) ? NULL : __libc_calloc(count, size);
 }
 
-void *realloc(void *old, size_t size) {
-    return is_within(refused_requests, ++requests) ? NULL : __libc_realloc(old, size);
-}
+void *realloc(void *old, size_t size) { return is_refused(size) ? NULL : __libc_realloc(old, size); }
 
 static void tell(const char *call, const char *name) {
     char line[128];

@@ -6,10 +6,13 @@ scrypt where it is installed.
 """
 import hashlib
 import os
+import pty
 import shutil
 import subprocess
 import sys
 import tempfile
+import termios
+import tty
 
 from checking import Checks
 from scrypt_files import (
@@ -310,6 +313,16 @@ def standard_input_that_is_left(checks):
         out = done(b"left") if name != "info" else done(b"N = 16; r = 1; p = 1; memory = 2048; cores = 64\nleft")
         checks.that(f"{name} leaves standard input", checks.shell(f'printf left | {{ "$0" {words}; cat; }}'), out)
     checks.put("out", None)
+    # What holds the passphrase is read to its end, or 2,049 bytes of it.
+    for name, given, status, out, line in (
+        ("all", b"pw\nmore", 0, b"hello", b""),
+        ("2049 bytes with a line end", b"pw\n".ljust(2049, b"x") + b"left", 0, b"helloleft", b""),
+        ("2049 bytes without one", b"p" * 2049 + b"left", 1, b"left", LINES["S4b"]),
+    ):
+        checks.put("typed", given)
+        for way, text in (("a pipe", 'cat typed | { "$0" dec -P F5; s=$?; cat; exit $s; }'),
+                          ("a file", '{ "$0" dec -P F5; s=$?; cat; exit $s; } <typed')):
+            checks.that(f"-P takes {name} of {way}", checks.shell(text), (status, out, line))
 
 
 def outputs_that_are_read(checks):
@@ -342,6 +355,46 @@ def outputs_that_are_read(checks):
     checks.that("a link to nothing", (found, len(checks.content("not-there"))), (done(), 128 + 4))
     found = checks.shell(f'"$0" enc {FIXED} {FROM_PW} hello symbolic-link')
     checks.that("a link to another file", (found, checks.content("kept")), (done(), F5))
+
+
+def standard_output_that_is_read(checks):
+    """Nor is standard output written where it is a file that is read: what is written would be read again."""
+    for name, content, after, words in (
+        ("the input of enc", b"kept", b"kept", f"enc {COSTS} {FROM_PW} read >>read"),
+        ("the input of enc by a link", b"kept", b"kept", f"enc {COSTS} {FROM_PW} read-link >>read"),
+        ("the input of enc, written from its start", b"kept", b"kept", f"enc {COSTS} {FROM_PW} read 1<>read"),
+        ("the input of enc, which the shell empties", b"lost", b"", f"enc {COSTS} {FROM_PW} read >read"),
+        ("standard input of enc", b"kept", b"kept", f"enc {COSTS} {FROM_PW} - <read >>read"),
+        ("the input of dec", F5, F5, f"dec {FROM_PW} read >>read"),
+        ("standard input of dec", F5, F5, f"dec {FROM_PW} - <read >>read"),
+        ("the input of info", F5, F5, "info read >>read"),
+        ("the secret's file", b"pw\n", b"pw\n", f"enc {COSTS} --passphrase file:read hello >>read"),
+        ("the secret on standard input", b"pw\n", b"pw\n", "dec -P F5 <read >>read"),
+    ):
+        checks.put("read", content)
+        if not os.path.lexists(os.path.join(checks.folder, "read-link")):
+            os.symlink("read", os.path.join(checks.folder, "read-link"))
+        found = checks.shell(f'"$0" {words}')
+        checks.that(f"{name} as standard output", (found, checks.content("read")), (refused("S13"), after))
+    # Another file, a device and a terminal are written, also where they are read.
+    checks.put("read", b"before")
+    found = checks.shell(f'"$0" enc {FIXED} {FROM_PW} hello >>read')
+    checks.that("standard output behind another file", (found, checks.content("read")), (done(), b"before" + F5))
+    found = checks.shell(f'"$0" enc {FIXED} {FROM_PW} - </dev/null >/dev/null')
+    checks.that("a device as both standard streams", found, done())
+    found = checks.shell(f'"$0" enc {FIXED} {FROM_PW} /dev/null >/dev/null')
+    checks.that("a device as the input and standard output", found, done())
+    ours, theirs = pty.openpty()
+    tty.setraw(theirs)
+    attributes = termios.tcgetattr(theirs)
+    attributes[3] |= termios.ICANON
+    termios.tcsetattr(theirs, termios.TCSANOW, attributes)
+    os.write(ours, b"pw\n\x04")
+    running = checks.start("dec -P F5".split(), stdin=theirs, stdout=theirs)
+    said = running.communicate()[1]
+    checks.that("a terminal", (running.returncode, os.read(ours, 100), said), done(b"hello"))
+    os.close(ours)
+    os.close(theirs)
 
 
 def output_by_a_bind_mount(checks):
@@ -459,6 +512,7 @@ def main():
         slow_input(checks)
         standard_input_that_is_left(checks)
         outputs_that_are_read(checks)
+        standard_output_that_is_read(checks)
         output_by_a_bind_mount(checks)
         words_of_bytes(checks)
         passphrase_of_bytes(checks)

@@ -44,10 +44,9 @@ expect 'vec![in' "lists of a given length are made by the sources of memory alon
 expect 'with_capacity(' "room for a given length is asked for by the sources of memory alone, which use lists"
 expect '.hash(' "a hash is made by the test of a password and by argon2" \
     crates/argon_text/src/verifying.rt crates/command/src/argon2_command/output.rt
-# What contracts see of a salt and of a known place stays as it was when they are asked, so that they are asked once is seen here.
-expect 'host.salt(' "a salt is asked for once, where enc is given none" crates/host/src/memory.rt crates/host/src/memory.rt \
-    crates/scrypt_run/src/encrypt.rt
-expect 'places.open(' "a secret and a salt are opened once" crates/tools/src/inputs.rt crates/tools/src/inputs.rt
+# Of the system's host, which tells no bytes, no contract sees that a secret or a salt is read twice.
+expect 'read_secret(' "the system reads a secret once" crates/tools/src/system_host.rt
+expect 'read_salt(&' "the system reads a salt once" crates/tools/src/system_host.rt
 expect 'Enc::start(' "a derivation for a new file is begun by enc" crates/scrypt_run/src/encrypt.rt
 expect 'Dec::open(' "a derivation for a file that is read is begun by dec" crates/scrypt_run/src/decrypt.rt
 

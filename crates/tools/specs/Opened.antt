@@ -1,5 +1,5 @@
--- Inputs and outputs that are opened.
-use Rattle.std.specs.Prelude.{⊤}
+-- Inputs and outputs that are opened, and whether something was.
+use Rattle.std.specs.Prelude.{◌≡◌, Bool, true, false, Option, None, Some, ⊤}
 use Rattle.tools.specs.declared.inputs.Input.{Input}
 use Rattle.tools.specs.declared.inputs.Input.TheVariants as input
 use Rattle.tools.specs.declared.outputs.Output.{Output}
@@ -24,3 +24,13 @@ IsStandardOutput (output.Named _) = ⊥
 abbrev pub IsNamedOutput : Output → Type 0
 IsNamedOutput (output.Standard _) = ⊥
 IsNamedOutput (output.Named _) = ⊤
+
+-- it isn't known that something was opened
+abbrev pub MayOpen : Option Bool → Type 0
+MayOpen None = ⊤
+MayOpen (Some opened) = opened ≡ false
+
+-- where it is known whether something was opened, something is now
+abbrev pub HasOpened : Option Bool → Option Bool → Type 0
+HasOpened None after = ⊤
+HasOpened (Some before) after = after ≡ Some true

@@ -3,6 +3,7 @@ ghost use Rattle.std.specs.Prelude.{◌↔◌, IsTrue};
 ghost use Rattle.tools.specs.Identity.{Includes};
 
 use host::HostFault;
+use std::fs;
 use std::fs::{File, Metadata};
 use std::os::unix::fs::MetadataExt;
 
@@ -39,6 +40,15 @@ pub fn regular(metadata: &Metadata) -> Option<FileIdentity> {
         })
     } else {
         None
+    }
+}
+
+/// What a standard stream is, where it is a regular file. The system tells it under the name of the
+/// stream's descriptor, as `/proc/self/fd/0`; where it does not, none is known.
+pub fn regular_stream(rt: HostRuntime, descriptor: &str) -> Option<FileIdentity> {
+    match fs::metadata(&rt, descriptor) {
+        Ok(metadata) => regular(&metadata),
+        Err(_) => None,
     }
 }
 

@@ -1,18 +1,18 @@
 //! What is read: the input, secrets and random bytes.
-ghost use Rattle.std.specs.Prelude.{◌≡◌, ◌≤◌, ℕ, List, Option, None, length, option_map, IsNone, IsSome, IfOk, IsOkAnd, OnOk};
+ghost use Rattle.std.specs.Prelude.{◌≡◌, ◌≤◌, ℕ, Bool, List, Option, None, length, option_map, IsNone, IsSome, IfOk, IsOkAnd, OnOk};
 ghost use Rattle.host.specs.Secret.{source_of};
 ghost use Rattle.host.specs.Seen.{Text};
 ghost use Rattle.tools.specs.Beginning.{IsFirstOf, IsKnownBeginning, random_bytes, secret_bytes};
-ghost use Rattle.tools.specs.Opened.{IsNamedInput, IsStandardInput};
+ghost use Rattle.tools.specs.Opened.{HasOpened, IsNamedInput, IsStandardInput, MayOpen};
 
-use crate::identity::{FileIdentity, regular, regular_file};
+use crate::identity::{FileIdentity, regular_file, regular_stream};
 use crate::placeholders::beside_standard_streams;
 use crate::streams::read_full;
 use host::{HostFault, Source};
 use std::env::{Env, FillError};
 use std::fs::File;
+use std::io;
 use std::io::{Read, Stdin};
-use std::{fs, io};
 
 /// An input that is opened.
 #[derive(Drop)]
@@ -33,14 +33,10 @@ impl Read for Input {
 }
 
 impl Input {
-    /// The regular file that is read. What standard input is, the system tells under the name of its
-    /// descriptor; where it does not, none is known.
+    /// The regular file that is read.
     pub fn identity(&self, rt: HostRuntime) -> Result<Option<FileIdentity>, HostFault> {
         match self {
-            Input::Standard(_) => match fs::metadata(&rt, "/proc/self/fd/0") {
-                Ok(metadata) => Ok(regular(&metadata)),
-                Err(_) => Ok(None),
-            },
+            Input::Standard(_) => Ok(regular_stream(rt, "/proc/self/fd/0")),
             Input::Named(file) => regular_file(file),
         }
     }
@@ -73,9 +69,13 @@ pub fn read_variable<E: Env>(
     }
 }
 
-/// The places from which bytes are read.
+/// The places from which bytes are read. One of them is opened, once: opened again, a stream would be at
+/// its end, or other random bytes would come.
 pub trait Places {
     type Opened: Read + Drop;
+
+    // Whether something was opened, where contracts know it.
+    ghost opened: { Self → Option Bool };
 
     // The bytes under a name (None: standard input), where contracts know them.
     ghost inputs: { Self → Option Text → Option (List ℕ) };
@@ -84,9 +84,11 @@ pub trait Places {
     ghost variables: { Self → Text → Option (List ℕ) };
 
     /// Opens what has this name; `None` is standard input.
-    fn open(&self, name: Option<&str>) -> Result<Self::Opened, HostFault>
+    fn open(&mut self, name: Option<&str>) -> Result<Self::Opened, HostFault>
+        requires unopened { MayOpen (opened self.old) }
+        ensures opens { HasOpened (opened self.old) (opened self.new) }
         ensures bytes { IfOk result (λ opened.
-            Self.Opened.remaining opened ≡ inputs self.now (option_map (λ n. n.now) name.entry)) };
+            Self.Opened.remaining opened ≡ inputs self.old (option_map (λ n. n.now) name.entry)) };
 
     /// Puts the first bytes of a variable into the buffer, as many as there are and as fit.
     fn variable(&self, name: &str, buf: &mut [u8]) -> Result<usize, HostFault>
@@ -98,11 +100,13 @@ pub trait Places {
 impl Places for HostRuntime {
     type Opened = Input;
 
+    ghost opened = { λ _. None };
+
     ghost inputs = { λ _ _. None };
 
     ghost variables = { λ _ _. None };
 
-    fn open(&self, name: Option<&str>) -> Result<Input, HostFault> {
+    fn open(&mut self, name: Option<&str>) -> Result<Input, HostFault> {
         open_input(*self, name)
     }
 
@@ -122,13 +126,14 @@ pub struct Secret<I> {
 
 /// The first bytes of a secret source: all of them, or as many as fit, in however many pieces they come.
 pub fn read_secret<P: Places>(
-    places: &P,
+    places: &mut P,
     source: Source<'_>,
     buf: &mut [u8],
 ) -> Result<Secret<P::Opened>, HostFault>
+    requires unopened { MayOpen (P.opened places.old) }
     ensures bound { IfOk result (λ secret. secret.length ≤ length buf.old) }
     ensures whole { IfOk result (λ secret. IsKnownBeginning
-        (secret_bytes (P.inputs places.now) (P.variables places.now) (source_of source.entry)) secret.length buf.new) }
+        (secret_bytes (P.inputs places.old) (P.variables places.old) (source_of source.entry)) secret.length buf.new) }
 {
     let name = match source {
         Source::StdinOnce => None,
@@ -150,8 +155,9 @@ pub fn read_secret<P: Places>(
 }
 
 /// A salt of random bytes. A source that ends before 32 of them is a fault.
-pub fn read_salt<P: Places>(places: &P, out: &mut [u8; 32]) -> Result<(), HostFault>
-    ensures random { OnOk result (IsFirstOf (random_bytes (P.inputs places.now)) out.new) }
+pub fn read_salt<P: Places>(places: &mut P, out: &mut [u8; 32]) -> Result<(), HostFault>
+    requires unopened { MayOpen (P.opened places.old) }
+    ensures random { OnOk result (IsFirstOf (random_bytes (P.inputs places.old)) out.new) }
 {
     let mut source = places.open(Some("/dev/urandom"))?;
     if read_full(&mut source, out)? == out.len() {

@@ -1,11 +1,11 @@
 //! What is written: the output.
 ghost use Rattle.std.specs.Prelude.{Option, None, IsNone, IsSome, IsErr, IfOk, IsOkAnd, OnOk, OnErr};
 ghost use Rattle.std.specs.Io.KnownBytes.{IsAtEnd, Keeps};
-ghost use Rattle.tools.specs.Identity.{IsKnown, IsRead, IsRegular};
+ghost use Rattle.tools.specs.Identity.{IncludesFile, IsKnown, IsOther, IsRead, IsRegular};
 ghost use Rattle.tools.specs.Opened.{IsNamedOutput, IsStandardOutput};
 ghost use Rattle.tools.specs.declared.identity.FileIdentity.{FileIdentity};
 
-use crate::identity::{FileIdentity, FilesRead, regular_file};
+use crate::identity::{FileIdentity, FilesRead, regular_file, regular_stream};
 use crate::placeholders::beside_standard_streams;
 use host::HostFault;
 use std::fs::{File, OpenOptions};
@@ -68,11 +68,12 @@ impl Writable for File {
 }
 
 /// Empties an opened output, where it is a regular file. One of the files that are read is a fault. After
-/// a fault the file holds what it held.
+/// a fault the file holds what it held, and so does at any time what is no regular file.
 pub fn empty_unless_read<F: Writable>(file: &mut F, read: &FilesRead) -> Result<(), HostFault>
     ensures refused { IsRead read.now (F.known file.old) → IsErr result }
     ensures untouched { OnErr result (Keeps (F.contents file.old) (F.contents file.new)) }
     ensures emptied { OnOk result (IsRegular (F.known file.old) → IsAtEnd (F.contents file.new)) }
+    ensures other { IsOther (F.known file.old) → Keeps (F.contents file.old) (F.contents file.new) }
 {
     let Some(identity) = file.identity()? else {
         return Ok(());
@@ -83,17 +84,35 @@ pub fn empty_unless_read<F: Writable>(file: &mut F, read: &FilesRead) -> Result<
     file.empty()
 }
 
-/// A named file to be written, made or emptied, or standard output.
+/// Standard output, which is this regular file or none. One of the files that are read is a fault.
+pub fn standard_output(
+    rt: HostRuntime,
+    identity: Option<FileIdentity>,
+    read: &FilesRead,
+) -> Result<Output, HostFault>
+    ensures refused { IncludesFile read.now identity → IsErr result }
+    ensures standard { (IncludesFile read.now identity → ⊥) → IsOkAnd result IsStandardOutput }
+{
+    if let Some(identity) = identity
+        && read.includes(identity)
+    {
+        return Err(HostFault);
+    }
+    Ok(Output::Standard(rt.stdout()))
+}
+
+/// A named file to be written, made or emptied, or standard output. One of the files that are read is
+/// a fault.
 pub fn open_output(
     rt: HostRuntime,
     name: Option<&str>,
     read: &FilesRead,
 ) -> Result<Output, HostFault>
-    ensures standard { IsNone name.entry → IsOkAnd result IsStandardOutput }
+    ensures standard { IsNone name.entry → IfOk result IsStandardOutput }
     ensures named { IsSome name.entry → IfOk result IsNamedOutput }
 {
     let Some(path) = name else {
-        return Ok(Output::Standard(rt.stdout()));
+        return standard_output(rt, regular_stream(rt, "/proc/self/fd/1"), read);
     };
     let opened = OpenOptions::new().write(true).create(true).open(&rt, path);
     let mut file = beside_standard_streams(opened)?;

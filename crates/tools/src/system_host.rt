@@ -13,9 +13,9 @@ use host::{Host, HostFault, Source};
 /// Files, the environment, the standard streams, and the system's random bytes for salts.
 ///
 /// A named output is made, or emptied where it is there; one that is the opened input or the secret's
-/// file, under whatever name, is a fault and stays as it is. A push is written at once. A read or a
-/// write that a signal interrupts is asked again at most 16 times, and a write of no bytes is a
-/// fault; a line goes out by the toolchain's printing, with its line feed in one call. A standard
+/// file, under whatever name or as standard output, is a fault and stays as it is. A push is written at
+/// once. A read or a write that a signal interrupts is asked again at most 16 times, and a write of no
+/// bytes is a fault; a line goes out by the toolchain's printing, with its line feed in one call. A standard
 /// stream that is closed when the host is made stays without use: no file that is opened later takes
 /// its place, and reading or writing it is a fault. Where the root folder may not be opened, opening
 /// a file is a fault as long as a standard stream is closed.
@@ -129,14 +129,14 @@ impl Host for SystemHost {
     }
 
     fn secret(&mut self, source: Source<'_>, buf: &mut [u8]) -> Result<usize, HostFault> {
-        let read = read_secret(&self.rt, source, buf);
+        let read = read_secret(&mut self.rt, source, buf);
         let Secret { length, opened } = counted(&mut self.secret_faults, read)?;
         self.secret = opened;
         Ok(length)
     }
 
     fn salt(&mut self, out: &mut [u8; 32]) -> Result<(), HostFault> {
-        counted(&mut self.salt_faults, read_salt(&self.rt, out))
+        counted(&mut self.salt_faults, read_salt(&mut self.rt, out))
     }
 
     fn say(&mut self, line: &str) -> Result<(), HostFault> {

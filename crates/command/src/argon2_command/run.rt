@@ -46,6 +46,7 @@ fn prepare<R: Room, H: Host>(
     ensures idle { IfErr result (λ _. ticks.new ≡ ticks.old) }
     ensures count { IfOk result (λ _. IfOk (argon2_request (map string_bytes words.now))
         (λ request. ticks.new ≡ ticks.old + request_work request)) }
+    ensures before_output { IfErr result (λ r. r ≢ Argon2Refusal.OutputFault) }
 {
     let request = read_request(words)?;
     let password = read_password(host)?;
@@ -76,9 +77,12 @@ pub(super) fn attempt<R: Room, H: Host>(
         IsRefused r (map string_bytes words.now) (H.seen host.old) (H.seen host.new)) }
     // Nothing is asked of the source of memory before every other refusal but the output's is ruled out.
     ensures unasked_for_memory { IfErr result (λ r. IsEarly r → room.new ≡ room.old) }
-    // The output's refusal is the one that comes after the hash.
+    // The output's refusal is the one that comes after the hash, of which nothing is left to be done.
     ensures idle { IfErr result (λ r. r ≢ Argon2Refusal.OutputFault → ticks.new ≡ ticks.old) }
     ensures count { OnOk result (IfOk (argon2_request (map string_bytes words.now))
+        (λ request. ticks.new ≡ ticks.old + request_work request)) }
+    ensures count_of_output { IfErr result (λ r. r ≡ Argon2Refusal.OutputFault
+        → IfOk (argon2_request (map string_bytes words.now))
         (λ request. ticks.new ≡ ticks.old + request_work request)) }
 {
     let line = prepare(room, words, host, ticks)?;

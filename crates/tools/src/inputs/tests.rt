@@ -28,11 +28,13 @@ struct Sevens {
 impl Places for Sevens {
     type Opened = InPairs;
 
+    ghost opened = { λ _. None };
+
     ghost inputs = { λ _ _. None };
 
     ghost variables = { λ _ _. None };
 
-    fn open(&self, name: Option<&str>) -> Result<InPairs, HostFault> {
+    fn open(&mut self, name: Option<&str>) -> Result<InPairs, HostFault> {
         if name == Some("missing") {
             return Err(HostFault);
         }
@@ -40,7 +42,8 @@ impl Places for Sevens {
     }
 
     fn variable(&self, name: &str, buf: &mut [u8]) -> Result<usize, HostFault> {
-        read_full(&mut self.open(Some(name))?, buf)
+        let mut places = Sevens { count: self.count };
+        read_full(&mut places.open(Some(name))?, buf)
     }
 }
 
@@ -49,7 +52,7 @@ fn takes_secrets_in_pieces(rt: HostRuntime) {
     for source in [Source::StdinOnce, Source::File("name"), Source::Env("name")] {
         for (count, length) in [(0, 0), (1, 1), (5, 5), (8, 8), (9, 8)] {
             let mut buf = [0; 8];
-            let Ok(secret) = read_secret(&Sevens { count }, source, &mut buf) else {
+            let Ok(secret) = read_secret(&mut Sevens { count }, source, &mut buf) else {
                 assert!(rt; false, "{source:?}");
                 return;
             };
@@ -62,17 +65,24 @@ fn takes_secrets_in_pieces(rt: HostRuntime) {
             );
         }
     }
-    let missing = read_secret(&Sevens { count: 1 }, Source::File("missing"), &mut [0; 8]);
+    let missing = read_secret(
+        &mut Sevens { count: 1 },
+        Source::File("missing"),
+        &mut [0; 8],
+    );
     assert!(rt; missing.is_err());
 }
 
 #[test]
 fn takes_whole_salts(rt: HostRuntime) {
     let mut salt = [0; 32];
-    assert_eq!(rt; read_salt(&Sevens { count: 31 }, &mut salt), Err(HostFault));
+    assert_eq!(rt;
+        read_salt(&mut Sevens { count: 31 }, &mut salt),
+        Err(HostFault)
+    );
     for count in [32, 40] {
         salt = [0; 32];
-        assert_eq!(rt; read_salt(&Sevens { count }, &mut salt), Ok(()));
+        assert_eq!(rt; read_salt(&mut Sevens { count }, &mut salt), Ok(()));
         assert_eq!(rt; salt, [7; 32]);
     }
 }

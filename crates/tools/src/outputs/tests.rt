@@ -37,36 +37,40 @@ impl Writable for FourBytes {
     }
 }
 
+// The output, and two other files.
+const THIS: FileIdentity = FileIdentity {
+    device: 1,
+    inode: 2,
+};
+
+const ON_ANOTHER_DEVICE: FileIdentity = FileIdentity {
+    device: 3,
+    inode: 2,
+};
+
+const ANOTHER: FileIdentity = FileIdentity {
+    device: 1,
+    inode: 4,
+};
+
 #[test]
 fn files_that_are_read_stay(rt: HostRuntime) {
-    let this = FileIdentity {
-        device: 1,
-        inode: 2,
-    };
-    let on_another_device = FileIdentity {
-        device: 3,
-        inode: 2,
-    };
-    let another = FileIdentity {
-        device: 1,
-        inode: 4,
-    };
     for (input, secret, identity, emptying, outcome, length) in [
-        (None, None, Ok(Some(this)), Ok(()), Ok(()), 0),
+        (None, None, Ok(Some(THIS)), Ok(()), Ok(()), 0),
         (
-            Some(another),
-            Some(on_another_device),
-            Ok(Some(this)),
+            Some(ANOTHER),
+            Some(ON_ANOTHER_DEVICE),
+            Ok(Some(THIS)),
             Ok(()),
             Ok(()),
             0,
         ),
-        (Some(this), None, Ok(Some(this)), Ok(()), Err(HostFault), 4),
-        (None, Some(this), Ok(Some(this)), Ok(()), Err(HostFault), 4),
+        (Some(THIS), None, Ok(Some(THIS)), Ok(()), Err(HostFault), 4),
+        (None, Some(THIS), Ok(Some(THIS)), Ok(()), Err(HostFault), 4),
         (
             None,
             None,
-            Ok(Some(this)),
+            Ok(Some(THIS)),
             Err(HostFault),
             Err(HostFault),
             4,
@@ -86,5 +90,24 @@ fn files_that_are_read_stay(rt: HostRuntime) {
             "{identity:?} {read:?}"
         );
         assert_eq!(rt; file.length, length, "{identity:?} {read:?}");
+    }
+}
+
+#[test]
+fn standard_output_that_is_read(rt: HostRuntime) {
+    for (identity, input, secret, refused) in [
+        (None, None, None, false),
+        (None, Some(THIS), Some(ANOTHER), false),
+        (Some(THIS), None, None, false),
+        (Some(THIS), Some(ANOTHER), Some(ON_ANOTHER_DEVICE), false),
+        (Some(THIS), Some(THIS), None, true),
+        (Some(THIS), Some(ANOTHER), Some(THIS), true),
+    ] {
+        let read = FilesRead { input, secret };
+        assert_eq!(rt;
+            standard_output(rt, identity, &read).is_err(),
+            refused,
+            "{identity:?} {read:?}"
+        );
     }
 }
