@@ -14,7 +14,7 @@ def read(path):
 def code(crate):
     """The texts of the crate's sources, without tests."""
     files = sorted((ROOT / "crates" / crate / "src").rglob("*.rt"))
-    return [file.read_text(encoding="utf-8") for file in files if not TESTS & set(file.parts)]
+    return [file.read_text(encoding="utf-8") for file in files if not TESTS & set(file.relative_to(ROOT).parts)]
 
 
 def functions(crate):

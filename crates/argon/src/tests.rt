@@ -278,9 +278,24 @@ fn tags_with_secret_and_data(rt: HostRuntime) -> Result<(), Fail> {
 }
 
 // Passes, lanes, memory, the lengths of tag, salt and password, and the fault.
-const RANGES: [(u32, u32, u32, usize, usize, usize, Option<ParamFault>); 20] = [
+const RANGES: [(u32, u32, u32, usize, usize, usize, Option<ParamFault>); 34] = [
     (1, 1, 8, 4, 8, 1, None),
     (0xFFFF_FFFF, 0xFF_FFFF, 0xFFFF_FFFF, 4096, 255, 127, None),
+    // one inside each end
+    (2, 1, 8, 4, 8, 1, None),
+    (0xFFFF_FFFE, 1, 8, 4, 8, 1, None),
+    (1, 0xFF_FFFE, 0xFFFF_FFFF, 4, 8, 1, None),
+    (1, 1, 9, 4, 8, 1, None),
+    (1, 1, 0xFFFF_FFFE, 4, 8, 1, None),
+    (1, 2, 17, 4, 8, 1, None),
+    (1, 0xFF_FFFF, 134_217_721, 4, 8, 1, None),
+    (1, 1, 8, 5, 8, 1, None),
+    (1, 1, 8, 4095, 8, 1, None),
+    (1, 1, 8, 4, 9, 1, None),
+    (1, 1, 8, 4, 254, 1, None),
+    (1, 1, 8, 4, 8, 2, None),
+    (1, 1, 8, 4, 8, 126, None),
+    (2, 2, 17, 5, 9, 2, None),
     (0, 1, 8, 4, 8, 1, Some(ParamFault::Passes)),
     (1, 0, 8, 4, 8, 1, Some(ParamFault::Lanes)),
     (1, 0x100_0000, 0xFFFF_FFFF, 4, 8, 1, Some(ParamFault::Lanes)),
@@ -322,7 +337,9 @@ fn ends_of_each_range(rt: HostRuntime) {
     }
 }
 
-// Kind, passes, lanes, memory, blocks, and block functions, which can be past 64 bits.
+// Kind, passes, lanes, memory, blocks, and block functions, which can be past 64 bits: RFC 9106,
+// sections 3.2 and 3.4.1.2. Those of the last by Python, with t = 2**32 - 1 and b = 2**32 - 4:
+//     t * b - 2 + t * 4 * 2 * -(-(b // 4) // 128)
 const WORK: [(Kind, u32, u32, u32, u32, u128); 6] = [
     (Kind::D, 1, 1, 8, 8, 6),
     (Kind::I, 2, 1, 256, 256, 526),
@@ -348,23 +365,54 @@ fn limits_admit_exactly(rt: HostRuntime) {
         };
         assert_eq!(rt; params.blocks(), blocks);
         assert_eq!(rt; params.work(), work);
-        assert_eq!(rt;
-            params.admitted(blocks.wrapping_sub(1), 0),
-            Err(ParamFault::MemoryLimit)
-        );
-        if work < 0x8000_0000_0000_0000 {
-            assert_eq!(rt; params.admitted(blocks, work as u64), Ok(()));
+        // one below the blocks, where memory is told before work, the blocks, and one above
+        for (max_kib, fault) in [
+            (blocks.wrapping_sub(1), Err(ParamFault::MemoryLimit)),
+            (blocks, Err(ParamFault::WorkLimit)),
+            (blocks.wrapping_add(1), Err(ParamFault::WorkLimit)),
+        ] {
+            assert_eq!(rt; params.admitted(max_kib, 0), fault, "{max_kib}");
+        }
+        let Ok(ops) = u64::try_from(work) else {
+            continue;
+        };
+        for (max_kib, max_ops, fault) in [
+            (blocks.wrapping_sub(1), ops, Err(ParamFault::MemoryLimit)),
+            (blocks, ops, Ok(())),
+            (blocks.wrapping_add(1), ops, Ok(())),
+            (blocks, ops.wrapping_sub(1), Err(ParamFault::WorkLimit)),
+            (blocks, ops.wrapping_add(1), Ok(())),
+        ] {
             assert_eq!(rt;
-                params.admitted(blocks, (work as u64).wrapping_sub(1)),
-                Err(ParamFault::WorkLimit)
-            );
-        } else {
-            assert_eq!(rt;
-                params.admitted(blocks, 0x7FFF_FFFF_FFFF_FFFF),
-                Err(ParamFault::WorkLimit)
+                params.admitted(max_kib, max_ops),
+                fault,
+                "{max_kib} {max_ops}"
             );
         }
     }
+}
+
+// The greatest Argon2i has 4,294,967,292 blocks, and more block functions than 64 bits hold.
+#[test]
+fn greatest_limits_admit_exactly(rt: HostRuntime) -> Result<(), Fail> {
+    let greatest = Params::new(Kind::I, 0x13, 0xFFFF_FFFF, 1, 0xFFFF_FFFF, 32, 8, 8)?;
+    for (max_kib, max_ops, fault) in [
+        (4294967291, 0x7FFF_FFFF_FFFF_FFFF, ParamFault::MemoryLimit),
+        (4294967292, 0x7FFF_FFFF_FFFF_FFFF, ParamFault::WorkLimit),
+        (4294967293, 0x7FFF_FFFF_FFFF_FFFF, ParamFault::WorkLimit),
+        (4294967295, 0x7FFF_FFFF_FFFF_FFFF, ParamFault::WorkLimit),
+        (4294967291, u64::MAX, ParamFault::MemoryLimit),
+        (4294967295, u64::MAX, ParamFault::WorkLimit),
+        // the block functions less 2^64
+        (4294967295, 288230354609766402, ParamFault::WorkLimit),
+    ] {
+        assert_eq!(rt;
+            greatest.admitted(max_kib, max_ops),
+            Err(fault),
+            "{max_kib} {max_ops}"
+        );
+    }
+    Ok(())
 }
 
 // `start`, four slices and `tag` give what `hash` gives, and a matrix serves a second hash.

@@ -3,6 +3,8 @@ ghost use Rattle.std.specs.Prelude.{◌≡◌, ◌≤◌, ◌^◌, length, take,
 ghost use Rattle.romix.specs.SparseCosts.{SparseFitsMemory};
 ghost use Rattle.encfile.specs.Header.{IsHeaderOf};
 
+mod damage;
+
 use crate::{Dec, Enc, Header, HeaderFault};
 use romix::{Costs, Limits, Sparse, Ticks, Workspace};
 use std::test::Fail;
@@ -99,7 +101,9 @@ enum Outcome {
     Whole,
     Damaged,
     WrongPassphrase,
-    NoHeader,
+    // Fewer than 96 bytes.
+    NoFront,
+    Refused(HeaderFault),
     NotAdmitted,
     TooLong,
 }
@@ -133,8 +137,9 @@ fn header_of(front: &[u8; 96], keep: u64) -> Result<(Header, Sparse), Outcome>
         max_bytes: 1 << 21,
         max_ops: 1 << 26,
     };
-    let Ok(header) = Header::read(&first_of(front)) else {
-        return Err(Outcome::NoHeader);
+    let header = match Header::read(&first_of(front)) {
+        Ok(header) => header,
+        Err(fault) => return Err(Outcome::Refused(fault)),
     };
     let Ok(sparse) = Sparse::new(header.costs(), keep) else {
         return Err(Outcome::NotAdmitted);
@@ -213,7 +218,7 @@ fn decrypt(
 ) -> Result<(Vec<u8>, Outcome), Fail> {
     let mut text = Vec::new(rt.alloc());
     if file.len() < 96 || size == 0 {
-        return Ok((text, Outcome::NoHeader));
+        return Ok((text, Outcome::NoFront));
     }
     let mut dec = match opened(rt, &front_of(file), passphrase, keep)? {
         Ok(dec) => dec,

@@ -1,6 +1,6 @@
 //! Whole runs over a host in memory. The two files were made by Python's hashlib.scrypt and hmac with OpenSSL's
 //! aes-256-ctr, and scrypt(1) 1.3.1 opens them.
-ghost use Rattle.std.specs.Prelude.{◌^◌, IfOk};
+ghost use Rattle.std.specs.Prelude.{◌^◌, ◌<◌, IfOk};
 ghost use Rattle.host.specs.Faults.{AreBelow};
 ghost use Rattle.host.specs.Memory.{memory_faults, memory_seen};
 ghost use Rattle.host.specs.Seen.{IsFresh};
@@ -494,7 +494,28 @@ fn broken_enc(call: u64) -> Broken {
     }
 }
 
-// Runs the words, one byte a pull and one a push, with this call of the host's failing.
+// Runs the words, one byte a pull and so many a push, with this call of the host's failing.
+fn check_failing(
+    rt: &impl Abort,
+    alloc: Global,
+    run: (&str, &[u8]),
+    push: usize,
+    call: u64,
+    end: End<'_>,
+) -> Result<(), AllocError>
+    requires some { 0 < push }
+{
+    let (line, input) = run;
+    let words = words(alloc, line)?;
+    let mut host = host_with(alloc, input, b"pw\n")?;
+    host.set_sizes(1, push);
+    host.fail_at(call);
+    let status = scrypt(alloc, &words, &mut host);
+    check(rt, &host, status, end, line);
+    Ok(())
+}
+
+// The same with one byte a push, of a run that would have written the whole.
 fn check_broken(
     rt: &impl Abort,
     alloc: Global,
@@ -502,18 +523,12 @@ fn check_broken(
     call: u64,
     (told, written, is_opened): Broken,
 ) -> Result<(), AllocError> {
-    let words = words(alloc, line)?;
-    let mut host = host_with(alloc, input, b"pw\n")?;
-    host.set_sizes(1, 1);
-    host.fail_at(call);
-    let status = scrypt(alloc, &words, &mut host);
     let end = End {
         line: Some(told),
         output: whole.get(..written).unwrap_or(&[]),
         is_opened,
     };
-    check(rt, &host, status, end, line);
-    Ok(())
+    check_failing(rt, alloc, (line, input), 1, call, end)
 }
 
 #[test]
@@ -523,6 +538,9 @@ fn each_host_call_of_dec_fails(rt: HostRuntime) -> Result<(), Fail> {
         let run = (OPEN, file.as_slice(), b"hello".as_slice());
         check_broken(&rt, rt.alloc(), run, call, broken_dec(call))?;
     }
+    // there is no further call
+    let run = (OPEN, file.as_slice());
+    check_failing(&rt, rt.alloc(), run, 1, 143, done(b"hello"))?;
     Ok(())
 }
 
@@ -536,6 +554,70 @@ fn each_host_call_of_enc_fails(rt: HostRuntime) -> Result<(), Fail> {
             file.as_slice(),
         );
         check_broken(&rt, rt.alloc(), run, call, broken_enc(call))?;
+    }
+    // there is no further call
+    let run = ("enc --logN 4 -r 1 -p 1 -P in", b"hello".as_slice());
+    check_failing(&rt, rt.alloc(), run, 1, 144, done(&file))?;
+    Ok(())
+}
+
+// One byte a pull, and pushes that are taken whole. The calls of `enc` with a given salt are one opening, one secret, one
+// opening and a push of 96 bytes; then five times a pull and a push, a pull at the end, and a push of 32 bytes.
+const BROKEN_BY_WHOLE_PUSHES: &[(u64, Broken)] = &[
+    (1, (INPUT_FAULT, 0, false)),
+    (2, (NO_PASSPHRASE, 0, false)),
+    (3, (OUTPUT_FAULT, 0, false)),
+    (4, (OUTPUT_FAULT, 0, true)),
+    (5, (INPUT_FAULT, 96, true)),
+    (6, (OUTPUT_FAULT, 96, true)),
+    (7, (INPUT_FAULT, 97, true)),
+    (8, (OUTPUT_FAULT, 97, true)),
+    (9, (INPUT_FAULT, 98, true)),
+    (10, (OUTPUT_FAULT, 98, true)),
+    (11, (INPUT_FAULT, 99, true)),
+    (12, (OUTPUT_FAULT, 99, true)),
+    (13, (INPUT_FAULT, 100, true)),
+    (14, (OUTPUT_FAULT, 100, true)),
+    (15, (INPUT_FAULT, 101, true)),
+    (16, (OUTPUT_FAULT, 101, true)),
+];
+
+#[test]
+fn each_host_call_of_enc_by_whole_pushes_fails(rt: HostRuntime) -> Result<(), Fail> {
+    let file = file(rt.alloc(), REST_OF_HELLO)?;
+    let run = (NEW_FILE, b"hello".as_slice());
+    for (call, (told, written, is_opened)) in BROKEN_BY_WHOLE_PUSHES {
+        let end = End {
+            line: Some(*told),
+            output: file.get(..*written).unwrap_or(&[]),
+            is_opened: *is_opened,
+        };
+        check_failing(&rt, rt.alloc(), run, usize::MAX, *call, end)?;
+    }
+    // there is no further call
+    check_failing(&rt, rt.alloc(), run, usize::MAX, 17, done(&file))?;
+    Ok(())
+}
+
+// A wrong passphrase, one byte a pull: the calls of `dec` are one opening, 96 pulls, one secret and the line.
+#[test]
+fn line_of_a_wrong_passphrase_is_not_said(rt: HostRuntime) -> Result<(), Fail> {
+    let alloc = rt.alloc();
+    let file = file(alloc, REST_OF_HELLO)?;
+    let words = words(alloc, OPEN)?;
+    for (call, told) in [
+        (98, Some(NO_PASSPHRASE)),
+        (99, None),
+        (100, Some(OTHER_PASSPHRASE)),
+    ] {
+        let mut host = host_with(alloc, &file, b"pv\n")?;
+        host.set_sizes(1, usize::MAX);
+        host.fail_at(call);
+        assert_eq!(rt; scrypt(alloc, &words, &mut host), 1, "{call}");
+        assert_eq!(rt; only_line(&host), told, "{call}");
+        assert_eq!(rt; host.lines().len(), usize::from(told.is_some()), "{call}");
+        assert_eq!(rt; host.output().len(), 0, "{call}");
+        assert_eq!(rt; host.output_name(), None, "{call}");
     }
     Ok(())
 }
