@@ -39,7 +39,6 @@ test: $(filter bin/x86-64-v3/%,$(wildcard $(LEVELS:%=bin/%/scrypt))) ## the gate
 	tests/documents.py
 	tests/reading.py --check
 	@for level in $(LEVELS); do test ! -x bin/$$level/scrypt || tests/outside.sh bin/$$level || exit 1; done
-	tests/story.py --prove
 
 map: ## draws docs/proof-map.svg anew: which promise stands on what
 	tests/proof_map.py docs/proof-map.svg
