@@ -4,13 +4,17 @@ more. Each form comes byte by byte, in pieces of 31 bytes, and whole, and the ou
 
     tests/damage.py SCRYPT
 """
+import array
 import concurrent.futures
+import fcntl
 import os
 import socket
 import subprocess
 import sys
 import tempfile
+import termios
 import threading
+import time
 
 from checking import TIME_LIMIT, Checks
 from scrypt_files import F5, FROM_PW, LINES
@@ -57,6 +61,13 @@ def forms():
         yield f"{more} bytes more", F5 + bytes(more), damaged((b"hello", 5 + more))
 
 
+def unread(stream):
+    """How many bytes wait to be read."""
+    waiting = array.array("i", [0])
+    fcntl.ioctl(stream, termios.FIONREAD, waiting)
+    return waiting[0]
+
+
 class Program:
     """The program, each thread in a folder of its own."""
 
@@ -73,24 +84,24 @@ class Program:
         return os.path.join(self.threads.folder, name)
 
     def decrypted(self, file, size):
-        """Status, line and what stands in the output, where the file comes in pieces of this size: a read of such a socket takes
-        one message, and no more."""
+        """Status, line and what stands in the output, where the file comes in pieces of this size: each is sent when the one
+        before was read."""
         out = self.file("out")
         with open(out, "wb") as before:
             before.write(BEFORE)
-        ours, theirs = socket.socketpair(socket.AF_UNIX, socket.SOCK_SEQPACKET)
+        ours, theirs = socket.socketpair(socket.AF_UNIX, socket.SOCK_STREAM)
         words = [self.path, "dec", *FROM_PW.split(), "-", "out"]
         running = subprocess.Popen(words, stdin=theirs, stderr=subprocess.PIPE, cwd=os.path.dirname(out), env={})
-        theirs.close()
-        ours.settimeout(TIME_LIMIT)
-        try:
-            for begin in range(0, len(file), size):
-                ours.send(file[begin : begin + size])
-        except OSError:
-            # it ended before it had read all
-            pass
+        for begin in range(0, len(file), size):
+            latest = time.monotonic() + TIME_LIMIT
+            while running.poll() is None and unread(theirs):
+                if time.monotonic() > latest:
+                    running.kill()
+                time.sleep(0)
+            ours.send(file[begin : begin + size])
         ours.close()
         _, said = running.communicate(timeout=TIME_LIMIT)
+        theirs.close()
         with open(out, "rb") as after:
             return running.returncode, said, after.read()
 
