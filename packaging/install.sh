@@ -28,7 +28,7 @@ done
 for file in README.md CHANGELOG.md; do
     place 644 "$file" share/doc/pikhsen
 done
-for file in docs/*.md docs/proof-map.svg; do
+for file in docs/*.md docs/*.svg docs/*.tsv; do
     place 644 "$file" share/doc/pikhsen/docs
 done
 test "$what" = install || rmdir -p --ignore-fail-on-non-empty "$below/share/doc/pikhsen/docs" 2>/dev/null || true
