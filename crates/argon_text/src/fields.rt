@@ -3,8 +3,8 @@ ghost use Rattle.std.specs.Prelude.{◌≡◌, ◌==◌, MatchOption, codes, opt
 ghost use Rattle.std.specs.List.{list_all, position};
 ghost use Rattle.std.specs.Char.{is_ascii_digit};
 ghost use Rattle.argon_text.specs.Grammar.{is_number};
-ghost use Rattle.argon_text.specs.Reading.{Steps, after, cut, fields_at, kind_at, kind_named, number_at, version_at};
-ghost use Rattle.argon_text.specs.View.{fields_of};
+ghost use Rattle.argon_text.specs.Inside.Reading.{Steps, after, cut, fields_at, kind_at, kind_named, number_at, version_at};
+ghost use Rattle.argon_text.specs.Inside.FieldsRead.{fields_of};
 
 use argon::Kind;
 use std::marker::Model;
