@@ -2,9 +2,10 @@
 """What a reader of a public call's contract has to read: the definitions that its clauses reach.
 
     tests/reading.py CALL..     prints them, file by file, with their lines
-    tests/reading.py --check    fails where docs/DEFINITIONS.md gives other lengths than these
+    tests/reading.py --check    fails where docs/DEFINITIONS.md gives other lengths than these, where what is public reaches
+                                a definition of specs/Inside/, and where it doesn't reach one that stands outside
 
-A call is written CRATE::FUNCTION or CRATE::TRAIT. Lines of comments and imports, and blank ones, are not counted, nor
+What is public: calls, traits and what they are for a type, what contracts see of types, laws and vectors. A call is written CRATE::FUNCTION or CRATE::TRAIT. Lines of comments and imports, and blank ones, are not counted, nor
 what the toolchain's own libraries define.
 """
 import pathlib
@@ -15,7 +16,10 @@ TOP = pathlib.Path(__file__).resolve().parent.parent
 CRATES = TOP / "crates"
 ITEM = re.compile(r"(?:(?:pub|abbrev|unfoldable|opaque|data|record)\s+)*([^\s:(){},=]+)(?:\s+[({].*)?\s+:(?:\s|$)")
 PART = re.compile(r"\s+(?:pub )?([^\s:]+) :")
-IMPORT = re.compile(r"(?m)^(?:pub |ghost )?use Rattle\.(\w+\.specs\.[\w.]+)\.\{([^}]*)\}")
+FUNCTION = re.compile(r"(?ms)^( *)(pub )?(?:const )?fn (\w+).*?^\1\{(?:\}|$)")
+BLOCK = re.compile(r"(?ms)^(?:pub trait (\w+)|impl\b[^\n]* for \w+).*?^\}$")
+TESTS = {"tests", "tests.rt", "testing.rt"}
+IMPORT = re.compile(r"(?m)^ *(?:pub |ghost )?use Rattle\.(\w+\.specs\.[\w.]+)\.\{([^}]*)\}")
 WORD = re.compile(r"[^\s(){}\[\],;.]+")
 
 
@@ -60,26 +64,34 @@ def cited(text, names, files, module=None):
         for name in (word, f"◌{word}◌", f"{word}◌"):
             at, given = names.get(name, (module, name))
             if at in files:
-                item = files[at].owners.get(given, given)
-                if item in files[at].items and (name in names or own):
-                    yield at, item
+                for item in dict.fromkeys((given, files[at].owners.get(given, given))):
+                    if item in files[at].items and (name in names or own):
+                        yield at, item
 
 
-def contract(crate, name):
-    """The contract of a public function, or all of a trait, and what its file imports."""
+def public(crate):
+    """What is public in a crate, by its name: the text, and what its file imports."""
     for path in sorted((CRATES / crate / "src").glob("**/*.rt")):
-        text = path.read_text(encoding="utf-8")
-        if found := re.search(rf"(?ms)^pub fn {name}\b.*?^\{{$|^pub trait {name}\b.*?^\}}$", text):
-            return found[0], imports(text)
-    sys.exit(f"no public function or trait {crate}::{name}")
+        if not TESTS & {*path.relative_to(CRATES).parts}:
+            text = path.read_text(encoding="utf-8")
+            for found in FUNCTION.finditer(text):
+                if found[2] or path.stem in ("laws", "vectors"):
+                    yield found[3], found[0], imports(text)
+            for found in BLOCK.finditer(text):
+                yield found[1], found[0], imports(text)
 
 
-def reached(call, files):
-    """The items that a call's contract reaches, through all that they cite: the nearest first."""
-    text, names = contract(*call.split("::"))
-    found = dict.fromkeys(cited(text, names, files))
-    if "Host>" in text:
-        found |= dict.fromkeys(cited(*contract("host", "Host"), files))
+def contract(crate, named):
+    """The contract of a public function, or all of a trait, and what its file imports."""
+    for name, text, names in public(crate):
+        if name == named:
+            return text, names
+    sys.exit(f"no public function or trait {crate}::{named}")
+
+
+def reached(texts, files):
+    """The items that these texts reach, through all that they cite: the nearest first."""
+    found = dict.fromkeys(item for text, names in texts for item in cited(text, names, files))
     left = list(found)
     for module, item in left:
         for other in cited("\n".join(files[module].items[item]), files[module].imports, files, module):
@@ -87,6 +99,23 @@ def reached(call, files):
                 found[other] = None
                 left.append(other)
     return left
+
+
+def reached_by(call, files):
+    """The items that a call's contract reaches, with those of the host that it is for."""
+    text = contract(*call.split("::"))
+    return reached([text, contract("host", "Host")] if "Host>" in text[0] else [text], files)
+
+
+def misplaced(files):
+    """What stands in specs/Inside/ though it is public, and what stands outside though it isn't."""
+    crates = sorted(path.name for path in CRATES.iterdir() if path.is_dir())
+    found = {*reached([(text, names) for crate in crates for _, text, names in public(crate)], files)}
+    for module, file in files.items():
+        inside = module.split(".")[2] == "Inside"
+        for item in filter(None, file.items):
+            if ((module, item) in found) == inside:
+                yield f"{module}: {item} is {'public' if inside else 'cited by nothing public'}"
 
 
 def by_module(found):
@@ -103,12 +132,13 @@ def main():
     sizes = lambda found: (len(found), len(by_module(found)), lines(found))
     if sys.argv[1:] == ["--check"]:
         stated = re.findall(r"(?m)^\| `(\w+::\w+)` \| (\d+) \| (\d+) \| (\d+) \|", page)
-        wrong = [(call, now) for call, *of in stated if (now := sizes(reached(call, files))) != tuple(map(int, of))]
-        for call, now in wrong:
-            print("docs/DEFINITIONS.md: {}: {} definitions, {} files, {} lines".format(call, *now), file=sys.stderr)
-        return 1 if wrong or not stated else 0
+        wrong = [(call, now) for call, *of in stated if (now := sizes(reached_by(call, files))) != tuple(map(int, of))]
+        said = ["docs/DEFINITIONS.md: {}: {} definitions, {} files, {} lines".format(call, *now) for call, now in wrong]
+        said += misplaced(files)
+        print("\n".join(said), end="\n" if said else "", file=sys.stderr)
+        return 1 if said or not stated else 0
     for call in sys.argv[1:]:
-        found = reached(call, files)
+        found = reached_by(call, files)
         for module, items in by_module(found).items():
             print(f"{module}: {lines((module, item) for item in items)}: {' '.join(items)}")
         print("{}: {} definitions in {} files, {} lines".format(call, *sizes(found)))

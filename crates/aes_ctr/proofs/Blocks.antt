@@ -6,7 +6,8 @@ use Rattle.std.proofs.lemmas.Nat.{xor_lt}
 use Rattle.std.proofs.lemmas.Nat.Bits.{same_from_bits_below}
 use Rattle.std.proofs.lemmas.Simd.{Each1-get_or, Each1-zip2, Each2-of, length-zip2}
 use Rattle.aes_ctr.specs.Aes.{add_round_key, byte_at, mix_columns, product, shift_rows, state_of, sub_byte, sub_bytes}
-use Rattle.aes_ctr.specs.Planes.{IsBlock, bits, round_key, rows_below}
+use Rattle.aes_ctr.specs.Planes.{IsBlock, bits, round_key}
+use Rattle.aes_ctr.specs.Inside.PlaneSteps.{rows_below}
 use Rattle.aes_ctr.proofs.Bytes.{product_two-lt, sub_byte-lt}
 use Rattle.aes_ctr.proofs.Doubles.{mix_columns-pairs, pairs}
 use Rattle.aes_ctr.proofs.Sixteen.{map-sub_byte, xor-round_key}

@@ -7,7 +7,8 @@ use Rattle.std.proofs.lemmas.Nat.{xor_lt}
 use Rattle.std.proofs.lemmas.Nat.Bits.{same_from_bits_below}
 use Rattle.std.proofs.lemmas.Simd.{Each1-weaker, map-map, zip2_of_maps}
 use Rattle.aes_ctr.specs.Aes.{mix_columns, polynomial_product, product, remainder}
-use Rattle.aes_ctr.specs.Planes.{IsBlock, IsHeld, bits, plane, rows_below}
+use Rattle.aes_ctr.specs.Planes.{IsBlock, IsHeld, bits, plane}
+use Rattle.aes_ctr.specs.Inside.PlaneSteps.{rows_below}
 use Rattle.aes_ctr.proofs.Bytes.{by_table, product_two-lt}
 use Rattle.aes_ctr.proofs.Columns.{by_columns, by_columns-agreeing, doubles_column, doubles_column-is, matrix_column}
 use Rattle.aes_ctr.proofs.Held.{below_eight, bit_at-bit_xor, bits-zip2}

@@ -5,7 +5,8 @@ use Rattle.std.specs.Int.{bit_at}
 use Rattle.std.proofs.lemmas.List.{get_or-drop, length-map}
 use Rattle.std.proofs.lemmas.Nat.Bits.{bit_at-lt, bit_at_and, bit_at_xor}
 use Rattle.aes_ctr.specs.Aes.{shift_rows}
-use Rattle.aes_ctr.specs.Planes.{IsHeld, bits, plane, rows_below}
+use Rattle.aes_ctr.specs.Planes.{IsHeld, bits, plane}
+use Rattle.aes_ctr.specs.Inside.PlaneSteps.{rows_below}
 use Rattle.aes_ctr.proofs.Sixteen.{sixteen_lanes}
 
 -- ---- one bit

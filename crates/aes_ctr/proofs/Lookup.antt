@@ -6,7 +6,7 @@ use Rattle.std.proofs.lemmas.List.{ext_get_or, get_or-drop, get_or-map, get_or-t
 use Rattle.std.proofs.lemmas.List.FromFn.{get_or-map-range_with_len, length-map-range_with_len}
 use Rattle.std.proofs.lemmas.Simd.{get_or-swz_l_below, length-swz_l, swz_l, tops_compared, zip2_splat}
 use Rattle.aes_ctr.specs.Aes.{sub_byte}
-use Rattle.aes_ctr.specs.TableParts.{choice, part_entry}
+use Rattle.aes_ctr.specs.Inside.TableParts.{choice, part_entry}
 use Rattle.aes_ctr.proofs.Bytes.{HasLowBits, bit_and-fifteen}
 use Rattle.aes_ctr.proofs.Sixteen.{map-agreeing, sixteen_lanes}
 

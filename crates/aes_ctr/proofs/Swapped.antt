@@ -9,8 +9,9 @@ use Rattle.std.proofs.lemmas.List.{length-map}
 use Rattle.std.proofs.lemmas.List.FromFn.{get_or-map-range_with_len}
 use Rattle.std.proofs.lemmas.Simd.{below_from_Fits, map-map, zip2_splat}
 use Rattle.std.proofs.lemmas.Nat.Bits.{bit_at-zero, bit_at_ones}
-use Rattle.aes_ctr.specs.TableParts.{choice}
-use Rattle.aes_ctr.specs.Planes.{AreParts, AreSwapped, IsBlock, bits, plane, with_digit}
+use Rattle.aes_ctr.specs.Inside.TableParts.{choice}
+use Rattle.aes_ctr.specs.Planes.{IsBlock, bits, plane}
+use Rattle.aes_ctr.specs.Inside.PlaneSteps.{AreParts, AreSwapped, with_digit}
 use Rattle.aes_ctr.proofs.Blocks.{IsBlock-map, IsBlock-xor}
 use Rattle.aes_ctr.proofs.Held.{bit_at-bit_xor, bits-zip2}
 use Rattle.aes_ctr.proofs.Sixteen.{map-agreeing}

@@ -7,7 +7,7 @@ use Rattle.std.proofs.lemmas.List.FromFn.{get_or-map-range_with_len}
 use Rattle.std.proofs.lemmas.Nat.Bits.{bit_at_ones}
 use Rattle.std.proofs.lemmas.Simd.{Each1-weaker, map-map, splat_is_map, zip2_of_maps}
 use Rattle.aes_ctr.specs.Aes.{affine_bits, inverse, polynomial_product, power, product, remainder, sub_byte, sub_bytes}
-use Rattle.aes_ctr.specs.Circuit.{input_sums, inverse_of_norm, norm, output_wires, products}
+use Rattle.aes_ctr.specs.Inside.Circuit.{input_sums, inverse_of_norm, norm, output_wires, products}
 use Rattle.aes_ctr.specs.Planes.{IsBlock, IsHeld, bits, plane}
 use Rattle.aes_ctr.proofs.Held.{IsBitwise, below_eight, bit_at-bit_and, bit_at-bit_xor, bits-zip2}
 use Rattle.aes_ctr.proofs.Sixteen.{map-agreeing, map-sub_byte}

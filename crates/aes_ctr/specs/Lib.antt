@@ -1,5 +1,4 @@
 pub mod Aes
-pub mod Circuit
 pub mod CounterMode
 pub mod Planes
-pub mod TableParts
+pub mod Inside

@@ -1,7 +1,8 @@
 //! MixColumns (FIPS 197, 5.1.3) on planes.
 ghost use Rattle.std.specs.Prelude.{◌≡◌, ℕ, List, length, map};
 ghost use Rattle.aes_ctr.specs.Aes.{mix_columns, product};
-ghost use Rattle.aes_ctr.specs.Planes.{IsBlock, IsHeld, rows_below};
+ghost use Rattle.aes_ctr.specs.Planes.{IsBlock, IsHeld};
+ghost use Rattle.aes_ctr.specs.Inside.PlaneSteps.{rows_below};
 
 use crate::planes::{Planes, xor_planes};
 use std::simd::prelude::*;

@@ -2,7 +2,7 @@
 //! the four low bits of the bytes, and the four high bits choose among the rows.
 ghost use Rattle.std.specs.Prelude.{◌≡◌, ◌*◌, ◌<◌, ℕ, map};
 ghost use Rattle.aes_ctr.specs.Aes.{sub_byte, sub_bytes};
-ghost use Rattle.aes_ctr.specs.TableParts.{choice, part_entry};
+ghost use Rattle.aes_ctr.specs.Inside.TableParts.{choice, part_entry};
 
 use crate::s_box::row;
 use std::simd::prelude::*;

@@ -4,7 +4,7 @@
 ghost use Rattle.std.specs.Prelude.{◌≡◌, ◌-◌, ◌<◌, ℕ, List, bit_and, bit_xor, replicate};
 ghost use Rattle.std.specs.Simd.Lanes.{zip2};
 ghost use Rattle.aes_ctr.specs.Aes.{sub_bytes};
-ghost use Rattle.aes_ctr.specs.Circuit.{input_sums, inverse_of_norm, norm, output_wires, products};
+ghost use Rattle.aes_ctr.specs.Inside.Circuit.{input_sums, inverse_of_norm, norm, output_wires, products};
 ghost use Rattle.aes_ctr.specs.Planes.{IsBlock, IsHeld, plane};
 
 use crate::planes::Planes;

@@ -2,7 +2,8 @@
 //! what is wanted is bit k of vector b in place of bit b of vector k. The three binary digits of k and b change
 //! places one after the other, each by exchanging bits of two vectors that are 1, 2 or 4 apart.
 ghost use Rattle.std.specs.Prelude.{◌≡◌, ◌-◌, ◌*◌, ◌/◌, ◌%◌, ◌^◌, ◌<◌, ℕ, Bool, bit_and, cond};
-ghost use Rattle.aes_ctr.specs.Planes.{AreParts, AreSwapped, IsBlock, bits, plane};
+ghost use Rattle.aes_ctr.specs.Planes.{IsBlock, bits, plane};
+ghost use Rattle.aes_ctr.specs.Inside.PlaneSteps.{AreParts, AreSwapped};
 
 use crate::planes::Planes;
 use std::simd::prelude::*;

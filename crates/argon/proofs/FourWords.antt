@@ -5,9 +5,9 @@ use Rattle.std.specs.Int.{rotate_right}
 use Rattle.blake.specs.Words.{along}
 use Rattle.blake.specs.Blake2b.{mixing_places}
 use Rattle.argon.specs.Compression.{mixed_words, permutation, words_after_mixings}
-use Rattle.four_words.specs.FourWords.{sixteen_words, words_in_order}
+use Rattle.four_words.specs.Inside.FourWords.{sixteen_words, words_in_order}
 use Rattle.four_words.proofs.FourWords.{below_four, each_of_four}
-use Rattle.argon.specs.FourWords.{words_across}
+use Rattle.argon.specs.Inside.FourWords.{words_across}
 
 -- two shifts of each word and an or are a rotation
 abbrev Rotates : ℕ → List ℕ → Type 0

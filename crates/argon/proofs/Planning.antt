@@ -5,9 +5,10 @@ use Rattle.std.proofs.lemmas.Bool.Decides.{eqb_tells}
 use Rattle.std.proofs.lemmas.Bool.{cases_lt}
 use Rattle.argon.specs.Counts.{first_index}
 use Rattle.argon.specs.Parameters.{Parameters, segment_len}
-use Rattle.argon.specs.Plan.{IsPlanned, PlansPart, place_by_segment, planned_place}
+use Rattle.argon.specs.Plan.{planned_place}
+use Rattle.argon.specs.Inside.Planning.{IsPlanned, PlansPart, place_by_segment}
 use Rattle.argon.specs.Reference.{address_block, reference_number}
-use Rattle.argon.specs.Segment.{IsSegmentOf, index_after_parts}
+use Rattle.argon.specs.Inside.Segment.{IsSegmentOf, index_after_parts}
 use Rattle.argon.proofs.Progress.{part_of, first_index-le}
 use Rattle.argon.specs.declared.places.Place.{Place}
 use Rattle.argon.specs.declared.segment.Segment.{Segment}

@@ -4,7 +4,7 @@ use Rattle.std.specs.Prelude.{if◌then◌else◌}
 use Rattle.std.specs.List.{range_with_len}
 use Rattle.std.proofs.lemmas.List.FromFn.{length-range_with_len, get_or-range_with_len}
 use Rattle.std.proofs.Math.Nat.{mul-le-mul_right, mul-add-mod_self_right, mod_self}
-use Rattle.argon.specs.Places.{first_standing, reference_set_len, standing_count}
+use Rattle.argon.specs.Inside.Places.{first_standing, reference_set_len, standing_count}
 use Rattle.argon.specs.Reference.{columns_standing, reference_set, relative_place}
 
 -- one run after another

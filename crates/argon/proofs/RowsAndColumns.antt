@@ -5,7 +5,7 @@ use Rattle.std.proofs.lemmas.Simd.{take_more_put_chunk}
 use Rattle.blake.specs.Words.{along, words_at, with_words_at}
 use Rattle.blake.specs.Blake2b.{mixing_places}
 use Rattle.argon.specs.Compression.{block_after_columns, block_after_rows, column_places, mixed_words, permutation, row_places, words_after_mixings}
-use Rattle.argon.specs.FourWords.{with_row_permuted}
+use Rattle.argon.specs.Inside.FourWords.{with_row_permuted}
 use Rattle.argon.proofs.WordPlaces.{apart, row_keyed, run_stored}
 
 -- w with the first k rows of v, permuted

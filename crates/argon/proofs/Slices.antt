@@ -3,13 +3,18 @@ use Rattle.std.proofs.Common.{◌≡◌, ◌≢◌, ℕ, zero, suc, ◌+◌, ◌
 use Rattle.std.proofs.lemmas.Bool.{ne_eqb, le-ltb, cases_lt}
 use Rattle.std.proofs.lemmas.Bool.Decides.{eqb_tells}
 use Rattle.std.proofs.Math.Nat.{mul-le-mul_right, mul-le-mul_left}
-use Rattle.argon.specs.Counts.{address_count, address_work, first_index, independent_segments, slice_work, slices_work, work}
+use Rattle.argon.specs.Counts.{address_count, address_work, first_index, independent_segments, slice_work, work}
 use Rattle.argon.specs.Parameters.{Parameters, segment_len}
 use Rattle.argon.specs.Range.{IsInRange}
 use Rattle.argon.specs.Reference.{is_independent}
 use Rattle.argon.proofs.Progress.{first_none}
 
 -- ---- counts
+
+-- the block functions of the first so many slices of all passes
+unfoldable pub slices_work : Parameters → ℕ → ℕ
+slices_work parameters zero = 0
+slices_work parameters (suc count) = slices_work parameters count + slice_work parameters (count / 4) (count % 4)
 
 one_if : Bool → ℕ
 one_if true = 1

@@ -5,10 +5,10 @@ use Rattle.std.specs.Simd.Lanes.{chunk, put_chunk}
 use Rattle.std.proofs.lemmas.List.{get_or-set_other, drop_more}
 use Rattle.blake.specs.Words.{words_at, with_words_at}
 use Rattle.argon.specs.Compression.{column_places, permutation, row_places}
-use Rattle.four_words.specs.FourWords.{four_words, sixteen_words}
+use Rattle.four_words.specs.Inside.FourWords.{four_words, sixteen_words}
 use Rattle.four_words.proofs.FourWords.{each_of_four}
 use Rattle.four_words.proofs.Runs.{sixteen_read, sixteen_written}
-use Rattle.argon.specs.FourWords.{pair_places}
+use Rattle.argon.specs.Inside.FourWords.{pair_places}
 
 -- ---- runs of places
 

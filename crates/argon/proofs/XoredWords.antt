@@ -4,7 +4,7 @@ use Rattle.std.specs.Simd.Lanes.{chunk, put_chunk, zip2}
 use Rattle.std.proofs.lemmas.List.{take_all, drop-drop}
 use Rattle.std.proofs.lemmas.Simd.{length-chunk, length-zip2, take_more_put_chunk}
 use Rattle.argon.specs.Compression.{xor_words}
-use Rattle.four_words.specs.FourWords.{four_words}
+use Rattle.four_words.specs.Inside.FourWords.{four_words}
 use Rattle.four_words.proofs.FourWords.{four_are}
 use Rattle.four_words.proofs.Runs.{drop_put}
 

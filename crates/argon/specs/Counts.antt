@@ -1,6 +1,6 @@
 -- How many block functions, that is, calls of G, a hash takes (RFC 9106, 3.2 and 3.4.1.2): by the
 -- parameters alone.
-use Rattle.std.specs.Prelude.{ℕ, zero, suc, ◌+◌, ◌-◌, ◌*◌, ◌/◌, ◌%◌, Bool, true, false, ◌&&◌, nat_eq, nat_lt, if◌then◌else◌}
+use Rattle.std.specs.Prelude.{ℕ, ◌+◌, ◌-◌, ◌*◌, ◌/◌, ◌%◌, Bool, true, false, ◌&&◌, nat_eq, nat_lt, if◌then◌else◌}
 use Rattle.argon.specs.Parameters.{Parameters, segment_len, block_count}
 use Rattle.argon.specs.Reference.{is_independent}
 
@@ -56,8 +56,3 @@ abbrev pub work : Parameters → ℕ
 work parameters =
     parameters.passes * block_count parameters - 2 * parameters.lanes
     + 2 * address_count (segment_len parameters) * independent_segments parameters
-
--- the block functions of the first so many slices of all passes
-unfoldable pub slices_work : Parameters → ℕ → ℕ
-slices_work parameters zero = 0
-slices_work parameters (suc count) = slices_work parameters count + slice_work parameters (count / 4) (count % 4)

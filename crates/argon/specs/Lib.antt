@@ -1,6 +1,5 @@
 pub mod Parameters
 pub mod Compression
-pub mod FourWords
 pub mod Reference
 pub mod Argon2
 pub mod Kind
@@ -11,11 +10,10 @@ pub mod Params
 pub mod Buffer
 pub mod Filling
 pub mod Matrix
-pub mod Places
-pub mod Segment
 pub mod Plan
 pub mod Weaving
 pub mod Woven
 pub mod Lanes
 pub mod Weave
 pub mod Laws
+pub mod Inside

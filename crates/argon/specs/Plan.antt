@@ -1,13 +1,11 @@
 -- What is planned for a segment with independent addressing (RFC 9106, 3.4.1.2 and 3.4.2).
-use Rattle.std.specs.Prelude.{◌≡◌, ℕ, ◌+◌, ◌-◌, ◌*◌, ◌/◌, ◌%◌, ◌^◌, ◌<◌, ◌≤◌, ◌&&◌, List, [], get_or, length, slice_index, nat_eq, if◌then◌else◌}
+use Rattle.std.specs.Prelude.{◌≡◌, ℕ, ◌+◌, ◌-◌, ◌*◌, ◌/◌, ◌%◌, List, [], get_or, slice_index}
 use Rattle.argon.specs.Argon2.{block_by_words, is_xored_in, matrix_block, stored_block}
 use Rattle.argon.specs.Buffer.{HoldsNewest, IsInSlice, block_held}
 use Rattle.argon.specs.Compression.{compression}
-use Rattle.argon.specs.Counts.{first_index}
 use Rattle.argon.specs.Parameters.{Parameters, segment_len, lane_len}
-use Rattle.argon.specs.Reference.{address_block, reference_lane, reference_number, reference_set, relative_place}
+use Rattle.argon.specs.Reference.{address_block, reference_lane, reference_number}
 use Rattle.argon.specs.declared.places.Place.{Place}
-use Rattle.argon.specs.declared.segment.Segment.{Segment}
 
 -- the entry of a list of places
 abbrev pub entry_at : List Place → ℕ → Place
@@ -25,27 +23,6 @@ planned_place parameters pass lane slice index =
       lane = reference_lane parameters pass lane slice j;
       column = reference_number parameters pass lane slice index j % lane_len parameters;
     }
-
--- the same by the segment and its address block
-abbrev pub place_by_segment : Segment → ℕ → List ℕ → Place
-place_by_segment at index addresses =
-    let j = slice_index addresses (index % 128) in
-    let lane = if nat_eq at.pass 0 && nat_eq at.slice 0 then at.lane else j / 2 ^ 32 % at.lanes in
-    let columns = reference_set at.len at.pass at.slice index (nat_eq lane at.lane) in record {
-      lane = lane;
-      column = slice_index columns (relative_place (length columns) (j % 2 ^ 32)) % (4 * at.len);
-    }
-
--- a part of a segment is planned, and what was before it stays
-pub record PlansPart (at : Segment) (addresses : List ℕ) (old new : List Place) (from to : ℕ) : Type 0 where
-  pub planned : (index : ℕ) → from ≤ index → index < to → entry_at new index ≡ place_by_segment at index addresses
-  pub before : (index : ℕ) → index < from → entry_at new index ≡ entry_at old index
-
--- the first columns of a segment are planned, and those that come from H 0 stay
-pub record IsPlanned (parameters : Parameters) (at : Segment) (old new : List Place) (to : ℕ) : Type 0 where
-  pub planned : (index : ℕ) → first_index at.pass at.slice ≤ index → index < to
-      → entry_at new index ≡ planned_place parameters at.pass at.lane at.slice index
-  pub kept : (index : ℕ) → index < first_index at.pass at.slice → entry_at new index ≡ entry_at old index
 
 -- for this H 0, the block of a column is G of the previous block and of the one that the planned
 -- word names, with the old block xored in from the second pass on

@@ -4,7 +4,7 @@ use Rattle.std.specs.Prelude.{◌≡◌, ℕ, ◌+◌, ◌*◌, ◌/◌, ◌%◌
 use Rattle.std.specs.List.{range_with_len}
 use Rattle.argon.specs.Argon2.{matrix_block}
 use Rattle.argon.specs.Counts.{blocks_of_segment, first_index}
-use Rattle.argon.specs.Filling.{Filling, HasNext, IsFilling}
+use Rattle.argon.specs.Filling.{Filling}
 use Rattle.argon.specs.Parameters.{Parameters, lane_len, segment_len}
 use Rattle.argon.specs.Weaving.{Weaving, next_column}
 
@@ -46,14 +46,6 @@ with_next_slice matrix = record matrix {
   slices_made = matrix.slices_made + 1;
   blocks = blocks_where_left matrix (replicate matrix.parameters.lanes 0);
 }
-
--- it is the next slice of a matrix of those parameters
-pub record IsNextSlice (matrix : Filling) (parameters : Parameters) (pass slice : ℕ) : Type 0 where
-  pub filling : IsFilling matrix
-  pub next : HasNext matrix
-  pub is_of : matrix.parameters ≡ parameters
-  pub pass_is : pass ≡ matrix.slices_made / 4
-  pub slice_is : slice ≡ matrix.slices_made % 4
 
 -- as many blocks as each lane has left can be left of a segment
 pub record AreLeft (parameters : Parameters) (pass slice : ℕ) (left : List ℕ) : Type 0 where

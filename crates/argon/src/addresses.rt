@@ -2,7 +2,7 @@
 ghost use Rattle.std.specs.Prelude.{◌≡◌, ◌+◌, ◌/◌, ◌<◌, ◌^◌, true};
 ghost use Rattle.argon.specs.Counts.{address_count, address_work, addresses_begun};
 ghost use Rattle.argon.specs.Reference.{HasAddresses, address_block};
-ghost use Rattle.argon.specs.Segment.{IsSegmentOf};
+ghost use Rattle.argon.specs.Inside.Segment.{IsSegmentOf};
 
 use crate::block::{Block, write_xor};
 use crate::compression::{Scratch, compression};

@@ -4,8 +4,8 @@ ghost use Rattle.std.specs.Prelude.{◌≡◌, ◌+◌, ◌*◌, ◌<◌, ◌≤
 ghost use Rattle.std.specs.Simd.Lanes.{chunk, put_chunk, zip2};
 ghost use Rattle.blake.specs.Words.{with_words_at, words_at};
 ghost use Rattle.argon.specs.Compression.{column_places, row_places, xor_words};
-ghost use Rattle.four_words.specs.FourWords.{four_words, sixteen_words};
-ghost use Rattle.argon.specs.FourWords.{pair_places};
+ghost use Rattle.four_words.specs.Inside.FourWords.{four_words, sixteen_words};
+ghost use Rattle.argon.specs.Inside.FourWords.{pair_places};
 
 use crate::permutation::Sixteen;
 use std::simd::{u64x2, u64x4};

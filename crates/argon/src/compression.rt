@@ -3,7 +3,7 @@
 ghost use Rattle.std.specs.Prelude.{◌≡◌, ◌+◌, ◌*◌, ◌<◌};
 ghost use Rattle.blake.specs.Words.{along};
 ghost use Rattle.argon.specs.Compression.{block_after_columns, block_after_rows, column_places, compression, permutation, xor_words};
-ghost use Rattle.argon.specs.FourWords.{with_row_permuted};
+ghost use Rattle.argon.specs.Inside.FourWords.{with_row_permuted};
 
 use crate::block::{Block, column, put_column, put_row, row, write_xor};
 use crate::permutation::permute;

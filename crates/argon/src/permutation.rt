@@ -3,8 +3,8 @@
 ghost use Rattle.std.specs.Prelude.{◌≡◌, ℕ, ◌+◌, ◌*◌, ◌%◌, ◌^◌, ◌<◌, slice_index, bit_xor};
 ghost use Rattle.std.specs.Int.{w64, rotate_right};
 ghost use Rattle.argon.specs.Compression.{mixed_words, permutation, sum_with_product};
-ghost use Rattle.four_words.specs.FourWords.{sixteen_words, words_in_order};
-ghost use Rattle.argon.specs.FourWords.{words_across};
+ghost use Rattle.four_words.specs.Inside.FourWords.{sixteen_words, words_in_order};
+ghost use Rattle.argon.specs.Inside.FourWords.{words_across};
 
 use std::simd::u64x4;
 

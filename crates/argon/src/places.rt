@@ -1,6 +1,6 @@
 //! Which block a word J names (RFC 9106, section 3.4.2).
 ghost use Rattle.std.specs.Prelude.{◌≡◌, ℕ, ◌+◌, ◌-◌, ◌*◌, ◌/◌, ◌%◌, ◌^◌, ◌<◌, ◌≤◌, ◌&&◌, true, length, slice_index, nat_eq, if◌then◌else◌};
-ghost use Rattle.argon.specs.Places.{first_standing, reference_set_len, standing_count};
+ghost use Rattle.argon.specs.Inside.Places.{first_standing, reference_set_len, standing_count};
 ghost use Rattle.argon.specs.Reference.{reference_set, relative_place};
 
 /// A place of the matrix: the lane i and the column j of the block B\[i\]\[j\] (RFC 9106, section

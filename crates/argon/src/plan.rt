@@ -3,9 +3,10 @@
 ghost use Rattle.std.specs.Prelude.{◌≡◌, ℕ, ◌+◌, ◌*◌, ◌<◌, ◌≤◌, true, length, List};
 ghost use Rattle.argon.specs.Counts.{address_count, first_index};
 ghost use Rattle.argon.specs.Parameters.{segment_len};
-ghost use Rattle.argon.specs.Plan.{IsMadeAlongPlan, IsMadeAsPlanned, PlansPart, entry_at, place_by_segment, planned_place};
+ghost use Rattle.argon.specs.Plan.{IsMadeAlongPlan, IsMadeAsPlanned, entry_at, planned_place};
+ghost use Rattle.argon.specs.Inside.Planning.{PlansPart, place_by_segment};
 ghost use Rattle.argon.specs.Reference.{is_independent};
-ghost use Rattle.argon.specs.Segment.{IsInMatrix, index_after_parts};
+ghost use Rattle.argon.specs.Inside.Segment.{IsInMatrix, index_after_parts};
 
 use crate::addresses::{address_count, prepare_addresses};
 use crate::block::Block;

@@ -6,8 +6,9 @@ ghost use Rattle.argon.specs.Counts.{blocks_of_segment, column_work, first_index
 ghost use Rattle.argon.specs.Filling.{Filling};
 ghost use Rattle.argon.specs.Parameters.{Parameters, block_count};
 ghost use Rattle.argon.specs.Reference.{HasAddresses, address_block};
-ghost use Rattle.argon.specs.Segment.{IsInMatrix, IsSegmentOf, column_number, index_after_parts};
-ghost use Rattle.argon.specs.Woven.{AreLeft, IsNextSlice, blocks_where_left, with_next_slice};
+ghost use Rattle.argon.specs.Inside.Segment.{IsInMatrix, IsSegmentOf, column_number, index_after_parts};
+ghost use Rattle.argon.specs.Woven.{AreLeft, blocks_where_left, with_next_slice};
+ghost use Rattle.argon.specs.Inside.NextSlice.{IsNextSlice};
 
 use crate::addresses::{prepare_addresses, renew_addresses};
 use crate::block::Block;

@@ -5,8 +5,6 @@ pub mod EncodedText
 pub mod Base64
 pub mod Grammar
 pub mod View
-pub mod Claim
-pub mod Reading
-pub mod Answer
 pub mod Verifying
 pub mod Vectors
+pub mod Inside

@@ -21,7 +21,7 @@ pub(crate) struct Claim<'a> {
 
 impl<'a> Claim<'a> {
     ghost use Rattle.argon_text.specs.View.{value_of};
-    ghost use Rattle.argon_text.specs.Claim.{value_claimed};
+    ghost use Rattle.argon_text.specs.Inside.Claim.{value_claimed};
 
     /// What this value lends.
     pub(crate) fn of(encoded: &'a Encoded) -> Claim<'a>

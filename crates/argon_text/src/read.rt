@@ -2,12 +2,13 @@
 ghost use Rattle.std.specs.Prelude.{◌≡◌, ◌≤◌, ◌+◌, ◌^◌, ◌⊎◌, true, false, length, None, IfSome, IfOk, IfErr, OnOk, OnErr, IsErrOf, MatchOption, MatchResult};
 ghost use Rattle.std.specs.Char.{is_ascii_digit};
 ghost use Rattle.base64.specs.GeneralPurpose.{IsBytes};
-ghost use Rattle.argon_text.specs.Answer.{IsAnswerOf, IsBase64Fault};
+ghost use Rattle.argon_text.specs.Inside.Answer.{IsAnswerOf, IsBase64Fault};
 ghost use Rattle.argon_text.specs.EncodedText.{IsTextOf, base64_text};
 ghost use Rattle.argon_text.specs.Grammar.{AreNumbers, HasNumbers, IsText, IsTextInRange, is_number, number_value, value_with};
-ghost use Rattle.argon_text.specs.Reading.{fields_at};
+ghost use Rattle.argon_text.specs.Inside.Reading.{fields_at};
 ghost use Rattle.argon_text.specs.Value.{IsValue, Value, are_in_range, is_in_range};
-ghost use Rattle.argon_text.specs.View.{fields_of, value_of};
+ghost use Rattle.argon_text.specs.View.{value_of};
+ghost use Rattle.argon_text.specs.Inside.FieldsRead.{fields_of};
 
 use crate::encoded::Encoded;
 use crate::fault::ReadFault;

@@ -2,7 +2,7 @@
 ghost use Rattle.std.specs.Prelude.{◌≡◌, ◌≢◌, ◌+◌, ◌↔◌, None, Ok, true, false, length, IfOk, IfErr, OnOk, IsTrue};
 ghost use Rattle.argon.specs.Counts.{work};
 ghost use Rattle.argon.specs.Range.{admission, is_between};
-ghost use Rattle.argon_text.specs.Claim.{value_claimed};
+ghost use Rattle.argon_text.specs.Inside.Claim.{value_claimed};
 ghost use Rattle.argon_text.specs.Verifying.{IsToldFault, parameters_with, tag_of_password, verify_fault};
 ghost use Rattle.argon_text.specs.View.{value_of};
 

@@ -12,7 +12,8 @@ use Rattle.aes_ctr.proofs.KeyStream.{counter_mode_from-twice, length-counter_mod
 use Rattle.romix.specs.Costs.{IsInRange, Parameters}
 use Rattle.encfile.specs.Header.{bytes_at, checksum, costs_and_salt, costs_of, header, salt_of}
 use Rattle.encfile.specs.EncryptedFile.{HasRightHeaderCode, body, cipher_key, code_key, encrypted_file, final_code, head, header_code, released_text}
-use Rattle.encfile.specs.Encrypting.{FitsSha256, HasEncrypted, length_encrypted}
+use Rattle.encfile.specs.Encrypting.{FitsSha256, HasEncrypted}
+use Rattle.encfile.specs.Inside.Lengths.{length_encrypted}
 use Rattle.encfile.specs.Laws.{GivesBack}
 use Rattle.encfile.specs.declared.enc.Enc.{Enc}
 use Rattle.encfile.proofs.Pieces.{middle}

@@ -10,7 +10,8 @@ use Rattle.romix.specs.Costs.{IsInRange, Parameters}
 use Rattle.encfile.specs.Header.{bytes_at, checksum, costs_and_salt, costs_of, header, salt_of}
 use Rattle.encfile.specs.EncryptedFile.{IsEncryptionOf, body, cipher_key, code_key, derived_key, encrypted_file, head, header_code, released_text, right_header_code}
 use Rattle.encfile.specs.Encrypting.{FitsSha256}
-use Rattle.encfile.specs.Decrypting.{HasRead, IsSplit, length_read}
+use Rattle.encfile.specs.Decrypting.{HasRead, IsSplit}
+use Rattle.encfile.specs.Inside.Lengths.{length_read}
 use Rattle.encfile.specs.declared.dec.Dec.{Dec}
 use Rattle.encfile.proofs.Files.{costs_of-encrypted_file, costs_of-front, length-head, salt_of-encrypted_file, salt_of-front}
 use Rattle.encfile.proofs.Pieces.{bytes_at-take, place_after, same_end}

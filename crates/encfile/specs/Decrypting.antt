@@ -11,10 +11,6 @@ pub record Decrypts (dec : Dec) (front keys done last : List ℕ) : Type 0 where
   pub held : dec.held ≡ last
   pub code : Holds dec.hmac (drop 32 keys) (front ++ done)
 
--- how many bytes of the file it has read behind the first 96
-unfoldable pub length_read : Dec → ℕ
-length_read dec = dec.ctr.position + length dec.held
-
 -- the file so far is the first 96 bytes of these costs and this salt, the bytes `done`, and the last bytes: at most 32,
 -- and all 32 where any bytes are done
 pub record IsSplit (file passphrase salt : List ℕ) (costs : Parameters) (done held : List ℕ) : Type 0 where

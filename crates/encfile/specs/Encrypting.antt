@@ -19,10 +19,6 @@ pub record HasEncrypted (enc : Enc) (passphrase salt : List ℕ) (costs : Parame
   pub in_range : IsInRange costs
   pub below_limit : length text < 2 ^ 60
 
--- how many bytes of text it has encrypted
-abbrev pub length_encrypted : Enc → ℕ
-length_encrypted enc = enc.ctr.position
-
 -- SHA-256 inside HMAC takes the message behind a block of 64 bytes; the length in bits, which it appends as a number of 64 bits,
 -- doesn't wrap (FIPS 180-4, 5.1.1)
 abbrev pub FitsSha256 : List ℕ → Type 0

@@ -6,3 +6,4 @@ pub mod Header
 pub mod HeaderFaults
 pub mod Laws
 pub mod Vectors
+pub mod Inside

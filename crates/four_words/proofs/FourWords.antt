@@ -1,6 +1,6 @@
 -- Vectors of four words, lane by lane.
 use Rattle.std.proofs.Common.{◌≡◌, ℕ, zero, suc, ◌<◌, List, [], ◌∷◌, ◌++◌, length, refl, arith}
-use Rattle.four_words.specs.FourWords.{four_words, sixteen_words}
+use Rattle.four_words.specs.Inside.FourWords.{four_words, sixteen_words}
 
 -- what holds of each of the four numbers
 pub below_four : (P : ℕ → Type 0) → P 0 → P 1 → P 2 → P 3 → (j : ℕ) → j < 4 → P j

@@ -3,7 +3,7 @@ use Rattle.std.proofs.Common.{◌≡◌, ℕ, zero, suc, ◌+◌, ◌≤◌, Lis
 use Rattle.std.specs.Simd.Lanes.{chunk, put_chunk}
 use Rattle.std.proofs.lemmas.List.{drop_more}
 use Rattle.std.proofs.lemmas.Simd.{length-chunk}
-use Rattle.four_words.specs.FourWords.{four_words, sixteen_words}
+use Rattle.four_words.specs.Inside.FourWords.{four_words, sixteen_words}
 use Rattle.four_words.proofs.FourWords.{sixteen_are}
 
 -- one run read after another

@@ -1,2 +1,2 @@
 -- Words of vectors.
-pub mod FourWords
+pub mod Inside

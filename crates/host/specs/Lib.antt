@@ -6,3 +6,4 @@ pub mod Secret
 pub mod Lines
 pub mod Output
 pub mod Memory
+pub mod Inside

@@ -1,5 +1,5 @@
 -- What contracts see of a host in memory.
-use Rattle.std.specs.Prelude.{Bool, false, ℕ, ◌+◌, ◌-◌, ◌^◌, ◌==◌, List, [], ◌∷◌, Option, Some, None, option_map, bytes_eq, if◌then◌else◌}
+use Rattle.std.specs.Prelude.{Bool, false, ℕ, ◌-◌, ◌^◌, List, [], ◌∷◌, Option, Some, None, option_map, bytes_eq}
 use Rattle.std.specs.List.{find}
 use Rattle.host.specs.Seen.{SecretSource, Seen, Text}
 use Rattle.host.specs.Faults.{Faults, no_faults}
@@ -73,10 +73,6 @@ memory_seen m = record {
 -- its counts of failures
 abbrev pub memory_faults : Memory → Faults
 memory_faults m = m.faults
-
--- the number of the next call; it stays at the greatest
-abbrev pub next_call : ℕ → ℕ
-next_call n = if n == 2 ^ 64 - 1 then n else n + 1
 
 -- the host with a variable more
 abbrev pub with_variable : Text → List ℕ → Memory → Memory

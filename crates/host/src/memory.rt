@@ -1,7 +1,8 @@
 //! A host in memory.
 ghost use Rattle.std.specs.Prelude.{◌≡◌, ◌<◌, ◌≤◌, ◌==◌, ℕ, true, List, take, drop, length, min, map, option_map, Some, IfOk, OnOk, OnErr, string_bytes, bytes_eq, if◌then◌else◌};
 ghost use Rattle.host.specs.Asked.{asked_source};
-ghost use Rattle.host.specs.Memory.{Memory, lookup, memory_seen, memory_faults, new_memory, next_call, with_variable, with_file};
+ghost use Rattle.host.specs.Memory.{Memory, lookup, memory_seen, memory_faults, new_memory, with_variable, with_file};
+ghost use Rattle.host.specs.Inside.Calls.{next_call};
 ghost use Rattle.host.specs.Secret.{secret_of};
 
 use crate::asked::Asked;

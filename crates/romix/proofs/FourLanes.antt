@@ -3,7 +3,7 @@ use Rattle.std.proofs.Common.{◌≡◌, ℕ, ◌<◌, ◌-◌, ◌*◌, ◌/◌
 use Rattle.std.specs.Simd.Lanes.{zip2}
 use Rattle.four_words.proofs.FourWords.{below_four, each_of_four}
 use Rattle.romix.specs.declared.lanes.Lanes.{Lanes}
-use Rattle.romix.specs.Lanes.{words_by_diagonals}
+use Rattle.romix.specs.Inside.Lanes.{words_by_diagonals}
 use Rattle.romix.specs.Salsa20.{quarter_step, word_sum, word_sums}
 
 -- a sum, two shifts of each lane, an or and an xor, as the code has them, give a step of the quarterround

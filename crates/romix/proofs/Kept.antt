@@ -4,12 +4,12 @@ use Rattle.std.proofs.Math.Nat.{mul-mod_right, mul-div_cancel_left, mul-div-le, 
 use Rattle.std.proofs.lemmas.Bool.{cases_lt}
 use Rattle.std.proofs.lemmas.Nat.Gcd.{dvd_of_mod-eq-zero}
 use Rattle.romix.specs.BlockMix.{block_mix, xored_words}
-use Rattle.romix.specs.Diagonals.{natural_row}
+use Rattle.romix.specs.Inside.Diagonals.{natural_row}
 use Rattle.romix.specs.Romix.{integerify, row_after, table_row}
 use Rattle.romix.specs.Scrypt.{part_at, words_of}
 use Rattle.romix.specs.Sparse.{mixes, mixes_of_parts, steps_to_rows}
 use Rattle.romix.specs.SparseCosts.{SparseParameters}
-use Rattle.romix.specs.Table.{row_at}
+use Rattle.romix.specs.Inside.Table.{row_at}
 
 -- k rows on from row i
 pub table_row_on : (b : List ℕ) (i k : ℕ) → table_row (table_row b i) k ≡ table_row b (i + k)

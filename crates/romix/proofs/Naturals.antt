@@ -3,7 +3,7 @@ use Rattle.std.proofs.Common.{bit_xor, ◌%◌, lit<, ◌≡◌, ℕ, zero, suc,
 use Rattle.std.proofs.lemmas.List.{drop-drop, length-drop, length-take-le, take_all, take-append-le, drop-append-le}
 use Rattle.std.proofs.lemmas.Simd.{get_or-chunk, get_or-zip2, length-zip2}
 use Rattle.romix.specs.BlockMix.{block_at, xored_words}
-use Rattle.romix.specs.Diagonals.{natural_row, natural_block, natural_blocks}
+use Rattle.romix.specs.Inside.Diagonals.{natural_row, natural_block, natural_blocks}
 
 -- a block has sixteen words
 pub length-natural_blocks : (n : ℕ) (w : List ℕ) → length (natural_blocks n w) ≡ 16 * n

@@ -6,7 +6,7 @@ use Rattle.std.proofs.Math.Nat.{add-mul-mod_self_right, mul-le-mul_left}
 use Rattle.std.specs.Simd.Lanes.{number_l}
 use Rattle.romix.specs.BlockMix.{block_mix, xored_words}
 use Rattle.romix.specs.Romix.{integerify, row_after, table_row}
-use Rattle.romix.specs.Table.{row_at}
+use Rattle.romix.specs.Inside.Table.{row_at}
 
 -- a row depends on the table up to its end alone
 pub row_below : (t u : List ℕ) (len m k : ℕ) → len * k + len ≤ m → take m u ≡ take m t → row_at u len k ≡ row_at t len k

@@ -1,14 +1,12 @@
 pub mod Allowance
 pub mod BlockMix
 pub mod Costs
-pub mod Diagonals
 pub mod Faults
 pub mod FirstOf
-pub mod Lanes
 pub mod Romix
 pub mod Salsa20
 pub mod Scrypt
 pub mod Sparse
 pub mod SparseCosts
-pub mod Table
 pub mod Workspace
+pub mod Inside

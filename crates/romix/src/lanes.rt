@@ -2,8 +2,8 @@
 ghost use Rattle.std.specs.Prelude.{◌≡◌, ◌+◌, ◌*◌, ◌≤◌, ◌++◌, length, take, drop};
 ghost use Rattle.std.specs.Simd.Lanes.{chunk, put_chunk};
 ghost use Rattle.romix.specs.BlockMix.{block_at, xored_words};
-ghost use Rattle.four_words.specs.FourWords.{four_words};
-ghost use Rattle.romix.specs.Lanes.{words_by_diagonals, words_by_rows};
+ghost use Rattle.four_words.specs.Inside.FourWords.{four_words};
+ghost use Rattle.romix.specs.Inside.Lanes.{words_by_diagonals, words_by_rows};
 
 use std::simd::u32x4;
 

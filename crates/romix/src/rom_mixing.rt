@@ -2,10 +2,10 @@
 //! diagonals.
 ghost use Rattle.std.specs.Prelude.{◌≡◌, ◌+◌, ◌*◌, ◌/◌, ◌%◌, ◌^◌, ◌<◌, ◌≤◌, length};
 ghost use Rattle.romix.specs.BlockMix.{block_count, block_mix, xored_words};
-ghost use Rattle.romix.specs.Diagonals.{natural_row};
+ghost use Rattle.romix.specs.Inside.Diagonals.{natural_row};
 ghost use Rattle.romix.specs.Romix.{integerify, romix, table_row};
 ghost use Rattle.romix.specs.Sparse.{mixes};
-ghost use Rattle.romix.specs.Table.{row_at};
+ghost use Rattle.romix.specs.Inside.Table.{row_at};
 
 use crate::lanes::Lanes;
 use crate::salsa20::core_by_diagonals;

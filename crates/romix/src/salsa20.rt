@@ -1,8 +1,8 @@
 //! The Salsa20/8 core (RFC 7914, section 3), four words at a time, on the diagonals of the state.
 ghost use Rattle.std.specs.Prelude.{◌≡◌, ℕ, ◌+◌, ◌<◌, slice_index};
 ghost use Rattle.romix.specs.Salsa20.{column_round, quarter_round, quarter_step, row_round, salsa20_8, word_sum};
-ghost use Rattle.four_words.specs.FourWords.{words_in_order};
-ghost use Rattle.romix.specs.Lanes.{words_by_diagonals, words_by_rows};
+ghost use Rattle.four_words.specs.Inside.FourWords.{words_in_order};
+ghost use Rattle.romix.specs.Inside.Lanes.{words_by_diagonals, words_by_rows};
 
 use crate::lanes::Lanes;
 use crate::ticks::Ticks;

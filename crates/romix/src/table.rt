@@ -1,6 +1,6 @@
 //! The table V of ROMix (RFC 7914, section 5): rows of one length, one after another.
 ghost use Rattle.std.specs.Prelude.{◌≡◌, ℕ, ◌+◌, ◌*◌, ◌/◌, ◌%◌, ◌<◌, ◌≤◌, length};
-ghost use Rattle.romix.specs.Table.{row_at};
+ghost use Rattle.romix.specs.Inside.Table.{row_at};
 
 /// Writes a row of `len` words as row `i` of the table.
 pub(crate) fn store_row(table: &mut [u32], len: usize, i: usize, row: &[u32])

@@ -1,7 +1,8 @@
 -- A decryption that reads its file piece by piece.
 use Rattle.std.proofs.Common.{◌≡◌, ◌<◌, ◌+◌, ◌^◌, ◌++◌, ◌∙◌, ℕ, List, [], length, ap, sym, arith, length-append, append_assoc}
 use Rattle.std.proofs.lemmas.List.{append-nil}
-use Rattle.encfile.specs.Decrypting.{HasRead, length_read}
+use Rattle.encfile.specs.Decrypting.{HasRead}
+use Rattle.encfile.specs.Inside.Lengths.{length_read}
 use Rattle.encfile.specs.EncryptedFile.{released_text}
 use Rattle.encfile.specs.declared.dec.Dec.{Dec}
 use Rattle.encfile.proofs.Reading.{length-read, released_text-short}

@@ -4,7 +4,8 @@ use Rattle.std.proofs.lemmas.Grind.{common_steps}
 use Rattle.std.proofs.lemmas.List.{append-nil}
 use Rattle.romix.specs.Costs.{Parameters}
 use Rattle.encfile.specs.EncryptedFile.{body, encrypted_file, final_code}
-use Rattle.encfile.specs.Encrypting.{HasEncrypted, length_encrypted}
+use Rattle.encfile.specs.Encrypting.{HasEncrypted}
+use Rattle.encfile.specs.Inside.Lengths.{length_encrypted}
 use Rattle.encfile.specs.declared.enc.Enc.{Enc}
 use Rattle.encfile.proofs.Files.{length-body, length-encrypted_file, length_encrypted-is}
 use Rattle.host.specs.Seen.{Seen, after_pull, after_push}

@@ -2,7 +2,8 @@
 ghost use Rattle.std.specs.Prelude.{◌≡◌, ◌+◌, ◌≤◌, ◌^◌, true, false, ℕ, List, ◌++◌, None, take, length, MatchResult, IfOk, IfErr, OnOk, IsTrue};
 ghost use Rattle.romix.specs.Allowance.{with_keep_of};
 ghost use Rattle.romix.specs.Costs.{cores};
-ghost use Rattle.encfile.specs.Decrypting.{HasRead, length_read};
+ghost use Rattle.encfile.specs.Decrypting.{HasRead};
+ghost use Rattle.encfile.specs.Inside.Lengths.{length_read};
 ghost use Rattle.encfile.specs.EncryptedFile.{HasRightHeaderCode};
 ghost use Rattle.encfile.specs.Header.{IsHeaderOf, costs_of};
 ghost use Rattle.host.specs.Faults.{AreBelow};

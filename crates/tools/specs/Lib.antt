@@ -2,3 +2,4 @@
 pub mod Opened
 pub mod Beginning
 pub mod Identity
+pub mod Inside

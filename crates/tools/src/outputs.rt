@@ -1,7 +1,8 @@
 //! What is written: the output.
 ghost use Rattle.std.specs.Prelude.{Option, None, IsNone, IsSome, IsErr, IfOk, IsOkAnd, OnOk, OnErr};
 ghost use Rattle.std.specs.Io.KnownBytes.{IsAtEnd, Keeps};
-ghost use Rattle.tools.specs.Identity.{IncludesFile, IsKnown, IsOther, IsRead, IsRegular};
+ghost use Rattle.tools.specs.Identity.{IsKnown};
+ghost use Rattle.tools.specs.Inside.KnownFiles.{IncludesFile, IsOther, IsRead, IsRegular};
 ghost use Rattle.tools.specs.Opened.{IsNamedOutput, IsStandardOutput};
 ghost use Rattle.tools.specs.declared.identity.FileIdentity.{FileIdentity};
 

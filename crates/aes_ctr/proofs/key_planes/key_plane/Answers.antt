@@ -1,6 +1,6 @@
 use Rattle.std.proofs.Common.{◌≡◌, ℕ, ◌*◌, ◌%◌, ◌^◌, map, refl, w8}
 use Rattle.std.proofs.lemmas.Simd.{below_from_Fits, splat_is_map}
-use Rattle.aes_ctr.specs.TableParts.{choice}
+use Rattle.aes_ctr.specs.Inside.TableParts.{choice}
 use Rattle.aes_ctr.proofs.Held.{below_eight}
 use Rattle.aes_ctr.proofs.Swapped.{bits-choice}
 use Rattle.aes_ctr.proofs.key_planes.key_plane.Goals as goal

@@ -1,6 +1,7 @@
 use Rattle.std.proofs.Common.{map}
 use Rattle.aes_ctr.specs.Aes.{product}
-use Rattle.aes_ctr.specs.Planes.{IsBlock, IsHeld, rows_below}
+use Rattle.aes_ctr.specs.Planes.{IsBlock, IsHeld}
+use Rattle.aes_ctr.specs.Inside.PlaneSteps.{rows_below}
 use Rattle.aes_ctr.proofs.Blocks.{IsBlock-rows_below, IsBlock-xor}
 use Rattle.aes_ctr.proofs.Doubles.{mix_columns-pairs, pairs}
 use Rattle.aes_ctr.proofs.mix_planes.mix_planes.Goals as goal

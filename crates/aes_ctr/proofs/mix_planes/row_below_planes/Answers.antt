@@ -1,4 +1,4 @@
-use Rattle.aes_ctr.specs.Planes.{rows_below}
+use Rattle.aes_ctr.specs.Inside.PlaneSteps.{rows_below}
 use Rattle.aes_ctr.proofs.Held.{IsHeld-moved, bits-rows_below_1}
 use Rattle.aes_ctr.proofs.mix_planes.row_below_planes.Goals as goal
 

@@ -1,6 +1,6 @@
 use Rattle.std.proofs.Common.{◌≡◌, refl, ◌++◌, ◌∷◌, []}
 use lib.Lanes.{pick_l}
-use Rattle.aes_ctr.specs.Planes.{rows_below}
+use Rattle.aes_ctr.specs.Inside.PlaneSteps.{rows_below}
 use Rattle.aes_ctr.proofs.Sixteen.{sixteen_lanes}
 use Rattle.aes_ctr.proofs.mix_planes.second_row_below.Goals as goal
 

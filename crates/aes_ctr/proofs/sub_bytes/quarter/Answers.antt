@@ -1,5 +1,5 @@
 use Rattle.std.proofs.Common.{◌+◌, ◌*◌, ◌∙◌}
-use Rattle.aes_ctr.specs.TableParts.{part_entry}
+use Rattle.aes_ctr.specs.Inside.TableParts.{part_entry}
 use Rattle.aes_ctr.proofs.Bytes.{HasLowBits-32}
 use Rattle.aes_ctr.proofs.Lookup.{map-choice-part_entry}
 use Rattle.aes_ctr.proofs.sub_bytes.quarter.Goals as goal

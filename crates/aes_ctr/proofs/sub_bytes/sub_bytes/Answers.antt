@@ -1,5 +1,5 @@
 use Rattle.std.proofs.Common.{◌∙◌}
-use Rattle.aes_ctr.specs.TableParts.{part_entry}
+use Rattle.aes_ctr.specs.Inside.TableParts.{part_entry}
 use Rattle.aes_ctr.proofs.Bytes.{HasLowBits-128}
 use Rattle.aes_ctr.proofs.Lookup.{map-choice-part_entry, map-part_entry-whole}
 use Rattle.aes_ctr.proofs.Sixteen.{map-sub_byte}

@@ -1,5 +1,5 @@
 use Rattle.std.proofs.Common.{refl}
-use Rattle.aes_ctr.specs.Circuit.{output_wires}
+use Rattle.aes_ctr.specs.Inside.Circuit.{output_wires}
 use Rattle.aes_ctr.proofs.sub_planes.output_wires.Goals as goal
 
 pub returns : goal.returns

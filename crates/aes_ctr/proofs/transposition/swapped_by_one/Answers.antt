@@ -1,5 +1,6 @@
 use Rattle.std.proofs.Common.{◌≡◌, ℕ, ◌+◌, ◌-◌, ◌*◌, ◌/◌, ◌%◌, ◌^◌, ◌<◌, List, [], ◌∷◌, bit_and}
-use Rattle.aes_ctr.specs.Planes.{IsBlock, bits, plane, with_digit}
+use Rattle.aes_ctr.specs.Planes.{IsBlock, bits, plane}
+use Rattle.aes_ctr.specs.Inside.PlaneSteps.{with_digit}
 use Rattle.aes_ctr.proofs.Held.{below_eight}
 use Rattle.aes_ctr.proofs.Swapped.{from_planes, lower_1, upper_1}
 use Rattle.aes_ctr.proofs.transposition.swapped_by_one.Goals as goal

@@ -1,7 +1,7 @@
 use Rattle.std.proofs.Common.{ℕ, List, ◌*◌, ◌+◌, ◌/◌, ◌%◌, arith, ap, sym, ◌∙◌}
 use Rattle.blake.specs.Words.{along, words_at}
 use Rattle.argon.specs.Compression.{column_places, permutation}
-use Rattle.four_words.specs.FourWords.{sixteen_words}
+use Rattle.four_words.specs.Inside.FourWords.{sixteen_words}
 use Rattle.argon.proofs.WordPlaces.{apart, column_keyed, placed}
 use Rattle.argon.proofs.compression.permute_two_columns.Goals as goal
 

@@ -1,6 +1,6 @@
 use Rattle.std.proofs.Common.{ℕ, ◌*◌, ◌+◌, List, ap, ◌∙◌}
 use Rattle.argon.specs.Compression.{row_places}
-use Rattle.argon.specs.FourWords.{with_row_permuted}
+use Rattle.argon.specs.Inside.FourWords.{with_row_permuted}
 use Rattle.argon.proofs.WordPlaces.{placed}
 use Rattle.argon.proofs.compression.permute_two_rows.Goals as goal
 

@@ -1,6 +1,6 @@
 use Rattle.std.proofs.Common.{◌*◌, ◌%◌, ◌<◌, ◌≤◌, ◌∙◌, arith}
 use Rattle.std.proofs.Math.Nat.{mod-add-mod, mod-lt}
-use Rattle.argon.specs.Places.{first_standing, reference_set_len}
+use Rattle.argon.specs.Inside.Places.{first_standing, reference_set_len}
 use Rattle.argon.specs.Reference.{relative_place}
 use Rattle.argon.proofs.ReferenceSet.{named_number, reference_set_some, reference_set_short}
 use Rattle.argon.proofs.places.reference_column.Goals as goal

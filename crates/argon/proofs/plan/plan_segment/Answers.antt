@@ -1,7 +1,7 @@
 use Rattle.std.proofs.Common.{rules, ◌≡◌, ◌<◌, ◌≤◌, Bool, true, sym, ap, arith, ◌∙◌}
 use Rattle.argon.specs.Counts.{address_work, first_index}
 use Rattle.argon.specs.Parameters.{segment_len}
-use Rattle.argon.specs.Segment.{index_after_parts}
+use Rattle.argon.specs.Inside.Segment.{index_after_parts}
 use Rattle.argon.proofs.Independent.{made_as_planned}
 use Rattle.argon.proofs.Planning.{part_more}
 use Rattle.argon.proofs.Progress.{first_index-le}

@@ -1,6 +1,6 @@
 use Rattle.std.proofs.Common.{◌≡◌, ◌+◌, ◌*◌, length}
-use Rattle.argon.specs.Plan.{IsPlanned}
-use Rattle.argon.specs.Segment.{index_after_parts}
+use Rattle.argon.specs.Inside.Planning.{IsPlanned}
+use Rattle.argon.specs.Inside.Segment.{index_after_parts}
 use Rattle.argon.proofs.plan.plan_segment.Given as goal
 
 abbrev pub invariant-loop-part : goal.invariant-loop-part

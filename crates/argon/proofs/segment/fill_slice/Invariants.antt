@@ -1,7 +1,8 @@
 use Rattle.std.proofs.Common.{◌≡◌, ◌+◌, ◌*◌, length}
 use Rattle.argon.specs.Counts.{segment_work}
 use Rattle.argon.specs.Filling.{Filling}
-use Rattle.argon.specs.Woven.{IsNextSlice, blocks_where_left}
+use Rattle.argon.specs.Woven.{blocks_where_left}
+use Rattle.argon.specs.Inside.NextSlice.{IsNextSlice}
 use Rattle.argon.proofs.Woven.{left_after_lanes}
 use Rattle.argon.proofs.segment.fill_slice.Given as goal
 

@@ -1,9 +1,10 @@
 use Rattle.std.proofs.Common.{◌≡◌, ◌∙◌, true, Err, ap, sym, subst, rules}
-use Rattle.argon_text.specs.Answer.{IsAnswerOf}
+use Rattle.argon_text.specs.Inside.Answer.{IsAnswerOf}
 use Rattle.argon_text.specs.EncodedText.{IsTextOf}
 use Rattle.argon_text.specs.Grammar.{value_with}
 use Rattle.argon_text.specs.Value.{Value, IsValue, is_in_range}
-use Rattle.argon_text.specs.View.{fields_of, value_of}
+use Rattle.argon_text.specs.View.{value_of}
+use Rattle.argon_text.specs.Inside.FieldsRead.{fields_of}
 use Rattle.argon_text.proofs.Answering.{no_text, out_of_range, salt_fault, tag_fault, value_found}
 use Rattle.argon_text.proofs.TakingApart.{fields_give}
 use Rattle.argon_text.proofs.read.read_from.Goals as goal

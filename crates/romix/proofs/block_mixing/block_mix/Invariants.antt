@@ -1,6 +1,6 @@
 use Rattle.std.proofs.Common.{◌≡◌, ◌+◌, ◌*◌, take}
 use Rattle.romix.specs.BlockMix.{chain_block, every_second_output}
-use Rattle.romix.specs.Lanes.{words_by_rows}
+use Rattle.romix.specs.Inside.Lanes.{words_by_rows}
 use Rattle.romix.proofs.block_mixing.block_mix.Given as goal
 
 abbrev pub invariant-turns : goal.invariant-turns

@@ -1,8 +1,8 @@
 use Rattle.std.proofs.Common.{◌≡◌, ℕ, List, ◌+◌, ◌*◌, ◌-◌, ◌/◌, ◌++◌, length, take, arith, refl, ap, sym, ◌∙◌}
 use Rattle.std.proofs.lemmas.List.{length-append, take_all}
 use Rattle.romix.specs.BlockMix.{block_at, chain_block, every_second_output}
-use Rattle.romix.specs.Diagonals.{natural_block, natural_blocks, natural_row}
-use Rattle.romix.specs.Lanes.{words_by_rows}
+use Rattle.romix.specs.Inside.Diagonals.{natural_block, natural_blocks, natural_row}
+use Rattle.romix.specs.Inside.Lanes.{words_by_rows}
 use Rattle.romix.proofs.Mixing.{chain_more, every_second_more, mix_is}
 use Rattle.romix.proofs.Naturals.{block_at-natural_blocks, natural_blocks-written, length-natural_blocks, natural_blocks-append}
 use Rattle.romix.proofs.rom_mixing.block_mix_by_diagonals.Goals as goal

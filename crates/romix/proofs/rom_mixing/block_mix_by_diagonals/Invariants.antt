@@ -1,7 +1,7 @@
 use Rattle.std.proofs.Common.{◌≡◌, ◌+◌, ◌*◌, take}
 use Rattle.romix.specs.BlockMix.{chain_block, every_second_output}
-use Rattle.romix.specs.Diagonals.{natural_blocks, natural_row}
-use Rattle.romix.specs.Lanes.{words_by_diagonals}
+use Rattle.romix.specs.Inside.Diagonals.{natural_blocks, natural_row}
+use Rattle.romix.specs.Inside.Lanes.{words_by_diagonals}
 use Rattle.romix.proofs.rom_mixing.block_mix_by_diagonals.Given as goal
 
 abbrev pub invariant-turns : goal.invariant-turns

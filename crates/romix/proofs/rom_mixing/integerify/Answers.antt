@@ -1,5 +1,5 @@
 use Rattle.std.proofs.Common.{◌-◌, ◌+◌, ◌/◌, length, arith, sym}
-use Rattle.romix.specs.Diagonals.{natural_row}
+use Rattle.romix.specs.Inside.Diagonals.{natural_row}
 use Rattle.romix.proofs.Naturals.{length-natural_blocks, lowest_words}
 use Rattle.romix.proofs.Rows.{integerify_low}
 use Rattle.romix.proofs.rom_mixing.integerify.Goals as goal

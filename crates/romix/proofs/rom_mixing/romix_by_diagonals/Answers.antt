@@ -1,8 +1,8 @@
 use Rattle.std.proofs.Common.{◌≡◌, ℕ, List, ◌+◌, ◌*◌, ◌/◌, ◌^◌, ◌<◌, ◌≤◌, ◌%◌, length, arith, refl, ap, mod-lt, pow_pos}
-use Rattle.romix.specs.Diagonals.{natural_row}
+use Rattle.romix.specs.Inside.Diagonals.{natural_row}
 use Rattle.romix.specs.Romix.{romix, row_after, table_row}
 use Rattle.romix.specs.Sparse.{mixes, steps_to_rows}
-use Rattle.romix.specs.Table.{row_at}
+use Rattle.romix.specs.Inside.Table.{row_at}
 use Rattle.romix.proofs.Rows.{half_is, table_row_more}
 use Rattle.romix.proofs.Kept.{count_more, kept_below, kept_more, row_room, turn_more}
 use Rattle.romix.proofs.rom_mixing.romix_by_diagonals.Goals as goal

@@ -1,9 +1,9 @@
 use Rattle.std.proofs.Common.{◌≡◌, ℕ, ◌+◌, ◌*◌, ◌<◌, ◌^◌, length}
 use Rattle.romix.specs.BlockMix.{block_count}
-use Rattle.romix.specs.Diagonals.{natural_row}
+use Rattle.romix.specs.Inside.Diagonals.{natural_row}
 use Rattle.romix.specs.Romix.{row_after, table_row}
 use Rattle.romix.specs.Sparse.{steps_to_rows}
-use Rattle.romix.specs.Table.{row_at}
+use Rattle.romix.specs.Inside.Table.{row_at}
 use Rattle.romix.proofs.rom_mixing.romix_by_diagonals.Given as goal
 
 abbrev pub invariant-fill : goal.invariant-fill

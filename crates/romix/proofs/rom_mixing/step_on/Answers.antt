@@ -1,5 +1,5 @@
 use Rattle.std.proofs.Common.{◌≡◌, ℕ, List, ◌+◌, ◌-◌, ◌*◌, ◌%◌, arith, refl, ap, ◌∙◌}
-use Rattle.romix.specs.Diagonals.{natural_row}
+use Rattle.romix.specs.Inside.Diagonals.{natural_row}
 use Rattle.romix.specs.Romix.{table_row}
 use Rattle.romix.proofs.Rows.{table_row_more}
 use Rattle.romix.proofs.Kept.{first_row}

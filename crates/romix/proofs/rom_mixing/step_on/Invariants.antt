@@ -1,6 +1,6 @@
 use Rattle.std.proofs.Common.{◌≡◌, ◌+◌, ◌-◌, ◌*◌, ◌%◌}
 use Rattle.romix.specs.BlockMix.{block_count}
-use Rattle.romix.specs.Diagonals.{natural_row}
+use Rattle.romix.specs.Inside.Diagonals.{natural_row}
 use Rattle.romix.specs.Romix.{table_row}
 use Rattle.romix.proofs.rom_mixing.step_on.Given as goal
 

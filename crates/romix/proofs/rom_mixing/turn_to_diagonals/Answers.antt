@@ -1,8 +1,8 @@
 use Rattle.std.proofs.Common.{◌≡◌, ℕ, List, ◌*◌, ◌/◌, ◌++◌, length, take, refl, arith, ap, ◌∙◌, sym}
 use Rattle.std.proofs.lemmas.List.{take_all}
 use Rattle.romix.specs.BlockMix.{block_at}
-use Rattle.romix.specs.Diagonals.{natural_blocks}
-use Rattle.romix.specs.Lanes.{words_by_rows}
+use Rattle.romix.specs.Inside.Diagonals.{natural_blocks}
+use Rattle.romix.specs.Inside.Lanes.{words_by_rows}
 use Rattle.romix.proofs.Naturals.{natural_blocks-written, take-block_at}
 use Rattle.romix.proofs.XoredBlocks.{block_left}
 use Rattle.romix.proofs.rom_mixing.turn_to_diagonals.Goals as goal

@@ -1,5 +1,5 @@
 use Rattle.std.proofs.Common.{◌≡◌, ◌*◌, take, drop}
-use Rattle.romix.specs.Diagonals.{natural_blocks}
+use Rattle.romix.specs.Inside.Diagonals.{natural_blocks}
 use Rattle.romix.proofs.rom_mixing.turn_to_diagonals.Given as goal
 
 abbrev pub invariant-loop-i : goal.invariant-loop-i

@@ -1,6 +1,6 @@
 use Rattle.std.proofs.Common.{◌≡◌, ℕ, List, ◌*◌, ◌/◌, length, take, refl, arith, ap, ◌∙◌, sym}
 use Rattle.std.proofs.lemmas.List.{take_all}
-use Rattle.romix.specs.Diagonals.{natural_block, natural_blocks}
+use Rattle.romix.specs.Inside.Diagonals.{natural_block, natural_blocks}
 use Rattle.romix.proofs.Naturals.{natural_blocks-more}
 use Rattle.romix.proofs.XoredBlocks.{block_left}
 use Rattle.romix.proofs.rom_mixing.turn_to_rows.Goals as goal

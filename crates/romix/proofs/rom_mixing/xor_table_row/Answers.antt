@@ -1,6 +1,6 @@
 use Rattle.std.proofs.Common.{◌≡◌, ℕ, List, ◌%◌, arith, refl, ap, ◌∙◌}
 use Rattle.romix.specs.BlockMix.{xored_words}
-use Rattle.romix.specs.Diagonals.{natural_row}
+use Rattle.romix.specs.Inside.Diagonals.{natural_row}
 use Rattle.romix.specs.Romix.{table_row}
 use Rattle.romix.proofs.Naturals.{natural_row-xored_words}
 use Rattle.romix.proofs.rom_mixing.xor_table_row.Goals as goal

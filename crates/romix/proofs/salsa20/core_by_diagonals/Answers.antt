@@ -1,5 +1,5 @@
 use Rattle.std.proofs.Common.{◌≡◌, ℕ, List, arith, refl, ap, ◌∙◌, add-one}
-use Rattle.romix.specs.Lanes.{words_by_diagonals}
+use Rattle.romix.specs.Inside.Lanes.{words_by_diagonals}
 use Rattle.romix.specs.Salsa20.{double_rounds, salsa20_8, word_sums}
 use Rattle.romix.proofs.FourLanes.{sixteen_sums}
 use Rattle.romix.proofs.salsa20.core_by_diagonals.Goals as goal

@@ -1,5 +1,5 @@
 use Rattle.std.proofs.Common.{◌≡◌}
-use Rattle.romix.specs.Lanes.{words_by_diagonals}
+use Rattle.romix.specs.Inside.Lanes.{words_by_diagonals}
 use Rattle.romix.specs.Salsa20.{double_rounds}
 use Rattle.romix.proofs.salsa20.core_by_diagonals.Given as goal
 

@@ -1,7 +1,8 @@
 use Rattle.std.proofs.Common.{rules, arith, ◌≡◌, ◌+◌, ◌++◌, ◌≤◌, ◌^◌, ap, sym, length, take, drop, append_assoc, subst, refl, inl, inr}
 use Rattle.std.proofs.lemmas.Grind.{common_steps}
 use Rattle.std.proofs.lemmas.List.{append-nil, take_all}
-use Rattle.encfile.specs.Decrypting.{HasRead, length_read}
+use Rattle.encfile.specs.Decrypting.{HasRead}
+use Rattle.encfile.specs.Inside.Lengths.{length_read}
 use Rattle.encfile.proofs.Reading.{length-read}
 use Rattle.host.specs.Seen.{Seen}
 use Rattle.scrypt_run.specs.Decrypting.{text_behind}

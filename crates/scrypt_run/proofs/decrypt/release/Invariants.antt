@@ -1,5 +1,6 @@
 use Rattle.std.proofs.Common.{length, take, drop, List, ℕ, ◌++◌, ◌-◌, ◌+◌, ◌≡◌, ◌<◌, ◌≤◌, ◌^◌, IsTrue}
-use Rattle.encfile.specs.Decrypting.{HasRead, length_read}
+use Rattle.encfile.specs.Decrypting.{HasRead}
+use Rattle.encfile.specs.Inside.Lengths.{length_read}
 use Rattle.scrypt_run.specs.Decrypting.{text_behind}
 use Rattle.scrypt_run.specs.Steps.{after_passing}
 use Rattle.scrypt_run.proofs.decrypt.release.Given as goal

@@ -1,7 +1,8 @@
 use Rattle.std.proofs.Common.{rules, arith, ◌≡◌, ◌∙◌, ◌+◌, ◌<◌, ◌≤◌, ◌^◌, ap, sym, [], length, take, drop, subst, refl, inl, inr}
 use Rattle.std.proofs.lemmas.Grind.{common_steps}
 use Rattle.encfile.specs.EncryptedFile.{body}
-use Rattle.encfile.specs.Encrypting.{HasEncrypted, length_encrypted}
+use Rattle.encfile.specs.Encrypting.{HasEncrypted}
+use Rattle.encfile.specs.Inside.Lengths.{length_encrypted}
 use Rattle.encfile.proofs.Files.{length_encrypted-is}
 use Rattle.host.specs.Seen.{Seen, after_push}
 use Rattle.scrypt_run.specs.Steps.{after_passing}

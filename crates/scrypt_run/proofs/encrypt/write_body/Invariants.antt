@@ -1,7 +1,8 @@
 use Rattle.std.proofs.Common.{length, take, drop, [], List, ℕ, ◌-◌, ◌≡◌, ◌<◌, ◌≤◌, ◌^◌, IsTrue}
 use Rattle.romix.specs.Costs.{Parameters}
 use Rattle.encfile.specs.EncryptedFile.{body}
-use Rattle.encfile.specs.Encrypting.{HasEncrypted, length_encrypted}
+use Rattle.encfile.specs.Encrypting.{HasEncrypted}
+use Rattle.encfile.specs.Inside.Lengths.{length_encrypted}
 use Rattle.scrypt_run.specs.Steps.{after_passing}
 use Rattle.scrypt_run.proofs.encrypt.write_body.Given as goal
 

@@ -1,6 +1,7 @@
 use Rattle.std.proofs.Common.{◌≡◌, ◌*◌, ◌/◌, ◌%◌, refl, arith, ap, ◌∙◌}
 use Rattle.argon.specs.Argon2.{argon2_tag}
-use Rattle.argon.specs.Counts.{slice_work, slices_work, work}
+use Rattle.argon.specs.Counts.{slice_work, work}
+use Rattle.argon.proofs.Slices.{slices_work}
 use Rattle.argon.specs.Filling.{Filling}
 use Rattle.argon.proofs.Slices.{slices_more, slices_work_is, range_long}
 use Rattle.argon.proofs.matrix.Matrix.hash.Goals as goal

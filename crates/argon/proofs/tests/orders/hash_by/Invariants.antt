@@ -1,6 +1,6 @@
 use Rattle.std.proofs.Common.{◌≡◌, ◌+◌, true}
 use Rattle.argon.specs.Argon2.{first_hash}
-use Rattle.argon.specs.Counts.{slices_work}
+use Rattle.argon.proofs.Slices.{slices_work}
 use Rattle.argon.specs.Inputs.{inputs_of}
 use Rattle.argon.proofs.tests.orders.hash_by.Given as goal
 

@@ -1,6 +1,6 @@
 use Rattle.std.proofs.Common.{◌*◌, ◌+◌, arith}
 use Rattle.std.proofs.lemmas.Simd.{take_more_put_chunk}
-use Rattle.romix.specs.Lanes.{words_by_rows}
+use Rattle.romix.specs.Inside.Lanes.{words_by_rows}
 use Rattle.four_words.proofs.Runs.{drop_put, sixteen_written}
 use Rattle.romix.proofs.lanes.Lanes.store.Goals as goal
 

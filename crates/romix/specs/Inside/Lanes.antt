@@ -1,6 +1,6 @@
 -- Sixteen words in four vectors of four.
 use Rattle.std.specs.Prelude.{ℕ, List, [], ◌∷◌, slice_index}
-use Rattle.four_words.specs.FourWords.{sixteen_words}
+use Rattle.four_words.specs.Inside.FourWords.{sixteen_words}
 use Rattle.romix.specs.declared.lanes.Lanes.{Lanes}
 
 -- the words where each vector has a row: 0 to 3, 4 to 7, 8 to 11, 12 to 15

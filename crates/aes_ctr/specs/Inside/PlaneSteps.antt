@@ -1,0 +1,23 @@
+-- What the steps of transposing and of ShiftRows do to planes.
+use Rattle.std.specs.Prelude.{◌≡◌, ℕ, ◌+◌, ◌-◌, ◌/◌, ◌%◌, ◌==◌, ◌<◌, Bool, List, cond}
+use Rattle.std.specs.Int.{bit_at}
+use Rattle.aes_ctr.specs.Planes.{bits, plane}
+use Rattle.aes_ctr.specs.Aes.{byte_at, state_of}
+
+-- bit b of what f and g make of a byte: bit i through f, if it is `first`, else bit j through g
+abbrev pub AreParts : (ℕ → ℕ) → (ℕ → ℕ) → Bool → ℕ → ℕ → ℕ → Type 0
+AreParts f g first b i j =
+    (byte : ℕ) → byte < 256 → (bit_at (f byte) b ≡ cond first (bit_at byte i) 0) × (bit_at (g byte) b ≡ cond first 0 (bit_at byte j))
+
+-- x, where its binary digit of weight d is exchanged for the one of y
+abbrev pub with_digit : ℕ → ℕ → ℕ → ℕ
+with_digit d x y = cond (y / d % 2 == 0) (cond (x / d % 2 == 0) x (x - d)) (cond (x / d % 2 == 0) (x + d) x)
+
+-- each bit of the result comes from the bit and the plane whose numbers have exchanged their digits of weight d
+abbrev pub AreSwapped : ℕ → List (List ℕ) → List (List ℕ) → Type 0
+AreSwapped d planes swapped =
+    (b k : ℕ) → b < 8 → k < 8 → bits b (plane swapped k) ≡ bits (with_digit d b k) (plane planes (with_digit d k b))
+
+-- each byte of the state takes the place of the one that stands n rows above it
+unfoldable pub rows_below : ℕ → List ℕ → List ℕ
+rows_below n state = state_of (λ row column. byte_at state ((row + n) % 4) column)

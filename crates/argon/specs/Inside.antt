@@ -1,0 +1,6 @@
+-- Helpers that private contracts and proofs cite; no public contract reaches them.
+pub mod FourWords
+pub mod NextSlice
+pub mod Places
+pub mod Planning
+pub mod Segment

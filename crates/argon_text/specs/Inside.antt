@@ -1,0 +1,5 @@
+-- Helpers that private contracts and proofs cite; no public contract reaches them.
+pub mod Answer
+pub mod Claim
+pub mod FieldsRead
+pub mod Reading

@@ -1,0 +1,4 @@
+-- Helpers that private contracts and proofs cite; no public contract reaches them.
+pub mod Diagonals
+pub mod Lanes
+pub mod Table
