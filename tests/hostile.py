@@ -102,6 +102,16 @@ def enc_body(source, target):
     ]
 
 
+ENC_HELLO_OUT = calls(
+    ("open hello", "S12"), ("open pw", "S4a"), *read_twice("pw", "S4a"), ("look at hello", "S13"), ("look at pw", "S13"),
+    *OPENED_OUT, *enc_body("hello", "out"),
+)
+DEC_F5 = calls(
+    ("open F5", "S12"), ("read F5", "S12"), ("open pw", "S4a"), *read_twice("pw", "S4a"), ("look at F5", "S13"),
+    ("look at pw", "S13"), LOOKED, ("read F5", "S12", 0), ("write standard output", "S13", 0), ("read F5", "S12", 5),
+)
+
+
 RUNS = [
     Run(
         "argon2", "somesalt -d -t 1 -k 8 -e", b"password",
@@ -129,14 +139,8 @@ RUNS = [
             ("write standard output", "S13", 0), ("read standard input", "S12", 96), ("write standard output", "S13", 96),
         ),
     ),
-    Run(
-        "scrypt", f"enc {FIXED} {FROM_PW} hello out", b"", F5,
-        calls(
-            ("open hello", "S12"), ("open pw", "S4a"), *read_twice("pw", "S4a"), ("look at hello", "S13"), ("look at pw", "S13"),
-            *OPENED_OUT, *enc_body("hello", "out"),
-        ),
-        to_file=True,
-    ),
+    Run("scrypt", f"enc {FIXED} {FROM_PW} hello out", b"", F5, ENC_HELLO_OUT, to_file=True),
+    Run("scrypt", f"enc {FIXED} --keep 4 {FROM_PW} hello out", b"", F5, ENC_HELLO_OUT, to_file=True),
     Run(
         "scrypt", f"enc {FIXED} -P hello", b"pw", F5,
         calls(
@@ -144,13 +148,8 @@ RUNS = [
             LOOKED, *enc_body("hello", "standard output"),
         ),
     ),
-    Run(
-        "scrypt", f"dec {FROM_PW} F5", b"", b"hello",
-        calls(
-            ("open F5", "S12"), ("read F5", "S12"), ("open pw", "S4a"), *read_twice("pw", "S4a"), ("look at F5", "S13"),
-            ("look at pw", "S13"), LOOKED, ("read F5", "S12", 0), ("write standard output", "S13", 0), ("read F5", "S12", 5),
-        ),
-    ),
+    Run("scrypt", f"dec {FROM_PW} F5", b"", b"hello", DEC_F5),
+    Run("scrypt", f"dec --keep 16 {FROM_PW} F5", b"", b"hello", DEC_F5),
     Run(
         "scrypt", "dec -P F5 out", b"pw\n", b"hello",
         calls(

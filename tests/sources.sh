@@ -50,6 +50,12 @@ expect 'read_salt(&' "the system reads a salt once" crates/tools/src/system_host
 expect 'Enc::start(' "a derivation for a new file is begun by enc" crates/scrypt_run/src/encrypt.rt
 expect 'Dec::open(' "a derivation for a file that is read is begun by dec" crates/scrypt_run/src/decrypt.rt
 
+# A comparison that ends at the first byte that differs tells by its time where that is, and no contract sees time.
+expect 'are_same(tag, claim.tag)' "tags are compared over all their bytes" crates/argon_text/src/verifying.rt
+expect '!are_same(&front[64..], ' "the code of a header is compared over all its bytes" crates/encfile/src/dec.rt
+expect 'are_same(&self.bytes, code)' "the final code is compared over all its bytes" crates/encfile/src/held.rt
+expect 'difference |= left[i] ^ right[i];' "the comparison looks at every byte" crates/comparison/src/lib.rt
+
 tests/encoded_texts.py crates/argon_text/src/tests/near_misses.rt || status=1
 
 exit $status

@@ -4,10 +4,11 @@ ghost use Rattle.std.specs.Fmt.{decimal};
 ghost use Rattle.argon_text.specs.Value.{Value, are_in_range};
 ghost use Rattle.argon_text.specs.EncodedText.{base64_text, encoded_text, kind_name};
 
+use crate::text_room::TextRoom;
 use argon::Kind;
 use base64::encoded_len;
 use base64::engine::general_purpose::STANDARD_NO_PAD;
-use std::alloc::{AllocError, Global};
+use std::alloc::AllocError;
 
 /// A hash with the parameters that gave it, as an encoded text holds them. Contracts see a `Value`.
 ///
@@ -42,27 +43,40 @@ impl Encoded {
         ensures ok { OnOk result (out.new.items ≡ out.old.items ++ encoded_text (value_of self.now)) }
         ensures err { OnErr result (out.new.items ≡ out.old.items) }
     {
-        let text = self.text(*out.allocator())?;
-        out.extend_from_slice(text.as_bytes())
+        let mut room = *out.allocator();
+        self.write_in(&mut room, out)
+    }
+
+    /// The same, with memory from `room`: 21 requests.
+    pub(crate) fn write_in<R: TextRoom>(
+        &self,
+        room: &mut R,
+        out: &mut Vec<u8>,
+    ) -> Result<(), AllocError>
+        ensures ok { OnOk result (out.new.items ≡ out.old.items ++ encoded_text (value_of self.now)) }
+        ensures err { OnErr result (out.new.items ≡ out.old.items) }
+    {
+        let text = self.text(room)?;
+        room.append(out, text.as_bytes())
     }
 
     // The encoded text.
     #[tactic(auto, unfolding(crate::specs::EncodedText::text_of_fields))]
-    fn text(&self, alloc: Global) -> Result<String, AllocError>
+    fn text<R: TextRoom>(&self, room: &mut R) -> Result<String, AllocError>
         ensures text { IfOk result (λ text.
             string_bytes text ≡ encoded_text (value_of self.now)) }
     {
-        let salt = base64_text(alloc, &self.salt)?;
-        let tag = base64_text(alloc, &self.tag)?;
-        let mut text = String::new(alloc);
-        text.push_str("$argon2")?;
-        text.push_str(kind_name(self.kind))?;
-        push_number(alloc, &mut text, "$v=", self.version)?;
-        push_number(alloc, &mut text, "$m=", self.memory)?;
-        push_number(alloc, &mut text, ",t=", self.passes)?;
-        push_number(alloc, &mut text, ",p=", self.lanes)?;
-        push_part(&mut text, &salt)?;
-        push_part(&mut text, &tag)?;
+        let salt = room.symbols(&self.salt)?;
+        let tag = room.symbols(&self.tag)?;
+        let mut text = room.no_text();
+        room.push(&mut text, "$argon2")?;
+        room.push(&mut text, kind_name(self.kind))?;
+        push_number(room, &mut text, "$v=", self.version)?;
+        push_number(room, &mut text, "$m=", self.memory)?;
+        push_number(room, &mut text, ",t=", self.passes)?;
+        push_number(room, &mut text, ",p=", self.lanes)?;
+        push_part(room, &mut text, &salt)?;
+        push_part(room, &mut text, &tag)?;
         Ok(text)
     }
 }
@@ -98,30 +112,26 @@ fn kind_name(kind: Kind) -> &'static str
     }
 }
 
-// Base64 in the standard alphabet, without padding (RFC 4648, 4 and 3.2).
-#[tactic(auto, unfolding(crate::specs::EncodedText::base64_text))]
-fn base64_text(alloc: Global, bytes: &[u8]) -> Result<String, AllocError>
-    ensures text { IfOk result (λ text. string_bytes text ≡ base64_text bytes.now) }
-{
-    STANDARD_NO_PAD.encode(alloc, bytes)
-}
-
 // Appends a label and a number in decimal.
-fn push_number(alloc: Global, text: &mut String, label: &str, number: u32) -> Result<(), AllocError>
+fn push_number<R: TextRoom>(
+    room: &mut R,
+    text: &mut String,
+    label: &str,
+    number: u32,
+) -> Result<(), AllocError>
     ensures appends { OnOk result
         (string_bytes text.new ≡ string_bytes text.old ++ label.now ++ decimal number) }
 {
-    text.push_str(label)?;
-    text.push_str(&number.to_string(alloc)?)?;
-    Ok(())
+    room.push(text, label)?;
+    let digits = room.digits(number)?;
+    room.push(text, &digits)
 }
 
 // Appends a base64 part and the mark before it.
-fn push_part(text: &mut String, part: &str) -> Result<(), AllocError>
+fn push_part<R: TextRoom>(room: &mut R, text: &mut String, part: &str) -> Result<(), AllocError>
     ensures appends { OnOk result
         (string_bytes text.new ≡ string_bytes text.old ++ codes "$" ++ part.now) }
 {
-    text.push_str("$")?;
-    text.push_str(part)?;
-    Ok(())
+    room.push(text, "$")?;
+    room.push(text, part)
 }

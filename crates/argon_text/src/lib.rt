@@ -15,6 +15,7 @@ mod read;
 mod room;
 #[cfg(test)]
 mod tests;
+mod text_room;
 #[cfg(test)]
 mod vectors;
 mod verifying;

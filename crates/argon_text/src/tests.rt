@@ -11,6 +11,7 @@ mod refusing;
 mod verifying;
 mod version_0x10;
 
+use self::refusing::RefusingText;
 use crate::{Encoded, put_tag};
 use argon::Kind;
 use std::alloc::{AllocError, Global};
@@ -124,7 +125,9 @@ fn puts_a_tag_into_a_text(rt: HostRuntime) -> Result<(), Fail> {
     Ok(())
 }
 
-// Under a refused growth (`rt try --test --fail-alloc N`) what stood in the vector stays as it was.
+// Each of the 21 requests for room refused in turn: what stood in the list stays as it was. They are two for the symbols
+// of salt and tag, two for the name of the type, three for each of the four numbers, two for each of the two parts behind
+// them, and one for the list.
 #[test]
 fn writes_all_or_nothing(rt: HostRuntime) -> Result<(), Fail> {
     let alloc = rt.alloc();
@@ -137,13 +140,19 @@ fn writes_all_or_nothing(rt: HostRuntime) -> Result<(), Fail> {
         b"somesalt",
         &[0x79, 0x3f, 0xf6, 0x94],
     )?;
-    let mut out = b"before: ".to_vec(alloc)?;
     let whole = b"before: $argon2d$v=19$m=8,t=1,p=1$c29tZXNhbHQ$eT/2lA".as_slice();
-    let expected = if value.write(&mut out).is_ok() {
-        whole
-    } else {
-        b"before: ".as_slice()
-    };
-    assert_eq!(rt; out.as_slice(), expected);
+    for refused in 1..=22u32 {
+        let mut room = RefusingText {
+            alloc,
+            asked: 0,
+            refused,
+        };
+        let mut out = b"before: ".to_vec(alloc)?;
+        let is_written = value.write_in(&mut room, &mut out).is_ok();
+        assert_eq!(rt; is_written, refused == 22, "{refused}");
+        assert_eq!(rt; room.asked, refused.min(21), "{refused}");
+        let expected = if is_written { whole } else { &whole[..8] };
+        assert_eq!(rt; out.as_slice(), expected, "{refused}");
+    }
     Ok(())
 }

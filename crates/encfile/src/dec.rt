@@ -1,5 +1,5 @@
 //! Decryption in pieces.
-ghost use Rattle.std.specs.Prelude.{◌≡◌, ℕ, ◌+◌, ◌-◌, ◌*◌, ◌^◌, ◌<◌, ◌≤◌, ◌++◌, List, [], length, take, IfOk, OnOk, OnErr};
+ghost use Rattle.std.specs.Prelude.{◌≡◌, ℕ, ◌+◌, ◌-◌, ◌*◌, ◌^◌, ◌<◌, ◌≤◌, ◌++◌, List, [], length, take, drop, IfOk, OnOk, OnErr};
 ghost use Rattle.romix.specs.Costs.{cores};
 ghost use Rattle.romix.specs.Sparse.{sparse_cores};
 ghost use Rattle.romix.specs.SparseCosts.{cores_bound};
@@ -76,8 +76,8 @@ impl Dec {
     }
 
     /// Reads the next bytes of the file, and answers how many bytes of text it released, which are
-    /// the first of `out`; the others of `out` are in no promised state. `out` is at least 32 bytes
-    /// longer than the piece.
+    /// the first of `out`. `out` is at least 32 bytes longer than the piece: so many of it are in no
+    /// promised state, and the rest of `out` stays.
     ///
     /// It refuses the piece where the bytes behind the first 96 would reach 2^60 + 32. After a
     /// refusal `out` and the decryption are as they were.
@@ -90,6 +90,7 @@ impl Dec {
             → released_text file passphrase ++ take n out.new
             ≡ released_text (file ++ piece.now) passphrase) }
         ensures within { IfOk result (λ n. n ≤ length piece.now) }
+        ensures rest { drop (length piece.now + 32) out.new ≡ drop (length piece.now + 32) out.old }
         ensures fits { OnOk result ((passphrase file : List ℕ) → HasRead self.old passphrase file
             → length file + length piece.now < 2 ^ 60 + 128) }
         // all but the last 32 bytes, which the final code is compared with

@@ -1,5 +1,5 @@
 //! The last bytes that were read of a file: they may be its final code.
-ghost use Rattle.std.specs.Prelude.{◌≡◌, ◌+◌, ◌-◌, ◌≤◌, ◌++◌, ◌↔◌, [], length, take, IsTrue};
+ghost use Rattle.std.specs.Prelude.{◌≡◌, ◌+◌, ◌-◌, ◌≤◌, ◌++◌, ◌↔◌, [], length, take, drop, IsTrue};
 
 use comparison::are_same;
 use std::marker::Model;
@@ -44,12 +44,13 @@ impl Held {
     }
 
     // Adds the piece, moves all but the last 32 bytes to the front of `out`, and answers how many
-    // it moved. What is behind them in `out` isn't promised.
+    // it moved. What is behind them in `out` isn't promised, as far as there are bytes; the rest of `out` stays.
     pub(crate) fn take_in(&mut self, piece: &[u8], out: &mut [u8]) -> usize
         requires room { length piece.now + 32 ≤ length out.old }
         ensures moved { result ≡ length self.old + length piece.now - 32 }
         ensures few { length self.new ≤ 32 }
         ensures joined { take result out.new ++ self.new ≡ self.old ++ piece.now }
+        ensures rest { drop (length self.old + length piece.now) out.new ≡ drop (length self.old + length piece.now) out.old }
     {
         let len = self.len + piece.len();
         out[..self.len].copy_from_slice(&self.bytes[..self.len]);

@@ -7,6 +7,7 @@
 
 mod asked;
 mod flow;
+mod growth;
 mod host;
 mod memory;
 mod named_secret;

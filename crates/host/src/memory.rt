@@ -1,11 +1,14 @@
 //! A host in memory.
-ghost use Rattle.std.specs.Prelude.{◌≡◌, ◌<◌, ◌≤◌, ◌==◌, ℕ, true, List, take, drop, length, min, map, option_map, Some, IfOk, OnOk, OnErr, string_bytes, bytes_eq, if◌then◌else◌};
+ghost use Rattle.std.specs.Prelude.{◌≡◌, ◌-◌, ◌^◌, ◌<◌, ◌≤◌, ◌==◌, ℕ, true, List, take, drop, length, min, map, option_map, Some, IfOk, OnOk, OnErr, string_bytes, bytes_eq, if◌then◌else◌};
 ghost use Rattle.host.specs.Asked.{asked_source};
+ghost use Rattle.host.specs.Faults.{AreBelow, input_failed, line_failed, output_failed};
 ghost use Rattle.host.specs.Memory.{Memory, lookup, memory_seen, memory_faults, new_memory, with_variable, with_file};
 ghost use Rattle.host.specs.Inside.Calls.{next_call};
 ghost use Rattle.host.specs.Secret.{secret_of};
+ghost use Rattle.host.specs.Seen.{after_open_input, after_open_output, after_push, after_say};
 
 use crate::asked::Asked;
+use crate::growth::Growth;
 use crate::host::{Host, HostFault, Source};
 use crate::named_secret::{NamedSecret, find, put_first};
 use std::alloc::{AllocError, Global};
@@ -116,7 +119,8 @@ impl MemoryHost {
             then Some bytes.items else lookup self.old.variables asked)) }
         ensures err { OnErr result (self.new ≡ self.old) }
     {
-        put_first(&mut self.variables, name, bytes)
+        let mut growth = self.alloc;
+        put_first(&mut growth, &mut self.variables, name, bytes)
     }
 
     /// Gives the secret file `name` its bytes. Where a name is given again, the later bytes count.
@@ -127,7 +131,8 @@ impl MemoryHost {
             then Some bytes.items else lookup self.old.files asked)) }
         ensures err { OnErr result (self.new ≡ self.old) }
     {
-        put_first(&mut self.files, name, bytes)
+        let mut growth = self.alloc;
+        put_first(&mut growth, &mut self.files, name, bytes)
     }
 
     /// Sets the greatest number of bytes of a pull and of a push, each at least 1.
@@ -198,6 +203,89 @@ impl MemoryHost {
         }
         self.calls == self.failing
     }
+
+    // Opens the input, with memory from `growth`.
+    fn open_input_with<G: Growth>(
+        &mut self,
+        growth: &mut G,
+        name: Option<&str>,
+    ) -> Result<(), HostFault>
+        requires room { AreBelow (2 ^ 64 - 1) (memory_faults self.old) }
+        ensures counts { OnOk result (memory_faults self.new ≡ memory_faults self.old) }
+        ensures counted { OnErr result (memory_faults self.new ≡ input_failed (memory_faults self.old)) }
+        ensures kept { OnErr result (memory_seen self.new ≡ memory_seen self.old) }
+        ensures opened { OnOk result (memory_seen self.new
+            ≡ after_open_input (option_map (λ n. n.now) name.entry) (memory_seen self.old)) }
+    {
+        if !self.is_failing()
+            && let Ok(kept) = keep_name(growth, name)
+        {
+            self.input_name = Some(kept);
+            return Ok(());
+        }
+        self.input_faults += 1;
+        Err(HostFault)
+    }
+
+    // Opens the output, with memory from `growth`.
+    fn open_output_with<G: Growth>(
+        &mut self,
+        growth: &mut G,
+        name: Option<&str>,
+    ) -> Result<(), HostFault>
+        requires room { AreBelow (2 ^ 64 - 1) (memory_faults self.old) }
+        ensures counts { OnOk result (memory_faults self.new ≡ memory_faults self.old) }
+        ensures counted { OnErr result (memory_faults self.new ≡ output_failed (memory_faults self.old)) }
+        ensures kept { OnErr result (memory_seen self.new ≡ memory_seen self.old) }
+        ensures opened { OnOk result (memory_seen self.new
+            ≡ after_open_output (option_map (λ n. n.now) name.entry) (memory_seen self.old)) }
+    {
+        if !self.is_failing()
+            && let Ok(kept) = keep_name(growth, name)
+        {
+            self.output_name = Some(kept);
+            return Ok(());
+        }
+        self.output_faults += 1;
+        Err(HostFault)
+    }
+
+    // Takes a beginning of the bytes, with memory from `growth`.
+    fn push_with<G: Growth>(&mut self, growth: &mut G, bytes: &[u8]) -> Result<usize, HostFault>
+        requires room { AreBelow (2 ^ 64 - 1) (memory_faults self.old) }
+        ensures bound { IfOk result (λ n. n ≤ length bytes.now) }
+        ensures some { IfOk result (λ n. 0 < length bytes.now → 0 < n) }
+        ensures counts { OnOk result (memory_faults self.new ≡ memory_faults self.old) }
+        ensures counted { OnErr result (memory_faults self.new ≡ output_failed (memory_faults self.old)) }
+        ensures kept { OnErr result (memory_seen self.new ≡ memory_seen self.old) }
+        ensures put { IfOk result (λ n. memory_seen self.new
+            ≡ after_push (take n bytes.now) (memory_seen self.old)) }
+    {
+        let n = bytes.len().min(self.push_size);
+        if self.is_failing() || growth.append(&mut self.output, &bytes[..n]).is_err() {
+            self.output_faults += 1;
+            return Err(HostFault);
+        }
+        Ok(n)
+    }
+
+    // Says a line, with memory from `growth`.
+    fn say_with<G: Growth>(&mut self, growth: &mut G, line: &str) -> Result<(), HostFault>
+        requires room { AreBelow (2 ^ 64 - 1) (memory_faults self.old) }
+        ensures counts { OnOk result (memory_faults self.new ≡ memory_faults self.old) }
+        ensures counted { OnErr result (memory_faults self.new ≡ line_failed (memory_faults self.old)) }
+        ensures kept { OnErr result (memory_seen self.new ≡ memory_seen self.old) }
+        ensures said { OnOk result (memory_seen self.new ≡ after_say line.now (memory_seen self.old)) }
+    {
+        if !self.is_failing()
+            && let Ok(kept) = growth.copy_of(line)
+            && growth.add_line(&mut self.lines, kept).is_ok()
+        {
+            return Ok(());
+        }
+        self.line_faults += 1;
+        Err(HostFault)
+    }
 }
 
 // A name as it was kept.
@@ -212,21 +300,22 @@ fn name_kept(name: &Option<Option<String>>) -> Option<Option<&str>>
     }
 }
 
-// A name to be kept.
-fn keep_name(alloc: Global, name: Option<&str>) -> Result<Option<String>, AllocError>
+// A name to be kept, with memory from `growth`.
+fn keep_name<G: Growth>(growth: &mut G, name: Option<&str>) -> Result<Option<String>, AllocError>
     ensures kept { IfOk result (λ kept.
         option_map string_bytes kept ≡ option_map (λ n. n.now) name.entry) }
 {
     match name {
         None => Ok(None),
-        Some(text) => Ok(Some(String::from_str(alloc, text)?)),
+        Some(text) => Ok(Some(growth.copy_of(text)?)),
     }
 }
 
-// Copies as many of the bytes as fit, and says how many.
+// Copies as many of the bytes as fit, and says how many. What is behind them in the buffer stays.
 fn fill(bytes: &[u8], buf: &mut [u8]) -> usize
     ensures count { result ≡ min (length bytes.now) (length buf.old) }
     ensures same { take result buf.new ≡ take result bytes.now }
+    ensures rest { drop result buf.new ≡ drop result buf.old }
 {
     let n = bytes.len().min(buf.len());
     buf[..n].copy_from_slice(&bytes[..n]);
@@ -241,25 +330,13 @@ impl Host for MemoryHost {
     ghost faults = { memory_faults };
 
     fn open_input(&mut self, name: Option<&str>) -> Result<(), HostFault> {
-        if !self.is_failing()
-            && let Ok(kept) = keep_name(self.alloc, name)
-        {
-            self.input_name = Some(kept);
-            return Ok(());
-        }
-        self.input_faults += 1;
-        Err(HostFault)
+        let mut growth = self.alloc;
+        self.open_input_with(&mut growth, name)
     }
 
     fn open_output(&mut self, name: Option<&str>) -> Result<(), HostFault> {
-        if !self.is_failing()
-            && let Ok(kept) = keep_name(self.alloc, name)
-        {
-            self.output_name = Some(kept);
-            return Ok(());
-        }
-        self.output_faults += 1;
-        Err(HostFault)
+        let mut growth = self.alloc;
+        self.open_output_with(&mut growth, name)
     }
 
     fn pull(&mut self, buf: &mut [u8]) -> Result<usize, HostFault> {
@@ -274,12 +351,8 @@ impl Host for MemoryHost {
     }
 
     fn push(&mut self, bytes: &[u8]) -> Result<usize, HostFault> {
-        let n = bytes.len().min(self.push_size);
-        if self.is_failing() || self.output.extend_from_slice(&bytes[..n]).is_err() {
-            self.output_faults += 1;
-            return Err(HostFault);
-        }
-        Ok(n)
+        let mut growth = self.alloc;
+        self.push_with(&mut growth, bytes)
     }
 
     fn secret(&mut self, source: Source<'_>, buf: &mut [u8]) -> Result<usize, HostFault> {
@@ -304,16 +377,13 @@ impl Host for MemoryHost {
     }
 
     fn say(&mut self, line: &str) -> Result<(), HostFault> {
-        if !self.is_failing()
-            && let Ok(kept) = String::from_str(self.alloc, line)
-            && self.lines.push(kept).is_ok()
-        {
-            return Ok(());
-        }
-        self.line_faults += 1;
-        Err(HostFault)
+        let mut growth = self.alloc;
+        self.say_with(&mut growth, line)
     }
 }
+
+#[cfg(test)]
+mod refusing;
 
 #[cfg(test)]
 mod tests {

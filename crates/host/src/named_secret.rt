@@ -2,6 +2,7 @@
 ghost use Rattle.std.specs.Prelude.{◌≡◌, ◌∷◌, OnOk, OnErr, option_map, string_bytes, bytes_eq};
 ghost use Rattle.host.specs.Memory.{Entry, lookup};
 
+use crate::growth::Growth;
 use std::alloc::AllocError;
 use std::marker::Model;
 
@@ -32,8 +33,9 @@ impl NamedSecret {
     }
 }
 
-// Puts a secret before the others.
-pub fn put_first(
+// Puts a secret before the others, with memory from `growth`.
+pub(crate) fn put_first<G: Growth>(
+    growth: &mut G,
     entries: &mut Vec<NamedSecret>,
     name: String,
     bytes: Vec<u8>,
@@ -42,8 +44,7 @@ pub fn put_first(
         record { name = string_bytes name; bytes = bytes.items } ∷ entries.old.items) }
     ensures err { OnErr result (entries.new.items ≡ entries.old.items) }
 {
-    entries.insert(0, NamedSecret { name, bytes })?;
-    Ok(())
+    growth.add_first(entries, NamedSecret { name, bytes })
 }
 
 // The bytes of the first entry of this name.

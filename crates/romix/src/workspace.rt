@@ -1,10 +1,10 @@
 //! The memory of a derivation, and the derivation.
-ghost use Rattle.std.specs.Prelude.{◌≡◌, ◌+◌, ◌-◌, ◌*◌, ◌^◌, ◌≤◌, length, IfOk};
+ghost use Rattle.std.specs.Prelude.{◌≡◌, ◌+◌, ◌-◌, ◌*◌, ◌^◌, ◌<◌, ◌≤◌, ◌⊎◌, length, IfOk, OnOk, OnErr};
 ghost use Rattle.romix.specs.Costs.{cores};
 ghost use Rattle.romix.specs.Scrypt.{scrypt};
 ghost use Rattle.romix.specs.Sparse.{sparse_cores};
 ghost use Rattle.romix.specs.SparseCosts.{SparseFitsMemory, cores_bound};
-ghost use Rattle.romix.specs.Workspace.{HasLengths};
+ghost use Rattle.romix.specs.Workspace.{HasLengths, after_rows};
 
 use crate::parts::mix_parts;
 use crate::reservation::Reservation;
@@ -57,6 +57,14 @@ pub(crate) fn reserve_from<R: Reservation>(
     requires memory { SparseFitsMemory sparse.now (2 ^ 40) }
     ensures sparse { IfOk result (λ w. w.sparse ≡ sparse.now) }
     ensures lengths { IfOk result (λ w. HasLengths w) }
+    // The table and two rows are asked for, each once, and one row more if not every row is kept.
+    ensures two_rows { sparse.now.keep ≡ 1 → OnOk result (source.new ≡ after_rows R.after_words sparse.now source.old 2) }
+    ensures three_rows { 1 < sparse.now.keep → OnOk result (source.new ≡ after_rows R.after_words sparse.now source.old 3) }
+    // After a refusal nothing more is asked for.
+    ensures refused { OnErr result ((source.new ≡ after_rows R.after_words sparse.now source.old 0)
+        ⊎ (source.new ≡ after_rows R.after_words sparse.now source.old 1)
+        ⊎ (source.new ≡ after_rows R.after_words sparse.now source.old 2)
+        ⊎ ((1 < sparse.now.keep) × (source.new ≡ after_rows R.after_words sparse.now source.old 3))) }
 {
     let row_len = 32 * sparse.costs().r() as usize;
     let table = source.zero_words((sparse.table_bytes() / 4) as usize)?;

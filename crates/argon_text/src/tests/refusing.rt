@@ -1,7 +1,8 @@
-//! A source of memory that refuses one request.
+//! Sources of memory that refuse one request.
 ghost use Rattle.std.specs.Prelude.{◌≡◌, ◌-◌};
 
 use crate::room::Room;
+use crate::text_room::TextRoom;
 use argon::{Matrix, Params};
 use base64::DecodeAllocError;
 use std::alloc::{AllocError, Global};
@@ -48,5 +49,55 @@ impl Room for Refusing {
         }
         let mut alloc = self.alloc;
         alloc.matrix(params, max_kib, max_ops)
+    }
+}
+
+/// Grants all requests for a text but one, which is counted from 1.
+#[derive(Drop)]
+pub struct RefusingText {
+    pub alloc: Global,
+    pub asked: u32,
+    pub refused: u32,
+}
+
+impl RefusingText {
+    // Whether a request is granted.
+    fn grants(&mut self) -> bool {
+        self.asked = self.asked.saturating_add(1);
+        self.asked != self.refused
+    }
+}
+
+impl TextRoom for RefusingText {
+    fn no_text(&self) -> String {
+        self.alloc.no_text()
+    }
+
+    fn symbols(&mut self, bytes: &[u8]) -> Result<String, AllocError> {
+        if !self.grants() {
+            return Err(AllocError);
+        }
+        self.alloc.symbols(bytes)
+    }
+
+    fn digits(&mut self, number: u32) -> Result<String, AllocError> {
+        if !self.grants() {
+            return Err(AllocError);
+        }
+        self.alloc.digits(number)
+    }
+
+    fn push(&mut self, text: &mut String, part: &str) -> Result<(), AllocError> {
+        if !self.grants() {
+            return Err(AllocError);
+        }
+        self.alloc.push(text, part)
+    }
+
+    fn append(&mut self, list: &mut Vec<u8>, bytes: &[u8]) -> Result<(), AllocError> {
+        if !self.grants() {
+            return Err(AllocError);
+        }
+        self.alloc.append(list, bytes)
     }
 }

@@ -1,5 +1,5 @@
 //! Derivations over sparse tables, what they count, and each growth refused in turn.
-ghost use Rattle.std.specs.Prelude.{◌≡◌, ◌≤◌};
+ghost use Rattle.std.specs.Prelude.{◌≡◌, ◌-◌, ◌≤◌};
 
 use super::{SCRYPT_CASES, sparse_workspace};
 use crate::reservation::Reservation;
@@ -112,26 +112,38 @@ fn vectors_whose_counts_are_proved(rt: HostRuntime) -> Result<(), Fail> {
     Ok(())
 }
 
-// A source that refuses the request after so many.
+// A source that grants so many requests and refuses the others. Of ten it counts how many are not made, and it keeps the
+// length of the last.
 #[derive(Drop)]
 struct Refusing {
     alloc: Global,
-    left: u32,
+    granted: usize,
+    unasked: usize,
+    last: usize,
 }
 
 impl Refusing {
-    fn next(&mut self) -> Result<(), AllocError> {
-        if self.left == 0 {
-            return Err(AllocError);
-        }
-        self.left -= 1;
-        Ok(())
+    // Whether a request for so many words is granted.
+    fn grants(&mut self, len: usize) -> bool
+        ensures asked { self.new ≡ record self.old
+            { granted = self.old.granted - 1; unasked = self.old.unasked - 1; last = len } }
+    {
+        let grants = self.granted > 0;
+        self.granted = self.granted.saturating_sub(1);
+        self.unasked = self.unasked.saturating_sub(1);
+        self.last = len;
+        grants
     }
 }
 
 impl Reservation for Refusing {
+    ghost after_words = { λ source len. record source
+        { granted = source.granted - 1; unasked = source.unasked - 1; last = len } };
+
     fn zero_words(&mut self, len: usize) -> Result<Vec<u32>, AllocError> {
-        self.next()?;
+        if !self.grants(len) {
+            return Err(AllocError);
+        }
         vec![in self.alloc; 0; len]
     }
 
@@ -140,25 +152,45 @@ impl Reservation for Refusing {
     }
 }
 
-// Three requests where every row is kept, and four otherwise.
+// Each request is refused in turn, and nothing is asked for after it: the table and two rows where every row is kept,
+// and a third row otherwise. With N = 16 and r = 1 a row has 32 words.
 #[test]
 fn each_growth_may_be_refused(rt: HostRuntime) -> Result<(), Fail> {
-    for (keep, requests) in [(1u64, 3u32), (2, 4), (16, 4)] {
+    let rows: [(u64, &[usize]); 4] = [
+        (1, &[512, 32, 32]),
+        (2, &[256, 32, 32, 32]),
+        (4, &[128, 32, 32, 32]),
+        (16, &[32, 32, 32, 32]),
+    ];
+    for (keep, requests) in rows {
         let sparse = Sparse::new(&Costs::new(4, 1, 1)?, keep)?;
         sparse.admitted(&Limits {
             max_bytes: 2048,
             max_ops: 544,
         })?;
-        for left in 0..=5u32 {
+        for granted in 0..=requests.len() {
             let mut source = Refusing {
                 alloc: rt.alloc(),
-                left,
+                granted,
+                unasked: 10,
+                last: 0,
             };
-            let workspace = reserve_from(&mut source, &sparse);
+            let is_reserved = reserve_from(&mut source, &sparse).is_ok();
             assert_eq!(rt;
-                workspace.is_ok(),
-                left >= requests,
-                "with {keep}, {left} requests granted"
+                is_reserved,
+                granted == requests.len(),
+                "with {keep}, {granted}"
+            );
+            let asked = requests.len().min(granted.saturating_add(1));
+            assert_eq!(rt;
+                source.unasked,
+                10usize.saturating_sub(asked),
+                "with {keep}, {granted}"
+            );
+            assert_eq!(rt;
+                Some(&source.last),
+                requests[..asked].last(),
+                "with {keep}, {granted}"
             );
         }
     }

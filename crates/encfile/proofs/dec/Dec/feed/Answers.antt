@@ -1,5 +1,6 @@
-use Rattle.std.proofs.Common.{◌≡◌, ℕ, ◌+◌, ◌-◌, ◌<◌, ◌^◌, List, ◌++◌, length, take, drop, arith, refl, ap, ◌∙◌, subst, append_assoc, length-append, length-take}
-use Rattle.std.proofs.lemmas.List.{take_at}
+use Rattle.std.proofs.Common.{◌≡◌, ℕ, ◌+◌, ◌-◌, ◌<◌, ◌≤◌, ◌^◌, List, ◌++◌, length, take, drop, arith, refl, ap, sym, ◌∙◌, subst, append_assoc, length-append, length-take}
+use Rattle.std.proofs.lemmas.List.{drop-drop, take_at}
+use Rattle.std.proofs.lemmas.Slice.{drop-append-drop}
 use Rattle.macs.specs.Hmac.{Holds}
 use Rattle.aes_ctr.specs.CounterMode.{KeyStreamPlace}
 use Rattle.encfile.specs.EncryptedFile.{cipher_key, code_key, head, released_text}
@@ -61,3 +62,19 @@ returns-clause-released c passphrase file h =
     ∙ released_text-more file (file ++ piece) passphrase h.salt h.costs h.done h.held (take n out) c.take_in-released.new.self c.apply.new.bytes c.args.self.now.ctr h.split
     (IsSplit-more file passphrase h.salt h.costs h.done h.held piece (take n out) c.take_in-released.new.self h.split joined count c.take_in-released.ensures.few)
     h.state.cipher c.apply.ensures.xored
+
+pub returns-clause-rest : goal.returns-clause-rest
+returns-clause-rest c =
+    let piece : List ℕ = c.args.piece.now in
+    let n : ℕ = c.take_in-released.result in
+    let out : List ℕ = c.take_in-released.new.out in
+    let before : ℕ = length c.args.self.now.held + length piece in
+    let most : ℕ = length piece + 32 in
+    let few : length c.args.self.now.held ≤ 32 = omega (arith, c.len.ensures.len, c.len.ensures.few) in
+    let whole : before + (most - before) ≡ most = omega (arith, few) in
+    let long : length c.apply.new.bytes ≡ n =
+    omega (arith, length-take n out, c.apply.auto.bytes, c.take_in-released.ensures.moved, c.take_in-released.auto.out, c.requires.room, few) in
+    drop-append-drop n out c.apply.new.bytes most (omega (arith, c.take_in-released.ensures.moved, few)) long
+    ∙ ap (λ i. drop i out) (sym whole) ∙ sym (drop-drop (most - before) before out)
+    ∙ ap (drop (most - before)) c.take_in-released.ensures.rest
+    ∙ drop-drop (most - before) before c.args.out.now ∙ ap (λ i. drop i c.args.out.now) whole

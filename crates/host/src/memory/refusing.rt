@@ -1,0 +1,129 @@
+//! Each growth of a host in memory refused in turn.
+use super::MemoryHost;
+use crate::growth::Growth;
+use crate::host::Host;
+use crate::named_secret::{NamedSecret, find, put_first};
+use std::alloc::{AllocError, Global};
+use std::test::Fail;
+
+// Grants all requests but one, which is counted from 1.
+#[derive(Drop)]
+struct Refusing {
+    alloc: Global,
+    asked: u32,
+    refused: u32,
+}
+
+impl Refusing {
+    // Whether a request is granted.
+    fn grants(&mut self) -> bool {
+        self.asked = self.asked.saturating_add(1);
+        self.asked != self.refused
+    }
+}
+
+impl Growth for Refusing {
+    fn copy_of(&mut self, text: &str) -> Result<String, AllocError> {
+        if !self.grants() {
+            return Err(AllocError);
+        }
+        self.alloc.copy_of(text)
+    }
+
+    fn append(&mut self, list: &mut Vec<u8>, bytes: &[u8]) -> Result<(), AllocError> {
+        if !self.grants() {
+            return Err(AllocError);
+        }
+        self.alloc.append(list, bytes)
+    }
+
+    fn add_line(&mut self, lines: &mut Vec<String>, line: String) -> Result<(), AllocError> {
+        if !self.grants() {
+            return Err(AllocError);
+        }
+        self.alloc.add_line(lines, line)
+    }
+
+    fn add_first(
+        &mut self,
+        entries: &mut Vec<NamedSecret>,
+        entry: NamedSecret,
+    ) -> Result<(), AllocError> {
+        if !self.grants() {
+            return Err(AllocError);
+        }
+        self.alloc.add_first(entries, entry)
+    }
+}
+
+// A call for which a host in memory grows.
+#[derive(Clone, Copy, Debug, PartialEq, Eq)]
+enum Call {
+    SetVariable,
+    SetFile,
+    OpenInput,
+    OpenOutput,
+    Push,
+    Say,
+}
+
+// What a new host tells of the call after it, whether it answered, and how often it asked.
+#[derive(Drop)]
+struct Told {
+    is_done: bool,
+    is_seen: bool,
+    asked: u32,
+}
+
+fn told_of(alloc: Global, call: Call, refused: u32) -> Result<Told, AllocError> {
+    let mut growth = Refusing {
+        alloc,
+        asked: 0,
+        refused,
+    };
+    let name = String::from_str(alloc, "pw")?;
+    let bytes = b"secret".to_vec(alloc)?;
+    let mut host = MemoryHost::new(alloc, Vec::new(alloc), Vec::new(alloc), [7; 32]);
+    let is_done = match call {
+        Call::SetVariable => put_first(&mut growth, &mut host.variables, name, bytes).is_ok(),
+        Call::SetFile => put_first(&mut growth, &mut host.files, name, bytes).is_ok(),
+        Call::OpenInput => host.open_input_with(&mut growth, Some("in")).is_ok(),
+        Call::OpenOutput => host.open_output_with(&mut growth, Some("out")).is_ok(),
+        Call::Push => host.push_with(&mut growth, b"text").is_ok(),
+        Call::Say => host.say_with(&mut growth, "line").is_ok(),
+    };
+    let is_seen = match call {
+        Call::SetVariable => find(&host.variables, "pw").is_some(),
+        Call::SetFile => find(&host.files, "pw").is_some(),
+        Call::OpenInput => host.input_name() == Some(Some("in")),
+        Call::OpenOutput => host.output_name() == Some(Some("out")),
+        Call::Push => host.output() == b"text".as_slice(),
+        Call::Say => host.lines().len() == 1,
+    };
+    Ok(Told {
+        is_done,
+        is_seen,
+        asked: growth.asked,
+    })
+}
+
+// A call whose growth is refused tells so and leaves nothing behind: a line takes two, any other call one.
+#[test]
+fn each_growth_is_refused(rt: HostRuntime) -> Result<(), Fail> {
+    for (call, growths) in [
+        (Call::SetVariable, 1u32),
+        (Call::SetFile, 1),
+        (Call::OpenInput, 1),
+        (Call::OpenOutput, 1),
+        (Call::Push, 1),
+        (Call::Say, 2),
+    ] {
+        for refused in 1..=growths + 1 {
+            let told = told_of(rt.alloc(), call, refused)?;
+            assert_eq!(rt; told.is_done, refused > growths, "{call:?}, {refused}");
+            assert_eq!(rt; told.is_seen, told.is_done, "{call:?}, {refused}");
+            assert_eq!(rt; told.asked, refused.min(growths), "{call:?}, {refused}");
+        }
+    }
+    Ok(())
+}
