@@ -1,6 +1,6 @@
 -- What contracts see of a workspace.
-use Rattle.std.specs.Prelude.{◌≡◌, ℕ, zero, suc, ◌*◌, ◌/◌, ◌^◌, ◌<◌}
-use Rattle.romix.specs.SparseCosts.{SparseParameters, sparse_table_bytes}
+use Rattle.std.specs.Prelude.{◌≡◌, ℕ, ◌*◌, ◌/◌, ◌^◌, ◌<◌}
+use Rattle.romix.specs.SparseCosts.{SparseParameters}
 
 -- its costs and S, and the lengths of what it holds, in words of four bytes
 pub record Memory : Type 0 where
@@ -18,9 +18,3 @@ pub record HasLengths (m : Memory) : Type 0 where
   pub other_row : m.other_row_words ≡ 32 * m.sparse.costs.r
   pub no_spare_row : m.sparse.keep ≡ 1 → m.spare_row_words ≡ 0
   pub spare_row : 1 < m.sparse.keep → m.spare_row_words ≡ 32 * m.sparse.costs.r
-
--- what is left of a source that was asked for the words of the table and then for those of so many rows; `after` says what
--- one request for so many words leaves of it
-abbrev pub after_rows : {Source : Type 0} → (Source → ℕ → Source) → SparseParameters → Source → ℕ → Source
-after_rows after s source zero = after source (sparse_table_bytes s / 4)
-after_rows after s source (suc rows) = after (after_rows after s source rows) (32 * s.costs.r)

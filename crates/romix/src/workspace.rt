@@ -4,7 +4,8 @@ ghost use Rattle.romix.specs.Costs.{cores};
 ghost use Rattle.romix.specs.Scrypt.{scrypt};
 ghost use Rattle.romix.specs.Sparse.{sparse_cores};
 ghost use Rattle.romix.specs.SparseCosts.{SparseFitsMemory, cores_bound};
-ghost use Rattle.romix.specs.Workspace.{HasLengths, after_rows};
+ghost use Rattle.romix.specs.Workspace.{HasLengths};
+ghost use Rattle.romix.specs.Inside.Requests.{after_rows};
 
 use crate::parts::mix_parts;
 use crate::reservation::Reservation;
