@@ -61,7 +61,7 @@ pub(crate) fn reserve_from<R: Reservation>(
     // The table and two rows are asked for, each once, and one row more if not every row is kept.
     ensures two_rows { sparse.now.keep ≡ 1 → OnOk result (source.new ≡ after_rows R.after_words sparse.now source.old 2) }
     ensures three_rows { 1 < sparse.now.keep → OnOk result (source.new ≡ after_rows R.after_words sparse.now source.old 3) }
-    // After a refusal nothing more is asked for.
+    // After a refusal a beginning of these was asked for.
     ensures refused { OnErr result ((source.new ≡ after_rows R.after_words sparse.now source.old 0)
         ⊎ (source.new ≡ after_rows R.after_words sparse.now source.old 1)
         ⊎ (source.new ≡ after_rows R.after_words sparse.now source.old 2)
