@@ -66,11 +66,15 @@ def cited(text, names, files, module=None):
 
 
 def contract(crate, name):
-    """The contract of a public function, or all of a trait, and what its file imports."""
+    """The contract of a public function, or all of a trait, and what its file imports: of the crate, or of that from which it
+    hands the function on."""
     for path in sorted((CRATES / crate / "src").glob("**/*.rt")):
         text = path.read_text(encoding="utf-8")
         if found := re.search(rf"(?ms)^pub fn {name}\b.*?^\{{$|^pub trait {name}\b.*?^\}}$", text):
             return found[0], imports(text)
+        found = re.search(rf"(?m)^pub use (\w+)::(?:\{{[^}}]*\b)?{name}\b", text)
+        if found and (CRATES / found[1]).exists():
+            return contract(found[1], name)
     sys.exit(f"no public function or trait {crate}::{name}")
 
 
