@@ -83,7 +83,7 @@ for heading, cells in tables("EXAMPLES.md"):
     if len(cells) == 4 and cells[0].isdigit():
         for part in cells[3].split(";"):
             named = [name for name in IN_BACKTICKS.findall(part) if " " not in name]
-            owner = [named.pop(0)] if named and named[0] in SOURCES else ["command"]
+            owner = [named.pop(0)] if named and named[0] in SOURCES else ["argon2_command", "scrypt_command"]
             for name in named:
                 expect(any(is_function(name, crate) for crate in owner), "EXAMPLES.md", f"row {cells[0]}: {name}")
 
@@ -95,7 +95,7 @@ if picture != (TOP / "docs/proof-map.svg").read_text(encoding="utf-8"):
 for heading, cells in tables("PROMISES.md"):
     if heading == "scrypt" and len(cells) == 3 and cells[0] != "the run":
         for name in IN_BACKTICKS.findall(cells[2]):
-            found = any(is_definition(name, SPECS[crate]) for crate in ("scrypt_run", "command", "encfile"))
+            found = any(is_definition(name, SPECS[crate]) for crate in ("scrypt_run", "scrypt_command", "encfile"))
             expect(found, "PROMISES.md", name)
 
 

@@ -42,9 +42,18 @@ def crates():
     return {line.split(":")[0]: line.split(":")[1].split() for line in lines}
 
 
+def handed_on(crate):
+    """The functions of other crates that a crate hands on as its own."""
+    for owner, names in re.findall(r"^pub use (\w+)::\{?([^;}]*)\}?;", "\n".join(code(crate)), re.MULTILINE):
+        for name in names.split(", "):
+            if name[0].islower() and name in FUNCTIONS.get(owner, {}):
+                yield name, FUNCTIONS[owner][name]
+
+
 CRATES = crates()
 FUNCTIONS = {crate: functions(crate) for crate in CRATES}
 for each, below in CRATES.items():
+    FUNCTIONS[each].update(handed_on(each))
     if "host" in below:
         FUNCTIONS[each]["Host"] = set()
 

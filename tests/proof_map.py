@@ -15,8 +15,9 @@ from xml.sax.saxutils import escape
 from promises import CRATES, ROOT, code, promises, read
 
 WIDTH, COLUMNS = 1200, [(30, 372), (446, 336), (826, 344)]
-PLACES = [["scrypt_run", "encfile", "aes_ctr"], ["host", "tools", "comparison", "romix", "macs"],
-          ["argon_text", "argon", "blake"]]
+PLACES = [["scrypt_command", "scrypt_run", "encfile", "aes_ctr"],
+          ["command_words", "host", "tools", "comparison", "romix", "macs"],
+          ["argon2_command", "argon_text", "argon", "blake"]]
 # Crates without a promise: lemmas, and the programs.
 UNDRAWN = ["four_words", "argon_tool", "scrypt_tool"]
 # Each standard as docs/DEFINITIONS.md names it, below the column of the crates that restate it.
@@ -24,12 +25,14 @@ STANDARDS = [{"FORMAT": "scrypt's file", "SP 800-38A": "CTR mode", "FIPS 197": "
              {"RFC 2104": "HMAC", "RFC 8018": "PBKDF2", "RFC 7914": "scrypt"},
              {"RFC 4648": "base64", "RFC 7693": "BLAKE2b", "RFC 9106": "Argon2"}]
 SYSTEM = "the system's calls"
-STRAIGHT = [("command", "scrypt_run"), ("command", "host"), ("command", "argon_text"), ("scrypt_run", "encfile"),
+STRAIGHT = [("command", "scrypt_command"), ("command", "argon2_command"), ("scrypt_command", "scrypt_run"),
+            ("command_words", "host"), ("argon2_command", "argon_text"), ("scrypt_run", "encfile"),
             ("encfile", "aes_ctr"), ("aes_ctr", "FORMAT"), ("aes_ctr", "SP 800-38A"), ("aes_ctr", "FIPS 197"),
             ("tools", "host"), ("tools", SYSTEM), ("romix", "macs"), ("macs", "RFC 2104"), ("macs", "RFC 8018"),
             ("macs", "RFC 7914"), ("argon_text", "argon"), ("argon", "blake"), ("blake", "RFC 7693"), ("blake", "RFC 9106")]
 # The other arrows, each with the x on which it goes down.
-ASIDE = {("scrypt_run", "host"): 430, ("encfile", "comparison"): 418, ("encfile", "romix"): 418, ("encfile", "FIPS 180-4"): 418,
+ASIDE = {("scrypt_command", "command_words"): 430, ("argon2_command", "command_words"): 797, ("scrypt_run", "host"): 430,
+         ("encfile", "comparison"): 418, ("encfile", "romix"): 418, ("encfile", "FIPS 180-4"): 418,
          ("macs", "FIPS 180-4"): 430, ("encfile", "FORMAT"): 14, ("romix", "RFC 7914"): 797, ("argon_text", "comparison"): 811,
          ("argon_text", "RFC 4648"): 811, ("argon_text", "RFC 9106"): 1186, ("argon", "RFC 9106"): 1186}
 # Colours for a light page and for a dark one: page, box, line, text, soft text, code, headline, standards.
@@ -119,7 +122,7 @@ class Picture:
 def notes(crate):
     """What the crate's code names of the crates below it, and the crates of the kit that it uses."""
     named = {}
-    for owner, many, one in re.findall(r"^use (\w+)::(?:\{(.*)\}|(\w+));", "\n".join(code(crate)), re.MULTILINE):
+    for owner, many, one in re.findall(r"^(?:pub )?use (\w+)::(?:\{(.*)\}|(\w+));", "\n".join(code(crate)), re.MULTILINE):
         named.setdefault(owner, set()).update((many or one).split(", "))
     kit = [each for each in CRATES[crate] if each not in CRATES]
     lines = [f"uses {each}: {', '.join(sorted(named[each]))}" for each in CRATES[crate] if each in CRATES and each in named]

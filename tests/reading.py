@@ -82,10 +82,14 @@ def public(crate):
 
 
 def contract(crate, named):
-    """The contract of a public function, or all of a trait, and what its file imports."""
+    """The contract of a public function, or all of a trait, and what its file imports: of the crate, or of that from which it
+    hands the function on."""
     for name, text, names in public(crate):
         if name == named:
             return text, names
+    root = (CRATES / crate / "src" / "lib.rt").read_text(encoding="utf-8")
+    if found := re.search(rf"(?m)^pub use (\w+)::(?:\{{[^}}]*\b)?{named}\b", root):
+        return contract(found[1], named)
     sys.exit(f"no public function or trait {crate}::{named}")
 
 

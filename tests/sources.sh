@@ -26,24 +26,24 @@ places() {
 expect() {
     text=$1 reason=$2
     shift 2
-    test "$(places "$text")" = "$(test $# = 0 || printf '%s\n' "$@")" || fail "'$text' stands elsewhere: $reason"
+    test "$(places "$text")" = "$(test $# = 0 || printf '%s\n' "$@" | sort)" || fail "'$text' stands elsewhere: $reason"
 }
 expect '.tick()' "the counters tick in the one block function and the one core" \
     crates/argon/src/compression.rt crates/romix/src/salsa20.rt
 expect 'Ticks::new()' "a counter is made by the test of a password and by the commands, each for its one hash or derivation" \
-    crates/argon_text/src/verifying.rt crates/command/src/argon2_command/run.rt \
-    crates/command/src/scrypt_command/run.rt
+    crates/argon2_command/src/run.rt crates/argon_text/src/verifying.rt \
+    crates/scrypt_command/src/run.rt
 
 # Memory is reserved, and work begun, in one place for each way to it, where contracts say what was tested before.
 expect '::reserve(' "only a source of memory reserves, on the condition that limits admit the work" \
-    crates/argon_text/src/room.rt crates/command/src/argon2_command/room.rt crates/scrypt_run/src/admission.rt
+    crates/argon2_command/src/room.rt crates/argon_text/src/room.rt crates/scrypt_run/src/admission.rt
 expect '.allocator()' "no function takes the heap out of what it is lent, but the writing of a text" \
     crates/argon_text/src/encoded.rt
 expect 'vec![in' "lists of a given length are made by the sources of memory alone" crates/argon/src/room.rt \
-    crates/argon/src/room.rt crates/command/src/argon2_command/room.rt crates/romix/src/reservation.rt
+    crates/argon/src/room.rt crates/argon2_command/src/room.rt crates/romix/src/reservation.rt
 expect 'with_capacity(' "room for a given length is asked for by the sources of memory alone, which use lists"
 expect '.hash(' "a hash is made by the test of a password and by argon2" \
-    crates/argon_text/src/verifying.rt crates/command/src/argon2_command/output.rt
+    crates/argon2_command/src/output.rt crates/argon_text/src/verifying.rt
 # Of the system's host, which tells no bytes, no contract sees that a secret or a salt is read twice.
 expect 'read_secret(' "the system reads a secret once" crates/tools/src/system_host.rt
 expect 'read_salt(&' "the system reads a salt once" crates/tools/src/system_host.rt

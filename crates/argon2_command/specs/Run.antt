@@ -1,0 +1,74 @@
+-- A whole run of argon2: what stands at its end.
+use Rattle.std.specs.Prelude.{◌≡◌, ◌⊎◌, ℕ, Bool, List, Option, None, Result, Ok, Err, IsOk, IsTrue}
+use Rattle.host.specs.Output.{IsCutShort, after_writing}
+use Rattle.host.specs.Seen.{Seen, Text, after_ask, stdin_once}
+use Rattle.host.specs.Faults.{Faults}
+use Rattle.host.specs.Lines.{SaysOneLine}
+use Rattle.argon2_command.specs.Refusal.{IsEarly, IsLate, counted_by, line_of}
+use Rattle.argon2_command.specs.Request.{Request, argon2_request}
+use Rattle.argon2_command.specs.Output.{argon2_output, output_for}
+use Rattle.argon2_command.specs.declared.refusal.Argon2Refusal.{Argon2Refusal}
+use Rattle.argon2_command.specs.declared.refusal.Argon2Refusal.TheVariants as refusal
+
+-- standard input is asked for the password where the words are taken, and no source is asked where they are refused
+abbrev pub after_request : Result Request Argon2Refusal → Seen → Seen
+after_request (Ok request) s = after_ask stdin_once s
+after_request (Err r) s = s
+
+-- the host after the words were read, and after the password's source was asked, if it was
+abbrev pub password_asked : List Text → Seen → Seen
+password_asked words before = after_request (argon2_request words) before
+
+-- the run ended with status 0: standard output got the whole output
+pub record Succeeds (words : List Text) (before after : Seen) : Type 0 where
+  pub output : List ℕ
+  pub due : argon2_output words before ≡ Ok output
+  pub written : after ≡ after_writing None output (password_asked words before)
+
+-- the refusal is that of words, password, parameters or limits
+abbrev pub IsDue : Argon2Refusal → List Text → Seen → Seen → Type 0
+IsDue r words before after = (argon2_output words before ≡ Err r) × IsEarly r × (after ≡ password_asked words before)
+
+-- the words are taken, and the host failed to give the password
+abbrev pub FailsPassword : Argon2Refusal → List Text → Seen → Seen → Type 0
+FailsPassword r words before after = (r ≡ refusal.PasswordFault) × IsOk (argon2_request words) × (after ≡ password_asked words before)
+
+-- no refusal was due, and a growth of memory was refused before the output was opened
+abbrev pub LacksMemory : Argon2Refusal → List Text → Seen → Seen → Type 0
+LacksMemory r words before after = (r ≡ refusal.OutOfMemory) × IsOk (argon2_output words before) × (after ≡ password_asked words before)
+
+-- no refusal was due, and the host failed to open standard output or to take all of the output
+pub record FailsOutput (r : Argon2Refusal) (words : List Text) (before after : Seen) : Type 0 where
+  pub is : r ≡ refusal.OutputFault
+  pub output : List ℕ
+  pub due : argon2_output words before ≡ Ok output
+  pub left : (after ≡ password_asked words before) ⊎ IsCutShort None output (password_asked words before) after
+
+-- the run ended with this refusal, whose line isn't said yet
+abbrev pub IsRefused : Argon2Refusal → List Text → Seen → Seen → Type 0
+IsRefused r words before after =
+    IsDue r words before after
+    ⊎ FailsPassword r words before after
+    ⊎ LacksMemory r words before after
+    ⊎ FailsOutput r words before after
+
+-- ---- of every host, also one that tells nothing
+
+-- some standard input gives an output
+abbrev pub SucceedsForSome : List Text → Type 0
+SucceedsForSome words = (stdin : Option (List ℕ)) × IsOk (output_for words stdin)
+
+-- some standard input gives this refusal, or gives an output where memory or the host can still fail
+abbrev pub IsToldForSome : List Text → Argon2Refusal → Type 0
+IsToldForSome words r = (stdin : Option (List ℕ)) × ((output_for words stdin ≡ Err r) ⊎ (IsLate r × IsOk (output_for words stdin)))
+
+-- ---- the end with a refusal
+
+-- the run ended with a refusal: the count that it names rose and no other, and its one line was said
+pub record Refuses (tells : Bool) (words : List Text) (before after : Seen) (faults_before faults_after : Faults)
+    : Type 0 where
+  pub told : Argon2Refusal
+  pub unsaid : Seen
+  pub some_input : IsToldForSome words told
+  pub says : SaysOneLine tells (line_of told) unsaid after (counted_by told faults_before) faults_after
+  pub refused : IsTrue tells → IsRefused told words before unsaid

@@ -1,0 +1,84 @@
+//! What a run writes: the hash, as an encoded text or in hexadecimal.
+ghost use Rattle.std.specs.Prelude.{◌≡◌, ◌+◌, IfOk, IfErr, Ok, length};
+ghost use Rattle.argon.specs.Counts.{work};
+ghost use Rattle.argon2_command.specs.Output.{admitted_parameters, output_line, parameters_of, tag_line};
+ghost use Rattle.argon2_command.specs.Refusal.{IsEarly};
+ghost use Rattle.argon2_command.specs.RequestView.{request_of};
+
+use crate::line::put_tag;
+use crate::password::Password;
+use crate::refusal::Argon2Refusal;
+use crate::request::Request;
+use crate::room::Room;
+use argon::{Inputs, Matrix, Params, Ticks};
+use std::alloc::AllocError;
+
+/// The parameters that a request and a password ask for, in range and admitted by the request's limits.
+pub fn parameters(request: &Request<'_>, password: &Password) -> Result<Params, Argon2Refusal>
+    ensures parameters { result ≡ admitted_parameters (request_of request.now) password.now }
+    ensures value { IfOk result (λ params. params ≡ parameters_of (request_of request.now) password.now) }
+    ensures early { IfErr result IsEarly }
+{
+    let settings = &request.settings;
+    let params = Params::new(
+        settings.kind,
+        settings.version.number(),
+        settings.passes,
+        settings.lanes,
+        settings.memory_kib,
+        settings.tag_length as usize,
+        request.salt.len(),
+        password.as_slice().len(),
+    )?;
+    params.admitted(settings.max_memory_kib, settings.max_ops)?;
+    Ok(params)
+}
+
+// Hashes, and writes the tag over that of the line. It can ask for no memory.
+fn hash_into(
+    line: &mut [u8],
+    tag: &mut [u8],
+    matrix: &mut Matrix,
+    request: &Request<'_>,
+    password: &Password,
+    ticks: &mut Ticks,
+)
+    requires parameters { matrix.old.parameters ≡ parameters_of (request_of request.now) password.now }
+    requires len { length tag.old ≡ matrix.old.parameters.tag_len }
+    requires line { line.old ≡ tag_line (request_of request.now) tag.old }
+    ensures line { line.new ≡ output_line (request_of request.now) password.now matrix.old.parameters }
+    ensures count { ticks.new ≡ ticks.old + work matrix.old.parameters }
+{
+    let inputs = Inputs {
+        password: password.as_slice(),
+        salt: request.salt.as_bytes(),
+        secret: &[],
+        associated: &[],
+    };
+    matrix.hash(&inputs, tag, ticks);
+    put_tag(request, line, tag);
+}
+
+/// The whole output of a run, with its line feed. All memory is taken before the hash: until then the
+/// line is that of a tag of zeros.
+pub fn output<R: Room>(
+    room: &mut R,
+    request: &Request<'_>,
+    password: &Password,
+    params: &Params,
+    ticks: &mut Ticks,
+) -> Result<Vec<u8>, AllocError>
+    requires admitted { admitted_parameters (request_of request.now) password.now ≡ Ok params.now }
+    requires parameters { params.now ≡ parameters_of (request_of request.now) password.now }
+    ensures line { IfOk result (λ line.
+        line.items ≡ output_line (request_of request.now) password.now params.now) }
+    // No hash begins before every refusal is ruled out, that of memory too.
+    ensures idle { IfErr result (λ _. ticks.new ≡ ticks.old) }
+    ensures count { IfOk result (λ _. ticks.new ≡ ticks.old + work params.now) }
+{
+    let mut tag = room.zeros(params.tag_len())?;
+    let mut line = room.line(request, &tag)?;
+    let mut matrix = room.matrix(params, &request.settings)?;
+    hash_into(&mut line, &mut tag, &mut matrix, request, password, ticks);
+    Ok(line)
+}

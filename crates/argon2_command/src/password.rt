@@ -1,0 +1,64 @@
+//! The password: the whole standard input.
+ghost use Rattle.std.specs.Prelude.{◌≡◌, ◌<◌, ◌^◌, ◌⊎◌, ℕ, List, None, Some, Ok, Err, take, length, MatchResult, IfOk, IfErr, IsTrue};
+ghost use Rattle.host.specs.Faults.{AreBelow};
+ghost use Rattle.host.specs.Seen.{after_ask, stdin_once};
+ghost use Rattle.argon2_command.specs.Output.{RefusesInput, password_in};
+ghost use Rattle.argon2_command.specs.Refusal.{IsEarly, counted_by};
+ghost use Rattle.argon2_command.specs.declared.refusal.Argon2Refusal.TheVariants.{PasswordFault};
+
+use crate::refusal::Argon2Refusal;
+use host::{Host, Source};
+use std::marker::Model;
+
+/// A password of 1 to 127 bytes. Contracts see its bytes.
+#[derive(Drop)]
+pub struct Password {
+    // One byte more than a password has tells that the input is too long.
+    room: [u8; 128],
+    len: usize,
+}
+
+impl Model for Password {
+    ghost Value = { List ℕ };
+
+    ghost view = { λ p. take p.len p.room };
+
+    ghost invariant = { λ p. (0 < p.len) × (p.len < 128) };
+}
+
+impl Password {
+    /// Its bytes.
+    pub fn as_slice(&self) -> &[u8]
+        ensures bytes { result.now ≡ self.now }
+        ensures some { 0 < length self.now }
+        ensures short { length self.now < 128 }
+    {
+        &self.room[..self.len]
+    }
+}
+
+/// Reads the password. No source was asked before.
+pub fn read_password<H: Host>(host: &mut H) -> Result<Password, Argon2Refusal>
+    requires room { AreBelow (2 ^ 63) (H.faults host.old) }
+    requires unasked { IsTrue H.tells → (H.seen host.old).asked ≡ None }
+    ensures counts { MatchResult result (λ _. H.faults host.new ≡ H.faults host.old)
+        (λ r. H.faults host.new ≡ counted_by r (H.faults host.old)) }
+    ensures early { IfErr result IsEarly }
+    // of every host, also one that tells nothing
+    ensures valid { IfOk result (λ p. password_in (Some p) ≡ Ok p) }
+    ensures some_input { IfErr result RefusesInput }
+    ensures asks { IsTrue H.tells → H.seen host.new ≡ after_ask stdin_once (H.seen host.old) }
+    ensures read { IsTrue H.tells → IfOk result (λ p. password_in (H.seen host.old).stdin ≡ Ok p) }
+    ensures refused { IsTrue H.tells →
+        IfErr result (λ r. (password_in (H.seen host.old).stdin ≡ Err r) ⊎ (r ≡ PasswordFault)) }
+{
+    let mut room = [0u8; 128];
+    let Ok(len) = host.secret(Source::StdinOnce, &mut room) else {
+        return Err(Argon2Refusal::PasswordFault);
+    };
+    match len {
+        0 => Err(Argon2Refusal::EmptyPassword),
+        1..128 => Ok(Password { room, len }),
+        _ => Err(Argon2Refusal::LongPassword),
+    }
+}

@@ -1,0 +1,44 @@
+//! Where the memory of a run comes from: the heap, or what a test puts in its place to refuse it.
+ghost use Rattle.std.specs.Prelude.{◌≡◌, Ok, IfOk, length, true};
+ghost use Rattle.argon.specs.Range.{admission};
+ghost use Rattle.argon_text.specs.Value.{is_in_range};
+ghost use Rattle.argon2_command.specs.Output.{tag_line, value_with};
+ghost use Rattle.argon2_command.specs.RequestView.{request_of};
+
+use crate::line::line_of;
+use crate::request::Request;
+use crate::settings::Settings;
+use argon::{Matrix, Params};
+use std::alloc::{AllocError, Global};
+
+/// The requests for memory of a run. All of them are made before the hash.
+pub trait Room {
+    /// So many bytes of zero.
+    fn zeros(&mut self, count: usize) -> Result<Vec<u8>, AllocError>
+        ensures size { IfOk result (λ bytes. length bytes.items ≡ count) };
+
+    /// The line of a tag.
+    fn line(&mut self, request: &Request<'_>, tag: &[u8]) -> Result<Vec<u8>, AllocError>
+        requires in_range { is_in_range (value_with (request_of request.now) tag.now) ≡ true }
+        ensures line { IfOk result (λ line. line.items ≡ tag_line (request_of request.now) tag.now) };
+
+    /// The matrix of a hash with these parameters, which the settings' limits admit: so none is asked
+    /// for before the limits are tested.
+    fn matrix(&mut self, params: &Params, settings: &Settings) -> Result<Matrix, AllocError>
+        requires admitted { admission params.now settings.now.max_memory_kib settings.now.max_ops ≡ Ok tt }
+        ensures parameters { IfOk result (λ matrix. matrix.parameters ≡ params.now) };
+}
+
+impl Room for Global {
+    fn zeros(&mut self, count: usize) -> Result<Vec<u8>, AllocError> {
+        vec![in *self; 0; count]
+    }
+
+    fn line(&mut self, request: &Request<'_>, tag: &[u8]) -> Result<Vec<u8>, AllocError> {
+        line_of(*self, request, tag)
+    }
+
+    fn matrix(&mut self, params: &Params, _settings: &Settings) -> Result<Matrix, AllocError> {
+        Matrix::reserve(*self, params)
+    }
+}

@@ -1,0 +1,125 @@
+//! A whole run of `argon2`.
+ghost use Rattle.std.specs.Prelude.{◌≡◌, ◌≢◌, ◌≤◌, ◌+◌, ◌^◌, Ok, Err, None, MatchResult, IfOk, IfErr, IsErrOf, IsOk, OnOk, IsTrue, map, string_bytes};
+ghost use Rattle.host.specs.Faults.{AreBelow};
+ghost use Rattle.host.specs.Lines.{SaysOneLine};
+ghost use Rattle.host.specs.Seen.{IsFresh};
+ghost use Rattle.argon2_command.specs.Output.{argon2_output};
+ghost use Rattle.argon2_command.specs.Inside.Work.{request_work};
+ghost use Rattle.argon2_command.specs.Refusal.{IsEarly, counted_by, line_of};
+ghost use Rattle.argon2_command.specs.Request.{argon2_request};
+ghost use Rattle.argon2_command.specs.Run.{IsRefused, IsToldForSome, Refuses, Succeeds, SucceedsForSome, password_asked};
+ghost use Rattle.argon2_command.specs.declared.refusal.Argon2Refusal.{Argon2Refusal};
+
+use crate::output::{output, parameters};
+use crate::password::read_password;
+use crate::refusal::Argon2Refusal;
+use crate::request::read_request;
+use crate::room::Room;
+use argon::Ticks;
+use host::{Host, refuse, write_output};
+use std::alloc::Global;
+
+// Reads the words and the password, and makes the whole output.
+fn prepare<R: Room, H: Host>(
+    room: &mut R,
+    words: &[String],
+    host: &mut H,
+    ticks: &mut Ticks,
+) -> Result<Vec<u8>, Argon2Refusal>
+    requires room { AreBelow (2 ^ 63) (H.faults host.old) }
+    requires unasked { IsTrue H.tells → (H.seen host.old).asked ≡ None }
+    ensures counts { MatchResult result (λ _. H.faults host.new ≡ H.faults host.old)
+        (λ r. H.faults host.new ≡ counted_by r (H.faults host.old)) }
+    ensures asks { IsTrue H.tells →
+        H.seen host.new ≡ password_asked (map string_bytes words.now) (H.seen host.old) }
+    ensures words { IfOk result (λ _. IsOk (argon2_request (map string_bytes words.now))) }
+    ensures words_refused { (refusal : Argon2Refusal)
+        → argon2_request (map string_bytes words.now) ≡ Err refusal → IsErrOf result refusal }
+    ensures some_input { MatchResult result (λ _. SucceedsForSome (map string_bytes words.now))
+        (IsToldForSome (map string_bytes words.now)) }
+    ensures due { IsTrue H.tells → IfOk result (λ line.
+        argon2_output (map string_bytes words.now) (H.seen host.old) ≡ Ok line.items) }
+    ensures refused { IsTrue H.tells → IfErr result (λ r.
+        IsRefused r (map string_bytes words.now) (H.seen host.old) (H.seen host.new)) }
+    // Nothing is asked of the source of memory before every other refusal is ruled out.
+    ensures unasked_for_memory { IfErr result (λ r. r ≢ Argon2Refusal.OutOfMemory → room.new ≡ room.old) }
+    // No hash begins before every refusal is ruled out, that of memory too.
+    ensures idle { IfErr result (λ _. ticks.new ≡ ticks.old) }
+    ensures count { IfOk result (λ _. IfOk (argon2_request (map string_bytes words.now))
+        (λ request. ticks.new ≡ ticks.old + request_work request)) }
+    ensures before_output { IfErr result (λ r. r ≢ Argon2Refusal.OutputFault) }
+{
+    let request = read_request(words)?;
+    let password = read_password(host)?;
+    let params = parameters(&request, &password)?;
+    let line = output(room, &request, &password, &params, ticks)?;
+    Ok(line)
+}
+
+// All of a run but the line of a refusal.
+pub(super) fn attempt<R: Room, H: Host>(
+    room: &mut R,
+    words: &[String],
+    host: &mut H,
+    ticks: &mut Ticks,
+) -> Result<(), Argon2Refusal>
+    requires room { AreBelow (2 ^ 63) (H.faults host.old) }
+    requires fresh { IsTrue H.tells → IsFresh (H.seen host.old) }
+    ensures counts { OnOk result (H.faults host.new ≡ H.faults host.old) }
+    ensures counted { IfErr result (λ r. H.faults host.new ≡ counted_by r (H.faults host.old)) }
+    ensures words { OnOk result (IsOk (argon2_request (map string_bytes words.now))) }
+    ensures words_refused { (refusal : Argon2Refusal)
+        → argon2_request (map string_bytes words.now) ≡ Err refusal → IsErrOf result refusal }
+    ensures some_input { MatchResult result (λ _. SucceedsForSome (map string_bytes words.now))
+        (IsToldForSome (map string_bytes words.now)) }
+    ensures succeeds { IsTrue H.tells →
+        OnOk result (Succeeds (map string_bytes words.now) (H.seen host.old) (H.seen host.new)) }
+    ensures refused { IsTrue H.tells → IfErr result (λ r.
+        IsRefused r (map string_bytes words.now) (H.seen host.old) (H.seen host.new)) }
+    // Nothing is asked of the source of memory before every other refusal but the output's is ruled out.
+    ensures unasked_for_memory { IfErr result (λ r. IsEarly r → room.new ≡ room.old) }
+    // The output's refusal is the one that comes after the hash, of which nothing is left to be done.
+    ensures idle { IfErr result (λ r. r ≢ Argon2Refusal.OutputFault → ticks.new ≡ ticks.old) }
+    ensures count { OnOk result (IfOk (argon2_request (map string_bytes words.now))
+        (λ request. ticks.new ≡ ticks.old + request_work request)) }
+    ensures count_of_output { IfErr result (λ r. r ≡ Argon2Refusal.OutputFault
+        → IfOk (argon2_request (map string_bytes words.now))
+        (λ request. ticks.new ≡ ticks.old + request_work request)) }
+{
+    let line = prepare(room, words, host, ticks)?;
+    write_output(host, &line).map_err(|_| Argon2Refusal::OutputFault)
+}
+
+/// Runs `argon2`: hashes the whole standard input under the salt that the first word gives, and
+/// writes the encoded text or the tag in hexadecimal, and a line feed, to standard output. `words`
+/// leaves out the program's name. The hash is that of RFC 9106, version 0x13 or 0x10 as the words have
+/// it.
+///
+/// The status is 0 where the whole output was written, and then no line is said. It is 1 after a
+/// refusal, which says its one line ([`Argon2Refusal`] has them all); a line that cannot be said is
+/// passed over. The words, the password, the parameters and the limits are tested before any growth
+/// of memory, all memory is taken before the hash, and the whole output stands in memory before
+/// standard output is opened.
+pub fn argon2<H: Host>(alloc: Global, words: &[String], host: &mut H) -> u8
+    requires room { AreBelow (2 ^ 63) (H.faults host.old) }
+    requires fresh { IsTrue H.tells → IsFresh (H.seen host.old) }
+    ensures status { result ≤ 1 }
+    ensures counts { result ≡ 0 → H.faults host.new ≡ H.faults host.old }
+    // of every host, also one that tells nothing
+    ensures words { result ≡ 0 → IsOk (argon2_request (map string_bytes words.now)) }
+    ensures words_refused { (refusal : Argon2Refusal)
+        → argon2_request (map string_bytes words.now) ≡ Err refusal
+        → (result ≡ 1) × SaysOneLine H.tells (line_of refusal) (H.seen host.old) (H.seen host.new)
+        (counted_by refusal (H.faults host.old)) (H.faults host.new) }
+    ensures some_input { result ≡ 0 → SucceedsForSome (map string_bytes words.now) }
+    ensures succeeds { IsTrue H.tells → result ≡ 0 →
+        Succeeds (map string_bytes words.now) (H.seen host.old) (H.seen host.new) }
+    ensures refuses { result ≡ 1 → Refuses H.tells (map string_bytes words.now)
+        (H.seen host.old) (H.seen host.new) (H.faults host.old) (H.faults host.new) }
+{
+    let mut room = alloc;
+    match attempt(&mut room, words, host, &mut Ticks::new()) {
+        Ok(()) => 0,
+        Err(refusal) => refuse(host, refusal.line()),
+    }
+}

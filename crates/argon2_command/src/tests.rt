@@ -1,0 +1,394 @@
+//! Whole runs over a host in memory. Hashes come from the reference program, as `printf password | argon2 ..` with the
+//! words of the row gives them; its report on standard output is what a run writes.
+mod refusing;
+
+use self::refusing::{Asked, Refusing};
+use super::run::attempt;
+use super::{Argon2Refusal, argon2};
+use argon::Ticks;
+use host::MemoryHost;
+use std::alloc::{AllocError, Global};
+use std::process::Abort;
+use std::test::Fail;
+
+const USAGE: &str =
+    "argon2: usage: argon2 salt [-i|-d|-id] [-t N] [-m N | -k N] [-p N] [-l N] [-v VERSION] [--maxmem KIB] [--maxops N] (-e|-r)";
+
+const UNKNOWN_WORD: &str = "argon2: unknown word";
+
+const MISSING_VALUE: &str = "argon2: missing value";
+
+const BAD_NUMBER: &str = "argon2: bad number";
+
+const ONE_FORM: &str = "argon2: exactly one of -e and -r is needed";
+
+const PASSES: &str = "argon2: passes out of range";
+
+const LANES: &str = "argon2: lanes out of range";
+
+const MEMORY: &str = "argon2: memory out of range";
+
+const TAG: &str = "argon2: tag length out of range";
+
+const SALT: &str = "argon2: salt length out of range";
+
+const MEMORY_LIMIT: &str = "argon2: more memory needed than --maxmem allows";
+
+const WORK_LIMIT: &str = "argon2: more work needed than --maxops allows";
+
+const PASSWORD_FAULT: &str = "argon2: password cannot be read";
+
+const EMPTY_PASSWORD: &str = "argon2: password is empty";
+
+const LONG_PASSWORD: &str = "argon2: password is longer than 127 bytes";
+
+const OUTPUT_FAULT: &str = "argon2: output cannot be written";
+
+// somesalt -t 2 -m 8 -e
+const TWO_PASSES: &str =
+    "$argon2i$v=19$m=256,t=2,p=1$c29tZXNhbHQ$iekCn0Y3spW+sCcFanM2xBT63UP2sghkUoHLIUpWRS8";
+// somesalt -d -t 1 -k 8 -e
+const ONE_PASS: &str =
+    "$argon2d$v=19$m=8,t=1,p=1$c29tZXNhbHQ$xRnmA6xgPsGutbcexEpheePzl1sUwMl+ORTHnmNj4Xg";
+
+// Words and what standard output gets before its line feed.
+const HASHES: [(&str, &str); 21] = [
+    ("somesalt -t 2 -m 8 -e", TWO_PASSES),
+    ("somesalt -i -v 13 -p 1 -l 32 -t 2 -m 8 -e -e", TWO_PASSES),
+    (
+        "somesalt -t 2 -m 8 -id -p 2 -r",
+        "6d093c501fd5999645e0ea3bf620d7b8be7fd2db59c20d9fff9539da2bf57037",
+    ),
+    // The last of several items of one setting counts.
+    (
+        "somesalt -d -i -id -t 2 -k 256 -e",
+        "$argon2id$v=19$m=256,t=2,p=1$c29tZXNhbHQ$nf65EOgLrQMR/uIPnA4rEsF5h7TKyQwu9U1bMCHGi/4",
+    ),
+    ("somesalt -k 9 -t 3 -d -k 1 -m 8 -i -t 2 -e", TWO_PASSES),
+    // The text and the hash hold the memory as it was given.
+    (
+        "somesalt -k 9 -e",
+        "$argon2i$v=19$m=9,t=3,p=1$c29tZXNhbHQ$uk2GKHVEp18xwFV6bOewvUP04qFpfgNxLmfLzsueeAk",
+    ),
+    (
+        "somesalt -k 8 -e",
+        "$argon2i$v=19$m=8,t=3,p=1$c29tZXNhbHQ$eYtl4kn8J9RfK5/tnJCvOs6vlxOOPxzSdZ/LgkOiLAU",
+    ),
+    (
+        "somesalt -k 16 -p 2 -e",
+        "$argon2i$v=19$m=16,t=3,p=2$c29tZXNhbHQ$24eT3AX/iDMzPTe9loQOvkEP7hF58GzpyCCs0BF+5rs",
+    ),
+    (
+        "somesalt -t 4 -k 64 -p 4 -id -e",
+        "$argon2id$v=19$m=64,t=4,p=4$c29tZXNhbHQ$tjztuWpocHTJWLeQzJY7LOJ0NORGy0BdK1HhISmcaaY",
+    ),
+    ("somesalt -t 1 -k 8 -l 4 -r", "26929ef3"),
+    (
+        "sälzchen -t 1 -k 8 -e",
+        "$argon2i$v=19$m=8,t=1,p=1$c8OkbHpjaGVu$PVic5V0UwmNLp4Bc+pv7oDiJmajIsqPJOT/kJQiTvGE",
+    ),
+    ("somesalt -d -t 1 -k 8 -e", ONE_PASS),
+    // Leading zeros; eight blocks less the first two, and no address block.
+    (
+        "somesalt -d -t 00000000000000000001 -k 8 -e --maxops 6",
+        ONE_PASS,
+    ),
+    ("somesalt -d -t 1 -k 8 -e --maxmem 8", ONE_PASS),
+    // Two times 256 blocks less the first two, and 8 segments with two address blocks each.
+    ("somesalt -t 2 -m 8 -e --maxops 526", TWO_PASSES),
+    ("somesalt -t 2 -m 8 -e --maxmem 256", TWO_PASSES),
+    // The version before RFC 9106.
+    (
+        "somesalt -t 2 -m 8 -v 10 -r",
+        "fd4dd83d762c49bdeaf57c47bdcd0c2f1babf863fdeb490df63ede9975fccf06",
+    ),
+    (
+        "somesalt -t 2 -m 8 -v 10 -e",
+        "$argon2i$v=16$m=256,t=2,p=1$c29tZXNhbHQ$/U3YPXYsSb3q9XxHvc0MLxur+GP960kN9j7emXX8zwY",
+    ),
+    (
+        "somesalt -v 13 -id -t 3 -k 64 -p 4 -l 6 -v 10 -e",
+        "$argon2id$v=16$m=64,t=3,p=4$c29tZXNhbHQ$3H/HyDRR",
+    ),
+    ("somesalt -v 10 -t 2 -m 8 -v 13 -e", TWO_PASSES),
+    // More than 64 MiB.
+    (
+        "somesalt -d -t 1 -k 65540 -r",
+        "6c51226ce388e165ceaa1c9b5e0646e1bd532392cbf72680d8a8e71c00a35c2f",
+    ),
+];
+
+// Words and the line of their refusal.
+const REFUSALS: [(&str, &str); 50] = [
+    ("", USAGE),
+    ("-h", USAGE),
+    ("-h -q", USAGE),
+    ("somesalt -h", USAGE),
+    ("somesalt -e -h -q -t", USAGE),
+    ("somesalt -q -h", UNKNOWN_WORD),
+    ("somesalt other -e", UNKNOWN_WORD),
+    ("somesalt -E", UNKNOWN_WORD),
+    ("somesalt -t3 -e", UNKNOWN_WORD),
+    ("somesalt --maxmem=8 -e", UNKNOWN_WORD),
+    ("somesalt -e -t", MISSING_VALUE),
+    ("somesalt --maxops", MISSING_VALUE),
+    ("somesalt -t x -q", BAD_NUMBER),
+    ("somesalt -t -e", BAD_NUMBER),
+    ("somesalt -t +1 -e", BAD_NUMBER),
+    ("somesalt -t 000000000000000000001 -e", BAD_NUMBER),
+    ("somesalt -t 4294967296 -e", BAD_NUMBER),
+    ("somesalt -k 99999999999999999999 -e", BAD_NUMBER),
+    ("somesalt -m 0 -e", BAD_NUMBER),
+    ("somesalt -m 32 -e", BAD_NUMBER),
+    ("somesalt -v 16 -e", BAD_NUMBER),
+    ("somesalt -v 010 -e", BAD_NUMBER),
+    ("somesalt -v 11 -e", BAD_NUMBER),
+    ("somesalt -v 19 -e", BAD_NUMBER),
+    ("somesalt -v 013 -e", BAD_NUMBER),
+    ("somesalt --maxmem 0 -e", BAD_NUMBER),
+    ("somesalt --maxmem 4294967296 -e", BAD_NUMBER),
+    ("somesalt --maxops 0 -e", BAD_NUMBER),
+    ("somesalt --maxops 9223372036854775808 -e", BAD_NUMBER),
+    // A faulty item decides also where a later one sets the same.
+    ("somesalt -t x -t 1 -e", BAD_NUMBER),
+    ("somesalt -e -r", ONE_FORM),
+    ("somesalt", ONE_FORM),
+    ("somesalt -d -t 1 -k 8", ONE_FORM),
+    ("somesalt -t 0 -e", PASSES),
+    ("seven77 -t 0 -p 0 -l 3 -e", PASSES),
+    ("somesalt -p 0 -e", LANES),
+    ("somesalt -p 16777216 -e", LANES),
+    ("somesalt -k 7 -e", MEMORY),
+    ("somesalt -d -t 1 -k 7 -e", MEMORY),
+    ("somesalt -k 15 -p 2 -e", MEMORY),
+    ("somesalt -l 3 -e", TAG),
+    ("seven77 -l 4097 -e", TAG),
+    ("seven77 -e", SALT),
+    ("somesalt -t 2 -m 8 -e --maxmem 255", MEMORY_LIMIT),
+    ("somesalt -d -t 1 -k 8 -e --maxmem 7", MEMORY_LIMIT),
+    (
+        "somesalt -d -t 1 -k 8 -e --maxmem 7 --maxops 5",
+        MEMORY_LIMIT,
+    ),
+    // 2^31 KiB are above the greatest memory where none is given.
+    ("somesalt -m 31 -e", MEMORY_LIMIT),
+    ("somesalt -t 2 -m 8 -e --maxops 525", WORK_LIMIT),
+    ("somesalt -d -t 1 -k 8 -e --maxops 5", WORK_LIMIT),
+    ("somesalt -t 4294967295 -e", WORK_LIMIT),
+];
+
+// The words of a line, which spaces part.
+fn words(alloc: Global, line: &str) -> Result<Vec<String>, AllocError> {
+    line.split_whitespace()
+        .map(|word| String::from_str(alloc, word))
+        .try_collect(alloc)
+}
+
+// Whether this line was said, and no other.
+fn has_said(host: &MemoryHost, told: &str) -> bool {
+    matches!(host.lines(), [line] if line.as_str() == told)
+}
+
+// Runs the words over a host that gives this standard input, and compares all that comes to the host.
+fn check(
+    rt: &impl Abort,
+    alloc: Global,
+    line: &str,
+    stdin: &[u8],
+    answer: Result<&str, &str>,
+) -> Result<(), AllocError> {
+    let words = words(alloc, line)?;
+    let mut host = MemoryHost::new(alloc, Vec::new(alloc), stdin.to_vec(alloc)?, [0; 32]);
+    let status = argon2(alloc, &words, &mut host);
+    match answer {
+        Ok(text) => {
+            assert_eq!(rt; status, 0, "{line}");
+            assert_eq!(rt;
+                host.output().strip_suffix(b"\n"),
+                Some(text.as_bytes()),
+                "{line}"
+            );
+            assert_eq!(rt; host.lines().len(), 0, "{line}");
+            assert_eq!(rt; host.output_name(), Some(None), "{line}");
+        }
+        Err(told) => {
+            assert_eq!(rt; status, 1, "{line}");
+            assert_eq!(rt; host.output().len(), 0, "{line}");
+            assert!(rt; has_said(&host, told), "{line}");
+            assert_eq!(rt; host.output_name(), None, "{line}");
+        }
+    }
+    assert_eq!(rt; host.input_name(), None, "{line}");
+    Ok(())
+}
+
+#[test]
+fn hashes(rt: HostRuntime) -> Result<(), Fail> {
+    for (line, text) in HASHES.iter() {
+        check(&rt, rt.alloc(), line, b"password", Ok(*text))?;
+    }
+    Ok(())
+}
+
+#[test]
+fn refusals(rt: HostRuntime) -> Result<(), Fail> {
+    for (line, told) in REFUSALS.iter() {
+        check(&rt, rt.alloc(), line, b"password", Err(*told))?;
+    }
+    Ok(())
+}
+
+// The password is all of standard input: 1 to 127 bytes, of which none is special.
+#[test]
+fn passwords(rt: HostRuntime) -> Result<(), Fail> {
+    let alloc = rt.alloc();
+    // head -c 127 /dev/zero | tr '\0' a | argon2 somesalt -t 2 -m 8 -e
+    let longest =
+        "$argon2i$v=19$m=256,t=2,p=1$c29tZXNhbHQ$3SM658khyO9aPcqqhCED4x7ArKLkDOScE0pcsllZ2a8";
+    check(
+        &rt,
+        alloc,
+        "somesalt -t 2 -m 8 -e",
+        &[b'a'; 127],
+        Ok(longest),
+    )?;
+    // printf 'pass\nword\n' | argon2 somesalt -t 1 -k 8 -e
+    let lines = "$argon2i$v=19$m=8,t=1,p=1$c29tZXNhbHQ$XAmIu7d+PoYy1k99lTH9FPxow2atK+jpBF/mZ8FOh1Y";
+    check(
+        &rt,
+        alloc,
+        "somesalt -t 1 -k 8 -e",
+        b"pass\nword\n",
+        Ok(lines),
+    )?;
+    check(
+        &rt,
+        alloc,
+        "somesalt -t 2 -m 8 -e",
+        &[b'a'; 128],
+        Err(LONG_PASSWORD),
+    )?;
+    check(
+        &rt,
+        alloc,
+        "somesalt -d -t 1 -k 8 -e",
+        b"",
+        Err(EMPTY_PASSWORD),
+    )?;
+    // It is read behind the words and before the ranges.
+    check(&rt, alloc, "somesalt -t 0 -e", b"", Err(EMPTY_PASSWORD))?;
+    check(&rt, alloc, "somesalt -t x -e", b"", Err(BAD_NUMBER))?;
+    Ok(())
+}
+
+// The calls are one secret, one opening, and a push for each of the 84 bytes.
+#[test]
+fn each_host_call_fails(rt: HostRuntime) -> Result<(), Fail> {
+    let alloc = rt.alloc();
+    let words = words(alloc, "somesalt -t 2 -m 8 -e")?;
+    let mut whole = TWO_PASSES.as_bytes().to_vec(alloc)?;
+    whole.push(b'\n')?;
+    for call in 1..=86usize {
+        let mut host = MemoryHost::new(alloc, Vec::new(alloc), b"password".to_vec(alloc)?, [0; 32]);
+        host.set_sizes(1, 1);
+        host.fail_at(call as u64);
+        assert_eq!(rt; argon2(alloc, &words, &mut host), 1, "call {call}");
+        let told = if call == 1 {
+            PASSWORD_FAULT
+        } else {
+            OUTPUT_FAULT
+        };
+        assert!(rt; has_said(&host, told), "call {call}");
+        assert_eq!(rt; host.output_name().is_some(), call > 2, "call {call}");
+        assert_eq!(rt;
+            host.output(),
+            &whole[..call.saturating_sub(3)],
+            "call {call}"
+        );
+    }
+    let mut host = MemoryHost::new(alloc, Vec::new(alloc), b"password".to_vec(alloc)?, [0; 32]);
+    host.set_sizes(1, 1);
+    host.fail_at(87);
+    assert_eq!(rt; argon2(alloc, &words, &mut host), 0);
+    assert_eq!(rt; host.output(), whole.as_slice());
+    Ok(())
+}
+
+// A line that cannot be said is passed over.
+#[test]
+fn says_nothing(rt: HostRuntime) -> Result<(), Fail> {
+    let alloc = rt.alloc();
+    for (line, call) in [("", 1), ("somesalt -e", 2)] {
+        let mut host = MemoryHost::new(alloc, Vec::new(alloc), Vec::new(alloc), [0; 32]);
+        host.fail_at(call);
+        assert_eq!(rt; argon2(alloc, &words(alloc, line)?, &mut host), 1, "{line}");
+        assert_eq!(rt; host.lines().len(), 0, "{line}");
+        assert_eq!(rt; host.output().len(), 0, "{line}");
+    }
+    Ok(())
+}
+
+// The longest tag, by the first and the last 32 bytes that the reference program gives.
+#[test]
+fn longest_tag(rt: HostRuntime) -> Result<(), Fail> {
+    let alloc = rt.alloc();
+    let words = words(alloc, "somesalt -d -t 1 -k 8 -l 4096 -r")?;
+    let mut host = MemoryHost::new(alloc, Vec::new(alloc), b"password".to_vec(alloc)?, [0; 32]);
+    assert_eq!(rt; argon2(alloc, &words, &mut host), 0);
+    let output = host.output();
+    assert_eq!(rt; output.len(), 8193);
+    assert!(rt;
+        output.starts_with(b"11164024bbb98e6e90b14957a1d51417df657057e0c245f9359366d794eb5f63")
+    );
+    assert!(rt;
+        output.ends_with(b"b4e4162facc1fd3b88e73741e49c9fa04069973a7ee3fb65bcfef1cd394250e0\n")
+    );
+    Ok(())
+}
+
+// The tag, the line and the matrix are the requests, in this order and behind every other refusal: so the hash, which
+// needs the matrix, comes behind them all, and nothing is asked for after it.
+#[test]
+fn each_request_is_refused(rt: HostRuntime) -> Result<(), Fail> {
+    let alloc = rt.alloc();
+    let refused = Some(Argon2Refusal::OutOfMemory);
+    for (line, left, expected, last) in [
+        ("somesalt -t 2 -m 8 -e", 0, refused, Some(Asked::Zeros)),
+        ("somesalt -t 2 -m 8 -e", 1, refused, Some(Asked::Line)),
+        ("somesalt -t 2 -m 8 -e", 2, refused, Some(Asked::Matrix)),
+        ("somesalt -t 2 -m 8 -e", 3, None, Some(Asked::Matrix)),
+        ("somesalt -t 2 -m 8 -r", 2, refused, Some(Asked::Matrix)),
+        ("somesalt -t 2 -m 8 -r", 3, None, Some(Asked::Matrix)),
+        ("somesalt -e -t", 0, Some(Argon2Refusal::MissingValue), None),
+        ("seven77 -e", 0, Some(Argon2Refusal::SaltLength), None),
+        (
+            "somesalt -t 2 -m 8 -e --maxmem 255",
+            0,
+            Some(Argon2Refusal::MemoryLimit),
+            None,
+        ),
+        (
+            "somesalt -t 2 -m 8 -e --maxops 525",
+            0,
+            Some(Argon2Refusal::WorkLimit),
+            None,
+        ),
+    ] {
+        let words = words(alloc, line)?;
+        let mut room = Refusing {
+            alloc,
+            left,
+            last: None,
+        };
+        let mut host = MemoryHost::new(alloc, Vec::new(alloc), b"password".to_vec(alloc)?, [0; 32]);
+        let answer = attempt(&mut room, &words, &mut host, &mut Ticks::new());
+        assert_eq!(rt; answer.err(), expected, "{line} {left}");
+        assert_eq!(rt; room.last, last, "{line} {left}");
+        assert_eq!(rt;
+            host.output_name().is_some(),
+            expected.is_none(),
+            "{line} {left}"
+        );
+    }
+    Ok(())
+}

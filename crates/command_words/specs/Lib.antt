@@ -1,0 +1,3 @@
+-- What the words of both commands have in common.
+pub mod Answer
+pub mod Number

@@ -1,0 +1,5 @@
+-- Lemmas, by topic.
+pub mod Arguments
+pub mod WideCosts
+pub mod WholeRuns
+pub mod WordsOfClap

@@ -1,0 +1,66 @@
+//! A whole run of `scrypt`.
+ghost use Rattle.std.specs.Prelude.{◌≡◌, ◌≤◌, ◌^◌, Err, MatchResult, IfErr, IsOk, OnOk, IsTrue, map, string_bytes};
+ghost use Rattle.host.specs.Faults.{AreBelow};
+ghost use Rattle.host.specs.Seen.{IsFresh};
+ghost use Rattle.scrypt_run.specs.Refusal.{counted_by};
+ghost use Rattle.scrypt_run.specs.declared.refusal.ScryptRefusal.{ScryptRefusal};
+ghost use Rattle.scrypt_command.specs.Request.{scrypt_request};
+ghost use Rattle.scrypt_command.specs.Run.{IsRefused, Refuses, Succeeds, TellsOfWords, TellsWords};
+
+use crate::request::read_request;
+use host::{Host, refuse};
+use romix::Ticks;
+use scrypt_run::{ScryptRefusal, run};
+use std::alloc::Global;
+
+// All of a run but the line of a refusal.
+fn attempt<H: Host>(alloc: Global, words: &[String], host: &mut H) -> Result<(), ScryptRefusal>
+    requires room { AreBelow (2 ^ 63) (H.faults host.old) }
+    requires fresh { IsTrue H.tells → IsFresh (H.seen host.old) }
+    ensures counts { MatchResult result (λ _. H.faults host.new ≡ H.faults host.old)
+        (λ r. H.faults host.new ≡ counted_by r (H.faults host.old)) }
+    ensures words { OnOk result (IsOk (scrypt_request (map string_bytes words.now))) }
+    ensures words_refused { (refusal : ScryptRefusal)
+        → scrypt_request (map string_bytes words.now) ≡ Err refusal → (r : ScryptRefusal) × (result ≡ Err r)
+        × TellsWords r refusal × (H.faults host.new ≡ H.faults host.old)
+        × (IsTrue H.tells → H.seen host.new ≡ H.seen host.old) }
+    ensures succeeds { IsTrue H.tells →
+        OnOk result (Succeeds (map string_bytes words.now) (H.seen host.old) (H.seen host.new)) }
+    ensures refused { IsTrue H.tells → IfErr result (λ r.
+        IsRefused r (map string_bytes words.now) (H.seen host.old) (H.seen host.new)) }
+{
+    match read_request(alloc, words) {
+        Ok(request) => run(alloc, host, &request, &mut Ticks::new()),
+        Err(refusal) => Err(refusal),
+    }
+}
+
+/// Runs `scrypt`: encrypts or decrypts the input, or shows the costs of a file. `words` leaves out
+/// the program's name. The file is the encrypted file of scrypt(1), version 0, with the key
+/// derivation of RFC 7914.
+///
+/// The status is 0 where all that was asked for was done, and then no line is said. It is 1 after a
+/// refusal, which says its one line ([`ScryptRefusal`] has them all); a line that cannot be said is
+/// passed over. What `dec` writes is not to be trusted before it ends with 0: a damaged file is
+/// noticed at its end.
+pub fn scrypt<H: Host>(alloc: Global, words: &[String], host: &mut H) -> u8
+    requires room { AreBelow (2 ^ 63) (H.faults host.old) }
+    requires fresh { IsTrue H.tells → IsFresh (H.seen host.old) }
+    ensures status { result ≤ 1 }
+    ensures counts { result ≡ 0 → H.faults host.new ≡ H.faults host.old }
+    // of every host, also one that tells nothing
+    ensures words { result ≡ 0 → IsOk (scrypt_request (map string_bytes words.now)) }
+    ensures words_refused { (refusal : ScryptRefusal)
+        → scrypt_request (map string_bytes words.now) ≡ Err refusal
+        → (result ≡ 1) × TellsOfWords H.tells refusal (H.seen host.old) (H.seen host.new)
+        (H.faults host.old) (H.faults host.new) }
+    ensures succeeds { IsTrue H.tells → result ≡ 0 →
+        Succeeds (map string_bytes words.now) (H.seen host.old) (H.seen host.new) }
+    ensures refuses { result ≡ 1 → Refuses H.tells (map string_bytes words.now)
+        (H.seen host.old) (H.seen host.new) (H.faults host.old) (H.faults host.new) }
+{
+    match attempt(alloc, words, host) {
+        Ok(()) => 0,
+        Err(refusal) => refuse(host, refusal.line()),
+    }
+}
