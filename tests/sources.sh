@@ -30,25 +30,31 @@ expect() {
 }
 expect '.tick()' "the counters tick in the one block function and the one core" \
     crates/argon/src/compression.rt crates/romix/src/salsa20.rt
-expect 'Ticks::new()' "a counter is made by the test of a password and by the commands, each for its one hash or derivation" \
+expect 'Ticks::new()' "a counter is made by the test of a password, the functions for C and the commands, each for its one work" \
     crates/argon_text/src/verifying.rt crates/command/src/argon2_command/run.rt \
-    crates/command/src/scrypt_command/run.rt
+    crates/command/src/scrypt_command/run.rt crates/pikhsen_c/src/argon2.rt crates/pikhsen_c/src/encoded.rt \
+    crates/pikhsen_c/src/file.rt crates/pikhsen_c/src/file.rt crates/pikhsen_c/src/scrypt.rt
 
 # Memory is reserved, and work begun, in one place for each way to it, where contracts say what was tested before.
 expect '::reserve(' "only a source of memory reserves, on the condition that limits admit the work" \
-    crates/argon_text/src/room.rt crates/command/src/argon2_command/room.rt crates/scrypt_run/src/admission.rt
+    crates/argon_text/src/room.rt crates/command/src/argon2_command/room.rt crates/pikhsen_c/src/argon2.rt \
+    crates/pikhsen_c/src/scrypt.rt crates/scrypt_run/src/admission.rt
 expect '.allocator()' "no function takes the heap out of what it is lent, but the writing of a text" \
     crates/argon_text/src/encoded.rt
 expect 'vec![in' "lists of a given length are made by the sources of memory alone" crates/argon/src/room.rt \
-    crates/argon/src/room.rt crates/command/src/argon2_command/room.rt crates/romix/src/reservation.rt
+    crates/argon/src/room.rt crates/command/src/argon2_command/room.rt crates/pikhsen_c/src/encoded.rt \
+    crates/romix/src/reservation.rt
 expect 'with_capacity(' "room for a given length is asked for by the sources of memory alone, which use lists"
-expect '.hash(' "a hash is made by the test of a password and by argon2" \
-    crates/argon_text/src/verifying.rt crates/command/src/argon2_command/output.rt
+expect '.hash(' "a hash is made by the test of a password, the functions for C and argon2" \
+    crates/argon_text/src/verifying.rt crates/command/src/argon2_command/output.rt crates/pikhsen_c/src/argon2.rt \
+    crates/pikhsen_c/src/encoded.rt
 # Of the system's host, which tells no bytes, no contract sees that a secret or a salt is read twice.
 expect 'read_secret(' "the system reads a secret once" crates/tools/src/system_host.rt
 expect 'read_salt(&' "the system reads a salt once" crates/tools/src/system_host.rt
-expect 'Enc::start(' "a derivation for a new file is begun by enc" crates/scrypt_run/src/encrypt.rt
-expect 'Dec::open(' "a derivation for a file that is read is begun by dec" crates/scrypt_run/src/decrypt.rt
+expect 'Enc::start(' "a derivation for a new file is begun by enc and its function for C" \
+    crates/pikhsen_c/src/file.rt crates/scrypt_run/src/encrypt.rt
+expect 'Dec::open(' "a derivation for a file that is read is begun by dec and its function for C" \
+    crates/pikhsen_c/src/file.rt crates/scrypt_run/src/decrypt.rt
 
 tests/encoded_texts.py crates/argon_text/src/tests/near_misses.rt || status=1
 
