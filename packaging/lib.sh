@@ -7,14 +7,17 @@ set -eu
 cd "$(dirname "$0")/.."
 folder=$1
 archive=crates/pikhsen_c/out/libpikhsen_c.a
+mkdir -p "$folder"
 if test $# = 2; then
     echo "Proving and building libpikhsen for $2. The first time this takes some minutes." >&2
-    (cd crates/pikhsen_c && rt lib --cpu "$2") >"$archive.log" 2>&1 || { tail -n 20 "$archive.log" >&2 && exit 1; }
+    log=$(realpath "$folder")/log
+    rm -f "$archive"
+    (cd crates/pikhsen_c && rt lib --cpu "$2") >"$log" 2>&1 || true
+    test -f "$archive" || { tail -n 20 "$log" >&2 && echo "The library was not built: $log says why." >&2 && exit 1; }
 fi
 kit=$(dirname "$(dirname "$(readlink -f "$(command -v rt)")")")
 work=$(mktemp -d)
 trap 'rm -rf "$work"' EXIT
-mkdir -p "$folder"
 # In one object file, whose other names are local: so two libraries of Rattle's can be in one program.
 ld -r -o "$work/pikhsen.o" --whole-archive "$archive" "$kit/c/liblibc_c.a"
 objcopy --wildcard --keep-global-symbol='pikhsen_*' "$work/pikhsen.o"

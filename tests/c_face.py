@@ -1,8 +1,9 @@
 #!/usr/bin/env python3
-"""Builds libpikhsen from what the gate proved, and calls it from C and from Python: header and exports are the same,
+"""Builds libpikhsen over what the gate proved, and calls it from C and from Python: header and exports are the same,
 both ways to link, RFC vectors, hashlib, each byte of a file changed, each cut, threads, and README's two programs.
 
-    tests/c_face.py              over crates/pikhsen_c/out/libpikhsen_c.a, which rt ci and make lib leave
+    tests/c_face.py              rt lib proves and builds crates/pikhsen_c, over what earlier proofs left
+    tests/c_face.py --built      takes the static library as make lib or an earlier run left it
     tests/c_face.py --read       compares header, sources, Python module and manual page alone
 """
 import concurrent.futures
@@ -20,7 +21,6 @@ from checking import Checks
 TOP = pathlib.Path(__file__).resolve().parent.parent
 HEADER = (TOP / "include/pikhsen.h").read_text(encoding="utf-8")
 SOURCES = {it.stem: it.read_text(encoding="utf-8") for it in sorted((TOP / "crates/pikhsen_c/src").glob("*.rt"))}
-ARCHIVE = TOP / "crates/pikhsen_c/out/libpikhsen_c.a"
 STRICT = ["-std=c89", "-pedantic", "-Wall", "-Wextra", "-Werror", "-D_POSIX_C_SOURCE=200112L"]
 INCLUDE = ["-I", str(TOP / "include")]
 # How the parameter NAME of a type of the sources is written in C.
@@ -104,9 +104,14 @@ def compare_texts(checks):
     checks.that("names of header and exports", sorted(declared), sorted(exports()))
     for name, form in exports().items():
         checks.that(f"header: {name}", declared.get(name), form)
-    page = (TOP / "man/pikhsen.3").read_text(encoding="utf-8").split("\n.SH ")[2]
-    checks.that("prototypes of the manual page", prototypes(re.sub(r"\n +", " ", page)), declared)
-    first, second, third = map(int, (TOP / "VERSION").read_text(encoding="utf-8").split("."))
+    page = (TOP / "man/pikhsen.3").read_text(encoding="utf-8")
+    synopsis = re.sub(r"\n +", " ", page.split("\n.SH ")[2])
+    checks.that("prototypes of the manual page", prototypes(synopsis), declared)
+    version = (TOP / "VERSION").read_text(encoding="utf-8").strip()
+    checks.that("version of the manual page", f'"Pikhsen {version}"' in page.split("\n")[0], True)
+    if shutil.which("mandoc"):
+        checks.that("manual page", said("mandoc", "-T", "lint", str(TOP / "man/pikhsen.3"), check=False), "")
+    first, second, third = map(int, version.split("."))
     number = 10000 * first + 100 * second + third
     checks.that("version of the header", re.findall(r"PIKHSEN_VERSION (\d+)u", HEADER), [str(number)])
     checks.that("version of the sources", f"\n    {number}\n}}" in SOURCES["version"], True)
@@ -115,14 +120,15 @@ def compare_texts(checks):
 # ---- the library
 
 
-def said(*words, **more):
-    return subprocess.run(words, stdout=subprocess.PIPE, check=True, text=True, **more).stdout
+def said(*words, check=True):
+    return subprocess.run(words, stdout=subprocess.PIPE, check=check, text=True).stdout
 
 
 def build(checks, folder):
     """Both libraries, twice, and what they show of themselves."""
-    for again in ("lib", "again"):
-        subprocess.run([TOP / "packaging/lib.sh", f"{folder}/{again}"], check=True)
+    level = [] if "--built" in sys.argv else ["x86-64-v2"]
+    subprocess.run([TOP / "packaging/lib.sh", f"{folder}/lib", *level], check=True)
+    subprocess.run([TOP / "packaging/lib.sh", f"{folder}/again"], check=True)
     for file in ("libpikhsen.a", "libpikhsen.so.0"):
         both = [pathlib.Path(folder, it, file).read_bytes() for it in ("lib", "again")]
         checks.that(f"{file}, built twice", both[0] == both[1], True)
@@ -328,8 +334,6 @@ def main():
     if not shutil.which("gcc"):
         print("gcc is not installed: the library is not built, and not called")
         checks.end()
-    if not ARCHIVE.exists():
-        sys.exit(f"{ARCHIVE.relative_to(TOP)} is not there: rt ci or make lib leaves it")
     with tempfile.TemporaryDirectory() as folder:
         lib = build(checks, folder)
         from_c(checks, folder, lib)
