@@ -11,7 +11,7 @@ CPU ?= $(lastword $(LEVELS))
 
 .DELETE_ON_ERROR:
 .NOTPARALLEL:
-.PHONY: help run check test map install uninstall deb bench clean
+.PHONY: help run lib check test map install uninstall deb bench clean
 
 help: ## prints these lines
 	@sed -n 's/^\([a-z]*\):.*## /make \1\t/p' Makefile | expand -t 16
@@ -24,6 +24,11 @@ run: bin/$(CPU)/argon2 bin/$(CPU)/scrypt ## proves and builds bin/argon2 and bin
 # There is no unproved build. A rule with several targets runs once for all of them.
 bin/%/argon2 bin/%/scrypt: $(SOURCES)
 	@packaging/build.sh $*
+
+lib: bin/lib/libpikhsen.so.0 ## proves and builds the library for C: bin/lib/libpikhsen.a and libpikhsen.so.0, for x86-64-v2
+
+bin/lib/libpikhsen.so.0: $(SOURCES) packaging/lib.sh packaging/pikhsen.map
+	@packaging/lib.sh bin/lib x86-64-v2
 
 check: ## proves what differs from the last commit, and runs the tests of the crates that changed
 	tests/changed.py
@@ -39,12 +44,13 @@ test: $(filter bin/x86-64-v3/%,$(wildcard $(LEVELS:%=bin/%/scrypt))) ## the gate
 	tests/documents.py
 	tests/reading.py --check
 	@for level in $(LEVELS); do test ! -x bin/$$level/scrypt || tests/outside.sh bin/$$level || exit 1; done
+	tests/c_face.py
 
 map: ## draws docs/proof-map.svg anew: which promise stands on what
 	tests/proof_map.py docs/proof-map.svg
 
 install: | bin/argon2 bin/scrypt ## puts what was built, with pages, completions and documents, below PREFIX
-	@packaging/install.sh install '$(DESTDIR)$(PREFIX)' bin
+	@PREFIX='$(PREFIX)' packaging/install.sh install '$(DESTDIR)$(PREFIX)' bin $(patsubst %/libpikhsen.a,%,$(wildcard bin/lib/libpikhsen.a))
 	@echo "installed below $(PREFIX): argon2 and scrypt, built for $$(cat bin/level)" >&2
 
 uninstall: ## takes away what make install put below PREFIX

@@ -2,12 +2,14 @@
 # Puts the programs, their manual pages, completions and documents below a folder, or takes them away from there.
 #
 #     packaging/install.sh install FOLDER PROGRAMS      FOLDER as /usr/local, from the folder with argon2 and scrypt
+#     packaging/install.sh install FOLDER PROGRAMS LIBRARY      also the library for C, from the folder with libpikhsen.a
 #     packaging/install.sh uninstall FOLDER
 #
+# PREFIX is what pikhsen.pc says of where it lies; FOLDER where it is not set.
 # ZSH is where completions of zsh go, below FOLDER; share/zsh/site-functions where it is not set.
 set -eu
 cd "$(dirname "$0")/.."
-what=$1 below=$2 programs=${3:-bin}
+what=$1 below=$2 programs=${3:-bin} library=${4:-}
 zsh=${ZSH:-share/zsh/site-functions}
 
 # A file, with its permissions, into a folder; or away from there.
@@ -25,6 +27,22 @@ for name in argon2 scrypt; do
     place 644 "completions/bash/$name" share/bash-completion/completions
     place 644 "completions/zsh/_$name" "$zsh"
 done
+# The library for C. The linker's name for it is a link, which is made here alone: the gate refuses links at the top.
+if test "$what" = uninstall || test -n "$library"; then
+    place 644 "$library/libpikhsen.a" lib
+    place 644 "$library/libpikhsen.so.0" lib
+    place 644 include/pikhsen.h include
+    place 644 man/pikhsen.3 share/man/man3
+    place 644 python/pikhsen.py share/pikhsen
+    rm -f "$below/lib/libpikhsen.so" "$below/lib/pkgconfig/pikhsen.pc"
+    if test "$what" = install; then
+        ln -s libpikhsen.so.0 "$below/lib/libpikhsen.so"
+        mkdir -p "$below/lib/pkgconfig"
+        sed "s|@PREFIX@|${PREFIX:-$below}|; s|@VERSION@|$(cat VERSION)|" packaging/pikhsen.pc.in \
+            >"$below/lib/pkgconfig/pikhsen.pc"
+        chmod 644 "$below/lib/pkgconfig/pikhsen.pc"
+    fi
+fi
 for file in README.md CHANGELOG.md; do
     place 644 "$file" share/doc/pikhsen
 done

@@ -28,7 +28,7 @@ def functions(crate):
                 found.setdefault(block[1], set())
             elif line.startswith("}"):
                 owner, name = "", None
-            elif function := re.match(r"(    )?(?:pub(?:\(\w+\))? )?(?:const )?fn (\w+)", line):
+            elif function := re.match(r'(    )?(?:pub(?:\(\w+\))? )?(?:const |extern "C" )?fn (\w+)', line):
                 name = (owner if function[1] else "") + function[2]
                 found.setdefault(name, set())
             elif name and (clause := re.match(r"\s+(?:ensures|requires) (\w+) \{", line)):
@@ -39,7 +39,7 @@ def functions(crate):
 def crates():
     """Each crate of crates.txt with what it stands on."""
     lines = [line for line in read("crates.txt").splitlines() if line and not line.startswith("#")]
-    return {line.split(":")[0]: line.split(":")[1].split() for line in lines}
+    return {line.split(":")[0].split()[0]: line.split(":")[1].split() for line in lines}
 
 
 def handed_on(crate):

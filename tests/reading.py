@@ -16,7 +16,7 @@ TOP = pathlib.Path(__file__).resolve().parent.parent
 CRATES = TOP / "crates"
 ITEM = re.compile(r"(?:(?:pub|abbrev|unfoldable|opaque|data|record)\s+)*([^\s:(){},=]+)(?:\s+[({].*)?\s+:(?:\s|$)")
 PART = re.compile(r"\s+(?:pub )?([^\s:]+) :")
-FUNCTION = re.compile(r"(?ms)^( *)(pub )?(?:const )?fn (\w+).*?^\1\{(?:\}|$)")
+FUNCTION = re.compile(r'(?ms)^( *)(pub )?(?:const )?(?:extern "C" )?fn (\w+).*?^\1\{(?:\}|$)')
 BLOCK = re.compile(r"(?ms)^(?:pub trait (\w+)|impl\b[^\n]* for \w+).*?^\}$")
 TESTS = {"tests", "tests.rt", "testing.rt"}
 IMPORT = re.compile(r"(?m)^ *(?:pub |ghost )?use Rattle\.(\w+\.specs\.[\w.]+)\.\{([^}]*)\}")

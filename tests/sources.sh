@@ -30,25 +30,31 @@ expect() {
 }
 expect '.tick()' "the counters tick in the one block function and the one core" \
     crates/argon/src/compression.rt crates/romix/src/salsa20.rt
-expect 'Ticks::new()' "a counter is made by the test of a password and by the commands, each for its one hash or derivation" \
-    crates/argon2_command/src/run.rt crates/argon_text/src/verifying.rt \
-    crates/scrypt_command/src/run.rt
+expect 'Ticks::new()' "a counter is made by the test of a password, the functions for C and the commands, each for its one work" \
+    crates/argon_text/src/verifying.rt crates/argon2_command/src/run.rt \
+    crates/scrypt_command/src/run.rt crates/pikhsen_c/src/argon2.rt crates/pikhsen_c/src/encoded.rt \
+    crates/pikhsen_c/src/file.rt crates/pikhsen_c/src/file.rt crates/pikhsen_c/src/scrypt.rt
 
 # Memory is reserved, and work begun, in one place for each way to it, where contracts say what was tested before.
 expect '::reserve(' "only a source of memory reserves, on the condition that limits admit the work" \
-    crates/argon2_command/src/room.rt crates/argon_text/src/room.rt crates/scrypt_run/src/admission.rt
+    crates/argon_text/src/room.rt crates/argon2_command/src/room.rt crates/pikhsen_c/src/argon2.rt \
+    crates/pikhsen_c/src/scrypt.rt crates/scrypt_run/src/admission.rt
 expect '.allocator()' "no function takes the heap out of what it is lent, but the writing of a text" \
     crates/argon_text/src/encoded.rt
 expect 'vec![in' "lists of a given length are made by the sources of memory alone" crates/argon/src/room.rt \
-    crates/argon/src/room.rt crates/argon2_command/src/room.rt crates/romix/src/reservation.rt
+    crates/argon/src/room.rt crates/argon2_command/src/room.rt crates/pikhsen_c/src/encoded.rt \
+    crates/romix/src/reservation.rt
 expect 'with_capacity(' "room for a given length is asked for by the sources of memory alone, which use lists"
-expect '.hash(' "a hash is made by the test of a password and by argon2" \
-    crates/argon2_command/src/output.rt crates/argon_text/src/verifying.rt
+expect '.hash(' "a hash is made by the test of a password, the functions for C and argon2" \
+    crates/argon_text/src/verifying.rt crates/argon2_command/src/output.rt crates/pikhsen_c/src/argon2.rt \
+    crates/pikhsen_c/src/encoded.rt
 # Of the system's host, which tells no bytes, no contract sees that a secret or a salt is read twice.
 expect 'read_secret(' "the system reads a secret once" crates/tools/src/system_host.rt
 expect 'read_salt(&' "the system reads a salt once" crates/tools/src/system_host.rt
-expect 'Enc::start(' "a derivation for a new file is begun by enc" crates/scrypt_run/src/encrypt.rt
-expect 'Dec::open(' "a derivation for a file that is read is begun by dec" crates/scrypt_run/src/decrypt.rt
+expect 'Enc::start(' "a derivation for a new file is begun by enc and its function for C" \
+    crates/pikhsen_c/src/file.rt crates/scrypt_run/src/encrypt.rt
+expect 'Dec::open(' "a derivation for a file that is read is begun by dec and its function for C" \
+    crates/pikhsen_c/src/file.rt crates/scrypt_run/src/decrypt.rt
 
 # A comparison that ends at the first byte that differs tells by its time where that is, and no contract sees time.
 expect 'are_same(tag, claim.tag)' "tags are compared over all their bytes" crates/argon_text/src/verifying.rt

@@ -21,7 +21,7 @@ from importlib import machinery, util
 
 TOP = pathlib.Path(__file__).resolve().parent.parent
 ALONE, MOST = ["--jobs", "1"], 6  # how a check is called, and how many edits share one
-FUNCTION = re.compile(r"( *)(?:pub(?:\([a-z]+\))? )?(?:const )?(?:unsafe )?fn (\w+)")
+FUNCTION = re.compile(r'( *)(?:pub(?:\([a-z]+\))? )?(?:const )?(?:unsafe )?(?:extern "C" )?fn (\w+)')
 ANSWER = re.compile(r"(?:\./)?proofs/(?:(\S+)/)?(\w+)/(?:Answers|Invariants)\.antt:\d+:\d+: error: (`.*)")
 LOST_NAME = re.compile(r"has no field|is not in scope|has no `|was not admitted")
 

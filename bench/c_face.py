@@ -1,0 +1,76 @@
+#!/usr/bin/env python3
+"""Times libpikhsen from Python beside argon2-cffi and hashlib: hashes, keys, and files of 16 MiB there and back.
+
+    bench/c_face.py [ROUNDS]      over bin/lib/libpikhsen.so.0, which make lib makes
+
+Each round (7) does the same work once by each, in turn; what counts is user and system time of the process, least of
+all rounds. argon2-cffi (Debian: python3-argon2) starts a thread for each lane; where it is not there, its rows are left
+out. Tags and keys are compared.
+"""
+import hashlib
+import os
+import pathlib
+import resource
+import sys
+
+TOP = pathlib.Path(__file__).resolve().parent.parent
+os.environ.setdefault("PIKHSEN_LIBRARY", str(TOP / "bin/lib/libpikhsen.so.0"))
+sys.dont_write_bytecode = True
+sys.path.insert(0, str(TOP / "python"))
+import pikhsen  # noqa: E402
+
+try:
+    from argon2.low_level import Type, hash_secret_raw
+except ImportError:
+    hash_secret_raw = None
+ROUNDS = int(sys.argv[1]) if len(sys.argv) > 1 else 7
+PASSWORD, SALT, TEXT = b"correct horse", b"sixteen bytes...", bytes(1 << 24)
+
+
+def spent(work):
+    """User and system time of a call, and what it answered."""
+    before = resource.getrusage(resource.RUSAGE_SELF)
+    answer = work()
+    after = resource.getrusage(resource.RUSAGE_SELF)
+    return after.ru_utime + after.ru_stime - before.ru_utime - before.ru_stime, answer
+
+
+def argon2_rows():
+    for kib, passes, lanes in ((64, 3, 1), (4096, 3, 1), (65536, 3, 4), (262144, 1, 1)):
+        def ours(kib=kib, passes=passes, lanes=lanes):
+            return pikhsen.hash(PASSWORD, SALT, passes=passes, memory_kib=kib, lanes=lanes)
+
+        def other(kib=kib, passes=passes, lanes=lanes):
+            return hash_secret_raw(PASSWORD, SALT, passes, kib, lanes, 32, Type.ID)
+
+        yield f"argon2id, {kib} KiB, {passes} passes, {lanes} lanes, beside argon2-cffi", ours, other
+
+
+def scrypt_rows():
+    for log_n in (10, 14, 17):
+        def ours(log_n=log_n):
+            return pikhsen.scrypt(PASSWORD, SALT, log_n=log_n)
+
+        def other(log_n=log_n):
+            return hashlib.scrypt(PASSWORD, salt=SALT, n=1 << log_n, r=8, p=1, maxmem=1 << 30)
+
+        yield f"scrypt, N = 2^{log_n}, r = 8, beside hashlib.scrypt", ours, other
+
+
+def main():
+    print(f"load {os.getloadavg()[0]:.1f}")
+    for name, ours, other in [*(argon2_rows() if hash_secret_raw else []), *scrypt_rows()]:
+        least = [float("inf"), float("inf")]
+        for _ in range(ROUNDS):
+            (mine, answer), (theirs, expected) = spent(ours), spent(other)
+            if answer != expected:
+                sys.exit(f"{name}: they differ")
+            least = [min(least[0], mine), min(least[1], theirs)]
+        print(f"{name}: {least[0] * 1e3:.2f} ms, {least[1] * 1e3:.2f} ms, {least[0] / least[1]:.2f}")
+    file = pikhsen.encrypt(TEXT, PASSWORD, log_n=10)
+    both = [min(spent(it)[0] for _ in range(ROUNDS)) for it in (
+        lambda: pikhsen.encrypt(TEXT, PASSWORD, log_n=10), lambda: pikhsen.decrypt(file, PASSWORD))]
+    print(f"a file of 16 MiB: encrypted in {both[0] * 1e3:.0f} ms, decrypted in {both[1] * 1e3:.0f} ms")
+
+
+main()

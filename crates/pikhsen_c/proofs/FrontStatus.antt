@@ -1,0 +1,9 @@
+-- What a file is refused for, when there is room for its text and it is long enough for a header.
+use Rattle.std.proofs.Common.{◌≡◌, ◌≤◌, ℕ, List, length, refl}
+use Rattle.std.proofs.lemmas.Bool.{le-ltb}
+use Rattle.pikhsen_c.specs.File.{front_status, opening_status}
+
+pub front_is : (file : List ℕ) (keep max_bytes max_ops out_len : ℕ) → length file ≤ out_len → 96 ≤ length file
+    → front_status file keep max_bytes max_ops out_len ≡ opening_status file keep max_bytes max_ops
+front_is file keep max_bytes max_ops out_len room long =
+    rw (le-ltb out_len (length file) room, le-ltb (length file) 96 long) refl

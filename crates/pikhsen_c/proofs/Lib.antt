@@ -1,0 +1,2 @@
+pub mod FirstTold
+pub mod FrontStatus

@@ -1,0 +1,140 @@
+-- What a caller gives and is told of Argon2.
+use Rattle.std.specs.Prelude.{◌≡◌, ◌==◌, ◌||◌, ◌⊎◌, ℕ, not, nat_lt, nat_le, List, [], length, replicate, Result, Ok, Err, Option, Some, None, if◌then◌else◌}
+use Rattle.argon.specs.Argon2.{argon2_tag}
+use Rattle.argon.specs.Parameters.{Inputs, Parameters}
+use Rattle.argon.specs.Range.{admission, checked_parameters, is_version}
+use Rattle.argon.specs.declared.fault.ParamFault.{ParamFault}
+use Rattle.argon.specs.declared.kind.Kind.{Kind}
+use Rattle.argon.specs.declared.kind.Kind.TheVariants.{D, I, Id}
+use Rattle.argon_text.specs.EncodedText.{IsTextOf, encoded_text}
+use Rattle.argon_text.specs.Grammar.{HasNumbers}
+use Rattle.argon_text.specs.Value.{Value}
+use Rattle.argon_text.specs.Verifying.{tag_of_password, verify_fault}
+use Rattle.argon_text.specs.declared.fault.VerifyFault.{VerifyFault}
+use Rattle.argon_text.specs.declared.fault.VerifyFault.TheVariants.{PasswordLength, MemoryLimit, WorkLimit}
+use Rattle.pikhsen_c.specs.Status.{first_told, long_input, no_kind, no_version, params_number, wrong_buffer}
+
+-- the parameters of these numbers (RFC 9106, 3.1)
+abbrev pub parameters_given : ℕ → ℕ → ℕ → ℕ → ℕ → ℕ → ℕ → ℕ → Parameters
+parameters_given kind version passes lanes memory_kib tag_len salt_len password_len = record {
+  kind = kind;
+  version = version;
+  passes = passes;
+  lanes = lanes;
+  memory = memory_kib;
+  tag_len = tag_len;
+  salt_len = salt_len;
+  password_len = password_len;
+}
+
+-- the texts that are hashed (3.1)
+abbrev pub inputs_given : List ℕ → List ℕ → List ℕ → List ℕ → Inputs
+inputs_given password salt secret associated = record {
+  password = password;
+  salt = salt;
+  secret = secret;
+  associated = associated;
+}
+
+-- the type of a number up to 2 (3.1)
+abbrev pub kind_numbered : ℕ → Kind
+kind_numbered number = if number == 0 then D else if number == 1 then I else Id
+
+-- ---- what is refused before memory is asked for, by its number; or 0
+
+-- the number of a fault, or the rest
+abbrev pub number_or : {A : Type 0} → Result A ParamFault → ℕ → ℕ
+number_or (Ok _) rest = rest
+number_or (Err fault) _ = params_number fault
+
+-- the kind, the version and the ranges
+abbrev pub params_status : Parameters → ℕ
+params_status parameters =
+    if nat_lt 2 parameters.kind then no_kind
+    else if not (is_version parameters.version) then no_version
+    else number_or (checked_parameters parameters) 0
+
+-- the lengths of the secret and of the associated data
+abbrev pub inputs_status : ℕ → ℕ → ℕ
+inputs_status secret_len associated_len =
+    if nat_lt 0xFFFFFFFF secret_len || nat_lt 0xFFFFFFFF associated_len then long_input else 0
+
+-- the limits
+abbrev pub limits_status : Parameters → ℕ → ℕ → ℕ
+limits_status parameters max_kib max_ops = number_or (admission parameters max_kib max_ops) 0
+
+-- a hash
+abbrev pub hash_status : Parameters → ℕ → ℕ → ℕ → ℕ → ℕ
+hash_status parameters secret_len associated_len max_kib max_ops =
+    first_told (params_status parameters)
+    (first_told (inputs_status secret_len associated_len) (limits_status parameters max_kib max_ops))
+
+-- ---- the encoded text of a hash
+
+-- what these parameters and this salt give with this tag
+abbrev pub value_given : Parameters → List ℕ → List ℕ → Value
+value_given parameters salt tag = record {
+  kind = kind_numbered parameters.kind;
+  version = parameters.version;
+  memory = parameters.memory;
+  passes = parameters.passes;
+  lanes = parameters.lanes;
+  salt = salt;
+  tag = tag;
+}
+
+-- the text of the password's hash, with no secret and no associated data
+abbrev pub encoded_hash : Parameters → List ℕ → List ℕ → List ℕ
+encoded_hash parameters password salt =
+    encoded_text (value_given parameters salt (argon2_tag parameters (inputs_given password salt [] [])))
+
+-- the text that has zeros for a tag, which is as long
+abbrev pub text_of_zeros : Parameters → List ℕ → List ℕ
+text_of_zeros parameters salt = encoded_text (value_given parameters salt (replicate parameters.tag_len 0))
+
+-- whether a buffer is too small for a text and a byte 0 after it
+abbrev pub room_status : ℕ → ℕ → ℕ
+room_status text_len out_len = if nat_le out_len text_len then wrong_buffer else 0
+
+-- what an encoded text is refused for, whether memory is there or not
+abbrev pub settings_status : Parameters → ℕ → ℕ → ℕ
+settings_status parameters max_kib max_ops =
+    first_told (params_status parameters) (limits_status parameters max_kib max_ops)
+
+-- an encoded text
+abbrev pub encoded_status : Parameters → List ℕ → ℕ → ℕ → ℕ → ℕ
+encoded_status parameters salt max_kib max_ops out_len =
+    first_told (settings_status parameters max_kib max_ops) (room_status (length (text_of_zeros parameters salt)) out_len)
+
+-- ---- the test of a password
+
+-- the number, where it tells a fault before memory is asked for, tells the first that holds
+pub record IsTold (status : ℕ) (first : Option VerifyFault) : Type 0 where
+  pub password_len : status ≡ 6 → first ≡ Some PasswordLength
+  pub memory_limit : status ≡ 7 → first ≡ Some MemoryLimit
+  pub work_limit : status ≡ 8 → first ≡ Some WorkLimit
+  pub memory : status ≡ 9 → first ≡ None
+
+-- the text is that of a value within the limits, and the password gives the value's tag
+pub record HasPassword (text password : List ℕ) (max_kib max_ops : ℕ) : Type 0 where
+  pub value : Value
+  pub written : IsTextOf value text
+  pub admitted : verify_fault value password max_kib max_ops ≡ None
+  pub same : tag_of_password value password ≡ value.tag
+
+-- the text is that of a value within the limits, and the password gives a tag that is not the value's
+pub record HasOtherPassword (text password : List ℕ) (max_kib max_ops : ℕ) : Type 0 where
+  pub value : Value
+  pub written : IsTextOf value text
+  pub admitted : verify_fault value password max_kib max_ops ≡ None
+  pub other : tag_of_password value password ≡ value.tag → ⊥
+
+-- the text is that of a value for which this is the first fault of the password's length and the limits, or none
+pub record IsJudged (first : Option VerifyFault) (text password : List ℕ) (max_kib max_ops : ℕ) : Type 0 where
+  pub value : Value
+  pub written : IsTextOf value text
+  pub refused : verify_fault value password max_kib max_ops ≡ first
+
+-- memory is asked for where the numbers of the text are read, and for the hash where nothing else refuses it
+abbrev pub MayLackMemory : List ℕ → List ℕ → ℕ → ℕ → Type 0
+MayLackMemory text password max_kib max_ops = HasNumbers text ⊎ IsJudged None text password max_kib max_ops

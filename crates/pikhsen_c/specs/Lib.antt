@@ -1,0 +1,6 @@
+-- What a program in C gives and is told: the numbers of answers, and for each call when it answers which.
+pub mod Status
+pub mod Argon2
+pub mod Scrypt
+pub mod File
+pub mod Inside

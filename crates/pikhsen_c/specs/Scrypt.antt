@@ -1,0 +1,49 @@
+-- What a caller gives and is told of a derivation by scrypt.
+use Rattle.std.specs.Prelude.{ℕ, ◌*◌, ◌-◌, ◌^◌, nat_lt, nat_le, Option, Some, None, if◌then◌else◌}
+use Rattle.romix.specs.Costs.{Parameters}
+use Rattle.romix.specs.Faults.{cost_fault, keep_fault, sparse_limit_fault}
+use Rattle.romix.specs.SparseCosts.{SparseParameters}
+use Rattle.romix.specs.declared.fault.CostFault.{CostFault}
+use Rattle.romix.specs.declared.limits.Limits.{Limits}
+use Rattle.pikhsen_c.specs.Status.{costs_number, first_told, wrong_buffer}
+
+-- the costs of these numbers (RFC 7914, 2)
+abbrev pub costs_given : ℕ → ℕ → ℕ → Parameters
+costs_given log_n r p = record { log_n = log_n; r = r; p = p }
+
+-- the costs with the rows kept whose number `keep` divides
+abbrev pub sparse_given : Parameters → ℕ → SparseParameters
+sparse_given costs keep = record { costs = costs; keep = keep }
+
+-- the limits that count: no more than 2^40 bytes are ever asked for
+abbrev pub limits_given : ℕ → ℕ → Limits
+limits_given max_bytes max_ops = record {
+  max_bytes = if nat_le max_bytes (2 ^ 40) then max_bytes else 2 ^ 40;
+  max_ops = max_ops;
+}
+
+-- ---- what is refused before memory is asked for, by its number; or 0
+
+-- the number of a fault, if there is one
+abbrev pub number_of : Option CostFault → ℕ
+number_of None = 0
+number_of (Some fault) = costs_number fault
+
+-- the ranges of the costs
+abbrev pub costs_status : Parameters → ℕ
+costs_status costs = number_of (cost_fault costs.log_n costs.r costs.p)
+
+-- which rows are kept, and then the limits
+abbrev pub limits_status : SparseParameters → ℕ → ℕ → ℕ
+limits_status sparse max_bytes max_ops =
+    first_told (number_of (keep_fault sparse)) (number_of (sparse_limit_fault sparse (limits_given max_bytes max_ops)))
+
+-- the length of a key
+abbrev pub key_status : ℕ → ℕ
+key_status len = if nat_lt (32 * (2 ^ 32 - 1)) len then wrong_buffer else 0
+
+-- a derivation
+abbrev pub scrypt_status : Parameters → ℕ → ℕ → ℕ → ℕ → ℕ
+scrypt_status costs keep max_bytes max_ops len =
+    first_told (costs_status costs)
+    (first_told (key_status len) (limits_status (sparse_given costs keep) max_bytes max_ops))

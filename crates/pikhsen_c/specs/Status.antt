@@ -1,0 +1,92 @@
+-- The numbers that tell a program in C what came of a call: one table, and 0 where the call did what it says.
+use Rattle.std.specs.Prelude.{ℕ, ◌==◌, if◌then◌else◌}
+use Rattle.argon.specs.declared.fault.ParamFault.{ParamFault}
+use Rattle.argon.specs.declared.fault.ParamFault.TheVariants as params
+use Rattle.romix.specs.declared.fault.CostFault.{CostFault}
+use Rattle.romix.specs.declared.fault.CostFault.TheVariants as costs
+use Rattle.encfile.specs.declared.fault.HeaderFault.{HeaderFault}
+use Rattle.encfile.specs.declared.fault.HeaderFault.TheVariants as header
+
+-- 1 to 8: what Argon2's parameters are refused for
+abbrev pub params_number : ParamFault → ℕ
+params_number params.Passes = 1
+params_number params.Lanes = 2
+params_number params.Memory = 3
+params_number params.TagLength = 4
+params_number params.SaltLength = 5
+params_number params.PasswordLength = 6
+params_number params.MemoryLimit = 7
+params_number params.WorkLimit = 8
+
+-- memory was refused
+abbrev pub out_of_memory : ℕ
+out_of_memory = 9
+
+-- a kind that is not 0, 1 or 2
+abbrev pub no_kind : ℕ
+no_kind = 10
+
+-- a version that is not 0x10 or 0x13
+abbrev pub no_version : ℕ
+no_version = 11
+
+-- a secret, or associated data, of 2^32 bytes or more
+abbrev pub long_input : ℕ
+long_input = 12
+
+-- a buffer that has not the length that the call needs
+abbrev pub wrong_buffer : ℕ
+wrong_buffer = 13
+
+-- a text that is no encoded text
+abbrev pub not_encoded : ℕ
+not_encoded = 14
+
+-- an encoded text with a value out of range
+abbrev pub out_of_range : ℕ
+out_of_range = 15
+
+-- the password is not that of the text
+abbrev pub mismatch : ℕ
+mismatch = 16
+
+-- 17 to 21: what scrypt's costs are refused for; the limits have the numbers that they have for Argon2
+abbrev pub costs_number : CostFault → ℕ
+costs_number costs.LogN = 17
+costs_number costs.Zero = 18
+costs_number costs.Product = 19
+costs_number costs.Keep = 20
+costs_number costs.KeepAboveN = 21
+costs_number costs.Memory = 7
+costs_number costs.Work = 8
+
+-- 22 to 25: what the header of a file is refused for
+abbrev pub header_number : HeaderFault → ℕ
+header_number header.Magic = 22
+header_number header.Version = 23
+header_number header.Checksum = 24
+header_number header.CostsOutOfRange = 25
+
+-- a file without a whole header
+abbrev pub short_file : ℕ
+short_file = 26
+
+-- a passphrase that is not the file's
+abbrev pub wrong_passphrase : ℕ
+wrong_passphrase = 27
+
+-- a file that is damaged, or cut short, after its first 96 bytes
+abbrev pub damaged : ℕ
+damaged = 28
+
+-- a text of 2^60 bytes or more
+abbrev pub long_text : ℕ
+long_text = 29
+
+-- a salt for a file that has not 32 bytes
+abbrev pub wrong_salt : ℕ
+wrong_salt = 30
+
+-- the first of two numbers, if it tells a fault, or else the second
+abbrev pub first_told : ℕ → ℕ → ℕ
+first_told first second = if first == 0 then second else first

@@ -1,0 +1,136 @@
+//! Encoded texts of hashes by Argon2.
+ghost use Rattle.std.specs.Prelude.{◌≡◌, ◌≢◌, ◌+◌, ◌++◌, ◌<◌, ◌≤◌, ◌∷◌, [], true, length, replicate, take, IfOk, IfErr, Ok};
+ghost use Rattle.argon.specs.Argon2.{argon2_tag};
+ghost use Rattle.argon.specs.Range.{IsInRange, admission};
+ghost use Rattle.argon_text.specs.EncodedText.{encoded_text};
+ghost use Rattle.pikhsen_c.specs.Argon2.{encoded_hash, encoded_status, inputs_given, kind_numbered, parameters_given, settings_status, text_of_zeros, value_given};
+ghost use Rattle.pikhsen_c.specs.Status.{out_of_memory};
+
+use crate::argon2::{admitted, kind_of, matrix_of, params_of};
+use crate::status;
+use argon::{Inputs, Kind, Matrix, Params, Ticks};
+use argon_text::{Encoded, put_tag};
+use std::alloc::{AllocError, Global};
+
+// The text that has zeros for a tag.
+fn text_of_zeros(
+    alloc: Global,
+    kind: Kind,
+    params: &Params,
+    salt: &[u8],
+) -> Result<Vec<u8>, AllocError>
+    requires kind { kind ≡ kind_numbered params.now.kind }
+    requires in_range { IsInRange params.now }
+    requires salt { length salt.now ≡ params.now.salt_len }
+    ensures text { IfOk result (λ text. text.items ≡ text_of_zeros params.now salt.now) }
+{
+    let encoded = Encoded {
+        kind,
+        version: params.version(),
+        memory: params.memory_kib(),
+        passes: params.passes(),
+        lanes: params.lanes(),
+        salt: salt.to_vec(alloc)?,
+        tag: vec![in alloc; 0u8; params.tag_len()]?,
+    };
+    let mut text = Vec::new(alloc);
+    encoded.write(&mut text)?;
+    Ok(text)
+}
+
+// Hashes, and writes the tag over the zeros of the text. It can ask for no memory.
+fn hash_into(text: &mut [u8], matrix: &mut Matrix, password: &[u8], salt: &[u8], tag_len: usize)
+    requires tag_len { matrix.old.parameters.tag_len ≡ tag_len }
+    requires short { tag_len ≤ 4096 }
+    requires password { length password.now ≡ matrix.old.parameters.password_len }
+    requires salt { length salt.now ≡ matrix.old.parameters.salt_len }
+    requires zeros { text.old ≡ text_of_zeros matrix.old.parameters salt.now }
+    ensures text { text.new ≡ encoded_hash matrix.old.parameters password.now salt.now }
+{
+    let mut longest = [0u8; 4096];
+    let tag = &mut longest[..tag_len];
+    let inputs = Inputs {
+        password,
+        salt,
+        secret: &[],
+        associated: &[],
+    };
+    matrix.hash(&inputs, tag, &mut Ticks::new());
+    put_tag(text, tag);
+}
+
+// Copies a text to the front, and a byte 0 after it.
+fn copy_text(text: &[u8], out: &mut [u8])
+    requires room { length text.now < length out.old }
+    ensures text { take (length text.now) out.new ≡ text.now }
+    ensures end { take (length text.now + 1) out.new ≡ text.now ++ 0 ∷ [] }
+{
+    out[..text.len()].copy_from_slice(text);
+    out[text.len()] = 0;
+}
+
+/// The encoded text of a password's hash at the front of `out`, and a byte 0 after it; its length, without
+/// that byte, goes to `text_len`. There is no secret and no associated data.
+#[unsafe(no_mangle)]
+pub extern "C" fn pikhsen_argon2_encoded(
+    alloc: Global,
+    kind: u32,
+    version: u32,
+    passes: u32,
+    memory_kib: u32,
+    lanes: u32,
+    password: &[u8],
+    salt: &[u8],
+    tag_len: usize,
+    max_kib: u32,
+    max_ops: u64,
+    out: &mut [u8],
+    text_len: &mut usize,
+) -> u32
+    ensures text { result ≡ 0 → take text_len.new out.new ≡ encoded_hash (parameters_given kind version passes lanes
+        memory_kib tag_len (length salt.now) (length password.now)) password.now salt.now }
+    ensures end { result ≡ 0 → take (text_len.new + 1) out.new ≡ encoded_hash (parameters_given kind version passes lanes
+        memory_kib tag_len (length salt.now) (length password.now)) password.now salt.now ++ 0 ∷ [] }
+    ensures told { result ≢ out_of_memory → result ≡ encoded_status (parameters_given kind version passes lanes
+        memory_kib tag_len (length salt.now) (length password.now)) salt.now max_kib max_ops (length out.old) }
+    // Memory is asked for, and refused, only where the settings are not.
+    ensures memory { result ≡ out_of_memory → settings_status (parameters_given kind version passes lanes
+        memory_kib tag_len (length salt.now) (length password.now)) max_kib max_ops ≡ 0 }
+    ensures untouched { result ≢ 0 → out.new ≡ out.old }
+    ensures nothing { result ≢ 0 → text_len.new ≡ 0 }
+{
+    *text_len = 0;
+    let params = match params_of(
+        kind,
+        version,
+        passes,
+        lanes,
+        memory_kib,
+        tag_len,
+        salt.len(),
+        password.len(),
+    ) {
+        Ok(params) => params,
+        Err(status) => return status,
+    };
+    let Some(kind) = kind_of(kind) else {
+        return status::KIND;
+    };
+    if let Err(status) = admitted(&params, max_kib, max_ops) {
+        return status;
+    }
+    let Ok(mut text) = text_of_zeros(alloc, kind, &params, salt) else {
+        return status::OUT_OF_MEMORY;
+    };
+    if out.len() <= text.len() {
+        return status::BUFFER;
+    }
+    let mut matrix = match matrix_of(alloc, &params, max_kib, max_ops) {
+        Ok(matrix) => matrix,
+        Err(status) => return status,
+    };
+    hash_into(&mut text, &mut matrix, password, salt, tag_len);
+    copy_text(&text, out);
+    *text_len = text.len();
+    status::OK
+}

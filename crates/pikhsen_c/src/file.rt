@@ -1,0 +1,292 @@
+//! scrypt's encrypted files, whole in memory.
+ghost use Rattle.std.specs.Prelude.{◌≡◌, ◌≢◌, ℕ, ◌+◌, ◌^◌, ◌<◌, ◌≤◌, List, [], length, replicate, take, IfOk, IfErr, OnOk, OnErr};
+ghost use Rattle.romix.specs.Costs.{Parameters};
+ghost use Rattle.encfile.specs.Decrypting.{HasRead};
+ghost use Rattle.encfile.specs.EncryptedFile.{HasRightHeaderCode, IsEncryptionOf, encrypted_file, released_text};
+ghost use Rattle.encfile.specs.Encrypting.{HasEncrypted};
+ghost use Rattle.encfile.specs.Header.{IsHeaderOf, costs_of};
+ghost use Rattle.encfile.specs.HeaderFaults.{header_fault};
+ghost use Rattle.pikhsen_c.specs.File.{encrypt_status, front_status, header_status, lengths_status, number_of, opening_status};
+ghost use Rattle.pikhsen_c.specs.Scrypt.{costs_given, limits_status, sparse_given};
+ghost use Rattle.pikhsen_c.specs.Status.{damaged, long_text, out_of_memory, wrong_passphrase};
+
+use crate::scrypt::{costs_of, workspace};
+use crate::status;
+use encfile::{Dec, Enc, Header, TooLong};
+use romix::Ticks;
+use std::alloc::Global;
+
+/// What a file asks for.
+#[repr(C)]
+#[derive(Drop)]
+pub struct PikhsenScryptCosts {
+    pub log_n: u32,
+    pub r: u32,
+    pub p: u32,
+}
+
+// The header of a file of at least 64 bytes, or the number of the first fault.
+fn header_of(file: &[u8]) -> Result<Header, u32>
+    requires long { 64 ≤ length file.now }
+    ensures header { IfOk result (λ header. IsHeaderOf (take 64 file.now) header) }
+    ensures costs { IfOk result (λ header. header.costs ≡ costs_of (take 64 file.now)) }
+    ensures passed { OnOk result (number_of (header_fault (take 64 file.now)) ≡ 0) }
+    ensures told { IfErr result (λ status. number_of (header_fault (take 64 file.now)) ≡ status) }
+    ensures some { IfErr result (λ status. 22 ≤ status) }
+    ensures below { IfErr result (λ status. status ≤ 25) }
+{
+    let mut front = [0u8; 64];
+    front.copy_from_slice(&file[..64]);
+    match Header::read(&front) {
+        Ok(header) => Ok(header),
+        Err(fault) => Err(status::of_header(fault)),
+    }
+}
+
+/// The costs that the header of a file says. Anyone can make a header, so nothing is known of who wrote it.
+#[unsafe(no_mangle)]
+pub extern "C" fn pikhsen_scrypt_info(file: &[u8], costs: &mut PikhsenScryptCosts) -> u32
+    ensures costs { result ≡ 0 → costs_given costs.new.log_n costs.new.r costs.new.p ≡ costs_of (take 64 file.now) }
+    ensures told { result ≡ header_status file.now }
+    ensures untouched { result ≢ 0 → costs.new ≡ costs.old }
+{
+    if file.len() < 64 {
+        return status::TOO_SHORT;
+    }
+    match header_of(file) {
+        Ok(header) => {
+            let said = header.costs();
+            *costs = PikhsenScryptCosts {
+                log_n: u32::from(said.log_n()),
+                r: said.r(),
+                p: said.p(),
+            };
+            status::OK
+        }
+        Err(status) => status,
+    }
+}
+
+// Whether salt, text and file have lengths that fit, or the number of the first fault.
+fn tested_lengths(salt: &[u8], text: &[u8], out: &[u8]) -> Result<(), u32>
+    ensures passed { OnOk result (lengths_status (length salt.now) (length text.now) (length out.now) ≡ 0) }
+    ensures salt { OnOk result (length salt.now ≡ 32) }
+    ensures text { OnOk result (length text.now < 2 ^ 60) }
+    ensures room { OnOk result (length out.now ≡ length text.now + 128) }
+    ensures told { IfErr result (λ status.
+        lengths_status (length salt.now) (length text.now) (length out.now) ≡ status) }
+    ensures some { IfErr result (λ status. 13 ≤ status) }
+{
+    if salt.len() != 32 {
+        return Err(status::FILE_SALT);
+    }
+    if text.len() as u64 >= 1 << 60 {
+        return Err(status::TOO_LONG);
+    }
+    if out.len() != text.len() + 128 {
+        return Err(status::BUFFER);
+    }
+    Ok(())
+}
+
+// The file of the text, by an encryption of nothing yet. It is never too long.
+fn put_file(enc: Enc, text: &[u8], out: &mut [u8]) -> Result<(), TooLong>
+    requires room { length out.old ≡ length text.now + 128 }
+    requires short { length text.now < 2 ^ 60 }
+    ensures file { OnOk result ((passphrase salt : List ℕ) (costs : Parameters)
+        → HasEncrypted enc passphrase salt costs []
+        → out.new ≡ encrypted_file passphrase salt costs text.now) }
+    ensures never { OnErr result ((passphrase salt : List ℕ) (costs : Parameters)
+        → HasEncrypted enc passphrase salt costs [] → ⊥) }
+{
+    let mut enc = enc;
+    let (head, rest) = out.split_at_mut(96);
+    let (body, code) = rest.split_at_mut(text.len());
+    head.copy_from_slice(&enc.header());
+    body.copy_from_slice(text);
+    enc.feed(body)?;
+    code.copy_from_slice(&enc.finish());
+    Ok(())
+}
+
+/// The file of a text. `out` has 128 bytes more than the text.
+#[unsafe(no_mangle)]
+pub extern "C" fn pikhsen_scrypt_encrypt(
+    alloc: Global,
+    passphrase: &[u8],
+    salt: &[u8],
+    log_n: u32,
+    r: u32,
+    p: u32,
+    keep: u32,
+    max_bytes: u64,
+    max_ops: u64,
+    text: &[u8],
+    out: &mut [u8],
+) -> u32
+    ensures file { result ≡ 0 → out.new ≡ encrypted_file passphrase.now salt.now (costs_given log_n r p) text.now }
+    ensures told { result ≢ out_of_memory → result ≡ encrypt_status (costs_given log_n r p) keep max_bytes max_ops
+        (length salt.now) (length text.now) (length out.old) }
+    // Memory is asked for, and refused, only where nothing else is.
+    ensures memory { result ≡ out_of_memory → encrypt_status (costs_given log_n r p) keep max_bytes max_ops
+        (length salt.now) (length text.now) (length out.old) ≡ 0 }
+    ensures untouched { result ≢ 0 → out.new ≡ out.old }
+{
+    let costs = match costs_of(log_n, r, p) {
+        Ok(costs) => costs,
+        Err(status) => return status,
+    };
+    if let Err(status) = tested_lengths(salt, text, out) {
+        return status;
+    }
+    let mut whole_salt = [0u8; 32];
+    whole_salt.copy_from_slice(salt);
+    match workspace(alloc, &costs, keep, max_bytes, max_ops) {
+        Ok(mut workspace) => {
+            let mut ticks = Ticks::new();
+            let enc = Enc::start(&costs, &whole_salt, passphrase, &mut workspace, &mut ticks);
+            match put_file(enc, text, out) {
+                Ok(()) => status::OK,
+                Err(_) => status::TOO_LONG,
+            }
+        }
+        Err(status) => status,
+    }
+}
+
+// The first 96 bytes of a file.
+fn front_of(file: &[u8]) -> [u8; 96]
+    requires long { 96 ≤ length file.now }
+    ensures front { result ≡ take 96 file.now }
+{
+    let mut front = [0u8; 96];
+    front.copy_from_slice(&file[..96]);
+    front
+}
+
+// A decryption behind the first 96 bytes of a file, or the number of what the file is refused for.
+fn opened(
+    alloc: Global,
+    passphrase: &[u8],
+    keep: u32,
+    max_bytes: u64,
+    max_ops: u64,
+    file: &[u8],
+) -> Result<Dec, u32>
+    requires long { 96 ≤ length file.now }
+    ensures opened { IfOk result (λ dec. HasRead dec passphrase.now (take 96 file.now)) }
+    ensures nothing { OnOk result (released_text (take 96 file.now) passphrase.now ≡ []) }
+    ensures right { OnOk result (HasRightHeaderCode (take 96 file.now) passphrase.now) }
+    ensures passed { OnOk result (opening_status file.now keep max_bytes max_ops ≡ 0) }
+    ensures told { IfErr result (λ status. status ≢ out_of_memory → status ≢ wrong_passphrase
+        → opening_status file.now keep max_bytes max_ops ≡ status) }
+    ensures memory { IfErr result (λ status. status ≡ out_of_memory
+        → opening_status file.now keep max_bytes max_ops ≡ 0) }
+    ensures admitted { IfErr result (λ status. status ≡ wrong_passphrase
+        → opening_status file.now keep max_bytes max_ops ≡ 0) }
+    ensures wrong { IfErr result (λ status. status ≡ wrong_passphrase
+        → HasRightHeaderCode (take 96 file.now) passphrase.now → ⊥) }
+    ensures some { IfErr result (λ status. 1 ≤ status) }
+    ensures below { IfErr result (λ status. status ≤ 27) }
+{
+    let header = match header_of(file) {
+        Ok(header) => header,
+        Err(status) => return Err(status),
+    };
+    let mut workspace = match workspace(alloc, header.costs(), keep, max_bytes, max_ops) {
+        Ok(workspace) => workspace,
+        Err(status) => return Err(status),
+    };
+    let front = front_of(file);
+    match Dec::open(
+        &front,
+        header,
+        passphrase,
+        &mut workspace,
+        &mut Ticks::new(),
+    ) {
+        Ok(dec) => Ok(dec),
+        Err(_) => Err(status::WRONG_PASSPHRASE),
+    }
+}
+
+// The text of a file whose first 96 bytes are read, at the front of `out`, if the file is whole.
+fn text_of(dec: Dec, file: &[u8], out: &mut [u8]) -> Result<usize, u32>
+    requires long { 96 ≤ length file.now }
+    requires room { length file.now ≤ length out.old }
+    ensures whole { IfOk result (λ n. (passphrase : List ℕ) → HasRead dec passphrase (take 96 file.now)
+        → released_text (take 96 file.now) passphrase ≡ []
+        → IsEncryptionOf file.now passphrase (take n out.new)) }
+    ensures not_whole { IfErr result (λ status. status ≡ damaged
+        → (passphrase : List ℕ) → HasRead dec passphrase (take 96 file.now)
+        → IsEncryptionOf file.now passphrase (released_text file.now passphrase) → ⊥) }
+    ensures too_long { IfErr result (λ status. status ≡ long_text
+        → (passphrase : List ℕ) → HasRead dec passphrase (take 96 file.now)
+        → 2 ^ 60 + 128 ≤ length file.now) }
+    ensures some { IfErr result (λ status. 28 ≤ status) }
+    ensures few { IfErr result (λ status. status ≤ 29) }
+    ensures len { length out.new ≡ length out.old }
+{
+    let mut dec = dec;
+    let Ok(len) = dec.feed(&file[96..], out) else {
+        return Err(status::TOO_LONG);
+    };
+    match dec.finish() {
+        Ok(()) => Ok(len),
+        Err(_) => Err(status::DAMAGED),
+    }
+}
+
+/// The text of a file, if the file is whole and the passphrase is right; nothing of it otherwise. `out` has
+/// at least as many bytes as the file, and the text is the first `text_len` of them.
+#[unsafe(no_mangle)]
+pub extern "C" fn pikhsen_scrypt_decrypt(
+    alloc: Global,
+    passphrase: &[u8],
+    keep: u32,
+    max_bytes: u64,
+    max_ops: u64,
+    file: &[u8],
+    out: &mut [u8],
+    text_len: &mut usize,
+) -> u32
+    ensures whole { result ≡ 0 → IsEncryptionOf file.now passphrase.now (take text_len.new out.new) }
+    ensures nothing { result ≢ 0 → text_len.new ≡ 0 }
+    // What is refused whatever the passphrase is told by the first fault, and nothing else is then told.
+    ensures told { result ≢ 0 → result ≢ out_of_memory → result < wrong_passphrase
+        → result ≡ front_status file.now keep max_bytes max_ops (length out.old) }
+    ensures admitted { result ≡ 0 → front_status file.now keep max_bytes max_ops (length out.old) ≡ 0 }
+    ensures memory { result ≡ out_of_memory → front_status file.now keep max_bytes max_ops (length out.old) ≡ 0 }
+    ensures late { wrong_passphrase ≤ result → front_status file.now keep max_bytes max_ops (length out.old) ≡ 0 }
+    ensures wrong { result ≡ wrong_passphrase → HasRightHeaderCode (take 96 file.now) passphrase.now → ⊥ }
+    ensures right { wrong_passphrase < result → HasRightHeaderCode (take 96 file.now) passphrase.now }
+    ensures damaged { result ≡ damaged
+        → IsEncryptionOf file.now passphrase.now (released_text file.now passphrase.now) → ⊥ }
+    ensures too_long { result ≡ long_text → 2 ^ 60 + 128 ≤ length file.now }
+    ensures high { result ≤ 29 }
+    // No text is left of a file that is not whole.
+    ensures zeros { wrong_passphrase < result → out.new ≡ replicate (length out.old) 0 }
+    ensures untouched { result ≢ 0 → result ≤ wrong_passphrase → out.new ≡ out.old }
+{
+    *text_len = 0;
+    if out.len() < file.len() {
+        return status::BUFFER;
+    }
+    if file.len() < 96 {
+        return status::TOO_SHORT;
+    }
+    let dec = match opened(alloc, passphrase, keep, max_bytes, max_ops, file) {
+        Ok(dec) => dec,
+        Err(status) => return status,
+    };
+    match text_of(dec, file, out) {
+        Ok(len) => {
+            *text_len = len;
+            status::OK
+        }
+        Err(status) => {
+            out.fill(0);
+            status
+        }
+    }
+}

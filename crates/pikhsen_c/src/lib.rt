@@ -1,0 +1,26 @@
+//! Hashes, keys and encrypted files for programs in C: each function here is a call of a library below, by
+//! numbers and bytes. include/pikhsen.h describes them for C.
+//!
+//! Each answers a number of `status`: 0 where it did what it says, and otherwise why not. All memory that
+//! a call takes is freed before it answers.
+#![tactic(auto)]
+
+mod argon2;
+mod encoded;
+mod file;
+mod scrypt;
+mod status;
+mod verifying;
+mod version;
+
+pub use argon2::pikhsen_argon2_hash;
+pub use encoded::pikhsen_argon2_encoded;
+pub use file::{
+    PikhsenScryptCosts, pikhsen_scrypt_decrypt, pikhsen_scrypt_encrypt, pikhsen_scrypt_info,
+};
+pub use scrypt::pikhsen_scrypt;
+pub use verifying::pikhsen_argon2_verify;
+pub use version::pikhsen_version;
+
+#[cfg(test)]
+mod tests;

@@ -1,0 +1,120 @@
+//! Keys by scrypt.
+ghost use Rattle.std.specs.Prelude.{◌≡◌, ◌≢◌, ◌≤◌, ◌^◌, length, IfOk, IfErr, OnOk};
+ghost use Rattle.romix.specs.Scrypt.{scrypt};
+ghost use Rattle.romix.specs.SparseCosts.{SparseFitsMemory};
+ghost use Rattle.pikhsen_c.specs.Scrypt.{costs_given, costs_status, limits_status, scrypt_status, sparse_given};
+ghost use Rattle.pikhsen_c.specs.Status.{out_of_memory};
+
+use crate::status;
+use romix::{Costs, Limits, Sparse, Ticks, Workspace};
+use std::alloc::Global;
+
+// No more bytes are asked for, whatever the limit of a caller.
+const MOST_BYTES: u64 = 1 << 40;
+
+/// The costs of these numbers, or the number of the first fault.
+pub(crate) fn costs_of(log_n: u32, r: u32, p: u32) -> Result<Costs, u32>
+    ensures costs { IfOk result (λ costs. costs ≡ costs_given log_n r p) }
+    ensures passed { OnOk result (costs_status (costs_given log_n r p) ≡ 0) }
+    ensures told { IfErr result (λ status. costs_status (costs_given log_n r p) ≡ status) }
+    ensures some { IfErr result (λ status. 1 ≤ status) }
+    ensures other { IfErr result (λ status. status ≢ out_of_memory) }
+    ensures below { IfErr result (λ status. status ≤ 21) }
+{
+    if log_n > 63 {
+        return Err(status::of_costs(romix::CostFault::LogN));
+    }
+    match Costs::new(log_n as u8, r, p) {
+        Ok(costs) => Ok(costs),
+        Err(fault) => Err(status::of_costs(fault)),
+    }
+}
+
+// The costs with the rows kept whose number `keep` divides, where `keep` may be and the limits admit it; or
+// the number of the first fault.
+fn admitted(costs: &Costs, keep: u32, max_bytes: u64, max_ops: u64) -> Result<Sparse, u32>
+    ensures sparse { IfOk result (λ sparse. sparse ≡ sparse_given costs.now keep) }
+    ensures fits { IfOk result (λ sparse. SparseFitsMemory sparse (2 ^ 40)) }
+    ensures passed { OnOk result (limits_status (sparse_given costs.now keep) max_bytes max_ops ≡ 0) }
+    ensures told { IfErr result (λ status. limits_status (sparse_given costs.now keep) max_bytes max_ops ≡ status) }
+    ensures some { IfErr result (λ status. 1 ≤ status) }
+    ensures other { IfErr result (λ status. status ≢ out_of_memory) }
+    ensures below { IfErr result (λ status. status ≤ 21) }
+{
+    let sparse = match Sparse::new(costs, u64::from(keep)) {
+        Ok(sparse) => sparse,
+        Err(fault) => return Err(status::of_costs(fault)),
+    };
+    let limits = Limits {
+        max_bytes: max_bytes.min(MOST_BYTES),
+        max_ops,
+    };
+    match sparse.admitted(&limits) {
+        Ok(()) => Ok(sparse),
+        Err(fault) => Err(status::of_costs(fault)),
+    }
+}
+
+/// Takes the memory of a derivation that the limits admit; or the number of what it is refused for.
+pub(crate) fn workspace(
+    alloc: Global,
+    costs: &Costs,
+    keep: u32,
+    max_bytes: u64,
+    max_ops: u64,
+) -> Result<Workspace, u32>
+    ensures costs { IfOk result (λ workspace. workspace.sparse.costs ≡ costs.now) }
+    ensures passed { OnOk result (limits_status (sparse_given costs.now keep) max_bytes max_ops ≡ 0) }
+    ensures told { IfErr result (λ status. status ≢ out_of_memory
+        → limits_status (sparse_given costs.now keep) max_bytes max_ops ≡ status) }
+    ensures memory { IfErr result (λ status. status ≡ out_of_memory
+        → limits_status (sparse_given costs.now keep) max_bytes max_ops ≡ 0) }
+    ensures some { IfErr result (λ status. 1 ≤ status) }
+    ensures below { IfErr result (λ status. status ≤ 21) }
+{
+    let sparse = admitted(costs, keep, max_bytes, max_ops)?;
+    match Workspace::reserve(alloc, &sparse) {
+        Ok(workspace) => Ok(workspace),
+        Err(_) => Err(status::OUT_OF_MEMORY),
+    }
+}
+
+/// The key of a password, as many bytes as `out` has. What is refused is told by the first fault, before
+/// memory is asked for. With `keep` above 1 every so many rows of the table are kept, and the others are
+/// made again: the key is the same.
+#[unsafe(no_mangle)]
+pub extern "C" fn pikhsen_scrypt(
+    alloc: Global,
+    password: &[u8],
+    salt: &[u8],
+    log_n: u32,
+    r: u32,
+    p: u32,
+    keep: u32,
+    max_bytes: u64,
+    max_ops: u64,
+    out: &mut [u8],
+) -> u32
+    ensures key { result ≡ 0 → out.new ≡ scrypt password.now salt.now (2 ^ log_n) r p (length out.old) }
+    ensures told { result ≢ out_of_memory
+        → result ≡ scrypt_status (costs_given log_n r p) keep max_bytes max_ops (length out.old) }
+    // Memory is asked for, and refused, only where nothing else is.
+    ensures memory { result ≡ out_of_memory
+        → scrypt_status (costs_given log_n r p) keep max_bytes max_ops (length out.old) ≡ 0 }
+    ensures untouched { result ≢ 0 → out.new ≡ out.old }
+{
+    let costs = match costs_of(log_n, r, p) {
+        Ok(costs) => costs,
+        Err(status) => return status,
+    };
+    if out.len() > 32 * 0xFFFF_FFFF {
+        return status::BUFFER;
+    }
+    match workspace(alloc, &costs, keep, max_bytes, max_ops) {
+        Ok(mut workspace) => {
+            workspace.derive(password, salt, out, &mut Ticks::new());
+            status::OK
+        }
+        Err(status) => status,
+    }
+}

@@ -1,0 +1,59 @@
+//! The test of a password against an encoded text.
+ghost use Rattle.std.specs.Prelude.{◌≡◌, ◌≤◌, ◌<◌, None, Some};
+ghost use Rattle.argon_text.specs.Grammar.{IsText, IsTextInRange};
+ghost use Rattle.argon_text.specs.Verifying.{tag_of_password, verify_fault};
+ghost use Rattle.argon_text.specs.View.{value_of};
+ghost use Rattle.pikhsen_c.specs.Argon2.{HasOtherPassword, HasPassword, IsJudged, IsTold, MayLackMemory};
+ghost use Rattle.pikhsen_c.specs.Status.{mismatch, not_encoded, out_of_memory, out_of_range};
+
+use crate::status;
+use argon_text::{Encoded, VerifyFault, verify};
+use std::alloc::Global;
+
+// What `verify` answers, by its number.
+fn answered(alloc: Global, encoded: &Encoded, password: &[u8], max_kib: u32, max_ops: u64) -> u32
+    ensures admitted { result ≡ 0 → verify_fault (value_of encoded.now) password.now max_kib max_ops ≡ None }
+    ensures right { result ≡ 0 → tag_of_password (value_of encoded.now) password.now ≡ encoded.now.tag.items }
+    ensures admitted_too { result ≡ 16 → verify_fault (value_of encoded.now) password.now max_kib max_ops ≡ None }
+    ensures wrong { result ≡ 16 → tag_of_password (value_of encoded.now) password.now ≡ encoded.now.tag.items → ⊥ }
+    ensures refused { IsTold result (verify_fault (value_of encoded.now) password.now max_kib max_ops) }
+    ensures low { 0 < result → 6 ≤ result }
+    ensures gap { 9 < result → 16 ≤ result }
+    ensures high { result ≤ 16 }
+{
+    match verify(alloc, encoded, password, max_kib, max_ops) {
+        Ok(true) => status::OK,
+        Ok(false) => status::MISMATCH,
+        Err(fault) => status::of_verify(fault),
+    }
+}
+
+/// Whether the password is that of an encoded text: 0 where it is, 16 where it is not. The text is refused
+/// where it needs more than the limits allow, before memory is asked for the hash.
+#[unsafe(no_mangle)]
+pub extern "C" fn pikhsen_argon2_verify(
+    alloc: Global,
+    text: &[u8],
+    password: &[u8],
+    max_kib: u32,
+    max_ops: u64,
+) -> u32
+    ensures right { result ≡ 0 → HasPassword text.now password.now max_kib max_ops }
+    ensures wrong { result ≡ mismatch → HasOtherPassword text.now password.now max_kib max_ops }
+    ensures not_in_grammar { result ≡ not_encoded → IsText text.now → ⊥ }
+    ensures out_of_range { result ≡ out_of_range → IsText text.now × (IsTextInRange text.now → ⊥) }
+    ensures password_len { result ≡ 6 → IsJudged (Some VerifyFault.PasswordLength) text.now password.now max_kib max_ops }
+    ensures memory_limit { result ≡ 7 → IsJudged (Some VerifyFault.MemoryLimit) text.now password.now max_kib max_ops }
+    ensures work_limit { result ≡ 8 → IsJudged (Some VerifyFault.WorkLimit) text.now password.now max_kib max_ops }
+    ensures memory { result ≡ out_of_memory → MayLackMemory text.now password.now max_kib max_ops }
+    // There is no other number.
+    ensures low { 0 < result → 6 ≤ result }
+    ensures gap { 9 < result → 14 ≤ result }
+    ensures high { result ≤ 16 }
+{
+    let encoded = match Encoded::read(alloc, text) {
+        Ok(encoded) => encoded,
+        Err(fault) => return status::of_read(fault),
+    };
+    answered(alloc, &encoded, password, max_kib, max_ops)
+}

@@ -1,0 +1,155 @@
+/*
+ * pikhsen.h: Argon2 (RFC 9106, and its version 0x10), scrypt (RFC 7914) and scrypt's encrypted files, version 0, from
+ * proved libraries. For Linux on x86-64. man 3 pikhsen tells more.
+ *
+ * What holds of every function:
+ *
+ *  - The answer is a number of enum pikhsen_status: PIKHSEN_OK where the function did what it says. After any other
+ *    answer what it writes is as it was before the call, but for what stands at the function.
+ *  - Bytes are a pointer and a length. A length may be 0; the pointer is then never read, but must not be null: "" will
+ *    do. A length is below 2^63.
+ *  - Memory that a function writes overlaps nothing else that is passed to it, and no other thread touches it during
+ *    the call. Memory that it reads is not written during the call.
+ *  - There is no state between calls: any number of threads may call at a time.
+ *  - Memory is taken by malloc alone, and all of it is freed before the function returns. It writes no file, reads no
+ *    clock, starts no thread, sets no errno, and never ends the process.
+ *  - Keys and what they are made of are not wiped from memory.
+ *  - Not to be called from a signal handler, nor in the forked child of a process with threads.
+ */
+#ifndef PIKHSEN_H
+#define PIKHSEN_H
+
+#include <stddef.h>
+
+#ifdef __cplusplus
+extern "C" {
+#endif
+
+/* The version of this header, as pikhsen_version() tells that of the library. */
+#define PIKHSEN_VERSION 100u
+
+/* A number of 64 bits. */
+typedef unsigned long pikhsen_u64;
+typedef char pikhsen_needs_lp64[sizeof(pikhsen_u64) == 8 && sizeof(unsigned int) == 4 && sizeof(size_t) == 8 ? 1 : -1];
+
+/* What came of a call. Of several reasons to refuse, the first in the order of the function's tests is told. */
+enum pikhsen_status {
+	PIKHSEN_OK = 0,
+	PIKHSEN_PASSES = 1,            /* Argon2: passes are not 1 to 2^32-1 */
+	PIKHSEN_LANES = 2,             /* Argon2: lanes are not 1 to 2^24-1 */
+	PIKHSEN_MEMORY = 3,            /* Argon2: memory is not 8 * lanes to 2^32-1 KiB */
+	PIKHSEN_TAG_LENGTH = 4,        /* Argon2: the tag has not 4 to 4096 bytes */
+	PIKHSEN_SALT_LENGTH = 5,       /* Argon2: the salt has not 8 to 255 bytes */
+	PIKHSEN_PASSWORD_LENGTH = 6,   /* Argon2: the password has not 1 to 127 bytes */
+	PIKHSEN_MEMORY_LIMIT = 7,      /* more memory is needed than the limit allows */
+	PIKHSEN_WORK_LIMIT = 8,        /* more work is needed than the limit allows */
+	PIKHSEN_OUT_OF_MEMORY = 9,     /* malloc refused */
+	PIKHSEN_KIND = 10,             /* Argon2: the kind is not 0, 1 or 2 */
+	PIKHSEN_ARGON2_VERSION = 11,   /* Argon2: the version is not 0x10 or 0x13 */
+	PIKHSEN_INPUT_LENGTH = 12,     /* Argon2: secret or associated data have 2^32 bytes or more */
+	PIKHSEN_BUFFER = 13,           /* out has not the length that the function needs */
+	PIKHSEN_NOT_ENCODED = 14,      /* the text is no encoded text */
+	PIKHSEN_OUT_OF_RANGE = 15,     /* the text is an encoded text with a value out of range */
+	PIKHSEN_MISMATCH = 16,         /* the password is not that of the text */
+	PIKHSEN_LOG_N = 17,            /* scrypt: log2 N is not 1 to 63 */
+	PIKHSEN_ZERO = 18,             /* scrypt: r or p is 0 */
+	PIKHSEN_PRODUCT = 19,          /* scrypt: r * p is 2^30 or more */
+	PIKHSEN_KEEP = 20,             /* scrypt: keep is no power of two from 1 to 1024 */
+	PIKHSEN_KEEP_ABOVE_N = 21,     /* scrypt: keep is above N */
+	PIKHSEN_MAGIC = 22,            /* file: it does not begin with "scrypt" */
+	PIKHSEN_FORMAT_VERSION = 23,   /* file: the version of its format is not 0 */
+	PIKHSEN_CHECKSUM = 24,         /* file: the checksum of its header is wrong */
+	PIKHSEN_FILE_COSTS = 25,       /* file: its costs are out of range */
+	PIKHSEN_TOO_SHORT = 26,        /* file: it has no whole header */
+	PIKHSEN_WRONG_PASSPHRASE = 27, /* file: the passphrase is not the file's */
+	PIKHSEN_DAMAGED = 28,          /* file: damaged, or cut short, after its first 96 bytes */
+	PIKHSEN_TOO_LONG = 29,         /* file: the text has 2^60 bytes or more */
+	PIKHSEN_FILE_SALT = 30         /* file: the salt has not 32 bytes */
+};
+
+enum pikhsen_kind { PIKHSEN_ARGON2D = 0, PIKHSEN_ARGON2I = 1, PIKHSEN_ARGON2ID = 2 };
+
+/* The version of the library: 10000 * the first of its three numbers, 100 * the second, and the third. */
+unsigned int pikhsen_version(void);
+
+/*
+ * Writes the tag of a password, as many bytes as out has, 4 to 4096. version is 0x13, or 0x10 for old hashes. It is
+ * refused, before memory is asked for, where it needs more than max_kib blocks of 1 KiB, which are about memory_kib, or
+ * max_ops block functions, which are about passes * memory_kib.
+ */
+unsigned int pikhsen_argon2_hash(unsigned int kind, unsigned int version, unsigned int passes, unsigned int memory_kib,
+    unsigned int lanes, const unsigned char *password, size_t password_len, const unsigned char *salt, size_t salt_len,
+    const unsigned char *secret, size_t secret_len, const unsigned char *associated, size_t associated_len,
+    unsigned int max_kib, pikhsen_u64 max_ops, unsigned char *out, size_t out_len);
+
+/* Bytes in which every encoded text with a salt and a tag of these lengths, and the byte 0 after it, find room. */
+#define PIKHSEN_ENCODED_ROOM(salt_len, tag_len) \
+	((size_t)56 + (4 * (size_t)(salt_len) + 2) / 3 + (4 * (size_t)(tag_len) + 2) / 3)
+
+/*
+ * Hashes, and writes the encoded text, "$argon2id$v=19$m=..", and a byte 0 after it; its length, without that byte,
+ * goes to *text_len, which is 0 after any answer but PIKHSEN_OK. Limits as above. The salt must be new and random each
+ * time.
+ */
+unsigned int pikhsen_argon2_encoded(unsigned int kind, unsigned int version, unsigned int passes,
+    unsigned int memory_kib, unsigned int lanes, const unsigned char *password, size_t password_len,
+    const unsigned char *salt, size_t salt_len, size_t tag_len, unsigned int max_kib, pikhsen_u64 max_ops,
+    unsigned char *out, size_t out_len, size_t *text_len);
+
+/*
+ * Whether the password is that of an encoded text, which has nothing after it, no byte 0 either. PIKHSEN_OK: it is.
+ * PIKHSEN_MISMATCH: it is not. Any other answer: that is not known. A text can ask for 4 TiB and for days, so limits
+ * are tested first, as above.
+ */
+unsigned int pikhsen_argon2_verify(const unsigned char *text, size_t text_len, const unsigned char *password,
+    size_t password_len, unsigned int max_kib, pikhsen_u64 max_ops);
+
+/*
+ * Writes the key of a password, as many bytes as out has, at most 32 * (2^32-1). N is 2^log_n. With keep 1 the whole
+ * table is kept; with keep S, a power of two up to 1024 and N, every S-th row, which takes 1/S of its memory and up to
+ * (1 + S) / 2 times the work, and the key is the same. It is refused, before memory is asked for, where the rows that
+ * are kept, 128 * r * N / S bytes, or 128 * r * p bytes, are more than max_bytes or 2^40, or 2 * r * p * N * (1 + S)
+ * cores more than max_ops.
+ */
+unsigned int pikhsen_scrypt(const unsigned char *password, size_t password_len, const unsigned char *salt,
+    size_t salt_len, unsigned int log_n, unsigned int r, unsigned int p, unsigned int keep, pikhsen_u64 max_bytes,
+    pikhsen_u64 max_ops, unsigned char *out, size_t out_len);
+
+/* What the header of a file says. */
+struct pikhsen_scrypt_costs {
+	unsigned int log_n, r, p;
+};
+
+/* Bytes that a file has more than its text. */
+#define PIKHSEN_FILE_OVERHEAD 128
+
+/*
+ * Reads the costs in the first 64 bytes of a file; bytes after these are not looked at. Anyone can make such a header:
+ * it tells what opening the file would take, and not who wrote it.
+ */
+unsigned int pikhsen_scrypt_info(const unsigned char *file, size_t file_len, struct pikhsen_scrypt_costs *costs);
+
+/*
+ * Writes the encrypted file of a text. out_len is text_len + PIKHSEN_FILE_OVERHEAD. The salt has 32 bytes, AND MUST BE
+ * NEW AND RANDOM FOR EACH FILE: two files of one passphrase, salt and costs are encrypted with one key stream, and who
+ * has both learns of their texts. Costs, keep and limits as above; the file does not depend on keep.
+ */
+unsigned int pikhsen_scrypt_encrypt(const unsigned char *passphrase, size_t passphrase_len, const unsigned char *salt,
+    size_t salt_len, unsigned int log_n, unsigned int r, unsigned int p, unsigned int keep, pikhsen_u64 max_bytes,
+    pikhsen_u64 max_ops, const unsigned char *text, size_t text_len, unsigned char *out, size_t out_len);
+
+/*
+ * Writes the text of a file to the front of out, and its length to *text_len. out has at least file_len bytes; those
+ * after the text are in no promised state. PIKHSEN_OK: the whole file is an encryption of that text under the
+ * passphrase, its final code included. After any other answer *text_len is 0 and out holds nothing of the text: after
+ * PIKHSEN_DAMAGED and PIKHSEN_TOO_LONG all its bytes are 0, after others it is as it was. keep and limits as above.
+ */
+unsigned int pikhsen_scrypt_decrypt(const unsigned char *passphrase, size_t passphrase_len, unsigned int keep,
+    pikhsen_u64 max_bytes, pikhsen_u64 max_ops, const unsigned char *file, size_t file_len, unsigned char *out,
+    size_t out_len, size_t *text_len);
+
+#ifdef __cplusplus
+}
+#endif
+
+#endif

@@ -1,0 +1,351 @@
+#!/usr/bin/env python3
+"""Builds libpikhsen over what the gate proved, and calls it from C and from Python: header and exports are the same,
+both ways to link, RFC vectors, hashlib, each byte of a file changed, each cut, threads, and README's two programs.
+
+    tests/c_face.py              rt lib proves and builds crates/pikhsen_c, over what earlier proofs left
+    tests/c_face.py --built      takes the static library as make lib or an earlier run left it
+    tests/c_face.py --read       compares header, sources, Python module and manual page alone
+"""
+import concurrent.futures
+import hashlib
+import os
+import pathlib
+import re
+import shutil
+import subprocess
+import sys
+import tempfile
+
+from checking import Checks
+
+TOP = pathlib.Path(__file__).resolve().parent.parent
+HEADER = (TOP / "include/pikhsen.h").read_text(encoding="utf-8")
+SOURCES = {it.stem: it.read_text(encoding="utf-8") for it in sorted((TOP / "crates/pikhsen_c/src").glob("*.rt"))}
+STRICT = ["-std=c89", "-pedantic", "-Wall", "-Wextra", "-Werror", "-D_POSIX_C_SOURCE=200112L"]
+INCLUDE = ["-I", str(TOP / "include")]
+# How the parameter NAME of a type of the sources is written in C.
+IN_C = {
+    "Global": (),
+    "u32": ("unsigned int NAME",),
+    "u64": ("pikhsen_u64 NAME",),
+    "usize": ("size_t NAME",),
+    "&[u8]": ("const unsigned char *NAME", "size_t NAME_len"),
+    "&mut [u8]": ("unsigned char *NAME", "size_t NAME_len"),
+    "&mut usize": ("size_t *NAME",),
+    "&mut PikhsenScryptCosts": ("struct pikhsen_scrypt_costs *NAME",),
+}
+# The faults whose numbers have names of their own in the header.
+RENAMED = {
+    "CostFault::Memory": "MEMORY_LIMIT",
+    "CostFault::Work": "WORK_LIMIT",
+    "HeaderFault::Version": "FORMAT_VERSION",
+    "HeaderFault::CostsOutOfRange": "FILE_COSTS",
+    "ReadFault::NotInGrammar": "NOT_ENCODED",
+}
+
+
+# ---- header, sources, Python module and manual page
+
+
+def exports():
+    """The exported functions of the sources, each with its result and parameters as the header must have them."""
+    found = {}
+    form = r'#\[unsafe\(no_mangle\)\]\npub extern "C" fn (\w+)\(([^)]*)\) -> (\w+)\n'
+    for name, parameters, result in re.findall(form, "\n".join(SOURCES.values())):
+        pairs = [it.strip().split(": ") for it in parameters.split(",") if it.strip()]
+        words = [word.replace("NAME", called) for called, kind in pairs for word in IN_C[kind]]
+        found[name] = (IN_C[result][0].replace(" NAME", ""), words or ["void"])
+    return found
+
+
+def prototypes(text):
+    """The functions that a text in C declares, in the same form."""
+    bare = re.sub(r"/\*.*?\*/", "", text, flags=re.DOTALL)
+    found = {}
+    for result, name, parameters in re.findall(r"^(unsigned int) (\w+)\(([^)]*)\);", bare, re.MULTILINE):
+        found[name] = (result, [" ".join(it.split()) for it in parameters.split(",")])
+    return found
+
+
+def numbers_of_sources():
+    """The numbers of `status`, by the names that the header gives them."""
+    constants = dict(re.findall(r"const (\w+): u32 = (\d+);", SOURCES["status"]))
+    numbers = {name: int(number) for name, number in constants.items()}
+    for kind, fault, number in re.findall(r"(\w+Fault)::(\w+) => (\w+),", SOURCES["status"]):
+        name = RENAMED.get(f"{kind}::{fault}") or re.sub(r"(?<!^)(?=[A-Z])", "_", fault).upper()
+        value = int(constants.get(number, number)) if not number.isdigit() else int(number)
+        if numbers.setdefault(name, value) != value:
+            numbers[name] = None
+    return numbers
+
+
+def numbers_of_header():
+    table = HEADER.split("enum pikhsen_status {")[1].split("}")[0]
+    return {name: int(number) for name, number in re.findall(r"PIKHSEN_(\w+) = (\d+)", table)}
+
+
+def numbers_of_module():
+    table = (TOP / "python/pikhsen.py").read_text(encoding="utf-8").split("class Status(")[1].split("\nclass ")[0]
+    return {name: int(number) for name, number in re.findall(r"^    (\w+) = (\d+)$", table, re.MULTILINE)}
+
+
+def numbers_of_page():
+    page = (TOP / "man/pikhsen.3").read_text(encoding="utf-8")
+    return {name: int(number) for number, name in re.findall(r"^(\d+)\tPIKHSEN_(\w+)\t", page, re.MULTILINE)}
+
+
+def compare_texts(checks):
+    numbers = numbers_of_header()
+    checks.that("numbers of the sources", numbers_of_sources(), numbers)
+    checks.that("numbers of the Python module", numbers_of_module(), numbers)
+    checks.that("numbers of the manual page", numbers_of_page(), numbers)
+    checks.that("numbers, each once", sorted(numbers.values()), list(range(len(numbers))))
+    declared = prototypes(HEADER)
+    checks.that("names of header and exports", sorted(declared), sorted(exports()))
+    for name, form in exports().items():
+        checks.that(f"header: {name}", declared.get(name), form)
+    page = (TOP / "man/pikhsen.3").read_text(encoding="utf-8")
+    synopsis = re.sub(r"\n +", " ", page.split("\n.SH ")[2])
+    checks.that("prototypes of the manual page", prototypes(synopsis), declared)
+    version = (TOP / "VERSION").read_text(encoding="utf-8").strip()
+    checks.that("version of the manual page", f'"Pikhsen {version}"' in page.split("\n")[0], True)
+    if shutil.which("mandoc"):
+        checks.that("manual page", said("mandoc", "-T", "lint", str(TOP / "man/pikhsen.3"), check=False), "")
+    first, second, third = map(int, version.split("."))
+    number = 10000 * first + 100 * second + third
+    checks.that("version of the header", re.findall(r"PIKHSEN_VERSION (\d+)u", HEADER), [str(number)])
+    checks.that("version of the sources", f"\n    {number}\n}}" in SOURCES["version"], True)
+
+
+# ---- the library
+
+
+def said(*words, check=True):
+    return subprocess.run(words, stdout=subprocess.PIPE, check=check, text=True).stdout
+
+
+def build(checks, folder):
+    """Both libraries, twice, and what they show of themselves."""
+    level = [] if "--built" in sys.argv else ["x86-64-v2"]
+    subprocess.run([TOP / "packaging/lib.sh", f"{folder}/lib", *level], check=True)
+    subprocess.run([TOP / "packaging/lib.sh", f"{folder}/again"], check=True)
+    for file in ("libpikhsen.a", "libpikhsen.so.0"):
+        both = [pathlib.Path(folder, it, file).read_bytes() for it in ("lib", "again")]
+        checks.that(f"{file}, built twice", both[0] == both[1], True)
+    shared, static = f"{folder}/lib/libpikhsen.so.0", f"{folder}/lib/libpikhsen.a"
+    names = sorted(prototypes(HEADER))
+    for words in (["nm", "-D", "--defined-only", shared], ["nm", "-g", "--defined-only", static]):
+        defined = re.findall(r"^[0-9a-f]+ T (\w+)", said(*words), re.MULTILINE)
+        others = re.findall(r"^[0-9a-f]+ [^TtA] (\w+)", said(*words), re.MULTILINE)
+        checks.that(f"names in {words[-1].rpartition('/')[2]}", (sorted(defined), others), (names, []))
+    dynamic = said("readelf", "-d", shared)
+    checks.that("soname", re.findall(r"\(SONAME\).*\[(.*)\]", dynamic), ["libpikhsen.so.0"])
+    checks.that("libraries needed", re.findall(r"\(NEEDED\).*\[(.*)\]", dynamic), ["libc.so.6"])
+    os.symlink("libpikhsen.so.0", f"{folder}/lib/libpikhsen.so")
+    return f"{folder}/lib"
+
+
+def compile_c(source, lib, out, static, *flags):
+    """A program of a C text, with the library in it or beside it."""
+    link = [f"{lib}/libpikhsen.a"] if static else ["-L", lib, "-lpikhsen", f"-Wl,-rpath,{lib}"]
+    words = ["gcc", *flags, "-O1", "-g", *INCLUDE, str(source), *link, "-lpthread", "-o", out]
+    ran = subprocess.run(words, stdout=subprocess.PIPE, stderr=subprocess.STDOUT, text=True)
+    return ran.returncode, ran.stdout
+
+
+def from_c(checks, folder, lib):
+    empty = pathlib.Path(folder, "empty.c")
+    empty.write_text('#include "pikhsen.h"\n', encoding="utf-8")
+    for words in (["gcc", *STRICT], ["g++", "-Wall", "-Wextra", "-Werror", "-x", "c++"]):
+        if shutil.which(words[0]):
+            ran = subprocess.run([*words, *INCLUDE, "-fsyntax-only", empty], stderr=subprocess.PIPE, text=True)
+            checks.that(f"header under {words[0]}", (ran.returncode, ran.stderr), (0, ""))
+    for static in (True, False):
+        for refuse in (["-DREFUSE"], []):
+            name = f"c_face.c {'static' if static else 'shared'} {' '.join(refuse)}"
+            program = f"{folder}/program"
+            made = compile_c(TOP / "tests/c_face.c", lib, program, static, *STRICT, *refuse)
+            checks.that(f"{name}, compiled", made, (0, ""))
+            ran = subprocess.run([program], stdout=subprocess.PIPE, stderr=subprocess.STDOUT, text=True)
+            checks.that(name, (ran.returncode, ran.stdout), (0, ""))
+            if not refuse and shutil.which("valgrind"):
+                words = ["valgrind", "-q", "--error-exitcode=9", "--leak-check=full", "--track-origins=yes", program]
+                ran = subprocess.run(words, stdout=subprocess.PIPE, stderr=subprocess.STDOUT, text=True)
+                checks.that(f"{name} under valgrind", (ran.returncode, ran.stdout), (0, ""))
+
+
+# ---- from Python
+
+
+def refusal(call, *arguments, **named):
+    """The name of the status with which a call is refused; None where it is not."""
+    try:
+        call(*arguments, **named)
+    except Exception as refused:  # the module's own, which is loaded by name
+        return getattr(getattr(refused, "status", None), "name", repr(refused))
+    return None
+
+
+def from_python(checks, pikhsen):
+    checks.that("version", pikhsen.version(), (TOP / "VERSION").read_text(encoding="utf-8").strip())
+    # RFC 9106, 5.1 to 5.3
+    for kind, tag in (
+        (0, "512b391b6f1162975371d30919734294f868e3be3984f3c1a13a4db9fabe4acb"),
+        (1, "c814d9d1dc7f37aa13f0d77f2494bda1c8de6b016dd388d29952a4c4672b6ce8"),
+        (2, "0d640df58d78766c08c037a34a8b53c9d01ef0452d75b65eb52520e96b01e659"),
+    ):
+        found = pikhsen.hash(
+            b"\1" * 32, b"\2" * 16, passes=3, memory_kib=32, lanes=4, kind=kind, secret=b"\3" * 8, associated=b"\4" * 12
+        )
+        checks.that(f"RFC 9106, kind {kind}", found.hex(), tag)
+    # the README of the reference implementation
+    text = pikhsen.encode(b"password", salt=b"somesalt", passes=2, memory_kib=65536, lanes=4, length=24, kind=1)
+    checks.that("encoded text", text, "$argon2i$v=19$m=65536,t=2,p=4$c29tZXNhbHQ$RdescudvJCsgt3ub+b+dWRWJTmaaJObG")
+    # printf password | argon2 somesalt -t 2 -m 8 -v 10, with its version and without
+    old = "$argon2i$v=16$m=256,t=2,p=1$c29tZXNhbHQ$/U3YPXYsSb3q9XxHvc0MLxur+GP960kN9j7emXX8zwY"
+    found = pikhsen.encode(b"password", salt=b"somesalt", passes=2, memory_kib=256, lanes=1, kind=1, version=0x10)
+    checks.that("encoded text, version 0x10", found, old)
+    for told in (text, old, old.replace("v=16$", "")):
+        checks.that(f"right password of {told[:20]}", pikhsen.verify(told, b"password"), True)
+        checks.that(f"wrong password of {told[:20]}", pikhsen.verify(told, b"passwore"), False)
+    for name, found in (
+        ("MEMORY_LIMIT", refusal(pikhsen.verify, text, b"password", max_kib=65535)),
+        ("WORK_LIMIT", refusal(pikhsen.verify, text, b"password", max_ops=1000)),
+        ("NOT_ENCODED", refusal(pikhsen.verify, text + "\0", b"password")),
+        ("OUT_OF_RANGE", refusal(pikhsen.verify, text.replace("m=65536", "m=31"), b"password")),
+        ("PASSWORD_LENGTH", refusal(pikhsen.verify, text, b"")),
+        ("MEMORY_LIMIT", refusal(pikhsen.hash, b"x", b"saltsalt", memory_kib=1024, max_kib=1023)),
+        ("WORK_LIMIT", refusal(pikhsen.encode, b"x", memory_kib=1024, max_ops=1023)),
+        ("SALT_LENGTH", refusal(pikhsen.hash, b"x", b"saltsal", memory_kib=32)),
+        ("PASSWORD_LENGTH", refusal(pikhsen.encode, b"x" * 128, memory_kib=32)),
+    ):
+        checks.that(f"refused: {name}", found, name)
+    for kind, version, passes, kib, lanes, length, why in (
+        (3, 0, 0, 0, 0, 0, "KIND"), (2, 0x11, 0, 0, 0, 0, "ARGON2_VERSION"), (0, 0x13, 0, 0, 0, 0, "PASSES"),
+        (1, 0x13, 1, 0, 0, 0, "LANES"), (2, 0x10, 1, 7, 1, 0, "MEMORY"), (2, 0x13, 1, 8, 1, 3, "TAG_LENGTH"),
+        (2, 0x13, 1, 8, 1, 4097, "TAG_LENGTH"),
+    ):
+        settings = {"kind": kind, "version": version, "passes": passes}
+        settings.update(memory_kib=kib, lanes=lanes, length=length)
+        checks.that(f"hash, {why}", refusal(pikhsen.hash, b"x", b"saltsalt", **settings), why)
+        checks.that(f"encode, {why}", refusal(pikhsen.encode, b"x", **settings), why)
+    longest = pikhsen.encode(b"x" * 127, passes=1, memory_kib=8, lanes=1, length=4096, salt=b"s" * 255)
+    checks.that("longest text", pikhsen.verify(longest, b"x" * 127), True)
+
+
+def keys_from_python(checks, pikhsen):
+    # RFC 7914, 12, and the same by every S
+    for keep in (1, 2, 16):
+        checks.that(f"RFC 7914, 1, keep {keep}", pikhsen.scrypt(b"", b"", log_n=4, r=1, p=1, keep=keep).hex()[:32],
+                    "77d6576238657b203b19ca42c18a0497")
+    checks.that("RFC 7914, 3", pikhsen.scrypt(b"pleaseletmein", b"SodiumChloride", log_n=14, keep=8).hex()[:32],
+                "7023bdcb3afd7348461c06cd81fd38eb")
+    for length in (1, 31, 33, 100):
+        found = pikhsen.scrypt(b"pw", b"NaCl", log_n=5, r=3, p=2, length=length)
+        checks.that(f"hashlib, {length}", found, hashlib.scrypt(b"pw", salt=b"NaCl", n=32, r=3, p=2, dklen=length))
+    checks.that("no bytes", pikhsen.scrypt(b"pw", b"NaCl", log_n=5, length=0), b"")
+    most = {"max_bytes": 2**64 - 1, "max_ops": 2**64 - 1}
+    for settings, why in (
+        ({"log_n": 0, "r": 1}, "LOG_N"), ({"log_n": 64}, "LOG_N"), ({"log_n": 256 + 4}, "LOG_N"), ({"r": 0}, "ZERO"),
+        ({"r": 1 << 15, "p": 1 << 15}, "PRODUCT"), ({"keep": 3}, "KEEP"), ({"keep": 2048}, "KEEP"),
+        ({"log_n": 4, "keep": 32}, "KEEP_ABOVE_N"), ({"log_n": 63, **most}, "MEMORY_LIMIT"),
+        ({"log_n": 14, "max_ops": 100}, "WORK_LIMIT"), ({"log_n": 14, "max_bytes": (1 << 24) - 1}, "MEMORY_LIMIT"),
+    ):
+        checks.that(f"scrypt {settings}", refusal(pikhsen.scrypt, b"", b"", **settings), why)
+        checks.that(f"encrypt {settings}", refusal(pikhsen.encrypt, b"", b"", **settings), why)
+
+
+def files_from_python(checks, pikhsen):
+    cheap = {"log_n": 4, "r": 1, "p": 1}
+    for text in (b"", b"hello", bytes(range(256)) * 300):
+        file = pikhsen.encrypt(text, b"pw", **cheap)
+        checks.that(f"length, {len(text)}", len(file), len(text) + 128)
+        checks.that(f"text, {len(text)}", pikhsen.decrypt(file, b"pw", keep=4), text)
+        checks.that(f"wrong passphrase, {len(text)}", refusal(pikhsen.decrypt, file, b"PW"), "WRONG_PASSPHRASE")
+        checks.that(f"costs, {len(text)}", tuple(pikhsen.info(file)), (4, 1, 1))
+    checks.that("salt", refusal(pikhsen.encrypt, b"", b"", salt=b"s" * 31), "FILE_SALT")
+    salt = b"s" * 32
+    made = [pikhsen.encrypt(b"hello", b"pw", salt=salt, keep=keep, **cheap) for keep in (1, 8)]
+    checks.that("file by every keep", made[0] == made[1], True)
+    # the header by Python alone (FORMAT of Tarsnap's scrypt)
+    front = b"scrypt\0\4" + (1).to_bytes(4, "big") * 2 + salt
+    checks.that("header", made[0][:64], front + hashlib.sha256(front).digest()[:16])
+    file = made[0]
+    changed = [file[:at] + bytes([file[at] ^ 1]) + file[at + 1:] for at in range(len(file))]
+    whys = [refusal(pikhsen.decrypt, each, b"pw") for each in changed]
+    expected = ["MAGIC"] * 6 + ["FORMAT_VERSION"] + ["CHECKSUM"] * 57 + ["WRONG_PASSPHRASE"] * 32 + ["DAMAGED"] * 37
+    checks.that("each byte changed", whys, expected)
+    ends = [refusal(pikhsen.decrypt, file[:length], b"pw") for length in range(len(file))]
+    checks.that("each cut", ends, ["TOO_SHORT"] * 96 + ["DAMAGED"] * 37)
+    heads = [refusal(pikhsen.info, file[:length]) for length in range(len(file) + 1)]
+    checks.that("each cut, info", heads, ["TOO_SHORT"] * 64 + [None] * 70)
+    large = b"scrypt\0\x14" + (8).to_bytes(4, "big") + (1).to_bytes(4, "big") + salt
+    large += hashlib.sha256(large).digest()[:16] + bytes(64)
+    for limits, why in (
+        ({"max_bytes": 1 << 20}, "MEMORY_LIMIT"), ({"max_ops": 1 << 20}, "WORK_LIMIT"), ({"keep": 7}, "KEEP"),
+    ):
+        checks.that(f"decrypt {limits}", refusal(pikhsen.decrypt, large, b"pw", **limits), why)
+
+
+def threads_from_python(checks, pikhsen):
+    """Many calls side by side give what they give one after another."""
+    def work(number):
+        password = b"%d" % number
+        text = pikhsen.encode(password, salt=b"somesalt", memory_kib=256, lanes=2)
+        file = pikhsen.encrypt(password, password, log_n=6, salt=b"s" * 32)
+        return text, pikhsen.verify(text, password), pikhsen.decrypt(file, password) == password, file
+
+    with concurrent.futures.ThreadPoolExecutor(8) as pool:
+        together = list(pool.map(work, range(64)))
+    checks.that("threads", together == [work(number) for number in range(64)], True)
+
+
+# ---- what README shows
+
+
+def shown(language):
+    """README's program in this language, and what is typed to run it with what comes; None where there is none."""
+    readme = (TOP / "README.md").read_text(encoding="utf-8")
+    found = re.search(rf"^```{language}\n(.*?)^```\n\n.*?\n\n((?:    [^\n]*\n)+)", readme, re.MULTILINE | re.DOTALL)
+    return found and (found[1], re.sub(r"^    ", "", found[2], flags=re.MULTILINE).splitlines())
+
+
+def readme_runs(checks, folder, lib):
+    """Types README's programs in C and in Python, as they stand there, where compiler and Python find the library."""
+    environment = {**os.environ, "LD_LIBRARY_PATH": lib, "LIBRARY_PATH": lib, "C_INCLUDE_PATH": str(TOP / "include")}
+    environment.update(PYTHONPATH=str(TOP / "python"), PYTHONDONTWRITEBYTECODE="1")
+    for language, file in (("c", "login.c"), ("python", "login.py")):
+        program, lines = shown(language) or ("", ["$ false"])
+        pathlib.Path(folder, file).write_text(program, encoding="utf-8")
+        typed = [line[2:] for line in lines if line.startswith("$ ")]
+        printed = "".join(line + "\n" for line in lines if not line.startswith("$ "))
+        ran = subprocess.run(
+            ["sh", "-ec", "\n".join(typed)], cwd=folder, env=environment, stdout=subprocess.PIPE,
+            stderr=subprocess.STDOUT, text=True
+        )
+        checks.that(f"README's {file}", (ran.returncode, ran.stdout), (0, printed))
+
+
+def main():
+    checks = Checks("none")
+    compare_texts(checks)
+    if "--read" in sys.argv:
+        checks.end()
+    if not shutil.which("gcc"):
+        print("gcc is not installed: the library is not built, and not called")
+        checks.end()
+    with tempfile.TemporaryDirectory() as folder:
+        lib = build(checks, folder)
+        from_c(checks, folder, lib)
+        os.environ["PIKHSEN_LIBRARY"] = f"{lib}/libpikhsen.so.0"
+        sys.dont_write_bytecode = True
+        sys.path.insert(0, str(TOP / "python"))
+        import pikhsen
+
+        for part in (from_python, keys_from_python, files_from_python, threads_from_python):
+            part(checks, pikhsen)
+        readme_runs(checks, folder, lib)
+    checks.end()
+
+
+main()
