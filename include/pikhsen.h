@@ -4,15 +4,15 @@
  *
  * What holds of every function:
  *
- *  - The answer is a number of enum pikhsen_status: PIKHSEN_OK where the function did what it says. After any other
- *    answer what it writes is as it was before the call, but for what stands at the function.
+ *  - The answer of each but pikhsen_version is a number of enum pikhsen_status: PIKHSEN_OK where the function did what
+ *    it says. After any other answer what it writes is as it was before the call, but for what stands at the function.
  *  - Bytes are a pointer and a length. A length may be 0; the pointer is then never read, but must not be null: "" will
  *    do. A length is below 2^63.
  *  - Memory that a function writes overlaps nothing else that is passed to it, and no other thread touches it during
  *    the call. Memory that it reads is not written during the call.
  *  - There is no state between calls: any number of threads may call at a time.
- *  - Memory is taken by malloc alone, and all of it is freed before the function returns. It writes no file, reads no
- *    clock, starts no thread, sets no errno, and never ends the process.
+ *  - Memory is taken by malloc and realloc alone, and all of it is freed before the function returns. It writes no
+ *    file, reads no clock, starts no thread, sets no errno but by a malloc that refuses, and never ends the process.
  *  - Keys and what they are made of are not wiped from memory.
  *  - Not to be called from a signal handler, nor in the forked child of a process with threads.
  */
