@@ -6,13 +6,15 @@
  *
  *  - The answer of each but pikhsen_version is a number of enum pikhsen_status: PIKHSEN_OK where the function did what
  *    it says. After any other answer what it writes is as it was before the call, but for what stands at the function.
+ *    0 is yes: compare an answer with PIKHSEN_OK.
  *  - Bytes are a pointer and a length. A length may be 0; the pointer is then never read, but must not be null: "" will
- *    do. A length is below 2^63.
+ *    do. A length is below 2^63. text_len and costs are not null, and aligned as their types are.
  *  - Memory that a function writes overlaps nothing else that is passed to it, and no other thread touches it during
- *    the call. Memory that it reads is not written during the call.
+ *    the call. What it writes need not be set before. Memory that it reads is not written during the call.
  *  - There is no state between calls: any number of threads may call at a time.
- *  - Memory is taken by malloc and realloc alone, and all of it is freed before the function returns. It writes no
- *    file, reads no clock, starts no thread, sets no errno but by a malloc that refuses, and never ends the process.
+ *  - Memory is taken by malloc and realloc alone, and all of it is freed, by free, before the function returns; the
+ *    three must be of one allocator. A call needs a stack of 64 KiB. It writes no file, reads no clock, starts no
+ *    thread, sets no errno but by a malloc that refuses, and never ends the process.
  *  - Keys and what they are made of are not wiped from memory.
  *  - Not to be called from a signal handler, nor in the forked child of a process with threads.
  */
@@ -28,13 +30,20 @@ extern "C" {
 /* The version of this header, as pikhsen_version() tells that of the library. */
 #define PIKHSEN_VERSION 100u
 
+/* Stands at each function whose answer must be looked at. */
+#ifdef __GNUC__
+#define PIKHSEN_MUST_CHECK __attribute__((__warn_unused_result__))
+#else
+#define PIKHSEN_MUST_CHECK
+#endif
+
 /* A number of 64 bits. */
 typedef unsigned long pikhsen_u64;
 typedef char pikhsen_needs_lp64[sizeof(pikhsen_u64) == 8 && sizeof(unsigned int) == 4 && sizeof(size_t) == 8 ? 1 : -1];
 
 /* What came of a call. Of several reasons to refuse, the first in the order of the function's tests is told. */
 enum pikhsen_status {
-	PIKHSEN_OK = 0,
+	PIKHSEN_OK = 0,                /* the call did what it says */
 	PIKHSEN_PASSES = 1,            /* Argon2: passes are not 1 to 2^32-1 */
 	PIKHSEN_LANES = 2,             /* Argon2: lanes are not 1 to 2^24-1 */
 	PIKHSEN_MEMORY = 3,            /* Argon2: memory is not 8 * lanes to 2^32-1 KiB */
@@ -46,13 +55,13 @@ enum pikhsen_status {
 	PIKHSEN_OUT_OF_MEMORY = 9,     /* malloc refused */
 	PIKHSEN_KIND = 10,             /* Argon2: the kind is not 0, 1 or 2 */
 	PIKHSEN_ARGON2_VERSION = 11,   /* Argon2: the version is not 0x10 or 0x13 */
-	PIKHSEN_INPUT_LENGTH = 12,     /* Argon2: secret or associated data have 2^32 bytes or more */
+	PIKHSEN_INPUT_LENGTH = 12,     /* Argon2: secret or data have 2^32 bytes or more */
 	PIKHSEN_BUFFER = 13,           /* out has not the length that the function needs */
 	PIKHSEN_NOT_ENCODED = 14,      /* the text is no encoded text */
 	PIKHSEN_OUT_OF_RANGE = 15,     /* the text is an encoded text with a value out of range */
 	PIKHSEN_MISMATCH = 16,         /* the password is not that of the text */
 	PIKHSEN_LOG_N = 17,            /* scrypt: log2 N is not 1 to 63 */
-	PIKHSEN_ZERO = 18,             /* scrypt: r or p is 0 */
+	PIKHSEN_ZERO = 18,             /* scrypt: r or p is below 1 */
 	PIKHSEN_PRODUCT = 19,          /* scrypt: r * p is 2^30 or more */
 	PIKHSEN_KEEP = 20,             /* scrypt: keep is no power of two from 1 to 1024 */
 	PIKHSEN_KEEP_ABOVE_N = 21,     /* scrypt: keep is above N */
@@ -60,9 +69,9 @@ enum pikhsen_status {
 	PIKHSEN_FORMAT_VERSION = 23,   /* file: the version of its format is not 0 */
 	PIKHSEN_CHECKSUM = 24,         /* file: the checksum of its header is wrong */
 	PIKHSEN_FILE_COSTS = 25,       /* file: its costs are out of range */
-	PIKHSEN_TOO_SHORT = 26,        /* file: it has no whole header */
+	PIKHSEN_TOO_SHORT = 26,        /* file: it has not 96 bytes, or not 64 for its costs alone */
 	PIKHSEN_WRONG_PASSPHRASE = 27, /* file: the passphrase is not the file's */
-	PIKHSEN_DAMAGED = 28,          /* file: damaged, or cut short, after its first 96 bytes */
+	PIKHSEN_DAMAGED = 28,          /* file: it is damaged, or cut short, after its first 96 bytes */
 	PIKHSEN_TOO_LONG = 29,         /* file: the text has 2^60 bytes or more */
 	PIKHSEN_FILE_SALT = 30         /* file: the salt has not 32 bytes */
 };
@@ -74,9 +83,12 @@ unsigned int pikhsen_version(void);
 
 /*
  * Writes the tag of a password, as many bytes as out has, 4 to 4096. version is 0x13, or 0x10 for old hashes. It is
- * refused, before memory is asked for, where it needs more than max_kib blocks of 1 KiB, which are about memory_kib, or
- * max_ops block functions, which are about passes * memory_kib.
+ * refused, before memory is asked for, where it needs more than max_kib blocks of 1 KiB or max_ops block functions.
+ * The blocks B are memory_kib, rounded down to a multiple of 4 * lanes. The block functions are passes * B - 2 * lanes,
+ * and two more for every 128 blocks, or part of them, of each segment (B / (4 * lanes) blocks) whose accesses do not
+ * depend on the password: there are 4 * lanes * passes of these for Argon2i, 2 * lanes for Argon2id, none for Argon2d.
  */
+PIKHSEN_MUST_CHECK
 unsigned int pikhsen_argon2_hash(unsigned int kind, unsigned int version, unsigned int passes, unsigned int memory_kib,
     unsigned int lanes, const unsigned char *password, size_t password_len, const unsigned char *salt, size_t salt_len,
     const unsigned char *secret, size_t secret_len, const unsigned char *associated, size_t associated_len,
@@ -84,13 +96,14 @@ unsigned int pikhsen_argon2_hash(unsigned int kind, unsigned int version, unsign
 
 /* Bytes in which every encoded text with a salt and a tag of these lengths, and the byte 0 after it, find room. */
 #define PIKHSEN_ENCODED_ROOM(salt_len, tag_len) \
-	((size_t)56 + (4 * (size_t)(salt_len) + 2) / 3 + (4 * (size_t)(tag_len) + 2) / 3)
+	(56ul + (4ul * (salt_len) + 2ul) / 3ul + (4ul * (tag_len) + 2ul) / 3ul)
 
 /*
  * Hashes, and writes the encoded text, "$argon2id$v=19$m=..", and a byte 0 after it; its length, without that byte,
  * goes to *text_len, which is 0 after any answer but PIKHSEN_OK. Limits as above. The salt must be new and random each
  * time.
  */
+PIKHSEN_MUST_CHECK
 unsigned int pikhsen_argon2_encoded(unsigned int kind, unsigned int version, unsigned int passes,
     unsigned int memory_kib, unsigned int lanes, const unsigned char *password, size_t password_len,
     const unsigned char *salt, size_t salt_len, size_t tag_len, unsigned int max_kib, pikhsen_u64 max_ops,
@@ -98,9 +111,12 @@ unsigned int pikhsen_argon2_encoded(unsigned int kind, unsigned int version, uns
 
 /*
  * Whether the password is that of an encoded text, which has nothing after it, no byte 0 either. PIKHSEN_OK: it is.
- * PIKHSEN_MISMATCH: it is not. Any other answer: that is not known. A text can ask for 4 TiB and for days, so limits
- * are tested first, as above.
+ * PIKHSEN_MISMATCH: it is not. Any other answer: that is not known. 0 is yes: compare with PIKHSEN_OK, since a bare
+ * "if (pikhsen_argon2_verify(..))" takes a yes for a no. A text without a version is read as one of version 0x10. A
+ * text can ask for 4 TiB and for days, so limits, as above, are tested before memory for the hash is asked for; memory
+ * for the text's salt and tag, together less than text_len bytes, is asked for before that.
  */
+PIKHSEN_MUST_CHECK
 unsigned int pikhsen_argon2_verify(const unsigned char *text, size_t text_len, const unsigned char *password,
     size_t password_len, unsigned int max_kib, pikhsen_u64 max_ops);
 
@@ -109,8 +125,10 @@ unsigned int pikhsen_argon2_verify(const unsigned char *text, size_t text_len, c
  * table is kept; with keep S, a power of two up to 1024 and N, every S-th row, which takes 1/S of its memory and up to
  * (1 + S) / 2 times the work, and the key is the same. It is refused, before memory is asked for, where the rows that
  * are kept, 128 * r * N / S bytes, or 128 * r * p bytes, are more than max_bytes or 2^40, or 2 * r * p * N * (1 + S)
- * cores more than max_ops.
+ * cores of Salsa20/8 more than max_ops. max_bytes bounds the rows that are kept alone: two rows of 128 * r bytes, or
+ * three with S above 1, come beside them, so where r is great and N / S small up to four times as much is taken.
  */
+PIKHSEN_MUST_CHECK
 unsigned int pikhsen_scrypt(const unsigned char *password, size_t password_len, const unsigned char *salt,
     size_t salt_len, unsigned int log_n, unsigned int r, unsigned int p, unsigned int keep, pikhsen_u64 max_bytes,
     pikhsen_u64 max_ops, unsigned char *out, size_t out_len);
@@ -124,9 +142,10 @@ struct pikhsen_scrypt_costs {
 #define PIKHSEN_FILE_OVERHEAD 128
 
 /*
- * Reads the costs in the first 64 bytes of a file; bytes after these are not looked at. Anyone can make such a header:
- * it tells what opening the file would take, and not who wrote it.
+ * Reads the costs in the first 64 bytes of a file; bytes after these are not looked at, and fewer are
+ * PIKHSEN_TOO_SHORT. Anyone can make such a header: it tells what opening the file would take, and not who wrote it.
  */
+PIKHSEN_MUST_CHECK
 unsigned int pikhsen_scrypt_info(const unsigned char *file, size_t file_len, struct pikhsen_scrypt_costs *costs);
 
 /*
@@ -134,6 +153,7 @@ unsigned int pikhsen_scrypt_info(const unsigned char *file, size_t file_len, str
  * NEW AND RANDOM FOR EACH FILE: two files of one passphrase, salt and costs are encrypted with one key stream, and who
  * has both learns of their texts. Costs, keep and limits as above; the file does not depend on keep.
  */
+PIKHSEN_MUST_CHECK
 unsigned int pikhsen_scrypt_encrypt(const unsigned char *passphrase, size_t passphrase_len, const unsigned char *salt,
     size_t salt_len, unsigned int log_n, unsigned int r, unsigned int p, unsigned int keep, pikhsen_u64 max_bytes,
     pikhsen_u64 max_ops, const unsigned char *text, size_t text_len, unsigned char *out, size_t out_len);
@@ -142,8 +162,11 @@ unsigned int pikhsen_scrypt_encrypt(const unsigned char *passphrase, size_t pass
  * Writes the text of a file to the front of out, and its length to *text_len. out has at least file_len bytes; those
  * after the text are in no promised state. PIKHSEN_OK: the whole file is an encryption of that text under the
  * passphrase, its final code included. After any other answer *text_len is 0 and out holds nothing of the text: after
- * PIKHSEN_DAMAGED and PIKHSEN_TOO_LONG all its bytes are 0, after others it is as it was. keep and limits as above.
+ * PIKHSEN_DAMAGED and PIKHSEN_TOO_LONG all its bytes are 0, after others it is as it was. During the call out holds
+ * text that is not yet tested: give it memory that nobody else reads. Fewer than 96 bytes are PIKHSEN_TOO_SHORT. keep
+ * and limits as above.
  */
+PIKHSEN_MUST_CHECK
 unsigned int pikhsen_scrypt_decrypt(const unsigned char *passphrase, size_t passphrase_len, unsigned int keep,
     pikhsen_u64 max_bytes, pikhsen_u64 max_ops, const unsigned char *file, size_t file_len, unsigned char *out,
     size_t out_len, size_t *text_len);

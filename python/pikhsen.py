@@ -8,19 +8,36 @@
     >>> pikhsen.decrypt(file, b"passphrase")
     b'Dear Ada'
 
-Passwords, salts and texts are bytes. What is refused raises Refused, whose `status` tells why. A call lets other
-threads run meanwhile. The library is libpikhsen.so.0, or the file that the variable PIKHSEN_LIBRARY names.
+Passwords, salts and files are bytes, or anything else that holds bytes: a bytearray, a memoryview, an mmap. What is
+refused raises Refused, whose `status` tells why, and numbers that are out of range raise Invalid, a ValueError.
+
+Limits: `max_kib` is in KiB, `max_bytes` in bytes. The work of Argon2 is counted in block functions, one for each KiB
+and pass and a few more; that of scrypt in cores of Salsa20/8, 4 * r * p * 2 ** log_n of them with `keep` 1. On a
+machine of 2026 a million block functions took about 1.3 seconds, and 2 ** 28 cores, which `decrypt` allows, 15 to 35.
+
+Threads and processes: a call lets other threads run meanwhile, and any number of calls may run at a time. Ctrl-C is
+heeded when the call is over, so limits are what bounds the time. Work is best spread over threads; for processes take
+the start methods spawn or forkserver of multiprocessing, since the library is not to be called in the forked child of
+a process with threads.
+
+The library is libpikhsen.so.0, or the file that the variable PIKHSEN_LIBRARY names, which an empty value and the
+options -E and -I of Python leave out of account.
 """
 import ctypes
 import enum
+import operator
 import os
+import sys
 from ctypes import POINTER, byref, c_char_p, c_size_t, c_uint, c_ulong
-from typing import NamedTuple, Optional
+from typing import Callable, Dict, NamedTuple, Optional, Type, Union
 
 __all__ = [
-    "Costs", "Damaged", "Kind", "LimitExceeded", "NotAFile", "OutOfMemory", "Refused", "Status", "WrongPassphrase",
-    "decrypt", "encode", "encrypt", "hash", "info", "scrypt", "verify", "version",
+    "BytesLike", "Costs", "Damaged", "Invalid", "Kind", "LimitExceeded", "NotAFile", "OutOfMemory", "Refused", "Status",
+    "WrongPassphrase", "decrypt", "encode", "encrypt", "hash", "info", "scrypt", "verify", "version",
 ]
+
+# What is taken for bytes: these, and whatever else a memoryview can be made of, but no str.
+BytesLike = Union[bytes, bytearray, memoryview]
 
 
 class Kind(enum.IntEnum):
@@ -67,35 +84,88 @@ class Status(enum.IntEnum):
     FILE_SALT = 30
 
 
-class Refused(ValueError):
-    """A call was refused; `status` tells why."""
+# What the statuses say, as pikhsen.h and man 3 pikhsen do.
+_SENTENCES: Dict[int, str] = {
+    Status.OK: "the call did what it says",
+    Status.PASSES: "Argon2: passes are not 1 to 2^32-1",
+    Status.LANES: "Argon2: lanes are not 1 to 2^24-1",
+    Status.MEMORY: "Argon2: memory is not 8 * lanes to 2^32-1 KiB",
+    Status.TAG_LENGTH: "Argon2: the tag has not 4 to 4096 bytes",
+    Status.SALT_LENGTH: "Argon2: the salt has not 8 to 255 bytes",
+    Status.PASSWORD_LENGTH: "Argon2: the password has not 1 to 127 bytes",
+    Status.MEMORY_LIMIT: "more memory is needed than the limit allows",
+    Status.WORK_LIMIT: "more work is needed than the limit allows",
+    Status.OUT_OF_MEMORY: "malloc refused",
+    Status.KIND: "Argon2: the kind is not 0, 1 or 2",
+    Status.ARGON2_VERSION: "Argon2: the version is not 0x10 or 0x13",
+    Status.INPUT_LENGTH: "Argon2: secret or data have 2^32 bytes or more",
+    Status.BUFFER: "out has not the length that the function needs",
+    Status.NOT_ENCODED: "the text is no encoded text",
+    Status.OUT_OF_RANGE: "the text is an encoded text with a value out of range",
+    Status.MISMATCH: "the password is not that of the text",
+    Status.LOG_N: "scrypt: log2 N is not 1 to 63",
+    Status.ZERO: "scrypt: r or p is below 1",
+    Status.PRODUCT: "scrypt: r * p is 2^30 or more",
+    Status.KEEP: "scrypt: keep is no power of two from 1 to 1024",
+    Status.KEEP_ABOVE_N: "scrypt: keep is above N",
+    Status.MAGIC: 'file: it does not begin with "scrypt"',
+    Status.FORMAT_VERSION: "file: the version of its format is not 0",
+    Status.CHECKSUM: "file: the checksum of its header is wrong",
+    Status.FILE_COSTS: "file: its costs are out of range",
+    Status.TOO_SHORT: "file: it has not 96 bytes, or not 64 for its costs alone",
+    Status.WRONG_PASSPHRASE: "file: the passphrase is not the file's",
+    Status.DAMAGED: "file: it is damaged, or cut short, after its first 96 bytes",
+    Status.TOO_LONG: "file: the text has 2^60 bytes or more",
+    Status.FILE_SALT: "file: the salt has not 32 bytes",
+}
 
-    def __init__(self, status: Status):
-        super().__init__(status.name.lower().replace("_", " "))
-        self.status = status
+
+class Refused(Exception):
+    """A call was refused. Its text says why, and `status` is the Status.
+
+    A library that is newer than this module may tell a number that is no Status; `status` is then that number.
+    """
+
+    def __init__(self, status: Union[Status, int]) -> None:
+        super().__init__(status)
+
+    @property
+    def status(self) -> Union[Status, int]:
+        """Why the call was refused."""
+        return self.args[0]
+
+    def __str__(self) -> str:
+        return _SENTENCES.get(self.status, f"refused for a reason that this module does not know: {self.status}")
 
 
-class LimitExceeded(Refused):
-    """More memory or work would be needed than the caller's limits allow."""
+class Invalid(Refused, ValueError):
+    """An argument is out of range, or a text is no encoded text."""
 
 
-class OutOfMemory(Refused, MemoryError):
-    """Memory was refused."""
+class LimitExceeded(Refused, ValueError):
+    """More memory or work would be needed than the limits allow."""
 
 
-class NotAFile(Refused):
+class OutOfMemory(MemoryError, Refused):
+    """Memory was refused. This is a MemoryError and a Refused, and no ValueError."""
+
+    __init__ = Refused.__init__
+
+
+class NotAFile(Refused, ValueError):
     """The bytes do not begin as an encrypted file of version 0 does."""
 
 
-class WrongPassphrase(Refused):
+class WrongPassphrase(Refused, ValueError):
     """The passphrase is not the file's."""
 
 
-class Damaged(Refused):
+class Damaged(Refused, ValueError):
     """The file is damaged, or cut short, after its first 96 bytes. Nothing of its text is given."""
 
 
-_EXCEPTIONS = {
+# All other statuses are Invalid.
+_EXCEPTIONS: Dict[int, Type[Refused]] = {
     Status.MEMORY_LIMIT: LimitExceeded,
     Status.WORK_LIMIT: LimitExceeded,
     Status.OUT_OF_MEMORY: OutOfMemory,
@@ -121,104 +191,166 @@ class _Costs(ctypes.Structure):
     _fields_ = [("log_n", c_uint), ("r", c_uint), ("p", c_uint)]
 
 
-_lib = ctypes.CDLL(os.environ.get("PIKHSEN_LIBRARY", "libpikhsen.so.0"))
+# The first number of the version of the library that this module is made for.
+_MAJOR = 0
+_TOP = (1 << 32) - 1
 _BYTES = [c_char_p, c_size_t]
 _LIMITS = [c_ulong, c_ulong]
-_lib.pikhsen_argon2_hash.argtypes = [c_uint] * 5 + 4 * _BYTES + [c_uint, c_ulong] + _BYTES
-_lib.pikhsen_argon2_encoded.argtypes = (
-    [c_uint] * 5 + 2 * _BYTES + [c_size_t, c_uint, c_ulong] + _BYTES + [POINTER(c_size_t)]
-)
-_lib.pikhsen_argon2_verify.argtypes = 2 * _BYTES + [c_uint, c_ulong]
-_lib.pikhsen_scrypt.argtypes = 2 * _BYTES + [c_uint] * 4 + _LIMITS + _BYTES
-_lib.pikhsen_scrypt_info.argtypes = _BYTES + [POINTER(_Costs)]
-_lib.pikhsen_scrypt_encrypt.argtypes = 2 * _BYTES + [c_uint] * 4 + _LIMITS + 2 * _BYTES
-_lib.pikhsen_scrypt_decrypt.argtypes = _BYTES + [c_uint] + _LIMITS + 2 * _BYTES + [POINTER(c_size_t)]
-_lib.pikhsen_version.argtypes = []
+_PARAMETERS = {
+    "pikhsen_version": [],
+    "pikhsen_argon2_hash": [c_uint] * 5 + 4 * _BYTES + [c_uint, c_ulong] + _BYTES,
+    "pikhsen_argon2_encoded": (
+        [c_uint] * 5 + 2 * _BYTES + [c_size_t, c_uint, c_ulong] + _BYTES + [POINTER(c_size_t)]
+    ),
+    "pikhsen_argon2_verify": 2 * _BYTES + [c_uint, c_ulong],
+    "pikhsen_scrypt": 2 * _BYTES + [c_uint] * 4 + _LIMITS + _BYTES,
+    "pikhsen_scrypt_info": _BYTES + [POINTER(_Costs)],
+    "pikhsen_scrypt_encrypt": 2 * _BYTES + [c_uint] * 4 + _LIMITS + 2 * _BYTES,
+    "pikhsen_scrypt_decrypt": _BYTES + [c_uint] + _LIMITS + 2 * _BYTES + [POINTER(c_size_t)],
+}
 
 
-def _call(function, *arguments):
-    """Calls the function, with each bytes or buffer as a pointer and a length."""
+def _loaded() -> ctypes.CDLL:
+    """The library, with the parameters of its functions, if it has the version that this module is made for."""
+    named = "" if sys.flags.ignore_environment else os.environ.get("PIKHSEN_LIBRARY", "")
+    try:
+        library = ctypes.CDLL(named or "libpikhsen.so.0")
+        for name, parameters in _PARAMETERS.items():
+            function = getattr(library, name)
+            function.argtypes, function.restype = parameters, c_uint
+    except (AttributeError, OSError) as why:
+        raise ImportError(f"libpikhsen can't be loaded: {why}") from None
+    number = library.pikhsen_version()
+    if number // 10000 != _MAJOR:
+        raise ImportError(f"libpikhsen has the version {_dotted(number)}, and this module is for {_MAJOR}.x")
+    return library
+
+
+def _dotted(number: int) -> str:
+    return f"{number // 10000}.{number // 100 % 100}.{number % 100}"
+
+
+_lib = _loaded()
+
+
+def _call(function: Callable[..., int], *arguments: object) -> None:
+    """Calls the function, with each bytes or buffer as a pointer and a length, and raises what it is refused for."""
     flat = []
     for given in arguments:
-        if isinstance(given, (bytearray, memoryview)):
-            given = bytes(given)
-        if isinstance(given, str):
-            raise TypeError("bytes are wanted, and not a str")
-        flat += [given, len(given)] if isinstance(given, (bytes, ctypes.Array)) else [_number(given)]
-    status = Status(function(*flat))
-    if status is not Status.OK:
-        raise _EXCEPTIONS.get(status, Refused)(status)
+        flat += [given, len(given)] if isinstance(given, (bytes, ctypes.Array)) else [given]
+    number = function(*flat)
+    if number not in _SENTENCES:
+        raise Refused(number)
+    if number != Status.OK:
+        raise _EXCEPTIONS.get(number, Invalid)(Status(number))
 
 
-def _number(given):
-    """The number itself, which must fit where ctypes would cut it."""
-    if isinstance(given, int) and not 0 <= given < 1 << 64:
-        raise OverflowError("the number is not 0 to 2**64-1")
-    return given
+def _bytes(given: BytesLike) -> bytes:
+    """Plain bytes, whose length is what `len` tells."""
+    return given if type(given) is bytes else memoryview(given).tobytes()
 
 
-def _small(**numbers):
-    """Refuses numbers that do not fit the library's 32 bits."""
-    for name, number in numbers.items():
-        if not 0 <= number < 1 << 32:
-            raise OverflowError(f"{name} is not 0 to 2**32-1")
+def _u32(number: int, other: int = 0) -> int:
+    """The number, or the other, which is refused for the same reason, where the number doesn't fit 32 bits."""
+    number = operator.index(number)
+    return number if 0 <= number <= _TOP else other
 
 
-def _buffer(length):
-    return ctypes.create_string_buffer(length) if length else (ctypes.c_char * 0)()
+def _clamped(number: int, top: int = _TOP) -> int:
+    """The number from 0 to the top that is nearest: as a limit, or as r or p, it is judged as the number is."""
+    return min(max(operator.index(number), 0), top)
+
+
+def _limits(max_bytes: int, max_ops: int) -> "tuple[int, int]":
+    return _clamped(max_bytes, (1 << 64) - 1), _clamped(max_ops, (1 << 64) - 1)
+
+
+def _argon2_settings(kind: int, version: int, passes: int, memory_kib: int, lanes: int) -> "tuple[int, ...]":
+    return _u32(kind, _TOP), _u32(version), _u32(passes), _u32(memory_kib), _u32(lanes)
+
+
+def _argon2_limits(max_kib: int, max_ops: int) -> "tuple[int, int]":
+    return _clamped(max_kib), _clamped(max_ops, (1 << 64) - 1)
+
+
+def _scrypt_settings(log_n: int, r: int, p: int, keep: int) -> "tuple[int, ...]":
+    return _u32(log_n), _clamped(r), _clamped(p), _u32(keep)
+
+
+def _tag_length(length: int) -> int:
+    """The length, or 0, which is refused as it is."""
+    length = operator.index(length)
+    return length if 0 <= length <= 4096 else 0
+
+
+def _buffer(length: int) -> ctypes.Array:
+    return (ctypes.c_char * length)()
+
+
+def _front(buffer: ctypes.Array, length: int) -> bytes:
+    # ctypes.string_at cuts a length to 32 bits.
+    return memoryview(buffer)[:length].tobytes()
 
 
 def version() -> str:
     """The version of the library, as "0.1.0"."""
-    number = _lib.pikhsen_version()
-    return f"{number // 10000}.{number // 100 % 100}.{number % 100}"
+    return _dotted(_lib.pikhsen_version())
 
 
 def hash(
-    password: bytes, salt: bytes, *, passes: int = 3, memory_kib: int = 65536, lanes: int = 4, length: int = 32,
-    kind: Kind = Kind.ID, version: int = 0x13, secret: bytes = b"", associated: bytes = b"",
+    password: BytesLike, salt: BytesLike, *, passes: int = 3, memory_kib: int = 65536, lanes: int = 4,
+    length: int = 32, kind: int = Kind.ID, version: int = 0x13, secret: BytesLike = b"", associated: BytesLike = b"",
     max_kib: int = 1 << 20, max_ops: int = 1 << 23,
 ) -> bytes:
-    """The tag of a password of 1 to 127 bytes by Argon2, `length` bytes, 4 to 4096; the salt has 8 to 255.
+    """The tag of a password by Argon2 (RFC 9106), `length` bytes.
 
-    The settings are those that RFC 9106 recommends second, if no others are given: 64 MiB, 3 passes, 4 lanes.
+    The password has 1 to 127 bytes, the salt 8 to 255, the tag 4 to 4096. `memory_kib` is in KiB, at least 8 for each
+    lane. If no others are given, the settings are those that RFC 9106 recommends second: 64 MiB, 3 passes, 4 lanes.
+    `version` is 0x13, or 0x10 for old hashes.
+
+    Raises LimitExceeded, before memory is taken, where it needs more than `max_kib` KiB (1 GiB if not given) or
+    `max_ops` block functions, and Invalid where an argument is out of range.
     """
-    _small(kind=kind, version=version, passes=passes, memory_kib=memory_kib, lanes=lanes, max_kib=max_kib)
-    out = _buffer(length)
+    out = _buffer(_tag_length(length))
     _call(
-        _lib.pikhsen_argon2_hash, kind, version, passes, memory_kib, lanes, password, salt, secret, associated,
-        max_kib, max_ops, out,
+        _lib.pikhsen_argon2_hash, *_argon2_settings(kind, version, passes, memory_kib, lanes), _bytes(password),
+        _bytes(salt), _bytes(secret), _bytes(associated), *_argon2_limits(max_kib, max_ops), out,
     )
     return out.raw
 
 
 def encode(
-    password: bytes, *, salt: Optional[bytes] = None, passes: int = 3, memory_kib: int = 65536, lanes: int = 4,
-    length: int = 32, kind: Kind = Kind.ID, version: int = 0x13, max_kib: int = 1 << 20, max_ops: int = 1 << 23,
+    password: BytesLike, *, salt: Optional[BytesLike] = None, passes: int = 3, memory_kib: int = 65536, lanes: int = 4,
+    length: int = 32, kind: int = Kind.ID, version: int = 0x13, max_kib: int = 1 << 20, max_ops: int = 1 << 23,
 ) -> str:
-    """The encoded text of a password's hash, to be kept and given to `verify`.
+    """The encoded text of a password's hash, "$argon2id$v=19$m=..", to be kept and given to `verify`.
 
-    The salt is new, 16 bytes, if none is given.
+    The salt is new, 16 bytes, if none is given. Settings and limits are those of `hash`.
     """
-    _small(kind=kind, version=version, passes=passes, memory_kib=memory_kib, lanes=lanes, max_kib=max_kib)
-    salt = os.urandom(16) if salt is None else salt
-    out, text_len = _buffer(64 + 2 * len(salt) + 2 * length), c_size_t()
+    salt = os.urandom(16) if salt is None else _bytes(salt)
+    length = _tag_length(length)
+    # the room that PIKHSEN_ENCODED_ROOM tells, or more; a longer salt is refused
+    out, text_len = _buffer(64 + 2 * min(len(salt), 255) + 2 * length), c_size_t()
     _call(
-        _lib.pikhsen_argon2_encoded, kind, version, passes, memory_kib, lanes, password, salt, length, max_kib,
-        max_ops, out, byref(text_len),
+        _lib.pikhsen_argon2_encoded, *_argon2_settings(kind, version, passes, memory_kib, lanes), _bytes(password),
+        salt, length, *_argon2_limits(max_kib, max_ops), out, byref(text_len),
     )
-    return out.raw[: text_len.value].decode()
+    return _front(out, text_len.value).decode()
 
 
-def verify(text: str, password: bytes, *, max_kib: int = 1 << 20, max_ops: int = 1 << 23) -> bool:
-    """Whether the password is that of an encoded text.
+def verify(
+    text: Union[str, BytesLike], password: BytesLike, *, max_kib: int = 1 << 20, max_ops: int = 1 << 23
+) -> bool:
+    """Whether the password is that of an encoded text, a str or bytes.
 
-    The text may come from a stranger and ask for 4 TiB and days, so LimitExceeded is raised, before memory is taken,
-    where it needs more than `max_kib` KiB (1 GiB if not given) or `max_ops` block functions, about passes * memory_kib.
+    The text may come from a stranger and ask for 4 TiB and days, so LimitExceeded is raised, before memory for the hash
+    is taken, where it needs more than `max_kib` KiB (1 GiB if not given) or `max_ops` block functions, about passes *
+    memory. Invalid is raised where it is no encoded text, or the password has not 1 to 127 bytes.
     """
-    _small(max_kib=max_kib)
+    # a question mark, which stands for what is not ASCII, is in no encoded text
+    text = str.encode(text, "ascii", "replace") if isinstance(text, str) else _bytes(text)
     try:
-        _call(_lib.pikhsen_argon2_verify, text.encode(), password, max_kib, max_ops)
+        _call(_lib.pikhsen_argon2_verify, text, _bytes(password), *_argon2_limits(max_kib, max_ops))
     except Refused as refused:
         if refused.status is not Status.MISMATCH:
             raise
@@ -227,50 +359,72 @@ def verify(text: str, password: bytes, *, max_kib: int = 1 << 20, max_ops: int =
 
 
 def scrypt(
-    password: bytes, salt: bytes, *, log_n: int = 17, r: int = 8, p: int = 1, length: int = 64, keep: int = 1,
+    password: BytesLike, salt: BytesLike, *, log_n: int = 17, r: int = 8, p: int = 1, length: int = 64, keep: int = 1,
     max_bytes: int = 1 << 32, max_ops: int = 1 << 33,
 ) -> bytes:
     """The key of a password by scrypt (RFC 7914), `length` bytes; N is 2 ** log_n.
 
-    With `keep` S above 1, a power of two, every S-th row of the table is kept: 1/S of the memory, up to (1 + S) / 2
-    times the work, and the same key.
+    With `keep` S above 1, a power of two up to 1024 and N, every S-th row of the table is kept: 1/S of the memory, up
+    to (1 + S) / 2 times the work, and the same key.
+
+    Raises LimitExceeded, before memory is taken, where the table, 128 * r * N / S bytes, or 128 * r * p bytes are more
+    than `max_bytes` (4 GiB if not given), or 2 * r * p * N * (1 + S) cores of Salsa20/8 more than `max_ops`. Two rows
+    of 128 * r bytes, or three with S above 1, come beside the table.
     """
-    _small(log_n=log_n, r=r, p=p, keep=keep)
+    length = operator.index(length)
+    if not 0 <= length <= 32 * _TOP:
+        raise Invalid(Status.BUFFER)
     out = _buffer(length)
-    _call(_lib.pikhsen_scrypt, password, salt, log_n, r, p, keep, max_bytes, max_ops, out)
+    _call(
+        _lib.pikhsen_scrypt, _bytes(password), _bytes(salt), *_scrypt_settings(log_n, r, p, keep),
+        *_limits(max_bytes, max_ops), out,
+    )
     return out.raw
 
 
-def info(file: bytes) -> Costs:
+def info(file: BytesLike) -> Costs:
     """The costs that the first 64 bytes of a file say. Anyone can make them, so they don't tell who wrote the file."""
     costs = _Costs()
-    _call(_lib.pikhsen_scrypt_info, file[:64], byref(costs))
+    _call(_lib.pikhsen_scrypt_info, _bytes(file)[:64], byref(costs))
     return Costs(costs.log_n, costs.r, costs.p)
 
 
 def encrypt(
-    text: bytes, passphrase: bytes, *, log_n: int = 17, r: int = 8, p: int = 1, keep: int = 1,
-    max_bytes: int = 1 << 32, max_ops: int = 1 << 33, salt: Optional[bytes] = None,
+    text: BytesLike, passphrase: BytesLike, *, log_n: int = 17, r: int = 8, p: int = 1, keep: int = 1,
+    max_bytes: int = 1 << 32, max_ops: int = 1 << 33, salt: Optional[BytesLike] = None,
 ) -> bytes:
-    """The encrypted file of a text, as scrypt(1) writes it.
+    """The encrypted file of a text, 128 bytes longer, as scrypt(1) writes it.
 
     The salt is new, 32 bytes, if none is given. Two files with one passphrase, salt and costs betray their texts.
+    Costs and limits are those of `scrypt`; `decrypt` allows less if nothing else is said.
     """
-    _small(log_n=log_n, r=r, p=p, keep=keep)
-    salt = os.urandom(32) if salt is None else salt
+    text, salt = _bytes(text), os.urandom(32) if salt is None else _bytes(salt)
     out = _buffer(len(text) + 128)
-    _call(_lib.pikhsen_scrypt_encrypt, passphrase, salt, log_n, r, p, keep, max_bytes, max_ops, text, out)
+    _call(
+        _lib.pikhsen_scrypt_encrypt, _bytes(passphrase), salt, *_scrypt_settings(log_n, r, p, keep),
+        *_limits(max_bytes, max_ops), text, out,
+    )
     return out.raw
 
 
 def decrypt(
-    file: bytes, passphrase: bytes, *, keep: int = 1, max_bytes: int = 1 << 32, max_ops: int = 1 << 33
+    file: BytesLike, passphrase: BytesLike, *, keep: int = 1, max_bytes: int = 1 << 30, max_ops: int = 1 << 28
 ) -> bytes:
     """The text of an encrypted file, if the whole file is right under the passphrase, its final code included.
 
     Raises NotAFile, LimitExceeded, WrongPassphrase or Damaged otherwise, and then gives nothing of the text.
+
+    The file may come from a stranger and ask for any costs. What it may take is bounded by `max_bytes`, in bytes, and
+    `max_ops`, in cores of Salsa20/8, as `scrypt` counts them. If nothing else is said these are 1 GiB, enough for log_n
+    20 and r 8, and 2 ** 28, for which a machine of 2026 took 15 to 35 seconds. Ctrl-C waits for the end of the call.
     """
-    _small(keep=keep)
+    file = _bytes(file)
     out, text_len = _buffer(len(file)), c_size_t()
-    _call(_lib.pikhsen_scrypt_decrypt, passphrase, keep, max_bytes, max_ops, file, out, byref(text_len))
-    return out.raw[: text_len.value]
+    try:
+        _call(
+            _lib.pikhsen_scrypt_decrypt, _bytes(passphrase), _u32(keep), *_limits(max_bytes, max_ops), file, out,
+            byref(text_len),
+        )
+        return _front(out, text_len.value)
+    finally:
+        ctypes.memset(out, 0, len(out))

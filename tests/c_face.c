@@ -1,6 +1,7 @@
 /*
- * Calls libpikhsen from C: the first vectors, threads, files that are damaged, and, where REFUSE is defined, malloc that
- * refuses each request in turn. Ends with status 0 where all is right, and else names the line.
+ * Calls libpikhsen from C, on threads with a stack of 64 KiB: the first vectors, a file that is damaged, and, where
+ * REFUSE is defined, malloc that refuses each request in turn and counts the blocks that are not freed. Ends with
+ * status 0 where all is right, and else names the line.
  */
 #include <pthread.h>
 #include <stdio.h>
@@ -20,10 +21,14 @@
 /* Where it is not negative, so many further requests are granted. */
 static long granted = -1;
 
+/* How many blocks are not freed; 0 where nothing counts them. */
+static long live = 0;
+
 #ifdef REFUSE
 extern void *__libc_malloc(size_t);
 extern void *__libc_calloc(size_t, size_t);
 extern void *__libc_realloc(void *, size_t);
+extern void __libc_free(void *);
 
 static int refuses(void)
 {
@@ -34,19 +39,35 @@ static int refuses(void)
 	return 0;
 }
 
+static void *counted(void *block)
+{
+	if (block)
+		__sync_fetch_and_add(&live, 1);
+	return block;
+}
+
 void *malloc(size_t size)
 {
-	return refuses() ? NULL : __libc_malloc(size);
+	return refuses() ? NULL : counted(__libc_malloc(size));
 }
 
 void *calloc(size_t count, size_t size)
 {
-	return refuses() ? NULL : __libc_calloc(count, size);
+	return refuses() ? NULL : counted(__libc_calloc(count, size));
 }
 
 void *realloc(void *at, size_t size)
 {
-	return refuses() ? NULL : __libc_realloc(at, size);
+	if (refuses())
+		return NULL;
+	return at ? __libc_realloc(at, size) : counted(__libc_realloc(at, size));
+}
+
+void free(void *at)
+{
+	if (at)
+		__sync_fetch_and_sub(&live, 1);
+	__libc_free(at);
 }
 #endif
 
@@ -66,7 +87,13 @@ static void *hashes(void *out)
 	return NULL;
 }
 
+/* What the room of a text is can be asked before the compiler runs. */
+#if PIKHSEN_ENCODED_ROOM(8, 32) < 100
+#error "there is too little room for a text"
+#endif
+
 static unsigned char file[128 + 5], text[128 + 5], encoded[PIKHSEN_ENCODED_ROOM(8, 32)];
+static struct pikhsen_scrypt_costs costs;
 static size_t len;
 
 static unsigned int one(int call, unsigned char *tag)
@@ -83,34 +110,68 @@ static unsigned int one(int call, unsigned char *tag)
 	case 3:
 		return pikhsen_scrypt(none, 0, none, 0, 4, 1, 1, 4, 1 << 20, 1 << 20, tag, 32);
 	case 4:
-		return pikhsen_scrypt_encrypt(password, 8, salt, 32, 4, 1, 1, 1, 1 << 20, 1 << 20, somesalt, 5, file,
+		return pikhsen_scrypt_encrypt(password, 8, salt, 32, 4, 3, 2, 1, 1 << 20, 1 << 20, somesalt, 5, file,
 		    sizeof file);
+	case 5:
+		return pikhsen_scrypt_info(file, sizeof file, &costs);
 	default:
 		return pikhsen_scrypt_decrypt(password, 8, 1, 1 << 20, 1 << 20, file, sizeof file, text, sizeof text, &len);
 	}
 }
 
-/* Refuses the first request of a call, and then, each time, one later. */
-static void refused(int call, unsigned char *tag)
+struct call {
+	int number;
+	unsigned char *tag;
+	unsigned int told;
+};
+
+static void *calls(void *given)
 {
+	struct call *call = (struct call *)given;
+	long before = live;
+	call->told = one(call->number, call->tag);
+	WANT(live == before);
+	return NULL;
+}
+
+/* Refuses the first request of a call, and then, each time, one later. */
+static void *calls_refused(void *given)
+{
+	struct call *call = (struct call *)given;
 	unsigned char before[32];
-	unsigned int told = PIKHSEN_OUT_OF_MEMORY;
 	long requests = 0;
-	memcpy(before, tag, 32);
-	for (; told != PIKHSEN_OK; ++requests) {
+	memcpy(before, call->tag, 32);
+	for (call->told = PIKHSEN_OUT_OF_MEMORY; call->told != PIKHSEN_OK; ++requests) {
 #ifdef REFUSE
 		granted = requests;
 #endif
 		len = 7;
-		told = one(call, tag);
+		calls(call);
 		granted = -1;
-		WANT(told == PIKHSEN_OK || told == PIKHSEN_OUT_OF_MEMORY);
-		WANT(told == PIKHSEN_OK || memcmp(before, tag, 32) == 0);
-		WANT(told == PIKHSEN_OK || (call != 1 && call != 5) || len == 0);
+		WANT(call->told == PIKHSEN_OK || call->told == PIKHSEN_OUT_OF_MEMORY);
+		WANT(call->told == PIKHSEN_OK || memcmp(before, call->tag, 32) == 0);
+		WANT(call->told == PIKHSEN_OK || (call->number != 1 && call->number != 6) || len == 0);
 	}
 #ifdef REFUSE
-	WANT(requests > 1);
+	WANT(call->number == 5 || requests > 1);
 #endif
+	return NULL;
+}
+
+/* What a call is told on a thread with a stack of 64 KiB; the thread is made before requests are refused. */
+static unsigned int on_small_stack(void *(*work)(void *), int number, unsigned char *tag)
+{
+	pthread_attr_t attributes;
+	pthread_t thread;
+	struct call call;
+	call.number = number;
+	call.tag = tag;
+	WANT(pthread_attr_init(&attributes) == 0);
+	WANT(pthread_attr_setstacksize(&attributes, 65536) == 0);
+	WANT(pthread_create(&thread, &attributes, work, &call) == 0);
+	WANT(pthread_join(thread, NULL) == 0);
+	WANT(pthread_attr_destroy(&attributes) == 0);
+	return call.told;
 }
 
 int main(void)
@@ -118,7 +179,6 @@ int main(void)
 	/* printf password | argon2 somesalt -d -t 1 -k 8 -e, by the reference program */
 	static const char known[] = "$argon2d$v=19$m=8,t=1,p=1$c29tZXNhbHQ$xRnmA6xgPsGutbcexEpheePzl1sUwMl+ORTHnmNj4Xg";
 	unsigned char tags[4][32], tag[32];
-	struct pikhsen_scrypt_costs costs = { 0, 0, 0 };
 	pthread_t threads[4];
 	int i;
 
@@ -131,8 +191,8 @@ int main(void)
 		WANT(memcmp(tags[0], tags[i], 32) == 0);
 
 	memset(tag, 1, sizeof tag);
-	for (i = 0; i < 6; ++i)
-		refused(i, tag);
+	for (i = 0; i < 7; ++i)
+		WANT(on_small_stack(calls_refused, i, tag) == PIKHSEN_OK);
 	/* RFC 7914, section 12, the first vector's last derivation has these first bytes; keep is 4 */
 	WANT(tag[0] == 0x77 && tag[1] == 0xd6 && tag[2] == 0x57 && tag[3] == 0x62);
 	WANT(strcmp((char *)encoded, known) == 0);
@@ -142,12 +202,14 @@ int main(void)
 	WANT(pikhsen_argon2_verify(encoded, strlen(known) + 1, password, 8, 8, 100) == PIKHSEN_NOT_ENCODED);
 
 	WANT(len == 5 && memcmp(text, somesalt, 5) == 0);
+	WANT(costs.log_n == 4 && costs.r == 3 && costs.p == 2);
+	memset(&costs, 0, sizeof costs);
 	WANT(pikhsen_scrypt_info(file, 64, &costs) == PIKHSEN_OK);
-	WANT(costs.log_n == 4 && costs.r == 1 && costs.p == 1);
+	WANT(costs.log_n == 4 && costs.r == 3 && costs.p == 2);
 	WANT(pikhsen_scrypt_info(file, 63, &costs) == PIKHSEN_TOO_SHORT);
 	file[100] ^= 1;
 	memset(text, 1, sizeof text);
-	WANT(one(5, tag) == PIKHSEN_DAMAGED && len == 0);
+	WANT(on_small_stack(calls, 6, tag) == PIKHSEN_DAMAGED && len == 0);
 	for (i = 0; i < (int)sizeof text; ++i)
 		WANT(text[i] == 0);
 	return 0;

@@ -1,15 +1,19 @@
 #!/usr/bin/env python3
 """Builds libpikhsen over what the gate proved, and calls it from C and from Python: header and exports are the same,
-both ways to link, RFC vectors, hashlib, each byte of a file changed, each cut, threads, and README's two programs.
+both ways to link, RFC vectors, hashlib, each byte of a file changed, each cut, threads, processes, libraries that the
+module must refuse, and README's two programs.
 
     tests/c_face.py              rt lib proves and builds crates/pikhsen_c, over what earlier proofs left
     tests/c_face.py --built      takes the static library as make lib or an earlier run left it
     tests/c_face.py --read       compares header, sources, Python module and manual page alone
 """
+import array
 import concurrent.futures
+import copy
 import hashlib
 import os
 import pathlib
+import pickle
 import re
 import shutil
 import subprocess
@@ -20,6 +24,8 @@ from checking import Checks
 
 TOP = pathlib.Path(__file__).resolve().parent.parent
 HEADER = (TOP / "include/pikhsen.h").read_text(encoding="utf-8")
+MODULE = (TOP / "python/pikhsen.py").read_text(encoding="utf-8")
+PAGE = (TOP / "man/pikhsen.3").read_text(encoding="utf-8")
 SOURCES = {it.stem: it.read_text(encoding="utf-8") for it in sorted((TOP / "crates/pikhsen_c/src").glob("*.rt"))}
 STRICT = ["-std=c89", "-pedantic", "-Wall", "-Wextra", "-Werror", "-D_POSIX_C_SOURCE=200112L"]
 INCLUDE = ["-I", str(TOP / "include")]
@@ -60,7 +66,7 @@ def exports():
 
 def prototypes(text):
     """The functions that a text in C declares, in the same form."""
-    bare = re.sub(r"/\*.*?\*/", "", text, flags=re.DOTALL)
+    bare = re.sub(r"/\*.*?\*/|^PIKHSEN_MUST_CHECK\s", "", text, flags=re.DOTALL | re.MULTILINE)
     found = {}
     for result, name, parameters in re.findall(r"^(unsigned int) (\w+)\(([^)]*)\);", bare, re.MULTILINE):
         found[name] = (result, [" ".join(it.split()) for it in parameters.split(",")])
@@ -80,35 +86,62 @@ def numbers_of_sources():
 
 
 def numbers_of_header():
+    """The numbers and what they say."""
     table = HEADER.split("enum pikhsen_status {")[1].split("}")[0]
-    return {name: int(number) for name, number in re.findall(r"PIKHSEN_(\w+) = (\d+)", table)}
+    found = re.findall(r"PIKHSEN_(\w+) = (\d+),? */\* (.*) \*/", table)
+    return {name: (int(number), says) for name, number, says in found}
 
 
 def numbers_of_module():
-    table = (TOP / "python/pikhsen.py").read_text(encoding="utf-8").split("class Status(")[1].split("\nclass ")[0]
-    return {name: int(number) for name, number in re.findall(r"^    (\w+) = (\d+)$", table, re.MULTILINE)}
+    table = MODULE.split("class Status(")[1].split("\nclass ")[0]
+    numbers = dict(re.findall(r"^    (\w+) = (\d+)$", table, re.MULTILINE))
+    says = dict(re.findall(r"^    Status\.(\w+): ['\"](.*)['\"],$", MODULE, re.MULTILINE))
+    return {name: (int(number), says.get(name)) for name, number in numbers.items()}
 
 
 def numbers_of_page():
-    page = (TOP / "man/pikhsen.3").read_text(encoding="utf-8")
-    return {name: int(number) for number, name in re.findall(r"^(\d+)\tPIKHSEN_(\w+)\t", page, re.MULTILINE)}
+    found = re.findall(r"^(\d+)\tPIKHSEN_(\w+)\t(.*)", PAGE.replace("\\-", "-"), re.MULTILINE)
+    return {name: (int(number), says) for number, name, says in found}
+
+
+def kinds():
+    """The numbers of Argon2's types: of the sources, the header and the module."""
+    sources = re.findall(r"^        (\d) => Some\(Kind::(\w+)\),", SOURCES["argon2"], re.MULTILINE)
+    header = re.findall(r"PIKHSEN_ARGON2(\w+) = (\d)", HEADER.split("enum pikhsen_kind {")[1].split("}")[0])
+    module = re.findall(r"^    (\w+) = (\d)$", MODULE.split("class Kind(")[1].split("class ")[0], re.MULTILINE)
+    return [{name.upper(): int(it) for it, name in sources}, *(
+        {name: int(it) for name, it in each} for each in (header, module)
+    )]
+
+
+def fields():
+    """The fields of what a header says, in their order: of the sources, the header and the module."""
+    sources = SOURCES["file"].split("#[repr(C)]\n#[derive(Drop)]\npub struct PikhsenScryptCosts {")[1].split("}")[0]
+    header = re.search(r"struct pikhsen_scrypt_costs \{\n\tunsigned int (.*);\n\};", HEADER)[1]
+    module = re.search(r"class _Costs\(ctypes.Structure\):\n    _fields_ = \[(.*)\]\n", MODULE)[1]
+    return [re.findall(r"pub (\w+): (\w+),", sources), [(it, "u32") for it in header.split(", ")],
+            [(it, {"c_uint": "u32"}.get(kind)) for it, kind in re.findall(r'\("(\w+)", (\w+)\)', module)]]
 
 
 def compare_texts(checks):
     numbers = numbers_of_header()
-    checks.that("numbers of the sources", numbers_of_sources(), numbers)
+    plain = {name: number for name, (number, _) in numbers.items()}
+    checks.that("numbers of the sources", numbers_of_sources(), plain)
     checks.that("numbers of the Python module", numbers_of_module(), numbers)
     checks.that("numbers of the manual page", numbers_of_page(), numbers)
-    checks.that("numbers, each once", sorted(numbers.values()), list(range(len(numbers))))
+    checks.that("numbers, each once", sorted(plain.values()), list(range(len(numbers))))
+    checks.that("kinds", kinds(), [{"D": 0, "I": 1, "ID": 2}] * 3)
+    checks.that("fields of the costs", fields(), [[("log_n", "u32"), ("r", "u32"), ("p", "u32")]] * 3)
+    must_check = re.findall(r"^PIKHSEN_MUST_CHECK\nunsigned int (\w+)", HEADER, re.MULTILINE)
+    checks.that("answers that must be looked at", sorted([*must_check, "pikhsen_version"]), sorted(exports()))
     declared = prototypes(HEADER)
     checks.that("names of header and exports", sorted(declared), sorted(exports()))
     for name, form in exports().items():
         checks.that(f"header: {name}", declared.get(name), form)
-    page = (TOP / "man/pikhsen.3").read_text(encoding="utf-8")
-    synopsis = re.sub(r"\n +", " ", page.split("\n.SH ")[2])
+    synopsis = re.sub(r"\n +", " ", PAGE.split("\n.SH ")[2])
     checks.that("prototypes of the manual page", prototypes(synopsis), declared)
     version = (TOP / "VERSION").read_text(encoding="utf-8").strip()
-    checks.that("version of the manual page", f'"Pikhsen {version}"' in page.split("\n")[0], True)
+    checks.that("version of the manual page", f'"Pikhsen {version}"' in PAGE.split("\n")[0], True)
     if shutil.which("mandoc"):
         checks.that("manual page", said("mandoc", "-T", "lint", str(TOP / "man/pikhsen.3"), check=False), "")
     first, second, third = map(int, version.split("."))
@@ -145,10 +178,10 @@ def build(checks, folder):
     return f"{folder}/lib"
 
 
-def compile_c(source, lib, out, static, *flags):
-    """A program of a C text, with the library in it or beside it."""
+def compile_c(source, lib, out, static, *flags, compiler="gcc"):
+    """A program of a text in C or C++, with the library in it or beside it."""
     link = [f"{lib}/libpikhsen.a"] if static else ["-L", lib, "-lpikhsen", f"-Wl,-rpath,{lib}"]
-    words = ["gcc", *flags, "-O1", "-g", *INCLUDE, str(source), *link, "-lpthread", "-o", out]
+    words = [compiler, *flags, "-O1", "-g", *INCLUDE, str(source), *link, "-lpthread", "-o", out]
     ran = subprocess.run(words, stdout=subprocess.PIPE, stderr=subprocess.STDOUT, text=True)
     return ran.returncode, ran.stdout
 
@@ -160,7 +193,13 @@ def from_c(checks, folder, lib):
         if shutil.which(words[0]):
             ran = subprocess.run([*words, *INCLUDE, "-fsyntax-only", empty], stderr=subprocess.PIPE, text=True)
             checks.that(f"header under {words[0]}", (ran.returncode, ran.stderr), (0, ""))
+    ignored = pathlib.Path(folder, "ignored.c")
+    ignored.write_text('#include "pikhsen.h"\nvoid f(void) { pikhsen_scrypt_info(0, 0, 0); }\n', encoding="utf-8")
+    words = ["gcc", *STRICT, *INCLUDE, "-c", ignored, "-o", f"{folder}/ignored.o"]
+    ran = subprocess.run(words, stderr=subprocess.PIPE, text=True)
+    checks.that("an answer that is ignored", (ran.returncode, "unused-result" in ran.stderr), (1, True))
     for static in (True, False):
+        from_cpp(checks, folder, lib, static)
         for refuse in (["-DREFUSE"], []):
             name = f"c_face.c {'static' if static else 'shared'} {' '.join(refuse)}"
             program = f"{folder}/program"
@@ -172,6 +211,33 @@ def from_c(checks, folder, lib):
                 words = ["valgrind", "-q", "--error-exitcode=9", "--leak-check=full", "--track-origins=yes", program]
                 ran = subprocess.run(words, stdout=subprocess.PIPE, stderr=subprocess.STDOUT, text=True)
                 checks.that(f"{name} under valgrind", (ran.returncode, ran.stdout), (0, ""))
+
+
+CPP = """#include "pikhsen.h"
+#if PIKHSEN_ENCODED_ROOM(16, 32) != 121
+#error "the room is not a number of the preprocessor's"
+#endif
+int main() {
+    unsigned char room[PIKHSEN_ENCODED_ROOM(16, 32)], password[] = { 'x' }, salt[16] = { 0 };
+    size_t len = 16;
+    bool has_room = sizeof room == PIKHSEN_ENCODED_ROOM(len, 32);
+    unsigned int told = pikhsen_argon2_encoded(PIKHSEN_ARGON2ID, 0x13, 1, 8, 1, password, 1, salt, len, 32, 8, 100,
+        room, 0, &len);
+    return has_room && told == PIKHSEN_BUFFER && len == 0 ? 0 : 1;
+}
+"""
+
+
+def from_cpp(checks, folder, lib, static):
+    """One call, compiled and linked as C++."""
+    if not shutil.which("g++"):
+        return
+    source, program = pathlib.Path(folder, "call.cpp"), f"{folder}/call"
+    source.write_text(CPP, encoding="utf-8")
+    strict = ["-Wall", "-Wextra", "-pedantic", "-Werror", "-Wold-style-cast", "-Wconversion", "-Wsign-conversion"]
+    made = compile_c(source, lib, program, static, *strict, compiler="g++")
+    checks.that(f"C++ {'static' if static else 'shared'}, compiled", made, (0, ""))
+    checks.that(f"C++ {'static' if static else 'shared'}", subprocess.run([program]).returncode, 0)
 
 
 # ---- from Python
@@ -190,20 +256,22 @@ def from_python(checks, pikhsen):
     checks.that("version", pikhsen.version(), (TOP / "VERSION").read_text(encoding="utf-8").strip())
     # RFC 9106, 5.1 to 5.3
     for kind, tag in (
-        (0, "512b391b6f1162975371d30919734294f868e3be3984f3c1a13a4db9fabe4acb"),
-        (1, "c814d9d1dc7f37aa13f0d77f2494bda1c8de6b016dd388d29952a4c4672b6ce8"),
-        (2, "0d640df58d78766c08c037a34a8b53c9d01ef0452d75b65eb52520e96b01e659"),
+        (pikhsen.Kind.D, "512b391b6f1162975371d30919734294f868e3be3984f3c1a13a4db9fabe4acb"),
+        (pikhsen.Kind.I, "c814d9d1dc7f37aa13f0d77f2494bda1c8de6b016dd388d29952a4c4672b6ce8"),
+        (pikhsen.Kind.ID, "0d640df58d78766c08c037a34a8b53c9d01ef0452d75b65eb52520e96b01e659"),
     ):
         found = pikhsen.hash(
             b"\1" * 32, b"\2" * 16, passes=3, memory_kib=32, lanes=4, kind=kind, secret=b"\3" * 8, associated=b"\4" * 12
         )
-        checks.that(f"RFC 9106, kind {kind}", found.hex(), tag)
+        checks.that(f"RFC 9106, {kind!r}", found.hex(), tag)
     # the README of the reference implementation
-    text = pikhsen.encode(b"password", salt=b"somesalt", passes=2, memory_kib=65536, lanes=4, length=24, kind=1)
+    text = pikhsen.encode(b"password", salt=b"somesalt", passes=2, memory_kib=65536, lanes=4, length=24,
+                          kind=pikhsen.Kind.I)
     checks.that("encoded text", text, "$argon2i$v=19$m=65536,t=2,p=4$c29tZXNhbHQ$RdescudvJCsgt3ub+b+dWRWJTmaaJObG")
     # printf password | argon2 somesalt -t 2 -m 8 -v 10, with its version and without
     old = "$argon2i$v=16$m=256,t=2,p=1$c29tZXNhbHQ$/U3YPXYsSb3q9XxHvc0MLxur+GP960kN9j7emXX8zwY"
-    found = pikhsen.encode(b"password", salt=b"somesalt", passes=2, memory_kib=256, lanes=1, kind=1, version=0x10)
+    found = pikhsen.encode(b"password", salt=b"somesalt", passes=2, memory_kib=256, lanes=1,
+                           kind=pikhsen.Kind.I, version=0x10)
     checks.that("encoded text, version 0x10", found, old)
     for told in (text, old, old.replace("v=16$", "")):
         checks.that(f"right password of {told[:20]}", pikhsen.verify(told, b"password"), True)
@@ -300,6 +368,173 @@ def threads_from_python(checks, pikhsen):
     checks.that("threads", together == [work(number) for number in range(64)], True)
 
 
+class Longer(bytes):
+    """Bytes that tell a wrong length."""
+
+    def __len__(self):
+        return super().__len__() + 9
+
+
+def arguments_from_python(checks, pikhsen):
+    """All that holds bytes is taken for its bytes, and nothing else is."""
+    # all have lengths that 4 divides, and so has the text
+    salt, file_salt = b"salt" * 3, b"salt" * 8
+    small = {"passes": 1, "memory_kib": 8, "lanes": 1, "length": 30}
+    tag, key = pikhsen.hash(b"password", salt, **small), pikhsen.scrypt(b"password", salt, log_n=4)
+    text = pikhsen.encode(b"password", salt=salt, **small)
+    file = pikhsen.encrypt(b"Dear Ada", b"password", log_n=4, salt=file_salt)
+    for name, form in (
+        ("bytearray", bytearray), ("subclass", Longer), ("memoryview", memoryview),
+        ("items of four bytes", lambda it: array.array("I", it)),
+        ("every other byte", lambda it: memoryview(bytes(b for each in it for b in (each, 0)))[::2]),
+    ):
+        checks.that(f"hash, {name}", pikhsen.hash(form(b"password"), form(salt), secret=form(b""), **small), tag)
+        checks.that(f"encode, {name}", pikhsen.encode(form(b"password"), salt=form(salt), **small), text)
+        checks.that(f"scrypt, {name}", pikhsen.scrypt(form(b"password"), form(salt), log_n=4), key)
+        made = pikhsen.encrypt(form(b"Dear Ada"), form(b"password"), log_n=4, salt=form(file_salt))
+        checks.that(f"encrypt, {name}", made, file)
+        checks.that(f"decrypt, {name}", pikhsen.decrypt(form(file), form(b"password")), b"Dear Ada")
+        checks.that(f"info, {name}", tuple(pikhsen.info(form(file))), (4, 8, 1))
+        checks.that(f"verify, {name}", pikhsen.verify(form(text.encode()), form(b"password")), True)
+    for call in (
+        lambda: pikhsen.hash("password", salt), lambda: pikhsen.verify(text, "password"), lambda: pikhsen.info("file"),
+        lambda: pikhsen.encrypt("text", b""), lambda: pikhsen.decrypt(8, b""), lambda: pikhsen.verify(None, b"x"),
+        lambda: pikhsen.hash(b"x", salt, passes=1.5), lambda: pikhsen.scrypt(b"", b"", log_n="4"),
+    ):
+        checks.that("a wrong type", (refusal(call) or "")[:9], "TypeError")
+    numbers_from_python(checks, pikhsen, text, file)
+    checks.that("great limits", pikhsen.verify(text, b"password", max_kib=1 << 70, max_ops=1 << 70), True)
+    for odd in ("\ud800", "$\u00e9", "\uff04argon2id$", text + "\ud800"):
+        try:
+            checks.that("a text that is not ASCII", pikhsen.verify(odd, b"password"), None)
+        except pikhsen.Invalid as refused:
+            checks.that("what is told of it", (refused.status.name, refused.args, refused.__context__),
+                        ("NOT_ENCODED", (pikhsen.Status.NOT_ENCODED,), None))
+    large = b"scrypt\0\x15" + (8).to_bytes(4, "big") + (1).to_bytes(4, "big") + bytes(32)
+    long = b"scrypt\0\x0a" + (8).to_bytes(4, "big") + ((1 << 13) + 1).to_bytes(4, "big") + bytes(32)
+    for front, why in ((large, "MEMORY_LIMIT"), (long, "WORK_LIMIT")):
+        file = front + hashlib.sha256(front).digest()[:16] + bytes(64)
+        checks.that(f"decrypt's own limits, {why}", refusal(pikhsen.decrypt, file, b""), why)
+
+
+def numbers_from_python(checks, pikhsen, text, file):
+    """Numbers that the library's types don't hold are refused as those are that they hold and are out of range."""
+    def hashed(**named):
+        return pikhsen.hash(b"x", b"saltsalt", **named)
+
+    def derived(**named):
+        return pikhsen.scrypt(b"", b"", **named)
+
+    for why, call, name in (
+        ("PASSES", hashed, "passes"), ("LANES", hashed, "lanes"), ("MEMORY", hashed, "memory_kib"),
+        ("KIND", hashed, "kind"), ("ARGON2_VERSION", hashed, "version"), ("TAG_LENGTH", hashed, "length"),
+        ("LOG_N", derived, "log_n"), ("KEEP", derived, "keep"), ("BUFFER", derived, "length"),
+    ):
+        for number in (-1, -(1 << 32) + 1, -(1 << 70), 1 << 38, (1 << 70) + 3):
+            checks.that(f"{why}, {number}", refusal(call, **{name: number}), why)
+            if call == hashed:
+                checks.that(f"encode, {why}, {number}", refusal(pikhsen.encode, b"x", **{name: number}), why)
+    for number in (-1, -(1 << 70)):
+        for why, call in (
+            ("ZERO", lambda: derived(r=number)), ("ZERO", lambda: derived(p=number)),
+            ("PRODUCT", lambda: derived(r=-number << 32)), ("PRODUCT", lambda: derived(p=-number << 32)),
+            ("MEMORY_LIMIT", lambda: pikhsen.verify(text, b"x", max_kib=number)),
+            ("WORK_LIMIT", lambda: pikhsen.verify(text, b"x", max_ops=number)),
+            ("MEMORY_LIMIT", lambda: pikhsen.decrypt(file, b"x", max_bytes=number)),
+            ("WORK_LIMIT", lambda: pikhsen.decrypt(file, b"x", max_ops=number)),
+        ):
+            checks.that(f"{why}, {number}", refusal(call), why)
+
+
+def work_of_argon2(kind, passes, kib, lanes):
+    """The block functions of a hash, as man/pikhsen.3 counts them."""
+    segment = kib // (4 * lanes)
+    independent = {0: 0, 1: 4 * lanes * passes, 2: 2 * lanes}[kind]
+    return passes * 4 * lanes * segment - 2 * lanes + 2 * ((segment + 127) // 128) * independent
+
+
+def limits_from_python(checks, pikhsen):
+    for kind in pikhsen.Kind:
+        for passes, kib, lanes in ((1, 8, 1), (2, 519, 1), (3, 1030, 2), (1, 1024, 2)):
+            settings = {"kind": kind, "passes": passes, "memory_kib": kib, "lanes": lanes}
+            most, blocks = work_of_argon2(kind, passes, kib, lanes), kib // (4 * lanes) * 4 * lanes
+            for limits, why in (
+                ({"max_ops": most, "max_kib": blocks}, None), ({"max_ops": most - 1}, "WORK_LIMIT"),
+                ({"max_kib": blocks - 1}, "MEMORY_LIMIT"),
+            ):
+                found = refusal(pikhsen.hash, b"x", b"saltsalt", **settings, **limits)
+                checks.that(f"hash {settings} {limits}", found, why)
+
+
+def exceptions_from_python(checks, pikhsen):
+    for status in pikhsen.Status:
+        made = pikhsen._EXCEPTIONS.get(status, pikhsen.Invalid)(status)
+        for again in (pickle.loads(pickle.dumps(made)), copy.copy(made), copy.deepcopy(made)):
+            checks.that(f"{made!r} again", (type(again), again.status, str(again)), (type(made), status, str(made)))
+        is_value = status is not pikhsen.Status.OUT_OF_MEMORY
+        found = isinstance(made, ValueError), isinstance(made, MemoryError)
+        checks.that(f"family of {made!r}", found, (is_value, not is_value))
+        checks.that(f"sentence of {status!r}", str(made), numbers_of_header()[status.name][1])
+    checks.that("memory", pikhsen.OutOfMemory.__mro__[1:3], (MemoryError, pikhsen.Refused))
+
+
+STUB = """unsigned int pikhsen_version(void) { return VERSION; }
+unsigned int pikhsen_argon2_hash(void) { return 4000000000u; }
+unsigned int pikhsen_argon2_encoded(void) { return 77; }
+unsigned int pikhsen_argon2_verify(void) { return 77; }
+unsigned int pikhsen_scrypt(void) { return 77; }
+unsigned int pikhsen_scrypt_info(void) { return 9; }
+unsigned int pikhsen_scrypt_encrypt(void) { return 77; }
+"""
+LAST = "unsigned int pikhsen_scrypt_decrypt(void) { return 77; }\n"
+STRANGE = """import pikhsen
+for call in (lambda: pikhsen.hash(b"x", b"x"), lambda: pikhsen.verify("x", b"x"), lambda: pikhsen.info(b"")):
+    try:
+        call()
+    except pikhsen.Refused as refused:
+        print(type(refused).__name__, int(refused.status), isinstance(refused, ValueError))
+"""
+POOL = """import concurrent.futures, multiprocessing, pikhsen
+if __name__ == "__main__":
+    with concurrent.futures.ProcessPoolExecutor(1, multiprocessing.get_context("spawn")) as pool:
+        print(repr(pool.submit(pikhsen.decrypt, b"x", b"x").exception(60)))
+"""
+
+
+def libraries_of_python(checks, folder, lib):
+    """Libraries that the module must refuse to load, numbers that it doesn't know, and which library it loads."""
+    right, other, newer, lacks = f"{lib}/libpikhsen.so.0", *(f"{folder}/{it}.so" for it in ("other", "newer", "lacks"))
+    for out, number, text in ((other, 10203, STUB + LAST), (newer, 199, STUB + LAST), (lacks, 100, STUB)):
+        pathlib.Path(folder, "stub.c").write_text(text, encoding="utf-8")
+        subprocess.run(["gcc", "-shared", "-fPIC", f"-DVERSION={number}", f"{folder}/stub.c", "-o", out], check=True)
+    module = f"import sys; sys.path.insert(0, {str(TOP / 'python')!r}); import pikhsen; print(pikhsen.version())"
+    version = (TOP / "VERSION").read_text(encoding="utf-8").strip()
+    for name, named, options, expected in (
+        ("named", right, [], version), ("of another version", other, [], "version 1.2.3, and this module is for 0.x"),
+        ("that lacks a function", lacks, [], "ImportError: libpikhsen can't be loaded"),
+        ("that is not there", f"{folder}/none", [], "ImportError: libpikhsen can't be loaded"),
+        ("found, under an empty name", "", [], version), ("found, under -I", other, ["-I"], version),
+        ("found, under -E", other, ["-E"], version),
+    ):
+        environment = {**os.environ, "LD_LIBRARY_PATH": lib, "PIKHSEN_LIBRARY": named, "PYTHONDONTWRITEBYTECODE": "1"}
+        ran = subprocess.run([sys.executable, *options, "-c", module], env=environment, stdout=subprocess.PIPE,
+                             stderr=subprocess.STDOUT, text=True)
+        last = ran.stdout.splitlines()[-1]
+        checks.that(f"a library {name}", (expected in last, last), (True, last))
+    for name, program, library, expected in (
+        ("numbers that are not known", STRANGE, newer,
+         "Refused 4000000000 False\nRefused 77 False\nOutOfMemory 9 False\n"),
+        ("a refusal in a pool of processes", POOL, right, "NotAFile(<Status.TOO_SHORT: 26>)\n"),
+    ):
+        file = pathlib.Path(folder, "program.py")
+        file.write_text(program, encoding="utf-8")
+        environment = {**os.environ, "PIKHSEN_LIBRARY": library, "PYTHONPATH": str(TOP / "python")}
+        environment["PYTHONDONTWRITEBYTECODE"] = "1"
+        ran = subprocess.run([sys.executable, file], env=environment, stdout=subprocess.PIPE, stderr=subprocess.STDOUT,
+                             text=True, timeout=120)
+        checks.that(name, ran.stdout, expected)
+
+
 # ---- what README shows
 
 
@@ -342,8 +577,12 @@ def main():
         sys.path.insert(0, str(TOP / "python"))
         import pikhsen
 
-        for part in (from_python, keys_from_python, files_from_python, threads_from_python):
+        for part in (
+            from_python, keys_from_python, files_from_python, threads_from_python, arguments_from_python,
+            limits_from_python, exceptions_from_python,
+        ):
             part(checks, pikhsen)
+        libraries_of_python(checks, folder, lib)
         readme_runs(checks, folder, lib)
     checks.end()
 
