@@ -283,11 +283,11 @@ def _tag_length(length: int) -> int:
     return length if 0 <= length <= 4096 else 0
 
 
-def _buffer(length: int) -> ctypes.Array:
+def _buffer(length: int) -> "ctypes.Array[ctypes.c_char]":
     return (ctypes.c_char * length)()
 
 
-def _front(buffer: ctypes.Array, length: int) -> bytes:
+def _front(buffer: "ctypes.Array[ctypes.c_char]", length: int) -> bytes:
     # ctypes.string_at cuts a length to 32 bits.
     return memoryview(buffer)[:length].tobytes()
 
