@@ -28,6 +28,7 @@ impl Encoded {
     pub fn read(alloc: Global, text: &[u8]) -> Result<Encoded, ReadFault>
         // What is read is a text of the value, each byte of it.
         ensures found { IfOk result (λ e. IsTextOf (value_of e) text.now) }
+        ensures value { IfOk result (λ e. IsValue (value_of e)) }
         ensures not_in_grammar { IsErrOf result ReadFault.NotInGrammar → IsText text.now → ⊥ }
         ensures out_of_range { IsErrOf result ReadFault.OutOfRange
             → IsText text.now × (IsTextInRange text.now → ⊥) }

@@ -8,7 +8,7 @@ use Rattle.argon.specs.declared.kind.Kind.{Kind}
 use Rattle.argon.specs.declared.kind.Kind.TheVariants.{D, I, Id}
 use Rattle.argon_text.specs.EncodedText.{IsTextOf, encoded_text}
 use Rattle.argon_text.specs.Grammar.{HasNumbers}
-use Rattle.argon_text.specs.Value.{Value}
+use Rattle.argon_text.specs.Value.{IsValue, Value}
 use Rattle.argon_text.specs.Verifying.{tag_of_password, verify_fault}
 use Rattle.argon_text.specs.declared.fault.VerifyFault.{VerifyFault}
 use Rattle.argon_text.specs.declared.fault.VerifyFault.TheVariants.{PasswordLength, MemoryLimit, WorkLimit}
@@ -118,6 +118,7 @@ pub record IsTold (status : ℕ) (first : Option VerifyFault) : Type 0 where
 -- the text is that of a value within the limits, and the password gives the value's tag
 pub record HasPassword (text password : List ℕ) (max_kib max_ops : ℕ) : Type 0 where
   pub value : Value
+  pub valid : IsValue value
   pub written : IsTextOf value text
   pub admitted : verify_fault value password max_kib max_ops ≡ None
   pub same : tag_of_password value password ≡ value.tag
@@ -125,6 +126,7 @@ pub record HasPassword (text password : List ℕ) (max_kib max_ops : ℕ) : Type
 -- the text is that of a value within the limits, and the password gives a tag that is not the value's
 pub record HasOtherPassword (text password : List ℕ) (max_kib max_ops : ℕ) : Type 0 where
   pub value : Value
+  pub valid : IsValue value
   pub written : IsTextOf value text
   pub admitted : verify_fault value password max_kib max_ops ≡ None
   pub other : tag_of_password value password ≡ value.tag → ⊥
@@ -132,6 +134,7 @@ pub record HasOtherPassword (text password : List ℕ) (max_kib max_ops : ℕ) :
 -- the text is that of a value for which this is the first fault of the password's length and the limits, or none
 pub record IsJudged (first : Option VerifyFault) (text password : List ℕ) (max_kib max_ops : ℕ) : Type 0 where
   pub value : Value
+  pub valid : IsValue value
   pub written : IsTextOf value text
   pub refused : verify_fault value password max_kib max_ops ≡ first
 

@@ -1,5 +1,5 @@
 //! Encoded texts of hashes by Argon2.
-ghost use Rattle.std.specs.Prelude.{◌≡◌, ◌≢◌, ◌+◌, ◌++◌, ◌<◌, ◌≤◌, ◌∷◌, [], true, length, replicate, take, IfOk, IfErr, Ok};
+ghost use Rattle.std.specs.Prelude.{◌≡◌, ◌≢◌, ◌+◌, ◌++◌, ◌<◌, ◌≤◌, ◌∷◌, [], true, length, replicate, take, drop, IfOk, IfErr, Ok};
 ghost use Rattle.argon.specs.Argon2.{argon2_tag};
 ghost use Rattle.argon.specs.Range.{IsInRange, admission};
 ghost use Rattle.argon_text.specs.EncodedText.{encoded_text};
@@ -64,6 +64,7 @@ fn copy_text(text: &[u8], out: &mut [u8])
     requires room { length text.now < length out.old }
     ensures text { take (length text.now) out.new ≡ text.now }
     ensures end { take (length text.now + 1) out.new ≡ text.now ++ 0 ∷ [] }
+    ensures rest { drop (length text.now + 1) out.new ≡ drop (length text.now + 1) out.old }
 {
     out[..text.len()].copy_from_slice(text);
     out[text.len()] = 0;
@@ -91,6 +92,8 @@ pub extern "C" fn pikhsen_argon2_encoded(
         memory_kib tag_len (length salt.now) (length password.now)) password.now salt.now }
     ensures end { result ≡ 0 → take (text_len.new + 1) out.new ≡ encoded_hash (parameters_given kind version passes lanes
         memory_kib tag_len (length salt.now) (length password.now)) password.now salt.now ++ 0 ∷ [] }
+    // What is after it stays.
+    ensures rest { result ≡ 0 → drop (text_len.new + 1) out.new ≡ drop (text_len.new + 1) out.old }
     ensures told { result ≢ out_of_memory → result ≡ encoded_status (parameters_given kind version passes lanes
         memory_kib tag_len (length salt.now) (length password.now)) salt.now max_kib max_ops (length out.old) }
     // Memory is asked for, and refused, only where the settings are not.

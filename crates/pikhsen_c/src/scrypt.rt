@@ -55,6 +55,19 @@ fn admitted(costs: &Costs, keep: u32, max_bytes: u64, max_ops: u64) -> Result<Sp
     }
 }
 
+// Takes the memory of a derivation, on the condition that the limits admit it: here and nowhere else.
+fn reserved(alloc: Global, sparse: &Sparse, max_bytes: u64, max_ops: u64) -> Result<Workspace, u32>
+    requires fits { SparseFitsMemory sparse.now (2 ^ 40) }
+    requires admitted { limits_status sparse.now max_bytes max_ops ≡ 0 }
+    ensures sparse { IfOk result (λ workspace. workspace.sparse ≡ sparse.now) }
+    ensures memory { IfErr result (λ status. status ≡ out_of_memory) }
+{
+    match Workspace::reserve(alloc, sparse) {
+        Ok(workspace) => Ok(workspace),
+        Err(_) => Err(status::OUT_OF_MEMORY),
+    }
+}
+
 /// Takes the memory of a derivation that the limits admit; or the number of what it is refused for.
 pub(crate) fn workspace(
     alloc: Global,
@@ -63,6 +76,7 @@ pub(crate) fn workspace(
     max_bytes: u64,
     max_ops: u64,
 ) -> Result<Workspace, u32>
+    ensures sparse { IfOk result (λ workspace. workspace.sparse ≡ sparse_given costs.now keep) }
     ensures costs { IfOk result (λ workspace. workspace.sparse.costs ≡ costs.now) }
     ensures passed { OnOk result (limits_status (sparse_given costs.now keep) max_bytes max_ops ≡ 0) }
     ensures told { IfErr result (λ status. status ≢ out_of_memory
@@ -73,10 +87,7 @@ pub(crate) fn workspace(
     ensures below { IfErr result (λ status. status ≤ 21) }
 {
     let sparse = admitted(costs, keep, max_bytes, max_ops)?;
-    match Workspace::reserve(alloc, &sparse) {
-        Ok(workspace) => Ok(workspace),
-        Err(_) => Err(status::OUT_OF_MEMORY),
-    }
+    reserved(alloc, &sparse, max_bytes, max_ops)
 }
 
 /// The key of a password, as many bytes as `out` has. What is refused is told by the first fault, before

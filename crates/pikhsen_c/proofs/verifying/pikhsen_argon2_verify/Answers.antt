@@ -5,6 +5,7 @@ use Rattle.pikhsen_c.proofs.verifying.pikhsen_argon2_verify.Goals as goal
 pub returns-clause-right : goal.returns-clause-right
 returns-clause-right c = λ told. record {
   value = value_of c.in-Ok.encoded;
+  valid = c.in-Ok.ensures.value;
   written = c.in-Ok.ensures.found;
   admitted = c.answered.ensures.admitted told;
   same = c.answered.ensures.right told;
@@ -13,6 +14,7 @@ returns-clause-right c = λ told. record {
 pub returns-clause-wrong : goal.returns-clause-wrong
 returns-clause-wrong c = λ told. record {
   value = value_of c.in-Ok.encoded;
+  valid = c.in-Ok.ensures.value;
   written = c.in-Ok.ensures.found;
   admitted = c.answered.ensures.admitted_too told;
   other = c.answered.ensures.wrong told;
@@ -21,6 +23,7 @@ returns-clause-wrong c = λ told. record {
 pub returns-clause-password_len : goal.returns-clause-password_len
 returns-clause-password_len c = λ told. record {
   value = value_of c.in-Ok.encoded;
+  valid = c.in-Ok.ensures.value;
   written = c.in-Ok.ensures.found;
   refused = c.answered.ensures.refused.password_len told;
 }
@@ -28,6 +31,7 @@ returns-clause-password_len c = λ told. record {
 pub returns-clause-memory_limit : goal.returns-clause-memory_limit
 returns-clause-memory_limit c = λ told. record {
   value = value_of c.in-Ok.encoded;
+  valid = c.in-Ok.ensures.value;
   written = c.in-Ok.ensures.found;
   refused = c.answered.ensures.refused.memory_limit told;
 }
@@ -35,6 +39,7 @@ returns-clause-memory_limit c = λ told. record {
 pub returns-clause-work_limit : goal.returns-clause-work_limit
 returns-clause-work_limit c = λ told. record {
   value = value_of c.in-Ok.encoded;
+  valid = c.in-Ok.ensures.value;
   written = c.in-Ok.ensures.found;
   refused = c.answered.ensures.refused.work_limit told;
 }
@@ -42,6 +47,7 @@ returns-clause-work_limit c = λ told. record {
 pub returns-clause-memory : goal.returns-clause-memory
 returns-clause-memory c = λ told. inr (record {
   value = value_of c.in-Ok.encoded;
+  valid = c.in-Ok.ensures.value;
   written = c.in-Ok.ensures.found;
   refused = c.answered.ensures.refused.memory told;
 })
