@@ -8,6 +8,7 @@ use Rattle.argon.specs.declared.fault.ParamFault.{ParamFault}
 use Rattle.argon_text.specs.EncodedText.{encoded_text}
 use Rattle.argon_text.specs.Value.{Value}
 use Rattle.host.specs.Seen.{Seen, Text}
+use Rattle.command_words.specs.Answer.{◌>>=◌}
 use Rattle.argon2_command.specs.Refusal.{refusal_of}
 use Rattle.argon2_command.specs.Request.{Request, argon2_request}
 use Rattle.argon2_command.specs.Settings.{version_number}
