@@ -8,7 +8,7 @@ the row's work once, in turn; the least of all rounds counts, so that what else 
 user and system time of the process, and elapsed time. Memory is the greatest resident set, of a further run under GNU
 time where that is there. A ratio is to the installed program, and below 1 where ours takes less. Hashes and decrypted
 files are compared. --small has the rows that take less than a second, --large adds those of a gigabyte. --out PATH writes
-the table to PATH.tsv, too, as tab-separated values, and plots it as PATH.svg where gnuplot is there.
+the table to PATH.tsv, too, as tab-separated values, and plots a whole one as PATH.svg where gnuplot is there.
 """
 import argparse
 import datetime
@@ -181,6 +181,8 @@ def main():
                 print("  ".join(f"{cell:>{width(name)}}" for name, cell in zip(COLUMNS, lines[-1])), flush=True)
     if given.out:
         write(given.out, title, lines)
+        if not given.only:
+            plot(given.out, title)
 
 
 def width(name):
@@ -190,9 +192,12 @@ def width(name):
 def write(path, title, lines):
     with open(f"{path}.tsv", "w", encoding="utf-8") as file:
         file.write(f"# {title}\n" + "".join("\t".join(line) + "\n" for line in [COLUMNS, *lines]))
-    plot = os.path.join(os.path.dirname(os.path.abspath(__file__)), "plot.gp")
+
+
+def plot(path, title):
+    script = os.path.join(os.path.dirname(os.path.abspath(__file__)), "plot.gp")
     if shutil.which("gnuplot"):
-        subprocess.run(["gnuplot", "-c", plot, f"{path}.tsv", f"{path}.svg", title], check=True)
+        subprocess.run(["gnuplot", "-c", script, f"{path}.tsv", f"{path}.svg", title], check=True)
     else:
         print("no plot: gnuplot is not installed", file=sys.stderr)
 
