@@ -4,8 +4,9 @@
     tests/wrong_bodies.py [--all] [--told] [--read] [CRATE | CRATE/NAME]..
 
 crates/CRATE/wrong-bodies/NAME.edit is written as the edits of must-fail/, which the gate tries one at a time; --all
-tries those, too. Edits of different functions share a check, and each must be met by an error at a line of a function
-that it changes. One that is not, or that changes more than bodies, is tried alone, as the gate tries the others.
+tries those, too. Edits of different functions share a check of these functions, and each must be met by an error at a
+line of a function that it changes. One that is not, or that changes more than bodies, is tried alone, as the gate tries
+the others: a check of the whole crate.
 --told prints what refused each. The crates and the libraries below must be built: rt ci leaves them so. --read tries
 none, and names the edits of both folders whose texts do not stand in the sources once.
 """
@@ -22,7 +23,8 @@ from importlib import machinery, util
 TOP = pathlib.Path(__file__).resolve().parent.parent
 ALONE, MOST = ["--jobs", "1"], 6  # how a check is called, and how many edits share one
 FUNCTION = re.compile(r'( *)(?:pub(?:\([a-z]+\))? )?(?:const )?(?:unsafe )?(?:extern "C" )?fn (\w+)')
-ANSWER = re.compile(r"(?:\./)?proofs/(?:(\S+)/)?(\w+)/(?:Answers|Invariants)\.antt:\d+:\d+: error: (`.*)")
+IMPL = re.compile(r"impl(?:<[^>]*>)? (?:(\w+)(?:<.*>)? for )?(\w+)")
+ANSWER = re.compile(r"(?:\./)?proofs/(\S+)/(?:Answers|Invariants)\.antt:\d+:\d+: error: (`.*)")
 LOST_NAME = re.compile(r"has no field|is not in scope|has no `|was not admitted")
 
 
@@ -36,15 +38,18 @@ def load_rt():
     return module
 
 
-def function_at(text, line, body=False):
-    """The function that holds this line of a source, in its body, if asked."""
+def function_at(file, text, line, body=False):
+    """The path, as the prover prints it, of the function that holds this line of a source, in its body, if asked."""
     lines = text.split("\n")
     for start, found in enumerate(map(FUNCTION.match, lines)):
         if found:
             opens = next(at for at in range(start, len(lines)) if lines[at].endswith(("{", ";", "{}")))
             ends = lines.index(found[1] + "}", opens) if lines[opens].endswith("{") else opens
             if (opens if body else start) <= line <= ends:
-                return found[2]
+                above = [it for it in map(IMPL.match, lines[:start]) if it and found[1]]
+                kind = [it[2] + (it[1] or "") for it in above[-1:]]
+                module = [it for it in pathlib.PurePath(file).with_suffix("").parts[1:] if it != "lib"]
+                return "::".join([*module, *kind, found[2]])
     return None
 
 
@@ -58,8 +63,8 @@ class Edit:
             said[word] = rest.removeprefix(" ")
             if word == "new":
                 self.pairs.append((said["file"].strip(), said["old"], said["new"]))
-        self.texts, self.places = self.put({}) or ({}, {(None, None)})
-        self.is_body = all(file and file.startswith("src/") and function for file, function in self.places)
+        self.texts, self.places = self.put({}) or ({}, {None})
+        self.is_body = all(self.places)
 
     def put(self, texts):
         """The texts with this edit, and what it changes; or none where what it replaces does not stand there once."""
@@ -68,7 +73,8 @@ class Edit:
             text = made.get(file) or rt.rtlib.text_of(f"{self.crate.folder}/{file}") or ""
             if text.count(old) != 1:
                 return None
-            places.add((file, function_at(text, text.count("\n", 0, text.find(old)), body=True)))
+            line = text.count("\n", 0, text.find(old))
+            places.add(function_at(file, text, line, body=True) if file.startswith("src/") else None)
             made[file] = text.replace(old, new)
         return made, places
 
@@ -88,16 +94,14 @@ def in_groups(edits):
 
 
 def said_of(ran, texts, crate):
-    """What a check that fails says, by the file and the function that it says it of, or whose proof fails."""
+    """What a check of some functions that fails says, by the function that it says it of, or whose proof fails."""
     found, lines = {}, ran.stdout.rstrip("\n").split("\n")
-    for line in lines if lines[-1].startswith("logic=not-proved") else []:
+    for line in lines if ran.returncode == 1 and lines[-1].startswith("only=") else []:
         if at := re.match(r"note: (?:\./)?(src/\S+?):(\d+):\d+: (it is not proved .*)", line):
             text = texts.get(at[1]) or rt.rtlib.text_of(f"{crate.folder}/{at[1]}")
-            found.setdefault((at[1], function_at(text, int(at[2]) - 1)), at[3])
+            found.setdefault(function_at(at[1], text, int(at[2]) - 1), at[3])
         elif (at := ANSWER.match(line)) and not LOST_NAME.search(line):
-            above = pathlib.PurePath("src", at[1] or "lib")
-            files = [f"{it}.rt" for it in [above, *above.parents] if os.path.isfile(f"{crate.folder}/{it}.rt")]
-            found.setdefault(((files or ["src/lib.rt"])[0], at[2]), at[3])
+            found.setdefault(at[1].replace("/", "::"), at[2])
     return found
 
 
@@ -127,7 +131,8 @@ def main():
             if not os.path.isdir(kept):
                 shutil.rmtree(lane, ignore_errors=True)
                 shutil.copytree(f"{room}/{crate.name}", kept)
-            said = said_of(rt.checked(crate, texts, ALONE, kept), texts, crate) if edits[0].is_body else {}
+            asked = [f"--only={place}" for edit in edits for place in edit.places]
+            said = said_of(rt.checked(crate, texts, ALONE + asked, kept), texts, crate) if edits[0].is_body else {}
             met = [next(((True, said[it]) for it in edit.places if it in said), None) for edit in edits]
             return [it or rt.must_fail(crate, str(edit.path), ALONE, kept) for edit, it in zip(edits, met)]
 
