@@ -3,7 +3,8 @@
 ghost use Rattle.std.specs.Prelude.{◌≡◌, ◌+◌, ◌*◌, ◌<◌, ◌≤◌, bit_xor, length};
 ghost use Rattle.std.specs.Simd.Lanes.{chunk, put_chunk, zip2};
 ghost use Rattle.blake.specs.Words.{with_words_at, words_at};
-ghost use Rattle.argon.specs.Compression.{column_places, row_places, xor_words};
+ghost use Rattle.four_words.specs.Words.{xored_words};
+ghost use Rattle.argon.specs.Compression.{column_places, row_places};
 ghost use Rattle.four_words.specs.Inside.FourWords.{four_words};
 ghost use Rattle.argon.specs.Inside.FourWords.{pair_places, words_by_rows};
 
@@ -112,7 +113,7 @@ fn xor(first: u64x4, second: u64x4) -> u64x4
 /// Writes the xor of two blocks.
 #[inline(always)]
 pub(crate) fn write_xor(first: &Block, second: &Block, out: &mut Block)
-    ensures value { out.new ≡ xor_words first.now second.now }
+    ensures value { out.new ≡ xored_words first.now second.now }
 {
     'words: for i in 0..32 {
         put_four(out, 4 * i, xor(four(first, 4 * i), four(second, 4 * i)));
@@ -122,7 +123,7 @@ pub(crate) fn write_xor(first: &Block, second: &Block, out: &mut Block)
 /// Xors the xor of two blocks into a third.
 #[inline(always)]
 pub(crate) fn write_xor_over(first: &Block, second: &Block, out: &mut Block)
-    ensures value { out.new ≡ xor_words (xor_words first.now second.now) out.old }
+    ensures value { out.new ≡ xored_words (xored_words first.now second.now) out.old }
 {
     'words: for i in 0..32 {
         let new = xor(

@@ -18,8 +18,8 @@ mod tests;
 mod text_room;
 #[cfg(test)]
 mod vectors;
-mod verifying;
+mod verify_password;
 
 pub use encoded::{Encoded, put_tag};
 pub use fault::{ReadFault, VerifyFault};
-pub use verifying::verify;
+pub use verify_password::verify;

@@ -6,13 +6,13 @@
 #![tactic(auto)]
 
 mod asked;
-mod flow;
 mod growth;
 mod host;
 mod memory;
 mod named_secret;
+mod writing;
 
 pub use asked::{Asked, Name};
-pub use flow::{push_all, refuse, write_output};
 pub use host::{Host, HostFault, Source};
 pub use memory::MemoryHost;
+pub use writing::{push_all, refuse, write_output};

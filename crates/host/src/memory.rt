@@ -311,7 +311,7 @@ fn keep_name<G: Growth>(growth: &mut G, name: Option<&str>) -> Result<Option<Str
     }
 }
 
-// Copies as many of the bytes as fit, and says how many. What is behind them in the buffer stays.
+// Copies as many of the bytes as fit, and says how many. What comes after them in the buffer stays.
 fn fill(bytes: &[u8], buf: &mut [u8]) -> usize
     ensures count { result ≡ min (length bytes.now) (length buf.old) }
     ensures same { take result buf.new ≡ take result bytes.now }

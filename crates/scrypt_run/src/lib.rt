@@ -4,7 +4,7 @@
 //! |---|---|
 //! | `admission` | the costs held against S and the limits |
 //! | `encrypt` | `enc`, in the order of its refusals |
-//! | `decrypt` | `dec`, likewise, behind the first 96 bytes |
+//! | `decrypt` | `dec`, likewise, from the first 96 bytes on |
 //! | `front` | the first 96 bytes of a file, for `dec` and `info` |
 //! | `inspect` | `info` |
 //! | `passphrase` | the first line of a secret source |
@@ -12,7 +12,6 @@
 
 mod admission;
 mod decrypt;
-mod dispatch;
 mod encrypt;
 mod front;
 mod inspect;
@@ -21,9 +20,10 @@ mod laws;
 mod passphrase;
 mod refusal;
 mod request;
+mod run_request;
 #[cfg(test)]
 mod vectors;
 
-pub use dispatch::run;
 pub use refusal::ScryptRefusal;
 pub use request::{Encryption, Request, Task};
+pub use run_request::run;

@@ -25,7 +25,7 @@ pub enum ScryptRefusal {
     StandardInputTwice,
     /// S2d: infile and outfile are the same text. `scrypt: infile and outfile have the same name`
     SameName,
-    /// S3: no passphrase source, two of them, or another method.
+    /// S3: no passphrase source, two of them, or an unknown method.
     /// `scrypt: one passphrase source is needed: -P, dev:stdin-once, env:NAME or file:NAME`
     PassphraseSource,
     /// S4a: the host fails to give the passphrase. `scrypt: passphrase cannot be read`
