@@ -32,7 +32,7 @@ format_refusal-short file h =
     rw short refl
 
 -- by what is told of the header
-format_refusal-fault : (file : List ℕ) → 96 ≤ length file → format_refusal file ≡ option_map header_refusal (header_fault file)
+pub format_refusal-fault : (file : List ℕ) → 96 ≤ length file → format_refusal file ≡ option_map header_refusal (header_fault file)
 unfolding format_refusal
 format_refusal-fault file h =
     let long : nat_lt (length file) 96 ≡ false = grind (arith, nat_tests) in

@@ -109,7 +109,7 @@ impl ScryptRefusal {
 
 /// The refusal of a header's fault.
 #[tactic(auto, unfolding(encfile::specs::Front::header_refusal))]
-pub fn header_refusal(fault: HeaderFault) -> ScryptRefusal
+pub(crate) fn header_refusal(fault: HeaderFault) -> ScryptRefusal
     ensures refusal { result ≡ refusal_of (header_refusal fault) }
     ensures early { follows_work result ≡ false }
 {
