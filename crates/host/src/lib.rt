@@ -2,7 +2,17 @@
 //! does with a host.
 //!
 //! A command asks the world for everything through the trait, so its contract can say what a run
-//! comes to, whatever the host is.
+//! comes to, whatever the host is. Here a copy of what fits a buffer, over a host in memory:
+//!
+//! ```
+//! let input = b"the input".to_vec(alloc)?;
+//! let mut host = MemoryHost::new(alloc, input, Vec::new(alloc), [7; 32]);
+//! host.open_input(Some("in"))?;
+//! let mut buf = [0u8; 5];
+//! let n = host.pull(&mut buf)?;
+//! write_output(&mut host, &buf[..n])?;
+//! assert_eq!(rt; host.output(), b"the i".as_slice());
+//! ```
 #![tactic(auto)]
 
 mod asked;
