@@ -40,7 +40,11 @@ pub(crate) fn admit(costs: &Costs, task: &Task<'_>) -> Result<Sparse, ScryptRefu
 
 /// Takes the memory of a derivation of costs that the limits of the request admit: here and nowhere
 /// else, so never before the limits were tested.
-pub(crate) fn reserve(alloc: Global, sparse: &Sparse, limits: &Limits) -> Result<Workspace, AllocError>
+pub(crate) fn reserve(
+    alloc: Global,
+    sparse: &Sparse,
+    limits: &Limits,
+) -> Result<Workspace, AllocError>
     requires allowed { limits.now.max_bytes ≤ 2 ^ 40 }
     requires admitted { IsAdmitted sparse.now limits.now }
     ensures same { IfOk result (λ w. w.sparse ≡ sparse.now) }
