@@ -31,7 +31,7 @@ expect() {
 expect '.tick()' "the counters tick in the one block function and the one core" \
     crates/argon/src/compression.rt crates/romix/src/salsa20.rt
 expect 'Ticks::new()' "a counter is made by the test of a password, the functions for C and the commands, each for its one work" \
-    crates/argon_text/src/verifying.rt crates/argon2_command/src/run.rt \
+    crates/argon_text/src/verify_password.rt crates/argon2_command/src/run.rt \
     crates/scrypt_command/src/run.rt crates/pikhsen_c/src/argon2.rt crates/pikhsen_c/src/encoded.rt \
     crates/pikhsen_c/src/file.rt crates/pikhsen_c/src/file.rt crates/pikhsen_c/src/scrypt.rt
 
@@ -46,7 +46,7 @@ expect 'vec![in' "lists of a given length are made by the sources of memory alon
     crates/romix/src/reservation.rt
 expect 'with_capacity(' "room for a given length is asked for by the sources of memory alone, which use lists"
 expect '.hash(' "a hash is made by the test of a password, the functions for C and argon2" \
-    crates/argon_text/src/verifying.rt crates/argon2_command/src/output.rt crates/pikhsen_c/src/argon2.rt \
+    crates/argon_text/src/verify_password.rt crates/argon2_command/src/output.rt crates/pikhsen_c/src/argon2.rt \
     crates/pikhsen_c/src/encoded.rt
 # Of the system's host, which tells no bytes, no contract sees that a secret or a salt is read twice.
 expect 'read_secret(' "the system reads a secret once" crates/tools/src/system_host.rt
@@ -57,7 +57,7 @@ expect 'Dec::open(' "a derivation for a file that is read is begun by dec and it
     crates/pikhsen_c/src/file.rt crates/scrypt_run/src/decrypt.rt
 
 # A comparison that ends at the first byte that differs tells by its time where that is, and no contract sees time.
-expect 'are_same(tag, claim.tag)' "tags are compared over all their bytes" crates/argon_text/src/verifying.rt
+expect 'are_same(tag, claim.tag)' "tags are compared over all their bytes" crates/argon_text/src/verify_password.rt
 expect '!are_same(&front[64..], ' "the code of a header is compared over all its bytes" crates/encfile/src/dec.rt
 expect 'are_same(&self.bytes, code)' "the final code is compared over all its bytes" crates/encfile/src/held.rt
 expect 'difference |= left[i] ^ right[i];' "the comparison looks at every byte" crates/comparison/src/lib.rt

@@ -1,5 +1,5 @@
 -- AES-256 (FIPS 197) on lists of bytes. Section and figure numbers are those of the edition of 2001.
-use Rattle.std.specs.Prelude.{ℕ, zero, suc, ◌+◌, ◌-◌, ◌*◌, ◌/◌, ◌%◌, ◌^◌, ◌==◌, List, [], ◌∷◌, ◌++◌, bit_xor, cond, drop, map, slice_index, slice_index_or, take}
+use Rattle.std.specs.Prelude.{ℕ, zero, suc, ◌+◌, ◌-◌, ◌*◌, ◌/◌, ◌%◌, ◌^◌, ◌==◌, List, [], ◌∷◌, ◌++◌, bit_xor, drop, map, slice_index, slice_index_or, take, if◌then◌else◌}
 use Rattle.std.specs.Int.{bit_at}
 use Rattle.std.specs.List.{concat}
 use Rattle.std.specs.Simd.Lanes.{zip2}
@@ -109,8 +109,8 @@ round_constant i = 2 ^ (i - 1) ∷ 0 ∷ 0 ∷ 0 ∷ []
 -- temp of figure 11: what word i takes from the word before it (5.2)
 abbrev pub temporary_word : List ℕ → ℕ → List ℕ
 temporary_word word i =
-    cond (i % 8 == 0) (zip2 bit_xor (sub_word (rot_word word)) (round_constant (i / 8)))
-    (cond (i % 8 == 4) (sub_word word) word)
+    if i % 8 == 0 then zip2 bit_xor (sub_word (rot_word word)) (round_constant (i / 8))
+    else (if i % 8 == 4 then sub_word word else word)
 
 -- the first n words of the key (5.2)
 unfoldable pub key_words : List ℕ → ℕ → List (List ℕ)

@@ -93,8 +93,8 @@ impl Ctr {
         self.position += bytes.len() as u64;
     }
 
-    /// Xors the bytes with the key stream from the position on, and moves the position behind them. Any number of bytes
-    /// is taken that keeps the position below 2^64.
+    /// Xors the bytes with the key stream from the position on, and moves the position after them. Any number of bytes is
+    /// taken that keeps the position below 2^64.
     ///
     /// So the pieces of a text, applied one after the other, become what the text becomes in one piece.
     pub fn apply(&mut self, bytes: &mut [u8])

@@ -38,7 +38,7 @@ fn xor_words(left: [u8; 4], right: [u8; 4]) -> [u8; 4]
 
 // What word i takes from the word before it.
 fn temporary_word(word: [u8; 4], i: usize) -> [u8; 4]
-    requires behind_key { 8 ≤ i }
+    requires after_key { 8 ≤ i }
     requires within { i < 60 }
     ensures word { result ≡ temporary_word word i }
 {

@@ -1,7 +1,7 @@
 //! From eight blocks to their planes, and back. Eight vectors hold bits numbered k (vector) and b (place in a byte);
 //! what is wanted is bit k of vector b in place of bit b of vector k. The three binary digits of k and b change
 //! places one after the other, each by exchanging bits of two vectors that are 1, 2 or 4 apart.
-ghost use Rattle.std.specs.Prelude.{◌≡◌, ◌-◌, ◌*◌, ◌/◌, ◌%◌, ◌^◌, ◌<◌, ℕ, Bool, bit_and, cond};
+ghost use Rattle.std.specs.Prelude.{◌≡◌, ◌-◌, ◌*◌, ◌/◌, ◌%◌, ◌^◌, ◌<◌, ℕ, Bool, bit_and, if◌then◌else◌};
 ghost use Rattle.aes_ctr.specs.Planes.{IsBlock, bits, plane};
 ghost use Rattle.aes_ctr.specs.Inside.PlaneSteps.{AreParts, AreSwapped};
 
@@ -14,7 +14,7 @@ fn lower_bits(distance: u8, low: u8, first: u8x16, second: u8x16) -> u8x16
     requires distance { distance < 8 }
     ensures bits { (from_first : Bool) (b i j : ℕ)
         → AreParts (λ byte. bit_and byte low) (λ byte. bit_and byte low * 2 ^ distance % 256) from_first b i j
-        → bits b result ≡ cond from_first (bits i first) (bits j second) }
+        → bits b result ≡ (if from_first then bits i first else bits j second) }
     ensures bytes { IsBlock first × IsBlock second × IsBlock result }
 {
     let low = u8x16::splat(low);
@@ -27,7 +27,7 @@ fn upper_bits(distance: u8, low: u8, first: u8x16, second: u8x16) -> u8x16
     requires distance { distance < 8 }
     ensures bits { (from_first : Bool) (b i j : ℕ)
         → AreParts (λ byte. bit_and (byte / 2 ^ distance) low) (λ byte. bit_and byte (255 - low)) from_first b i j
-        → bits b result ≡ cond from_first (bits i first) (bits j second) }
+        → bits b result ≡ (if from_first then bits i first else bits j second) }
     ensures bytes { IsBlock first × IsBlock second × IsBlock result }
 {
     let low = u8x16::splat(low);

@@ -44,7 +44,7 @@ reference_lane-lt c pass lane slice j h = lane_by (nat_eq pass 0 && nat_eq slice
 pub block_at_is_block : (c : Parameters) (h0 : List ℕ) (buf : List (List ℕ)) (next : ℕ → ℕ) (n lane pass slice index : ℕ)
     → HoldsNewest c h0 buf next → IsInSlice c pass slice next → IsPlace c n pass slice index → 2 ≤ segment_len c → 2 ≤ n
     → lane < c.lanes → next lane ≡ n
-    → block_at c (block_held c buf) n lane pass slice index ≡ matrix_block c h0 n lane
+    → block_at c (block_held c buf) n pass lane slice index ≡ matrix_block c h0 n lane
 block_at_is_block c h0 buf next n lane pass slice index newest within p hs hn hl at =
     block_at_same c (block_held c buf) (matrix_block c h0) n lane pass slice index
     (newest.holds lane (n - 1) hl (omega arith) (omega arith))
@@ -71,7 +71,7 @@ pub step_newest : (c : Parameters) (h0 : List ℕ) (buf : List (List ℕ)) (next
     → HoldsNewest c h0 buf next → IsInSlice c pass slice next → IsPlace c n pass slice index → 2 ≤ segment_len c → 2 ≤ n
     → lane < c.lanes → next lane ≡ n → length buf ≡ c.lanes * lane_len c
     → after lane ≡ n + 1 → ((l : ℕ) → l ≢ lane → after l ≡ next l)
-    → new ≡ block_at c (block_held c buf) n lane pass slice index
+    → new ≡ block_at c (block_held c buf) n pass lane slice index
     → HoldsNewest c h0 (set buf (lane * lane_len c + n % lane_len c) new) after
 step_newest c h0 buf next after new n lane pass slice index newest within p hs hn hl at lb now_after rest_after e =
     let q : ℕ = lane_len c in

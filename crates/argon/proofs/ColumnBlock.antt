@@ -34,7 +34,7 @@ step_own : (c : Parameters) (buf : List (List ℕ)) (pass slice index lane befor
     → reference ≡ get_or buf (named * lane_len c + other) []
     → old ≡ get_or buf (lane * lane_len c + (slice * segment_len c + index)) []
     → new ≡ stored_block x old (compression previous reference)
-    → new ≡ block_at c (block_held c buf) (pass * lane_len c + (slice * segment_len c + index)) lane pass slice index
+    → new ≡ block_at c (block_held c buf) (pass * lane_len c + (slice * segment_len c + index)) pass lane slice index
 unfolding block_at reference_number
 step_own c buf pass slice index lane before j named other previous reference old new x ex hl hi eb ep ej en eo er eold e =
     let q : ℕ = lane_len c in
@@ -71,7 +71,7 @@ pub step_is : (c : Parameters) (lanes seg : ℕ) → c.lanes ≡ lanes → segme
     → reference ≡ get_or buf (named * (4 * seg) + other) []
     → old ≡ get_or buf (lane * (4 * seg) + (slice * seg + index)) []
     → new ≡ stored_block x old (compression previous reference)
-    → new ≡ block_at c (block_held c buf) (pass * (4 * seg) + (slice * seg + index)) lane pass slice index
+    → new ≡ block_at c (block_held c buf) (pass * (4 * seg) + (slice * seg + index)) pass lane slice index
 step_is c lanes seg el es = rw (← el, ← es) (step_own c)
 
 -- what the index is at least, in the first slice

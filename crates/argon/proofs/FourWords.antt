@@ -5,9 +5,9 @@ use Rattle.std.specs.Int.{rotate_right}
 use Rattle.blake.specs.Words.{along}
 use Rattle.blake.specs.Blake2b.{mixing_places}
 use Rattle.argon.specs.Compression.{mixed_words, permutation, words_after_mixings}
-use Rattle.four_words.specs.Inside.FourWords.{sixteen_words, words_in_order}
 use Rattle.four_words.proofs.FourWords.{below_four, each_of_four}
-use Rattle.argon.specs.Inside.FourWords.{words_across}
+use Rattle.argon.specs.Inside.FourWords.{by_columns, by_diagonals, words_across, words_by_rows}
+use Rattle.argon.specs.declared.permutation.Sixteen.{Sixteen}
 
 -- two shifts of each word and an or are a rotation
 abbrev Rotates : ℕ → List ℕ → Type 0
@@ -30,8 +30,8 @@ pub twice_added : (a b x y : ℕ)
 twice_added a b x y = omega arith
 
 -- z is GB of x at each of the four places
-abbrev pub Mixes : List ℕ → List ℕ → List ℕ → List ℕ → List ℕ → List ℕ → List ℕ → List ℕ → Type 0
-Mixes a b c d z0 z1 z2 z3 = (j : ℕ) → j < 4 → words_across j z0 z1 z2 z3 ≡ mixed_words (words_across j a b c d)
+abbrev pub Mixes : Sixteen → Sixteen → Type 0
+Mixes x z = (j : ℕ) → j < 4 → words_across j z ≡ mixed_words (words_across j x)
 
 -- four more GB
 four_more : (v w u : List ℕ) (k : ℕ) → words_after_mixings v k ≡ w
@@ -45,23 +45,22 @@ none : (v : List ℕ) → words_after_mixings v 0 ≡ v
 unfolding words_after_mixings
 none v = refl
 
-columns_are : (a b c d z0 z1 z2 z3 : List ℕ) → Mixes a b c d z0 z1 z2 z3
-    → along mixed_words (along mixed_words (along mixed_words (along mixed_words (sixteen_words a b c d) (get_or mixing_places 0 [])) (get_or mixing_places 1 []))
-    (get_or mixing_places 2 [])) (get_or mixing_places 3 []) ≡ sixteen_words z0 z1 z2 z3
-columns_are a b c d z0 z1 z2 z3 h =
+columns_are : (x z : Sixteen) → Mixes x z
+    → along mixed_words (along mixed_words (along mixed_words (along mixed_words (words_by_rows x) (get_or mixing_places 0 [])) (get_or mixing_places 1 []))
+    (get_or mixing_places 2 [])) (get_or mixing_places 3 []) ≡ words_by_rows z
+columns_are x z h =
     rw (← h 0 (lit< tt), ← h 1 (lit< tt), ← h 2 (lit< tt), ← h 3 (lit< tt)) refl
 
-diagonals_are : (a b c d z0 z1 z2 z3 : List ℕ) → Mixes a (words_in_order b 1 2 3 0) (words_in_order c 2 3 0 1) (words_in_order d 3 0 1 2) z0 z1 z2 z3
-    → along mixed_words (along mixed_words (along mixed_words (along mixed_words (sixteen_words a b c d) (get_or mixing_places 4 [])) (get_or mixing_places 5 []))
-    (get_or mixing_places 6 [])) (get_or mixing_places 7 []) ≡ sixteen_words z0 (words_in_order z1 3 0 1 2) (words_in_order z2 2 3 0 1) (words_in_order z3 1 2 3 0)
-diagonals_are a b c d z0 z1 z2 z3 h =
+diagonals_are : (x z : Sixteen) → Mixes (by_diagonals x) z
+    → along mixed_words (along mixed_words (along mixed_words (along mixed_words (words_by_rows x) (get_or mixing_places 4 [])) (get_or mixing_places 5 []))
+    (get_or mixing_places 6 [])) (get_or mixing_places 7 []) ≡ words_by_rows (by_columns z)
+diagonals_are x z h =
     rw (← h 0 (lit< tt), ← h 1 (lit< tt), ← h 2 (lit< tt), ← h 3 (lit< tt)) refl
 
 -- GB at the columns, a turn, GB at the diagonals and the turn back are P
-pub permuted_is : (a b c d y0 y1 y2 y3 z0 z1 z2 z3 : List ℕ) → Mixes a b c d y0 y1 y2 y3
-    → Mixes y0 (words_in_order y1 1 2 3 0) (words_in_order y2 2 3 0 1) (words_in_order y3 3 0 1 2) z0 z1 z2 z3
-    → permutation (sixteen_words a b c d) ≡ sixteen_words z0 (words_in_order z1 3 0 1 2) (words_in_order z2 2 3 0 1) (words_in_order z3 1 2 3 0)
-permuted_is a b c d y0 y1 y2 y3 z0 z1 z2 z3 h g =
-    four_more (sixteen_words a b c d) _ _ 4
-    (four_more (sixteen_words a b c d) _ _ 0 (none (sixteen_words a b c d)) (columns_are a b c d y0 y1 y2 y3 h))
-    (diagonals_are y0 y1 y2 y3 z0 z1 z2 z3 g)
+pub permuted_is : (x y z : Sixteen) → Mixes x y → Mixes (by_diagonals y) z
+    → permutation (words_by_rows x) ≡ words_by_rows (by_columns z)
+permuted_is x y z h g =
+    four_more (words_by_rows x) _ _ 4
+    (four_more (words_by_rows x) _ _ 0 (none (words_by_rows x)) (columns_are x y h))
+    (diagonals_are y z g)

@@ -23,4 +23,4 @@ made_as_planned c h0 pass lane slice index hs hl hlane free first hi =
     let n : ℕ = pass * lane_len c + (slice * segment_len c + index) in
     let p : IsPlace c n pass slice index = record { number = refl; slices = hl; indices = hi } in
     block_is_next c h0 n lane pass slice index p hs (two_below (segment_len c) pass slice index hs (first_two pass slice index first)) hlane
-    ∙ ap (block_by_words c (matrix_block c h0) n lane pass slice index) (word_is c pass lane slice index (matrix_block c h0 (n - 1) lane) free)
+    ∙ ap (block_by_words c (matrix_block c h0) n pass lane slice index) (word_is c pass lane slice index (matrix_block c h0 (n - 1) lane) free)

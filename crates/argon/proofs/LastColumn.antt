@@ -6,7 +6,7 @@ use Rattle.std.proofs.Math.Seq.{get_or-append_seam}
 use Rattle.std.proofs.Math.Nat.{mul-le-mul_right, mul-add-mod_self_right, mod-eq_of_lt}
 use Rattle.argon.specs.Argon2.{block_of, columns_made, matrix_block, next_block, tag_by_first_hash, xor_of_blocks}
 use Rattle.argon.specs.Buffer.{HoldsNewest, number_after_slices}
-use Rattle.argon.specs.Compression.{xor_words}
+use Rattle.four_words.specs.Words.{xored_words}
 use Rattle.argon.specs.Parameters.{Parameters, lane_len, segment_len}
 use Rattle.blake.specs.Words.{bytes_of_words}
 use Rattle.blake.specs.LongHash.{long_hash}
@@ -14,21 +14,21 @@ use Rattle.argon.proofs.MatrixBlocks.{length-columns_made, columns_made_last, bl
 use Rattle.argon.proofs.Progress.{next_later}
 
 fold_more : (f : ℕ → List ℕ) (z : List ℕ) (a n : ℕ)
-    → fold xor_words z (map f (range_with_len a (suc n))) ≡ xor_words (fold xor_words z (map f (range_with_len a n))) (f (a + n))
+    → fold xored_words z (map f (range_with_len a (suc n))) ≡ xored_words (fold xored_words z (map f (range_with_len a n))) (f (a + n))
 fold_more f z a zero = let e : a + 0 ≡ a = omega arith in rw e refl
 fold_more f z a (suc n) =
     let e : a + 1 + n ≡ a + suc n = omega arith in
-    fold_more f (xor_words z (f a)) (a + 1) n
-    ∙ ap (λ (i : ℕ). xor_words (fold xor_words (xor_words z (f a)) (map f (range_with_len (a + 1) n))) (f i)) e
+    fold_more f (xored_words z (f a)) (a + 1) n
+    ∙ ap (λ (i : ℕ). xored_words (fold xored_words (xored_words z (f a)) (map f (range_with_len (a + 1) n))) (f i)) e
 
 -- one more block xored in
-pub xored_more : (f : ℕ → List ℕ) (k : ℕ) (last new : List ℕ) → last ≡ xor_of_blocks (map f (range_with_len 0 k)) → new ≡ xor_words last (f k)
+pub xored_more : (f : ℕ → List ℕ) (k : ℕ) (last new : List ℕ) → last ≡ xor_of_blocks (map f (range_with_len 0 k)) → new ≡ xored_words last (f k)
     → new ≡ xor_of_blocks (map f (range_with_len 0 (k + 1)))
 xored_more f k last new el en =
     let e : k + 1 ≡ suc k = omega arith in
     let z : 0 + k ≡ k = omega arith in
     en ∙ rw el (sym (ap (λ (n : ℕ). xor_of_blocks (map f (range_with_len 0 n))) e ∙ fold_more f _ 0 k
-    ∙ ap (λ (i : ℕ). xor_words (xor_of_blocks (map f (range_with_len 0 k))) (f i)) z))
+    ∙ ap (λ (i : ℕ). xored_words (xor_of_blocks (map f (range_with_len 0 k))) (f i)) z))
 
 map_range_same : (f g : ℕ → List ℕ) (a n : ℕ) → ((i : ℕ) → i < a + n → f i ≡ g i) → map f (range_with_len a n) ≡ map g (range_with_len a n)
 map_range_same f g a zero same = refl

@@ -59,7 +59,7 @@ pub block_at_same : (c : Parameters) (a b : ℕ → ℕ → List ℕ) (n lane pa
     → a (n - 1) lane ≡ b (n - 1) lane
     → (0 < pass → a (n - lane_len c) lane ≡ b (n - lane_len c) lane)
     → ((j r l : ℕ) → r ≡ reference_number c pass lane slice index j → l ≡ reference_lane c pass lane slice j → a r l ≡ b r l)
-    → block_at c a n lane pass slice index ≡ block_at c b n lane pass slice index
+    → block_at c a n pass lane slice index ≡ block_at c b n pass lane slice index
 unfolding block_at
 block_at_same c a b n lane pass slice index prev old named =
     let j : ℕ = reference_words c pass lane slice index (b (n - 1) lane) in
@@ -87,7 +87,7 @@ place_numbers s n pass slice index e hl hi =
     )
 
 pub next_block_at : (c : Parameters) (b : ℕ → ℕ → List ℕ) (n lane pass slice index : ℕ) → IsPlace c n pass slice index
-    → next_block c b n lane ≡ block_at c b n lane pass slice index
+    → next_block c b n lane ≡ block_at c b n pass lane slice index
 next_block_at c b n lane pass slice index p =
     let at = place_numbers (segment_len c) n pass slice index p.number p.slices p.indices in
     rw (at.0, at.1, at.2) refl
@@ -133,7 +133,7 @@ columns_made_last c h0 k n lane len hl =
 
 -- the equation of B, from 2 on
 pub block_is_next : (c : Parameters) (h0 : List ℕ) (n lane pass slice index : ℕ) → IsPlace c n pass slice index → 2 ≤ segment_len c → 2 ≤ n → lane < c.lanes
-    → matrix_block c h0 n lane ≡ block_at c (matrix_block c h0) n lane pass slice index
+    → matrix_block c h0 n lane ≡ block_at c (matrix_block c h0) n pass lane slice index
 block_is_next c h0 n lane pass slice index p hs hn hl =
     let k : ℕ = n - 2 in
     let en : n - 1 ≡ suc k = omega arith in

@@ -53,4 +53,4 @@ unfolding block_at
 made_along_plan c h0 blocks next pass lane slice index m free newest within at =
     let n : ℕ = number_of c pass slice index in
     sym (block_at_is_block c h0 blocks next n lane pass slice index newest within (place_is c pass lane slice index m) m.long (two_is c pass lane slice index m) m.lanes at)
-    ∙ ap (block_by_words c (block_held c blocks) n lane pass slice index) (word_is c pass lane slice index (block_held c blocks (n - 1) lane) free)
+    ∙ ap (block_by_words c (block_held c blocks) n pass lane slice index) (word_is c pass lane slice index (block_held c blocks (n - 1) lane) free)

@@ -154,8 +154,8 @@ range_long p h =
       | inr le ↦ le
       | inl lt ↦
           let some : 0 < 4 * p.lanes = omega (arith, h.lanes) in
-          let all : p.memory < (p.memory / (4 * p.lanes) + 1) * (4 * p.lanes) = div-lt p.memory (4 * p.lanes) some in
-          let two : (p.memory / (4 * p.lanes) + 1) * (4 * p.lanes) ≤ 2 * (4 * p.lanes) = mul-le-mul_right (4 * p.lanes) (omega arith) in
+          let all : p.memory_kib < (p.memory_kib / (4 * p.lanes) + 1) * (4 * p.lanes) = div-lt p.memory_kib (4 * p.lanes) some in
+          let two : (p.memory_kib / (4 * p.lanes) + 1) * (4 * p.lanes) ≤ 2 * (4 * p.lanes) = mul-le-mul_right (4 * p.lanes) (omega arith) in
           absurd (omega (arith, h.memory))
     ]
   where

@@ -62,8 +62,8 @@ is_next w lane weaving some =
 
 -- what the lane makes from the blocks that are there is B's block
 next_block_is : (w : Weaving) (lane : ℕ) → IsWeaving w → IsNext w lane → 0 < slice_index w.left lane
-    → block_at w.matrix.parameters (block_held w.matrix.parameters w.matrix.blocks) (next_number w lane) lane
-    (w.matrix.slices_made / 4) (w.matrix.slices_made % 4) (next_index w lane)
+    → block_at w.matrix.parameters (block_held w.matrix.parameters w.matrix.blocks) (next_number w lane)
+    (w.matrix.slices_made / 4) lane (w.matrix.slices_made % 4) (next_index w lane)
     ≡ matrix_block w.matrix.parameters w.matrix.first_hash (next_number w lane) lane
 next_block_is w lane weaving at some =
     block_at_is_block w.matrix.parameters w.matrix.first_hash w.matrix.blocks (next_number w) (next_number w lane) lane
@@ -126,7 +126,7 @@ pub stepped : (w : Weaving) (lane : ℕ) (old blocks : List (List ℕ)) (len l p
     → old ≡ w.matrix.blocks → segment_len w.matrix.parameters ≡ len → l ≡ lane
     → pass ≡ w.matrix.slices_made / 4 → slice ≡ w.matrix.slices_made % 4 → here ≡ slice_index w.left lane
     → blocks ≡ set old (l * (4 * len) + (slice * len + (len - here)))
-    (block_at w.matrix.parameters (block_held w.matrix.parameters old) (pass * (4 * len) + (slice * len + (len - here))) l pass slice (len - here))
+    (block_at w.matrix.parameters (block_held w.matrix.parameters old) (pass * (4 * len) + (slice * len + (len - here))) pass l slice (len - here))
     → blocks ≡ with_next_block w lane
 stepped w lane old blocks len l pass slice here weaving some eo en el ep es eh e =
     e ∙ rw (eo, ← en, el, ep, es, eh)

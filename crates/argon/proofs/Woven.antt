@@ -294,7 +294,7 @@ pub column_more : (f : Filling) (c : Parameters) (at : Segment) (left : List ℕ
     → first_index at.pass at.slice ≤ index → index < at.len
     → old ≡ blocks_where_left f (set left at.lane (at.len - index))
     → new ≡ set old (at.lane * (4 * at.len) + (at.slice * at.len + index))
-    (block_at c (block_held c old) (column_number at index) at.lane at.pass at.slice index)
+    (block_at c (block_held c old) (column_number at index) at.pass at.lane at.slice index)
     → new ≡ blocks_where_left f (set left at.lane (at.len - (index + 1)))
 column_more f c at left old new index next is_of valid are first lt eo e =
     let lane : ℕ = at.lane in
@@ -307,7 +307,7 @@ column_more f c at left old new index next is_of valid are first lt eo e =
     let some : 0 < slice_index (set left at.lane (at.len - index)) at.lane = omega arith in
     let i : at.len - (at.len - index) ≡ index = omega arith in
     let P : ℕ → Type 0 = λ i. new ≡ set old (at.lane * (4 * at.len) + (at.slice * at.len + i))
-    (block_at c (block_held c old) (column_number at i) at.lane at.pass at.slice i) in
+    (block_at c (block_held c old) (column_number at i) at.pass at.lane at.slice i) in
     let here = subst P (sym i) e in
     let one : new ≡ with_next_block (woven f (set left at.lane (at.len - index))) at.lane =
     stepped (woven f now) lane old new at.len lane at.pass at.slice (at.len - index) weaving some eo (rw next.is_of len) refl next.pass_is next.slice_is
@@ -382,7 +382,7 @@ first_lane f c pass slice next =
     ∙ sym (left_after c pass slice 0 lane known ∙ rw (le-ltb lane 0 (omega arith)) refl))) in
     sym (nothing_made f next.filling) ∙ ap (blocks_where_left f) all
 
--- behind the last lane
+-- after the last lane
 pub last_lane : (c : Parameters) (pass slice count : ℕ) → count ≡ c.lanes → left_after_lanes c pass slice count ≡ replicate c.lanes 0
 last_lane c pass slice count e =
     all_none (left_after_lanes c pass slice count) c.lanes (length-left_after c pass slice count)

@@ -10,7 +10,8 @@ use Rattle.byteorder.specs.Endian.{little_bytes}
 use Rattle.blake.specs.Words.{words, bytes_of_words}
 use Rattle.blake.specs.Blake2b.{blake2b}
 use Rattle.blake.specs.LongHash.{long_hash}
-use Rattle.argon.specs.Compression.{xor_words, compression, zero_block}
+use Rattle.four_words.specs.Words.{xored_words}
+use Rattle.argon.specs.Compression.{compression, zero_block}
 use Rattle.argon.specs.Reference.{reference_words, reference_lane, reference_number}
 pub use Rattle.argon.specs.Parameters.{Parameters, Inputs, segment_len, lane_len, block_count}
 
@@ -22,7 +23,7 @@ with_length text = little_bytes 4 (length text) ++ text
 unfoldable pub first_hash : Parameters → Inputs → List ℕ
 first_hash parameters inputs =
     blake2b 64 (little_bytes 4 parameters.lanes ++ little_bytes 4 parameters.tag_len
-    ++ little_bytes 4 parameters.memory ++ little_bytes 4 parameters.passes
+    ++ little_bytes 4 parameters.memory_kib ++ little_bytes 4 parameters.passes
     ++ little_bytes 4 parameters.version ++ little_bytes 4 parameters.kind
     ++ with_length inputs.password ++ with_length inputs.salt
     ++ with_length inputs.secret ++ with_length inputs.associated)
@@ -43,26 +44,26 @@ is_xored_in parameters pass = nat_eq parameters.version 0x13 && nat_lt 0 pass
 -- what is stored (3.2, step 6)
 abbrev pub stored_block : Bool → List ℕ → List ℕ → List ℕ
 stored_block false old new = new
-stored_block true old new = xor_words new old
+stored_block true old new = xored_words new old
 
--- the block of a place, of a pass, slice and index in the segment, by the word J and the blocks of
--- lower numbers (3.2, steps 5 and 6)
+-- the block of a number in a lane, of a pass, slice and index in the segment, by the word J and the
+-- blocks of lower numbers (3.2, steps 5 and 6)
 abbrev pub block_by_words : Parameters → (ℕ → ℕ → List ℕ) → ℕ → ℕ → ℕ → ℕ → ℕ → ℕ → List ℕ
-block_by_words parameters blocks number lane pass slice index j =
+block_by_words parameters blocks number pass lane slice index j =
     stored_block (is_xored_in parameters pass) (blocks (number - lane_len parameters) lane)
     (compression (blocks (number - 1) lane)
     (blocks (reference_number parameters pass lane slice index j) (reference_lane parameters pass lane slice j)))
 
 -- the same with the word J of the place (3.2, steps 5 and 6)
 unfoldable pub block_at : Parameters → (ℕ → ℕ → List ℕ) → ℕ → ℕ → ℕ → ℕ → ℕ → List ℕ
-block_at parameters blocks number lane pass slice index =
-    block_by_words parameters blocks number lane pass slice index
+block_at parameters blocks number pass lane slice index =
+    block_by_words parameters blocks number pass lane slice index
     (reference_words parameters pass lane slice index (blocks (number - 1) lane))
 
 -- the block of a lane with a number from 2 on, by those of lower numbers (3.2, steps 5 and 6)
 abbrev pub next_block : Parameters → (ℕ → ℕ → List ℕ) → ℕ → ℕ → List ℕ
 next_block parameters blocks number lane =
-    block_at parameters blocks number lane (number / lane_len parameters)
+    block_at parameters blocks number (number / lane_len parameters) lane
     (number % lane_len parameters / segment_len parameters) (number % segment_len parameters)
 
 -- the columns that are made, and the next one
@@ -83,7 +84,7 @@ matrix_block parameters h0 number lane = block_of (columns_made parameters h0 (n
 
 -- C, the xor of a column's blocks (3.2, step 7)
 abbrev pub xor_of_blocks : List (List ℕ) → List ℕ
-xor_of_blocks column = fold xor_words zero_block column
+xor_of_blocks column = fold xored_words zero_block column
 
 -- the tag by the columns of all passes (3.2, steps 7 and 8)
 abbrev pub tag_of_columns : Parameters → List (List (List ℕ)) → List ℕ

@@ -3,14 +3,9 @@
 use Rattle.std.specs.Prelude.{ℕ, zero, suc, ◌+◌, ◌*◌, ◌%◌, ◌^◌, List, [], ◌∷◌, bit_xor, replicate, slice_index, get_or}
 use Rattle.std.specs.List.{flat_map, range_with_len}
 use Rattle.std.specs.Int.{w64, rotate_right}
+use Rattle.four_words.specs.Words.{xored_words}
 use Rattle.blake.specs.Words.{along}
 use Rattle.blake.specs.Blake2b.{mixing_places}
-
--- two lists of words, xored word by word
-abbrev pub xor_words : List ℕ → List ℕ → List ℕ
-xor_words [] others = []
-xor_words (word ∷ words) [] = []
-xor_words (word ∷ words) (other ∷ others) = bit_xor word other ∷ xor_words words others
 
 -- the sum that takes the place of BLAKE2b's in GB (3.6)
 abbrev pub sum_with_product : ℕ → ℕ → ℕ
@@ -60,11 +55,11 @@ block_after_columns block (suc count) = along permutation (block_after_columns b
 
 -- what G makes of R: Z xor R (3.5)
 unfoldable pub compression_of_xor : List ℕ → List ℕ
-compression_of_xor xored = xor_words (block_after_columns (block_after_rows xored 8) 8) xored
+compression_of_xor xored = xored_words (block_after_columns (block_after_rows xored 8) 8) xored
 
 -- G of X and Y, with R = X xor Y (3.5)
 unfoldable pub compression : List ℕ → List ℕ → List ℕ
-compression first second = compression_of_xor (xor_words first second)
+compression first second = compression_of_xor (xored_words first second)
 
 -- the block of zeros
 abbrev pub zero_block : List ℕ

@@ -3,7 +3,7 @@ use Rattle.std.specs.Prelude.{◌≡◌, ◌<◌, ◌^◌, length}
 use Rattle.argon.specs.Parameters.{Parameters, Inputs}
 use Rattle.argon.specs.declared.inputs.Inputs.{Inputs as Lent}
 
--- the texts behind the references
+-- the texts that are lent
 abbrev pub inputs_of : Lent → Inputs
 inputs_of lent = record {
   password = lent.password.now;

@@ -12,7 +12,7 @@ pub record Parameters : Type 0 where
   -- p
   pub lanes : ℕ
   -- m in KiB, as it was given
-  pub memory : ℕ
+  pub memory_kib : ℕ
   -- T, in bytes
   pub tag_len : ℕ
   -- the length of the salt S, in bytes
@@ -29,7 +29,7 @@ pub record Inputs : Type 0 where
 
 -- how many columns a segment has (3.4)
 abbrev pub segment_len : Parameters → ℕ
-segment_len parameters = parameters.memory / (4 * parameters.lanes)
+segment_len parameters = parameters.memory_kib / (4 * parameters.lanes)
 
 -- q, how many columns a lane has (3.2, step 2)
 abbrev pub lane_len : Parameters → ℕ

@@ -30,7 +30,7 @@ abbrev pub IsMadeAsPlanned : Parameters → List ℕ → ℕ → ℕ → ℕ →
 IsMadeAsPlanned parameters h0 pass lane slice index =
     let number = pass * lane_len parameters + (slice * segment_len parameters + index) in
     matrix_block parameters h0 number lane
-    ≡ block_by_words parameters (matrix_block parameters h0) number lane pass slice index
+    ≡ block_by_words parameters (matrix_block parameters h0) number pass lane slice index
     (planned_word parameters pass lane slice index)
 
 -- in every memory that holds the newest blocks of this H 0 while the lane stands at that column: its block is G of the

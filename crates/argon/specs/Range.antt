@@ -18,8 +18,8 @@ pub record IsInRange (parameters : Parameters) : Type 0 where
   pub passes_end : parameters.passes < 2 ^ 32
   pub lanes : 1 ≤ parameters.lanes
   pub lanes_end : parameters.lanes < 2 ^ 24
-  pub memory : 8 * parameters.lanes ≤ parameters.memory
-  pub memory_end : parameters.memory < 2 ^ 32
+  pub memory : 8 * parameters.lanes ≤ parameters.memory_kib
+  pub memory_end : parameters.memory_kib < 2 ^ 32
   pub tag_len : 4 ≤ parameters.tag_len
   pub tag_len_end : parameters.tag_len ≤ 4096
   pub salt_len : 8 ≤ parameters.salt_len
@@ -40,7 +40,7 @@ abbrev pub checked_parameters : Parameters → Result Parameters ParamFault
 checked_parameters parameters =
     rest_or_fault (is_between 1 parameters.passes 0xFFFFFFFF) fault.Passes
     (rest_or_fault (is_between 1 parameters.lanes 0xFFFFFF) fault.Lanes
-    (rest_or_fault (is_between (8 * parameters.lanes) parameters.memory 0xFFFFFFFF) fault.Memory
+    (rest_or_fault (is_between (8 * parameters.lanes) parameters.memory_kib 0xFFFFFFFF) fault.Memory
     (rest_or_fault (is_between 4 parameters.tag_len 4096) fault.TagLength
     (rest_or_fault (is_between 8 parameters.salt_len 255) fault.SaltLength
     (rest_or_fault (is_between 1 parameters.password_len 127) fault.PasswordLength (Ok parameters))))))

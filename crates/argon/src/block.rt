@@ -3,9 +3,10 @@
 ghost use Rattle.std.specs.Prelude.{◌≡◌, ◌+◌, ◌*◌, ◌<◌, ◌≤◌, bit_xor, length};
 ghost use Rattle.std.specs.Simd.Lanes.{chunk, put_chunk, zip2};
 ghost use Rattle.blake.specs.Words.{with_words_at, words_at};
-ghost use Rattle.argon.specs.Compression.{column_places, row_places, xor_words};
-ghost use Rattle.four_words.specs.Inside.FourWords.{four_words, sixteen_words};
-ghost use Rattle.argon.specs.Inside.FourWords.{pair_places};
+ghost use Rattle.four_words.specs.Words.{xored_words};
+ghost use Rattle.argon.specs.Compression.{column_places, row_places};
+ghost use Rattle.four_words.specs.Inside.FourWords.{four_words};
+ghost use Rattle.argon.specs.Inside.FourWords.{pair_places, words_by_rows};
 
 use crate::permutation::Sixteen;
 use std::simd::{u64x2, u64x4};
@@ -52,58 +53,54 @@ fn put_two_pairs(words: &mut [u64], at: usize, new: u64x4)
 #[inline(always)]
 pub(crate) fn row(block: &Block, number: usize) -> Sixteen
     requires rows { number < 8 }
-    ensures value { sixteen_words result.0 result.1 result.2 result.3
-        ≡ words_at block.now (row_places number) }
+    ensures value { words_by_rows result ≡ words_at block.now (row_places number) }
 {
     let at = 16 * number;
-    (
-        four(block, at),
-        four(block, at + 4),
-        four(block, at + 8),
-        four(block, at + 12),
-    )
+    Sixteen {
+        a: four(block, at),
+        b: four(block, at + 4),
+        c: four(block, at + 8),
+        d: four(block, at + 12),
+    }
 }
 
 #[inline(always)]
 pub(crate) fn put_row(block: &mut Block, number: usize, new: Sixteen)
     requires rows { number < 8 }
-    ensures value { block.new
-        ≡ with_words_at block.old (row_places number) (sixteen_words new.0 new.1 new.2 new.3) }
+    ensures value { block.new ≡ with_words_at block.old (row_places number) (words_by_rows new) }
 {
     let at = 16 * number;
-    put_four(block, at, new.0);
-    put_four(block, at + 4, new.1);
-    put_four(block, at + 8, new.2);
-    put_four(block, at + 12, new.3);
+    put_four(block, at, new.a);
+    put_four(block, at + 4, new.b);
+    put_four(block, at + 8, new.c);
+    put_four(block, at + 12, new.d);
 }
 
 /// The sixteen words of a column: eight pairs.
 #[inline(always)]
 pub(crate) fn column(block: &Block, number: usize) -> Sixteen
     requires columns { number < 8 }
-    ensures value { sixteen_words result.0 result.1 result.2 result.3
-        ≡ words_at block.now (column_places number) }
+    ensures value { words_by_rows result ≡ words_at block.now (column_places number) }
 {
     let at = 2 * number;
-    (
-        two_pairs(block, at),
-        two_pairs(block, at + 32),
-        two_pairs(block, at + 64),
-        two_pairs(block, at + 96),
-    )
+    Sixteen {
+        a: two_pairs(block, at),
+        b: two_pairs(block, at + 32),
+        c: two_pairs(block, at + 64),
+        d: two_pairs(block, at + 96),
+    }
 }
 
 #[inline(always)]
 pub(crate) fn put_column(block: &mut Block, number: usize, new: Sixteen)
     requires columns { number < 8 }
-    ensures value { block.new
-        ≡ with_words_at block.old (column_places number) (sixteen_words new.0 new.1 new.2 new.3) }
+    ensures value { block.new ≡ with_words_at block.old (column_places number) (words_by_rows new) }
 {
     let at = 2 * number;
-    put_two_pairs(block, at, new.0);
-    put_two_pairs(block, at + 32, new.1);
-    put_two_pairs(block, at + 64, new.2);
-    put_two_pairs(block, at + 96, new.3);
+    put_two_pairs(block, at, new.a);
+    put_two_pairs(block, at + 32, new.b);
+    put_two_pairs(block, at + 64, new.c);
+    put_two_pairs(block, at + 96, new.d);
 }
 
 #[inline(always)]
@@ -116,7 +113,7 @@ fn xor(first: u64x4, second: u64x4) -> u64x4
 /// Writes the xor of two blocks.
 #[inline(always)]
 pub(crate) fn write_xor(first: &Block, second: &Block, out: &mut Block)
-    ensures value { out.new ≡ xor_words first.now second.now }
+    ensures value { out.new ≡ xored_words first.now second.now }
 {
     'words: for i in 0..32 {
         put_four(out, 4 * i, xor(four(first, 4 * i), four(second, 4 * i)));
@@ -126,7 +123,7 @@ pub(crate) fn write_xor(first: &Block, second: &Block, out: &mut Block)
 /// Xors the xor of two blocks into a third.
 #[inline(always)]
 pub(crate) fn write_xor_over(first: &Block, second: &Block, out: &mut Block)
-    ensures value { out.new ≡ xor_words (xor_words first.now second.now) out.old }
+    ensures value { out.new ≡ xored_words (xored_words first.now second.now) out.old }
 {
     'words: for i in 0..32 {
         let new = xor(

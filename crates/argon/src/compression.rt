@@ -2,7 +2,8 @@
 //! two columns at a time.
 ghost use Rattle.std.specs.Prelude.{◌≡◌, ◌+◌, ◌*◌, ◌<◌};
 ghost use Rattle.blake.specs.Words.{along};
-ghost use Rattle.argon.specs.Compression.{block_after_columns, block_after_rows, column_places, compression, permutation, xor_words};
+ghost use Rattle.four_words.specs.Words.{xored_words};
+ghost use Rattle.argon.specs.Compression.{block_after_columns, block_after_rows, column_places, compression, permutation};
 ghost use Rattle.argon.specs.Inside.FourWords.{with_row_permuted};
 
 use crate::block::{Block, column, put_column, put_row, row, write_xor};
@@ -74,7 +75,7 @@ fn permute_columns(block: &mut Block)
 /// The block function: leaves in the scratch blocks R and Z, whose xor is G of the two blocks, and
 /// counts one.
 pub(crate) fn compression(first: &Block, second: &Block, scratch: &mut Scratch, ticks: &mut Ticks)
-    ensures value { xor_words scratch.new.permuted scratch.new.xored
+    ensures value { xored_words scratch.new.permuted scratch.new.xored
         ≡ compression first.now second.now }
     ensures count { ticks.new ≡ ticks.old + 1 }
 {

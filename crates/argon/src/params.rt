@@ -68,7 +68,7 @@ impl Params {
           version = version;
           passes = passes;
           lanes = lanes;
-          memory = memory_kib;
+          memory_kib = memory_kib;
           tag_len = tag_len;
           salt_len = salt_len;
           password_len = password_len;
@@ -78,7 +78,7 @@ impl Params {
           version = version;
           passes = passes;
           lanes = lanes;
-          memory = memory_kib;
+          memory_kib = memory_kib;
           tag_len = tag_len;
           salt_len = salt_len;
           password_len = password_len;
@@ -167,7 +167,7 @@ impl Params {
 
     /// The memory m in KiB as it was given, 8p to 2^32-1.
     pub fn memory_kib(&self) -> u32
-        ensures value { result ≡ self.now.memory }
+        ensures value { result ≡ self.now.memory_kib }
     {
         self.memory_kib
     }

@@ -3,13 +3,19 @@
 ghost use Rattle.std.specs.Prelude.{◌≡◌, ℕ, ◌+◌, ◌*◌, ◌%◌, ◌^◌, ◌<◌, slice_index, bit_xor};
 ghost use Rattle.std.specs.Int.{w64, rotate_right};
 ghost use Rattle.argon.specs.Compression.{mixed_words, permutation, sum_with_product};
-ghost use Rattle.four_words.specs.Inside.FourWords.{sixteen_words, words_in_order};
-ghost use Rattle.argon.specs.Inside.FourWords.{words_across};
+ghost use Rattle.argon.specs.Inside.FourWords.{by_columns, by_diagonals, words_across, words_by_rows};
 
 use std::simd::u64x4;
 
-/// Sixteen words in four vectors: words 0 to 3, 4 to 7, 8 to 11 and 12 to 15.
-pub(crate) type Sixteen = (u64x4, u64x4, u64x4, u64x4);
+/// Sixteen words in four vectors: words 0 to 3, 4 to 7, 8 to 11 and 12 to 15. GB takes one word of
+/// each, under these names.
+#[derive(Clone, Copy)]
+pub(crate) struct Sixteen {
+    pub(crate) a: u64x4,
+    pub(crate) b: u64x4,
+    pub(crate) c: u64x4,
+    pub(crate) d: u64x4,
+}
 
 // The low 32 bits of each word.
 #[inline(always)]
@@ -71,14 +77,17 @@ fn xor_rotated(a: u64x4, b: u64x4, count: u64) -> u64x4
 #[inline(always)]
 fn mix(left: Sixteen, right: Sixteen) -> (Sixteen, Sixteen)
     ensures first { (number : ℕ) → number < 4
-        → words_across number result.0.0 result.0.1 result.0.2 result.0.3
-        ≡ mixed_words (words_across number left.0 left.1 left.2 left.3) }
+        → words_across number result.0 ≡ mixed_words (words_across number left) }
     ensures second { (number : ℕ) → number < 4
-        → words_across number result.1.0 result.1.1 result.1.2 result.1.3
-        ≡ mixed_words (words_across number right.0 right.1 right.2 right.3) }
+        → words_across number result.1 ≡ mixed_words (words_across number right) }
 {
-    let (a, b, c, d) = left;
-    let (e, f, g, h) = right;
+    let Sixteen { a, b, c, d } = left;
+    let Sixteen {
+        a: e,
+        b: f,
+        c: g,
+        d: h,
+    } = right;
     let a = sum_with_product(a, b);
     let e = sum_with_product(e, f);
     let d = xor_rotated(d, a, 32);
@@ -95,48 +104,47 @@ fn mix(left: Sixteen, right: Sixteen) -> (Sixteen, Sixteen)
     let g = sum_with_product(g, h);
     let b = xor_rotated(b, c, 63);
     let f = xor_rotated(f, g, 63);
-    ((a, b, c, d), (e, f, g, h))
+    let left = Sixteen { a, b, c, d };
+    let right = Sixteen {
+        a: e,
+        b: f,
+        c: g,
+        d: h,
+    };
+    (left, right)
 }
 
 // From columns to diagonals.
 #[inline(always)]
 fn to_diagonals(words: Sixteen) -> Sixteen
-    ensures a { result.0 ≡ words.0 }
-    ensures b { result.1 ≡ words_in_order words.1 1 2 3 0 }
-    ensures c { result.2 ≡ words_in_order words.2 2 3 0 1 }
-    ensures d { result.3 ≡ words_in_order words.3 3 0 1 2 }
+    ensures diagonals { result ≡ by_diagonals words }
 {
-    (
-        words.0,
-        words.1.rotate_elements_left::<1>(),
-        words.2.rotate_elements_left::<2>(),
-        words.3.rotate_elements_left::<3>(),
-    )
+    Sixteen {
+        a: words.a,
+        b: words.b.rotate_elements_left::<1>(),
+        c: words.c.rotate_elements_left::<2>(),
+        d: words.d.rotate_elements_left::<3>(),
+    }
 }
 
 // From diagonals back to columns.
 #[inline(always)]
 fn to_columns(words: Sixteen) -> Sixteen
-    ensures a { result.0 ≡ words.0 }
-    ensures b { result.1 ≡ words_in_order words.1 3 0 1 2 }
-    ensures c { result.2 ≡ words_in_order words.2 2 3 0 1 }
-    ensures d { result.3 ≡ words_in_order words.3 1 2 3 0 }
+    ensures columns { result ≡ by_columns words }
 {
-    (
-        words.0,
-        words.1.rotate_elements_left::<3>(),
-        words.2.rotate_elements_left::<2>(),
-        words.3.rotate_elements_left::<1>(),
-    )
+    Sixteen {
+        a: words.a,
+        b: words.b.rotate_elements_left::<3>(),
+        c: words.c.rotate_elements_left::<2>(),
+        d: words.d.rotate_elements_left::<1>(),
+    }
 }
 
 /// The permutation P of both lists.
 #[inline(always)]
 pub(crate) fn permute(left: Sixteen, right: Sixteen) -> (Sixteen, Sixteen)
-    ensures first { sixteen_words result.0.0 result.0.1 result.0.2 result.0.3
-        ≡ permutation (sixteen_words left.0 left.1 left.2 left.3) }
-    ensures second { sixteen_words result.1.0 result.1.1 result.1.2 result.1.3
-        ≡ permutation (sixteen_words right.0 right.1 right.2 right.3) }
+    ensures first { words_by_rows result.0 ≡ permutation (words_by_rows left) }
+    ensures second { words_by_rows result.1 ≡ permutation (words_by_rows right) }
 {
     let (left, right) = mix(left, right);
     let (left, right) = mix(to_diagonals(left), to_diagonals(right));

@@ -126,7 +126,7 @@ pub(crate) fn previous_column(lane_len: usize, column: usize) -> usize
 }
 
 /// l, the lane that J 2, the high half of J, names.
-pub(crate) fn reference_lane(lanes: u32, pass: u32, slice: u32, lane: u32, j: u64) -> u32
+pub(crate) fn reference_lane(lanes: u32, pass: u32, lane: u32, slice: u32, j: u64) -> u32
     requires known { lane < lanes }
     ensures value { result
         ≡ (if nat_eq pass 0 && nat_eq slice 0 then lane else j / 2 ^ 32 % lanes) }

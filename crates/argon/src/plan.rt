@@ -24,7 +24,7 @@ fn planned_place(at: &Segment, index: u32, addresses: &Block) -> Place
     ensures value { result ≡ place_by_segment at.now index addresses.now }
 {
     let j = addresses[(index % 128) as usize];
-    let lane = reference_lane(at.lanes, at.pass, at.slice, at.lane, j);
+    let lane = reference_lane(at.lanes, at.pass, at.lane, at.slice, j);
     let j1 = (j % 0x1_0000_0000) as u32;
     let column = reference_column(at.len, at.pass, at.slice, index, lane == at.lane, j1);
     Place { lane, column }
@@ -81,7 +81,7 @@ pub fn plan_segment(
         → entry_at out.new index ≡ entry_at out.old index }
     ensures count { ticks.new ≡ ticks.old + 2 * address_count (segment_len params.now) }
 {
-    let at = Segment::new(params, pass, slice, lane);
+    let at = Segment::new(params, pass, lane, slice);
     let mut scratch = Scratch::new();
     let mut addresses = [0; 128];
     for part in 0..address_count(at.len) {

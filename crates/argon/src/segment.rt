@@ -13,9 +13,9 @@ ghost use Rattle.argon.specs.Inside.NextSlice.{IsNextSlice};
 use crate::addresses::{prepare_addresses, renew_addresses};
 use crate::block::Block;
 use crate::compression::Scratch;
-use crate::filling::store_block;
 use crate::params::Params;
 use crate::places::{previous_column, reference_column, reference_lane};
+use crate::store_block::store_block;
 use crate::ticks::Ticks;
 
 /// One lane's part of a slice.
@@ -27,8 +27,8 @@ pub(crate) struct Segment {
     pub(crate) len: u32,
     // All three from 0.
     pub(crate) pass: u32,
-    pub(crate) slice: u32,
     pub(crate) lane: u32,
+    pub(crate) slice: u32,
     // Whether its words J come from the position alone.
     pub(crate) is_independent: bool,
     // Whether the old blocks of its places are xored in.
@@ -37,19 +37,21 @@ pub(crate) struct Segment {
 
 impl Segment {
     /// A lane's segment of a slice.
-    pub(crate) fn new(params: &Params, pass: u32, slice: u32, lane: u32) -> Segment
+    pub(crate) fn new(params: &Params, pass: u32, lane: u32, slice: u32) -> Segment
         requires slices { slice < 4 }
         requires known { lane < params.now.lanes }
         ensures valid { IsInMatrix result }
         ensures is_of { IsSegmentOf params.now result }
-        ensures place { (result.pass ≡ pass) × (result.slice ≡ slice) × (result.lane ≡ lane) }
+        ensures pass { result.pass ≡ pass }
+        ensures lane { result.lane ≡ lane }
+        ensures slice { result.slice ≡ slice }
     {
         Segment {
             lanes: params.lanes(),
             len: params.segment_len(),
             pass,
-            slice,
             lane,
+            slice,
             is_independent: params.is_independent(pass, slice),
             is_xored: params.is_xored_in(pass),
         }
@@ -89,14 +91,14 @@ fn fill_column(
         → blocks.new ≡ slice_set blocks.old
         (at.now.lane * (4 * at.now.len) + (at.now.slice * at.now.len + index))
         (block_at parameters (block_held parameters blocks.old) (column_number at.now index)
-        at.now.lane at.now.pass at.now.slice index) }
+        at.now.pass at.now.lane at.now.slice index) }
 {
     let lane_len = 4 * at.len as usize;
     let column = (at.slice * at.len + index) as usize;
     let start = at.lane as usize * lane_len;
     let previous = start + previous_column(lane_len, column);
     let j = reference_words(at.is_independent, addresses, index, &blocks[previous]);
-    let lane = reference_lane(at.lanes, at.pass, at.slice, at.lane, j);
+    let lane = reference_lane(at.lanes, at.pass, at.lane, at.slice, j);
     let j1 = (j % 0x1_0000_0000) as u32;
     let other = reference_column(at.len, at.pass, at.slice, index, lane == at.lane, j1);
     let reference = lane as usize * lane_len + other as usize;
@@ -149,7 +151,7 @@ pub(crate) fn fill_next_column(
     ensures value { blocks.new ≡ slice_set blocks.old
         (at.now.lane * (4 * at.now.len) + (at.now.slice * at.now.len + index))
         (block_at params.now (block_held params.now blocks.old) (column_number at.now index)
-        at.now.lane at.now.pass at.now.slice index) }
+        at.now.pass at.now.lane at.now.slice index) }
     ensures count { ticks.new ≡ ticks.old + column_work params.now at.now.pass at.now.slice index }
 {
     renew_addresses(params, at, index, addresses, scratch, ticks);
@@ -203,7 +205,7 @@ pub(crate) fn fill_slice(
         fill_segment(
             blocks,
             params,
-            &Segment::new(params, pass, slice, lane),
+            &Segment::new(params, pass, lane, slice),
             &mut scratch,
             ticks,
         );

@@ -4,7 +4,7 @@ ghost use Rattle.std.specs.List.{range_with_len};
 ghost use Rattle.blake.specs.LongHash.{long_hash};
 ghost use Rattle.blake.specs.Words.{bytes_of_words};
 ghost use Rattle.argon.specs.Argon2.{xor_of_blocks};
-ghost use Rattle.argon.specs.Compression.{xor_words};
+ghost use Rattle.four_words.specs.Words.{xored_words};
 
 use crate::block::Block;
 use blake::long_hash;
@@ -12,7 +12,7 @@ use byteorder::{ByteOrder, LittleEndian};
 
 // Xors a block into another.
 fn xor_into(into: &mut Block, other: &Block)
-    ensures value { into.new ≡ xor_words into.old other.now }
+    ensures value { into.new ≡ xored_words into.old other.now }
 {
     for k in 0..128 {
         into[k] ^= other[k];

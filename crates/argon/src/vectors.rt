@@ -60,7 +60,7 @@ fn tag_of_argon2d_in_one_pass()
       version = 0x13;
       passes = 1;
       lanes = 1;
-      memory = 8;
+      memory_kib = 8;
       tag_len = 32;
       salt_len = 8;
       password_len = 8;
@@ -83,7 +83,7 @@ fn tag_of_argon2id_in_two_passes()
       version = 0x13;
       passes = 2;
       lanes = 1;
-      memory = 8;
+      memory_kib = 8;
       tag_len = 32;
       salt_len = 8;
       password_len = 8;
@@ -106,7 +106,7 @@ fn tag_of_argon2id_with_two_lanes()
       version = 0x13;
       passes = 2;
       lanes = 2;
-      memory = 16;
+      memory_kib = 16;
       tag_len = 32;
       salt_len = 8;
       password_len = 8;
@@ -129,7 +129,7 @@ fn tag_of_argon2d_of_version_0x10()
       version = 0x10;
       passes = 2;
       lanes = 1;
-      memory = 8;
+      memory_kib = 8;
       tag_len = 32;
       salt_len = 8;
       password_len = 8;
@@ -152,7 +152,7 @@ fn count_of_argon2d(matrix: &mut Matrix, inputs: &Inputs<'_>, out: &mut [u8], ti
       version = 0x13;
       passes = 3;
       lanes = 4;
-      memory = 32;
+      memory_kib = 32;
       tag_len = 32;
       salt_len = 16;
       password_len = 32;
@@ -171,7 +171,7 @@ fn count_of_argon2i(matrix: &mut Matrix, inputs: &Inputs<'_>, out: &mut [u8], ti
       version = 0x13;
       passes = 3;
       lanes = 4;
-      memory = 32;
+      memory_kib = 32;
       tag_len = 32;
       salt_len = 16;
       password_len = 32;
@@ -190,7 +190,7 @@ fn count_of_argon2id(matrix: &mut Matrix, inputs: &Inputs<'_>, out: &mut [u8], t
       version = 0x13;
       passes = 3;
       lanes = 4;
-      memory = 32;
+      memory_kib = 32;
       tag_len = 32;
       salt_len = 16;
       password_len = 32;
@@ -210,7 +210,7 @@ fn count_of_a_plan_of_two_columns(params: &Params, slice: u32, out: &mut [Place]
       version = 0x13;
       passes = 1;
       lanes = 1;
-      memory = 8;
+      memory_kib = 8;
       tag_len = 32;
       salt_len = 8;
       password_len = 8;
@@ -229,7 +229,7 @@ fn count_of_a_plan_of_129_columns(params: &Params, slice: u32, out: &mut [Place]
       version = 0x13;
       passes = 1;
       lanes = 1;
-      memory = 516;
+      memory_kib = 516;
       tag_len = 32;
       salt_len = 8;
       password_len = 8;

@@ -64,7 +64,7 @@ fn prepare_lanes(
         + params.now.lanes * address_work (is_independent params.now pass slice) 1 }
 {
     for lane in 0..params.lanes() {
-        let at = Segment::new(params, pass, slice, lane);
+        let at = Segment::new(params, pass, lane, slice);
         prepare_addresses(
             params,
             &at,
@@ -152,7 +152,7 @@ impl Weave {
     {
         let pass = (self.slices_made / 4) as u32;
         let slice = (self.slices_made % 4) as u32;
-        let at = Segment::new(&self.params, pass, slice, lane);
+        let at = Segment::new(&self.params, pass, lane, slice);
         let index = at.len - self.left[lane as usize];
         fill_next_column(
             &mut self.blocks,

@@ -61,7 +61,7 @@ fn output_of_one_pass()
           version = 0x13;
           passes = 1;
           lanes = 1;
-          memory = 8;
+          memory_kib = 8;
           tag_len = 32;
           salt_len = 8;
           password_len = 8;

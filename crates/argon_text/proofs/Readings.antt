@@ -59,7 +59,7 @@ are_small v h = record {
   lanes = grind (arith, common_steps);
 }
 
--- a text of a value has its fields, behind the version's digits or, at version 0x10, behind none
+-- a text of a value has its fields, after the version's digits or, at version 0x10, after none
 module _ (v : Value) (is : IsValue v) where
   small : AreSmall v
   small = are_small v is.in_range

@@ -56,7 +56,7 @@ number_again label mark ds rest low number =
 
 -- ---- a version
 
--- a version and what stands behind it
+-- a version and what stands after it
 version_before : Option (List ℕ) → List ℕ → List ℕ
 version_before None rest = rest
 version_before (Some digits) rest = codes "v=" ++ (digits ++ 36 ∷ rest)
@@ -84,7 +84,7 @@ version_gives s found e =
           subst P (same_Some (None, s) found none.1) (refl, tt)
     ]
 
--- behind a version the memory stands
+-- after a version the memory stands
 version_again : (version : Option (List ℕ)) (rest : List ℕ) → IfSome version (λ digits. is_number digits ≡ true)
     → version_at (version_before version (codes "m=" ++ rest)) ≡ Some (version, codes "m=" ++ rest)
 unfolding version_at version_before

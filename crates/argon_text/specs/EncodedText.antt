@@ -21,13 +21,13 @@ base64_text bytes = encode_of standard_no_pad bytes
 abbrev pub version_field : List ℕ → List ℕ
 version_field digits = codes "$v=" ++ digits
 
--- the fields, one after another, behind their labels; the version's field is whole, or empty where a text has none
+-- the fields, one after another, each after its label; the version's field is whole, or empty where a text has none
 unfoldable pub text_of_fields : List ℕ → List ℕ → List ℕ → List ℕ → List ℕ → List ℕ → List ℕ → List ℕ
 text_of_fields kind version memory passes lanes salt tag =
     codes "$argon2" ++ kind ++ version ++ codes "$m=" ++ memory ++ codes ",t=" ++ passes
     ++ codes ",p=" ++ lanes ++ codes "$" ++ salt ++ codes "$" ++ tag
 
--- the text of a value behind this field of the version, its numbers in decimal
+-- the text of a value with this field of the version, its numbers in decimal
 abbrev pub text_with : List ℕ → Value → List ℕ
 text_with version v =
     text_of_fields (kind_name v.kind) version (decimal v.memory) (decimal v.passes) (decimal v.lanes)

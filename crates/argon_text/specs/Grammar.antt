@@ -90,7 +90,7 @@ value_of_fields fields = value_with fields (base64_bytes fields.salt) (base64_by
 abbrev pub IsTextInRange : List ℕ → Type 0
 IsTextInRange s = (fields : Fields) × HasFields s fields × (is_in_range (value_of_fields fields) ≡ true)
 
--- the fields of a value's text behind these digits of the version, its other numbers in decimal
+-- the fields of a value's text with these digits of the version, its other numbers in decimal
 abbrev pub fields_with : Option (List ℕ) → Value → Fields
 fields_with version v = record {
   kind = v.kind;

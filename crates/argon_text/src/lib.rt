@@ -5,6 +5,19 @@
 //! `$argon2id$v=19$m=65536,t=2,p=1$c29tZXNhbHQ$RdescudvJCsgt3ub+b0dWRWJTmaQXtXU`.
 //! Its definition, apart from this code, is `specs/EncodedText.antt`, and the grammar that texts are
 //! told by is `specs/Grammar.antt`.
+//!
+//! A text of Argon2i is read, two passwords are tried, each in at most 256 KiB and 526 block functions,
+//! and the text is written again:
+//!
+//! ```
+//! let text = b"$argon2i$v=19$m=256,t=2,p=1$c29tZXNhbHQ$iekCn0Y3spW+sCcFanM2xBT63UP2sghkUoHLIUpWRS8";
+//! let encoded = Encoded::read(alloc, text)?;
+//! assert!(rt; verify(alloc, &encoded, b"password", 256, 526)?);
+//! assert!(rt; !verify(alloc, &encoded, b"Password", 256, 526)?);
+//! let mut again = Vec::new(alloc);
+//! encoded.write(&mut again)?;
+//! assert_eq!(rt; again.as_slice(), text.as_slice());
+//! ```
 #![tactic(auto)]
 
 mod claim;
@@ -18,8 +31,8 @@ mod tests;
 mod text_room;
 #[cfg(test)]
 mod vectors;
-mod verifying;
+mod verify_password;
 
 pub use encoded::{Encoded, put_tag};
 pub use fault::{ReadFault, VerifyFault};
-pub use verifying::verify;
+pub use verify_password::verify;

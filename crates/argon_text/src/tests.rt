@@ -3,6 +3,7 @@
 ghost use Rattle.std.specs.Prelude.{◌≡◌, true, length};
 ghost use Rattle.argon_text.specs.Value.{are_in_range};
 
+mod example;
 mod near_misses;
 mod other_programs;
 mod reading;
@@ -126,7 +127,7 @@ fn puts_a_tag_into_a_text(rt: HostRuntime) -> Result<(), Fail> {
 }
 
 // Each of the 21 requests for room refused in turn: what stood in the list stays as it was. They are two for the symbols
-// of salt and tag, two for the name of the type, three for each of the four numbers, two for each of the two parts behind
+// of salt and tag, two for the name of the type, three for each of the four numbers, two for each of the two parts after
 // them, and one for the list.
 #[test]
 fn writes_all_or_nothing(rt: HostRuntime) -> Result<(), Fail> {

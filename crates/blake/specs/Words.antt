@@ -4,8 +4,8 @@ use Rattle.std.specs.List.{flat_map}
 use Rattle.byteorder.specs.Endian.{little_number, little_bytes}
 
 -- the sum of two words, modulo 2 ^ 64
-abbrev pub add64 : ℕ → ℕ → ℕ
-add64 x y = (x + y) % 2 ^ 64
+abbrev pub word_sum : ℕ → ℕ → ℕ
+word_sum x y = (x + y) % 2 ^ 64
 
 -- the first n words of a list of bytes, 8 bytes a word, the lowest byte first
 unfoldable pub words : ℕ → List ℕ → List ℕ

@@ -1,4 +1,9 @@
 //! The comparison of tags and codes.
+//!
+//! ```
+//! assert!(rt; are_same(b"tag", b"tag"));
+//! assert!(rt; !are_same(b"tag", b"tap"));
+//! ```
 #![tactic(auto)]
 
 ghost use Rattle.std.specs.Prelude.{◌≡◌, ◌↔◌, length, IsTrue};
@@ -19,6 +24,13 @@ pub fn are_same(left: &[u8], right: &[u8]) -> bool
 #[cfg(test)]
 mod tests {
     use super::*;
+
+    // The example at the head of the crate.
+    #[test]
+    fn example(rt: HostRuntime) {
+        assert!(rt; are_same(b"tag", b"tag"));
+        assert!(rt; !are_same(b"tag", b"tap"));
+    }
 
     #[test]
     fn each_byte_counts(rt: HostRuntime) {

@@ -16,7 +16,7 @@ use Rattle.encfile.specs.Header.{bytes_at, costs_of, has_magic, salt_of}
 use Rattle.encfile.specs.HeaderFaults.{are_out_of_range, header_fault}
 use Rattle.encfile.specs.EncryptedFile.{HasRightHeaderCode, code_key, encrypted_file, right_header_code}
 use Rattle.encfile.specs.Front.{FrontRefusal, costs_refusal, format_refusal, front_refusal, has_right_header_code, header_refusal, limits_refusal}
-use Rattle.encfile.specs.Front.FrontRefusal.{KeepAboveN, NotScryptData, OtherPassphrase, TooMuchMemory, TooMuchWork}
+use Rattle.encfile.specs.Front.FrontRefusal.{KeepAboveN, NotScryptData, WrongPassphrase, TooMuchMemory, TooMuchWork}
 use Rattle.encfile.specs.Laws.{IsDecidedByCalls, IsDecidedInOrder}
 use Rattle.encfile.specs.declared.fault.HeaderFault.{HeaderFault}
 use Rattle.encfile.proofs.Files.{HasRightHeaderCode-encrypted_file, checksum-encrypted_file, costs_of-encrypted_file, encrypted_file-front, length-encrypted_file}
@@ -32,7 +32,7 @@ format_refusal-short file h =
     rw short refl
 
 -- by what is told of the header
-format_refusal-fault : (file : List ℕ) → 96 ≤ length file → format_refusal file ≡ option_map header_refusal (header_fault file)
+pub format_refusal-fault : (file : List ℕ) → 96 ≤ length file → format_refusal file ≡ option_map header_refusal (header_fault file)
 unfolding format_refusal
 format_refusal-fault file h =
     let long : nat_lt (length file) 96 ≡ false = grind (arith, nat_tests) in
@@ -132,7 +132,7 @@ limits_refusal-take file allowed long =
 
 -- the refusal by the header's code
 abbrev code_refusal : List ℕ → List ℕ → Option FrontRefusal
-code_refusal file passphrase = if has_right_header_code file passphrase then None else Some OtherPassphrase
+code_refusal file passphrase = if has_right_header_code file passphrase then None else Some WrongPassphrase
 
 front_refusal-is : (file : List ℕ) (allowed : Allowance) (passphrase : List ℕ)
     → front_refusal file allowed passphrase ≡ option_or (limits_refusal file allowed) (code_refusal file passphrase)
@@ -154,7 +154,7 @@ false_where_not : (b : Bool) (Fact : Type 0) → (b ≡ true → Fact) → (Fact
 false_where_not true Fact told h = absurd (h (told refl))
 false_where_not false Fact told h = refl
 
-code_refusal-wrong : (file passphrase : List ℕ) → (HasRightHeaderCode file passphrase → ⊥) → code_refusal file passphrase ≡ Some OtherPassphrase
+code_refusal-wrong : (file passphrase : List ℕ) → (HasRightHeaderCode file passphrase → ⊥) → code_refusal file passphrase ≡ Some WrongPassphrase
 code_refusal-wrong file passphrase h =
     let wrong : has_right_header_code file passphrase ≡ false =
     false_where_not (has_right_header_code file passphrase) (HasRightHeaderCode file passphrase) (bytes_decides _ _).0 h in
@@ -184,7 +184,7 @@ front_refusal-right file allowed passphrase long admitted right =
 
 -- and its code isn't
 pub front_refusal-wrong : (file : List ℕ) (allowed : Allowance) (passphrase : List ℕ) → 96 ≤ length file → limits_refusal file allowed ≡ None
-    → (HasRightHeaderCode (take 96 file) passphrase → ⊥) → front_refusal file allowed passphrase ≡ Some OtherPassphrase
+    → (HasRightHeaderCode (take 96 file) passphrase → ⊥) → front_refusal file allowed passphrase ≡ Some WrongPassphrase
 front_refusal-wrong file allowed passphrase long admitted wrong =
     front_refusal-code file allowed passphrase admitted
     ∙ code_refusal-wrong file passphrase (λ right. wrong (code-take file ∙ right ∙ sym (right_header_code-take file passphrase)))

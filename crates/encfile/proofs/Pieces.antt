@@ -34,7 +34,7 @@ same_end front left right n long same = sym (drop_at front left n long) ∙ ap (
 pub put_mid-append : (first old second : List ℕ) (n m : ℕ) → length first ≡ n → drop m old ≡ [] → put_mid n m (first ++ old) second ≡ first ++ second
 put_mid-append first old second n m long none = rw (take_at first old n long, drop_at first old n long, none, append-nil second) refl
 
--- a list of which the first `len` bytes are `held` and `piece`, cut at `moved`, with the bytes behind the cut copied to `copy`
+-- a list of which the first `len` bytes are `held` and `piece`, cut at `moved`, with the bytes after the cut copied to `copy`
 pub cut_at : (held piece list copy post : List ℕ) (moved len : ℕ) → take len list ≡ held ++ piece → length copy ≡ len - moved
     → copy ≡ take (len - moved) (drop moved list) → moved ≤ len → take moved list ++ take (len - moved) (copy ++ post) ≡ held ++ piece
 cut_at held piece list copy post moved len whole long copied below =
@@ -48,7 +48,7 @@ cut_at held piece list copy post moved len whole long copied below =
 abbrev pub place_after : List ℕ → ℕ → KeyStreamPlace
 place_after key position = record { key = key; position = position }
 
--- the text in two pieces is the text in one, behind what stands before it
+-- the text in two pieces is the text in one, after what stands before it
 pub counter_mode-more : (front key text piece made : List ℕ) (place : KeyStreamPlace) → place ≡ place_after key (length text)
     → made ≡ counter_mode_from place.key place.position piece
     → front ++ counter_mode key text ++ made ≡ front ++ counter_mode key (text ++ piece)

@@ -5,7 +5,7 @@ use Rattle.romix.specs.Costs.{IsInRange, Parameters}
 use Rattle.encfile.specs.EncryptedFile.{derived_key, head}
 use Rattle.encfile.specs.declared.dec.Dec.{Dec}
 
--- its first 96 bytes, its 64 bytes of keys, the bytes behind the first 96 that it has decrypted, and those that it holds
+-- its first 96 bytes, its 64 bytes of keys, the bytes after the first 96 that it has decrypted, and those that it holds
 pub record Decrypts (dec : Dec) (front keys done last : List ℕ) : Type 0 where
   pub cipher : dec.ctr ≡ record { key = take 32 keys; position = length done }
   pub held : dec.held ≡ last

@@ -19,7 +19,7 @@ pub record HasEncrypted (enc : Enc) (passphrase salt : List ℕ) (costs : Parame
   pub in_range : IsInRange costs
   pub below_limit : length text < 2 ^ 60
 
--- SHA-256 inside HMAC takes the message behind a block of 64 bytes; the length in bits, which it appends as a number of 64 bits,
+-- SHA-256 inside HMAC takes the message after a block of 64 bytes; the length in bits, which it appends as a number of 64 bits,
 -- doesn't wrap (FIPS 180-4, 5.1.1)
 abbrev pub FitsSha256 : List ℕ → Type 0
 FitsSha256 message = 8 * (64 + length message) < 2 ^ 64

@@ -14,11 +14,11 @@ use Rattle.encfile.specs.declared.fault.HeaderFault.TheVariants.{Magic, Version,
 -- why a file is refused before its text is looked at
 pub data FrontRefusal : Type 0 where
   NotScryptData : FrontRefusal
-  OtherVersion : FrontRefusal
+  UnsupportedVersion : FrontRefusal
   KeepAboveN : FrontRefusal
   TooMuchMemory : FrontRefusal
   TooMuchWork : FrontRefusal
-  OtherPassphrase : FrontRefusal
+  WrongPassphrase : FrontRefusal
 
 -- bytes 64 to 95 are right under the passphrase
 abbrev pub has_right_header_code : List ℕ → List ℕ → Bool
@@ -27,7 +27,7 @@ has_right_header_code file passphrase = bytes_eq (bytes_at file 64 32) (right_he
 -- what a fault of `Header::read` comes to
 unfoldable pub header_refusal : HeaderFault → FrontRefusal
 header_refusal Magic = NotScryptData
-header_refusal Version = OtherVersion
+header_refusal Version = UnsupportedVersion
 header_refusal Checksum = NotScryptData
 header_refusal CostsOutOfRange = NotScryptData
 
@@ -52,4 +52,4 @@ limits_refusal file allowed = option_or (format_refusal file) (costs_refusal (co
 -- why the file is refused under the passphrase, if it is: the above, or its bytes 64 to 95
 unfoldable pub front_refusal : List ℕ → Allowance → List ℕ → Option FrontRefusal
 front_refusal file allowed passphrase =
-    option_or (limits_refusal file allowed) (if has_right_header_code file passphrase then None else Some OtherPassphrase)
+    option_or (limits_refusal file allowed) (if has_right_header_code file passphrase then None else Some WrongPassphrase)

@@ -7,7 +7,7 @@ use Rattle.romix.specs.SparseCosts.{SparseParameters}
 use Rattle.romix.specs.declared.fault.CostFault.TheVariants as fault
 use Rattle.encfile.specs.EncryptedFile.{HasRightHeaderCode, IsEncryptionOf, encrypted_file, released_text}
 use Rattle.encfile.specs.Front.{FrontRefusal, format_refusal, front_refusal, header_refusal, limits_refusal}
-use Rattle.encfile.specs.Front.FrontRefusal.{KeepAboveN, OtherPassphrase, TooMuchMemory, TooMuchWork}
+use Rattle.encfile.specs.Front.FrontRefusal.{KeepAboveN, WrongPassphrase, TooMuchMemory, TooMuchWork}
 use Rattle.encfile.specs.Header.{costs_of}
 use Rattle.encfile.specs.HeaderFaults.{header_fault}
 use Rattle.encfile.specs.declared.fault.HeaderFault.{HeaderFault}
@@ -23,7 +23,7 @@ pub record IsDecidedInOrder (file : List ℕ) (allowed : Allowance) (passphrase 
   pub format : (refusal : FrontRefusal) → format_refusal file ≡ Some refusal → limits_refusal file allowed ≡ Some refusal
   pub limits : (refusal : FrontRefusal) → limits_refusal file allowed ≡ Some refusal → front_refusal file allowed passphrase ≡ Some refusal
   pub wrong : limits_refusal file allowed ≡ None → (HasRightHeaderCode file passphrase → ⊥)
-      → front_refusal file allowed passphrase ≡ Some OtherPassphrase
+      → front_refusal file allowed passphrase ≡ Some WrongPassphrase
   pub right : limits_refusal file allowed ≡ None → HasRightHeaderCode file passphrase → front_refusal file allowed passphrase ≡ None
 
 -- the costs with S, which is a power of two from 1 to 1,024, that the header of a file and an allowance give
@@ -45,7 +45,7 @@ pub record IsDecidedByCalls (file : List ℕ) (allowed : Allowance) (passphrase 
       → front_refusal file allowed passphrase ≡ Some TooMuchWork
   pub wrong : header_fault (take 64 front) ≡ None → keep_fault (sparse_of (take 64 front) allowed) ≡ None
       → sparse_limit_fault (sparse_of (take 64 front) allowed) allowed.limits ≡ None
-      → (HasRightHeaderCode front passphrase → ⊥) → front_refusal file allowed passphrase ≡ Some OtherPassphrase
+      → (HasRightHeaderCode front passphrase → ⊥) → front_refusal file allowed passphrase ≡ Some WrongPassphrase
   pub right : header_fault (take 64 front) ≡ None → keep_fault (sparse_of (take 64 front) allowed) ≡ None
       → sparse_limit_fault (sparse_of (take 64 front) allowed) allowed.limits ≡ None
       → HasRightHeaderCode front passphrase → front_refusal file allowed passphrase ≡ None

@@ -17,7 +17,7 @@ use comparison::are_same;
 use macs::Hmac;
 use romix::{Ticks, Workspace};
 
-/// The bytes behind the first 96, a text of fewer than 2^60 bytes and the final code, are fewer
+/// The bytes after the first 96, a text of fewer than 2^60 bytes and the final code, are fewer
 /// than this.
 const REST_LIMIT: u64 = (1 << 60) + 32;
 
@@ -35,7 +35,7 @@ pub struct Dec {
 }
 
 impl Dec {
-    // A decryption behind these first 96 bytes.
+    // A decryption after these first 96 bytes.
     fn with_keys(front: &[u8; 96], keys: &[u8; 64]) -> Dec
         ensures begun { Decrypts result front.now keys.now [] [] }
     {
@@ -79,7 +79,7 @@ impl Dec {
     /// the first of `out`. `out` is at least 32 bytes longer than the piece: so many of it are in no
     /// promised state, and the rest of `out` stays.
     ///
-    /// It refuses the piece where the bytes behind the first 96 would reach 2^60 + 32. After a
+    /// It refuses the piece where the bytes after the first 96 would reach 2^60 + 32. After a
     /// refusal `out` and the decryption are as they were.
     pub fn feed(&mut self, piece: &[u8], out: &mut [u8]) -> Result<usize, TooLong>
         requires room { length piece.now + 32 ≤ length out.old }

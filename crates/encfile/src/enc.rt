@@ -44,7 +44,7 @@ pub struct Enc {
 }
 
 impl Enc {
-    // An encryption behind these first 96 bytes.
+    // An encryption after these first 96 bytes.
     fn with_keys(header: [u8; 96], keys: &[u8; 64]) -> Enc
         ensures begun { Encrypts result header keys.now [] }
     {

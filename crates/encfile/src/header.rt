@@ -1,5 +1,5 @@
 //! The header of a file, read.
-ghost use Rattle.std.specs.Prelude.{◌≡◌, ◌+◌, ◌≤◌, Some, None, IfOk, IfErr, OnOk};
+ghost use Rattle.std.specs.Prelude.{◌≡◌, ◌+◌, ◌≤◌, Some, None, take, IfOk, IfErr, OnOk};
 ghost use Rattle.std.specs.Int.{w32, from_be_bytes};
 ghost use Rattle.encfile.specs.Header.{Derivation, IsHeaderOf, bytes_at, costs_of, has_magic, has_right_checksum, salt_of};
 ghost use Rattle.encfile.specs.HeaderFaults.{header_fault};
@@ -76,6 +76,20 @@ impl Header {
             Ok(costs) => Ok(Header { costs, salt }),
             Err(_) => Err(HeaderFault::CostsOutOfRange),
         }
+    }
+
+    /// Reads the first 64 of the first 96 bytes of a file, which [`Dec::open`](crate::Dec::open)
+    /// takes beside the header.
+    pub fn of_front(front: &[u8; 96]) -> Result<Header, HeaderFault>
+        ensures costs { IfOk result (λ header. header.costs ≡ costs_of front.now) }
+        ensures salt { IfOk result (λ header. header.salt ≡ salt_of front.now) }
+        ensures header { IfOk result (λ header. IsHeaderOf (take 64 front.now) header) }
+        ensures valid { OnOk result (header_fault front.now ≡ None) }
+        ensures fault { IfErr result (λ fault. header_fault front.now ≡ Some fault) }
+    {
+        let mut bytes = [0u8; 64];
+        bytes.copy_from_slice(&front[..64]);
+        Header::read(&bytes)
     }
 
     /// The costs, bytes 7 to 15.

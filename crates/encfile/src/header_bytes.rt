@@ -1,21 +1,10 @@
 //! The first 64 bytes of a file (FORMAT).
 ghost use Rattle.std.specs.Prelude.{◌≡◌};
-ghost use Rattle.std.specs.Int.{w32, to_be_bytes};
 ghost use Rattle.romix.specs.Costs.{IsInRange};
 ghost use Rattle.encfile.specs.Header.{checksum, costs_and_salt, header};
 
-use byteorder::{BigEndian, ByteOrder};
 use romix::Costs;
 use sha2::{Digest, Sha256};
-
-// The number as four bytes, the highest first.
-fn big_endian_bytes(number: u32) -> [u8; 4]
-    ensures bytes { result ≡ to_be_bytes w32 number }
-{
-    let mut bytes = [0u8; 4];
-    BigEndian::write_u32(&mut bytes, number);
-    bytes
-}
 
 // Bytes 0 to 47: the text `scrypt`, the version, log2 N, r, p, and the salt.
 fn costs_and_salt(costs: &Costs, salt: &[u8; 32]) -> [u8; 48]
@@ -23,8 +12,8 @@ fn costs_and_salt(costs: &Costs, salt: &[u8; 32]) -> [u8; 48]
     ensures in_range { IsInRange costs.now }
 {
     let [s, c, r, y, p, t] = *b"scrypt";
-    let [r0, r1, r2, r3] = big_endian_bytes(costs.r());
-    let [p0, p1, p2, p3] = big_endian_bytes(costs.p());
+    let [r0, r1, r2, r3] = costs.r().to_be_bytes();
+    let [p0, p1, p2, p3] = costs.p().to_be_bytes();
     let log_n = costs.log_n();
     let front = [s, c, r, y, p, t, 0, log_n, r0, r1, r2, r3, p0, p1, p2, p3];
     let mut bytes = [0u8; 48];

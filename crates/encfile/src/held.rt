@@ -44,7 +44,7 @@ impl Held {
     }
 
     // Adds the piece, moves all but the last 32 bytes to the front of `out`, and answers how many
-    // it moved. What is behind them in `out` isn't promised, as far as there are bytes; the rest of `out` stays.
+    // it moved. What comes after them in `out` isn't promised, as far as there are bytes; the rest of `out` stays.
     pub(crate) fn take_in(&mut self, piece: &[u8], out: &mut [u8]) -> usize
         requires room { length piece.now + 32 ≤ length out.old }
         ensures moved { result ≡ length self.old + length piece.now - 32 }

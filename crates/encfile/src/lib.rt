@@ -14,8 +14,7 @@
 //! takes memory: the derivation of the keys works in the `Workspace` that is handed in, which may keep
 //! the whole table or a sparse one. The file doesn't depend on it.
 //!
-//! A text there and back, made with the whole table and opened with a quarter of it; `first_of` gives the
-//! first 64 bytes:
+//! A text there and back, made with the whole table and opened with a quarter of it:
 //!
 //! ```
 //! let costs = Costs::new(4, 1, 1)?;
@@ -34,7 +33,7 @@
 //! enc.feed(&mut text)?;
 //! let code = enc.finish();
 //!
-//! let header = Header::read(&first_of(&front))?;
+//! let header = Header::of_front(&front)?;
 //! let quarter = Sparse::new(header.costs(), 4)?;
 //! quarter.admitted(&limits)?;
 //! let mut quarter = Workspace::reserve(rt.alloc(), &quarter)?;

@@ -118,15 +118,6 @@ fn front_of(file: &[u8]) -> [u8; 96]
     front
 }
 
-// The first 64 bytes of those.
-fn first_of(front: &[u8; 96]) -> [u8; 64]
-    ensures first { result ≡ take 64 front.now }
-{
-    let mut first = [0u8; 64];
-    first.copy_from_slice(&front[..64]);
-    first
-}
-
 // The header of a file, if it has one whose costs are small, and its costs with every `keep`-th row kept.
 fn header_of(front: &[u8; 96], keep: u64) -> Result<(Header, Sparse), Outcome>
     ensures header { IfOk result (λ read. IsHeaderOf (take 64 front.now) read.0) }
@@ -137,7 +128,7 @@ fn header_of(front: &[u8; 96], keep: u64) -> Result<(Header, Sparse), Outcome>
         max_bytes: 1 << 21,
         max_ops: 1 << 26,
     };
-    let header = match Header::read(&first_of(front)) {
+    let header = match Header::of_front(front) {
         Ok(header) => header,
         Err(fault) => return Err(Outcome::Refused(fault)),
     };
@@ -346,7 +337,7 @@ fn files_that_are_cut_or_longer(rt: HostRuntime) -> Result<(), Fail> {
     Ok(())
 }
 
-// Each byte behind the first 96 counts, those of the final code, too.
+// Each byte after the first 96 counts, those of the final code, too.
 #[test]
 fn files_with_one_bit_changed(rt: HostRuntime) -> Result<(), Fail> {
     for place in 96..HELLO_FILE.len() {
@@ -379,7 +370,7 @@ fn example(rt: HostRuntime) -> Result<(), Fail> {
     enc.feed(&mut text)?;
     let code = enc.finish();
 
-    let header = Header::read(&first_of(&front))?;
+    let header = Header::of_front(&front)?;
     let quarter = Sparse::new(header.costs(), 4)?;
     quarter.admitted(&limits)?;
     let mut quarter = Workspace::reserve(rt.alloc(), &quarter)?;
@@ -446,10 +437,10 @@ fn first_fault_of_a_header(rt: HostRuntime) -> Result<(), Fail> {
         (5, b'T', HeaderFault::Magic),
         (0, 0, HeaderFault::Magic),
     ];
-    let mut bytes = first_of(&front_of(HELLO_FILE));
+    let mut bytes = front_of(HELLO_FILE);
     for (place, byte, expected) in faults {
         bytes[*place] = *byte;
-        match Header::read(&bytes) {
+        match Header::of_front(&bytes) {
             Ok(_) => panic!(rt; "byte {place} is not looked at"),
             Err(fault) => assert_eq!(rt; fault, *expected),
         }

@@ -3,7 +3,7 @@ ghost use Rattle.std.specs.Prelude.{◌≡◌, ◌^◌, [], ◌∷◌, codes, sl
 ghost use Rattle.std.specs.List.{range_with_len};
 ghost use Rattle.encfile.specs.EncryptedFile.{encrypted_file};
 ghost use Rattle.encfile.specs.Front.{format_refusal, front_refusal, limits_refusal};
-ghost use Rattle.encfile.specs.Front.FrontRefusal.{KeepAboveN, NotScryptData, OtherPassphrase, OtherVersion, TooMuchMemory, TooMuchWork};
+ghost use Rattle.encfile.specs.Front.FrontRefusal.{KeepAboveN, NotScryptData, WrongPassphrase, UnsupportedVersion, TooMuchMemory, TooMuchWork};
 ghost use Rattle.encfile.specs.HeaderFaults.{header_fault};
 ghost use Rattle.encfile.specs.Vectors.{allowance, front_of_costs, front_of_hello};
 ghost use Rattle.encfile.specs.declared.fault.HeaderFault.TheVariants.{Checksum, CostsOutOfRange, Magic, Version};
@@ -32,7 +32,7 @@ fn file_of_hello()
 fn refusals_of_fronts()
     ensures short { format_refusal (take 95 (front_of_costs 4 1 1)) ≡ Some NotScryptData }
     ensures magic { format_refusal (slice_set (front_of_costs 4 1 1) 5 0) ≡ Some NotScryptData }
-    ensures version { format_refusal (slice_set (front_of_costs 4 1 1) 6 1) ≡ Some OtherVersion }
+    ensures version { format_refusal (slice_set (front_of_costs 4 1 1) 6 1) ≡ Some UnsupportedVersion }
     ensures checksum { format_refusal (slice_set (front_of_costs 4 1 1) 20 0) ≡ Some NotScryptData }
     ensures zero { format_refusal (front_of_costs 4 0 1) ≡ Some NotScryptData }
     ensures memory { limits_refusal (front_of_costs 4 1 1) (allowance 1 2047 63) ≡ Some TooMuchMemory }
@@ -58,10 +58,10 @@ fn faults_of_headers()
     ensures product { header_fault (front_of_costs 4 (2 ^ 15) (2 ^ 15)) ≡ Some CostsOutOfRange }
 {}
 
-// The file of `hello` above, by its first 96 bytes: under its passphrase, under another, and where
+// The file of `hello` above, by its first 96 bytes: under its passphrase, under a wrong one, and where
 // the limits refuse it first.
 fn passphrases_of_hello()
     ensures own { front_refusal front_of_hello (allowance 1 2048 64) (codes "pw") ≡ None }
-    ensures other { front_refusal front_of_hello (allowance 1 2048 64) (codes "pv") ≡ Some OtherPassphrase }
+    ensures other { front_refusal front_of_hello (allowance 1 2048 64) (codes "pv") ≡ Some WrongPassphrase }
     ensures limits_first { front_refusal front_of_hello (allowance 1 2047 64) (codes "pv") ≡ Some TooMuchMemory }
 {}

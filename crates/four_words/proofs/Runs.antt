@@ -47,7 +47,7 @@ sixteen_written v a b c d at h =
       put_joined v ((four_words a ++ four_words b) ++ four_words c) (four_words d) at (at + 12) refl (omega arith),
     ) refl
 
--- the words behind a write stay
+-- the words after a write stay
 pub drop_put : (v ws : List ℕ) (a b : ℕ) → a + length ws ≤ b → drop b (put_chunk a v ws) ≡ drop b v
 drop_put [] ws a b h = refl
 drop_put (x ∷ v) [] zero b h = refl

@@ -1,2 +1,3 @@
--- Words of vectors.
+-- Words of lists and of vectors.
+pub mod Words
 pub mod Inside

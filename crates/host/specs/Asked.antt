@@ -5,7 +5,7 @@ use Rattle.host.specs.declared.asked.Name.{Name, End, Byte'}
 use Rattle.host.specs.declared.asked.Asked.{Asked}
 use Rattle.host.specs.declared.asked.Asked.TheVariants as asked
 
--- the bytes of a name; what is held behind a byte has none of its own, and is the rest of the name
+-- the bytes of a name; what is held after a byte has none of its own, and is the rest of the name
 abbrev pub name_bytes : Name → Text
 name_bytes End = []
 name_bytes (Byte' byte held rest) = byte ∷ name_bytes rest

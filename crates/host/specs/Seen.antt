@@ -38,7 +38,7 @@ pub record IsFresh (s : Seen) : Type 0 where
 abbrev pub after_pull : ℕ → Seen → Seen
 after_pull n s = record s { input = drop n s.input }
 
--- these bytes stand behind the output
+-- these bytes stand after the output
 abbrev pub after_push : List ℕ → Seen → Seen
 after_push bytes s = record s { output = s.output ++ bytes }
 

@@ -6,12 +6,12 @@ ghost use Rattle.host.specs.Secret.{source_of};
 use crate::host::Source;
 use std::snapshot::Snapshot;
 
-/// A name, of which contracts alone see all bytes: behind the first there is nothing at run time.
+/// A name, of which contracts alone see all bytes: after the first there is nothing at run time.
 #[derive(Drop)]
 pub enum Name {
     /// No byte.
     End,
-    /// A byte, and the name behind it.
+    /// A byte, and the rest of the name.
     Byte(u8, Snapshot<Name>),
 }
 

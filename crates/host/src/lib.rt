@@ -2,17 +2,27 @@
 //! does with a host.
 //!
 //! A command asks the world for everything through the trait, so its contract can say what a run
-//! comes to, whatever the host is.
+//! comes to, whatever the host is. Here a copy of what fits a buffer, over a host in memory:
+//!
+//! ```
+//! let input = b"the input".to_vec(alloc)?;
+//! let mut host = MemoryHost::new(alloc, input, Vec::new(alloc), [7; 32]);
+//! host.open_input(Some("in"))?;
+//! let mut buf = [0u8; 5];
+//! let n = host.pull(&mut buf)?;
+//! write_output(&mut host, &buf[..n])?;
+//! assert_eq!(rt; host.output(), b"the i".as_slice());
+//! ```
 #![tactic(auto)]
 
 mod asked;
-mod flow;
 mod growth;
 mod host;
 mod memory;
 mod named_secret;
+mod writing;
 
 pub use asked::{Asked, Name};
-pub use flow::{push_all, refuse, write_output};
 pub use host::{Host, HostFault, Source};
 pub use memory::MemoryHost;
+pub use writing::{push_all, refuse, write_output};

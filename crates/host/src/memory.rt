@@ -311,7 +311,7 @@ fn keep_name<G: Growth>(growth: &mut G, name: Option<&str>) -> Result<Option<Str
     }
 }
 
-// Copies as many of the bytes as fit, and says how many. What is behind them in the buffer stays.
+// Copies as many of the bytes as fit, and says how many. What comes after them in the buffer stays.
 fn fill(bytes: &[u8], buf: &mut [u8]) -> usize
     ensures count { result ≡ min (length bytes.now) (length buf.old) }
     ensures same { take result buf.new ≡ take result bytes.now }
@@ -388,7 +388,22 @@ mod refusing;
 #[cfg(test)]
 mod tests {
     use super::*;
+    use crate::writing::write_output;
     use std::test::Fail;
+
+    // The example at the head of the crate.
+    #[test]
+    fn example(rt: HostRuntime) -> Result<(), Fail> {
+        let alloc = rt.alloc();
+        let input = b"the input".to_vec(alloc)?;
+        let mut host = MemoryHost::new(alloc, input, Vec::new(alloc), [7; 32]);
+        host.open_input(Some("in"))?;
+        let mut buf = [0u8; 5];
+        let n = host.pull(&mut buf)?;
+        write_output(&mut host, &buf[..n])?;
+        assert_eq!(rt; host.output(), b"the i".as_slice());
+        Ok(())
+    }
 
     // What a host gives of a source for which there is room for six bytes.
     fn given(alloc: Global, source: Source<'_>) -> Result<Option<Vec<u8>>, AllocError> {

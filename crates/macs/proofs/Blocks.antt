@@ -1,7 +1,7 @@
 -- The blocks of PBKDF2, one after another.
 use Rattle.std.proofs.Common.{◌≡◌, ℕ, zero, suc, ◌+◌, ◌*◌, List, ◌++◌, length, take, rules, arith, refl, add-one, length-append}
 use Rattle.std.proofs.lemmas.List.{take_all, same_lists, places}
-use Rattle.byteorder.specs.Endian.{big_bytes}
+use Rattle.std.specs.Int.{w32, to_be_bytes}
 use Rattle.macs.specs.Pbkdf2.{joined_blocks, pbkdf2_block}
 use Rattle.macs.proofs.Keys.{length-hmac_sha256}
 
@@ -14,7 +14,7 @@ length-joined_blocks password salt (suc n) =
       arith,
       length-joined_blocks password salt n,
       length-append (joined_blocks password salt n) (pbkdf2_block password salt (suc n)),
-      length-hmac_sha256 password (salt ++ big_bytes 4 (suc n)),
+      length-hmac_sha256 password (salt ++ to_be_bytes w32 (suc n)),
     )
 
 -- the first m bytes, where the first list ends before them

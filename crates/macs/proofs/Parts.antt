@@ -1,7 +1,7 @@
 -- The blocks of PBKDF2 at their places in the key.
 use Rattle.std.proofs.Common.{◌≡◌, ℕ, zero, suc, ◌+◌, ◌-◌, ◌*◌, ◌/◌, ◌≤◌, List, ◌++◌, length, take, drop, rules, arith, add-one, ◌∙◌}
 use Rattle.std.proofs.lemmas.List.{same_lists, places}
-use Rattle.byteorder.specs.Endian.{big_bytes}
+use Rattle.std.specs.Int.{w32, to_be_bytes}
 use Rattle.macs.specs.Pbkdf2.{joined_blocks, pbkdf2, pbkdf2_block}
 use Rattle.macs.proofs.Keys.{length-hmac_sha256}
 use Rattle.macs.proofs.Blocks.{length-joined_blocks}
@@ -10,7 +10,7 @@ use Rattle.macs.proofs.Blocks.{length-joined_blocks}
 inside_first : (xs ys : List ℕ) (i n : ℕ) → i + n ≤ length xs → take n (drop i (xs ++ ys)) ≡ take n (drop i xs)
 inside_first xs ys i n h = same_lists _ _ (search (rules, places)) (λ k d below. grind (arith, places))
 
--- the second list, behind the first
+-- the second list, after the first
 second_list : (xs ys : List ℕ) (i n : ℕ) → i ≡ length xs → n ≡ length ys → take n (drop i (xs ++ ys)) ≡ ys
 second_list xs ys i n h l = same_lists _ _ (search (rules, places)) (λ k d below. grind (arith, places))
 
@@ -18,7 +18,7 @@ inside_taken : (xs : List ℕ) (m i n : ℕ) → i + n ≤ m → m ≤ length xs
 inside_taken xs m i n h l = same_lists _ _ (search (rules, places)) (λ k d below. grind (arith, places))
 
 pub long-block : (password salt : List ℕ) (i : ℕ) → length (pbkdf2_block password salt i) ≡ 32
-long-block password salt i = length-hmac_sha256 password (salt ++ big_bytes 4 i)
+long-block password salt i = length-hmac_sha256 password (salt ++ to_be_bytes w32 i)
 
 -- of the joined blocks
 joined-block : (password salt : List ℕ) (n m i : ℕ) → n ≡ i + suc m → take 32 (drop (32 * i) (joined_blocks password salt n)) ≡ pbkdf2_block password salt (suc i)

@@ -2,7 +2,7 @@
 use Rattle.std.specs.Prelude.{ℕ, List, ◌++◌}
 use Rattle.sha2.specs.Hashers.{Holds256}
 use Rattle.macs.specs.HmacSha256.{inner_key, outer_key}
-use Rattle.macs.specs.declared.keyed_hash.Hmac.{Hmac}
+use Rattle.macs.specs.declared.hmac.Hmac.{Hmac}
 
 -- the value mac has this key, and was handed the bytes of this message
 unfoldable pub Holds : Hmac → List ℕ → List ℕ → Type 0

@@ -1,7 +1,7 @@
 -- What contracts see of a running PBKDF2: its password and the salt so far.
 use Rattle.std.specs.Prelude.{ℕ, List}
 use Rattle.macs.specs.Hmac.{Holds}
-use Rattle.macs.specs.declared.key_pair.Pbkdf2Pair.{Pbkdf2Pair}
+use Rattle.macs.specs.declared.pbkdf2_pair.Pbkdf2Pair.{Pbkdf2Pair}
 
 -- the value has this password, and was handed the bytes of this salt
 abbrev pub HoldsSalt : Pbkdf2Pair → List ℕ → List ℕ → Type 0

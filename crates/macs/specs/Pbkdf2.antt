@@ -1,11 +1,11 @@
 -- PBKDF2 (RFC 8018, 5.2) with HMAC-SHA-256 and one iteration, as scrypt uses it (RFC 7914, 6).
 use Rattle.std.specs.Prelude.{ℕ, zero, suc, ◌+◌, ◌/◌, List, [], ◌++◌, take}
-use Rattle.byteorder.specs.Endian.{big_bytes}
+use Rattle.std.specs.Int.{w32, to_be_bytes}
 use Rattle.macs.specs.HmacSha256.{hmac_sha256}
 
 -- T_i after one iteration: the HMAC of the salt and of i as four bytes, the highest first (5.2, step 3)
 abbrev pub pbkdf2_block : List ℕ → List ℕ → ℕ → List ℕ
-pbkdf2_block password salt i = hmac_sha256 password (salt ++ big_bytes 4 i)
+pbkdf2_block password salt i = hmac_sha256 password (salt ++ to_be_bytes w32 i)
 
 -- T_1 || .. || T_n (5.2, step 4)
 unfoldable pub joined_blocks : List ℕ → List ℕ → ℕ → List ℕ

@@ -17,13 +17,13 @@
 //! ```
 #![tactic(auto)]
 
-mod key_derivation;
-mod key_pair;
-mod keyed_hash;
+mod hmac;
+mod pbkdf2_pair;
+mod pbkdf2_sha256;
 
-pub use key_derivation::{pbkdf2, pbkdf2_block};
-pub use key_pair::Pbkdf2Pair;
-pub use keyed_hash::Hmac;
+pub use hmac::Hmac;
+pub use pbkdf2_pair::Pbkdf2Pair;
+pub use pbkdf2_sha256::{pbkdf2, pbkdf2_block};
 
 #[cfg(test)]
 mod laws;

@@ -21,7 +21,7 @@ parameters_given kind version passes lanes memory_kib tag_len salt_len password_
   version = version;
   passes = passes;
   lanes = lanes;
-  memory = memory_kib;
+  memory_kib = memory_kib;
   tag_len = tag_len;
   salt_len = salt_len;
   password_len = password_len;
@@ -76,7 +76,7 @@ abbrev pub value_given : Parameters → List ℕ → List ℕ → Value
 value_given parameters salt tag = record {
   kind = kind_numbered parameters.kind;
   version = parameters.version;
-  memory = parameters.memory;
+  memory = parameters.memory_kib;
   passes = parameters.passes;
   lanes = parameters.lanes;
   salt = salt;

@@ -3,7 +3,8 @@ use Rattle.std.proofs.Common.{◌≡◌, ℕ, zero, suc, ◌+◌, ◌*◌, ◌/�
 use Rattle.std.proofs.Math.Nat.{mul-mod_right, mul-div_cancel_left, mul-div-le, div-add-mod, mod-mod_of_dvd, mul-le-mul_left, div-lt_iff_lt-mul}
 use Rattle.std.proofs.lemmas.Bool.{cases_lt}
 use Rattle.std.proofs.lemmas.Nat.Gcd.{dvd_of_mod-eq-zero}
-use Rattle.romix.specs.BlockMix.{block_mix, xored_words}
+use Rattle.four_words.specs.Words.{xored_words}
+use Rattle.romix.specs.BlockMix.{block_mix}
 use Rattle.romix.specs.Inside.Diagonals.{natural_row}
 use Rattle.romix.specs.Romix.{integerify, row_after, table_row}
 use Rattle.romix.specs.Scrypt.{part_at, words_of}

@@ -1,7 +1,8 @@
 -- The chain of BlockMix and its even and odd outputs, turn by turn.
 use Rattle.std.proofs.Common.{◌≡◌, ℕ, ◌+◌, ◌*◌, ◌/◌, List, ◌++◌, add-one}
 use Rattle.romix.specs.Salsa20.{salsa20_8}
-use Rattle.romix.specs.BlockMix.{block_at, block_count, chain_block, every_second_output, block_mix, xored_words}
+use Rattle.four_words.specs.Words.{xored_words}
+use Rattle.romix.specs.BlockMix.{block_at, block_count, chain_block, every_second_output, block_mix}
 
 -- one more turn of the chain: t is x xor block o, and z its core
 pub chain_more : (b x t z o : List ℕ) (i j : ℕ) → x ≡ chain_block b i → o ≡ block_at b i → t ≡ xored_words x o → z ≡ salsa20_8 t → j ≡ i + 1 → z ≡ chain_block b j

@@ -2,7 +2,8 @@
 use Rattle.std.proofs.Common.{bit_xor, ◌%◌, lit<, ◌≡◌, ℕ, zero, suc, ◌+◌, ◌-◌, ◌*◌, ◌/◌, ◌<◌, ◌≤◌, List, [], ◌∷◌, ◌++◌, length, take, drop, slice_index, refl, sym, ap, ◌∙◌, arith}
 use Rattle.std.proofs.lemmas.List.{drop-drop, length-drop, length-take-le, take_all, take-append-le, drop-append-le}
 use Rattle.std.proofs.lemmas.Simd.{get_or-chunk, get_or-zip2, length-zip2}
-use Rattle.romix.specs.BlockMix.{block_at, xored_words}
+use Rattle.four_words.specs.Words.{xored_words}
+use Rattle.romix.specs.BlockMix.{block_at}
 use Rattle.romix.specs.Inside.Diagonals.{natural_row, natural_block, natural_blocks}
 
 -- a block has sixteen words

@@ -32,7 +32,7 @@ pub part_done : (b bytes o : List ℕ) (n r k len m w : ℕ) → len ≡ 128 * r
 part_done b bytes o n r k len m w hl hw hm left done ho =
     mixed_parts-more b _ o n r k done (ho ∙ rw (hm, hw, left, hl))
 
--- the bytes behind it are those of B
+-- the bytes after it are those of B
 pub left_more : (b bytes new : List ℕ) (len k : ℕ) → drop (len * (k + 1)) new ≡ drop (len * (k + 1)) bytes → drop (len * k) bytes ≡ drop (len * k) b
     → drop (len * (k + 1)) new ≡ drop (len * (k + 1)) b
 left_more b bytes new len k same left =

@@ -4,7 +4,8 @@ use Rattle.std.proofs.lemmas.List.{drop-take, take-take, drop_more}
 use Rattle.std.proofs.lemmas.Nat.{one_shl, pow-add}
 use Rattle.std.proofs.Math.Nat.{add-mul-mod_self_right, mul-le-mul_left}
 use Rattle.std.specs.Simd.Lanes.{number_l}
-use Rattle.romix.specs.BlockMix.{block_mix, xored_words}
+use Rattle.four_words.specs.Words.{xored_words}
+use Rattle.romix.specs.BlockMix.{block_mix}
 use Rattle.romix.specs.Romix.{integerify, row_after, table_row}
 use Rattle.romix.specs.Inside.Table.{row_at}
 

@@ -2,7 +2,8 @@
 use Rattle.std.proofs.Common.{◌≡◌, ℕ, zero, suc, ◌+◌, ◌*◌, ◌≤◌, List, [], ◌∷◌, ◌++◌, length, take, drop, bit_xor, refl, ap, ◌∙◌, arith}
 use Rattle.std.specs.Simd.Lanes.{chunk}
 use Rattle.std.proofs.lemmas.List.{drop-drop}
-use Rattle.romix.specs.BlockMix.{block_at, xored_words}
+use Rattle.four_words.specs.Words.{xored_words}
+use Rattle.romix.specs.BlockMix.{block_at}
 
 -- n more words xored
 xor_more : (x y : List ℕ) (a n k : ℕ) → k ≡ a + n → k ≤ length x → k ≤ length y
@@ -24,7 +25,7 @@ pub block_xored : (old other row new z : List ℕ) (i : ℕ) → 16 * (i + 1) �
 block_xored old other row new z i h g done left hz hn =
     hn ∙ rw (hz, done, left) (xor_more old other (16 * i) 16 (16 * (i + 1)) (omega arith) h g)
 
--- the blocks behind a written one are as they were
+-- the blocks after a written one are as they were
 pub block_left : (old row new : List ℕ) (i : ℕ) → drop (16 * i) row ≡ drop (16 * i) old
     → drop (16 * (i + 1)) new ≡ drop (16 * (i + 1)) row → drop (16 * (i + 1)) new ≡ drop (16 * (i + 1)) old
 block_left old row new i left hn =

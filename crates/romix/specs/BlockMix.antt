@@ -1,6 +1,6 @@
 -- scryptBlockMix (RFC 7914, 4) on a row B of blocks. A block is 64 octets there, and here their sixteen words.
-use Rattle.std.specs.Prelude.{ℕ, zero, suc, ◌+◌, ◌*◌, ◌-◌, ◌/◌, List, [], ◌++◌, length, take, drop, bit_xor}
-use Rattle.std.specs.Simd.Lanes.{zip2}
+use Rattle.std.specs.Prelude.{ℕ, zero, suc, ◌+◌, ◌*◌, ◌-◌, ◌/◌, List, [], ◌++◌, length, take, drop}
+use Rattle.four_words.specs.Words.{xored_words}
 use Rattle.romix.specs.Salsa20.{salsa20_8}
 
 -- B[i], block i of a row
@@ -10,10 +10,6 @@ block_at b i = take 16 (drop (16 * i) b)
 -- 2 * r, the blocks of a row
 abbrev pub block_count : List ℕ → ℕ
 block_count b = length b / 16
-
--- the words of two lists, xored one by one
-abbrev pub xored_words : List ℕ → List ℕ → List ℕ
-xored_words = zip2 bit_xor
 
 -- X before turn i: the last block at first (step 1), then Salsa20/8 of X xor B[i - 1] (step 2)
 unfoldable pub chain_block : List ℕ → ℕ → List ℕ

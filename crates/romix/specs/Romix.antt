@@ -1,7 +1,8 @@
 -- scryptROMix (RFC 7914, 5) on a row B, over words. There is no table: V and X are recursions.
 use Rattle.std.specs.Prelude.{ℕ, zero, suc, ◌-◌, ◌%◌, ◌^◌, List, length, drop}
 use Rattle.std.specs.Simd.Lanes.{number_l}
-use Rattle.romix.specs.BlockMix.{block_mix, xored_words}
+use Rattle.four_words.specs.Words.{xored_words}
+use Rattle.romix.specs.BlockMix.{block_mix}
 
 -- V_i (steps 1 and 2)
 unfoldable pub table_row : List ℕ → ℕ → List ℕ

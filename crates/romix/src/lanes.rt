@@ -1,7 +1,8 @@
 //! Sixteen words in four vectors: how they are read, written, xored and turned.
 ghost use Rattle.std.specs.Prelude.{◌≡◌, ◌+◌, ◌*◌, ◌≤◌, ◌++◌, length, take, drop};
 ghost use Rattle.std.specs.Simd.Lanes.{chunk, put_chunk};
-ghost use Rattle.romix.specs.BlockMix.{block_at, xored_words};
+ghost use Rattle.four_words.specs.Words.{xored_words};
+ghost use Rattle.romix.specs.BlockMix.{block_at};
 ghost use Rattle.four_words.specs.Inside.FourWords.{four_words};
 ghost use Rattle.romix.specs.Inside.Lanes.{words_by_diagonals, words_by_rows};
 

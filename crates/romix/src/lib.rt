@@ -25,21 +25,21 @@
 //! The contracts know nothing of it: they speak of words and bytes in the standard's order.
 #![tactic(auto)]
 
-mod block_mixing;
+mod block_mix_by_rows;
 mod costs;
 mod fault;
 mod lanes;
 mod limits;
 mod parts;
 mod reservation;
-mod rom_mixing;
+mod romix;
 mod salsa20;
 mod sparse;
 mod table;
 mod ticks;
 mod workspace;
 
-pub use block_mixing::block_mix;
+pub use block_mix_by_rows::block_mix;
 pub use costs::Costs;
 pub use fault::CostFault;
 pub use limits::Limits;

@@ -6,7 +6,7 @@ ghost use Rattle.romix.specs.Costs.{parts_bytes};
 ghost use Rattle.romix.specs.Scrypt.{mixed_parts, octets_of, part_at, words_of};
 ghost use Rattle.romix.specs.Sparse.{sparse_cores};
 
-use crate::rom_mixing::romix;
+use crate::romix::romix;
 use crate::sparse::Sparse;
 use crate::ticks::Ticks;
 use byteorder::{ByteOrder, LittleEndian};

@@ -9,7 +9,7 @@ mod example;
 mod plain;
 mod sparse;
 
-use crate::rom_mixing::romix;
+use crate::romix::romix;
 use crate::{Costs, Limits, Sparse, Ticks, Workspace, block_mix, salsa8};
 use std::alloc::Global;
 use std::test::Fail;

@@ -4,8 +4,8 @@ ghost use Rattle.std.specs.Borrow.{ftrue};
 
 use std::marker::Model;
 
-/// A count of Salsa20/8 cores. Contracts see the number, which has no bound. There are no bytes
-/// behind it, so counting costs nothing, and only this crate's core counts.
+/// A count of Salsa20/8 cores. Contracts see the number, which has no bound. It has no
+/// bytes, so counting costs nothing, and only this crate's core counts.
 #[derive(Drop)]
 pub struct Ticks {
     // keeps other modules from making one

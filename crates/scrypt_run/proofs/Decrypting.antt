@@ -6,7 +6,7 @@ use Rattle.encfile.specs.Inside.Lengths.{length_read}
 use Rattle.encfile.specs.EncryptedFile.{released_text}
 use Rattle.encfile.specs.declared.dec.Dec.{Dec}
 use Rattle.encfile.proofs.Reading.{length-read, released_text-short}
-use Rattle.scrypt_run.specs.Decrypting.{text_behind}
+use Rattle.scrypt_run.specs.Decrypting.{text_after}
 
 -- where it has read no more, these are the first 96 bytes
 pub length-first : (dec : Dec) (passphrase front : List ℕ) → HasRead dec passphrase front → length_read dec ≡ 0 → length front ≡ 96
@@ -16,8 +16,8 @@ pub length_read-first : (dec : Dec) (passphrase front : List ℕ) → HasRead de
 length_read-first dec passphrase front h long = omega (arith, length-read dec passphrase front h, long)
 
 -- they release nothing
-pub text_behind-nil : (passphrase front : List ℕ) → length front ≡ 96 → text_behind passphrase front [] ≡ []
-text_behind-nil passphrase front long =
+pub text_after-nil : (passphrase front : List ℕ) → length front ≡ 96 → text_after passphrase front [] ≡ []
+text_after-nil passphrase front long =
     ap (λ file. released_text file passphrase) (append-nil front) ∙ released_text-short front passphrase (omega (arith, long))
 
 -- a piece more was read
@@ -27,11 +27,11 @@ length_read-more dec next passphrase file piece before after =
     omega (arith, length-read dec passphrase file before, length-read next passphrase (file ++ piece) after, length-append file piece)
 
 -- its text was released
-pub text_behind-more : (passphrase front done piece text : List ℕ)
+pub text_after-more : (passphrase front done piece text : List ℕ)
     → released_text (front ++ done) passphrase ++ text ≡ released_text (front ++ done ++ piece) passphrase
-    → text_behind passphrase front (done ++ piece) ≡ text_behind passphrase front done ++ text
-text_behind-more passphrase front done piece text h = ap (λ f. released_text f passphrase) (sym (append_assoc front done piece)) ∙ sym h
+    → text_after passphrase front (done ++ piece) ≡ text_after passphrase front done ++ text
+text_after-more passphrase front done piece text h = ap (λ f. released_text f passphrase) (sym (append_assoc front done piece)) ∙ sym h
 
--- the bytes behind the first 96 stay below the limit
+-- the bytes after the first 96 stay below the limit
 pub length_read-below : (dec : Dec) (passphrase file : List ℕ) → HasRead dec passphrase file → length_read dec < 2 ^ 60 + 32
 length_read-below dec passphrase file h = omega (arith, length-read dec passphrase file h, h.below_limit)

@@ -22,7 +22,7 @@ use Rattle.scrypt_run.proofs.Passing.{begun_on}
 
 -- ---- the passphrase and the salt
 
--- an encryption that was started behind the input's opening has the passphrase and the salt of the run
+-- an encryption that was started after the input's opening has the passphrase and the salt of the run
 pub started_before : (asked : Encryption) (enc : Enc) (s t : Seen) → t ≡ text_opened asked s
     → (passphrase : List ℕ) × HasPassphrase (first_line_at asked.task.source t) passphrase × HasEncrypted enc passphrase (salt_used asked.salt t) asked.costs []
     → (passphrase : List ℕ) × HasPassphrase (first_line_at asked.task.source s) passphrase × HasEncrypted enc passphrase (salt_used asked.salt s) asked.costs []

@@ -53,17 +53,6 @@ costs_front n front file costs long first is = is ∙ ap costs_of first ∙ cost
 pub salt_front : (n : ℕ) (front file salt : List ℕ) → 48 ≤ n → front ≡ take n file → salt ≡ salt_of front → salt ≡ salt_of file
 salt_front n front file salt long first is = is ∙ ap salt_of first ∙ bytes_at-take n 16 32 file (omega (arith, long))
 
--- what `Header::read` tells of the first 64 of them
-pub format_told : (front bytes : List ℕ) (told : Option HeaderFault) → length front ≡ 96 → bytes ≡ take 64 front → header_fault bytes ≡ told
-    → format_refusal front ≡ option_map header_refusal told
-format_told front bytes told long first is =
-    format_refusal-header front (omega (arith, long)) ∙ ap (λ h. option_map header_refusal (header_fault h)) (sym first) ∙ ap (option_map header_refusal) is
-
-pub format_refused : (front bytes : List ℕ) (fault : HeaderFault) (r : ScryptRefusal) → length front ≡ 96 → bytes ≡ take 64 front → header_fault bytes ≡ Some fault
-    → r ≡ refusal_of (header_refusal fault) → option_map refusal_of (format_refusal front) ≡ Some r
-format_refused front bytes fault r long first told is =
-    ap (option_map refusal_of) (format_told front bytes (Some fault) long first told) ∙ ap Some (sym is)
-
 -- ---- the costs
 
 pub limits_front : (front file : List ℕ) (allowed : Allowance) → 96 ≤ length file → front ≡ take 96 file

@@ -4,7 +4,7 @@ use Rattle.std.specs.Prelude.{if◌then◌else◌}
 use Rattle.std.specs.Option.{option_or}
 use Rattle.romix.specs.Allowance.{Allowance}
 use Rattle.encfile.specs.Front.{FrontRefusal, costs_refusal, format_refusal, front_refusal, has_right_header_code, limits_refusal}
-use Rattle.encfile.specs.Front.FrontRefusal.{OtherPassphrase}
+use Rattle.encfile.specs.Front.FrontRefusal.{WrongPassphrase}
 use Rattle.encfile.specs.Header.{costs_of}
 use Rattle.encfile.proofs.Fronts.{limits_refusal-costs, limits_refusal-format}
 use Rattle.host.specs.Seen.{Seen}
@@ -34,7 +34,7 @@ same_front : (file : List ℕ) (a b : Allowance) (passphrase : List ℕ) → lim
     → front_refusal file a passphrase ≡ front_refusal file b passphrase
 unfolding front_refusal
 same_front file a b passphrase same =
-    ap (λ first. option_or first (if has_right_header_code file passphrase then None else Some OtherPassphrase)) same
+    ap (λ first. option_or first (if has_right_header_code file passphrase then None else Some WrongPassphrase)) same
 
 -- ---- the runs
 

@@ -7,7 +7,7 @@ use Rattle.romix.specs.Allowance.{Allowance}
 use Rattle.romix.specs.Costs.{Parameters}
 use Rattle.encfile.specs.EncryptedFile.{HasRightHeaderCode, IsEncryptionOf, released_text}
 use Rattle.encfile.specs.Front.{FrontRefusal, front_refusal, limits_refusal}
-use Rattle.encfile.specs.Front.FrontRefusal.{OtherPassphrase}
+use Rattle.encfile.specs.Front.FrontRefusal.{WrongPassphrase}
 use Rattle.encfile.specs.Laws.{GivesBack}
 use Rattle.encfile.proofs.Files.{GivesBack-is, length-encrypted_file}
 use Rattle.encfile.proofs.Fronts.{front_refusal-encrypted_file, front_refusal-limits, front_refusal-wrong}
@@ -131,7 +131,7 @@ opening_from_outside task before passphrase r h (inr (inl lacks)) = inr (inr (in
 opening_from_outside task before passphrase r h (inr (inr (is, other, given, wrong))) =
     let long : 96 ≤ length before.input = omega (arith, length_input task before passphrase h) in
     let same : other ≡ passphrase = one_passphrase _ other passphrase given h.given in
-    absurd (none-some OtherPassphrase (sym h.passes
+    absurd (none-some WrongPassphrase (sym h.passes
     ∙ front_refusal-wrong before.input (allowance_of task) passphrase long (admitted task before passphrase h)
     (subst (λ p. HasRightHeaderCode (take 96 before.input) p → ⊥) same wrong)))
 

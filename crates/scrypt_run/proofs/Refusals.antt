@@ -5,10 +5,10 @@ use Rattle.std.proofs.lemmas.Bool.Decides.{nat_tests}
 use Rattle.std.proofs.lemmas.List.{length-drop}
 use Rattle.std.proofs.lemmas.Option.{none-some, same_Some}
 use Rattle.encfile.specs.Front.{FrontRefusal, format_refusal}
-use Rattle.encfile.specs.Front.FrontRefusal.{NotScryptData, OtherPassphrase}
+use Rattle.encfile.specs.Front.FrontRefusal.{NotScryptData, WrongPassphrase}
 use Rattle.encfile.proofs.Fronts.{format_refusal-short, front_refusal-wrong, limits_refusal-format}
 use Rattle.host.specs.Seen.{Seen, Text, after_open_output}
-use Rattle.scrypt_run.specs.Decrypting.{DecryptRefused, OpenRefused, ReleaseRefused, front_refusal_of, limits_refusal_of, text_behind, passphrase_asked as passphrase_asked_by_dec}
+use Rattle.scrypt_run.specs.Decrypting.{DecryptRefused, OpenRefused, ReleaseRefused, front_refusal_of, limits_refusal_of, text_after, passphrase_asked as passphrase_asked_by_dec}
 use Rattle.scrypt_run.specs.Encrypting.{EncryptRefused, StartRefused, TextNotOpened, WriteRefused, costs_refusal_of, passphrase_asked, salt_asked, salt_used}
 use Rattle.scrypt_run.specs.Front.{FrontRefused, after_front}
 use Rattle.scrypt_run.specs.Inspecting.{InspectRefused}
@@ -51,7 +51,7 @@ by_length n released = if nat_lt n (2 ^ 60 + 128) then inside refusal.Damaged (S
 abbrev all_released : Task → Seen → List ℕ → Seen
 all_released task s passphrase =
     let asked = passphrase_asked_by_dec task s in
-    after_passing (text_behind passphrase (take 96 s.input)) (length asked.input) (after_open_output task.outfile asked)
+    after_passing (text_after passphrase (take 96 s.input)) (length asked.input) (after_open_output task.outfile asked)
 
 -- of `enc`, once the limits admit the costs; under a passphrase a text is refused from inside as too long alone
 abbrev of_text : Encryption → Seen → Option Inside
@@ -217,7 +217,7 @@ open_refused task before after r admitted same (inl refused) =
 open_refused task before after r admitted same (inr (inl lacks)) = inl (inr (inr (inr lacks.0)))
 open_refused task before after r admitted same (inr (inr (is, passphrase, given, wrong))) =
     let at = passphrase_asked_by_dec task before in
-    let other : front_refusal_of task before passphrase ≡ Some OtherPassphrase =
+    let other : front_refusal_of task before passphrase ≡ Some WrongPassphrase =
     front_refusal-wrong before.input (allowance_of task) passphrase (has_front task before admitted) admitted wrong in
     inr (due_at _ r at after
     (line_passed (first_line_at task.source before) at (under_passphrase task before) passphrase given

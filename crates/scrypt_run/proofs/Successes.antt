@@ -4,7 +4,7 @@ use Rattle.std.proofs.lemmas.Grind.{common_steps}
 use Rattle.encfile.specs.EncryptedFile.{encrypted_file}
 use Rattle.encfile.specs.Front.{format_refusal}
 use Rattle.host.specs.Seen.{Seen, Text, after_open_output}
-use Rattle.scrypt_run.specs.Decrypting.{DecryptSucceeds, text_behind, passphrase_asked as passphrase_asked_by_dec}
+use Rattle.scrypt_run.specs.Decrypting.{DecryptSucceeds, text_after, passphrase_asked as passphrase_asked_by_dec}
 use Rattle.scrypt_run.specs.Encrypting.{EncryptRefused, EncryptSucceeds, StartRefused, TextNotOpened, WriteRefused, costs_refusal_of, passphrase_asked, salt_asked, salt_used}
 use Rattle.scrypt_run.specs.Inspecting.{InspectRefused, InspectSucceeds}
 use Rattle.scrypt_run.specs.Laws.{IsFromOutside, IsRefusedFromOutside, WroteAnEncryption}
@@ -30,7 +30,7 @@ one_decryption : (task : Task) (before a b : Seen) → DecryptSucceeds task befo
 one_decryption task before a b ha hb =
     let pulled = passphrase_asked_by_dec task before in
     ha.decrypted.released
-    ∙ ap (λ p. after_passing (text_behind p (take 96 before.input)) (length pulled.input) (after_open_output task.outfile pulled))
+    ∙ ap (λ p. after_passing (text_after p (take 96 before.input)) (length pulled.input) (after_open_output task.outfile pulled))
     (one_passphrase _ ha.passphrase hb.passphrase ha.given hb.given)
     ∙ sym hb.decrypted.released
 

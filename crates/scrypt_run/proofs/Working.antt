@@ -1,4 +1,4 @@
--- The derivation of a run, said of the host before it; and which ends come behind it.
+-- The derivation of a run, said of the host before it; and which ends come after it.
 use Rattle.std.proofs.Common.{◌≡◌, ◌∙◌, ◌+◌, inl, inr, ℕ, List, Bool, true, false, Option, None, Some, ap, ap₂, sym, subst, refl}
 use Rattle.std.proofs.lemmas.Option.{none-some}
 use Rattle.romix.specs.Allowance.{with_keep_of}
@@ -76,7 +76,7 @@ is_false false h = refl
 pub early_of : (r : ScryptRefusal) (s : Seen) → (EndsAfterWork r s → ⊥) → follows_work r ≡ false
 early_of r s before = is_false (follows_work r) (λ late. before (inl late))
 
--- where no output was opened, what comes behind the work is a late refusal
+-- where no output was opened, what comes after the work is a late refusal
 pub late_of : (r : ScryptRefusal) (s : Seen) → s.output_opened ≡ None → EndsAfterWork r s → follows_work r ≡ true
 late_of r s unopened (inl late) = late
 late_of r s unopened (inr opened) = absurd (opened unopened)
@@ -91,7 +91,7 @@ front_unopened r first infile before after (inl (is, inl same)) = same_output _ 
 front_unopened r first infile before after (inl (is, inr cut)) = same_output _ after cut.reads
 front_unopened r first infile before after (inr told) = same_output _ after told.1
 
--- ---- behind it: every end from the output's opening on
+-- ---- after it: every end from the output's opening on
 
 opened_after : (r : ScryptRefusal) (outfile : Option Text) (after : Seen) → after.output_opened ≡ Some outfile → EndsAfterWork r after
 opened_after r outfile after opened = inr (λ none. none-some outfile (sym none ∙ opened))

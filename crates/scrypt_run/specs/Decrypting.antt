@@ -11,9 +11,9 @@ use Rattle.scrypt_run.specs.Text.{EndsText}
 use Rattle.scrypt_run.specs.declared.refusal.ScryptRefusal.{ScryptRefusal}
 use Rattle.scrypt_run.specs.declared.refusal.ScryptRefusal.TheVariants as refusal
 
--- ---- the steps behind the first 96 bytes: `front` are these, and the input of `before` are the bytes behind them
+-- ---- the steps after the first 96 bytes: `front` are these, and the input of `before` are the bytes after them
 
--- no passphrase, no memory, or another passphrase than the file's; `line` is the first line of the passphrase's source
+-- no passphrase, no memory, or a wrong passphrase; `line` is the first line of the passphrase's source
 abbrev pub OpenRefused : ScryptRefusal → Option (List ℕ) → List ℕ → Type 0
 OpenRefused r line front =
     PassphraseRefused r line
@@ -21,14 +21,14 @@ OpenRefused r line front =
     ⊎ ((r ≡ refusal.WrongPassphrase) × (passphrase : List ℕ) × HasPassphrase line passphrase
     × (HasRightHeaderCode front passphrase → ⊥))
 
--- the text that the first 96 bytes and the bytes behind them release
-abbrev pub text_behind : List ℕ → List ℕ → List ℕ → List ℕ
-text_behind passphrase front more = released_text (front ++ more) passphrase
+-- the text that the first 96 bytes and the bytes after them release
+abbrev pub text_after : List ℕ → List ℕ → List ℕ → List ℕ
+text_after passphrase front more = released_text (front ++ more) passphrase
 
 -- the whole input was read, and the text that it releases was written under the output's name
 abbrev pub AllReleased : List ℕ → List ℕ → Option Text → Seen → Seen → Type 0
 AllReleased passphrase front outfile before after =
-    after ≡ after_passing (text_behind passphrase front) (length before.input) (after_open_output outfile before)
+    after ≡ after_passing (text_after passphrase front) (length before.input) (after_open_output outfile before)
 
 -- the text of an encryption was written
 pub record Decrypted (passphrase front : List ℕ) (outfile : Option Text) (before after : Seen) : Type 0 where
@@ -45,7 +45,7 @@ pub record IsDamaged (passphrase front : List ℕ) (outfile : Option Text) (befo
 abbrev pub ReleaseRefused : ScryptRefusal → List ℕ → List ℕ → Option Text → Seen → Seen → Type 0
 ReleaseRefused r passphrase front outfile before after =
     ((r ≡ refusal.OutputFault) × (after ≡ before))
-    ⊎ EndsText r (2 ^ 60 + 32) 4128 (text_behind passphrase front) (after_open_output outfile before) after
+    ⊎ EndsText r (2 ^ 60 + 32) 4128 (text_after passphrase front) (after_open_output outfile before) after
     ⊎ ((r ≡ refusal.Damaged) × IsDamaged passphrase front outfile before after)
 
 -- ---- the whole run

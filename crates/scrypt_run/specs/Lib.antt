@@ -11,3 +11,4 @@ pub mod Inspecting
 pub mod Work
 pub mod Run
 pub mod Laws
+pub mod Inside

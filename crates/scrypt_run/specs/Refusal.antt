@@ -1,7 +1,7 @@
 -- The refusals of scrypt: the line of each, and the count of the host's failures that it raises.
 use Rattle.std.specs.Prelude.{◌≡◌, Bool, true, false, codes}
 use Rattle.encfile.specs.Front.{FrontRefusal}
-use Rattle.encfile.specs.Front.FrontRefusal.{KeepAboveN, NotScryptData, OtherPassphrase, OtherVersion, TooMuchMemory, TooMuchWork}
+use Rattle.encfile.specs.Front.FrontRefusal.{KeepAboveN, NotScryptData, WrongPassphrase, UnsupportedVersion, TooMuchMemory, TooMuchWork}
 use Rattle.host.specs.Seen.{Text}
 use Rattle.host.specs.Faults.{Faults, input_failed, output_failed, secret_failed, salt_failed}
 use Rattle.scrypt_run.specs.declared.refusal.ScryptRefusal.{ScryptRefusal}
@@ -28,7 +28,7 @@ may_follow_work refusal.OutputFault = true
 may_follow_work refusal.TooLong = true
 may_follow_work r = false
 
--- whether the refusal is told behind the derivation alone: of those that may follow work S12 may come before it, too
+-- whether the refusal is told after the derivation alone: of those that may follow work S12 may come before it, too
 abbrev pub follows_work : ScryptRefusal → Bool
 follows_work refusal.WrongPassphrase = true
 follows_work refusal.Damaged = true
@@ -39,11 +39,11 @@ follows_work r = false
 -- the refusal of a file's first 96 bytes
 abbrev pub refusal_of : FrontRefusal → ScryptRefusal
 refusal_of NotScryptData = refusal.NotScryptData
-refusal_of OtherVersion = refusal.UnsupportedVersion
+refusal_of UnsupportedVersion = refusal.UnsupportedVersion
 refusal_of KeepAboveN = refusal.KeepAboveN
 refusal_of TooMuchMemory = refusal.MemoryLimit
 refusal_of TooMuchWork = refusal.WorkLimit
-refusal_of OtherPassphrase = refusal.WrongPassphrase
+refusal_of WrongPassphrase = refusal.WrongPassphrase
 
 -- the line of a refusal
 abbrev pub line_of : ScryptRefusal → Text

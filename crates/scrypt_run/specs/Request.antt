@@ -3,7 +3,7 @@ use Rattle.std.specs.Prelude.{◌≡◌, ◌^◌, ◌≤◌, true, List, ℕ, Op
 use Rattle.std.specs.Borrow.{Bor}
 use Rattle.romix.specs.Allowance.{Allowance}
 use Rattle.romix.specs.Costs.{Parameters}
-use Rattle.romix.specs.SparseCosts.{SparseFitsMemory, SparseParameters, cores_bound, is_keep}
+use Rattle.romix.specs.SparseCosts.{is_keep}
 use Rattle.romix.specs.declared.limits.Limits.{Limits}
 use Rattle.host.specs.Seen.{SecretSource, Text}
 use Rattle.host.specs.Secret.{source_of}
@@ -36,11 +36,6 @@ pub data Request : Type 0 where
 -- what the derivation of a task may take
 abbrev pub allowance_of : Task → Allowance
 allowance_of task = record { limits = task.limits; keep = task.keep }
-
--- the limits admit the costs with S
-pub record IsAdmitted (sparse : SparseParameters) (limits : Limits) : Type 0 where
-  pub memory : SparseFitsMemory sparse limits.max_bytes
-  pub work : cores_bound sparse ≤ limits.max_ops
 
 -- -M is in its range, and S is a power of two from 1 to 1,024
 pub record HasAllowedLimits (task : Task) : Type 0 where

@@ -3,7 +3,8 @@ ghost use Rattle.std.specs.Prelude.{◌≡◌, ◌≤◌, ◌^◌, Some, None, t
 ghost use Rattle.romix.specs.SparseCosts.{cores_bound, is_keep};
 ghost use Rattle.encfile.specs.Front.{costs_refusal};
 ghost use Rattle.scrypt_run.specs.Refusal.{RaisesNoCount, follows_work, refusal_of};
-ghost use Rattle.scrypt_run.specs.Request.{IsAdmitted, allowance_of, task_seen};
+ghost use Rattle.scrypt_run.specs.Request.{allowance_of, task_seen};
+ghost use Rattle.scrypt_run.specs.Inside.Admission.{IsAdmitted};
 
 use crate::refusal::ScryptRefusal;
 use crate::request::Task;
@@ -12,7 +13,7 @@ use std::alloc::{AllocError, Global};
 
 /// The costs over a table of which every S-th row is kept, if S is at most N and the limits admit
 /// them; or the first refusal that holds.
-pub fn admit(costs: &Costs, task: &Task<'_>) -> Result<Sparse, ScryptRefusal>
+pub(crate) fn admit(costs: &Costs, task: &Task<'_>) -> Result<Sparse, ScryptRefusal>
     requires power { is_keep task.now.keep ≡ true }
     ensures costs { IfOk result (λ sparse. sparse.costs ≡ costs.now) }
     ensures keep { IfOk result (λ sparse. sparse.keep ≡ task.now.keep) }
@@ -39,7 +40,11 @@ pub fn admit(costs: &Costs, task: &Task<'_>) -> Result<Sparse, ScryptRefusal>
 
 /// Takes the memory of a derivation of costs that the limits of the request admit: here and nowhere
 /// else, so never before the limits were tested.
-pub fn reserve(alloc: Global, sparse: &Sparse, limits: &Limits) -> Result<Workspace, AllocError>
+pub(crate) fn reserve(
+    alloc: Global,
+    sparse: &Sparse,
+    limits: &Limits,
+) -> Result<Workspace, AllocError>
     requires allowed { limits.now.max_bytes ≤ 2 ^ 40 }
     requires admitted { IsAdmitted sparse.now limits.now }
     ensures same { IfOk result (λ w. w.sparse ≡ sparse.now) }

@@ -9,10 +9,11 @@ ghost use Rattle.encfile.specs.Header.{IsHeaderOf, costs_of};
 ghost use Rattle.host.specs.Faults.{AreBelow};
 ghost use Rattle.host.specs.Secret.{source_of};
 ghost use Rattle.host.specs.Seen.{IsFresh, after_ask};
-ghost use Rattle.scrypt_run.specs.Decrypting.{DecryptRefused, DecryptSucceeds, Decrypted, OpenRefused, ReleaseRefused, text_behind};
+ghost use Rattle.scrypt_run.specs.Decrypting.{DecryptRefused, DecryptSucceeds, Decrypted, OpenRefused, ReleaseRefused, text_after};
 ghost use Rattle.scrypt_run.specs.Passphrase.{HasPassphrase, first_line_at};
 ghost use Rattle.scrypt_run.specs.Refusal.{counted_by, follows_work, may_follow_work};
-ghost use Rattle.scrypt_run.specs.Request.{HasAllowedLimits, IsAdmitted, allowance_of, task_seen, text_of};
+ghost use Rattle.scrypt_run.specs.Request.{HasAllowedLimits, allowance_of, task_seen, text_of};
+ghost use Rattle.scrypt_run.specs.Inside.Admission.{IsAdmitted};
 ghost use Rattle.scrypt_run.specs.Steps.{after_passing};
 ghost use Rattle.scrypt_run.specs.Text.{EndsText};
 ghost use Rattle.scrypt_run.specs.Work.{DecryptWorks, DerivesOnce, EndsAfterWork};
@@ -91,11 +92,11 @@ fn release<H: Host>(host: &mut H, dec: &mut Dec) -> Result<(), ScryptRefusal>
         → HasRead dec.new passphrase (front ++ (H.seen host.old).input)) }
     ensures released { IsTrue H.tells → OnOk result ((passphrase front : List ℕ)
         → HasRead dec.old passphrase front
-        → H.seen host.new ≡ after_passing (text_behind passphrase front)
+        → H.seen host.new ≡ after_passing (text_after passphrase front)
         (length (H.seen host.old).input) (H.seen host.old)) }
     ensures refused { IsTrue H.tells → IfErr result (λ r. (passphrase front : List ℕ)
         → HasRead dec.old passphrase front
-        → EndsText r (2 ^ 60 + 32) 4128 (text_behind passphrase front)
+        → EndsText r (2 ^ 60 + 32) 4128 (text_after passphrase front)
         (H.seen host.old) (H.seen host.new)) }
     ensures late { IfErr result (λ r. may_follow_work r ≡ true) }
 {
@@ -152,7 +153,7 @@ fn finish<H: Host>(host: &mut H, outfile: Option<&str>, dec: Dec) -> Result<(), 
 /// The output is opened once the passphrase is found right, and no refusal after that takes back
 /// what was written. The text can be trusted only after `Ok`, since the final code is tested when
 /// all of it is written.
-pub fn decrypt<H: Host>(
+pub(crate) fn decrypt<H: Host>(
     alloc: Global,
     host: &mut H,
     task: &Task<'_>,

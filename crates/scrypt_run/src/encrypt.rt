@@ -9,7 +9,8 @@ ghost use Rattle.host.specs.Seen.{IsFresh, after_ask, after_open_input};
 ghost use Rattle.scrypt_run.specs.Encrypting.{EncryptRefused, EncryptSucceeds, IsEncrypted, StartRefused, TextNotOpened, WriteRefused, after_salting, costs_refusal_of, salt_used};
 ghost use Rattle.scrypt_run.specs.Passphrase.{HasPassphrase, first_line_at};
 ghost use Rattle.scrypt_run.specs.Refusal.{counted_by, follows_work, may_follow_work};
-ghost use Rattle.scrypt_run.specs.Request.{HasAllowedLimits, IsAdmitted, encryption_seen, task_seen, text_of};
+ghost use Rattle.scrypt_run.specs.Request.{HasAllowedLimits, encryption_seen, task_seen, text_of};
+ghost use Rattle.scrypt_run.specs.Inside.Admission.{IsAdmitted};
 ghost use Rattle.scrypt_run.specs.Steps.{after_passing};
 ghost use Rattle.scrypt_run.specs.Text.{EndsText};
 ghost use Rattle.scrypt_run.specs.Work.{EncryptWorks, EndsAfterWork};
@@ -42,9 +43,8 @@ fn open_text<H: Host>(host: &mut H, asked: &Encryption<'_>) -> Result<Sparse, Sc
     ensures early { IfErr result (λ r. follows_work r ≡ false) }
 {
     let sparse = admit(&asked.costs, &asked.task)?;
-    let Ok(()) = host.open_input(asked.task.infile) else {
-        return Err(ScryptRefusal::InputFault);
-    };
+    host.open_input(asked.task.infile)
+        .map_err(|_| ScryptRefusal::InputFault)?;
     Ok(sparse)
 }
 
@@ -65,14 +65,12 @@ fn read_salt<H: Host>(host: &mut H, salt: Option<[u8; 32]>) -> Result<[u8; 32], 
         return Ok(salt);
     }
     let mut salt = [0u8; 32];
-    let Ok(()) = host.salt(&mut salt) else {
-        return Err(ScryptRefusal::SaltFault);
-    };
+    host.salt(&mut salt).map_err(|_| ScryptRefusal::SaltFault)?;
     Ok(salt)
 }
 
-// Reads the passphrase and the salt, takes the memory of the derivation, and derives the keys. All
-// that may be refused is behind when the work begins.
+// Reads the passphrase and the salt, takes the memory of the derivation, and derives the keys. Nothing
+// more may be refused when the work begins.
 fn start<H: Host>(
     alloc: Global,
     host: &mut H,
@@ -199,7 +197,7 @@ fn write_file<H: Host>(host: &mut H, outfile: Option<&str>, enc: Enc) -> Result<
 /// output can't be opened. Then, as the file is written, S12, S13 and S14. What was written stays.
 /// The work is one derivation with the request's costs, salt and S. It begins when S15 can come no
 /// more, and it is done before the output is opened.
-pub fn encrypt<H: Host>(
+pub(crate) fn encrypt<H: Host>(
     alloc: Global,
     host: &mut H,
     asked: &Encryption<'_>,

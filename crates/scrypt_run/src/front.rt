@@ -6,7 +6,8 @@ ghost use Rattle.host.specs.Faults.{AreBelow, input_failed};
 ghost use Rattle.host.specs.Seen.{after_pull};
 ghost use Rattle.scrypt_run.specs.Front.{FrontRefused};
 ghost use Rattle.scrypt_run.specs.Refusal.{counted_by, follows_work, refusal_of};
-ghost use Rattle.scrypt_run.specs.Request.{HasAllowedLimits, IsAdmitted, allowance_of, task_seen, text_of};
+ghost use Rattle.scrypt_run.specs.Request.{HasAllowedLimits, allowance_of, task_seen, text_of};
+ghost use Rattle.scrypt_run.specs.Inside.Admission.{IsAdmitted};
 ghost use Rattle.scrypt_run.specs.Steps.{after_reading};
 
 use crate::admission::admit;
@@ -81,12 +82,7 @@ fn read_header(front: &[u8; 96]) -> Result<Header, ScryptRefusal>
     ensures salt { IfOk result (λ header. header.salt ≡ salt_of front.now) }
     ensures early { IfErr result (λ r. follows_work r ≡ false) }
 {
-    let mut bytes = [0u8; 64];
-    bytes.copy_from_slice(&front[..64]);
-    match Header::read(&bytes) {
-        Ok(header) => Ok(header),
-        Err(fault) => Err(header_refusal(fault)),
-    }
+    Header::of_front(front).map_err(header_refusal)
 }
 
 // Holds the costs of a header against the limits.
@@ -106,7 +102,7 @@ fn test_limits(front: &[u8; 96], header: &Header, task: &Task<'_>) -> Result<Spa
 }
 
 /// Opens the input, reads its first 96 bytes, and reads the header in them.
-pub fn open_front<H: Host>(
+pub(crate) fn open_front<H: Host>(
     host: &mut H,
     infile: Option<&str>,
 ) -> Result<([u8; 96], Header), ScryptRefusal>
@@ -140,7 +136,7 @@ pub fn open_front<H: Host>(
 
 /// Opens the input, reads its first 96 bytes and the header in them, and holds its costs against
 /// the limits.
-pub fn open_admitted_front<H: Host>(
+pub(crate) fn open_admitted_front<H: Host>(
     host: &mut H,
     task: &Task<'_>,
 ) -> Result<([u8; 96], Header, Sparse), ScryptRefusal>

@@ -8,7 +8,7 @@ ghost use Rattle.scrypt_run.specs.Request.{text_of};
 
 use crate::front::open_front;
 use crate::refusal::ScryptRefusal;
-use host::{Host, HostFault, write_output};
+use host::{Host, write_output};
 use romix::Costs;
 use std::alloc::{AllocError, Global};
 
@@ -33,7 +33,7 @@ fn costs_line(alloc: Global, costs: &Costs) -> Result<String, AllocError>
 
 /// Writes a line with the costs of the input of this name to standard output, which is opened once the
 /// header was read and the line stands in memory.
-pub fn inspect<H: Host>(
+pub(crate) fn inspect<H: Host>(
     alloc: Global,
     host: &mut H,
     infile: Option<&str>,
@@ -48,11 +48,6 @@ pub fn inspect<H: Host>(
         InspectRefused r (text_of infile.entry) (H.seen host.old) (H.seen host.new)) }
 {
     let (_, header) = open_front(host, infile)?;
-    let Ok(line) = costs_line(alloc, header.costs()) else {
-        return Err(ScryptRefusal::OutOfMemory);
-    };
-    match write_output(host, line.as_bytes()) {
-        Ok(()) => Ok(()),
-        Err(HostFault) => Err(ScryptRefusal::OutputFault),
-    }
+    let line = costs_line(alloc, header.costs()).map_err(|_| ScryptRefusal::OutOfMemory)?;
+    write_output(host, line.as_bytes()).map_err(|_| ScryptRefusal::OutputFault)
 }

@@ -4,15 +4,44 @@
 //! |---|---|
 //! | `admission` | the costs held against S and the limits |
 //! | `encrypt` | `enc`, in the order of its refusals |
-//! | `decrypt` | `dec`, likewise, behind the first 96 bytes |
+//! | `decrypt` | `dec`, likewise, from the first 96 bytes on |
 //! | `front` | the first 96 bytes of a file, for `dec` and `info` |
 //! | `inspect` | `info` |
 //! | `passphrase` | the first line of a secret source |
+//! | `run_request` | the run of a request, whichever of the three it is |
+//!
+//! A text there and back, over a host in memory; a run asks a host for an input once, so there are two:
+//!
+//! ```
+//! let task = Task {
+//!     limits: Limits {
+//!         max_bytes: 1 << 20,
+//!         max_ops: 1 << 20,
+//!     },
+//!     keep: 1,
+//!     source: Source::StdinOnce,
+//!     infile: Some("in"),
+//!     outfile: Some("out"),
+//! };
+//! let encryption = Encryption {
+//!     costs: Costs::new(4, 1, 1)?,
+//!     salt: None,
+//!     task,
+//! };
+//! let mut ticks = Ticks::new();
+//! let mut host = MemoryHost::new(alloc, b"hello".to_vec(alloc)?, b"pw".to_vec(alloc)?, [7; 32]);
+//! run(alloc, &mut host, &Request::Encrypt(encryption), &mut ticks)?;
+//! let file = host.output().to_vec(alloc)?;
+//! assert_eq!(rt; file.len(), 133);
+//!
+//! let mut host = MemoryHost::new(alloc, file, b"pw".to_vec(alloc)?, [7; 32]);
+//! run(alloc, &mut host, &Request::Decrypt(task), &mut ticks)?;
+//! assert_eq!(rt; host.output(), b"hello".as_slice());
+//! ```
 #![tactic(auto)]
 
 mod admission;
 mod decrypt;
-mod dispatch;
 mod encrypt;
 mod front;
 mod inspect;
@@ -21,9 +50,12 @@ mod laws;
 mod passphrase;
 mod refusal;
 mod request;
+mod run_request;
+#[cfg(test)]
+mod tests;
 #[cfg(test)]
 mod vectors;
 
-pub use dispatch::run;
 pub use refusal::ScryptRefusal;
 pub use request::{Encryption, Request, Task};
+pub use run_request::run;

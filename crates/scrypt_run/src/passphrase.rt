@@ -12,7 +12,7 @@ use std::marker::Model;
 
 /// A passphrase of 0 to 2,048 bytes. Contracts see its bytes.
 #[derive(Drop)]
-pub struct Passphrase {
+pub(crate) struct Passphrase {
     // One byte more than a passphrase has tells that the line is too long.
     room: [u8; 2049],
     len: usize,
@@ -28,7 +28,7 @@ impl Model for Passphrase {
 
 impl Passphrase {
     /// Its bytes.
-    pub fn as_slice(&self) -> &[u8]
+    pub(crate) fn as_slice(&self) -> &[u8]
         ensures bytes { result.now ≡ self.now }
     {
         &self.room[..self.len]
@@ -54,7 +54,7 @@ fn line_length(bytes: &[u8]) -> usize
 }
 
 /// Reads the passphrase from its source. No source was asked before.
-pub fn read_passphrase<H: Host>(
+pub(crate) fn read_passphrase<H: Host>(
     host: &mut H,
     source: Source<'_>,
 ) -> Result<Passphrase, ScryptRefusal>

@@ -25,7 +25,7 @@ pub enum ScryptRefusal {
     StandardInputTwice,
     /// S2d: infile and outfile are the same text. `scrypt: infile and outfile have the same name`
     SameName,
-    /// S3: no passphrase source, two of them, or another method.
+    /// S3: no passphrase source, two of them, or an unknown method.
     /// `scrypt: one passphrase source is needed: -P, dev:stdin-once, env:NAME or file:NAME`
     PassphraseSource,
     /// S4a: the host fails to give the passphrase. `scrypt: passphrase cannot be read`
@@ -109,7 +109,7 @@ impl ScryptRefusal {
 
 /// The refusal of a header's fault.
 #[tactic(auto, unfolding(encfile::specs::Front::header_refusal))]
-pub fn header_refusal(fault: HeaderFault) -> ScryptRefusal
+pub(crate) fn header_refusal(fault: HeaderFault) -> ScryptRefusal
     ensures refusal { result ≡ refusal_of (header_refusal fault) }
     ensures early { follows_work result ≡ false }
 {

@@ -1,4 +1,4 @@
-//! The words behind a program's name.
+//! The words after a program's name.
 use std::env;
 use std::env::{Env, FillError};
 use std::io::ErrorKind;
@@ -12,7 +12,7 @@ pub enum WordsFault {
     OutOfMemory,
 }
 
-/// The words behind the program's name, which may itself be of any bytes. They come as a whole or
+/// The words after the program's name, which may itself be of any bytes. They come as a whole or
 /// not at all.
 pub fn words(rt: HostRuntime) -> Result<Vec<String>, WordsFault> {
     words_of(&rt)

@@ -1,4 +1,4 @@
-//! What the programs share: the system as a host, and the words behind a program's name.
+//! What the programs share: the system as a host, and the words after a program's name.
 #![tactic(auto)]
 
 mod arguments;

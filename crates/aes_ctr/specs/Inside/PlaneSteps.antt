@@ -1,5 +1,5 @@
 -- What the steps of transposing and of ShiftRows do to planes.
-use Rattle.std.specs.Prelude.{◌≡◌, ℕ, ◌+◌, ◌-◌, ◌/◌, ◌%◌, ◌==◌, ◌<◌, Bool, List, cond}
+use Rattle.std.specs.Prelude.{◌≡◌, ℕ, ◌+◌, ◌-◌, ◌/◌, ◌%◌, ◌==◌, ◌<◌, Bool, List, if◌then◌else◌}
 use Rattle.std.specs.Int.{bit_at}
 use Rattle.aes_ctr.specs.Planes.{bits, plane}
 use Rattle.aes_ctr.specs.Aes.{byte_at, state_of}
@@ -7,11 +7,13 @@ use Rattle.aes_ctr.specs.Aes.{byte_at, state_of}
 -- bit b of what f and g make of a byte: bit i through f, if it is `first`, else bit j through g
 abbrev pub AreParts : (ℕ → ℕ) → (ℕ → ℕ) → Bool → ℕ → ℕ → ℕ → Type 0
 AreParts f g first b i j =
-    (byte : ℕ) → byte < 256 → (bit_at (f byte) b ≡ cond first (bit_at byte i) 0) × (bit_at (g byte) b ≡ cond first 0 (bit_at byte j))
+    (byte : ℕ) → byte < 256 → (bit_at (f byte) b ≡ (if first then bit_at byte i else 0))
+    × (bit_at (g byte) b ≡ (if first then 0 else bit_at byte j))
 
 -- x, where its binary digit of weight d is exchanged for the one of y
 abbrev pub with_digit : ℕ → ℕ → ℕ → ℕ
-with_digit d x y = cond (y / d % 2 == 0) (cond (x / d % 2 == 0) x (x - d)) (cond (x / d % 2 == 0) (x + d) x)
+with_digit d x y =
+    if y / d % 2 == 0 then (if x / d % 2 == 0 then x else x - d) else (if x / d % 2 == 0 then x + d else x)
 
 -- each bit of the result comes from the bit and the plane whose numbers have exchanged their digits of weight d
 abbrev pub AreSwapped : ℕ → List (List ℕ) → List (List ℕ) → Type 0

@@ -1,12 +1,36 @@
 -- Sixteen words in four vectors of four, as the compression function holds them.
 use Rattle.std.specs.Prelude.{ℕ, List, [], ◌∷◌, ◌+◌, slice_index}
 use Rattle.blake.specs.Words.{words_at, with_words_at}
+use Rattle.four_words.specs.Inside.FourWords.{sixteen_words, words_in_order}
 use Rattle.argon.specs.Compression.{permutation, row_places}
+use Rattle.argon.specs.declared.permutation.Sixteen.{Sixteen}
 
--- the words with the same number in each of four vectors
-abbrev pub words_across : ℕ → List ℕ → List ℕ → List ℕ → List ℕ → List ℕ
-words_across number a b c d =
-    slice_index a number ∷ slice_index b number ∷ slice_index c number ∷ slice_index d number ∷ []
+-- all words, one vector after another
+abbrev pub words_by_rows : Sixteen → List ℕ
+words_by_rows x = sixteen_words x.a x.b x.c x.d
+
+-- the words with the same number in each of the four vectors
+abbrev pub words_across : ℕ → Sixteen → List ℕ
+words_across number x =
+    slice_index x.a number ∷ slice_index x.b number ∷ slice_index x.c number ∷ slice_index x.d number ∷ []
+
+-- the vectors turned, so that the words of a diagonal stand across them
+abbrev pub by_diagonals : Sixteen → Sixteen
+by_diagonals x = record {
+  a = x.a;
+  b = words_in_order x.b 1 2 3 0;
+  c = words_in_order x.c 2 3 0 1;
+  d = words_in_order x.d 3 0 1 2;
+}
+
+-- and turned back
+abbrev pub by_columns : Sixteen → Sixteen
+by_columns x = record {
+  a = x.a;
+  b = words_in_order x.b 3 0 1 2;
+  c = words_in_order x.c 2 3 0 1;
+  d = words_in_order x.d 1 2 3 0;
+}
 
 -- two places that stand together, and the two that stand sixteen places on
 abbrev pub pair_places : ℕ → List ℕ

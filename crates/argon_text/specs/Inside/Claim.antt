@@ -2,7 +2,7 @@
 use Rattle.argon_text.specs.Value.{Value}
 use Rattle.argon_text.specs.declared.claim.Claim.{Claim}
 
--- the value, by the bytes behind the references
+-- the value, by the bytes that are lent
 abbrev pub value_claimed : Claim → Value
 value_claimed claim = record {
   kind = claim.kind;

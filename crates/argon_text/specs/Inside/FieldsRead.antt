@@ -3,7 +3,7 @@ use Rattle.std.specs.Prelude.{option_map}
 use Rattle.argon_text.specs.Grammar.{Fields}
 use Rattle.argon_text.specs.declared.fields.Fields.{Fields as Borrowed}
 
--- the bytes behind the references
+-- the bytes that are lent
 abbrev pub fields_of : Borrowed → Fields
 fields_of fields = record {
   kind = fields.kind;

@@ -18,7 +18,7 @@ abbrev pub Steps : {X Y : Type 0} → (X → Y) → Option X → List ℕ → Op
 Steps view None left step = step ≡ None
 Steps view (Some x) left step = step ≡ Some (view x, left)
 
--- what stands behind a label
+-- what stands after a label
 abbrev pub after : List ℕ → List ℕ → Option (List ℕ)
 after label s = if bytes_eq (take (length label) s) label then Some (drop (length label) s) else None
 
@@ -26,7 +26,7 @@ after label s = if bytes_eq (take (length label) s) label then Some (drop (lengt
 abbrev pub cut : ℕ → List ℕ → Option (List ℕ × List ℕ)
 cut mark s = option_map (λ place. (take place s, drop (place + 1) s)) (position (λ x. x == mark) s)
 
--- the digits of a number behind a label, and what stands after the byte `mark`
+-- the digits of a number after a label, and what stands after the byte `mark`
 unfoldable pub number_at : List ℕ → ℕ → List ℕ → Option (List ℕ × List ℕ)
 number_at label mark s = do
   field ← after label s

@@ -2,7 +2,7 @@
 use super::reference_texts::{KNOWN, ROWS};
 use super::refusing::Refusing;
 use crate::claim::Claim;
-use crate::verifying::verify_in;
+use crate::verify_password::verify_in;
 use crate::{Encoded, ReadFault, VerifyFault, verify};
 use argon::Ticks;
 use std::alloc::Global;

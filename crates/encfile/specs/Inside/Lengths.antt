@@ -7,6 +7,6 @@ use Rattle.encfile.specs.declared.enc.Enc.{Enc}
 abbrev pub length_encrypted : Enc → ℕ
 length_encrypted enc = enc.ctr.position
 
--- how many bytes of the file it has read behind the first 96
+-- how many bytes of the file it has read after the first 96
 unfoldable pub length_read : Dec → ℕ
 length_read dec = dec.ctr.position + length dec.held

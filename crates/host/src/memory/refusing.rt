@@ -107,7 +107,7 @@ fn told_of(alloc: Global, call: Call, refused: u32) -> Result<Told, AllocError> 
     })
 }
 
-// A call whose growth is refused tells so and leaves nothing behind: a line takes two, any other call one.
+// A call whose growth is refused tells so and changes nothing: a line takes two, any other call one.
 #[test]
 fn each_growth_is_refused(rt: HostRuntime) -> Result<(), Fail> {
     for (call, growths) in [

@@ -5,5 +5,5 @@ use Rattle.argon.proofs.block.put_row.Goals as goal
 pub returns : goal.returns
 returns c = record {
   value = rw (c.put_four-4.ensures.value, c.put_four-3.ensures.value, c.put_four-2.ensures.value, c.put_four.ensures.value)
-      (row_stored c.args.block.now c.args.new.0 c.args.new.1 c.args.new.2 c.args.new.3 (16 * c.args.number) (omega arith));
+      (row_stored c.args.block.now c.args.new.a c.args.new.b c.args.new.c c.args.new.d (16 * c.args.number) (omega arith));
 }

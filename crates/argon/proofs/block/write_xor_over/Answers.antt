@@ -1,6 +1,6 @@
 use Rattle.std.proofs.Common.{◌≡◌, ◌*◌, arith, length}
-use Rattle.argon.specs.Compression.{xor_words}
-use Rattle.argon.proofs.XoredWords.{all_xored, over_left, over_more, length-xor_words}
+use Rattle.four_words.specs.Words.{xored_words}
+use Rattle.argon.proofs.XoredWords.{all_xored, over_left, over_more, length-xored_words}
 use Rattle.argon.proofs.block.write_xor_over.Goals as goal
 
 pub words-preserved : goal.words-preserved
@@ -16,7 +16,7 @@ words-preserved c =
 pub returns : goal.returns
 returns c = record {
   value = let all : 4 * c.words.i ≡ 128 = omega arith in
-      let xored = xor_words c.args.first.now c.args.second.now in
-      let long : length xored ≡ 128 = length-xor_words c.args.first.now c.args.second.now 128 (omega arith) (omega arith) in
+      let xored = xored_words c.args.first.now c.args.second.now in
+      let long : length xored ≡ 128 = length-xored_words c.args.first.now c.args.second.now 128 (omega arith) (omega arith) in
       all_xored xored c.args.out.now c.words.out long (omega arith) (omega (arith, c.words.invariant.long)) (rw all at c.words.invariant.done);
 }

@@ -1,10 +1,10 @@
 use Rattle.std.proofs.Common.{◌≡◌, ◌*◌, length, take, drop}
-use Rattle.argon.specs.Compression.{xor_words}
+use Rattle.four_words.specs.Words.{xored_words}
 use Rattle.argon.proofs.block.write_xor_over.Given as goal
 
 abbrev pub invariant-words : goal.invariant-words
 invariant-words l = record {
   long : length l.out ≡ 128;
-  done : take (4 * l.i) l.out ≡ xor_words (take (4 * l.i) (xor_words l.first l.second)) (take (4 * l.i) l.fn.out);
+  done : take (4 * l.i) l.out ≡ xored_words (take (4 * l.i) (xored_words l.first l.second)) (take (4 * l.i) l.fn.out);
   left : drop (4 * l.i) l.out ≡ drop (4 * l.i) l.fn.out;
 }

@@ -1,7 +1,7 @@
 use Rattle.std.proofs.Common.{ℕ, List, ◌*◌, ◌+◌, ◌/◌, ◌%◌, arith, ap, sym, ◌∙◌}
 use Rattle.blake.specs.Words.{along, words_at}
 use Rattle.argon.specs.Compression.{column_places, permutation}
-use Rattle.four_words.specs.Inside.FourWords.{sixteen_words}
+use Rattle.argon.specs.Inside.FourWords.{words_by_rows}
 use Rattle.argon.proofs.WordPlaces.{apart, column_keyed, placed}
 use Rattle.argon.proofs.compression.permute_two_columns.Goals as goal
 
@@ -12,8 +12,7 @@ returns c = record {
       let w : List ℕ = c.put_column.new.block in
       let here : List ℕ = column_places i in
       let there : List ℕ = column_places (i + 1) in
-      let r = c.permute.result.0 in
-      let new : List ℕ = sixteen_words r.0 r.1 r.2 r.3 in
+      let new : List ℕ = words_by_rows c.permute.result.0 in
       let kept = ap (λ (u : List ℕ). words_at u there) c.put_column.ensures.value
       ∙ apart (λ p. p / 2 % 8) i (i + 1) v here new there (column_keyed i (omega arith)) (column_keyed (i + 1) (omega arith)) (λ e. absurd (omega arith)) in
       let one = placed v v w _ _ here c.column.ensures.value c.permute.ensures.first c.put_column.ensures.value in

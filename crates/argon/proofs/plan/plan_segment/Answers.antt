@@ -11,9 +11,9 @@ use Rattle.argon.proofs.plan.plan_segment.Goals as goal
 pub loop-part-preserved : goal.loop-part-preserved
 loop-part-preserved c =
     let at = c.new-at.result in
-    let place = c.new-at.ensures.place in
+    let place = c.new-at.ensures in
     let free : c.new-at.result.is_independent ≡ true =
-    sym c.new-at.ensures.is_of.independent ∙ rw (place.0, place.1) c.requires.independent in
+    sym c.new-at.ensures.is_of.independent ∙ rw (place.pass, place.slice) c.requires.independent in
     let two : address_work c.new-at.result.is_independent 1 ≡ 2 = ap (λ (b : Bool). address_work b 1) free in (
       search rules,
       omega (arith, two, c.prepare_addresses.ensures.count, c.loop-part.invariant.1),
@@ -25,18 +25,18 @@ loop-part-preserved c =
 pub returns-clause-planned : goal.returns-clause-planned
 returns-clause-planned c = λ index low high.
     let at = c.new-at.result in
-    let place = c.new-at.ensures.place in
+    let place = c.new-at.ensures in
     let small : first_index at.pass at.slice ≤ 2 = first_index-le at.pass at.slice in
-    let first : first_index at.pass at.slice ≤ index = rw (place.0, place.1) low in
+    let first : first_index at.pass at.slice ≤ index = rw (place.pass, place.slice) low in
     let within : index < at.len = rw (← c.new-at.ensures.is_of.len) high in
     let end : index < index_after_parts at c.loop-part.part = omega (arith, c.address_count-part-end.ensures.value) in
-    rw (← place.0, ← place.1, ← place.2) (c.loop-part.invariant.2.planned index first end)
+    rw (← place.pass, ← place.slice, ← place.lane) (c.loop-part.invariant.2.planned index first end)
 
 pub returns-clause-kept : goal.returns-clause-kept
 returns-clause-kept c = λ index low.
     let at = c.new-at.result in
-    let place = c.new-at.ensures.place in
-    let first : index < first_index at.pass at.slice = rw (place.0, place.1) low in
+    let place = c.new-at.ensures in
+    let first : index < first_index at.pass at.slice = rw (place.pass, place.slice) low in
     c.loop-part.invariant.2.kept index first
 
 pub returns-clause-count : goal.returns-clause-count

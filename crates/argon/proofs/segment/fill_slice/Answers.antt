@@ -16,13 +16,13 @@ pub loop-lane-preserved : goal.loop-lane-preserved
 loop-lane-preserved c =
     let at = c.new.result in
     let d = c.args.params.now in
-    let place = c.new.ensures.place in
-    let work : segment_work d at.pass at.slice ≡ segment_work d c.args.pass c.args.slice = rw (place.0, place.1) refl in
+    let place = c.new.ensures in
+    let work : segment_work d at.pass at.slice ≡ segment_work d c.args.pass c.args.slice = rw (place.pass, place.slice) refl in
     let known : c.loop-lane.lane < c.args.params.now.lanes = omega (arith, c.lanes-lane-end.ensures.value) in (
       search rules,
       omega (arith, work, c.fill_segment.ensures.count),
       λ matrix next start.
-          (rw (place.0, place.1, place.2) at c.fill_segment.ensures.made) matrix (left_after_lanes d c.args.pass c.args.slice c.loop-lane.lane) next
+          (rw (place.pass, place.slice, place.lane) at c.fill_segment.ensures.made) matrix (left_after_lanes d c.args.pass c.args.slice c.loop-lane.lane) next
           (are_left_after d c.args.pass c.args.slice c.loop-lane.lane) (left_whole d c.args.pass c.args.slice c.loop-lane.lane known)
           (c.loop-lane.invariant.2 matrix next start)
           ∙ ap (blocks_where_left matrix) (lane_more d c.args.pass c.args.slice c.loop-lane.lane known),

@@ -4,7 +4,8 @@ use Rattle.std.proofs.Common.{◌≡◌, ◌∙◌, ℕ, suc, ◌+◌, ◌*◌, 
 use Rattle.sha2.specs.Sha256.{compress, digest_bytes, first_words, hash_after, rounds, schedule, sha256}
 use Rattle.macs.specs.HmacSha256.{hmac_sha256, key_block}
 use Rattle.macs.specs.Pbkdf2.{joined_blocks, pbkdf2}
-use Rattle.romix.specs.BlockMix.{block_mix, chain_block, every_second_output, xored_words}
+use Rattle.four_words.specs.Words.{xored_words}
+use Rattle.romix.specs.BlockMix.{block_mix, chain_block, every_second_output}
 use Rattle.romix.specs.Romix.{integerify, row_after, table_row}
 use Rattle.romix.specs.Salsa20.{double_rounds, quarter_round, quarter_round_at, quarter_rounds, salsa20_8}
 use Rattle.romix.specs.Scrypt.{part_at, words_of}

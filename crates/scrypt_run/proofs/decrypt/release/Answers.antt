@@ -5,9 +5,9 @@ use Rattle.encfile.specs.Decrypting.{HasRead}
 use Rattle.encfile.specs.Inside.Lengths.{length_read}
 use Rattle.encfile.proofs.Reading.{length-read}
 use Rattle.host.specs.Seen.{Seen}
-use Rattle.scrypt_run.specs.Decrypting.{text_behind}
+use Rattle.scrypt_run.specs.Decrypting.{text_after}
 use Rattle.scrypt_run.specs.Steps.{after_passing}
-use Rattle.scrypt_run.proofs.Decrypting.{length-first, length_read-below, length_read-more, text_behind-more, text_behind-nil}
+use Rattle.scrypt_run.proofs.Decrypting.{length-first, length_read-below, length_read-more, text_after-more, text_after-nil}
 use Rattle.scrypt_run.proofs.Passing.{fits_on, gives_length, left_on, pass_all, pass_none, pass_part, pass_whole, starts, take_on}
 use Rattle.scrypt_run.proofs.decrypt.release.Goals as goal
 
@@ -25,8 +25,8 @@ loop-n-init g c =
       left = λ t. ap (λ k. drop k s.input) none;
       holds = λ t passphrase front h. subst (λ k. HasRead dec passphrase (front ++ take k s.input)) none
           (subst (λ file. HasRead dec passphrase file) (sym (append-nil front)) h);
-      passes = λ t passphrase front h. subst (λ k. s ≡ after_passing (text_behind passphrase front) k s) none
-          (starts (text_behind passphrase front) s (text_behind-nil passphrase front (length-first dec passphrase front h c.requires.new)));
+      passes = λ t passphrase front h. subst (λ k. s ≡ after_passing (text_after passphrase front) k s) none
+          (starts (text_after passphrase front) s (text_after-nil passphrase front (length-first dec passphrase front h c.requires.new)));
     }
 
 pub returns-then-n-eq0-clause-read : goal.returns-then-n-eq0-clause-read
@@ -36,7 +36,7 @@ returns-then-n-eq0-clause-read g c = λ t passphrase front h.
     let i = c.loop-n.invariant in
     let j = length_read c.loop-n.dec in
     let none = c.in-Ok.ensures.some t (omega (arith, i.buf_long)) c.if-n-eq0.true in
-    let all : j ≡ length s.input = pass_all (text_behind passphrase front) j s before (i.passes t passphrase front h) none (i.within t) in
+    let all : j ≡ length s.input = pass_all (text_after passphrase front) j s before (i.passes t passphrase front h) none (i.within t) in
     subst (λ xs. HasRead c.loop-n.dec passphrase (front ++ xs)) (take_all j s.input (omega (arith, all))) (i.holds t passphrase front h)
 
 pub returns-in_default-feed-clause-refused : goal.returns-in_default-feed-clause-refused
@@ -60,7 +60,7 @@ returns-in_default-feed-clause-refused g c = λ t passphrase front h.
         within = fits_on j n s before (i.left t) (i.within t) (c.in-Ok.ensures.within t);
         too_long = reached;
         most = omega (arith, c.in-Ok.ensures.bound, i.buf_long);
-        passes = pass_none (text_behind passphrase front) j n s before pulled (i.passes t passphrase front h) (c.in-Ok.ensures.taken t);
+        passes = pass_none (text_after passphrase front) j n s before pulled (i.passes t passphrase front h) (c.in-Ok.ensures.taken t);
       },
     ))
 
@@ -98,11 +98,11 @@ loop-n-preserved g c =
       left = λ t. subst (λ k. after.input ≡ drop k s.input) fed
           (left_on j n s before pulled after (i.left t) (c.in-Ok.ensures.taken t) (ap (λ (w : Seen). w.input) (c.in-Ok-push_all.ensures.put t)));
       holds = λ t passphrase front h. subst (λ k. HasRead dec passphrase (front ++ take k s.input)) fed
-          (subst (λ xs. HasRead dec passphrase (front ++ xs)) (take_on (text_behind passphrase front) j n _ s before (i.passes t passphrase front h) (c.in-Ok.ensures.bytes t))
+          (subst (λ xs. HasRead dec passphrase (front ++ xs)) (take_on (text_after passphrase front) j n _ s before (i.passes t passphrase front h) (c.in-Ok.ensures.bytes t))
           (subst (λ file. HasRead dec passphrase file) (append_assoc front (take j s.input) _) (c.in-Ok-feed.ensures.read passphrase _ (i.holds t passphrase front h))));
-      passes = λ t passphrase front h. subst (λ k. after ≡ after_passing (text_behind passphrase front) k s) fed
-          (pass_whole (text_behind passphrase front) j n _ _ s before pulled after (i.passes t passphrase front h) (c.in-Ok.ensures.bytes t) (c.in-Ok.ensures.taken t)
-          (text_behind-more passphrase front (take j s.input) _ _ (c.in-Ok-feed.ensures.released passphrase _ (i.holds t passphrase front h))) (c.in-Ok-push_all.ensures.put t));
+      passes = λ t passphrase front h. subst (λ k. after ≡ after_passing (text_after passphrase front) k s) fed
+          (pass_whole (text_after passphrase front) j n _ _ s before pulled after (i.passes t passphrase front h) (c.in-Ok.ensures.bytes t) (c.in-Ok.ensures.taken t)
+          (text_after-more passphrase front (take j s.input) _ _ (c.in-Ok-feed.ensures.released passphrase _ (i.holds t passphrase front h))) (c.in-Ok-push_all.ensures.put t));
     }
 
 pub returns-in_default-push_all-clause-refused : goal.returns-in_default-push_all-clause-refused
@@ -116,8 +116,8 @@ returns-in_default-push_all-clause-refused g c = λ t passphrase front h.
     let n = c.in-Ok.n in
     let b = c.in_default-push_all.ensures.begun t in
     let passes = i.passes t passphrase front h in
-    let given = text_behind-more passphrase front (take j s.input) _ _ (c.in-Ok-feed.ensures.released passphrase _ (i.holds t passphrase front h)) in
-    let longer = gives_length (text_behind passphrase front) j n _ _ s before passes (c.in-Ok.ensures.bytes t) given in
+    let given = text_after-more passphrase front (take j s.input) _ _ (c.in-Ok-feed.ensures.released passphrase _ (i.holds t passphrase front h)) in
+    let longer = gives_length (text_after passphrase front) j n _ _ s before passes (c.in-Ok.ensures.bytes t) given in
     let r = i.read in
     let next = c.in-Ok-feed.ensures.read r.0 r.1 r.2 in
     let more = length_read-more c.loop-n.dec c.feed.new.self r.0 r.1 _ r.2 next in
@@ -128,9 +128,9 @@ returns-in_default-push_all-clause-refused g c = λ t passphrase front h.
         pulled = j + n;
         below = omega (arith, fed, length_read-below c.feed.new.self r.0 _ next);
         within = fits_on j n s before (i.left t) (i.within t) (c.in-Ok.ensures.within t);
-        written = length (text_behind passphrase front (take j s.input)) + b.0;
+        written = length (text_after passphrase front (take j s.input)) + b.0;
         begun = omega (arith, longer, b.1);
         missing = grind (arith, common_steps, longer, c.in-Ok-feed.ensures.within, c.in-Ok.ensures.bound, i.buf_long, c.feed.auto, i.out_long);
-        passes = pass_part (text_behind passphrase front) j n b.0 _ _ s before pulled after passes (c.in-Ok.ensures.bytes t) (c.in-Ok.ensures.taken t) given b.2;
+        passes = pass_part (text_after passphrase front) j n b.0 _ _ s before pulled after passes (c.in-Ok.ensures.bytes t) (c.in-Ok.ensures.taken t) given b.2;
       },
     ))

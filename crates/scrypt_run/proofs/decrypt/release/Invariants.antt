@@ -1,7 +1,7 @@
 use Rattle.std.proofs.Common.{length, take, drop, List, ℕ, ◌++◌, ◌-◌, ◌+◌, ◌≡◌, ◌<◌, ◌≤◌, ◌^◌, IsTrue}
 use Rattle.encfile.specs.Decrypting.{HasRead}
 use Rattle.encfile.specs.Inside.Lengths.{length_read}
-use Rattle.scrypt_run.specs.Decrypting.{text_behind}
+use Rattle.scrypt_run.specs.Decrypting.{text_after}
 use Rattle.scrypt_run.specs.Steps.{after_passing}
 use Rattle.scrypt_run.proofs.decrypt.release.Given as goal
 
@@ -19,7 +19,7 @@ invariant-loop-n g l =
       holds : IsTrue g.H.Host.tells → (passphrase front : List ℕ) → HasRead l.fn.dec passphrase front
           → HasRead l.dec passphrase (front ++ take j before.input);
       passes : IsTrue g.H.Host.tells → (passphrase front : List ℕ) → HasRead l.fn.dec passphrase front
-          → g.H.Host.seen l.host ≡ after_passing (text_behind passphrase front) j before;
+          → g.H.Host.seen l.host ≡ after_passing (text_after passphrase front) j before;
     }
 
 abbrev pub decreases-loop-n : goal.decreases-loop-n

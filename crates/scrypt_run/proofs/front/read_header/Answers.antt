@@ -1,19 +1,21 @@
-use Rattle.std.proofs.Common.{arith, None}
-use Rattle.scrypt_run.proofs.Fronts.{costs_front, format_refused, format_told, salt_front}
+use Rattle.std.proofs.Common.{arith, rules, ◌≡◌, ◌∙◌, List, ℕ, ap, option_map}
+use Rattle.encfile.specs.Front.{format_refusal, header_refusal}
+use Rattle.encfile.specs.HeaderFaults.{header_fault}
+use Rattle.encfile.proofs.Fronts.{format_refusal-fault}
+use Rattle.scrypt_run.specs.Refusal.{refusal_of}
+use Rattle.scrypt_run.proofs.Ends.{if_err, on_ok}
 use Rattle.scrypt_run.proofs.front.read_header.Goals as goal
 
-pub returns-in-Ok-clause-valid : goal.returns-in-Ok-clause-valid
-returns-in-Ok-clause-valid c = format_told c.args.front.now c.copy_from_slice.new.self None c.told-front c.copy_from_slice.ensures.after c.in-Ok.ensures.valid
+pub returns-clause-valid : goal.returns-clause-valid
+returns-clause-valid c =
+    let front : List ℕ = c.args.front.now in
+    let same : format_refusal front ≡ option_map header_refusal (header_fault front) = format_refusal-fault front (omega (arith, c.told-front)) in
+    let valid = on_ok c.of_front.result (λ none. same ∙ ap (option_map header_refusal) none) c.of_front.ensures.valid in
+    search (rules, valid)
 
-pub returns-in-Ok-clause-costs : goal.returns-in-Ok-clause-costs
-returns-in-Ok-clause-costs c =
-    costs_front 64 c.copy_from_slice.new.self c.args.front.now c.in-Ok.header.costs (omega arith) c.copy_from_slice.ensures.after c.in-Ok.ensures.costs
-
-pub returns-in-Ok-clause-salt : goal.returns-in-Ok-clause-salt
-returns-in-Ok-clause-salt c =
-    salt_front 64 c.copy_from_slice.new.self c.args.front.now c.in-Ok.header.salt (omega arith) c.copy_from_slice.ensures.after c.in-Ok.ensures.salt
-
-pub returns-in-Err-clause-refused : goal.returns-in-Err-clause-refused
-returns-in-Err-clause-refused c =
-    format_refused c.args.front.now c.copy_from_slice.new.self c.in-Err.fault c.header_refusal.result c.told-front c.copy_from_slice.ensures.after
-    c.in-Err.ensures.fault c.header_refusal.ensures.refusal
+pub returns-clause-refused : goal.returns-clause-refused
+returns-clause-refused c =
+    let front : List ℕ = c.args.front.now in
+    let same : format_refusal front ≡ option_map header_refusal (header_fault front) = format_refusal-fault front (omega (arith, c.told-front)) in
+    let refused = if_err c.of_front.result (λ fault told. ap (option_map refusal_of) (same ∙ ap (option_map header_refusal) told)) c.of_front.ensures.fault in
+    search (rules, refused)

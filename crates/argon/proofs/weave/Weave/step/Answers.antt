@@ -15,13 +15,13 @@ invariant_of-self c =
     let lane = c.args.lane in
     let some : 0 < slice_index c.self.inside.left.items c.args.lane = rw (ap (λ (v : Weaving). v.left) c.self.view_is) c.requires.left in
     let at = c.new-at.result in
-    let place = c.new-at.ensures.place in
+    let place = c.new-at.ensures in
     let fits : c.args.lane < length c.self.inside.left.items = lane_with_some weave.left.items lane (length weave.left.items) refl some in
     let kept : length c.fill_next_column.new.blocks ≡ c.self.inside.blocks.len = omega (arith, c.fill_next_column.auto.blocks, c.deref_mut.ensures.len) in
     let made : (with_items c.self.inside.blocks c.fill_next_column.new.blocks).items ≡ with_next_block (weaving_of c.self.inside) c.args.lane =
     with_items_is weave.blocks c.fill_next_column.new.blocks kept
     ∙ stepped w lane c.deref_mut.result.now c.fill_next_column.new.blocks at.len at.lane at.pass at.slice c.index.result.now c.self.invariant.weaving some
-    c.deref_mut.ensures.value c.new-at.ensures.is_of.len place.2 place.0 place.1 (get_or_read weave.left.items lane c.index.result.now fits c.index.ensures 0)
+    c.deref_mut.ensures.value c.new-at.ensures.is_of.len place.lane place.pass place.slice (get_or_read weave.left.items lane c.index.result.now fits c.index.ensures 0)
     c.fill_next_column.ensures.value in
     let fewer : (with_item c.self.inside.left c.args.lane (c.index_mut-2.result.now - 1)).items
     ≡ set c.self.inside.left.items c.args.lane (slice_index c.self.inside.left.items c.args.lane - 1) =
@@ -33,7 +33,7 @@ invariant_of-self c =
       addresses_size = length-set weave.addresses.items lane c.fill_next_column.new.addresses ∙ c.self.invariant.addresses_size;
       addresses = addresses_stepped w lane (with_items weave.blocks c.fill_next_column.new.blocks).items weave.addresses.items
           (with_item weave.left lane (c.index_mut-2.result.now - 1)).items c.fill_next_column.new.addresses at.len at.lane at.pass at.slice c.index.result.now
-          c.self.invariant.weaving some c.self.invariant.addresses_size c.new-at.ensures.is_of.len place.2 place.0 place.1
+          c.self.invariant.weaving some c.self.invariant.addresses_size c.new-at.ensures.is_of.len place.lane place.pass place.slice
           (get_or_read weave.left.items lane c.index.result.now fits c.index.ensures 0) fewer c.fill_next_column.ensures.addresses c.self.invariant.addresses;
     }
 
@@ -44,13 +44,13 @@ returns-clause-matrix c =
     let lane = c.args.lane in
     let some : 0 < slice_index c.self.inside.left.items c.args.lane = rw (ap (λ (v : Weaving). v.left) c.self.view_is) c.requires.left in
     let at = c.new-at.result in
-    let place = c.new-at.ensures.place in
+    let place = c.new-at.ensures in
     let fits : c.args.lane < length c.self.inside.left.items = lane_with_some weave.left.items lane (length weave.left.items) refl some in
     let kept : length c.fill_next_column.new.blocks ≡ c.self.inside.blocks.len = omega (arith, c.fill_next_column.auto.blocks, c.deref_mut.ensures.len) in
     let made : (with_items c.self.inside.blocks c.fill_next_column.new.blocks).items ≡ with_next_block (weaving_of c.self.inside) c.args.lane =
     with_items_is weave.blocks c.fill_next_column.new.blocks kept
     ∙ stepped w lane c.deref_mut.result.now c.fill_next_column.new.blocks at.len at.lane at.pass at.slice c.index.result.now c.self.invariant.weaving some
-    c.deref_mut.ensures.value c.new-at.ensures.is_of.len place.2 place.0 place.1 (get_or_read weave.left.items lane c.index.result.now fits c.index.ensures 0)
+    c.deref_mut.ensures.value c.new-at.ensures.is_of.len place.lane place.pass place.slice (get_or_read weave.left.items lane c.index.result.now fits c.index.ensures 0)
     c.fill_next_column.ensures.value in
     rw (← c.self.view_is)
     (ap (λ (blocks : List (List ℕ)). record {
@@ -68,13 +68,13 @@ returns-clause-newest c =
     let lane = c.args.lane in
     let some : 0 < slice_index c.self.inside.left.items c.args.lane = rw (ap (λ (v : Weaving). v.left) c.self.view_is) c.requires.left in
     let at = c.new-at.result in
-    let place = c.new-at.ensures.place in
+    let place = c.new-at.ensures in
     let fits : c.args.lane < length c.self.inside.left.items = lane_with_some weave.left.items lane (length weave.left.items) refl some in
     let kept : length c.fill_next_column.new.blocks ≡ c.self.inside.blocks.len = omega (arith, c.fill_next_column.auto.blocks, c.deref_mut.ensures.len) in
     let made : (with_items c.self.inside.blocks c.fill_next_column.new.blocks).items ≡ with_next_block (weaving_of c.self.inside) c.args.lane =
     with_items_is weave.blocks c.fill_next_column.new.blocks kept
     ∙ stepped w lane c.deref_mut.result.now c.fill_next_column.new.blocks at.len at.lane at.pass at.slice c.index.result.now c.self.invariant.weaving some
-    c.deref_mut.ensures.value c.new-at.ensures.is_of.len place.2 place.0 place.1 (get_or_read weave.left.items lane c.index.result.now fits c.index.ensures 0)
+    c.deref_mut.ensures.value c.new-at.ensures.is_of.len place.lane place.pass place.slice (get_or_read weave.left.items lane c.index.result.now fits c.index.ensures 0)
     c.fill_next_column.ensures.value in
     let fewer : (with_item c.self.inside.left c.args.lane (c.index_mut-2.result.now - 1)).items
     ≡ set c.self.inside.left.items c.args.lane (slice_index c.self.inside.left.items c.args.lane - 1) =
@@ -90,13 +90,13 @@ returns-clause-woven c =
     let lane = c.args.lane in
     let some : 0 < slice_index c.self.inside.left.items c.args.lane = rw (ap (λ (v : Weaving). v.left) c.self.view_is) c.requires.left in
     let at = c.new-at.result in
-    let place = c.new-at.ensures.place in
+    let place = c.new-at.ensures in
     let fits : c.args.lane < length c.self.inside.left.items = lane_with_some weave.left.items lane (length weave.left.items) refl some in
     let kept : length c.fill_next_column.new.blocks ≡ c.self.inside.blocks.len = omega (arith, c.fill_next_column.auto.blocks, c.deref_mut.ensures.len) in
     let made : (with_items c.self.inside.blocks c.fill_next_column.new.blocks).items ≡ with_next_block (weaving_of c.self.inside) c.args.lane =
     with_items_is weave.blocks c.fill_next_column.new.blocks kept
     ∙ stepped w lane c.deref_mut.result.now c.fill_next_column.new.blocks at.len at.lane at.pass at.slice c.index.result.now c.self.invariant.weaving some
-    c.deref_mut.ensures.value c.new-at.ensures.is_of.len place.2 place.0 place.1 (get_or_read weave.left.items lane c.index.result.now fits c.index.ensures 0)
+    c.deref_mut.ensures.value c.new-at.ensures.is_of.len place.lane place.pass place.slice (get_or_read weave.left.items lane c.index.result.now fits c.index.ensures 0)
     c.fill_next_column.ensures.value in
     let fewer : (with_item c.self.inside.left c.args.lane (c.index_mut-2.result.now - 1)).items
     ≡ set c.self.inside.left.items c.args.lane (slice_index c.self.inside.left.items c.args.lane - 1) =
@@ -111,7 +111,7 @@ returns-clause-share c =
     let lane = c.args.lane in
     let some : 0 < slice_index c.self.inside.left.items c.args.lane = rw (ap (λ (v : Weaving). v.left) c.self.view_is) c.requires.left in
     let at = c.new-at.result in
-    let place = c.new-at.ensures.place in
+    let place = c.new-at.ensures in
     let fits : c.args.lane < length c.self.inside.left.items = lane_with_some weave.left.items lane (length weave.left.items) refl some in
     let fewer : (with_item c.self.inside.left c.args.lane (c.index_mut-2.result.now - 1)).items
     ≡ set c.self.inside.left.items c.args.lane (slice_index c.self.inside.left.items c.args.lane - 1) =
@@ -119,7 +119,7 @@ returns-clause-share c =
     rw (← c.self.view_is)
     (share_stepped w lane (with_items weave.blocks c.fill_next_column.new.blocks).items (with_item weave.left lane (c.index_mut-2.result.now - 1)).items
     c.args.ticks.now c.fill_next_column.new.ticks at.len at.pass at.slice c.index.result.now
-    c.self.invariant.weaving some c.new-at.ensures.is_of.len place.0 place.1
+    c.self.invariant.weaving some c.new-at.ensures.is_of.len place.pass place.slice
     (get_or_read weave.left.items lane c.index.result.now fits c.index.ensures 0) fewer c.fill_next_column.ensures.count)
 
 pub returns-clause-apart : goal.returns-clause-apart

@@ -2,7 +2,7 @@ use Rattle.std.proofs.Common.{◌≡◌, ◌∙◌, ◌+◌, ◌-◌, ◌==◌, 
 use Rattle.std.specs.Option.{option_map}
 use Rattle.std.specs.List.{position}
 use Rattle.argon_text.specs.Inside.Reading.{cut}
-use Rattle.argon_text.proofs.Cutting.{behind_first}
+use Rattle.argon_text.proofs.Cutting.{after_first}
 use Rattle.argon_text.proofs.fields.Reader.until.Goals as goal
 
 pub returns : goal.returns
@@ -14,7 +14,7 @@ returns c =
     let before : take place s ≡ c.split_at.result.0.now = sym c.split_at.ensures.front in
     let from : drop place s ≡ c.split_at.result.1.now = sym c.split_at.ensures.back in
     let behind : drop (place + 1) s ≡ take (length c.split_at.result.1.now - 1) (drop 1 c.split_at.result.1.now) =
-    behind_first s c.split_at.result.1.now place from in
+    after_first s c.split_at.result.1.now place from in
     record {
       found = ap (cut c.args.mark) (sym own) ∙ ap (option_map (λ (i : ℕ). (take i s, drop (i + 1) s))) found
           ∙ ap (λ (b : List ℕ). Some (b, drop (place + 1) s)) before ∙ ap (λ (r : List ℕ). Some (c.split_at.result.0.now, r)) behind;

@@ -1,0 +1,17 @@
+//! The example at the head of the crate.
+use crate::{Encoded, verify};
+use std::test::Fail;
+
+#[test]
+fn example(rt: HostRuntime) -> Result<(), Fail> {
+    let alloc = rt.alloc();
+    let text =
+        b"$argon2i$v=19$m=256,t=2,p=1$c29tZXNhbHQ$iekCn0Y3spW+sCcFanM2xBT63UP2sghkUoHLIUpWRS8";
+    let encoded = Encoded::read(alloc, text)?;
+    assert!(rt; verify(alloc, &encoded, b"password", 256, 526)?);
+    assert!(rt; !verify(alloc, &encoded, b"Password", 256, 526)?);
+    let mut again = Vec::new(alloc);
+    encoded.write(&mut again)?;
+    assert_eq!(rt; again.as_slice(), text.as_slice());
+    Ok(())
+}

@@ -1,0 +1,28 @@
+use Rattle.std.proofs.Common.{◌≡◌, ℕ, List, ◌*◌, ◌/◌, length, take, refl, arith, ap, ◌∙◌, sym}
+use Rattle.std.proofs.lemmas.List.{take_all}
+use Rattle.romix.specs.Inside.Diagonals.{natural_block, natural_blocks}
+use Rattle.romix.proofs.Naturals.{natural_blocks-more}
+use Rattle.romix.proofs.XoredBlocks.{block_left}
+use Rattle.romix.proofs.romix.turn_to_rows.Goals as goal
+
+pub loop-i-init : goal.loop-i-init
+unfolding natural_blocks
+loop-i-init c = record { done = refl; left = refl }
+
+pub loop-i-preserved : goal.loop-i-preserved
+loop-i-preserved c =
+    let i : ℕ = c.loop-i.i in
+    let old : List ℕ = c.args.row.now in
+    let here = c.to_rows-turned.ensures.words ∙ ap natural_block (c.load.ensures.words ∙ ap (take 16) c.loop-i.invariant.left) in
+    record {
+      done = c.store.ensures.front ∙ rw (c.loop-i.invariant.done, here) (sym (natural_blocks-more i old));
+      left = block_left old c.loop-i.row c.store.new.row i c.loop-i.invariant.left c.store.ensures.rest;
+    }
+
+pub returns : goal.returns
+returns c =
+    let old : List ℕ = c.args.row.now in
+    let row : List ℕ = c.loop-i.row in
+    let i : ℕ = c.loop-i.i in
+    let n : i ≡ length old / 16 = omega arith in
+    record { words = sym (take_all (16 * i) row (omega arith)) ∙ c.loop-i.invariant.done ∙ ap (λ (k : ℕ). natural_blocks k old) n }
