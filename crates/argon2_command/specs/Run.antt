@@ -1,23 +1,19 @@
 -- A whole run of argon2: what stands at its end.
-use Rattle.std.specs.Prelude.{◌≡◌, ◌⊎◌, ℕ, Bool, List, Option, None, Result, Ok, Err, IsOk, IsTrue}
+use Rattle.std.specs.Prelude.{◌≡◌, ◌⊎◌, ℕ, Bool, List, Option, None, Ok, Err, IsOk, IsTrue, is_ok, if◌then◌else◌}
 use Rattle.host.specs.Output.{IsCutShort, after_writing}
 use Rattle.host.specs.Seen.{Seen, Text, after_ask, stdin_once}
 use Rattle.host.specs.Faults.{Faults}
 use Rattle.host.specs.Lines.{SaysOneLine}
 use Rattle.argon2_command.specs.Refusal.{IsEarly, IsLate, counted_by, line_of}
-use Rattle.argon2_command.specs.Request.{Request, argon2_request}
+use Rattle.argon2_command.specs.Request.{argon2_request}
 use Rattle.argon2_command.specs.Output.{argon2_output, output_for}
 use Rattle.argon2_command.specs.declared.refusal.Argon2Refusal.{Argon2Refusal}
 use Rattle.argon2_command.specs.declared.refusal.Argon2Refusal.TheVariants as refusal
 
--- standard input is asked for the password where the words are taken, and no source is asked where they are refused
-abbrev pub after_request : Result Request Argon2Refusal → Seen → Seen
-after_request (Ok request) s = after_ask stdin_once s
-after_request (Err r) s = s
-
--- the host after the words were read, and after the password's source was asked, if it was
+-- the host after the words were read: standard input was asked for the password where they are taken, and no source was
+-- where they are refused
 abbrev pub password_asked : List Text → Seen → Seen
-password_asked words before = after_request (argon2_request words) before
+password_asked words before = if is_ok (argon2_request words) then after_ask stdin_once before else before
 
 -- the run ended with status 0: standard output got the whole output
 pub record Succeeds (words : List Text) (before after : Seen) : Type 0 where

@@ -1,8 +1,9 @@
 //! What the words ask for.
 ghost use Rattle.std.specs.Prelude.{◌≡◌, IfErr, map, string_bytes};
+ghost use Rattle.command_words.specs.Answer.{answered};
 ghost use Rattle.argon2_command.specs.Refusal.{IsEarly, RaisesNoCount};
 ghost use Rattle.argon2_command.specs.Request.{argon2_request, one_form};
-ghost use Rattle.argon2_command.specs.RequestView.{answer_of};
+ghost use Rattle.argon2_command.specs.RequestView.{request_of};
 
 use crate::items::Form;
 use crate::refusal::Argon2Refusal;
@@ -36,7 +37,7 @@ fn one_form(encoded: bool, hex: bool) -> Result<Form, Argon2Refusal>
 pub fn read_request(words: &[String]) -> Result<Request<'_>, Argon2Refusal>
     ensures early { IfErr result IsEarly }
     ensures counts { IfErr result RaisesNoCount }
-    ensures request { answer_of result ≡ argon2_request (map string_bytes words.now) }
+    ensures request { answered request_of result ≡ argon2_request (map string_bytes words.now) }
 {
     let Some((salt, others)) = words.split_first() else {
         return Err(Argon2Refusal::Usage);

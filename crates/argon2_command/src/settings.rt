@@ -1,11 +1,11 @@
 //! What the items of the words set.
-ghost use Rattle.std.specs.Prelude.{◌≡◌, ◌∷◌, [], ◌^◌, true, false, None, Some, MatchResult, MatchOption, IfErr, map, string_bytes};
+ghost use Rattle.std.specs.Prelude.{◌≡◌, ◌^◌, true, IfErr, map, string_bytes};
 ghost use Rattle.argon.specs.Range.{is_version};
-ghost use Rattle.argon2_command.specs.Items.{items, valued};
+ghost use Rattle.argon2_command.specs.Items.{items};
 ghost use Rattle.argon2_command.specs.ItemView.{item_of};
 ghost use Rattle.argon2_command.specs.Refusal.{IsEarly, RaisesNoCount};
 ghost use Rattle.command_words.specs.Number.{number_in};
-ghost use Rattle.argon2_command.specs.Settings.{fault_in, power_in, settings_after, settings_of, is_value_of, version_named, version_number};
+ghost use Rattle.argon2_command.specs.Settings.{defaults, power_in, settings_after, version_named, version_number, with_item, with_value};
 
 use crate::items::{Form, Item, Items, OptionName};
 use crate::refusal::Argon2Refusal;
@@ -102,9 +102,7 @@ fn version_named(text: &str) -> Option<Version>
 impl Settings {
     // The settings after one more option with its value, where the option takes it.
     fn with_value(self, name: OptionName, text: &str) -> Option<Settings>
-        ensures option { MatchOption result (is_value_of name text.now ≡ false)
-            (λ s. (is_value_of name text.now ≡ true)
-            × (s ≡ settings_after self (valued name text.now ∷ []))) }
+        ensures option { result ≡ with_value self name text.now }
     {
         let mut settings = self;
         match name {
@@ -124,10 +122,7 @@ impl Settings {
     fn with_item(self, item: Item<'_>) -> Result<Settings, Argon2Refusal>
         ensures early { IfErr result IsEarly }
         ensures counts { IfErr result RaisesNoCount }
-        ensures item { MatchResult result
-            (λ s. (fault_in (item_of item.entry) ≡ None)
-            × (s ≡ settings_after self (item_of item.entry ∷ [])))
-            (λ refusal. fault_in (item_of item.entry) ≡ Some refusal) }
+        ensures item { result ≡ with_item self (item_of item.entry) }
     {
         match item {
             Item::Kind(kind) => Ok(Settings { kind, ..self }),
@@ -148,7 +143,7 @@ impl Settings {
 pub fn read_settings(words: &[String]) -> Result<Settings, Argon2Refusal>
     ensures early { IfErr result IsEarly }
     ensures counts { IfErr result RaisesNoCount }
-    ensures settings { result ≡ settings_of (items (map string_bytes words.now)) }
+    ensures settings { result ≡ settings_after defaults (items (map string_bytes words.now)) }
 {
     let mut settings = DEFAULTS;
     for item in Items::new(words) {

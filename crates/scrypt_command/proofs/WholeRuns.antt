@@ -6,6 +6,7 @@ use Rattle.scrypt_run.specs.Laws.{AreOneEnd, IsRefusedFromOutside as RefusesFrom
 use Rattle.scrypt_run.specs.Request.{Request}
 use Rattle.scrypt_run.specs.Run.{RequestRefused, RequestSucceeds}
 use Rattle.scrypt_run.specs.declared.refusal.ScryptRefusal.{ScryptRefusal}
+use Rattle.scrypt_run.specs.declared.refusal.ScryptRefusal.TheVariants as refusal
 use Rattle.scrypt_run.proofs.Refusals.{one_refusal}
 use Rattle.scrypt_run.proofs.Successes.{one_success, refused_from_outside}
 use Rattle.scrypt_command.specs.Laws.{IsRefusedFromOutside}
@@ -31,6 +32,12 @@ same_refusal words r q hr hq = same_Some r q (ap refused (sym hr ∙ hq))
 not_both : (words : List Text) (request : Request) (r : ScryptRefusal) → scrypt_request words ≡ Ok request → scrypt_request words ≡ Err r → ⊥
 not_both words request r asked told = none-some request (sym (ap taken (sym asked ∙ told)))
 
+-- words that are taken are not refused for themselves
+memory_alone : (words : List Text) (request : Request) (r : ScryptRefusal) → scrypt_request words ≡ Ok request
+    → (scrypt_request words ≡ Err r) ⊎ (r ≡ refusal.OutOfMemory) → r ≡ refusal.OutOfMemory
+memory_alone words request r asked (inl told) = absurd (not_both words request r asked told)
+memory_alone words request r asked (inr lacks) = lacks
+
 -- ---- ends
 
 pub one_end : (words : List Text) (before a b : Seen) → Succeeds words before a → Succeeds words before b → a ≡ b
@@ -40,9 +47,8 @@ one_end words before a b ha hb =
 
 pub ends_from_outside : (words : List Text) (before after ended : Seen) (r : ScryptRefusal) → Succeeds words before after → IsRefused r words before ended
     → IsRefusedFromOutside words r
-ends_from_outside words before after ended r h (inl told) = absurd (not_both words h.request r h.asked told.0)
-ends_from_outside words before after ended r h (inr (inl lacks)) = inl lacks.0
-ends_from_outside words before after ended r h (inr (inr ends)) = inr (record {
+ends_from_outside words before after ended r h (inl ends) = inl (memory_alone words h.request r h.asked ends.0)
+ends_from_outside words before after ended r h (inr ends) = inr (record {
   request = h.request;
   asked = h.asked;
   outside = refused_from_outside h.request before after ended r h.succeeds
@@ -59,15 +65,16 @@ two_requests words before after ended one other a b =
 pub one_refusal_of_words : (words : List Text) (before after ended : Seen) (one other : ScryptRefusal)
     → IsRefused one words before after → IsRefused other words before ended
     → AreOneEnd one other after ended ⊎ IsRefusedFromOutside words one ⊎ IsRefusedFromOutside words other
-one_refusal_of_words words before after ended one other (inr (inl lacks)) b = inr (inl (inl lacks.0))
-one_refusal_of_words words before after ended one other (inl told) (inr (inl lacks)) = inr (inr (inl lacks.0))
-one_refusal_of_words words before after ended one other (inr (inr a)) (inr (inl lacks)) = inr (inr (inl lacks.0))
-one_refusal_of_words words before after ended one other (inl told) (inl also) =
-    inl (record { told = same_refusal words one other told.0 also.0; left = inl (told.1 ∙ sym also.1) })
-one_refusal_of_words words before after ended one other (inl told) (inr (inr b)) = absurd (not_both words b.request one b.asked told.0)
-one_refusal_of_words words before after ended one other (inr (inr a)) (inl told) = absurd (not_both words a.request other a.asked told.0)
-one_refusal_of_words words before after ended one other (inr (inr a)) (inr (inr b)) =
-    of_requests (two_requests words before after ended one other a b)
+one_refusal_of_words words before after ended one other (inl a) (inr b) = inr (inl (inl (memory_alone words b.request one b.asked a.0)))
+one_refusal_of_words words before after ended one other (inr a) (inl b) = inr (inr (inl (memory_alone words a.request other a.asked b.0)))
+one_refusal_of_words words before after ended one other (inl a) (inl b) = of_words a.0 b.0
+  where
+    of_words : (scrypt_request words ≡ Err one) ⊎ (one ≡ refusal.OutOfMemory) → (scrypt_request words ≡ Err other) ⊎ (other ≡ refusal.OutOfMemory)
+        → AreOneEnd one other after ended ⊎ IsRefusedFromOutside words one ⊎ IsRefusedFromOutside words other
+    of_words (inl told) (inl also) = inl (record { told = same_refusal words one other told also; left = inl (a.1 ∙ sym b.1) })
+    of_words (inr lacks) _ = inr (inl (inl lacks))
+    of_words (inl told) (inr lacks) = inr (inr (inl lacks))
+one_refusal_of_words words before after ended one other (inr a) (inr b) = of_requests (two_requests words before after ended one other a b)
   where
     of_requests : AreOneEnd one other after ended ⊎ RefusesFromOutside a.request one ⊎ RefusesFromOutside a.request other
         → AreOneEnd one other after ended ⊎ IsRefusedFromOutside words one ⊎ IsRefusedFromOutside words other

@@ -1,5 +1,5 @@
 -- The words of scrypt as clap is told of them: three subcommands, options of one value, the flag -P, and the files.
-use Rattle.std.specs.Prelude.{◌≡◌, ℕ, false, true, Some, codes}
+use Rattle.std.specs.Prelude.{◌≡◌, ℕ, false, true, List, [], ◌∷◌, Some, codes, fold}
 use Rattle.clap.specs.Words.{App, Rule, Text, app_of, new_app, new_rule, with_rule, with_subcommand}
 use Rattle.clap.specs.declared.builder.action.ArgAction.TheVariants.{SetTrue}
 use Rattle.clap.specs.declared.builder.command.Command.{Command}
@@ -17,40 +17,23 @@ short_option name c = record (new_rule name) { short = Some c }
 abbrev pub stdin_flag : Rule
 stdin_flag = record (new_rule (codes "P")) { short = Some 80; action = Some SetTrue }
 
--- a file
-abbrev pub file_word : Text → Rule
-file_word name = new_rule name
+-- what enc and dec both take; the last two are files
+abbrev pub common_rules : List Rule
+common_rules =
+    short_option (codes "M") 77 ∷ long_option (codes "maxops") ∷ long_option (codes "keep") ∷ stdin_flag
+    ∷ long_option (codes "passphrase") ∷ new_rule (codes "infile") ∷ new_rule (codes "outfile") ∷ []
 
--- -M, --maxops and --keep
-abbrev pub with_limits : App → App
-with_limits app = with_rule (with_rule (with_rule app
-    (short_option (codes "M") 77)) (long_option (codes "maxops"))) (long_option (codes "keep"))
-
--- -P and --passphrase
-abbrev pub with_passphrase : App → App
-with_passphrase app = with_rule (with_rule app stdin_flag) (long_option (codes "passphrase"))
-
--- infile and outfile
-abbrev pub with_files : App → App
-with_files app = with_rule (with_rule app (file_word (codes "infile"))) (file_word (codes "outfile"))
-
--- what enc and dec both take
-abbrev pub with_common_words : App → App
-with_common_words app = with_files (with_passphrase (with_limits app))
-
--- the costs: --logN, -r and -p
-abbrev pub with_costs : App → App
-with_costs app = with_rule (with_rule (with_rule app
-    (long_option (codes "logN"))) (short_option (codes "r") 114)) (short_option (codes "p") 112)
-
+-- enc takes costs and a salt besides
 abbrev pub enc_app : App
-enc_app = with_common_words (with_rule (with_costs (new_app (codes "enc"))) (long_option (codes "salt")))
+enc_app = fold with_rule (new_app (codes "enc")) (
+    long_option (codes "logN") ∷ short_option (codes "r") 114 ∷ short_option (codes "p") 112 ∷ long_option (codes "salt")
+    ∷ common_rules)
 
 abbrev pub dec_app : App
-dec_app = with_common_words (new_app (codes "dec"))
+dec_app = fold with_rule (new_app (codes "dec")) common_rules
 
 abbrev pub info_app : App
-info_app = with_rule (new_app (codes "info")) (file_word (codes "infile"))
+info_app = with_rule (new_app (codes "info")) (new_rule (codes "infile"))
 
 -- the three subcommands
 abbrev pub named_app : App

@@ -1,7 +1,6 @@
 -- The command scrypt: what its words say and ask for, and its refusals.
 pub mod CommandLine
 pub mod Words
-pub mod WordsView
 pub mod Request
 pub mod Vectors
 pub mod Run

@@ -16,13 +16,9 @@ pub record Succeeds (words : List Text) (before after : Seen) : Type 0 where
   pub asked : scrypt_request words ≡ Ok request
   pub succeeds : RequestSucceeds request before after
 
--- the words are refused
-abbrev pub RefusesWords : ScryptRefusal → List Text → Seen → Seen → Type 0
-RefusesWords r words before after = (scrypt_request words ≡ Err r) × (after ≡ before)
-
--- a growth of memory was refused while the words were read
-abbrev pub LacksMemory : ScryptRefusal → Seen → Seen → Type 0
-LacksMemory r before after = (r ≡ refusal.OutOfMemory) × (after ≡ before)
+-- the words are refused, or a growth of memory while they were read
+abbrev pub EndsReading : ScryptRefusal → List Text → Seen → Seen → Type 0
+EndsReading r words before after = ((scrypt_request words ≡ Err r) ⊎ (r ≡ refusal.OutOfMemory)) × (after ≡ before)
 
 -- the words were taken, and what they ask for was refused
 pub record RefusesRequest (r : ScryptRefusal) (words : List Text) (before after : Seen) : Type 0 where
@@ -32,10 +28,7 @@ pub record RefusesRequest (r : ScryptRefusal) (words : List Text) (before after 
 
 -- the run ended with this refusal, whose line isn't said yet
 abbrev pub IsRefused : ScryptRefusal → List Text → Seen → Seen → Type 0
-IsRefused r words before after =
-    RefusesWords r words before after
-    ⊎ LacksMemory r before after
-    ⊎ RefusesRequest r words before after
+IsRefused r words before after = EndsReading r words before after ⊎ RefusesRequest r words before after
 
 -- the run ended with a refusal: the count that it names rose and no other, and its one line was said
 pub record Refuses (tells : Bool) (words : List Text) (before after : Seen) (faults_before faults_after : Faults)

@@ -1,9 +1,9 @@
 //! The words of `scrypt` as `clap` is told of them. No argument refers to another, so what the words
 //! mean is what `clap` defines for a simple command.
-ghost use Rattle.std.specs.Prelude.{◌≡◌, IfOk, false};
+ghost use Rattle.std.specs.Prelude.{◌≡◌, IfOk, false, fold};
 ghost use Rattle.clap.specs.declared.builder.command.Command.TheViews.{out-Command as fields_of};
-ghost use Rattle.clap.specs.Words.{app_of, rule_of};
-ghost use Rattle.scrypt_command.specs.CommandLine.{Extends, IsCommand, dec_app, enc_app, file_word, info_app, long_option, named_app, scrypt_app, short_option, stdin_flag, with_common_words};
+ghost use Rattle.clap.specs.Words.{app_of, new_rule, rule_of, with_rule};
+ghost use Rattle.scrypt_command.specs.CommandLine.{Extends, IsCommand, common_rules, dec_app, enc_app, info_app, long_option, named_app, scrypt_app, short_option, stdin_flag};
 
 use clap::{Arg, ArgAction, Command};
 use std::alloc::{AllocError, Global};
@@ -53,14 +53,14 @@ fn with_file<'a>(
     command: Command<'a>,
     name: &'a str,
 ) -> Result<Command<'a>, AllocError>
-    ensures extends { IfOk result (λ r. Extends command.entry (file_word name.entry.now) r) }
+    ensures extends { IfOk result (λ r. Extends command.entry (new_rule name.entry.now) r) }
 {
     with_argument(command, Arg::new(alloc, name))
 }
 
 // What `enc` and `dec` both take.
 fn with_common_words<'a>(alloc: Global, command: Command<'a>) -> Result<Command<'a>, AllocError>
-    ensures shape { IfOk result (λ r. app_of r ≡ with_common_words (app_of command.entry)) }
+    ensures shape { IfOk result (λ r. app_of r ≡ fold with_rule (app_of command.entry) common_rules) }
     ensures local { IfOk result (λ r.
         (fields_of r).has_globals ≡ (fields_of command.entry).has_globals) }
 {

@@ -1,12 +1,13 @@
 //! The costs that the words give.
-ghost use Rattle.std.specs.Prelude.{◌≡◌, None, IfErr, MatchOption, is_some, true, false};
+ghost use Rattle.std.specs.Prelude.{◌≡◌, None, IfErr, MatchOption, is_some, true};
+ghost use Rattle.command_words.specs.Number.{number_of};
 ghost use Rattle.romix.specs.Faults.{cost_fault};
 ghost use Rattle.scrypt_run.specs.Refusal.{RaisesNoCount};
-ghost use Rattle.scrypt_command.specs.Request.{costs_asked, costs_given, has_bad_number, has_some_costs, number_given};
-ghost use Rattle.scrypt_command.specs.WordsView.{enc_of};
-ghost use Rattle.scrypt_run.specs.Request.{text_of};
+ghost use Rattle.scrypt_command.specs.Request.{costs_asked, has_some_costs, number_asked};
+ghost use Rattle.scrypt_command.specs.Words.{rows_in};
 
-use crate::words::EncWords;
+use crate::words::value_of;
+use clap::ArgMatches;
 use command_words::number;
 use romix::Costs;
 use scrypt_run::ScryptRefusal;
@@ -20,32 +21,27 @@ struct Numbers {
 }
 
 /// The number that an option gives, or the number without the option.
-pub fn number_given(default: u128, text: Option<&str>) -> Option<u128>
-    ensures number { result ≡ number_given default (text_of text.entry) }
+pub fn number_given(
+    matches: &ArgMatches<'_>,
+    name: &str,
+    default: u128,
+) -> Result<u128, ScryptRefusal>
+    ensures number { result ≡ number_asked name.now number_of default (rows_in matches.now) }
+    ensures counts { IfErr result RaisesNoCount }
 {
-    match text {
-        None => Some(default),
-        Some(text) => number(text),
+    match value_of(matches, name) {
+        None => Ok(default),
+        Some(text) => number(text).ok_or(ScryptRefusal::Usage),
     }
 }
 
-fn numbers_given(words: &EncWords<'_>) -> Option<Numbers>
-    ensures numbers { MatchOption result (has_bad_number (enc_of words.now) ≡ true)
-        (λ n. (has_bad_number (enc_of words.now) ≡ false)
-        × (record { log_n = n.log_n; r = n.r; p = n.p } ≡ costs_given (enc_of words.now))) }
-{
-    Some(Numbers {
-        log_n: number_given(17, words.log_n)?,
-        r: number_given(8, words.r)?,
-        p: number_given(1, words.p)?,
-    })
-}
-
 // Whether one or two of the costs are given.
-fn has_some_costs(words: &EncWords<'_>) -> bool
-    ensures some { result ≡ has_some_costs (enc_of words.now) }
+fn has_some_costs(matches: &ArgMatches<'_>) -> bool
+    ensures some { result ≡ has_some_costs (rows_in matches.now) }
 {
-    let (log_n, r, p) = (words.log_n.is_some(), words.r.is_some(), words.p.is_some());
+    let log_n = value_of(matches, "logN").is_some();
+    let r = value_of(matches, "r").is_some();
+    let p = value_of(matches, "p").is_some();
     (log_n || r || p) && !(log_n && r && p)
 }
 
@@ -63,12 +59,16 @@ fn costs_of(numbers: Numbers) -> Option<Costs>
 }
 
 /// The costs that the words of `enc` give, or 17, 8 and 1 where they give none.
-pub fn costs_given(words: &EncWords<'_>) -> Result<Costs, ScryptRefusal>
-    ensures costs { result ≡ costs_asked (enc_of words.now) }
+pub fn costs_given(matches: &ArgMatches<'_>) -> Result<Costs, ScryptRefusal>
+    ensures costs { result ≡ costs_asked (rows_in matches.now) }
     ensures counts { IfErr result RaisesNoCount }
 {
-    let numbers = numbers_given(words).ok_or(ScryptRefusal::Usage)?;
-    if has_some_costs(words) {
+    let numbers = Numbers {
+        log_n: number_given(matches, "logN", 17)?,
+        r: number_given(matches, "r", 8)?,
+        p: number_given(matches, "p", 1)?,
+    };
+    if has_some_costs(matches) {
         return Err(ScryptRefusal::SomeCosts);
     }
     costs_of(numbers).ok_or(ScryptRefusal::CostsOutOfRange)

@@ -1,80 +1,104 @@
 //! What the words ask for.
-ghost use Rattle.std.specs.Prelude.{◌≡◌, ◌⊎◌, Ok, Err, IfOk, IfErr, map, string_bytes};
-ghost use Rattle.scrypt_run.specs.Refusal.{RaisesNoCount};
-ghost use Rattle.scrypt_command.specs.Request.{decryption_asked, encryption_asked, request_of_words, scrypt_request};
+ghost use Rattle.std.specs.Prelude.{◌≡◌, ◌⊎◌, Ok, Err, IfOk, IfErr, MatchOption, map, string_bytes};
+ghost use Rattle.clap.specs.Words.{subcommand_rows_of};
 ghost use Rattle.command_words.specs.Answer.{answered};
+ghost use Rattle.scrypt_run.specs.Refusal.{RaisesNoCount};
 ghost use Rattle.scrypt_run.specs.Request.{HasAllowedLimits, IsAllowed, encryption_seen, request_seen, task_seen};
-ghost use Rattle.scrypt_command.specs.WordsView.{common_of, enc_of, words_of};
+ghost use Rattle.scrypt_command.specs.Request.{decryption_asked, encryption_asked, request_at, scrypt_request};
+ghost use Rattle.scrypt_command.specs.Words.{rows_in};
 
-use crate::costs::costs_given;
+use crate::costs::{costs_given, number_given};
 use crate::salt::salt_given;
-use crate::task::{files_given, infile_named, keep_given, limits_given};
-use crate::words::{CommonWords, EncWords, Words, WordsFault, read_words};
+use crate::task::{infile_given, infile_named, keep_of, limits_given, source_given};
+use crate::words::{read_words, value_of};
+use clap::ArgMatches;
 use scrypt_run::{Encryption, Request, ScryptRefusal, Task};
 use std::alloc::Global;
 
 // What the words of `enc` ask for.
-fn encryption_asked<'a>(words: &EncWords<'a>) -> Result<Encryption<'a>, ScryptRefusal>
-    ensures encryption { answered encryption_seen result ≡ encryption_asked (enc_of words.now) }
+fn encryption_given<'a>(matches: &ArgMatches<'a>) -> Result<Encryption<'a>, ScryptRefusal>
+    ensures encryption { answered encryption_seen result ≡ encryption_asked (rows_in matches.now) }
     ensures allowed { IfOk result (λ asked. HasAllowedLimits (task_seen asked.task)) }
     ensures counts { IfErr result RaisesNoCount }
 {
-    let limits = limits_given(&words.common)?;
-    let costs = costs_given(words)?;
-    let files = files_given(&words.common)?;
-    let salt = salt_given(words)?;
-    let keep = keep_given(&words.common)?;
-    Ok(Encryption {
-        costs,
-        salt,
-        task: files.task(limits, keep),
-    })
+    let infile = infile_given(matches)?;
+    let limits = limits_given(matches)?;
+    let number = number_given(matches, "keep", 1)?;
+    let costs = costs_given(matches)?;
+    let source = source_given(matches, infile)?;
+    let salt = salt_given(matches)?;
+    let keep = keep_of(number)?;
+    let task = Task {
+        limits,
+        keep,
+        source,
+        infile: infile_named(infile),
+        outfile: value_of(matches, "outfile"),
+    };
+    Ok(Encryption { costs, salt, task })
 }
 
 // What the words of `dec` ask for.
-fn decryption_asked<'a>(words: &CommonWords<'a>) -> Result<Task<'a>, ScryptRefusal>
-    ensures decryption { answered task_seen result ≡ decryption_asked (common_of words.now) }
+fn decryption_given<'a>(matches: &ArgMatches<'a>) -> Result<Task<'a>, ScryptRefusal>
+    ensures decryption { answered task_seen result ≡ decryption_asked (rows_in matches.now) }
     ensures allowed { IfOk result (λ task. HasAllowedLimits (task_seen task)) }
     ensures counts { IfErr result RaisesNoCount }
 {
-    let limits = limits_given(words)?;
-    let files = files_given(words)?;
-    let keep = keep_given(words)?;
-    Ok(files.task(limits, keep))
+    let infile = infile_given(matches)?;
+    let limits = limits_given(matches)?;
+    let number = number_given(matches, "keep", 1)?;
+    let source = source_given(matches, infile)?;
+    let keep = keep_of(number)?;
+    Ok(Task {
+        limits,
+        keep,
+        source,
+        infile: infile_named(infile),
+        outfile: value_of(matches, "outfile"),
+    })
 }
 
-// What the words of a subcommand ask for.
-fn request_of<'a>(words: &Words<'a>) -> Result<Request<'a>, ScryptRefusal>
-    ensures request { answered request_seen result ≡ request_of_words (words_of words.now) }
+// What the words of the subcommand of this name ask for.
+fn request_at<'a>(name: &str, matches: &ArgMatches<'a>) -> Result<Request<'a>, ScryptRefusal>
+    ensures request { answered request_seen result ≡ request_at name.now (rows_in matches.now) }
     ensures allowed { IfOk result (λ request. IsAllowed (request_seen request)) }
     ensures counts { IfErr result RaisesNoCount }
 {
-    match words {
-        Words::Enc(words) => match encryption_asked(words) {
+    match name {
+        "enc" => match encryption_given(matches) {
             Ok(encryption) => Ok(Request::Encrypt(encryption)),
             Err(refusal) => Err(refusal),
         },
-        Words::Dec(words) => match decryption_asked(words) {
+        "dec" => match decryption_given(matches) {
             Ok(task) => Ok(Request::Decrypt(task)),
             Err(refusal) => Err(refusal),
         },
-        Words::Info(infile) => Ok(Request::Inspect(infile_named(infile))),
+        "info" => Ok(Request::Inspect(infile_named(infile_given(matches)?))),
+        _ => Err(ScryptRefusal::Usage),
     }
 }
 
-/// Reads the words behind the program's name: what they ask for, or the first refusal that they meet.
+// What words that `clap` took ask for.
+fn request_in<'a>(matches: &ArgMatches<'a>) -> Result<Request<'a>, ScryptRefusal>
+    ensures request { MatchOption (subcommand_rows_of matches.now) (result ≡ Err ScryptRefusal.Usage)
+        (λ said. answered request_seen result ≡ request_at said.0 said.1) }
+    ensures allowed { IfOk result (λ request. IsAllowed (request_seen request)) }
+    ensures counts { IfErr result RaisesNoCount }
+{
+    let (name, inner) = matches.subcommand().ok_or(ScryptRefusal::Usage)?;
+    request_at(name, inner)
+}
+
+/// Reads the words after the program's name: what they ask for, or the first refusal that they meet.
 /// `OutOfMemory` is answered where `clap` is refused a growth of memory.
 pub fn read_request<'a>(alloc: Global, words: &'a [String]) -> Result<Request<'a>, ScryptRefusal>
     ensures request { IfOk result (λ request.
         scrypt_request (map string_bytes words.entry.now) ≡ Ok (request_seen request)) }
-    ensures refused { IfErr result (λ refusal. (refusal ≡ ScryptRefusal.OutOfMemory)
-        ⊎ (scrypt_request (map string_bytes words.entry.now) ≡ Err refusal)) }
+    ensures refused { IfErr result (λ refusal.
+        (scrypt_request (map string_bytes words.entry.now) ≡ Err refusal) ⊎ (refusal ≡ ScryptRefusal.OutOfMemory)) }
     ensures allowed { IfOk result (λ request. IsAllowed (request_seen request)) }
     ensures counts { IfErr result RaisesNoCount }
 {
-    match read_words(alloc, words) {
-        Ok(said) => request_of(&said),
-        Err(WordsFault::Usage) => Err(ScryptRefusal::Usage),
-        Err(WordsFault::OutOfMemory) => Err(ScryptRefusal::OutOfMemory),
-    }
+    let matches = read_words(alloc, words)?;
+    request_in(&matches)
 }

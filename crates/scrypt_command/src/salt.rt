@@ -1,12 +1,14 @@
 //! The salt that the words give.
-ghost use Rattle.std.specs.Prelude.{◌≡◌, ◌↔◌, IfErr, IsSome, length};
+ghost use Rattle.std.specs.Prelude.{◌≡◌, ◌↔◌, IfErr, IsSome, codes, length};
 ghost use Rattle.std.specs.List.{AllPass};
 ghost use Rattle.hex.specs.Hex.{is_hex_digit};
 ghost use Rattle.scrypt_run.specs.Refusal.{RaisesNoCount};
 ghost use Rattle.scrypt_command.specs.Request.{salt_asked, salt_in};
-ghost use Rattle.scrypt_command.specs.WordsView.{enc_of};
+ghost use Rattle.scrypt_command.specs.Words.{rows_in};
+ghost use Rattle.clap.specs.Words.{first_of as value_of};
 
-use crate::words::EncWords;
+use crate::words::value_of;
+use clap::ArgMatches;
 use hex::FromHex;
 use scrypt_run::ScryptRefusal;
 
@@ -19,15 +21,13 @@ fn salt_in(text: &str) -> Option<[u8; 32]>
 }
 
 /// The salt that the words of `enc` give, or `None` where they give none.
-pub fn salt_given(words: &EncWords<'_>) -> Result<Option<[u8; 32]>, ScryptRefusal>
-    ensures salt { result ≡ salt_asked (enc_of words.now) }
+pub fn salt_given(matches: &ArgMatches<'_>) -> Result<Option<[u8; 32]>, ScryptRefusal>
+    ensures salt { result ≡ salt_asked (value_of (codes "salt") (rows_in matches.now)) }
     ensures counts { IfErr result RaisesNoCount }
 {
-    let Some(text) = words.salt else {
+    let Some(text) = value_of(matches, "salt") else {
         return Ok(None);
     };
-    match salt_in(text) {
-        Some(salt) => Ok(Some(salt)),
-        None => Err(ScryptRefusal::SaltDigits),
-    }
+    let salt = salt_in(text).ok_or(ScryptRefusal::SaltDigits)?;
+    Ok(Some(salt))
 }

@@ -1,26 +1,37 @@
-//! What `enc` and `dec` both ask for: limits, S, the passphrase's source, and the files.
-ghost use Rattle.std.specs.Prelude.{◌≡◌, ◌<◌, ◌≤◌, ◌^◌, true, IfOk, IfErr, IfSome, option_map};
-ghost use Rattle.scrypt_run.specs.Refusal.{RaisesNoCount};
-ghost use Rattle.scrypt_command.specs.Request.{files_asked, has_same_name, infile_named, keep_asked, limit_given, limits_asked, one_source, source_named, task_of, wants_stdin_twice};
-ghost use Rattle.scrypt_command.specs.WordsView.{common_of, files_of};
-ghost use Rattle.romix.specs.SparseCosts.{is_keep};
-ghost use Rattle.scrypt_run.specs.Request.{HasAllowedLimits, task_seen, text_of};
+//! What `enc` and `dec` both ask for: the files, the limits, the passphrase's source, and S.
+ghost use Rattle.std.specs.Prelude.{◌≡◌, ◌<◌, ◌≤◌, ◌^◌, ◌&&◌, true, IfOk, IfErr, codes, option_map, Some};
+ghost use Rattle.std.specs.Option.{option_eq};
+ghost use Rattle.std.specs.Str.{bytes_eq};
 ghost use Rattle.command_words.specs.Answer.{answered};
+ghost use Rattle.command_words.specs.Number.{number_in};
 ghost use Rattle.host.specs.Secret.{source_of};
+ghost use Rattle.romix.specs.SparseCosts.{is_keep};
+ghost use Rattle.scrypt_run.specs.Refusal.{RaisesNoCount};
+ghost use Rattle.scrypt_run.specs.Request.{text_of};
+ghost use Rattle.scrypt_command.specs.Request.{infile_asked, infile_named, keep_asked, limits_asked, number_asked, one_source, source_asked, source_named, wants_stdin};
+ghost use Rattle.scrypt_command.specs.Words.{is_set, rows_in};
+ghost use Rattle.clap.specs.Words.{first_of as value_of};
 
-use crate::costs::number_given;
-use crate::words::CommonWords;
+use crate::words::{is_set, value_of};
+use clap::ArgMatches;
 use command_words::number_in;
 use host::Source;
 use romix::Limits;
-use scrypt_run::{ScryptRefusal, Task};
+use scrypt_run::ScryptRefusal;
 
-/// Where the passphrase, the input and the output are: `None` is the standard stream.
-#[derive(Clone, Copy, Debug)]
-pub struct Files<'a> {
-    pub source: Source<'a>,
-    pub infile: Option<&'a str>,
-    pub outfile: Option<&'a str>,
+/// The word for the input, which has to be there.
+pub fn infile_given<'a>(matches: &ArgMatches<'a>) -> Result<&'a str, ScryptRefusal>
+    ensures infile { answered (λ word. word.now) result ≡ infile_asked (rows_in matches.now) }
+    ensures counts { IfErr result RaisesNoCount }
+{
+    value_of(matches, "infile").ok_or(ScryptRefusal::Usage)
+}
+
+/// The input's name that a word gives; `-` is standard input.
+pub fn infile_named<'a>(word: &'a str) -> Option<&'a str>
+    ensures name { text_of result ≡ infile_named word.entry.now }
+{
+    if word == "-" { None } else { Some(word) }
 }
 
 // The greatest -M is 2^40 bytes.
@@ -30,31 +41,33 @@ const MAX_BYTES_END: u64 = (1 << 40) + 1;
 const MAX_OPS_END: u64 = 1 << 63;
 
 // The limit that an option gives, at least 1 and below `end`, or the limit without the option.
-fn limit_given(end: u64, default: u64, text: Option<&str>) -> Option<u64>
+fn limit_given(
+    matches: &ArgMatches<'_>,
+    name: &str,
+    end: u64,
+    default: u64,
+) -> Result<u64, ScryptRefusal>
     requires within { default < end }
-    ensures limit { result ≡ limit_given end default (text_of text.entry) }
-    ensures below { IfSome result (λ n. n < end) }
+    ensures limit { result ≡ number_asked name.now (number_in 1 end) default (rows_in matches.now) }
+    ensures below { IfOk result (λ n. n < end) }
+    ensures counts { IfErr result RaisesNoCount }
 {
-    match text {
-        None => Some(default),
-        Some(text) => number_in(1, end, text),
+    match value_of(matches, name) {
+        None => Ok(default),
+        Some(text) => number_in(1, end, text).ok_or(ScryptRefusal::Usage),
     }
 }
 
-/// The limits that the words give, or 2^32 bytes and 2^33 cores where they give none. What is said of
-/// S is a number word, too.
-pub fn limits_given(words: &CommonWords<'_>) -> Result<Limits, ScryptRefusal>
-    ensures limits { result ≡ limits_asked (common_of words.now) }
+/// The limits that the words give, or 2^32 bytes and 2^33 cores where they give none.
+pub fn limits_given(matches: &ArgMatches<'_>) -> Result<Limits, ScryptRefusal>
+    ensures limits { result ≡ limits_asked (rows_in matches.now) }
     ensures allowed { IfOk result (λ limits. limits.max_bytes ≤ 2 ^ 40) }
     ensures counts { IfErr result RaisesNoCount }
 {
-    let max_bytes = limit_given(MAX_BYTES_END, 1 << 32, words.max_bytes);
-    let max_ops = limit_given(MAX_OPS_END, 1 << 33, words.max_ops);
-    let keep = number_given(1, words.keep);
-    match (max_bytes, max_ops, keep) {
-        (Some(max_bytes), Some(max_ops), Some(_)) => Ok(Limits { max_bytes, max_ops }),
-        _ => Err(ScryptRefusal::Usage),
-    }
+    Ok(Limits {
+        max_bytes: limit_given(matches, "M", MAX_BYTES_END, 1 << 32)?,
+        max_ops: limit_given(matches, "maxops", MAX_OPS_END, 1 << 33)?,
+    })
 }
 
 // Whether a number is a power of two from 1 to 1,024.
@@ -68,17 +81,16 @@ fn is_keep(number: u128) -> bool
     )
 }
 
-/// S that the words give, or 1 where they give none.
-pub fn keep_given(words: &CommonWords<'_>) -> Result<u64, ScryptRefusal>
-    ensures keep { result ≡ keep_asked (common_of words.now) }
+/// S of a number, if it is one.
+pub fn keep_of(number: u128) -> Result<u64, ScryptRefusal>
+    ensures keep { result ≡ keep_asked number }
     ensures power { IfOk result (λ keep. is_keep keep ≡ true) }
     ensures counts { IfErr result RaisesNoCount }
 {
-    let keep = number_given(1, words.keep).unwrap_or(1);
-    if !is_keep(keep) {
+    if !is_keep(number) {
         return Err(ScryptRefusal::KeepOutOfRange);
     }
-    Ok(keep as u64)
+    Ok(number as u64)
 }
 
 // The source that a word names.
@@ -103,80 +115,49 @@ fn source_named<'a>(text: &'a str) -> Option<Source<'a>>
 }
 
 // The one source: standard input where -P is given, or what --passphrase names, and not both.
-fn one_source<'a>(words: &CommonWords<'a>) -> Option<Source<'a>>
-    ensures source { option_map source_of result ≡
-        one_source words.now.is_stdin (text_of words.now.passphrase) }
+fn one_source<'a>(matches: &ArgMatches<'a>) -> Option<Source<'a>>
+    ensures source { option_map source_of result ≡ one_source (is_set (codes "P") (rows_in matches.now))
+        (value_of (codes "passphrase") (rows_in matches.now)) }
 {
-    match (words.is_stdin, words.passphrase) {
+    match (is_set(matches, "P"), value_of(matches, "passphrase")) {
         (true, None) => Some(Source::StdinOnce),
         (false, Some(text)) => source_named(text),
         _ => None,
     }
 }
 
-// Whether the input and the passphrase are asked from standard input.
-fn wants_stdin_twice(words: &CommonWords<'_>) -> bool
-    ensures twice { result ≡ wants_stdin_twice (common_of words.now) }
+// Whether the passphrase is asked from standard input.
+fn wants_stdin(matches: &ArgMatches<'_>) -> bool
+    ensures wants { result ≡ wants_stdin (rows_in matches.now) }
 {
-    let is_named = match words.passphrase {
+    let is_named = match value_of(matches, "passphrase") {
         Some(text) => text == "dev:stdin-once",
         None => false,
     };
-    words.infile == "-" && (words.is_stdin || is_named)
+    is_set(matches, "P") || is_named
 }
 
 // Whether infile and outfile are the same text.
-fn has_same_name(words: &CommonWords<'_>) -> bool
-    ensures same { result ≡ has_same_name (common_of words.now) }
+fn has_same_name(matches: &ArgMatches<'_>, infile: &str) -> bool
+    ensures same { result ≡
+        option_eq bytes_eq (value_of (codes "outfile") (rows_in matches.now)) (Some infile.now) }
 {
-    match words.outfile {
-        Some(name) => name == words.infile,
+    match value_of(matches, "outfile") {
+        Some(name) => name == infile,
         None => false,
     }
 }
 
-/// The input's name that a word gives; `-` is standard input.
-pub fn infile_named<'a>(word: &'a str) -> Option<&'a str>
-    ensures name { text_of result ≡ infile_named word.entry.now }
-{
-    if word == "-" { None } else { Some(word) }
-}
-
-/// The passphrase's source and the files that the words name.
-pub fn files_given<'a>(words: &CommonWords<'a>) -> Result<Files<'a>, ScryptRefusal>
-    ensures files { answered files_of result ≡ files_asked (common_of words.now) }
+/// The passphrase's source that the words name beside this infile.
+pub fn source_given<'a>(matches: &ArgMatches<'a>, infile: &str) -> Result<Source<'a>, ScryptRefusal>
+    ensures source { answered source_of result ≡ source_asked infile.now (rows_in matches.now) }
     ensures counts { IfErr result RaisesNoCount }
 {
-    if wants_stdin_twice(words) {
+    if infile == "-" && wants_stdin(matches) {
         return Err(ScryptRefusal::StandardInputTwice);
     }
-    if has_same_name(words) {
+    if has_same_name(matches, infile) {
         return Err(ScryptRefusal::SameName);
     }
-    let Some(source) = one_source(words) else {
-        return Err(ScryptRefusal::PassphraseSource);
-    };
-    Ok(Files {
-        source,
-        infile: infile_named(words.infile),
-        outfile: words.outfile,
-    })
-}
-
-impl<'a> Files<'a> {
-    /// The task with these limits and this S.
-    pub fn task(self, limits: Limits, keep: u64) -> Task<'a>
-        requires allowed { limits.max_bytes ≤ 2 ^ 40 }
-        requires power { is_keep keep ≡ true }
-        ensures task { task_seen result ≡ task_of limits keep (files_of self.entry) }
-        ensures allowed { HasAllowedLimits (task_seen result) }
-    {
-        Task {
-            limits,
-            keep,
-            source: self.source,
-            infile: self.infile,
-            outfile: self.outfile,
-        }
-    }
+    one_source(matches).ok_or(ScryptRefusal::PassphraseSource)
 }

@@ -3,7 +3,6 @@ use Rattle.std.specs.Prelude.{ℕ, []}
 use Rattle.argon.specs.Counts.{work}
 use Rattle.argon2_command.specs.Output.{parameters_of}
 use Rattle.argon2_command.specs.Request.{Request}
-use Rattle.argon2_command.specs.declared.refusal.Argon2Refusal.TheVariants as refusal
 
 -- how many block functions the hash of a request takes, which no password changes
 abbrev pub request_work : Request → ℕ

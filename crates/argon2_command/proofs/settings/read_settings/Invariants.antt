@@ -1,7 +1,7 @@
 use Rattle.std.proofs.Common.{◌≡◌, map, string_bytes}
 use Rattle.argon2_command.specs.Items.{items}
 use Rattle.argon2_command.specs.ItemView.{items_left}
-use Rattle.argon2_command.specs.Settings.{defaults, first_fault, settings_after}
+use Rattle.argon2_command.specs.Settings.{defaults, settings_after}
 use Rattle.argon2_command.proofs.settings.read_settings.Given as goal
 
 -- the items that are left decide on, from what has been set
@@ -9,7 +9,4 @@ abbrev pub invariant-loop-item : goal.invariant-loop-item
 invariant-loop-item l =
     let all = items (map string_bytes l.words) in
     let left = items_left l.item-iterator in
-    record {
-      fault : first_fault all ≡ first_fault left;
-      set : settings_after defaults all ≡ settings_after l.settings left;
-    }
+    record { set : settings_after defaults all ≡ settings_after l.settings left }
