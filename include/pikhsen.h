@@ -159,12 +159,11 @@ unsigned int pikhsen_scrypt_encrypt(const unsigned char *passphrase, size_t pass
     pikhsen_u64 max_ops, const unsigned char *text, size_t text_len, unsigned char *out, size_t out_len);
 
 /*
- * Writes the text of a file to the front of out, and its length to *text_len. out has at least file_len bytes; those
- * after the text are in no promised state. PIKHSEN_OK: the whole file is an encryption of that text under the
- * passphrase, its final code included. After any other answer *text_len is 0 and out holds nothing of the text: after
- * PIKHSEN_DAMAGED and PIKHSEN_TOO_LONG all its bytes are 0, after others it is as it was. During the call out holds
- * text that is not yet tested: give it memory that nobody else reads. Fewer than 96 bytes are PIKHSEN_TOO_SHORT. keep
- * and limits as above.
+ * Writes the text of a file to the front of out, zeros after it, and its length to *text_len. out has at least file_len
+ * bytes. PIKHSEN_OK: the whole file is an encryption of that text under the passphrase, its final code included. After
+ * any other answer *text_len is 0 and out holds nothing of the text: after PIKHSEN_DAMAGED and PIKHSEN_TOO_LONG all its
+ * bytes are 0, after others it is as it was. During the call out holds text that is not yet tested: give it memory that
+ * nobody else reads. Fewer than 96 bytes are PIKHSEN_TOO_SHORT. keep and limits as above.
  */
 PIKHSEN_MUST_CHECK
 unsigned int pikhsen_scrypt_decrypt(const unsigned char *passphrase, size_t passphrase_len, unsigned int keep,

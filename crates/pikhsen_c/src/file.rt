@@ -1,5 +1,5 @@
 //! scrypt's encrypted files, whole in memory.
-ghost use Rattle.std.specs.Prelude.{◌≡◌, ◌≢◌, ℕ, ◌+◌, ◌^◌, ◌<◌, ◌≤◌, List, [], length, replicate, take, IfOk, IfErr, OnOk, OnErr};
+ghost use Rattle.std.specs.Prelude.{◌≡◌, ◌≢◌, ℕ, ◌+◌, ◌-◌, ◌^◌, ◌<◌, ◌≤◌, List, [], length, replicate, take, drop, IfOk, IfErr, OnOk, OnErr};
 ghost use Rattle.romix.specs.Costs.{Parameters};
 ghost use Rattle.encfile.specs.Decrypting.{HasRead};
 ghost use Rattle.encfile.specs.EncryptedFile.{HasRightHeaderCode, IsEncryptionOf, encrypted_file, released_text};
@@ -225,6 +225,7 @@ fn text_of(dec: Dec, file: &[u8], out: &mut [u8]) -> Result<usize, u32>
         → 2 ^ 60 + 128 ≤ length file.now) }
     ensures some { IfErr result (λ status. 28 ≤ status) }
     ensures few { IfErr result (λ status. status ≤ 29) }
+    ensures within { IfOk result (λ n. n ≤ length out.new) }
     ensures len { length out.new ≡ length out.old }
 {
     let mut dec = dec;
@@ -237,8 +238,17 @@ fn text_of(dec: Dec, file: &[u8], out: &mut [u8]) -> Result<usize, u32>
     }
 }
 
+// Puts zeros after the first `len` bytes.
+fn clear_after(len: usize, out: &mut [u8])
+    requires within { len ≤ length out.old }
+    ensures front { take len out.new ≡ take len out.old }
+    ensures rest { drop len out.new ≡ replicate (length out.old - len) 0 }
+{
+    out[len..].fill(0);
+}
+
 /// The text of a file, if the file is whole and the passphrase is right; nothing of it otherwise. `out` has
-/// at least as many bytes as the file, and the text is the first `text_len` of them.
+/// at least as many bytes as the file, and the text is the first `text_len` of them; the others are zeros.
 #[unsafe(no_mangle)]
 pub extern "C" fn pikhsen_scrypt_decrypt(
     alloc: Global,
@@ -251,6 +261,7 @@ pub extern "C" fn pikhsen_scrypt_decrypt(
     text_len: &mut usize,
 ) -> u32
     ensures whole { result ≡ 0 → IsEncryptionOf file.now passphrase.now (take text_len.new out.new) }
+    ensures rest { result ≡ 0 → drop text_len.new out.new ≡ replicate (length out.old - text_len.new) 0 }
     ensures nothing { result ≢ 0 → text_len.new ≡ 0 }
     // What is refused whatever the passphrase is told by the first fault, and nothing else is then told.
     ensures told { result ≢ 0 → result ≢ out_of_memory → result < wrong_passphrase
@@ -281,6 +292,7 @@ pub extern "C" fn pikhsen_scrypt_decrypt(
     };
     match text_of(dec, file, out) {
         Ok(len) => {
+            clear_after(len, out);
             *text_len = len;
             status::OK
         }

@@ -1,4 +1,5 @@
-use Rattle.std.proofs.Common.{length, arith, sym, ◌∙◌}
+use Rattle.std.proofs.Common.{ℕ, List, length, take, arith, sym, subst, ◌∙◌}
+use Rattle.encfile.specs.EncryptedFile.{IsEncryptionOf}
 use Rattle.pikhsen_c.proofs.FrontStatus.{front_is}
 use Rattle.pikhsen_c.proofs.file.pikhsen_scrypt_decrypt.Goals as goal
 
@@ -19,7 +20,8 @@ returns-in-Err-clause-late c = λ late.
 
 pub returns-in-Ok-text_of-clause-whole : goal.returns-in-Ok-text_of-clause-whole
 returns-in-Ok-text_of-clause-whole c = λ told.
-    c.in-Ok-text_of.ensures.whole c.args.passphrase.now c.in-Ok.ensures.opened c.in-Ok.ensures.nothing
+    subst (λ (text : List ℕ). IsEncryptionOf c.args.file.now c.args.passphrase.now text) (sym c.clear_after.ensures.front)
+    (c.in-Ok-text_of.ensures.whole c.args.passphrase.now c.in-Ok.ensures.opened c.in-Ok.ensures.nothing)
 
 pub returns-in-Ok-text_of-clause-admitted : goal.returns-in-Ok-text_of-clause-admitted
 returns-in-Ok-text_of-clause-admitted c = λ told.
