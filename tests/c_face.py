@@ -144,6 +144,10 @@ def compare_texts(checks):
     checks.that("version of the manual page", f'"Pikhsen {version}"' in PAGE.split("\n")[0], True)
     if shutil.which("mandoc"):
         checks.that("manual page", said("mandoc", "-T", "lint", str(TOP / "man/pikhsen.3"), check=False), "")
+    if shutil.which("mypy"):
+        checked = said("mypy", "--strict", "--no-error-summary", "--cache-dir=/dev/null", str(TOP / "python/pikhsen.py"),
+                       check=False)
+        checks.that("types of the Python module", checked, "")
     first, second, third = map(int, version.split("."))
     number = 10000 * first + 100 * second + third
     checks.that("version of the header", re.findall(r"PIKHSEN_VERSION (\d+)u", HEADER), [str(number)])
