@@ -9,6 +9,7 @@ mod argon2;
 mod encoded;
 mod file;
 mod scrypt;
+mod source;
 mod status;
 mod verifying;
 mod version;
