@@ -9,6 +9,7 @@ ghost use Rattle.pikhsen_c.specs.Argon2.{hash_status, inputs_given, kind_numbere
 ghost use Rattle.pikhsen_c.specs.Inside.Settings.{parameters_of};
 ghost use Rattle.pikhsen_c.specs.Status.{out_of_memory};
 
+use crate::burning::burn;
 use crate::source::Source;
 use crate::status;
 use argon::{Inputs, Kind, Params, Ticks};
@@ -93,6 +94,7 @@ pub(crate) fn admitted(params: &Params, settings: &Settings) -> Result<(), u32>
 }
 
 // The tag of these inputs, with memory from `source`: one request, for the matrix.
+#[inline(never)]
 fn hash_in<S: Source>(
     source: &mut S,
     settings: &Settings,
@@ -191,5 +193,6 @@ pub extern "C" fn pikhsen_argon2_hash(
         secret,
         associated,
     };
-    hash_in(&mut source, &settings, &inputs, out, &mut Ticks::new())
+    let told = hash_in(&mut source, &settings, &inputs, out, &mut Ticks::new());
+    burn(told)
 }

@@ -9,6 +9,7 @@ ghost use Rattle.pikhsen_c.specs.Inside.Settings.{parameters_of};
 ghost use Rattle.pikhsen_c.specs.Status.{out_of_memory, wrong_buffer};
 
 use crate::argon2::{Settings, admitted, kind_of, params_of};
+use crate::burning::burn;
 use crate::source::Source;
 use crate::status;
 use argon::{Inputs, Matrix, Ticks};
@@ -56,6 +57,7 @@ fn copy_text(text: &[u8], out: &mut [u8])
 }
 
 // The encoded text of a password's hash, with memory from `source`: for the text, and then for the matrix.
+#[inline(never)]
 fn encode_in<S: Source>(
     source: &mut S,
     settings: &Settings,
@@ -171,7 +173,7 @@ pub extern "C" fn pikhsen_argon2_encoded(
         max_kib,
         max_ops,
     };
-    encode_in(
+    let told = encode_in(
         &mut source,
         &settings,
         password,
@@ -180,5 +182,6 @@ pub extern "C" fn pikhsen_argon2_encoded(
         out,
         text_len,
         &mut Ticks::new(),
-    )
+    );
+    burn(told)
 }

@@ -11,6 +11,7 @@ ghost use Rattle.pikhsen_c.specs.File.{encrypt_status, front_status, header_stat
 ghost use Rattle.pikhsen_c.specs.Scrypt.{costs_given, limits_status, sparse_given};
 ghost use Rattle.pikhsen_c.specs.Status.{damaged, long_text, out_of_memory, wrong_passphrase};
 
+use crate::burning::burn;
 use crate::scrypt::{costs_of, workspace};
 use crate::source::Source;
 use crate::status;
@@ -113,6 +114,7 @@ fn put_file(enc: Enc, text: &[u8], out: &mut [u8]) -> Result<(), TooLong>
 }
 
 // The file of a text, with memory from `source`: one request.
+#[inline(never)]
 fn encrypt_in<S: Source>(
     source: &mut S,
     passphrase: &[u8],
@@ -189,7 +191,7 @@ pub extern "C" fn pikhsen_scrypt_encrypt(
     ensures untouched { result ≢ 0 → out.new ≡ out.old }
 {
     let mut source = alloc;
-    encrypt_in(
+    let told = encrypt_in(
         &mut source,
         passphrase,
         salt,
@@ -202,7 +204,8 @@ pub extern "C" fn pikhsen_scrypt_encrypt(
         text,
         out,
         &mut Ticks::new(),
-    )
+    );
+    burn(told)
 }
 
 // The first 96 bytes of a file.
@@ -309,6 +312,7 @@ fn clear_after(len: usize, out: &mut [u8])
 }
 
 // The text of a file, with memory from `source`: one request.
+#[inline(never)]
 fn decrypt_in<S: Source>(
     source: &mut S,
     passphrase: &[u8],
@@ -409,7 +413,7 @@ pub extern "C" fn pikhsen_scrypt_decrypt(
     ensures untouched { result ≢ 0 → result ≤ wrong_passphrase → out.new ≡ out.old }
 {
     let mut source = alloc;
-    decrypt_in(
+    let told = decrypt_in(
         &mut source,
         passphrase,
         keep,
@@ -419,5 +423,6 @@ pub extern "C" fn pikhsen_scrypt_decrypt(
         out,
         text_len,
         &mut Ticks::new(),
-    )
+    );
+    burn(told)
 }

@@ -6,6 +6,7 @@
 #![tactic(auto)]
 
 mod argon2;
+mod burning;
 mod encoded;
 mod file;
 mod scrypt;

@@ -6,6 +6,7 @@ ghost use Rattle.romix.specs.SparseCosts.{SparseFitsMemory};
 ghost use Rattle.pikhsen_c.specs.Scrypt.{costs_given, costs_status, limits_status, scrypt_status, sparse_given};
 ghost use Rattle.pikhsen_c.specs.Status.{out_of_memory};
 
+use crate::burning::burn;
 use crate::source::Source;
 use crate::status;
 use romix::{Costs, Limits, Sparse, Ticks, Workspace};
@@ -90,6 +91,7 @@ pub(crate) fn workspace<S: Source>(
 }
 
 // The key of a password, with memory from `source`: one request.
+#[inline(never)]
 fn derive_in<S: Source>(
     source: &mut S,
     password: &[u8],
@@ -160,7 +162,7 @@ pub extern "C" fn pikhsen_scrypt(
     ensures untouched { result ≢ 0 → out.new ≡ out.old }
 {
     let mut source = alloc;
-    derive_in(
+    let told = derive_in(
         &mut source,
         password,
         salt,
@@ -172,5 +174,6 @@ pub extern "C" fn pikhsen_scrypt(
         max_ops,
         out,
         &mut Ticks::new(),
-    )
+    );
+    burn(told)
 }

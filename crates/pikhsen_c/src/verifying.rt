@@ -9,6 +9,7 @@ ghost use Rattle.pikhsen_c.specs.Argon2.{HasOtherPassword, HasPassword, IsJudged
 ghost use Rattle.pikhsen_c.specs.Inside.Requests.{had_memory};
 ghost use Rattle.pikhsen_c.specs.Status.{mismatch, not_encoded, out_of_memory, out_of_range};
 
+use crate::burning::burn;
 use crate::source::Source;
 use crate::status;
 use argon_text::{Encoded, VerifyFault};
@@ -42,6 +43,7 @@ fn answered<S: Source>(
 }
 
 // The same of a text, with memory from `source`: for what the text says, and then for the hash.
+#[inline(never)]
 fn verify_in<S: Source>(
     source: &mut S,
     text: &[u8],
@@ -105,5 +107,6 @@ pub extern "C" fn pikhsen_argon2_verify(
     ensures high { result ≤ 16 }
 {
     let mut source = alloc;
-    verify_in(&mut source, text, password, max_kib, max_ops)
+    let told = verify_in(&mut source, text, password, max_kib, max_ops);
+    burn(told)
 }
