@@ -15,7 +15,8 @@
  *  - Memory is taken by malloc and realloc alone, and all of it is freed, by free, before the function returns; the
  *    three must be of one allocator. A call needs a stack of 64 KiB. It writes no file, reads no clock, starts no
  *    thread, sets no errno but by a malloc that refuses, and never ends the process.
- *  - Keys and what they are made of are not wiped from memory.
+ *  - Before a function that derives or hashes answers, it puts zeros over the stack that it used. What it frees is not
+ *    wiped, and registers may hold a piece of a key.
  *  - Not to be called from a signal handler, nor in the forked child of a process with threads.
  */
 #ifndef PIKHSEN_H
@@ -159,12 +160,11 @@ unsigned int pikhsen_scrypt_encrypt(const unsigned char *passphrase, size_t pass
     pikhsen_u64 max_ops, const unsigned char *text, size_t text_len, unsigned char *out, size_t out_len);
 
 /*
- * Writes the text of a file to the front of out, and its length to *text_len. out has at least file_len bytes; those
- * after the text are in no promised state. PIKHSEN_OK: the whole file is an encryption of that text under the
- * passphrase, its final code included. After any other answer *text_len is 0 and out holds nothing of the text: after
- * PIKHSEN_DAMAGED and PIKHSEN_TOO_LONG all its bytes are 0, after others it is as it was. During the call out holds
- * text that is not yet tested: give it memory that nobody else reads. Fewer than 96 bytes are PIKHSEN_TOO_SHORT. keep
- * and limits as above.
+ * Writes the text of a file to the front of out, zeros after it, and its length to *text_len. out has at least file_len
+ * bytes. PIKHSEN_OK: the whole file is an encryption of that text under the passphrase, its final code included. After
+ * any other answer *text_len is 0 and out holds nothing of the text: after PIKHSEN_DAMAGED and PIKHSEN_TOO_LONG all its
+ * bytes are 0, after others it is as it was. During the call out holds text that is not yet tested: give it memory that
+ * nobody else reads. Fewer than 96 bytes are PIKHSEN_TOO_SHORT. keep and limits as above.
  */
 PIKHSEN_MUST_CHECK
 unsigned int pikhsen_scrypt_decrypt(const unsigned char *passphrase, size_t passphrase_len, unsigned int keep,

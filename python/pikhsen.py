@@ -29,7 +29,7 @@ import operator
 import os
 import sys
 from ctypes import POINTER, byref, c_char_p, c_size_t, c_uint, c_ulong
-from typing import Callable, Dict, NamedTuple, Optional, Type, Union
+from typing import Callable, Dict, List, NamedTuple, Optional, Type, Union
 
 __all__ = [
     "BytesLike", "Costs", "Damaged", "Invalid", "Kind", "LimitExceeded", "NotAFile", "OutOfMemory", "Refused", "Status",
@@ -132,7 +132,8 @@ class Refused(Exception):
     @property
     def status(self) -> Union[Status, int]:
         """Why the call was refused."""
-        return self.args[0]
+        told: Union[Status, int] = self.args[0]
+        return told
 
     def __str__(self) -> str:
         return _SENTENCES.get(self.status, f"refused for a reason that this module does not know: {self.status}")
@@ -235,7 +236,7 @@ _lib = _loaded()
 
 def _call(function: Callable[..., int], *arguments: object) -> None:
     """Calls the function, with each bytes or buffer as a pointer and a length, and raises what it is refused for."""
-    flat = []
+    flat: List[object] = []
     for given in arguments:
         flat += [given, len(given)] if isinstance(given, (bytes, ctypes.Array)) else [given]
     number = function(*flat)

@@ -191,6 +191,7 @@ int main(void)
 		WANT(memcmp(tags[0], tags[i], 32) == 0);
 
 	memset(tag, 1, sizeof tag);
+	memset(text, 1, sizeof text);
 	for (i = 0; i < 7; ++i)
 		WANT(on_small_stack(calls_refused, i, tag) == PIKHSEN_OK);
 	/* RFC 7914, section 12, the first vector's last derivation has these first bytes; keep is 4 */
@@ -202,6 +203,8 @@ int main(void)
 	WANT(pikhsen_argon2_verify(encoded, strlen(known) + 1, password, 8, 8, 100) == PIKHSEN_NOT_ENCODED);
 
 	WANT(len == 5 && memcmp(text, somesalt, 5) == 0);
+	for (i = 5; i < (int)sizeof text; ++i)
+		WANT(text[i] == 0);
 	WANT(costs.log_n == 4 && costs.r == 3 && costs.p == 2);
 	memset(&costs, 0, sizeof costs);
 	WANT(pikhsen_scrypt_info(file, 64, &costs) == PIKHSEN_OK);

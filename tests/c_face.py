@@ -1,7 +1,7 @@
 #!/usr/bin/env python3
 """Builds libpikhsen over what the gate proved, and calls it from C and from Python: header and exports are the same,
-both ways to link, RFC vectors, hashlib, each byte of a file changed, each cut, threads, processes, libraries that the
-module must refuse, and README's two programs.
+both ways to link, RFC vectors, hashlib, each byte of a file changed, each cut, threads, processes, keys that a call
+leaves in memory, libraries that the module must refuse, and README's two programs.
 
     tests/c_face.py              rt lib proves and builds crates/pikhsen_c, over what earlier proofs left
     tests/c_face.py --built      takes the static library as make lib or an earlier run left it
@@ -144,6 +144,10 @@ def compare_texts(checks):
     checks.that("version of the manual page", f'"Pikhsen {version}"' in PAGE.split("\n")[0], True)
     if shutil.which("mandoc"):
         checks.that("manual page", said("mandoc", "-T", "lint", str(TOP / "man/pikhsen.3"), check=False), "")
+    if shutil.which("mypy"):
+        checked = said("mypy", "--strict", "--no-error-summary", "--cache-dir=/dev/null", str(TOP / "python/pikhsen.py"),
+                       check=False)
+        checks.that("types of the Python module", checked, "")
     first, second, third = map(int, version.split("."))
     number = 10000 * first + 100 * second + third
     checks.that("version of the header", re.findall(r"PIKHSEN_VERSION (\d+)u", HEADER), [str(number)])
@@ -238,6 +242,49 @@ def from_cpp(checks, folder, lib, static):
     made = compile_c(source, lib, program, static, *strict, compiler="g++")
     checks.that(f"C++ {'static' if static else 'shared'}, compiled", made, (0, ""))
     checks.that(f"C++ {'static' if static else 'shared'}", subprocess.run([program]).returncode, 0)
+
+
+# ---- what a call leaves in memory
+
+
+def kept_pieces(process, pieces):
+    """Which of these bytes stand somewhere in the memory that a process can write."""
+    found = set()
+    maps = pathlib.Path(f"/proc/{process.pid}/maps").read_text(encoding="utf-8")
+    with open(f"/proc/{process.pid}/mem", "rb") as memory:
+        for start, end in re.findall(r"^([0-9a-f]+)-([0-9a-f]+) rw", maps, re.MULTILINE):
+            memory.seek(int(start, 16))
+            content = memory.read(int(end, 16) - int(start, 16))
+            found |= {name for name, piece in pieces.items() if piece in content}
+    return sorted(found)
+
+
+def secrets_from_c(checks, folder, lib, pikhsen):
+    """After a call no key stands on the stack, nor anywhere else: what the two halves of 64 derived bytes are made to."""
+    salt, costs = b"\7" * 32, {"log_n": 10, "r": 8, "p": 1}
+    keys = hashlib.scrypt(b"pw", salt=salt, n=1024, r=8, p=1, dklen=64, maxmem=1 << 26)
+    pieces = {f"bytes {at} to {at + 15}": keys[at:at + 16] for at in range(0, 64, 16)}
+    pieces["the inner key"] = bytes(it ^ 0x36 for it in keys[32:48])
+    pieces["the outer key"] = bytes(it ^ 0x5C for it in keys[32:48])
+    file = pikhsen.encrypt(bytes(1000), b"pw", salt=salt, **costs)
+    # -z now: the binding of a name at its first call would store vector registers, in which a piece of a key may be left
+    made = compile_c(TOP / "tests/secrets.c", lib, f"{folder}/secrets", True, *STRICT, "-Wl,-z,now")
+    checks.that("secrets.c, compiled", made, (0, ""))
+    for what, given, expected in (
+        ("kept", b"", [it for it in sorted(pieces) if it.startswith("bytes")]), ("key", b"", []),
+        ("encrypt", b"", []), ("decrypt", file, []),
+    ):
+        with subprocess.Popen([f"{folder}/secrets", what], stdin=subprocess.PIPE, stdout=subprocess.PIPE) as process:
+            process.stdin.write(given)
+            process.stdin.flush()
+            told = process.stdout.readline()
+            try:
+                found = kept_pieces(process, pieces)
+            except PermissionError:
+                print("the memory of a process may not be read here: keys are not looked for")
+                return
+            checks.that(f"keys in memory after: {what}", (told, found), (b"0\n", expected))
+            process.communicate(b"x")
 
 
 # ---- from Python
@@ -582,6 +629,7 @@ def main():
             limits_from_python, exceptions_from_python,
         ):
             part(checks, pikhsen)
+        secrets_from_c(checks, folder, lib, pikhsen)
         libraries_of_python(checks, folder, lib)
         readme_runs(checks, folder, lib)
     checks.end()

@@ -23,7 +23,7 @@ def functions(crate):
     for text in code(crate):
         owner, name = "", None
         for line in text.splitlines():
-            if block := re.match(r"(?:pub )?(?:impl|trait|struct)\b(?:<[^>]*>)? ?(?:.* for )?(\w+)", line):
+            if block := re.match(r"(?:pub(?:\(crate\))? )?(?:impl|trait|struct)\b(?:<[^>]*>)? ?(?:.* for )?(\w+)", line):
                 owner = block[1] + "::"
                 found.setdefault(block[1], set())
             elif line.startswith("}"):

@@ -17,16 +17,22 @@ for proof in $(grep -o 'crates/[A-Za-z0-9_/]*/Proof\.antt' docs/GATE.md | sort -
     test -f "$proof" || fail "docs/GATE.md lists $proof, which is not there"
 done
 
-# The lines of the sources, without comments and without tests, that have this text.
+# The lines of the sources below a folder, without comments and without tests, that have this text.
 places() {
-    grep -rnF --include='*.rt' --exclude-dir=out --exclude-dir=tests --exclude=tests.rt --exclude=vectors.rt -- "$1" crates |
+    grep -rnHF --include='*.rt' --exclude-dir=out --exclude-dir=tests --exclude=tests.rt --exclude=vectors.rt -- "$2" "$1" |
         grep -vE '^[^:]*:[0-9]+: *//' | cut -d: -f1 | sort
 }
-# expect TEXT REASON FILE..: the text stands once in each of these files, twice where it is named twice, and nowhere else.
+# expect_below FOLDER TEXT REASON FILE..: below the folder the text stands once in each of these files, twice where it is
+# named twice, and nowhere else.
+expect_below() {
+    folder=$1 text=$2 reason=$3
+    shift 3
+    test "$(places "$folder" "$text")" = "$(test $# = 0 || printf '%s\n' "$@" | sort)" ||
+        fail "'$text' stands elsewhere: $reason"
+}
+# expect TEXT REASON FILE..: the same of all crates.
 expect() {
-    text=$1 reason=$2
-    shift 2
-    test "$(places "$text")" = "$(test $# = 0 || printf '%s\n' "$@" | sort)" || fail "'$text' stands elsewhere: $reason"
+    expect_below crates "$@"
 }
 expect '.tick()' "the counters tick in the one block function and the one core" \
     crates/argon/src/compression.rt crates/romix/src/salsa20.rt
@@ -37,17 +43,32 @@ expect 'Ticks::new()' "a counter is made by the test of a password, the function
 
 # Memory is reserved, and work begun, in one place for each way to it, where contracts say what was tested before.
 expect '::reserve(' "only a source of memory reserves, on the condition that limits admit the work" \
-    crates/argon_text/src/room.rt crates/argon2_command/src/room.rt crates/pikhsen_c/src/argon2.rt \
-    crates/pikhsen_c/src/scrypt.rt crates/scrypt_run/src/admission.rt
+    crates/argon_text/src/room.rt crates/argon2_command/src/room.rt crates/pikhsen_c/src/source.rt \
+    crates/pikhsen_c/src/source.rt crates/scrypt_run/src/admission.rt
 expect '.allocator()' "no function takes the heap out of what it is lent, but the writing of a text" \
     crates/argon_text/src/encoded.rt
 expect 'vec![in' "lists of a given length are made by the sources of memory alone" crates/argon/src/room.rt \
-    crates/argon/src/room.rt crates/argon2_command/src/room.rt crates/pikhsen_c/src/encoded.rt \
+    crates/argon/src/room.rt crates/argon2_command/src/room.rt crates/pikhsen_c/src/source.rt \
     crates/romix/src/reservation.rt
 expect 'with_capacity(' "room for a given length is asked for by the sources of memory alone, which use lists"
 expect '.hash(' "a hash is made by the test of a password, the functions for C and argon2" \
     crates/argon_text/src/verify_password.rt crates/argon2_command/src/output.rt crates/pikhsen_c/src/argon2.rt \
     crates/pikhsen_c/src/encoded.rt
+# The functions for C: one copy of a list is made, where memory comes from, no list grows, and none is kept from being freed.
+for text in '.to_vec(' 'Vec::new(' '.write(' 'Encoded::read(' 'verify(*self'; do
+    expect_below crates/pikhsen_c "$text" "memory is asked for by the sources of memory alone" crates/pikhsen_c/src/source.rt
+done
+for text in '.resize(' 'from_elem(' '.extend_from_slice(' '.push(' '.reserve(' '.clone_in(' 'Box::new('; do
+    expect_below crates/pikhsen_c "$text" "memory is asked for by the sources of memory alone"
+done
+for text in 'forget(' 'ManuallyDrop' 'leak(' 'into_raw('; do
+    expect_below crates/pikhsen_c "$text" "all memory that a function for C takes is freed"
+done
+# An exported function makes a source of the heap, and hands that on: no other line speaks of the heap.
+if grep -nH alloc crates/pikhsen_c/src/*.rt | grep -vE '/(source|tests)\.rt:|: *//' |
+    grep -vE ': *(alloc: Global,|let mut source = alloc;|use std::alloc::Global;)$'; then
+    fail "the heap is used by a function for C that is not a source of memory"
+fi
 # Of the system's host, which tells no bytes, no contract sees that a secret or a salt is read twice.
 expect 'read_secret(' "the system reads a secret once" crates/tools/src/system_host.rt
 expect 'read_salt(&' "the system reads a salt once" crates/tools/src/system_host.rt
@@ -61,6 +82,12 @@ expect 'are_same(tag, claim.tag)' "tags are compared over all their bytes" crate
 expect '!are_same(&front[64..], ' "the code of a header is compared over all its bytes" crates/encfile/src/dec.rt
 expect 'are_same(&self.bytes, code)' "the final code is compared over all its bytes" crates/encfile/src/held.rt
 expect 'difference |= left[i] ^ right[i];' "the comparison looks at every byte" crates/comparison/src/lib.rt
+expect 'source.test(' "a password is tested for C in one place" crates/pikhsen_c/src/verifying.rt
+for text in '==' '!=' '.eq(' '.ne(' '.cmp(' '.starts_with(' '.position(' 'are_same('; do
+    for file in verifying source; do
+        expect_below "crates/pikhsen_c/src/$file.rt" "$text" "the function for C that tests a password compares nothing itself"
+    done
+done
 
 tests/encoded_texts.py crates/argon_text/src/tests/near_misses.rt || status=1
 

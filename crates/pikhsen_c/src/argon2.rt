@@ -1,14 +1,31 @@
 //! Hashes by Argon2.
-ghost use Rattle.std.specs.Prelude.{◌≡◌, ◌≢◌, ◌≤◌, ◌<◌, length, Ok, IfSome, IfOk, IfErr, OnOk, None};
+ghost use Rattle.std.specs.Prelude.{◌≡◌, ◌≢◌, ◌+◌, ◌≤◌, ◌<◌, length, Ok, IfSome, IfOk, IfErr, OnOk, None, true, false};
 ghost use Rattle.argon.specs.Argon2.{argon2_tag};
+ghost use Rattle.argon.specs.Counts.{work};
+ghost use Rattle.argon.specs.Inputs.{inputs_of};
 ghost use Rattle.argon.specs.Kind.{type_number};
 ghost use Rattle.argon.specs.Range.{IsInRange, admission};
 ghost use Rattle.pikhsen_c.specs.Argon2.{hash_status, inputs_given, kind_numbered, limits_status, parameters_given, params_status};
+ghost use Rattle.pikhsen_c.specs.Inside.Settings.{parameters_of};
 ghost use Rattle.pikhsen_c.specs.Status.{out_of_memory};
 
+use crate::burning::burn;
+use crate::source::Source;
 use crate::status;
-use argon::{Inputs, Kind, Matrix, Params, Ticks};
+use argon::{Inputs, Kind, Params, Ticks};
 use std::alloc::Global;
+
+/// What a caller sets, and the limits of what may be taken.
+#[derive(Drop)]
+pub(crate) struct Settings {
+    pub kind: u32,
+    pub version: u32,
+    pub passes: u32,
+    pub memory_kib: u32,
+    pub lanes: u32,
+    pub max_kib: u32,
+    pub max_ops: u64,
+}
 
 /// The type of a number: 0 is d, 1 is i, 2 is id.
 pub(crate) fn kind_of(number: u32) -> Option<Kind>
@@ -24,40 +41,34 @@ pub(crate) fn kind_of(number: u32) -> Option<Kind>
     }
 }
 
-/// The parameters of these numbers, if the type and the version are there and the others in range; or the
+/// The parameters of these settings, if the type and the version are there and the others in range; or the
 /// number of the first fault.
 pub(crate) fn params_of(
-    kind: u32,
-    version: u32,
-    passes: u32,
-    lanes: u32,
-    memory_kib: u32,
+    settings: &Settings,
     tag_len: usize,
     salt_len: usize,
     password_len: usize,
 ) -> Result<Params, u32>
-    ensures parameters { IfOk result (λ params. params
-        ≡ parameters_given kind version passes lanes memory_kib tag_len salt_len password_len) }
+    ensures parameters { IfOk result (λ params. params ≡ parameters_of settings.now tag_len salt_len password_len) }
     ensures in_range { IfOk result IsInRange }
-    ensures passed { OnOk result (params_status
-        (parameters_given kind version passes lanes memory_kib tag_len salt_len password_len) ≡ 0) }
+    ensures passed { OnOk result (params_status (parameters_of settings.now tag_len salt_len password_len) ≡ 0) }
     ensures told { IfErr result (λ status. params_status
-        (parameters_given kind version passes lanes memory_kib tag_len salt_len password_len) ≡ status) }
+        (parameters_of settings.now tag_len salt_len password_len) ≡ status) }
     ensures some { IfErr result (λ status. 1 ≤ status) }
     ensures other { IfErr result (λ status. status ≢ out_of_memory) }
 {
-    let Some(kind) = kind_of(kind) else {
+    let Some(kind) = kind_of(settings.kind) else {
         return Err(status::KIND);
     };
-    if version != 0x10 && version != 0x13 {
+    if settings.version != 0x10 && settings.version != 0x13 {
         return Err(status::ARGON2_VERSION);
     }
     match Params::new(
         kind,
-        version,
-        passes,
-        lanes,
-        memory_kib,
+        settings.version,
+        settings.passes,
+        settings.lanes,
+        settings.memory_kib,
         tag_len,
         salt_len,
         password_len,
@@ -67,35 +78,73 @@ pub(crate) fn params_of(
     }
 }
 
-/// Whether limits admit the parameters, or the number of the first fault.
-pub(crate) fn admitted(params: &Params, max_kib: u32, max_ops: u64) -> Result<(), u32>
-    ensures admitted { OnOk result (admission params.now max_kib max_ops ≡ Ok tt) }
-    ensures passed { OnOk result (limits_status params.now max_kib max_ops ≡ 0) }
-    ensures told { IfErr result (λ status. limits_status params.now max_kib max_ops ≡ status) }
+/// Whether the limits admit the parameters, or the number of the first fault.
+pub(crate) fn admitted(params: &Params, settings: &Settings) -> Result<(), u32>
+    ensures admitted { OnOk result (admission params.now settings.now.max_kib settings.now.max_ops ≡ Ok tt) }
+    ensures passed { OnOk result (limits_status params.now settings.now.max_kib settings.now.max_ops ≡ 0) }
+    ensures told { IfErr result (λ status.
+        limits_status params.now settings.now.max_kib settings.now.max_ops ≡ status) }
     ensures some { IfErr result (λ status. 1 ≤ status) }
     ensures other { IfErr result (λ status. status ≢ out_of_memory) }
 {
-    match params.admitted(max_kib, max_ops) {
+    match params.admitted(settings.max_kib, settings.max_ops) {
         Ok(()) => Ok(()),
         Err(fault) => Err(status::of_params(fault)),
     }
 }
 
-/// Takes the memory of a hash, on the condition that limits admit it: here and nowhere else.
-pub(crate) fn matrix_of(
-    alloc: Global,
-    params: &Params,
-    max_kib: u32,
-    max_ops: u64,
-) -> Result<Matrix, u32>
-    requires admitted { admission params.now max_kib max_ops ≡ Ok tt }
-    ensures parameters { IfOk result (λ matrix. matrix.parameters ≡ params.now) }
-    ensures memory { IfErr result (λ status. status ≡ out_of_memory) }
+// The tag of these inputs, with memory from `source`: one request, for the matrix.
+#[inline(never)]
+fn hash_in<S: Source>(
+    source: &mut S,
+    settings: &Settings,
+    inputs: &Inputs<'_>,
+    out: &mut [u8],
+    ticks: &mut Ticks,
+) -> u32
+    ensures tag { result ≡ 0 → out.new ≡ argon2_tag (parameters_of settings.now
+        (length out.old) (length inputs.now.salt.now) (length inputs.now.password.now)) (inputs_of inputs.now) }
+    ensures told { result ≢ out_of_memory → result ≡ hash_status (parameters_of settings.now
+        (length out.old) (length inputs.now.salt.now) (length inputs.now.password.now))
+        (length inputs.now.secret.now) (length inputs.now.associated.now) settings.now.max_kib settings.now.max_ops }
+    ensures memory { result ≡ out_of_memory → hash_status (parameters_of settings.now
+        (length out.old) (length inputs.now.salt.now) (length inputs.now.password.now))
+        (length inputs.now.secret.now) (length inputs.now.associated.now) settings.now.max_kib settings.now.max_ops ≡ 0 }
+    ensures untouched { result ≢ 0 → out.new ≡ out.old }
+    // Nothing is asked of the source before every other refusal is ruled out, by the caller's own limits.
+    ensures unasked { result ≢ 0 → result ≢ out_of_memory → source.new ≡ source.old }
+    // And then the matrix alone, under these limits; want of memory is told where that was refused, and only there.
+    ensures asked { result ≡ 0 → source.new ≡ S.after_matrix source.old (parameters_of settings.now
+        (length out.old) (length inputs.now.salt.now) (length inputs.now.password.now))
+        settings.now.max_kib settings.now.max_ops true }
+    ensures refused { result ≡ out_of_memory → source.new ≡ S.after_matrix source.old (parameters_of settings.now
+        (length out.old) (length inputs.now.salt.now) (length inputs.now.password.now))
+        settings.now.max_kib settings.now.max_ops false }
+    // No hash begins before every refusal is ruled out, and then one.
+    ensures idle { result ≢ 0 → ticks.new ≡ ticks.old }
+    ensures count { result ≡ 0 → ticks.new ≡ ticks.old + work (parameters_of settings.now
+        (length out.old) (length inputs.now.salt.now) (length inputs.now.password.now)) }
 {
-    match Matrix::reserve(alloc, params) {
-        Ok(matrix) => Ok(matrix),
-        Err(_) => Err(status::OUT_OF_MEMORY),
+    let params = match params_of(
+        settings,
+        out.len(),
+        inputs.salt.len(),
+        inputs.password.len(),
+    ) {
+        Ok(params) => params,
+        Err(status) => return status,
+    };
+    if inputs.secret.len() > 0xFFFF_FFFF || inputs.associated.len() > 0xFFFF_FFFF {
+        return status::INPUT_LENGTH;
     }
+    if let Err(status) = admitted(&params, settings) {
+        return status;
+    }
+    let Ok(mut matrix) = source.matrix(&params, settings.max_kib, settings.max_ops) else {
+        return status::OUT_OF_MEMORY;
+    };
+    matrix.hash(inputs, out, ticks);
+    status::OK
 }
 
 /// The tag of a password, as many bytes as `out` has. What is refused is told by the first fault, before
@@ -128,28 +177,15 @@ pub extern "C" fn pikhsen_argon2_hash(
         (length secret.now) (length associated.now) max_kib max_ops ≡ 0 }
     ensures untouched { result ≢ 0 → out.new ≡ out.old }
 {
-    let params = match params_of(
+    let mut source = alloc;
+    let settings = Settings {
         kind,
         version,
         passes,
-        lanes,
         memory_kib,
-        out.len(),
-        salt.len(),
-        password.len(),
-    ) {
-        Ok(params) => params,
-        Err(status) => return status,
-    };
-    if secret.len() > 0xFFFF_FFFF || associated.len() > 0xFFFF_FFFF {
-        return status::INPUT_LENGTH;
-    }
-    if let Err(status) = admitted(&params, max_kib, max_ops) {
-        return status;
-    }
-    let mut matrix = match matrix_of(alloc, &params, max_kib, max_ops) {
-        Ok(matrix) => matrix,
-        Err(status) => return status,
+        lanes,
+        max_kib,
+        max_ops,
     };
     let inputs = Inputs {
         password,
@@ -157,6 +193,6 @@ pub extern "C" fn pikhsen_argon2_hash(
         secret,
         associated,
     };
-    matrix.hash(&inputs, out, &mut Ticks::new());
-    status::OK
+    let told = hash_in(&mut source, &settings, &inputs, out, &mut Ticks::new());
+    burn(told)
 }

@@ -1,51 +1,37 @@
 //! Encoded texts of hashes by Argon2.
-ghost use Rattle.std.specs.Prelude.{◌≡◌, ◌≢◌, ◌+◌, ◌++◌, ◌<◌, ◌≤◌, ◌∷◌, [], true, length, replicate, take, drop, IfOk, IfErr, Ok};
+ghost use Rattle.std.specs.Prelude.{◌≡◌, ◌≢◌, ◌+◌, ◌++◌, ◌<◌, ◌≤◌, ◌∷◌, ◌⊎◌, [], true, false, length, replicate, take, drop, IfOk, IfErr, Ok};
 ghost use Rattle.argon.specs.Argon2.{argon2_tag};
+ghost use Rattle.argon.specs.Counts.{work};
 ghost use Rattle.argon.specs.Range.{IsInRange, admission};
 ghost use Rattle.argon_text.specs.EncodedText.{encoded_text};
 ghost use Rattle.pikhsen_c.specs.Argon2.{encoded_hash, encoded_status, inputs_given, kind_numbered, parameters_given, settings_status, text_of_zeros, value_given};
-ghost use Rattle.pikhsen_c.specs.Status.{out_of_memory};
+ghost use Rattle.pikhsen_c.specs.Inside.Settings.{parameters_of};
+ghost use Rattle.pikhsen_c.specs.Status.{out_of_memory, wrong_buffer};
 
-use crate::argon2::{admitted, kind_of, matrix_of, params_of};
+use crate::argon2::{Settings, admitted, kind_of, params_of};
+use crate::burning::burn;
+use crate::source::Source;
 use crate::status;
-use argon::{Inputs, Kind, Matrix, Params, Ticks};
-use argon_text::{Encoded, put_tag};
-use std::alloc::{AllocError, Global};
-
-// The text that has zeros for a tag.
-fn text_of_zeros(
-    alloc: Global,
-    kind: Kind,
-    params: &Params,
-    salt: &[u8],
-) -> Result<Vec<u8>, AllocError>
-    requires kind { kind ≡ kind_numbered params.now.kind }
-    requires in_range { IsInRange params.now }
-    requires salt { length salt.now ≡ params.now.salt_len }
-    ensures text { IfOk result (λ text. text.items ≡ text_of_zeros params.now salt.now) }
-{
-    let encoded = Encoded {
-        kind,
-        version: params.version(),
-        memory: params.memory_kib(),
-        passes: params.passes(),
-        lanes: params.lanes(),
-        salt: salt.to_vec(alloc)?,
-        tag: vec![in alloc; 0u8; params.tag_len()]?,
-    };
-    let mut text = Vec::new(alloc);
-    encoded.write(&mut text)?;
-    Ok(text)
-}
+use argon::{Inputs, Matrix, Ticks};
+use argon_text::put_tag;
+use std::alloc::Global;
 
 // Hashes, and writes the tag over the zeros of the text. It can ask for no memory.
-fn hash_into(text: &mut [u8], matrix: &mut Matrix, password: &[u8], salt: &[u8], tag_len: usize)
+fn hash_into(
+    text: &mut [u8],
+    matrix: &mut Matrix,
+    password: &[u8],
+    salt: &[u8],
+    tag_len: usize,
+    ticks: &mut Ticks,
+)
     requires tag_len { matrix.old.parameters.tag_len ≡ tag_len }
     requires short { tag_len ≤ 4096 }
     requires password { length password.now ≡ matrix.old.parameters.password_len }
     requires salt { length salt.now ≡ matrix.old.parameters.salt_len }
     requires zeros { text.old ≡ text_of_zeros matrix.old.parameters salt.now }
     ensures text { text.new ≡ encoded_hash matrix.old.parameters password.now salt.now }
+    ensures count { ticks.new ≡ ticks.old + work matrix.old.parameters }
 {
     let mut longest = [0u8; 4096];
     let tag = &mut longest[..tag_len];
@@ -55,7 +41,7 @@ fn hash_into(text: &mut [u8], matrix: &mut Matrix, password: &[u8], salt: &[u8],
         secret: &[],
         associated: &[],
     };
-    matrix.hash(&inputs, tag, &mut Ticks::new());
+    matrix.hash(&inputs, tag, ticks);
     put_tag(text, tag);
 }
 
@@ -68,6 +54,81 @@ fn copy_text(text: &[u8], out: &mut [u8])
 {
     out[..text.len()].copy_from_slice(text);
     out[text.len()] = 0;
+}
+
+// The encoded text of a password's hash, with memory from `source`: for the text, and then for the matrix.
+#[inline(never)]
+fn encode_in<S: Source>(
+    source: &mut S,
+    settings: &Settings,
+    password: &[u8],
+    salt: &[u8],
+    tag_len: usize,
+    out: &mut [u8],
+    text_len: &mut usize,
+    ticks: &mut Ticks,
+) -> u32
+    ensures text { result ≡ 0 → take text_len.new out.new
+        ≡ encoded_hash (parameters_of settings.now tag_len (length salt.now) (length password.now)) password.now salt.now }
+    ensures end { result ≡ 0 → take (text_len.new + 1) out.new
+        ≡ encoded_hash (parameters_of settings.now tag_len (length salt.now) (length password.now)) password.now salt.now
+        ++ 0 ∷ [] }
+    ensures rest { result ≡ 0 → drop (text_len.new + 1) out.new ≡ drop (text_len.new + 1) out.old }
+    ensures told { result ≢ out_of_memory → result
+        ≡ encoded_status (parameters_of settings.now tag_len (length salt.now) (length password.now)) salt.now
+        settings.now.max_kib settings.now.max_ops (length out.old) }
+    ensures memory { result ≡ out_of_memory
+        → settings_status (parameters_of settings.now tag_len (length salt.now) (length password.now))
+        settings.now.max_kib settings.now.max_ops ≡ 0 }
+    ensures untouched { result ≢ 0 → out.new ≡ out.old }
+    ensures nothing { result ≢ 0 → text_len.new ≡ 0 }
+    // Nothing is asked of the source before settings and limits are tested.
+    ensures unasked { result ≢ 0 → result ≢ out_of_memory → result ≢ wrong_buffer → source.new ≡ source.old }
+    // That the buffer is too small is told after the text alone was asked for, and granted.
+    ensures small { result ≡ wrong_buffer → source.new ≡ S.after_text source.old
+        (parameters_of settings.now tag_len (length salt.now) (length password.now)) salt.now true }
+    // After the text the matrix alone is asked for, under the caller's own limits.
+    ensures asked { result ≡ 0 → source.new ≡ S.after_matrix (S.after_text source.old
+        (parameters_of settings.now tag_len (length salt.now) (length password.now)) salt.now true)
+        (parameters_of settings.now tag_len (length salt.now) (length password.now))
+        settings.now.max_kib settings.now.max_ops true }
+    // Want of memory is told where one of the two was refused, the second only where the buffer has room.
+    ensures refused { result ≡ out_of_memory → (source.new ≡ S.after_text source.old
+        (parameters_of settings.now tag_len (length salt.now) (length password.now)) salt.now false)
+        ⊎ ((source.new ≡ S.after_matrix (S.after_text source.old
+        (parameters_of settings.now tag_len (length salt.now) (length password.now)) salt.now true)
+        (parameters_of settings.now tag_len (length salt.now) (length password.now))
+        settings.now.max_kib settings.now.max_ops false) × (encoded_status
+        (parameters_of settings.now tag_len (length salt.now) (length password.now)) salt.now
+        settings.now.max_kib settings.now.max_ops (length out.old) ≡ 0)) }
+    ensures idle { result ≢ 0 → ticks.new ≡ ticks.old }
+    ensures count { result ≡ 0 → ticks.new
+        ≡ ticks.old + work (parameters_of settings.now tag_len (length salt.now) (length password.now)) }
+{
+    *text_len = 0;
+    let params = match params_of(settings, tag_len, salt.len(), password.len()) {
+        Ok(params) => params,
+        Err(status) => return status,
+    };
+    let Some(kind) = kind_of(settings.kind) else {
+        return status::KIND;
+    };
+    if let Err(status) = admitted(&params, settings) {
+        return status;
+    }
+    let Ok(mut text) = source.text(kind, &params, salt) else {
+        return status::OUT_OF_MEMORY;
+    };
+    if out.len() <= text.len() {
+        return status::BUFFER;
+    }
+    let Ok(mut matrix) = source.matrix(&params, settings.max_kib, settings.max_ops) else {
+        return status::OUT_OF_MEMORY;
+    };
+    hash_into(&mut text, &mut matrix, password, salt, tag_len, ticks);
+    copy_text(&text, out);
+    *text_len = text.len();
+    status::OK
 }
 
 /// The encoded text of a password's hash at the front of `out`, and a byte 0 after it; its length, without
@@ -102,38 +163,25 @@ pub extern "C" fn pikhsen_argon2_encoded(
     ensures untouched { result ≢ 0 → out.new ≡ out.old }
     ensures nothing { result ≢ 0 → text_len.new ≡ 0 }
 {
-    *text_len = 0;
-    let params = match params_of(
+    let mut source = alloc;
+    let settings = Settings {
         kind,
         version,
         passes,
-        lanes,
         memory_kib,
+        lanes,
+        max_kib,
+        max_ops,
+    };
+    let told = encode_in(
+        &mut source,
+        &settings,
+        password,
+        salt,
         tag_len,
-        salt.len(),
-        password.len(),
-    ) {
-        Ok(params) => params,
-        Err(status) => return status,
-    };
-    let Some(kind) = kind_of(kind) else {
-        return status::KIND;
-    };
-    if let Err(status) = admitted(&params, max_kib, max_ops) {
-        return status;
-    }
-    let Ok(mut text) = text_of_zeros(alloc, kind, &params, salt) else {
-        return status::OUT_OF_MEMORY;
-    };
-    if out.len() <= text.len() {
-        return status::BUFFER;
-    }
-    let mut matrix = match matrix_of(alloc, &params, max_kib, max_ops) {
-        Ok(matrix) => matrix,
-        Err(status) => return status,
-    };
-    hash_into(&mut text, &mut matrix, password, salt, tag_len);
-    copy_text(&text, out);
-    *text_len = text.len();
-    status::OK
+        out,
+        text_len,
+        &mut Ticks::new(),
+    );
+    burn(told)
 }

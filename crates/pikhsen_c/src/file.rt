@@ -1,16 +1,19 @@
 //! scrypt's encrypted files, whole in memory.
-ghost use Rattle.std.specs.Prelude.{◌≡◌, ◌≢◌, ℕ, ◌+◌, ◌^◌, ◌<◌, ◌≤◌, List, [], length, replicate, take, IfOk, IfErr, OnOk, OnErr};
+ghost use Rattle.std.specs.Prelude.{◌≡◌, ◌≢◌, ℕ, ◌+◌, ◌-◌, ◌^◌, ◌<◌, ◌≤◌, List, [], length, replicate, take, drop, true, false, IfOk, IfErr, OnOk, OnErr};
 ghost use Rattle.romix.specs.Costs.{Parameters};
+ghost use Rattle.romix.specs.Sparse.{sparse_cores};
 ghost use Rattle.encfile.specs.Decrypting.{HasRead};
 ghost use Rattle.encfile.specs.EncryptedFile.{HasRightHeaderCode, IsEncryptionOf, encrypted_file, released_text};
 ghost use Rattle.encfile.specs.Encrypting.{HasEncrypted};
-ghost use Rattle.encfile.specs.Header.{IsHeaderOf, costs_of};
+ghost use Rattle.encfile.specs.Header.{IsHeaderOf, costs_of, salt_of};
 ghost use Rattle.encfile.specs.HeaderFaults.{header_fault};
 ghost use Rattle.pikhsen_c.specs.File.{encrypt_status, front_status, header_status, lengths_status, number_of, opening_status};
 ghost use Rattle.pikhsen_c.specs.Scrypt.{costs_given, limits_status, sparse_given};
 ghost use Rattle.pikhsen_c.specs.Status.{damaged, long_text, out_of_memory, wrong_passphrase};
 
+use crate::burning::burn;
 use crate::scrypt::{costs_of, workspace};
+use crate::source::Source;
 use crate::status;
 use encfile::{Dec, Enc, Header, TooLong};
 use romix::Ticks;
@@ -30,6 +33,7 @@ fn header_of(file: &[u8]) -> Result<Header, u32>
     requires long { 64 ≤ length file.now }
     ensures header { IfOk result (λ header. IsHeaderOf (take 64 file.now) header) }
     ensures costs { IfOk result (λ header. header.costs ≡ costs_of (take 64 file.now)) }
+    ensures salt { IfOk result (λ header. header.salt ≡ salt_of (take 64 file.now)) }
     ensures passed { OnOk result (number_of (header_fault (take 64 file.now)) ≡ 0) }
     ensures told { IfErr result (λ status. number_of (header_fault (take 64 file.now)) ≡ status) }
     ensures some { IfErr result (λ status. 22 ≤ status) }
@@ -109,6 +113,60 @@ fn put_file(enc: Enc, text: &[u8], out: &mut [u8]) -> Result<(), TooLong>
     Ok(())
 }
 
+// The file of a text, with memory from `source`: one request.
+#[inline(never)]
+fn encrypt_in<S: Source>(
+    source: &mut S,
+    passphrase: &[u8],
+    salt: &[u8],
+    log_n: u32,
+    r: u32,
+    p: u32,
+    keep: u32,
+    max_bytes: u64,
+    max_ops: u64,
+    text: &[u8],
+    out: &mut [u8],
+    ticks: &mut Ticks,
+) -> u32
+    ensures file { result ≡ 0 → out.new ≡ encrypted_file passphrase.now salt.now (costs_given log_n r p) text.now }
+    ensures told { result ≢ out_of_memory → result ≡ encrypt_status (costs_given log_n r p) keep max_bytes max_ops
+        (length salt.now) (length text.now) (length out.old) }
+    ensures memory { result ≡ out_of_memory → encrypt_status (costs_given log_n r p) keep max_bytes max_ops
+        (length salt.now) (length text.now) (length out.old) ≡ 0 }
+    ensures untouched { result ≢ 0 → out.new ≡ out.old }
+    // Nothing is asked of the source before every other refusal is ruled out, and then it is asked once.
+    ensures unasked { result ≢ 0 → result ≢ out_of_memory → source.new ≡ source.old }
+    ensures asked { result ≡ 0 → source.new
+        ≡ S.after_workspace source.old (sparse_given (costs_given log_n r p) keep) max_bytes max_ops true }
+    ensures refused { result ≡ out_of_memory → source.new
+        ≡ S.after_workspace source.old (sparse_given (costs_given log_n r p) keep) max_bytes max_ops false }
+    // No derivation begins before every refusal is ruled out, and then one.
+    ensures idle { result ≢ 0 → ticks.new ≡ ticks.old }
+    ensures count { result ≡ 0 → ticks.new
+        ≡ ticks.old + sparse_cores passphrase.now salt.now (sparse_given (costs_given log_n r p) keep) }
+{
+    let costs = match costs_of(log_n, r, p) {
+        Ok(costs) => costs,
+        Err(status) => return status,
+    };
+    if let Err(status) = tested_lengths(salt, text, out) {
+        return status;
+    }
+    let mut whole_salt = [0u8; 32];
+    whole_salt.copy_from_slice(salt);
+    match workspace(source, &costs, keep, max_bytes, max_ops) {
+        Ok(mut workspace) => {
+            let enc = Enc::start(&costs, &whole_salt, passphrase, &mut workspace, ticks);
+            match put_file(enc, text, out) {
+                Ok(()) => status::OK,
+                Err(_) => status::TOO_LONG,
+            }
+        }
+        Err(status) => status,
+    }
+}
+
 /// The file of a text. `out` has 128 bytes more than the text.
 #[unsafe(no_mangle)]
 pub extern "C" fn pikhsen_scrypt_encrypt(
@@ -132,26 +190,22 @@ pub extern "C" fn pikhsen_scrypt_encrypt(
         (length salt.now) (length text.now) (length out.old) ≡ 0 }
     ensures untouched { result ≢ 0 → out.new ≡ out.old }
 {
-    let costs = match costs_of(log_n, r, p) {
-        Ok(costs) => costs,
-        Err(status) => return status,
-    };
-    if let Err(status) = tested_lengths(salt, text, out) {
-        return status;
-    }
-    let mut whole_salt = [0u8; 32];
-    whole_salt.copy_from_slice(salt);
-    match workspace(alloc, &costs, keep, max_bytes, max_ops) {
-        Ok(mut workspace) => {
-            let mut ticks = Ticks::new();
-            let enc = Enc::start(&costs, &whole_salt, passphrase, &mut workspace, &mut ticks);
-            match put_file(enc, text, out) {
-                Ok(()) => status::OK,
-                Err(_) => status::TOO_LONG,
-            }
-        }
-        Err(status) => status,
-    }
+    let mut source = alloc;
+    let told = encrypt_in(
+        &mut source,
+        passphrase,
+        salt,
+        log_n,
+        r,
+        p,
+        keep,
+        max_bytes,
+        max_ops,
+        text,
+        out,
+        &mut Ticks::new(),
+    );
+    burn(told)
 }
 
 // The first 96 bytes of a file.
@@ -165,13 +219,14 @@ fn front_of(file: &[u8]) -> [u8; 96]
 }
 
 // A decryption behind the first 96 bytes of a file, or the number of what the file is refused for.
-fn opened(
-    alloc: Global,
+fn opened<S: Source>(
+    source: &mut S,
     passphrase: &[u8],
     keep: u32,
     max_bytes: u64,
     max_ops: u64,
     file: &[u8],
+    ticks: &mut Ticks,
 ) -> Result<Dec, u32>
     requires long { 96 ≤ length file.now }
     ensures opened { IfOk result (λ dec. HasRead dec passphrase.now (take 96 file.now)) }
@@ -188,23 +243,32 @@ fn opened(
         → HasRightHeaderCode (take 96 file.now) passphrase.now → ⊥) }
     ensures some { IfErr result (λ status. 1 ≤ status) }
     ensures below { IfErr result (λ status. status ≤ 27) }
+    // Nothing is asked of the source before the header and the caller's own limits are tested, and then it is asked once.
+    ensures unasked { IfErr result (λ status. status ≢ out_of_memory → status ≢ wrong_passphrase
+        → source.new ≡ source.old) }
+    ensures asked { OnOk result (source.new
+        ≡ S.after_workspace source.old (sparse_given (costs_of (take 64 file.now)) keep) max_bytes max_ops true) }
+    ensures asked_too { IfErr result (λ status. status ≡ wrong_passphrase → source.new
+        ≡ S.after_workspace source.old (sparse_given (costs_of (take 64 file.now)) keep) max_bytes max_ops true) }
+    ensures refused { IfErr result (λ status. status ≡ out_of_memory → source.new
+        ≡ S.after_workspace source.old (sparse_given (costs_of (take 64 file.now)) keep) max_bytes max_ops false) }
+    // There is one derivation, after which the passphrase alone is refused.
+    ensures idle { IfErr result (λ status. status ≢ wrong_passphrase → ticks.new ≡ ticks.old) }
+    ensures count { OnOk result (ticks.new ≡ ticks.old
+        + sparse_cores passphrase.now (salt_of (take 64 file.now)) (sparse_given (costs_of (take 64 file.now)) keep)) }
+    ensures count_too { IfErr result (λ status. status ≡ wrong_passphrase → ticks.new ≡ ticks.old
+        + sparse_cores passphrase.now (salt_of (take 64 file.now)) (sparse_given (costs_of (take 64 file.now)) keep)) }
 {
     let header = match header_of(file) {
         Ok(header) => header,
         Err(status) => return Err(status),
     };
-    let mut workspace = match workspace(alloc, header.costs(), keep, max_bytes, max_ops) {
+    let mut workspace = match workspace(source, header.costs(), keep, max_bytes, max_ops) {
         Ok(workspace) => workspace,
         Err(status) => return Err(status),
     };
     let front = front_of(file);
-    match Dec::open(
-        &front,
-        header,
-        passphrase,
-        &mut workspace,
-        &mut Ticks::new(),
-    ) {
+    match Dec::open(&front, header, passphrase, &mut workspace, ticks) {
         Ok(dec) => Ok(dec),
         Err(_) => Err(status::WRONG_PASSPHRASE),
     }
@@ -225,6 +289,7 @@ fn text_of(dec: Dec, file: &[u8], out: &mut [u8]) -> Result<usize, u32>
         → 2 ^ 60 + 128 ≤ length file.now) }
     ensures some { IfErr result (λ status. 28 ≤ status) }
     ensures few { IfErr result (λ status. status ≤ 29) }
+    ensures within { IfOk result (λ n. n ≤ length out.new) }
     ensures len { length out.new ≡ length out.old }
 {
     let mut dec = dec;
@@ -237,8 +302,86 @@ fn text_of(dec: Dec, file: &[u8], out: &mut [u8]) -> Result<usize, u32>
     }
 }
 
+// Puts zeros after the first `len` bytes.
+fn clear_after(len: usize, out: &mut [u8])
+    requires within { len ≤ length out.old }
+    ensures front { take len out.new ≡ take len out.old }
+    ensures rest { drop len out.new ≡ replicate (length out.old - len) 0 }
+{
+    out[len..].fill(0);
+}
+
+// The text of a file, with memory from `source`: one request.
+#[inline(never)]
+fn decrypt_in<S: Source>(
+    source: &mut S,
+    passphrase: &[u8],
+    keep: u32,
+    max_bytes: u64,
+    max_ops: u64,
+    file: &[u8],
+    out: &mut [u8],
+    text_len: &mut usize,
+    ticks: &mut Ticks,
+) -> u32
+    ensures whole { result ≡ 0 → IsEncryptionOf file.now passphrase.now (take text_len.new out.new) }
+    ensures rest { result ≡ 0 → drop text_len.new out.new ≡ replicate (length out.old - text_len.new) 0 }
+    ensures nothing { result ≢ 0 → text_len.new ≡ 0 }
+    ensures told { result ≢ 0 → result ≢ out_of_memory → result < wrong_passphrase
+        → result ≡ front_status file.now keep max_bytes max_ops (length out.old) }
+    ensures admitted { result ≡ 0 → front_status file.now keep max_bytes max_ops (length out.old) ≡ 0 }
+    ensures memory { result ≡ out_of_memory → front_status file.now keep max_bytes max_ops (length out.old) ≡ 0 }
+    ensures late { wrong_passphrase ≤ result → front_status file.now keep max_bytes max_ops (length out.old) ≡ 0 }
+    ensures wrong { result ≡ wrong_passphrase → HasRightHeaderCode (take 96 file.now) passphrase.now → ⊥ }
+    ensures right { wrong_passphrase < result → HasRightHeaderCode (take 96 file.now) passphrase.now }
+    ensures damaged { result ≡ damaged
+        → IsEncryptionOf file.now passphrase.now (released_text file.now passphrase.now) → ⊥ }
+    ensures too_long { result ≡ long_text → 2 ^ 60 + 128 ≤ length file.now }
+    ensures high { result ≤ 29 }
+    ensures zeros { wrong_passphrase < result → out.new ≡ replicate (length out.old) 0 }
+    ensures untouched { result ≢ 0 → result ≤ wrong_passphrase → out.new ≡ out.old }
+    // Nothing is asked of the source before the buffer, the header and the caller's own limits are tested.
+    ensures unasked { result ≢ 0 → result ≢ out_of_memory → result < wrong_passphrase → source.new ≡ source.old }
+    // And then it is asked once; want of memory is told where that was refused, and only there.
+    ensures asked { result ≡ 0 → source.new
+        ≡ S.after_workspace source.old (sparse_given (costs_of (take 64 file.now)) keep) max_bytes max_ops true }
+    ensures asked_too { wrong_passphrase ≤ result → source.new
+        ≡ S.after_workspace source.old (sparse_given (costs_of (take 64 file.now)) keep) max_bytes max_ops true }
+    ensures refused { result ≡ out_of_memory → source.new
+        ≡ S.after_workspace source.old (sparse_given (costs_of (take 64 file.now)) keep) max_bytes max_ops false }
+    // No derivation begins before these refusals are ruled out, and then one.
+    ensures idle { result ≢ 0 → result < wrong_passphrase → ticks.new ≡ ticks.old }
+    ensures count { result ≡ 0 → ticks.new ≡ ticks.old
+        + sparse_cores passphrase.now (salt_of (take 64 file.now)) (sparse_given (costs_of (take 64 file.now)) keep) }
+    ensures count_too { wrong_passphrase ≤ result → ticks.new ≡ ticks.old
+        + sparse_cores passphrase.now (salt_of (take 64 file.now)) (sparse_given (costs_of (take 64 file.now)) keep) }
+{
+    *text_len = 0;
+    if out.len() < file.len() {
+        return status::BUFFER;
+    }
+    if file.len() < 96 {
+        return status::TOO_SHORT;
+    }
+    let dec = match opened(source, passphrase, keep, max_bytes, max_ops, file, ticks) {
+        Ok(dec) => dec,
+        Err(status) => return status,
+    };
+    match text_of(dec, file, out) {
+        Ok(len) => {
+            clear_after(len, out);
+            *text_len = len;
+            status::OK
+        }
+        Err(status) => {
+            clear_after(0, out);
+            status
+        }
+    }
+}
+
 /// The text of a file, if the file is whole and the passphrase is right; nothing of it otherwise. `out` has
-/// at least as many bytes as the file, and the text is the first `text_len` of them.
+/// at least as many bytes as the file, and the text is the first `text_len` of them; the others are zeros.
 #[unsafe(no_mangle)]
 pub extern "C" fn pikhsen_scrypt_decrypt(
     alloc: Global,
@@ -251,6 +394,7 @@ pub extern "C" fn pikhsen_scrypt_decrypt(
     text_len: &mut usize,
 ) -> u32
     ensures whole { result ≡ 0 → IsEncryptionOf file.now passphrase.now (take text_len.new out.new) }
+    ensures rest { result ≡ 0 → drop text_len.new out.new ≡ replicate (length out.old - text_len.new) 0 }
     ensures nothing { result ≢ 0 → text_len.new ≡ 0 }
     // What is refused whatever the passphrase is told by the first fault, and nothing else is then told.
     ensures told { result ≢ 0 → result ≢ out_of_memory → result < wrong_passphrase
@@ -268,25 +412,17 @@ pub extern "C" fn pikhsen_scrypt_decrypt(
     ensures zeros { wrong_passphrase < result → out.new ≡ replicate (length out.old) 0 }
     ensures untouched { result ≢ 0 → result ≤ wrong_passphrase → out.new ≡ out.old }
 {
-    *text_len = 0;
-    if out.len() < file.len() {
-        return status::BUFFER;
-    }
-    if file.len() < 96 {
-        return status::TOO_SHORT;
-    }
-    let dec = match opened(alloc, passphrase, keep, max_bytes, max_ops, file) {
-        Ok(dec) => dec,
-        Err(status) => return status,
-    };
-    match text_of(dec, file, out) {
-        Ok(len) => {
-            *text_len = len;
-            status::OK
-        }
-        Err(status) => {
-            out.fill(0);
-            status
-        }
-    }
+    let mut source = alloc;
+    let told = decrypt_in(
+        &mut source,
+        passphrase,
+        keep,
+        max_bytes,
+        max_ops,
+        file,
+        out,
+        text_len,
+        &mut Ticks::new(),
+    );
+    burn(told)
 }

@@ -6,9 +6,11 @@
 #![tactic(auto)]
 
 mod argon2;
+mod burning;
 mod encoded;
 mod file;
 mod scrypt;
+mod source;
 mod status;
 mod verifying;
 mod version;

@@ -1,10 +1,13 @@
 //! Keys by scrypt.
-ghost use Rattle.std.specs.Prelude.{◌≡◌, ◌≢◌, ◌≤◌, ◌^◌, length, IfOk, IfErr, OnOk};
+ghost use Rattle.std.specs.Prelude.{◌≡◌, ◌≢◌, ◌+◌, ◌≤◌, ◌^◌, true, false, length, IfOk, IfErr, OnOk};
 ghost use Rattle.romix.specs.Scrypt.{scrypt};
+ghost use Rattle.romix.specs.Sparse.{sparse_cores};
 ghost use Rattle.romix.specs.SparseCosts.{SparseFitsMemory};
 ghost use Rattle.pikhsen_c.specs.Scrypt.{costs_given, costs_status, limits_status, scrypt_status, sparse_given};
 ghost use Rattle.pikhsen_c.specs.Status.{out_of_memory};
 
+use crate::burning::burn;
+use crate::source::Source;
 use crate::status;
 use romix::{Costs, Limits, Sparse, Ticks, Workspace};
 use std::alloc::Global;
@@ -55,22 +58,9 @@ fn admitted(costs: &Costs, keep: u32, max_bytes: u64, max_ops: u64) -> Result<Sp
     }
 }
 
-// Takes the memory of a derivation, on the condition that the limits admit it: here and nowhere else.
-fn reserved(alloc: Global, sparse: &Sparse, max_bytes: u64, max_ops: u64) -> Result<Workspace, u32>
-    requires fits { SparseFitsMemory sparse.now (2 ^ 40) }
-    requires admitted { limits_status sparse.now max_bytes max_ops ≡ 0 }
-    ensures sparse { IfOk result (λ workspace. workspace.sparse ≡ sparse.now) }
-    ensures memory { IfErr result (λ status. status ≡ out_of_memory) }
-{
-    match Workspace::reserve(alloc, sparse) {
-        Ok(workspace) => Ok(workspace),
-        Err(_) => Err(status::OUT_OF_MEMORY),
-    }
-}
-
 /// Takes the memory of a derivation that the limits admit; or the number of what it is refused for.
-pub(crate) fn workspace(
-    alloc: Global,
+pub(crate) fn workspace<S: Source>(
+    source: &mut S,
     costs: &Costs,
     keep: u32,
     max_bytes: u64,
@@ -85,9 +75,66 @@ pub(crate) fn workspace(
         → limits_status (sparse_given costs.now keep) max_bytes max_ops ≡ 0) }
     ensures some { IfErr result (λ status. 1 ≤ status) }
     ensures below { IfErr result (λ status. status ≤ 21) }
+    // Nothing is asked of the source before `keep` and the caller's own limits are tested.
+    ensures unasked { IfErr result (λ status. status ≢ out_of_memory → source.new ≡ source.old) }
+    // And then it is asked once, under these limits; want of memory is told where that was refused, and only there.
+    ensures asked { OnOk result (source.new
+        ≡ S.after_workspace source.old (sparse_given costs.now keep) max_bytes max_ops true) }
+    ensures refused { IfErr result (λ status. status ≡ out_of_memory → source.new
+        ≡ S.after_workspace source.old (sparse_given costs.now keep) max_bytes max_ops false) }
 {
     let sparse = admitted(costs, keep, max_bytes, max_ops)?;
-    reserved(alloc, &sparse, max_bytes, max_ops)
+    match source.workspace(&sparse, max_bytes, max_ops) {
+        Ok(workspace) => Ok(workspace),
+        Err(_) => Err(status::OUT_OF_MEMORY),
+    }
+}
+
+// The key of a password, with memory from `source`: one request.
+#[inline(never)]
+fn derive_in<S: Source>(
+    source: &mut S,
+    password: &[u8],
+    salt: &[u8],
+    log_n: u32,
+    r: u32,
+    p: u32,
+    keep: u32,
+    max_bytes: u64,
+    max_ops: u64,
+    out: &mut [u8],
+    ticks: &mut Ticks,
+) -> u32
+    ensures key { result ≡ 0 → out.new ≡ scrypt password.now salt.now (2 ^ log_n) r p (length out.old) }
+    ensures told { result ≢ out_of_memory
+        → result ≡ scrypt_status (costs_given log_n r p) keep max_bytes max_ops (length out.old) }
+    ensures memory { result ≡ out_of_memory
+        → scrypt_status (costs_given log_n r p) keep max_bytes max_ops (length out.old) ≡ 0 }
+    ensures untouched { result ≢ 0 → out.new ≡ out.old }
+    ensures unasked { result ≢ 0 → result ≢ out_of_memory → source.new ≡ source.old }
+    ensures asked { result ≡ 0 → source.new
+        ≡ S.after_workspace source.old (sparse_given (costs_given log_n r p) keep) max_bytes max_ops true }
+    ensures refused { result ≡ out_of_memory → source.new
+        ≡ S.after_workspace source.old (sparse_given (costs_given log_n r p) keep) max_bytes max_ops false }
+    // No derivation begins before every refusal is ruled out, and then one.
+    ensures idle { result ≢ 0 → ticks.new ≡ ticks.old }
+    ensures count { result ≡ 0 → ticks.new
+        ≡ ticks.old + sparse_cores password.now salt.now (sparse_given (costs_given log_n r p) keep) }
+{
+    let costs = match costs_of(log_n, r, p) {
+        Ok(costs) => costs,
+        Err(status) => return status,
+    };
+    if out.len() > 32 * 0xFFFF_FFFF {
+        return status::BUFFER;
+    }
+    match workspace(source, &costs, keep, max_bytes, max_ops) {
+        Ok(mut workspace) => {
+            workspace.derive(password, salt, out, ticks);
+            status::OK
+        }
+        Err(status) => status,
+    }
 }
 
 /// The key of a password, as many bytes as `out` has. What is refused is told by the first fault, before
@@ -114,18 +161,19 @@ pub extern "C" fn pikhsen_scrypt(
         → scrypt_status (costs_given log_n r p) keep max_bytes max_ops (length out.old) ≡ 0 }
     ensures untouched { result ≢ 0 → out.new ≡ out.old }
 {
-    let costs = match costs_of(log_n, r, p) {
-        Ok(costs) => costs,
-        Err(status) => return status,
-    };
-    if out.len() > 32 * 0xFFFF_FFFF {
-        return status::BUFFER;
-    }
-    match workspace(alloc, &costs, keep, max_bytes, max_ops) {
-        Ok(mut workspace) => {
-            workspace.derive(password, salt, out, &mut Ticks::new());
-            status::OK
-        }
-        Err(status) => status,
-    }
+    let mut source = alloc;
+    let told = derive_in(
+        &mut source,
+        password,
+        salt,
+        log_n,
+        r,
+        p,
+        keep,
+        max_bytes,
+        max_ops,
+        out,
+        &mut Ticks::new(),
+    );
+    burn(told)
 }

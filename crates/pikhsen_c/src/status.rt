@@ -2,6 +2,7 @@
 ghost use Rattle.std.specs.Prelude.{◌≡◌, ◌≢◌, ◌≤◌, ◌<◌};
 ghost use Rattle.pikhsen_c.specs.Status.{costs_number, header_number, params_number};
 ghost use Rattle.pikhsen_c.specs.Inside.Numbers.{read_number, verify_number};
+ghost use Rattle.pikhsen_c.specs.Inside.Requests.{had_memory, had_memory_to_read, had_memory_to_test};
 
 use argon::ParamFault;
 use argon_text::{ReadFault, VerifyFault};
@@ -71,6 +72,7 @@ pub(crate) fn of_params(fault: ParamFault) -> u32
 /// The number of why a password isn't tested: 6 to 9.
 pub(crate) fn of_verify(fault: VerifyFault) -> u32
     ensures number { result ≡ verify_number fault }
+    ensures memory { had_memory_to_test fault ≡ had_memory result }
     ensures some { 6 ≤ result }
     ensures below { result ≤ 9 }
 {
@@ -85,6 +87,7 @@ pub(crate) fn of_verify(fault: VerifyFault) -> u32
 /// The number of why a text isn't read: 9, 14 or 15.
 pub(crate) fn of_read(fault: ReadFault) -> u32
     ensures number { result ≡ read_number fault }
+    ensures memory { had_memory_to_read fault ≡ had_memory result }
     ensures not_in_grammar { result ≡ 14 → fault ≡ ReadFault.NotInGrammar }
     ensures out_of_range { result ≡ 15 → fault ≡ ReadFault.OutOfRange }
     ensures out_of_memory { result ≡ 9 → fault ≡ ReadFault.OutOfMemory }

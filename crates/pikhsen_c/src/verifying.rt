@@ -1,17 +1,28 @@
 //! The test of a password against an encoded text.
-ghost use Rattle.std.specs.Prelude.{◌≡◌, ◌≤◌, ◌<◌, None, Some};
-ghost use Rattle.argon_text.specs.Grammar.{IsText, IsTextInRange};
+ghost use Rattle.std.specs.Prelude.{◌≡◌, ◌≢◌, ◌≤◌, ◌<◌, ◌⊎◌, None, Some, true, false};
+ghost use Rattle.argon_text.specs.EncodedText.{IsTextOf};
+ghost use Rattle.argon_text.specs.Grammar.{HasNumbers, IsText, IsTextInRange};
+ghost use Rattle.argon_text.specs.Value.{Value};
 ghost use Rattle.argon_text.specs.Verifying.{tag_of_password, verify_fault};
 ghost use Rattle.argon_text.specs.View.{value_of};
 ghost use Rattle.pikhsen_c.specs.Argon2.{HasOtherPassword, HasPassword, IsJudged, IsTold, MayLackMemory};
+ghost use Rattle.pikhsen_c.specs.Inside.Requests.{had_memory};
 ghost use Rattle.pikhsen_c.specs.Status.{mismatch, not_encoded, out_of_memory, out_of_range};
 
+use crate::burning::burn;
+use crate::source::Source;
 use crate::status;
-use argon_text::{Encoded, VerifyFault, verify};
+use argon_text::{Encoded, VerifyFault};
 use std::alloc::Global;
 
-// What `verify` answers, by its number.
-fn answered(alloc: Global, encoded: &Encoded, password: &[u8], max_kib: u32, max_ops: u64) -> u32
+// What the test of a password answers, by its number.
+fn answered<S: Source>(
+    source: &mut S,
+    encoded: &Encoded,
+    password: &[u8],
+    max_kib: u32,
+    max_ops: u64,
+) -> u32
     ensures admitted { result ≡ 0 → verify_fault (value_of encoded.now) password.now max_kib max_ops ≡ None }
     ensures right { result ≡ 0 → tag_of_password (value_of encoded.now) password.now ≡ encoded.now.tag.items }
     ensures admitted_too { result ≡ 16 → verify_fault (value_of encoded.now) password.now max_kib max_ops ≡ None }
@@ -20,12 +31,56 @@ fn answered(alloc: Global, encoded: &Encoded, password: &[u8], max_kib: u32, max
     ensures low { 0 < result → 6 ≤ result }
     ensures gap { 9 < result → 16 ≤ result }
     ensures high { result ≤ 16 }
+    // It is tested once, under the caller's own limits; want of memory is told where that was refused, and only there.
+    ensures asked { source.new
+        ≡ S.after_test source.old (value_of encoded.now) password.now max_kib max_ops (had_memory result) }
 {
-    match verify(alloc, encoded, password, max_kib, max_ops) {
+    match source.test(encoded, password, max_kib, max_ops) {
         Ok(true) => status::OK,
         Ok(false) => status::MISMATCH,
         Err(fault) => status::of_verify(fault),
     }
+}
+
+// The same of a text, with memory from `source`: for what the text says, and then for the hash.
+#[inline(never)]
+fn verify_in<S: Source>(
+    source: &mut S,
+    text: &[u8],
+    password: &[u8],
+    max_kib: u32,
+    max_ops: u64,
+) -> u32
+    ensures right { result ≡ 0 → HasPassword text.now password.now max_kib max_ops }
+    ensures wrong { result ≡ mismatch → HasOtherPassword text.now password.now max_kib max_ops }
+    ensures not_in_grammar { result ≡ not_encoded → IsText text.now → ⊥ }
+    ensures out_of_range { result ≡ out_of_range → IsText text.now × (IsTextInRange text.now → ⊥) }
+    ensures password_len { result ≡ 6 → IsJudged (Some VerifyFault.PasswordLength) text.now password.now max_kib max_ops }
+    ensures memory_limit { result ≡ 7 → IsJudged (Some VerifyFault.MemoryLimit) text.now password.now max_kib max_ops }
+    ensures work_limit { result ≡ 8 → IsJudged (Some VerifyFault.WorkLimit) text.now password.now max_kib max_ops }
+    ensures memory { result ≡ out_of_memory → MayLackMemory text.now password.now max_kib max_ops }
+    ensures low { 0 < result → 6 ≤ result }
+    ensures gap { 9 < result → 14 ≤ result }
+    ensures high { result ≤ 16 }
+    // A text that is not read is asked for once.
+    ensures unread { result ≡ not_encoded → source.new ≡ S.after_reading source.old text.now true }
+    ensures unread_too { result ≡ out_of_range → source.new ≡ S.after_reading source.old text.now true }
+    // One that is read is then tested once.
+    ensures asked { result ≢ not_encoded → result ≢ out_of_range → result ≢ out_of_memory
+        → (value : Value) × IsTextOf value text.now × (source.new
+        ≡ S.after_test (S.after_reading source.old text.now true) value password.now max_kib max_ops true) }
+    // Want of memory is told where one of the two was refused, the second only within the limits.
+    ensures refused { result ≡ out_of_memory
+        → (source.new ≡ S.after_reading source.old text.now false)
+        ⊎ ((value : Value) × IsTextOf value text.now × (verify_fault value password.now max_kib max_ops ≡ None)
+        × (source.new
+        ≡ S.after_test (S.after_reading source.old text.now true) value password.now max_kib max_ops false)) }
+{
+    let encoded = match source.read(text) {
+        Ok(encoded) => encoded,
+        Err(fault) => return status::of_read(fault),
+    };
+    answered(source, &encoded, password, max_kib, max_ops)
 }
 
 /// Whether the password is that of an encoded text: 0 where it is, 16 where it is not. The text is refused
@@ -51,9 +106,7 @@ pub extern "C" fn pikhsen_argon2_verify(
     ensures gap { 9 < result → 14 ≤ result }
     ensures high { result ≤ 16 }
 {
-    let encoded = match Encoded::read(alloc, text) {
-        Ok(encoded) => encoded,
-        Err(fault) => return status::of_read(fault),
-    };
-    answered(alloc, &encoded, password, max_kib, max_ops)
+    let mut source = alloc;
+    let told = verify_in(&mut source, text, password, max_kib, max_ops);
+    burn(told)
 }

@@ -5,10 +5,10 @@ use Rattle.pikhsen_c.proofs.FirstTold.{first_is}
 use Rattle.pikhsen_c.proofs.file.opened.Goals as goal
 
 pub returns-in-Err-clause-told : goal.returns-in-Err-clause-told
-returns-in-Err-clause-told c = λ memory wrong. first_is _ _ _ c.in-Err.ensures.told (omega (arith, c.in-Err.ensures.some))
+returns-in-Err-clause-told g c = λ memory wrong. first_is _ _ _ c.in-Err.ensures.told (omega (arith, c.in-Err.ensures.some))
 
 pub open-requires-clause-header : goal.open-requires-clause-header
-open-requires-clause-header c =
+open-requires-clause-header g c =
     let file : List ℕ = c.args.file.now in
     let same : take 64 file ≡ take 64 c.front_of-front.result =
     sym (take-take 64 96 file (omega arith)) ∙ ap (λ (front : List ℕ). take 64 front) (sym c.front_of-front.ensures.front) in

@@ -1,9 +1,9 @@
 use Rattle.std.proofs.Common.{inr}
 use Rattle.argon_text.specs.View.{value_of}
-use Rattle.pikhsen_c.proofs.verifying.pikhsen_argon2_verify.Goals as goal
+use Rattle.pikhsen_c.proofs.verifying.verify_in.Goals as goal
 
 pub returns-clause-right : goal.returns-clause-right
-returns-clause-right c = λ told. record {
+returns-clause-right g c = λ told. record {
   value = value_of c.in-Ok.encoded;
   valid = c.in-Ok.ensures.value;
   written = c.in-Ok.ensures.found;
@@ -12,7 +12,7 @@ returns-clause-right c = λ told. record {
 }
 
 pub returns-clause-wrong : goal.returns-clause-wrong
-returns-clause-wrong c = λ told. record {
+returns-clause-wrong g c = λ told. record {
   value = value_of c.in-Ok.encoded;
   valid = c.in-Ok.ensures.value;
   written = c.in-Ok.ensures.found;
@@ -21,7 +21,7 @@ returns-clause-wrong c = λ told. record {
 }
 
 pub returns-clause-password_len : goal.returns-clause-password_len
-returns-clause-password_len c = λ told. record {
+returns-clause-password_len g c = λ told. record {
   value = value_of c.in-Ok.encoded;
   valid = c.in-Ok.ensures.value;
   written = c.in-Ok.ensures.found;
@@ -29,7 +29,7 @@ returns-clause-password_len c = λ told. record {
 }
 
 pub returns-clause-memory_limit : goal.returns-clause-memory_limit
-returns-clause-memory_limit c = λ told. record {
+returns-clause-memory_limit g c = λ told. record {
   value = value_of c.in-Ok.encoded;
   valid = c.in-Ok.ensures.value;
   written = c.in-Ok.ensures.found;
@@ -37,7 +37,7 @@ returns-clause-memory_limit c = λ told. record {
 }
 
 pub returns-clause-work_limit : goal.returns-clause-work_limit
-returns-clause-work_limit c = λ told. record {
+returns-clause-work_limit g c = λ told. record {
   value = value_of c.in-Ok.encoded;
   valid = c.in-Ok.ensures.value;
   written = c.in-Ok.ensures.found;
@@ -45,7 +45,7 @@ returns-clause-work_limit c = λ told. record {
 }
 
 pub returns-clause-memory : goal.returns-clause-memory
-returns-clause-memory c = λ told. inr (record {
+returns-clause-memory g c = λ told. inr (record {
   value = value_of c.in-Ok.encoded;
   valid = c.in-Ok.ensures.value;
   written = c.in-Ok.ensures.found;

@@ -1,0 +1,21 @@
+//! What a call leaves on the stack: keys, and what they are made of.
+ghost use Rattle.std.specs.Prelude.{◌≡◌, true};
+
+/// Puts zeros where the frames of a call were that has returned, and hands its answer on. No contract sees these bytes,
+/// and a write that nothing reads may be left out: so all of them are read again. tests/c_face.py looks for keys.
+#[inline(never)]
+pub(crate) fn burn(told: u32) -> u32
+    ensures same { result ≡ told }
+{
+    let mut room = [0xFFu8; 32768];
+    if are_wiped(&mut room) { told } else { 0 }
+}
+
+// Puts zeros over the bytes, and looks whether they are there.
+#[inline(never)]
+fn are_wiped(room: &mut [u8]) -> bool
+    ensures wiped { result ≡ true }
+{
+    room.fill(0);
+    room.iter().all(|byte| *byte == 0)
+}
