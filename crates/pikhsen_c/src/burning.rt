@@ -7,15 +7,15 @@ ghost use Rattle.std.specs.Prelude.{◌≡◌, true};
 pub(crate) fn burn(told: u32) -> u32
     ensures same { result ≡ told }
 {
-    let mut room = [0xFFu8; 32768];
+    let mut room = [u64::MAX; 4096];
     if are_wiped(&mut room) { told } else { 0 }
 }
 
-// Puts zeros over the bytes, and looks whether they are there.
+// Puts zeros over the words, and looks whether they are there.
 #[inline(never)]
-fn are_wiped(room: &mut [u8]) -> bool
+fn are_wiped(room: &mut [u64]) -> bool
     ensures wiped { result ≡ true }
 {
     room.fill(0);
-    room.iter().all(|byte| *byte == 0)
+    room.iter().all(|word| *word == 0)
 }
