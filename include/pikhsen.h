@@ -15,8 +15,9 @@
  *  - Memory is taken by malloc and realloc alone, and all of it is freed, by free, before the function returns; the
  *    three must be of one allocator. A call needs a stack of 64 KiB. It writes no file, reads no clock, starts no
  *    thread, sets no errno but by a malloc that refuses, and never ends the process.
- *  - Before a function that derives or hashes answers, it puts zeros over the stack that it used. What it frees is not
- *    wiped, and registers may hold a piece of a key.
+ *  - Before a function that derives or hashes answers, it puts zeros over 32 KiB of the stack below its own frame, where
+ *    its work stood; this is tested, and not proved. What it frees is not wiped. Registers may hold a piece of a key,
+ *    which a later call of a function whose name is not bound yet may store: link with -z now.
  *  - Not to be called from a signal handler, nor in the forked child of a process with threads.
  */
 #ifndef PIKHSEN_H

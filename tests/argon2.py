@@ -167,7 +167,7 @@ def memory_before_the_hash(checks):
 
 
 def standard_output_that_is_read(checks):
-    """The file of the password is not written, and another file is, behind what it held."""
+    """The file of the password is not written, and another file is, after what it held."""
     with tempfile.TemporaryDirectory() as folder:
         password, other = os.path.join(folder, "password"), os.path.join(folder, "other")
         for path in (password, other):

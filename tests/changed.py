@@ -25,7 +25,7 @@ def below():
 
 
 def in_order(uses):
-    """The crates, each behind those that it names."""
+    """The crates, each after those that it names."""
     order = []
 
     def put(name):

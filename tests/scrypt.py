@@ -379,7 +379,7 @@ def standard_output_that_is_read(checks):
     # Another file, a device and a terminal are written, also where they are read.
     checks.put("read", b"before")
     found = checks.shell(f'"$0" enc {FIXED} {FROM_PW} hello >>read')
-    checks.that("standard output behind another file", (found, checks.content("read")), (done(), b"before" + F5))
+    checks.that("standard output after another file", (found, checks.content("read")), (done(), b"before" + F5))
     found = checks.shell(f'"$0" enc {FIXED} {FROM_PW} - </dev/null >/dev/null')
     checks.that("a device as both standard streams", found, done())
     found = checks.shell(f'"$0" enc {FIXED} {FROM_PW} /dev/null >/dev/null')

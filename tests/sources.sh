@@ -55,12 +55,18 @@ expect '.hash(' "a hash is made by the test of a password, the functions for C a
     crates/argon_text/src/verify_password.rt crates/argon2_command/src/output.rt crates/pikhsen_c/src/argon2.rt \
     crates/pikhsen_c/src/encoded.rt
 # The functions for C: one copy of a list is made, where memory comes from, no list grows, and none is kept from being freed.
-for text in '.to_vec(' 'Vec::new(' '.write(' 'Encoded::read(' 'verify(*self'; do
+for text in '.to_vec(' 'Vec::new(' '.write(' 'Encoded::read(' 'Encoded::read(*self, text)' 'Matrix::reserve(*self, params)' \
+    'Workspace::reserve(*self, sparse)' 'text_of_zeros(*self, kind, params, salt)' 'verify(*self' \
+    'verify(*self, encoded, password, max_kib, max_ops)'; do
     expect_below crates/pikhsen_c "$text" "memory is asked for by the sources of memory alone" crates/pikhsen_c/src/source.rt
 done
-for text in '.resize(' 'from_elem(' '.extend_from_slice(' '.push(' '.reserve(' '.clone_in(' 'Box::new('; do
-    expect_below crates/pikhsen_c "$text" "memory is asked for by the sources of memory alone"
-done
+if grep -nHE '(\.|::)(append|clone\w*|extend\w*|from_elem|insert\w*|push\w*|(try_)?reserve\w*|(try_)?resize\w*|sort\w*|Box::new)\(' \
+    crates/pikhsen_c/src/*.rt | grep -vE '/tests\.rt:|: *//|: +(Matrix|Workspace)::reserve\(\*self,'; then
+    fail "memory is asked for by a function for C that is not a source of memory"
+fi
+expect 'burn(told)' "zeros are put over the stack before an answer" crates/pikhsen_c/src/argon2.rt \
+    crates/pikhsen_c/src/encoded.rt crates/pikhsen_c/src/file.rt crates/pikhsen_c/src/file.rt \
+    crates/pikhsen_c/src/scrypt.rt crates/pikhsen_c/src/verifying.rt
 for text in 'forget(' 'ManuallyDrop' 'leak(' 'into_raw('; do
     expect_below crates/pikhsen_c "$text" "all memory that a function for C takes is freed"
 done

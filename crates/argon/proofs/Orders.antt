@@ -23,7 +23,7 @@ turn_goes f w lane go =
       | inr none ↦ rw (le-ltb 0 (slice_index w.left lane) none) go
     ]
 
--- a turn takes what is less of the share after it
+-- a turn takes as much as the share is less after it
 turn_share : (w : Weaving) (lane : ℕ) → IsWeaving w → turn_work w lane + work_left (after_turn w lane) ≡ work_left w
 turn_share w lane weaving =
     elim (cases_lt 0 (slice_index w.left lane)) [

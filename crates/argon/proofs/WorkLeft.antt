@@ -48,7 +48,7 @@ share_opened f left t u filling el e =
     regroup : (t p a b : ℕ) → t + p * a + p * b ≡ t + p * (a + b)
     regroup t p a b = grind arith
 
--- a column takes what its lane has less to take after it
+-- a column takes as much as its lane has less to take after it
 column_share : (b : Bool) (len left : ℕ) → 0 < left → left ≤ len
     → 1 + address_work b (addresses_begun (len - left)) + (left - 1 + address_work b (address_count len - max 1 (address_count (len - (left - 1)))))
     ≡ left + address_work b (address_count len - max 1 (address_count (len - left)))
@@ -57,7 +57,7 @@ column_share true len left some few =
     omega (arith, addresses_more true (len - left), ap (λ (n : ℕ). max 1 (address_count n)) next)
 column_share false len left some few = omega arith
 
--- a step takes what is less of the share after it, by the numbers that the code has
+-- a step takes as much as the share is less after it, by the numbers that the code has
 pub share_stepped : (w : Weaving) (lane : ℕ) (blocks : List (List ℕ)) (left : List ℕ) (t u len pass slice here : ℕ) → IsWeaving w → 0 < slice_index w.left lane
     → segment_len w.matrix.parameters ≡ len → pass ≡ w.matrix.slices_made / 4 → slice ≡ w.matrix.slices_made % 4 → here ≡ slice_index w.left lane
     → left ≡ set w.left lane (slice_index w.left lane - 1) → u ≡ t + column_work w.matrix.parameters pass slice (len - here)

@@ -33,7 +33,7 @@ fn one_form(encoded: bool, hex: bool) -> Result<Form, Argon2Refusal>
     }
 }
 
-/// Reads the words behind the program's name.
+/// Reads the words after the program's name.
 pub fn read_request(words: &[String]) -> Result<Request<'_>, Argon2Refusal>
     ensures early { IfErr result IsEarly }
     ensures counts { IfErr result RaisesNoCount }

@@ -275,7 +275,7 @@ fn passwords(rt: HostRuntime) -> Result<(), Fail> {
         b"",
         Err(EMPTY_PASSWORD),
     )?;
-    // It is read behind the words and before the ranges.
+    // It is read after the words and before the ranges.
     check(&rt, alloc, "somesalt -t 0 -e", b"", Err(EMPTY_PASSWORD))?;
     check(&rt, alloc, "somesalt -t x -e", b"", Err(BAD_NUMBER))?;
     Ok(())
@@ -346,8 +346,8 @@ fn longest_tag(rt: HostRuntime) -> Result<(), Fail> {
     Ok(())
 }
 
-// The tag, the line and the matrix are the requests, in this order and behind every other refusal: so the hash, which
-// needs the matrix, comes behind them all, and nothing is asked for after it.
+// The tag, the line and the matrix are the requests, in this order and after every other refusal: so the hash, which
+// needs the matrix, comes after them all, and nothing is asked for after it.
 #[test]
 fn each_request_is_refused(rt: HostRuntime) -> Result<(), Fail> {
     let alloc = rt.alloc();

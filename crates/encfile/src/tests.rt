@@ -427,7 +427,7 @@ fn fronts_that_are_refused(rt: HostRuntime) -> Result<(), Fail> {
 
 #[test]
 fn first_fault_of_a_header(rt: HostRuntime) -> Result<(), Fail> {
-    // bytes that are changed, and the fault; each has the faults of the later ones, too
+    // bytes that are changed, and the fault; each has the faults of those above it, too
     let faults: &[(usize, u8, HeaderFault)] = &[
         (63, 0, HeaderFault::Checksum),
         (48, 0, HeaderFault::Checksum),

@@ -218,7 +218,7 @@ fn front_of(file: &[u8]) -> [u8; 96]
     front
 }
 
-// A decryption behind the first 96 bytes of a file, or the number of what the file is refused for.
+// A decryption after the first 96 bytes of a file, or the number of what the file is refused for.
 fn opened<S: Source>(
     source: &mut S,
     passphrase: &[u8],

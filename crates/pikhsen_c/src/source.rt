@@ -20,19 +20,19 @@ use std::alloc::{AllocError, Global};
 /// The requests for memory of a call. Contracts see which were made, in which order, under which limits, and whether
 /// they were granted: the last argument of each function below says so.
 pub(crate) trait Source {
-    // What a request for the matrix of a hash leaves of the source.
+    // The state in which a request for the matrix of a hash leaves the source; `true`: it was granted.
     ghost after_matrix: { Self → Parameters → ℕ → ℕ → Bool → Self };
 
-    // The same of the text of a hash that has zeros for a tag.
+    // The same for the text of a hash that has zeros for a tag.
     ghost after_text: { Self → Parameters → List ℕ → Bool → Self };
 
-    // The same of the memory of a derivation.
+    // The same for the memory of a derivation.
     ghost after_workspace: { Self → SparseParameters → ℕ → ℕ → Bool → Self };
 
-    // The same of the reading of a text.
+    // The same for the reading of a text.
     ghost after_reading: { Self → List ℕ → Bool → Self };
 
-    // The same of the test of a password.
+    // The same for the test of a password.
     ghost after_test: { Self → Value → List ℕ → ℕ → ℕ → Bool → Self };
 
     /// The matrix of a hash with these parameters, which the limits admit.

@@ -62,10 +62,10 @@ fn verify_in<S: Source>(
     ensures low { 0 < result → 6 ≤ result }
     ensures gap { 9 < result → 14 ≤ result }
     ensures high { result ≤ 16 }
-    // A text that is not read is asked for once.
+    // Where the text is refused, its reading was asked for, once.
     ensures unread { result ≡ not_encoded → source.new ≡ S.after_reading source.old text.now true }
     ensures unread_too { result ≡ out_of_range → source.new ≡ S.after_reading source.old text.now true }
-    // One that is read is then tested once.
+    // Where it is read, a password is then tested, once.
     ensures asked { result ≢ not_encoded → result ≢ out_of_range → result ≢ out_of_memory
         → (value : Value) × IsTextOf value text.now × (source.new
         ≡ S.after_test (S.after_reading source.old text.now true) value password.now max_kib max_ops true) }

@@ -1,4 +1,4 @@
--- The command scrypt: what its words say and ask for, and its refusals.
+-- The command scrypt: what its words say and ask for, and what a run comes to.
 pub mod CommandLine
 pub mod Words
 pub mod Request

@@ -1,5 +1,5 @@
 //! The definition of scrypt's words, run: what `clap` defines for words that it takes and words that it
-//! does not, and the product's own rules behind it.
+//! does not, and the product's own rules after it.
 ghost use Rattle.std.specs.Prelude.{◌≡◌, ◌-◌, ◌^◌, [], Ok, Err, Some, None, codes};
 ghost use Rattle.scrypt_run.specs.Request.{decrypt, encrypt, inspect};
 ghost use Rattle.scrypt_command.specs.Request.{scrypt_request};
@@ -54,9 +54,9 @@ fn keeps()
         Err KeepOutOfRange }
     ensures no_number { scrypt_request (typed (codes "dec --keep x -P F5")) ≡ Err Usage }
     ensures empty_number { scrypt_request (typed (codes "dec --keep= -P F5")) ≡ Err Usage }
-    ensures behind_salt { scrypt_request (typed (codes "enc --keep 3 --salt 00 -P a")) ≡
+    ensures later_than_salt { scrypt_request (typed (codes "enc --keep 3 --salt 00 -P a")) ≡
         Err SaltDigits }
-    ensures behind_source { scrypt_request (typed (codes "dec --keep 3 a")) ≡
+    ensures later_than_source { scrypt_request (typed (codes "dec --keep 3 a")) ≡
         Err PassphraseSource }
     ensures of_info { scrypt_request (typed (codes "info --keep 4 F5")) ≡ Err Usage }
 {}
@@ -86,7 +86,7 @@ fn costs_in_range()
         Err CostsOutOfRange }
 {}
 
-// Each refusal behind the first.
+// Each refusal after the first.
 #[tactic(auto, unfolding(clap::proofs::OnLiterals::clap_on_literals, hex::proofs::OnLiterals::hex_on_literals))]
 fn refusals()
     ensures stdin_twice { scrypt_request (typed (codes "enc -P - out")) ≡ Err StandardInputTwice }
@@ -142,11 +142,11 @@ fn taken()
         Ok (encrypt (plain_encryption (costs 17 8 1) (plain_task stdin_once (Some (codes "a")) None))) }
     ensures options_last { scrypt_request (typed (codes "dec a b -P")) ≡
         Ok (decrypt (plain_task stdin_once (Some (codes "a")) (Some (codes "b")))) }
-    ensures behind_dashes { scrypt_request (typed (codes "dec -P -- -x")) ≡
+    ensures after_dashes { scrypt_request (typed (codes "dec -P -- -x")) ≡
         Ok (decrypt (plain_task stdin_once (Some (codes "-x")) None)) }
     ensures outfile_dash { scrypt_request (typed (codes "dec -P a -")) ≡
         Ok (decrypt (plain_task stdin_once (Some (codes "a")) (Some (codes "-")))) }
-    ensures outfile_behind_dashes { scrypt_request (typed (codes "dec -P a -- -P")) ≡
+    ensures outfile_after_dashes { scrypt_request (typed (codes "dec -P a -- -P")) ≡
         Ok (decrypt (plain_task stdin_once (Some (codes "a")) (Some (codes "-P")))) }
     ensures name_of_a_command { scrypt_request (typed (codes "dec -P help enc")) ≡
         Ok (decrypt (plain_task stdin_once (Some (codes "help")) (Some (codes "enc")))) }

@@ -32,6 +32,7 @@ pub fn is_set(matches: &ArgMatches<'_>, name: &str) -> bool
 fn refusal_for(error: &Error) -> ScryptRefusal
     ensures usage { (result ≡ ScryptRefusal.OutOfMemory) ⊎
         ((result ≡ ScryptRefusal.Usage) × (kind_of error.now ≢ ErrorKind.OutOfMemory)) }
+    ensures memory { result ≡ ScryptRefusal.OutOfMemory → kind_of error.now ≡ ErrorKind.OutOfMemory }
     ensures counts { RaisesNoCount result }
 {
     if error.kind() == ErrorKind::OutOfMemory {

@@ -69,8 +69,8 @@ fn read_salt<H: Host>(host: &mut H, salt: Option<[u8; 32]>) -> Result<[u8; 32], 
     Ok(salt)
 }
 
-// Reads the passphrase and the salt, takes the memory of the derivation, and derives the keys. Nothing
-// more may be refused when the work begins.
+// Reads the passphrase and the salt, takes the memory of the derivation, and derives the keys. Here nothing
+// is refused any more once the work begins.
 fn start<H: Host>(
     alloc: Global,
     host: &mut H,
