@@ -289,16 +289,16 @@ def secrets_from_c(checks, folder, lib, pikhsen):
     pieces = {f"bytes {at} to {at + 15}": keys[at:at + 16] for at in range(0, 64, 16)}
     file = pikhsen.encrypt(bytes(1000), b"pw", salt=salt, **costs)
     program = f"{folder}/secrets"
-    # -z now: the binding of a name at its first call would store vector registers, in which a piece of a key may be
+    # -z now: to bind a name at its first call would store vector registers, and a piece of a key may be in these
     made = compile_c(TOP / "tests/secrets.c", lib, program, True, *STRICT, "-Wl,-z,now")
     checks.that("secrets.c, compiled", made, (0, ""))
     for words in ([], ["keys"], ["painted"], ["painted", "kept"], ["key", "kept"]):
-        found = subprocess.run([program, *words], stdin=subprocess.DEVNULL).returncode
+        found = subprocess.run([program, *words], stdin=subprocess.DEVNULL, stdout=subprocess.DEVNULL).returncode
         checks.that(f"secrets.c, other words: {words}", found, 2)
     for what in ("hash", "encoded", "verify", "key", "encrypt", "decrypt"):
         found = said(program, "painted", what, check=False)
         checks.that(f"stack after: {what}", found, "told 0, not wiped 0, touched deeper 0\n")
-    # the first two show that the search finds what is there
+    # the first two show that the search finds what is there, on the stack too
     for what, given, expected in (
         ("kept", b"", sorted(pieces)), ("stack", b"", sorted(pieces)), ("key", b"", []), ("encrypt", b"", []),
         ("decrypt", file, []),
@@ -338,7 +338,8 @@ def from_python(checks, pikhsen):
         (pikhsen.Kind.ID, "0d640df58d78766c08c037a34a8b53c9d01ef0452d75b65eb52520e96b01e659"),
     ):
         found = pikhsen.hash(
-            b"\1" * 32, b"\2" * 16, passes=3, memory_kib=32, lanes=4, kind=kind, secret=b"\3" * 8, associated=b"\4" * 12
+            b"\1" * 32, b"\2" * 16, passes=3, memory_kib=32, lanes=4, kind=kind, secret=b"\3" * 8,
+            associated=b"\4" * 12
         )
         checks.that(f"RFC 9106, {kind!r}", found.hex(), tag)
     # the README of the reference implementation

@@ -80,7 +80,7 @@ static int wait_after(unsigned int told)
 	return read(0, &end, 1) < 0;
 }
 
-/* Waits before the frame with the key is left. */
+/* Waits while the frame that has the key is not yet left. */
 static NOINLINE int wait_with_key_on_stack(void)
 {
 	unsigned char on_stack[64];
