@@ -1,7 +1,7 @@
 /*
  * Calls libpikhsen from C, on threads with a stack of 64 KiB: the first vectors, a file that is damaged, and, where
- * REFUSE is defined, malloc that refuses each request in turn and counts the blocks that are not freed. Ends with
- * status 0 where all is right, and else names the line.
+ * REFUSE is defined, malloc that refuses each request in turn and counts the blocks that are not freed and the
+ * bytes that are asked for. Ends with status 0 where all is right, and else names the line.
  */
 #include <pthread.h>
 #include <stdio.h>
@@ -24,14 +24,19 @@ static long granted = -1;
 /* How many blocks are not freed; 0 where nothing counts them. */
 static long live = 0;
 
+/* How many bytes were asked for since it was 0 last; 0 where nothing counts them. */
+static size_t asked = 0;
+
 #ifdef REFUSE
 extern void *__libc_malloc(size_t);
 extern void *__libc_calloc(size_t, size_t);
 extern void *__libc_realloc(void *, size_t);
 extern void __libc_free(void *);
 
-static int refuses(void)
+/* Counts a request; whether it is refused. */
+static int refuses(size_t size)
 {
+	__sync_fetch_and_add(&asked, size);
 	if (granted == 0)
 		return 1;
 	if (granted > 0)
@@ -48,17 +53,17 @@ static void *counted(void *block)
 
 void *malloc(size_t size)
 {
-	return refuses() ? NULL : counted(__libc_malloc(size));
+	return refuses(size) ? NULL : counted(__libc_malloc(size));
 }
 
 void *calloc(size_t count, size_t size)
 {
-	return refuses() ? NULL : counted(__libc_calloc(count, size));
+	return refuses(count * size) ? NULL : counted(__libc_calloc(count, size));
 }
 
 void *realloc(void *at, size_t size)
 {
-	if (refuses())
+	if (refuses(size))
 		return NULL;
 	return at ? __libc_realloc(at, size) : counted(__libc_realloc(at, size));
 }
@@ -174,6 +179,53 @@ static unsigned int on_small_stack(void *(*work)(void *), int number, unsigned c
 	return call.told;
 }
 
+/* What the limits refuse must not take memory before: limits are there for texts and files of strangers. */
+static void refused_by_limits(void)
+{
+	static const unsigned char salt[32] = { 0 };
+	const size_t encoded_len = strlen((char *)encoded);
+	unsigned char tag[32];
+
+	asked = 0;
+	WANT(hash(tag) == PIKHSEN_OK);
+#ifdef REFUSE
+	WANT(asked >= 8192);
+#endif
+	/* 8 KiB and 6 block functions are needed: first the one limit is too low by one, and then the other */
+	asked = 0;
+	WANT(pikhsen_argon2_hash(PIKHSEN_ARGON2D, 0x13, 1, 8, 1, password, 8, somesalt, 8, none, 0, none, 0, 7, 100, tag,
+	    32) == PIKHSEN_MEMORY_LIMIT);
+	WANT(pikhsen_argon2_hash(PIKHSEN_ARGON2D, 0x13, 1, 8, 1, password, 8, somesalt, 8, none, 0, none, 0, 8, 5, tag,
+	    32) == PIKHSEN_WORK_LIMIT);
+	WANT(asked == 0);
+	WANT(pikhsen_argon2_encoded(PIKHSEN_ARGON2D, 0x13, 1, 8, 1, password, 8, somesalt, 8, 32, 7, 100, encoded,
+	    sizeof encoded, &len) == PIKHSEN_MEMORY_LIMIT);
+	WANT(pikhsen_argon2_encoded(PIKHSEN_ARGON2D, 0x13, 1, 8, 1, password, 8, somesalt, 8, 32, 8, 5, encoded,
+	    sizeof encoded, &len) == PIKHSEN_WORK_LIMIT);
+	WANT(asked == 0);
+	/* the text's salt and tag are read before the limits are tested, and have fewer bytes than the text */
+	WANT(pikhsen_argon2_verify(encoded, encoded_len, password, 8, 7, 100) == PIKHSEN_MEMORY_LIMIT);
+	WANT(asked < 2 * encoded_len);
+	asked = 0;
+	WANT(pikhsen_argon2_verify(encoded, encoded_len, password, 8, 8, 5) == PIKHSEN_WORK_LIMIT);
+	WANT(asked < 2 * encoded_len);
+	/* 128 * r * N bytes and 4 * r * p * N cores are needed: 2,048 and 64, and for the file 6,144 and 384 */
+	asked = 0;
+	WANT(pikhsen_scrypt(none, 0, none, 0, 4, 1, 1, 1, 2047, 64, tag, 32) == PIKHSEN_MEMORY_LIMIT);
+	WANT(pikhsen_scrypt(none, 0, none, 0, 4, 1, 1, 1, 2048, 63, tag, 32) == PIKHSEN_WORK_LIMIT);
+	WANT(asked == 0);
+	WANT(pikhsen_scrypt_encrypt(password, 8, salt, 32, 4, 3, 2, 1, 6143, 384, somesalt, 5, file, sizeof file)
+	    == PIKHSEN_MEMORY_LIMIT);
+	WANT(pikhsen_scrypt_encrypt(password, 8, salt, 32, 4, 3, 2, 1, 6144, 383, somesalt, 5, file, sizeof file)
+	    == PIKHSEN_WORK_LIMIT);
+	WANT(asked == 0);
+	WANT(pikhsen_scrypt_decrypt(password, 8, 1, 6143, 384, file, sizeof file, text, sizeof text, &len)
+	    == PIKHSEN_MEMORY_LIMIT);
+	WANT(pikhsen_scrypt_decrypt(password, 8, 1, 6144, 383, file, sizeof file, text, sizeof text, &len)
+	    == PIKHSEN_WORK_LIMIT);
+	WANT(asked == 0);
+}
+
 int main(void)
 {
 	/* printf password | argon2 somesalt -d -t 1 -k 8 -e, by the reference program */
@@ -210,6 +262,7 @@ int main(void)
 	WANT(pikhsen_scrypt_info(file, 64, &costs) == PIKHSEN_OK);
 	WANT(costs.log_n == 4 && costs.r == 3 && costs.p == 2);
 	WANT(pikhsen_scrypt_info(file, 63, &costs) == PIKHSEN_TOO_SHORT);
+	refused_by_limits();
 	file[100] ^= 1;
 	memset(text, 1, sizeof text);
 	WANT(on_small_stack(calls, 6, tag) == PIKHSEN_DAMAGED && len == 0);

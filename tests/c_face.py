@@ -29,6 +29,15 @@ PAGE = (TOP / "man/pikhsen.3").read_text(encoding="utf-8")
 SOURCES = {it.stem: it.read_text(encoding="utf-8") for it in sorted((TOP / "crates/pikhsen_c/src").glob("*.rt"))}
 STRICT = ["-std=c89", "-pedantic", "-Wall", "-Wextra", "-Werror", "-D_POSIX_C_SOURCE=200112L"]
 INCLUDE = ["-I", str(TOP / "include")]
+# The exports that have nothing to wipe: they derive and hash nothing.
+NOTHING_TO_WIPE = ["pikhsen_scrypt_info", "pikhsen_version"]
+# The body of any other export: it takes the heap, gathers parameters, calls what does the work, and wipes the stack.
+HANDS_ON = (
+    r"\{\n    let mut source = alloc;\n"
+    r"(?:    let \w+ = \w+ \{\n(?:        \w+,\n)+    \};\n)*"
+    r"    let told = \w+_in\(\s*&mut source,[^;{}]*\);\n"
+    r"    burn\(told\)\n\}"
+)
 # How the parameter NAME of a type of the sources is written in C.
 IN_C = {
     "Global": (),
@@ -62,6 +71,12 @@ def exports():
         words = [word.replace("NAME", called) for called, kind in pairs for word in IN_C[kind]]
         found[name] = (IN_C[result][0].replace(" NAME", ""), words or ["void"])
     return found
+
+
+def bodies():
+    """The bodies of the exported functions of the sources."""
+    form = r'pub extern "C" fn (\w+)\(.*?\n(\{\n.*?\n\})$'
+    return dict(re.findall(form, "\n".join(SOURCES.values()), re.DOTALL | re.MULTILINE))
 
 
 def prototypes(text):
@@ -138,6 +153,11 @@ def compare_texts(checks):
     checks.that("names of header and exports", sorted(declared), sorted(exports()))
     for name, form in exports().items():
         checks.that(f"header: {name}", declared.get(name), form)
+    found = bodies()
+    checks.that("exports that have a body", sorted(found), sorted(exports()))
+    for name in sorted(set(exports()) - set(NOTHING_TO_WIPE)):
+        is_so = re.fullmatch(HANDS_ON, found.get(name, "")) is not None
+        checks.that(f"{name} hands on once, then wipes the stack, and does nothing else", is_so, True)
     synopsis = re.sub(r"\n +", " ", PAGE.split("\n.SH ")[2])
     checks.that("prototypes of the manual page", prototypes(synopsis), declared)
     version = (TOP / "VERSION").read_text(encoding="utf-8").strip()
@@ -145,9 +165,11 @@ def compare_texts(checks):
     if shutil.which("mandoc"):
         checks.that("manual page", said("mandoc", "-T", "lint", str(TOP / "man/pikhsen.3"), check=False), "")
     if shutil.which("mypy"):
-        checked = said("mypy", "--strict", "--no-error-summary", "--cache-dir=/dev/null", str(TOP / "python/pikhsen.py"),
-                       check=False)
-        checks.that("types of the Python module", checked, "")
+        # the oldest Python that README promises
+        words = ["mypy", "--strict", "--python-version", "3.9", "--no-error-summary", "--cache-dir=/dev/null"]
+        ran = subprocess.run([*words, TOP / "python/pikhsen.py"], stdout=subprocess.PIPE, stderr=subprocess.STDOUT,
+                             text=True)
+        checks.that("types of the Python module", (ran.returncode, ran.stdout), (0, ""))
     first, second, third = map(int, version.split("."))
     number = 10000 * first + 100 * second + third
     checks.that("version of the header", re.findall(r"PIKHSEN_VERSION (\d+)u", HEADER), [str(number)])
@@ -260,31 +282,39 @@ def kept_pieces(process, pieces):
 
 
 def secrets_from_c(checks, folder, lib, pikhsen):
-    """After a call no key stands on the stack, nor anywhere else: what the two halves of 64 derived bytes are made to."""
+    """After a call no key is in writable memory, on the stack or elsewhere: none of the four pieces of the 64 derived
+    bytes."""
     salt, costs = b"\7" * 32, {"log_n": 10, "r": 8, "p": 1}
     keys = hashlib.scrypt(b"pw", salt=salt, n=1024, r=8, p=1, dklen=64, maxmem=1 << 26)
     pieces = {f"bytes {at} to {at + 15}": keys[at:at + 16] for at in range(0, 64, 16)}
-    pieces["the inner key"] = bytes(it ^ 0x36 for it in keys[32:48])
-    pieces["the outer key"] = bytes(it ^ 0x5C for it in keys[32:48])
     file = pikhsen.encrypt(bytes(1000), b"pw", salt=salt, **costs)
-    # -z now: the binding of a name at its first call would store vector registers, in which a piece of a key may be left
-    made = compile_c(TOP / "tests/secrets.c", lib, f"{folder}/secrets", True, *STRICT, "-Wl,-z,now")
+    program = f"{folder}/secrets"
+    # -z now: to bind a name at its first call would store vector registers, and a piece of a key may be in these
+    made = compile_c(TOP / "tests/secrets.c", lib, program, True, *STRICT, "-Wl,-z,now")
     checks.that("secrets.c, compiled", made, (0, ""))
+    for words in ([], ["keys"], ["painted"], ["painted", "kept"], ["key", "kept"]):
+        found = subprocess.run([program, *words], stdin=subprocess.DEVNULL, stdout=subprocess.DEVNULL).returncode
+        checks.that(f"secrets.c, other words: {words}", found, 2)
+    for what in ("hash", "encoded", "verify", "key", "encrypt", "decrypt"):
+        found = said(program, "painted", what, check=False)
+        checks.that(f"stack after: {what}", found, "told 0, not wiped 0, touched deeper 0\n")
+    # the first two show that the search finds what is there, on the stack too
     for what, given, expected in (
-        ("kept", b"", [it for it in sorted(pieces) if it.startswith("bytes")]), ("key", b"", []),
-        ("encrypt", b"", []), ("decrypt", file, []),
+        ("kept", b"", sorted(pieces)), ("stack", b"", sorted(pieces)), ("key", b"", []), ("encrypt", b"", []),
+        ("decrypt", file, []),
     ):
-        with subprocess.Popen([f"{folder}/secrets", what], stdin=subprocess.PIPE, stdout=subprocess.PIPE) as process:
+        with subprocess.Popen([program, what], stdin=subprocess.PIPE, stdout=subprocess.PIPE) as process:
             process.stdin.write(given)
             process.stdin.flush()
-            told = process.stdout.readline()
+            checks.that(f"answer of: {what}", process.stdout.readline(), b"0\n")
             try:
                 found = kept_pieces(process, pieces)
-            except PermissionError:
-                print("the memory of a process may not be read here: keys are not looked for")
+            except OSError as why:
+                print(f"the memory of a process may not be read here ({why}): keys are not looked for")
                 return
-            checks.that(f"keys in memory after: {what}", (told, found), (b"0\n", expected))
-            process.communicate(b"x")
+            finally:
+                process.kill()
+            checks.that(f"keys in memory after: {what}", found, expected)
 
 
 # ---- from Python
@@ -308,7 +338,8 @@ def from_python(checks, pikhsen):
         (pikhsen.Kind.ID, "0d640df58d78766c08c037a34a8b53c9d01ef0452d75b65eb52520e96b01e659"),
     ):
         found = pikhsen.hash(
-            b"\1" * 32, b"\2" * 16, passes=3, memory_kib=32, lanes=4, kind=kind, secret=b"\3" * 8, associated=b"\4" * 12
+            b"\1" * 32, b"\2" * 16, passes=3, memory_kib=32, lanes=4, kind=kind, secret=b"\3" * 8,
+            associated=b"\4" * 12
         )
         checks.that(f"RFC 9106, {kind!r}", found.hex(), tag)
     # the README of the reference implementation
