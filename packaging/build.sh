@@ -19,17 +19,6 @@ all=$(grep -c '^[a-z0-9_]*:' crates.txt)
 argon2=crates/argon_tool/out/argon_tool
 scrypt=crates/scrypt_tool/out/scrypt_tool
 
-# Proves both commands and the system's host at once, the first time and where the machine has room: they have few crates
-# in common, and rt would take one after another. What fails here fails again below, where it is said.
-ahead() {
-    test "$(nproc)" -ge 4 || return 0
-    test "$(sed -n 's/^MemAvailable: *\([0-9]*\) kB$/\1/p' /proc/meminfo)" -ge 12000000 || return 0
-    for crate in argon2_command scrypt_command tools; do
-        test -d "crates/$crate/out" || (cd "crates/$crate" && rt check) || true &
-    done
-    wait
-}
-
 # Builds the program of a crate, runs it with these arguments, and says whether it was built.
 build() {
     crate=$1 && shift
@@ -57,7 +46,6 @@ progress() {
 echo "Proving and building argon2 and scrypt for $level. The first time this takes some minutes." >&2
 rm -f "$argon2" "$scrypt"
 {
-    ahead
     printf password | build argon_tool somesalt -d -t 1 -k 8 -e &&
         build scrypt_tool info - <crates/scrypt_tool/stdin || true
 } 2>&1 >/dev/null | progress >&2
