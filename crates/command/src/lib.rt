@@ -4,6 +4,8 @@
 //! the trait [`Host`], so its contract can say what a run comes to, whatever the host is.
 #![tactic(auto)]
 
+mod handed_on;
+
 pub use argon2_command::{Argon2Refusal, argon2};
 pub use host::{Host, HostFault, MemoryHost, Source};
 pub use scrypt_command::{ScryptRefusal, scrypt};
