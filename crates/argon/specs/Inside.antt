@@ -1,5 +1,6 @@
 -- Helpers that private contracts and proofs cite; no public contract reaches them.
 pub mod FourWords
+pub mod Held
 pub mod NextSlice
 pub mod Places
 pub mod Planning

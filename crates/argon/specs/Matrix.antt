@@ -9,7 +9,7 @@ filling_of matrix = record {
   is_started = matrix.is_started;
   first_hash = matrix.h0;
   slices_made = matrix.slices_made;
-  blocks = matrix.blocks.items;
+  blocks = matrix.blocks.held.list.items;
 }
 
 -- what holds of the fields

@@ -12,7 +12,7 @@ weaving_of weave = record {
     is_started = true;
     first_hash = weave.h0;
     slices_made = weave.slices_made;
-    blocks = weave.blocks.items;
+    blocks = weave.blocks.held.list.items;
   };
   left = weave.left.items;
 }

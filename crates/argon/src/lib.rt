@@ -37,9 +37,11 @@
 
 mod addresses;
 mod block;
+mod blocks;
 mod compression;
 mod fault;
 mod first_columns;
+mod held;
 mod inputs;
 mod kind;
 mod lanes;

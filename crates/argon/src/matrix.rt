@@ -7,8 +7,11 @@ ghost use Rattle.argon.specs.Inputs.{AreInputsOf, inputs_of};
 ghost use Rattle.argon.specs.Parameters.{block_count};
 ghost use Rattle.argon.specs.Woven.{with_next_slice};
 
+#[cfg(test)]
 use crate::block::Block;
+use crate::blocks::Blocks;
 use crate::first_columns::{first_hash, put_first_columns};
+use crate::held::Held;
 use crate::inputs::Inputs;
 use crate::params::Params;
 use crate::room::Room;
@@ -30,7 +33,7 @@ pub struct Matrix {
     pub(crate) h0: [u8; 64],
     pub(crate) is_started: bool,
     pub(crate) slices_made: u64,
-    pub(crate) blocks: Vec<Block>,
+    pub(crate) blocks: Blocks,
 }
 
 impl Model for Matrix {
@@ -58,7 +61,9 @@ pub(crate) fn reserve_from<R: Room>(room: &mut R, params: &Params) -> Result<Mat
         h0: [0; 64],
         is_started: false,
         slices_made: 0,
-        blocks,
+        blocks: Blocks {
+            held: Held::new(blocks),
+        },
     })
 }
 
@@ -87,7 +92,7 @@ impl Matrix {
         ensures size { length self.new.blocks ≡ length self.old.blocks }
     {
         self.h0 = first_hash(&self.params, inputs);
-        put_first_columns(&mut self.blocks, &self.params, &self.h0);
+        put_first_columns(self.blocks.held.blocks_mut(), &self.params, &self.h0);
         self.slices_made = 0;
         self.is_started = true;
     }
@@ -122,14 +127,20 @@ impl Matrix {
     {
         let pass = (self.slices_made / 4) as u32;
         let slice = (self.slices_made % 4) as u32;
-        fill_slice(&mut self.blocks, &self.params, pass, slice, ticks);
+        fill_slice(
+            self.blocks.held.blocks_mut(),
+            &self.params,
+            pass,
+            slice,
+            ticks,
+        );
         self.slices_made += 1;
     }
 
     // The blocks, lane after lane.
     #[cfg(test)]
     pub(crate) fn blocks(&self) -> &[Block] {
-        &self.blocks
+        self.blocks.held.blocks()
     }
 
     /// Writes the tag of a matrix whose slices are all made (RFC 9106, section 3.2, steps 7 and 8).
@@ -140,7 +151,7 @@ impl Matrix {
         ensures tag { out.new ≡ tag_by_first_hash self.now.parameters self.now.first_hash }
     {
         let last = xor_last_column(
-            &self.blocks,
+            self.blocks.held.blocks(),
             self.params.lanes(),
             4 * self.params.segment_len(),
         );

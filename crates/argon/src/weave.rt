@@ -9,6 +9,7 @@ ghost use Rattle.argon.specs.Woven.{IsWovenFrom, with_next_slice};
 
 use crate::addresses::prepare_addresses;
 use crate::block::Block;
+use crate::blocks::Blocks;
 use crate::compression::Scratch;
 use crate::lanes::Lanes;
 use crate::matrix::Matrix;
@@ -28,7 +29,7 @@ pub struct Weave {
     params: Params,
     h0: [u8; 64],
     slices_made: u64,
-    blocks: Vec<Block>,
+    blocks: Blocks,
     left: Vec<u32>,
     addresses: Vec<Block>,
     scratch: Scratch,
@@ -155,7 +156,7 @@ impl Weave {
         let at = Segment::new(&self.params, pass, lane, slice);
         let index = at.len - self.left[lane as usize];
         fill_next_column(
-            &mut self.blocks,
+            self.blocks.held.blocks_mut(),
             &self.params,
             &at,
             index,

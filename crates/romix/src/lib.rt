@@ -28,6 +28,7 @@
 mod block_mix_by_rows;
 mod costs;
 mod fault;
+mod held;
 mod lanes;
 mod limits;
 mod parts;
@@ -37,6 +38,7 @@ mod salsa20;
 mod sparse;
 mod table;
 mod ticks;
+mod words;
 mod workspace;
 
 pub use block_mix_by_rows::block_mix;

@@ -7,10 +7,12 @@ ghost use Rattle.romix.specs.SparseCosts.{SparseFitsMemory, cores_bound};
 ghost use Rattle.romix.specs.Workspace.{HasLengths};
 ghost use Rattle.romix.specs.Inside.Requests.{after_rows};
 
+use crate::held::Held;
 use crate::parts::mix_parts;
 use crate::reservation::Reservation;
 use crate::sparse::Sparse;
 use crate::ticks::Ticks;
+use crate::words::Words;
 use std::alloc::{AllocError, Global};
 use std::marker::Model;
 
@@ -20,10 +22,10 @@ use std::marker::Model;
 #[derive(Drop)]
 pub struct Workspace {
     sparse: Sparse,
-    table: Vec<u32>,
-    row: Vec<u32>,
-    other_row: Vec<u32>,
-    spare_row: Vec<u32>,
+    table: Words,
+    row: Words,
+    other_row: Words,
+    spare_row: Words,
 }
 
 impl Model for Workspace {
@@ -35,18 +37,18 @@ impl Model for Workspace {
 
     ghost view = { λ w. record {
       sparse = w.sparse;
-      table_words = vec_len w.table;
-      row_words = vec_len w.row;
-      other_row_words = vec_len w.other_row;
-      spare_row_words = vec_len w.spare_row;
+      table_words = vec_len w.table.held.list;
+      row_words = vec_len w.row.held.list;
+      other_row_words = vec_len w.other_row.held.list;
+      spare_row_words = vec_len w.spare_row.held.list;
     } };
 
     ghost invariant = { λ w. IsSparse w.sparse × HasLengths (record {
       sparse = w.sparse;
-      table_words = vec_len w.table;
-      row_words = vec_len w.row;
-      other_row_words = vec_len w.other_row;
-      spare_row_words = vec_len w.spare_row;
+      table_words = vec_len w.table.held.list;
+      row_words = vec_len w.row.held.list;
+      other_row_words = vec_len w.other_row.held.list;
+      spare_row_words = vec_len w.spare_row.held.list;
     }) };
 }
 
@@ -78,10 +80,18 @@ pub(crate) fn reserve_from<R: Reservation>(
     };
     Ok(Workspace {
         sparse: *sparse,
-        table,
-        row,
-        other_row,
-        spare_row,
+        table: Words {
+            held: Held::new(table),
+        },
+        row: Words {
+            held: Held::new(row),
+        },
+        other_row: Words {
+            held: Held::new(other_row),
+        },
+        spare_row: Words {
+            held: Held::new(spare_row),
+        },
     })
 }
 
@@ -114,10 +124,10 @@ impl Workspace {
             password,
             salt,
             &self.sparse,
-            &mut self.row,
-            &mut self.other_row,
-            &mut self.spare_row,
-            &mut self.table,
+            self.row.held.words(),
+            self.other_row.held.words(),
+            self.spare_row.held.words(),
+            self.table.held.words(),
             ticks,
         )
         .write_key(out);

@@ -5,7 +5,7 @@ ghost use Rattle.std.specs.Prelude.{◌<◌};
 use crate::block::Block;
 
 fn sum_with_product(a: u64, b: u64) -> u64 {
-    let product = (a % 0x1_0000_0000).wrapping_mul(b % 0x1_0000_0000);
+    let product = (a & 0xffff_ffff).wrapping_mul(b & 0xffff_ffff);
     a.wrapping_add(b).wrapping_add(product.wrapping_mul(2))
 }
 

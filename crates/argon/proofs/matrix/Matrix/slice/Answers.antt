@@ -11,13 +11,13 @@ pub invariant_of-self : goal.invariant_of-self
 invariant_of-self c =
     let f = filling_of c.self.inside in
     let next : HasNext (filling_of c.self.inside) = rw c.self.view_is c.requires.next in
-    let kept : length c.fill_slice.new.blocks ≡ c.self.inside.blocks.len = omega (arith, c.fill_slice.ensures.size, c.deref_mut.ensures.len) in
-    let same = with_items_is c.self.inside.blocks c.fill_slice.new.blocks kept in
+    let kept : length c.fill_slice.new.blocks ≡ c.self.inside.blocks.held.list.len = omega (arith, c.fill_slice.ensures.size, c.blocks_mut.ensures.len) in
+    let same = with_items_is c.self.inside.blocks.held.list c.fill_slice.new.blocks kept in
     let made : c.fill_slice.new.blocks ≡ (with_next_slice (filling_of c.self.inside)).blocks =
-    c.fill_slice.ensures.made f (record { filling = c.self.invariant; next = next; is_of = refl; pass_is = refl; slice_is = refl }) c.deref_mut.ensures.value in
+    c.fill_slice.ensures.made f (record { filling = c.self.invariant; next = next; is_of = refl; pass_is = refl; slice_is = refl }) c.blocks_mut.ensures.value in
     record {
       in_range = c.self.invariant.in_range;
-      size = rw same (c.fill_slice.ensures.size ∙ rw c.deref_mut.ensures.value c.self.invariant.size);
+      size = rw same (c.fill_slice.ensures.size ∙ rw c.blocks_mut.ensures.value c.self.invariant.size);
       position = let left : c.self.inside.slices_made < 4 * c.self.inside.params.passes = next.left in omega arith;
       newest = λ started. rw (same, made) (slice_is_newest f c.self.invariant next);
     }
@@ -26,10 +26,10 @@ pub returns-clause-matrix : goal.returns-clause-matrix
 returns-clause-matrix c =
     let f = filling_of c.self.inside in
     let next : HasNext (filling_of c.self.inside) = rw c.self.view_is c.requires.next in
-    let kept : length c.fill_slice.new.blocks ≡ c.self.inside.blocks.len = omega (arith, c.fill_slice.ensures.size, c.deref_mut.ensures.len) in
-    let made : (with_items c.self.inside.blocks c.fill_slice.new.blocks).items ≡ (with_next_slice (filling_of c.self.inside)).blocks =
-    with_items_is c.self.inside.blocks c.fill_slice.new.blocks kept
-    ∙ c.fill_slice.ensures.made f (record { filling = c.self.invariant; next = next; is_of = refl; pass_is = refl; slice_is = refl }) c.deref_mut.ensures.value in
+    let kept : length c.fill_slice.new.blocks ≡ c.self.inside.blocks.held.list.len = omega (arith, c.fill_slice.ensures.size, c.blocks_mut.ensures.len) in
+    let made : (with_items c.self.inside.blocks.held.list c.fill_slice.new.blocks).items ≡ (with_next_slice (filling_of c.self.inside)).blocks =
+    with_items_is c.self.inside.blocks.held.list c.fill_slice.new.blocks kept
+    ∙ c.fill_slice.ensures.made f (record { filling = c.self.invariant; next = next; is_of = refl; pass_is = refl; slice_is = refl }) c.blocks_mut.ensures.value in
     rw (← c.self.view_is)
     (ap (λ (blocks : List (List ℕ)). record {
       parameters = c.self.inside.params;
@@ -43,7 +43,7 @@ pub returns-clause-newest : goal.returns-clause-newest
 returns-clause-newest c =
     let f = filling_of c.self.inside in
     let next : HasNext (filling_of c.self.inside) = rw c.self.view_is c.requires.next in
-    let kept : length c.fill_slice.new.blocks ≡ c.self.inside.blocks.len = omega (arith, c.fill_slice.ensures.size, c.deref_mut.ensures.len) in
+    let kept : length c.fill_slice.new.blocks ≡ c.self.inside.blocks.held.list.len = omega (arith, c.fill_slice.ensures.size, c.blocks_mut.ensures.len) in
     let made : c.fill_slice.new.blocks ≡ (with_next_slice (filling_of c.self.inside)).blocks =
-    c.fill_slice.ensures.made f (record { filling = c.self.invariant; next = next; is_of = refl; pass_is = refl; slice_is = refl }) c.deref_mut.ensures.value in
-    rw (with_items_is c.self.inside.blocks c.fill_slice.new.blocks kept, made) (slice_is_newest f c.self.invariant next)
+    c.fill_slice.ensures.made f (record { filling = c.self.invariant; next = next; is_of = refl; pass_is = refl; slice_is = refl }) c.blocks_mut.ensures.value in
+    rw (with_items_is c.self.inside.blocks.held.list c.fill_slice.new.blocks kept, made) (slice_is_newest f c.self.invariant next)

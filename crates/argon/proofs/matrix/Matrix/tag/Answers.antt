@@ -13,11 +13,11 @@ returns c = record {
       let all : c.self.inside.slices_made ≡ 4 * c.self.inside.params.passes = omega (arith, c.requires.done.all) in
       let long : 2 ≤ c.segment_len.result = c.segment_len.ensures.long in
       let newest = c.self.invariant.newest started in
-      let last : HoldsNewest c.self.inside.params c.self.inside.h0 c.self.inside.blocks.items (λ _. number_after_slices c.self.inside.params (4 * c.self.inside.params.passes)) =
+      let last : HoldsNewest c.self.inside.params c.self.inside.h0 c.self.inside.blocks.held.list.items (λ _. number_after_slices c.self.inside.params (4 * c.self.inside.params.passes)) =
       rw all at newest in
       let len : length c.args.out.now ≡ c.self.inside.params.tag_len = c.requires.len ∙ sym (ap (λ (f : Filling). f.parameters.tag_len) c.self.view_is) in
       rw (← c.self.view_is)
-      (tag_is c.self.inside.params c.self.inside.h0 c.self.inside.blocks.items c.lanes.result (4 * c.segment_len.result) (length c.args.out.now)
+      (tag_is c.self.inside.params c.self.inside.h0 c.self.inside.blocks.held.list.items c.lanes.result (4 * c.segment_len.result) (length c.args.out.now)
       c.xor_last_column-last.result c.write_tag.new.out (rw (← c.segment_len.ensures.value) long) c.self.invariant.in_range.passes last
-      c.lanes.ensures.value (ap (λ (x : ℕ). 4 * x) c.segment_len.ensures.value) len (rw (← c.deref.ensures.value) c.xor_last_column-last.ensures.value) c.write_tag.ensures.value);
+      c.lanes.ensures.value (ap (λ (x : ℕ). 4 * x) c.segment_len.ensures.value) len (rw (← c.blocks-2.ensures.value) c.xor_last_column-last.ensures.value) c.write_tag.ensures.value);
 }

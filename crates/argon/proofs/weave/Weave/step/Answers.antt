@@ -17,21 +17,21 @@ invariant_of-self c =
     let at = c.new-at.result in
     let place = c.new-at.ensures in
     let fits : c.args.lane < length c.self.inside.left.items = lane_with_some weave.left.items lane (length weave.left.items) refl some in
-    let kept : length c.fill_next_column.new.blocks ≡ c.self.inside.blocks.len = omega (arith, c.fill_next_column.auto.blocks, c.deref_mut.ensures.len) in
-    let made : (with_items c.self.inside.blocks c.fill_next_column.new.blocks).items ≡ with_next_block (weaving_of c.self.inside) c.args.lane =
-    with_items_is weave.blocks c.fill_next_column.new.blocks kept
-    ∙ stepped w lane c.deref_mut.result.now c.fill_next_column.new.blocks at.len at.lane at.pass at.slice c.index.result.now c.self.invariant.weaving some
-    c.deref_mut.ensures.value c.new-at.ensures.is_of.len place.lane place.pass place.slice (get_or_read weave.left.items lane c.index.result.now fits c.index.ensures 0)
+    let kept : length c.fill_next_column.new.blocks ≡ c.self.inside.blocks.held.list.len = omega (arith, c.fill_next_column.auto.blocks, c.blocks_mut.ensures.len) in
+    let made : (with_items c.self.inside.blocks.held.list c.fill_next_column.new.blocks).items ≡ with_next_block (weaving_of c.self.inside) c.args.lane =
+    with_items_is weave.blocks.held.list c.fill_next_column.new.blocks kept
+    ∙ stepped w lane c.blocks_mut.result.now c.fill_next_column.new.blocks at.len at.lane at.pass at.slice c.index.result.now c.self.invariant.weaving some
+    c.blocks_mut.ensures.value c.new-at.ensures.is_of.len place.lane place.pass place.slice (get_or_read weave.left.items lane c.index.result.now fits c.index.ensures 0)
     c.fill_next_column.ensures.value in
     let fewer : (with_item c.self.inside.left c.args.lane (c.index_mut-2.result.now - 1)).items
     ≡ set c.self.inside.left.items c.args.lane (slice_index c.self.inside.left.items c.args.lane - 1) =
     ap (λ (n : ℕ). set weave.left.items lane (n - 1)) (get_or_read weave.left.items lane c.index_mut-2.result.now fits c.index_mut-2.ensures.value 0) in
-    let weaving = weaving_after w lane (with_items weave.blocks c.fill_next_column.new.blocks).items (with_item weave.left lane (c.index_mut-2.result.now - 1)).items
+    let weaving = weaving_after w lane (with_items weave.blocks.held.list c.fill_next_column.new.blocks).items (with_item weave.left lane (c.index_mut-2.result.now - 1)).items
     c.self.invariant.weaving some made fewer in
     record {
       weaving = weaving;
       addresses_size = length-set weave.addresses.items lane c.fill_next_column.new.addresses ∙ c.self.invariant.addresses_size;
-      addresses = addresses_stepped w lane (with_items weave.blocks c.fill_next_column.new.blocks).items weave.addresses.items
+      addresses = addresses_stepped w lane (with_items weave.blocks.held.list c.fill_next_column.new.blocks).items weave.addresses.items
           (with_item weave.left lane (c.index_mut-2.result.now - 1)).items c.fill_next_column.new.addresses at.len at.lane at.pass at.slice c.index.result.now
           c.self.invariant.weaving some c.self.invariant.addresses_size c.new-at.ensures.is_of.len place.lane place.pass place.slice
           (get_or_read weave.left.items lane c.index.result.now fits c.index.ensures 0) fewer c.fill_next_column.ensures.addresses c.self.invariant.addresses;
@@ -46,11 +46,11 @@ returns-clause-matrix c =
     let at = c.new-at.result in
     let place = c.new-at.ensures in
     let fits : c.args.lane < length c.self.inside.left.items = lane_with_some weave.left.items lane (length weave.left.items) refl some in
-    let kept : length c.fill_next_column.new.blocks ≡ c.self.inside.blocks.len = omega (arith, c.fill_next_column.auto.blocks, c.deref_mut.ensures.len) in
-    let made : (with_items c.self.inside.blocks c.fill_next_column.new.blocks).items ≡ with_next_block (weaving_of c.self.inside) c.args.lane =
-    with_items_is weave.blocks c.fill_next_column.new.blocks kept
-    ∙ stepped w lane c.deref_mut.result.now c.fill_next_column.new.blocks at.len at.lane at.pass at.slice c.index.result.now c.self.invariant.weaving some
-    c.deref_mut.ensures.value c.new-at.ensures.is_of.len place.lane place.pass place.slice (get_or_read weave.left.items lane c.index.result.now fits c.index.ensures 0)
+    let kept : length c.fill_next_column.new.blocks ≡ c.self.inside.blocks.held.list.len = omega (arith, c.fill_next_column.auto.blocks, c.blocks_mut.ensures.len) in
+    let made : (with_items c.self.inside.blocks.held.list c.fill_next_column.new.blocks).items ≡ with_next_block (weaving_of c.self.inside) c.args.lane =
+    with_items_is weave.blocks.held.list c.fill_next_column.new.blocks kept
+    ∙ stepped w lane c.blocks_mut.result.now c.fill_next_column.new.blocks at.len at.lane at.pass at.slice c.index.result.now c.self.invariant.weaving some
+    c.blocks_mut.ensures.value c.new-at.ensures.is_of.len place.lane place.pass place.slice (get_or_read weave.left.items lane c.index.result.now fits c.index.ensures 0)
     c.fill_next_column.ensures.value in
     rw (← c.self.view_is)
     (ap (λ (blocks : List (List ℕ)). record {
@@ -70,16 +70,16 @@ returns-clause-newest c =
     let at = c.new-at.result in
     let place = c.new-at.ensures in
     let fits : c.args.lane < length c.self.inside.left.items = lane_with_some weave.left.items lane (length weave.left.items) refl some in
-    let kept : length c.fill_next_column.new.blocks ≡ c.self.inside.blocks.len = omega (arith, c.fill_next_column.auto.blocks, c.deref_mut.ensures.len) in
-    let made : (with_items c.self.inside.blocks c.fill_next_column.new.blocks).items ≡ with_next_block (weaving_of c.self.inside) c.args.lane =
-    with_items_is weave.blocks c.fill_next_column.new.blocks kept
-    ∙ stepped w lane c.deref_mut.result.now c.fill_next_column.new.blocks at.len at.lane at.pass at.slice c.index.result.now c.self.invariant.weaving some
-    c.deref_mut.ensures.value c.new-at.ensures.is_of.len place.lane place.pass place.slice (get_or_read weave.left.items lane c.index.result.now fits c.index.ensures 0)
+    let kept : length c.fill_next_column.new.blocks ≡ c.self.inside.blocks.held.list.len = omega (arith, c.fill_next_column.auto.blocks, c.blocks_mut.ensures.len) in
+    let made : (with_items c.self.inside.blocks.held.list c.fill_next_column.new.blocks).items ≡ with_next_block (weaving_of c.self.inside) c.args.lane =
+    with_items_is weave.blocks.held.list c.fill_next_column.new.blocks kept
+    ∙ stepped w lane c.blocks_mut.result.now c.fill_next_column.new.blocks at.len at.lane at.pass at.slice c.index.result.now c.self.invariant.weaving some
+    c.blocks_mut.ensures.value c.new-at.ensures.is_of.len place.lane place.pass place.slice (get_or_read weave.left.items lane c.index.result.now fits c.index.ensures 0)
     c.fill_next_column.ensures.value in
     let fewer : (with_item c.self.inside.left c.args.lane (c.index_mut-2.result.now - 1)).items
     ≡ set c.self.inside.left.items c.args.lane (slice_index c.self.inside.left.items c.args.lane - 1) =
     ap (λ (n : ℕ). set weave.left.items lane (n - 1)) (get_or_read weave.left.items lane c.index_mut-2.result.now fits c.index_mut-2.ensures.value 0) in
-    let weaving = weaving_after w lane (with_items weave.blocks c.fill_next_column.new.blocks).items (with_item weave.left lane (c.index_mut-2.result.now - 1)).items
+    let weaving = weaving_after w lane (with_items weave.blocks.held.list c.fill_next_column.new.blocks).items (with_item weave.left lane (c.index_mut-2.result.now - 1)).items
     c.self.invariant.weaving some made fewer in
     weaving.newest
 
@@ -92,16 +92,16 @@ returns-clause-woven c =
     let at = c.new-at.result in
     let place = c.new-at.ensures in
     let fits : c.args.lane < length c.self.inside.left.items = lane_with_some weave.left.items lane (length weave.left.items) refl some in
-    let kept : length c.fill_next_column.new.blocks ≡ c.self.inside.blocks.len = omega (arith, c.fill_next_column.auto.blocks, c.deref_mut.ensures.len) in
-    let made : (with_items c.self.inside.blocks c.fill_next_column.new.blocks).items ≡ with_next_block (weaving_of c.self.inside) c.args.lane =
-    with_items_is weave.blocks c.fill_next_column.new.blocks kept
-    ∙ stepped w lane c.deref_mut.result.now c.fill_next_column.new.blocks at.len at.lane at.pass at.slice c.index.result.now c.self.invariant.weaving some
-    c.deref_mut.ensures.value c.new-at.ensures.is_of.len place.lane place.pass place.slice (get_or_read weave.left.items lane c.index.result.now fits c.index.ensures 0)
+    let kept : length c.fill_next_column.new.blocks ≡ c.self.inside.blocks.held.list.len = omega (arith, c.fill_next_column.auto.blocks, c.blocks_mut.ensures.len) in
+    let made : (with_items c.self.inside.blocks.held.list c.fill_next_column.new.blocks).items ≡ with_next_block (weaving_of c.self.inside) c.args.lane =
+    with_items_is weave.blocks.held.list c.fill_next_column.new.blocks kept
+    ∙ stepped w lane c.blocks_mut.result.now c.fill_next_column.new.blocks at.len at.lane at.pass at.slice c.index.result.now c.self.invariant.weaving some
+    c.blocks_mut.ensures.value c.new-at.ensures.is_of.len place.lane place.pass place.slice (get_or_read weave.left.items lane c.index.result.now fits c.index.ensures 0)
     c.fill_next_column.ensures.value in
     let fewer : (with_item c.self.inside.left c.args.lane (c.index_mut-2.result.now - 1)).items
     ≡ set c.self.inside.left.items c.args.lane (slice_index c.self.inside.left.items c.args.lane - 1) =
     ap (λ (n : ℕ). set weave.left.items lane (n - 1)) (get_or_read weave.left.items lane c.index_mut-2.result.now fits c.index_mut-2.ensures.value 0) in
-    rw (← c.self.view_is) (stepped_woven w lane (with_items weave.blocks c.fill_next_column.new.blocks).items (with_item weave.left lane (c.index_mut-2.result.now - 1)).items
+    rw (← c.self.view_is) (stepped_woven w lane (with_items weave.blocks.held.list c.fill_next_column.new.blocks).items (with_item weave.left lane (c.index_mut-2.result.now - 1)).items
     c.self.invariant.weaving some made fewer)
 
 pub returns-clause-share : goal.returns-clause-share
@@ -117,7 +117,7 @@ returns-clause-share c =
     ≡ set c.self.inside.left.items c.args.lane (slice_index c.self.inside.left.items c.args.lane - 1) =
     ap (λ (n : ℕ). set weave.left.items lane (n - 1)) (get_or_read weave.left.items lane c.index_mut-2.result.now fits c.index_mut-2.ensures.value 0) in
     rw (← c.self.view_is)
-    (share_stepped w lane (with_items weave.blocks c.fill_next_column.new.blocks).items (with_item weave.left lane (c.index_mut-2.result.now - 1)).items
+    (share_stepped w lane (with_items weave.blocks.held.list c.fill_next_column.new.blocks).items (with_item weave.left lane (c.index_mut-2.result.now - 1)).items
     c.args.ticks.now c.fill_next_column.new.ticks at.len at.pass at.slice c.index.result.now
     c.self.invariant.weaving some c.new-at.ensures.is_of.len place.pass place.slice
     (get_or_read weave.left.items lane c.index.result.now fits c.index.ensures 0) fewer c.fill_next_column.ensures.count)

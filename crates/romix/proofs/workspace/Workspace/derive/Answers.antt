@@ -1,4 +1,4 @@
-use Rattle.std.proofs.Common.{◌≡◌, ℕ, ◌+◌, ◌^◌, ◌≤◌, List, length, arith, ap, subst, ◌∙◌}
+use Rattle.std.proofs.Common.{◌≡◌, ℕ, ◌+◌, ◌^◌, ◌≤◌, length, arith, ap, subst, ◌∙◌}
 use Rattle.romix.specs.Costs.{cores}
 use Rattle.romix.specs.Scrypt.{scrypt}
 use Rattle.romix.specs.Sparse.{sparse_cores}

@@ -1,0 +1,29 @@
+//! Blocks that are overwritten before their memory is freed.
+ghost use Rattle.std.specs.Prelude.{◌≡◌, length, replicate};
+
+use crate::block::Block;
+use crate::held::Held;
+
+/// The blocks of a matrix, lane after lane. The tag can be computed from them, and a guess be tested
+/// against the first, so their memory goes back to the heap with zeros alone.
+pub(crate) struct Blocks {
+    pub(crate) held: Held,
+}
+
+impl Drop for Blocks {
+    fn drop(self) {
+        let Blocks { mut held } = self;
+        wipe(held.blocks_mut());
+        held.free();
+    }
+}
+
+// Puts a 0 in the place of each word.
+#[inline(never)]
+fn wipe(blocks: &mut [Block])
+    ensures zeros { blocks.new ≡ replicate (length blocks.old) (replicate 128 0) }
+{
+    for i in 0..blocks.len() {
+        blocks[i].fill(0);
+    }
+}

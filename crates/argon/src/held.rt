@@ -1,0 +1,46 @@
+//! A list that is freed in one way: when each word of each block in it is 0.
+ghost use Rattle.std.specs.Prelude.{◌≡◌, length, replicate, vec_len};
+ghost use Rattle.std.specs.Borrow.{sem};
+ghost use Rattle.argon.specs.Inside.Held.{LendsBlocks};
+
+use crate::block::Block;
+
+/// A list of blocks that can be let go of by [`Held::free`] alone. It has no `Drop`, so that it
+/// cannot be forgotten, and it lends its blocks, never the list, so that none can be cut off.
+pub(crate) struct Held {
+    list: Vec<Block>,
+}
+
+impl Held {
+    /// Takes the list in.
+    pub(crate) fn new(list: Vec<Block>) -> Held
+        ensures list { result.list ≡ list }
+    {
+        Held { list }
+    }
+
+    /// The blocks.
+    #[inline(always)]
+    pub(crate) fn blocks(&self) -> &[Block]
+        ensures value { result.now ≡ self.now.list.items }
+    {
+        self.list.as_slice()
+    }
+
+    /// The blocks, to be written: as many as before.
+    #[inline(always)]
+    pub(crate) fn blocks_mut(&mut self) -> &mut [Block]
+        ensures* writes_back { sem 𝓛 (LendsBlocks self.entry result) }
+        ensures value { result.now ≡ self.old.list.items }
+        ensures len { length result.now ≡ vec_len self.old.list }
+    {
+        self.list.as_mut_slice()
+    }
+
+    /// Frees a list in which nothing is left.
+    pub(crate) fn free(self)
+        requires wiped { self.list.items ≡ replicate (length self.list.items) (replicate 128 0) }
+    {
+        let Held { list: _freed } = self;
+    }
+}
