@@ -1,12 +1,29 @@
 -- A decryption that reads its file piece by piece.
-use Rattle.std.proofs.Common.{◌≡◌, ◌<◌, ◌+◌, ◌^◌, ◌++◌, ◌∙◌, ℕ, List, [], length, ap, sym, arith, length-append, append_assoc}
+use Rattle.std.proofs.Common.{◌≡◌, ◌<◌, ◌≤◌, ◌+◌, ◌^◌, ◌++◌, ◌∙◌, inl, inr, ℕ, List, [], Some, None, option_map, take, length, ap, sym, arith, length-append, append_assoc}
 use Rattle.std.proofs.lemmas.List.{append-nil}
 use Rattle.encfile.specs.Decrypting.{HasRead}
 use Rattle.encfile.specs.Inside.Lengths.{length_read}
 use Rattle.encfile.specs.EncryptedFile.{released_text}
 use Rattle.encfile.specs.declared.dec.Dec.{Dec}
 use Rattle.encfile.proofs.Reading.{length-read, released_text-short}
-use Rattle.scrypt_run.specs.Decrypting.{text_after}
+use Rattle.encfile.proofs.Fronts.{front_refusal-wrong}
+use Rattle.host.specs.Seen.{Seen}
+use Rattle.scrypt_run.specs.Decrypting.{DecryptRefused, limits_refusal_of, text_after}
+use Rattle.scrypt_run.specs.Inside.Decrypting.{OpenRefused}
+use Rattle.scrypt_run.specs.Passphrase.{first_line_at}
+use Rattle.scrypt_run.specs.Refusal.{refusal_of}
+use Rattle.scrypt_run.specs.Request.{Task, allowance_of}
+use Rattle.scrypt_run.specs.Steps.{passphrase_asked}
+use Rattle.scrypt_run.specs.declared.refusal.ScryptRefusal.{ScryptRefusal}
+
+-- before the output was opened: the step's refusals among the run's
+pub opening_ends : (task : Task) (before after : Seen) (r : ScryptRefusal) → 96 ≤ length before.input → limits_refusal_of task before ≡ None
+    → after ≡ passphrase_asked task 96 before → OpenRefused r (first_line_at task.source before) (take 96 before.input) → DecryptRefused r task before after
+opening_ends task before after r long checked same (inl refused) = inr (checked, inl (refused, same))
+opening_ends task before after r long checked same (inr (inl (is, passphrase, given))) = inr (checked, inr (passphrase, given, inl (is, same)))
+opening_ends task before after r long checked same (inr (inr (is, passphrase, given, wrong))) =
+    let told = front_refusal-wrong before.input (allowance_of task) passphrase long checked wrong in
+    inr (checked, inr (passphrase, given, inr (inl (ap (option_map refusal_of) told ∙ ap Some (sym is), same))))
 
 -- where it has read no more, these are the first 96 bytes
 pub length-first : (dec : Dec) (passphrase front : List ℕ) → HasRead dec passphrase front → length_read dec ≡ 0 → length front ≡ 96

@@ -1,5 +1,5 @@
 -- The beginnings of an encrypted file, as a run writes them.
-use Rattle.std.proofs.Common.{◌≡◌, ◌≤◌, ◌<◌, ◌+◌, ◌^◌, ◌++◌, ◌⊎◌, ◌==◌, ◌∙◌, inl, inr, ℕ, Bool, true, false, List, [], take, length, if◌then◌else◌, ap, sym, refl, subst, arith, length-append}
+use Rattle.std.proofs.Common.{◌≡◌, ◌≤◌, ◌<◌, ◌+◌, ◌^◌, ◌++◌, ◌==◌, ◌∙◌, inl, inr, ℕ, Bool, true, false, List, [], None, take, length, if◌then◌else◌, ap, sym, refl, subst, arith, length-append}
 use Rattle.std.proofs.lemmas.Grind.{common_steps}
 use Rattle.std.proofs.lemmas.List.{append-nil}
 use Rattle.romix.specs.Costs.{Parameters}
@@ -8,14 +8,14 @@ use Rattle.encfile.specs.Encrypting.{HasEncrypted}
 use Rattle.encfile.specs.Inside.Lengths.{length_encrypted}
 use Rattle.encfile.specs.declared.enc.Enc.{Enc}
 use Rattle.encfile.proofs.Files.{length-body, length-encrypted_file, length_encrypted-is}
-use Rattle.host.specs.Seen.{Seen, after_pull, after_push}
-use Rattle.scrypt_run.specs.Encrypting.{FileCutShort, decided, salt_used, text_opened}
+use Rattle.host.specs.Seen.{Seen, after_ask, after_open_input, after_pull, after_push}
+use Rattle.scrypt_run.specs.Encrypting.{EncryptRefused, costs_refusal_of, decided, salt_used}
+use Rattle.scrypt_run.specs.Inside.Encrypting.{StartRefused, TextNotOpened}
 use Rattle.scrypt_run.specs.Passphrase.{HasPassphrase, first_line_at}
 use Rattle.scrypt_run.specs.Request.{Encryption}
-use Rattle.scrypt_run.specs.Steps.{after_passing}
-use Rattle.scrypt_run.specs.Text.{EndsText, FailsReading, FailsWriting, IsTooLong}
+use Rattle.scrypt_run.specs.Steps.{after_passing, passphrase_asked}
+use Rattle.scrypt_run.specs.Text.{EndsText, FailsWriting}
 use Rattle.scrypt_run.specs.declared.refusal.ScryptRefusal.{ScryptRefusal}
-use Rattle.scrypt_run.specs.declared.refusal.ScryptRefusal.TheVariants as refusal
 use Rattle.host.proofs.Pushes.{push_push}
 use Rattle.scrypt_run.proofs.Ends.{first_line_at-reading, salt_used-opening}
 use Rattle.scrypt_run.proofs.Passing.{begun_on}
@@ -23,13 +23,39 @@ use Rattle.scrypt_run.proofs.Passing.{begun_on}
 -- ---- the passphrase and the salt
 
 -- an encryption that was started after the input's opening has the passphrase and the salt of the run
-pub started_before : (asked : Encryption) (enc : Enc) (s t : Seen) → t ≡ text_opened asked s
+pub started_before : (asked : Encryption) (enc : Enc) (s t : Seen) → t ≡ after_open_input asked.task.infile s
     → (passphrase : List ℕ) × HasPassphrase (first_line_at asked.task.source t) passphrase × HasEncrypted enc passphrase (salt_used asked.salt t) asked.costs []
     → (passphrase : List ℕ) × HasPassphrase (first_line_at asked.task.source s) passphrase × HasEncrypted enc passphrase (salt_used asked.salt s) asked.costs []
 started_before asked enc s t opened started =
     let line = ap (first_line_at asked.task.source) opened ∙ first_line_at-reading asked.task.source asked.task.infile 0 s in
     let salt = ap (salt_used asked.salt) opened ∙ salt_used-opening asked.salt asked.task.infile s in
     (started.0, subst (λ l. HasPassphrase l started.0) line started.1, subst (λ xs. HasEncrypted enc started.0 xs asked.costs []) salt started.2)
+
+-- ---- the steps' refusals among the run's
+
+-- before the input was opened
+pub opening_ends : (asked : Encryption) (before after : Seen) (r : ScryptRefusal) → TextNotOpened r asked before after → EncryptRefused r asked before after
+opening_ends asked before after r (same, inl told) = inl (told, same)
+opening_ends asked before after r (same, inr (admitted, is)) = inr (admitted, inl (is, same))
+
+-- before the output was opened
+start_ends : (asked : Encryption) (before after : Seen) (r : ScryptRefusal) → costs_refusal_of asked ≡ None
+    → StartRefused r asked.salt (first_line_at asked.task.source before) (passphrase_asked asked.task 0 before) after → EncryptRefused r asked before after
+start_ends asked before after r admitted (inl refused) = inr (admitted, inr (inl refused))
+start_ends asked before after r admitted (inr (inl (is, none, same, passphrase, given))) =
+    inr (admitted, inr (inr (passphrase, given, inl (is, none, same))))
+start_ends asked before after r admitted (inr (inr (is, same, passphrase, given))) =
+    inr (admitted, inr (inr (passphrase, given, inr (inl (is, same)))))
+
+-- of the host once the input was opened
+pub starting_ends : (asked : Encryption) (before opened after : Seen) (r : ScryptRefusal) → opened ≡ after_open_input asked.task.infile before
+    → costs_refusal_of asked ≡ None → StartRefused r asked.salt (first_line_at asked.task.source opened) (after_ask asked.task.source opened) after
+    → EncryptRefused r asked before after
+starting_ends asked before opened after r opens admitted refused =
+    let line = first_line_at-reading asked.task.source asked.task.infile 0 before in
+    start_ends asked before after r admitted
+    (subst (λ l. StartRefused r asked.salt l (passphrase_asked asked.task 0 before) after) line
+    (subst (λ w. StartRefused r asked.salt (first_line_at asked.task.source w) (after_ask asked.task.source w) after) opens refused))
 
 -- ---- the text so far
 
@@ -52,9 +78,6 @@ take_first n xs ys few = grind (arith, common_steps, few)
 take_whole : (k : ℕ) (xs : List ℕ) → k ≡ length xs → take k xs ≡ xs
 take_whole k xs e = grind (arith, common_steps, e)
 
-is_same : (k n : ℕ) → k == n ≡ true → k ≡ n
-is_same k n e = grind (arith, common_steps, e)
-
 eq_self : (n : ℕ) → n == n ≡ true
 eq_self n = grind (arith, common_steps)
 
@@ -71,18 +94,18 @@ length-code passphrase salt costs text code long is =
     omega (arith, length-encrypted_file passphrase salt costs text long, length-body passphrase salt costs text long, ap length is, length-append (body passphrase salt costs text) code)
 
 -- what is decided goes on from the body so far by at most a code; by the test that the text is whole
-tail_by : (whole : Bool) (passphrase salt : List ℕ) (costs : Parameters) (n : ℕ) (text : List ℕ) → length salt ≡ 32 → (whole ≡ true → n ≡ length text)
+tail_by : (whole : Bool) (passphrase salt : List ℕ) (costs : Parameters) (text : List ℕ) → length salt ≡ 32
     → (tail : List ℕ) × (length tail ≤ 32)
-    × ((if whole then encrypted_file passphrase salt costs text else body passphrase salt costs (take n text)) ≡ body passphrase salt costs (take n text) ++ tail)
-tail_by true passphrase salt costs n text long is_whole =
+    × ((if whole then encrypted_file passphrase salt costs text else body passphrase salt costs text) ≡ body passphrase salt costs text ++ tail)
+tail_by true passphrase salt costs text long =
     let code = final_code passphrase salt costs text in
     let short : length code ≡ 32 = length-code passphrase salt costs text code long (with_code passphrase salt costs text) in
-    (code, omega (arith, short), with_code passphrase salt costs text ∙ ap (λ xs. body passphrase salt costs xs ++ code) (sym (take_whole n text (is_whole refl))))
-tail_by false passphrase salt costs n text long is_whole = ([], omega arith, sym (append-nil (body passphrase salt costs (take n text))))
+    (code, omega (arith, short), with_code passphrase salt costs text)
+tail_by false passphrase salt costs text long = ([], omega arith, sym (append-nil (body passphrase salt costs text)))
 
-tail_of : (passphrase salt : List ℕ) (costs : Parameters) (n : ℕ) (text : List ℕ) → length salt ≡ 32
-    → (tail : List ℕ) × (length tail ≤ 32) × (decided passphrase salt costs n text ≡ body passphrase salt costs (take n text) ++ tail)
-tail_of passphrase salt costs n text long = tail_by (n == length text) passphrase salt costs n text long (is_same n (length text))
+tail_of : (passphrase salt : List ℕ) (costs : Parameters) (size : ℕ) (text : List ℕ) → length salt ≡ 32
+    → (tail : List ℕ) × (length tail ≤ 32) × (decided passphrase salt costs size text ≡ body passphrase salt costs text ++ tail)
+tail_of passphrase salt costs size text long = tail_by (length text == size) passphrase salt costs text long
 
 -- ---- how writing ends early
 
@@ -99,12 +122,14 @@ header_cut passphrase salt costs n header s t long is few pushed = record {
   passes = pushed ∙ ap (λ xs. after_push (take n xs) s) is;
 }
 
--- a beginning of the body so far was written
-body_cut : (passphrase salt : List ℕ) (costs : Parameters) (s t : Seen) → length salt ≡ 32 → FailsWriting (2 ^ 60) 4096 (body passphrase salt costs) s t → FileCutShort passphrase salt costs s t
-body_cut passphrase salt costs s t long f =
-    let begun = body passphrase salt costs (take f.pulled s.input) in
-    let tail = tail_of passphrase salt costs f.pulled s.input long in
-    let longer : length (decided passphrase salt costs f.pulled s.input) ≡ length begun + length tail.0 = ap length tail.2 ∙ length-append begun tail.0 in
+-- a beginning of the body so far was written, so one of what is decided, of a text of any size
+body_cut : (passphrase salt : List ℕ) (costs : Parameters) (size : ℕ) (s t : Seen) → length salt ≡ 32
+    → FailsWriting (2 ^ 60) 4096 (body passphrase salt costs) s t → FailsWriting (2 ^ 60) 4128 (decided passphrase salt costs size) s t
+body_cut passphrase salt costs size s t long f =
+    let text = take f.pulled s.input in
+    let begun = body passphrase salt costs text in
+    let tail = tail_of passphrase salt costs size text long in
+    let longer : length (decided passphrase salt costs size text) ≡ length begun + length tail.0 = ap length tail.2 ∙ length-append begun tail.0 in
     record {
       pulled = f.pulled;
       below = f.below;
@@ -116,24 +141,25 @@ body_cut passphrase salt costs s t long f =
     }
 
 -- the text's passing ended early
-pub passing_ended : (r : ScryptRefusal) (passphrase salt : List ℕ) (costs : Parameters) (s t : Seen) → length salt ≡ 32 → EndsText r (2 ^ 60) 4096 (body passphrase salt costs) s t
-    → ((r ≡ refusal.OutputFault) × FileCutShort passphrase salt costs s t)
-    ⊎ ((r ≡ refusal.InputFault) × FailsReading (2 ^ 60) (body passphrase salt costs) s t)
-    ⊎ ((r ≡ refusal.TooLong) × IsTooLong (2 ^ 60) (body passphrase salt costs) s t)
-passing_ended r passphrase salt costs s t long (inl f) = inr (inl f)
-passing_ended r passphrase salt costs s t long (inr (inl f)) = inl (f.0, body_cut passphrase salt costs s t long f.1)
-passing_ended r passphrase salt costs s t long (inr (inr f)) = inr (inr f)
+pub passing_ended : (r : ScryptRefusal) (passphrase salt : List ℕ) (costs : Parameters) (size : ℕ) (s t : Seen) → length salt ≡ 32
+    → EndsText r (2 ^ 60) 4096 (body passphrase salt costs) (body passphrase salt costs) s t
+    → EndsText r (2 ^ 60) 4128 (body passphrase salt costs) (decided passphrase salt costs size) s t
+passing_ended r passphrase salt costs size s t long (inl f) = inl f
+passing_ended r passphrase salt costs size s t long (inr (inl f)) = inr (inl (f.0, body_cut passphrase salt costs size s t long f.1))
+passing_ended r passphrase salt costs size s t long (inr (inr f)) = inr (inr f)
 
 -- the final code was cut short
 pub code_cut : (passphrase salt : List ℕ) (costs : Parameters) (n : ℕ) (code : List ℕ) (s t u : Seen) → length salt ≡ 32 → length s.input < 2 ^ 60
     → body passphrase salt costs s.input ++ code ≡ encrypted_file passphrase salt costs s.input
-    → t ≡ after_passing (body passphrase salt costs) (length s.input) s → n < length code → u ≡ after_push (take n code) t → FileCutShort passphrase salt costs s u
+    → t ≡ after_passing (body passphrase salt costs) (length s.input) s → n < length code → u ≡ after_push (take n code) t
+    → FailsWriting (2 ^ 60) 4128 (decided passphrase salt costs (length s.input)) s u
 code_cut passphrase salt costs n code s t u long short_text is passes few pushed =
     let size = length s.input in
     let begun = body passphrase salt costs s.input in
-    let all : decided passphrase salt costs size s.input ≡ begun ++ code =
-    ap (λ b. if b then encrypted_file passphrase salt costs s.input else body passphrase salt costs (take size s.input)) (eq_self size) ∙ sym is in
-    let longer : length (decided passphrase salt costs size s.input) ≡ length begun + length code = ap length all ∙ length-append begun code in
+    let all : decided passphrase salt costs size (take size s.input) ≡ begun ++ code =
+    ap (decided passphrase salt costs size) (take_whole size s.input refl)
+    ∙ ap (λ b. if b then encrypted_file passphrase salt costs s.input else body passphrase salt costs s.input) (eq_self size) ∙ sym is in
+    let longer : length (decided passphrase salt costs size (take size s.input)) ≡ length begun + length code = ap length all ∙ length-append begun code in
     let short : length code ≡ 32 = length-code passphrase salt costs s.input code long (sym is) in
     let so_far : t ≡ after_push begun (after_pull size s) =
     passes ∙ ap (λ xs. after_push (body passphrase salt costs xs) (after_pull size s)) (take_whole size s.input refl) in

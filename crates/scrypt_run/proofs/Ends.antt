@@ -1,5 +1,5 @@
 -- What holds of a result, carried on to what follows from it; and what reading the input keeps.
-use Rattle.std.proofs.Common.{◌≡◌, ℕ, List, Option, Some, None, Result, Ok, Err, OnOk, IfErr, IfOk, IsErrAnd, refl}
+use Rattle.std.proofs.Common.{◌≡◌, ℕ, List, Option, Some, None, Result, Ok, Err, OnOk, IfErr, IfOk, IsErrAnd, MatchResult, refl, sym, subst, ◌∙◌}
 use Rattle.host.specs.Seen.{SecretSource, Seen, Text, after_open_input}
 use Rattle.host.specs.Seen.SecretSource.{env as variable, file as secret_file, stdin_once}
 use Rattle.scrypt_run.specs.Encrypting.{salt_used}
@@ -42,3 +42,9 @@ salt_used-opening (Some salt) infile s = refl
 pub handed_on : {A E : Type 0} {P Q : E → Type 0} (r : Result A E) → IsErrAnd r Q → ((e : E) → Q e → P e) → IfErr r P
 handed_on (Ok a) told f = absurd told
 handed_on (Err e) told f = f e told
+
+-- a good answer whose refusal was mapped is the one before
+pub before_map : {A E D : Type 0} (P : A → Type 0) (Q : E → D → Type 0) (r : Result A E) (mapped : Result A D) (n : A)
+    → MatchResult r (λ x. mapped ≡ Ok x) (λ e. IsErrAnd mapped (Q e)) → mapped ≡ Ok n → IfOk r P → P n
+before_map P Q (Ok x) mapped n same is h = subst (λ m. IfOk m P) (sym same ∙ is) h
+before_map P Q (Err e) mapped n told is h = absurd (subst (λ m. IsErrAnd m (Q e)) is told)

@@ -1,16 +1,14 @@
 -- The first 96 bytes of a file, and what refuses them.
-use Rattle.std.proofs.Common.{◌≡◌, ◌<◌, ◌≤◌, ℕ, List, Option, Some, None, inl, inr, length, take, min, codes, ◌++◌, ◌^◌, arith, refl, ap, sym, ◌∙◌}
+use Rattle.std.proofs.Common.{◌≡◌, ◌<◌, ◌≤◌, ℕ, List, Option, Some, None, inl, inr, length, take, drop, codes, ◌++◌, ◌^◌, arith, refl, ap, sym, ◌∙◌}
 use Rattle.std.specs.Prelude.{option_map}
-use Rattle.std.proofs.lemmas.List.{append_assoc}
+use Rattle.std.proofs.lemmas.List.{append_assoc, drop_all}
 use Rattle.std.proofs.lemmas.Option.{none-some}
 use Rattle.std.specs.Fmt.{decimal}
 use Rattle.romix.specs.Allowance.{Allowance}
 use Rattle.romix.specs.Costs.{Parameters, cores, table_bytes}
-use Rattle.encfile.specs.Front.{FrontRefusal, costs_refusal, format_refusal, header_refusal, limits_refusal}
+use Rattle.encfile.specs.Front.{FrontRefusal, costs_refusal, format_refusal, limits_refusal}
 use Rattle.encfile.specs.Header.{costs_of, salt_of}
-use Rattle.encfile.specs.HeaderFaults.{header_fault}
-use Rattle.encfile.specs.declared.fault.HeaderFault.{HeaderFault}
-use Rattle.encfile.proofs.Fronts.{format_refusal-header, format_refusal-short, format_refusal-take, limits_refusal-costs, limits_refusal-format, limits_refusal-take}
+use Rattle.encfile.proofs.Fronts.{format_refusal-short, format_refusal-take, limits_refusal-costs, limits_refusal-format, limits_refusal-take}
 use Rattle.encfile.proofs.Headers.{costs_of-take}
 use Rattle.encfile.proofs.Pieces.{bytes_at-take}
 use Rattle.host.specs.Seen.{Seen, Text, after_open_input, after_pull}
@@ -23,23 +21,21 @@ use Rattle.scrypt_run.specs.declared.refusal.ScryptRefusal.TheVariants as refusa
 
 -- ---- how many bytes there were
 
--- fewer than 96
-pub short_input : (infile : Option Text) (n : ℕ) (s t u : Seen) → t ≡ after_open_input infile s → n < 96 → n ≤ length t.input → length t.input ≤ n
+-- fewer than 96: all are pulled
+pub short_input : (infile : Option Text) (n : ℕ) (s t u : Seen) → t ≡ after_open_input infile s → n < 96 → length t.input ≤ n
     → u ≡ after_pull n t → FrontRefused refusal.NotScryptData (format_refusal s.input) infile s u
-short_input infile n s t u opened few within whole pulled =
+short_input infile n s t u opened few whole pulled =
     let same : length t.input ≡ length s.input = ap (λ (w : Seen). length w.input) opened in
-    let all : n ≡ min 96 (length s.input) = omega (arith, few, within, whole, same) in
+    let all : drop n s.input ≡ drop 96 s.input = drop_all n s.input (omega (arith, same, whole)) ∙ sym (drop_all 96 s.input (omega (arith, same, few, whole))) in
     inr (
       ap (option_map refusal_of) (format_refusal-short s.input (omega (arith, same, few, whole))),
-      pulled ∙ ap (after_pull n) opened ∙ ap (λ k. after_reading infile k s) all,
+      pulled ∙ ap (after_pull n) opened ∙ ap (λ xs. let w : Seen = record (after_open_input infile s) { input = xs } in w) all,
     )
 
 -- 96 at least, and then a test refuses them
-pub refused_front : (r : ScryptRefusal) (first of_front : Option FrontRefusal) (infile : Option Text) (s u : Seen) → 96 ≤ length s.input
-    → u ≡ after_reading infile 96 s → of_front ≡ first → option_map refusal_of of_front ≡ Some r → FrontRefused r first infile s u
-refused_front r first of_front infile s u long reads same refused =
-    let all : 96 ≡ min 96 (length s.input) = omega (arith, long) in
-    inr (ap (option_map refusal_of) (sym same) ∙ refused, reads ∙ ap (λ k. after_reading infile k s) all)
+pub refused_front : (r : ScryptRefusal) (first of_front : Option FrontRefusal) (infile : Option Text) (s u : Seen) → u ≡ after_reading infile 96 s
+    → of_front ≡ first → option_map refusal_of of_front ≡ Some r → FrontRefused r first infile s u
+refused_front r first of_front infile s u reads same refused = inr (ap (option_map refusal_of) (sym same) ∙ refused, reads)
 
 -- ---- the header
 

@@ -73,13 +73,9 @@ succeeds_with_any (inspect infile) keep before after one other done = done
 encrypt_refused_with : (asked : Encryption) (keep : ℕ) (before after : Seen) (r : ScryptRefusal) → AdmitsCosts (encrypt asked) before
     → AdmitsCosts (encrypt (encryption_with keep asked)) before → EncryptRefused r asked before after
     → EncryptRefused r (encryption_with keep asked) before after
-encrypt_refused_with asked keep before after r one other (inl (same, inl told)) =
-    absurd (none_refuses (costs_refusal asked.costs (allowance_of asked.task)) r one told)
-encrypt_refused_with asked keep before after r one other (inl (same, inr failed)) = inl (same, inr (other, failed.1))
-encrypt_refused_with asked keep before after r one other (inr (inl starting)) =
-    inr (inl (record { admitted = other; refused = starting.refused }))
-encrypt_refused_with asked keep before after r one other (inr (inr ends)) =
-    inr (inr (record { admitted = other; passphrase = ends.passphrase; given = ends.given; refused = ends.refused }))
+encrypt_refused_with asked keep before after r one other (inl told) =
+    absurd (none_refuses (costs_refusal asked.costs (allowance_of asked.task)) r one told.0)
+encrypt_refused_with asked keep before after r one other (inr ends) = inr (other, ends.1)
 
 decrypt_refused_with : (task : Task) (keep : ℕ) (before after : Seen) (r : ScryptRefusal)
     → limits_refusal before.input (allowance_of task) ≡ limits_refusal before.input (allowance_of (task_with keep task))
@@ -87,15 +83,15 @@ decrypt_refused_with : (task : Task) (keep : ℕ) (before after : Seen) (r : Scr
 decrypt_refused_with task keep before after r same (inl (inl failed)) = inl (inl failed)
 decrypt_refused_with task keep before after r same (inl (inr told)) =
     inl (inr (subst (λ first. option_map refusal_of first ≡ Some r) same told.0, told.1))
-decrypt_refused_with task keep before after r same (inr (inl opening)) =
-    inr (inl (record { checked = sym same ∙ opening.checked; refused = opening.refused; unopened = opening.unopened }))
-decrypt_refused_with task keep before after r same (inr (inr ends)) =
-    inr (inr (record {
-      passphrase = ends.passphrase;
-      given = ends.given;
-      passes = sym (same_front before.input (allowance_of task) (allowance_of (task_with keep task)) ends.passphrase same) ∙ ends.passes;
-      refused = ends.refused;
-    }))
+decrypt_refused_with task keep before after r same (inr (checked, inl refused)) = inr (sym same ∙ checked, inl refused)
+decrypt_refused_with task keep before after r same (inr (checked, inr (passphrase, given, inl lacks))) =
+    inr (sym same ∙ checked, inr (passphrase, given, inl lacks))
+decrypt_refused_with task keep before after r same (inr (checked, inr (passphrase, given, inr (inl told)))) =
+    let front = same_front before.input (allowance_of task) (allowance_of (task_with keep task)) passphrase same in
+    inr (sym same ∙ checked, inr (passphrase, given, inr (inl (ap (option_map refusal_of) (sym front) ∙ told.0, told.1))))
+decrypt_refused_with task keep before after r same (inr (checked, inr (passphrase, given, inr (inr ends)))) =
+    let front = same_front before.input (allowance_of task) (allowance_of (task_with keep task)) passphrase same in
+    inr (sym same ∙ checked, inr (passphrase, given, inr (inr (sym front ∙ ends.0, ends.1))))
 
 pub refused_with_any : (request : Request) (keep : ℕ) (before after : Seen) (r : ScryptRefusal) → AdmitsCosts request before
     → AdmitsCosts (with_keep keep request) before → RequestRefused r request before after → RequestRefused r (with_keep keep request) before after

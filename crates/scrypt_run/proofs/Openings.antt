@@ -1,23 +1,24 @@
 -- What a run of `dec` comes to on an encrypted file, under its passphrase, and what refuses it.
-use Rattle.std.proofs.Common.{◌≡◌, ◌≤◌, ◌++◌, inl, inr, ◌+◌, ◌-◌, ℕ, List, Option, Some, None, option_map, take, drop, length, ap, sym, subst, refl, ◌∙◌, arith}
+use Rattle.std.proofs.Common.{◌≡◌, ◌++◌, inl, inr, ◌+◌, ◌-◌, ℕ, List, Option, Some, None, option_map, take, drop, length, ap, sym, subst, refl, ◌∙◌, arith}
 use Rattle.std.proofs.lemmas.Option.{none-some, same_Some}
 use Rattle.std.proofs.lemmas.List.{length-drop}
 use Rattle.std.proofs.lemmas.Grind.{common_steps}
 use Rattle.romix.specs.Allowance.{Allowance}
 use Rattle.romix.specs.Costs.{Parameters}
-use Rattle.encfile.specs.EncryptedFile.{HasRightHeaderCode, IsEncryptionOf, released_text}
+use Rattle.encfile.specs.EncryptedFile.{IsEncryptionOf, released_text}
 use Rattle.encfile.specs.Front.{FrontRefusal, front_refusal, limits_refusal}
-use Rattle.encfile.specs.Front.FrontRefusal.{WrongPassphrase}
 use Rattle.encfile.specs.Laws.{GivesBack}
 use Rattle.encfile.proofs.Files.{GivesBack-is, length-encrypted_file}
-use Rattle.encfile.proofs.Fronts.{front_refusal-encrypted_file, front_refusal-limits, front_refusal-wrong}
+use Rattle.encfile.proofs.Fronts.{front_refusal-encrypted_file, front_refusal-limits}
 use Rattle.host.specs.Seen.{Seen, Text}
-use Rattle.scrypt_run.specs.Decrypting.{DecryptRefused, DecryptSucceeds, OpenRefused, ReleaseRefused, front_refusal_of, limits_refusal_of, passphrase_asked}
+use Rattle.scrypt_run.specs.Decrypting.{DecryptRefused, DecryptSucceeds, front_refusal_of, limits_refusal_of}
+use Rattle.scrypt_run.specs.Inside.Decrypting.{ReleaseRefused}
 use Rattle.scrypt_run.specs.Laws.{CanBeOpened, IsFromOutside, WroteWhatWasEncrypted}
 use Rattle.scrypt_run.specs.Passphrase.{HasPassphrase, PassphraseRefused, first_line_at}
 use Rattle.scrypt_run.specs.Front.{FrontRefused}
 use Rattle.scrypt_run.specs.Refusal.{refusal_of}
 use Rattle.scrypt_run.specs.Request.{Task, allowance_of}
+use Rattle.scrypt_run.specs.Steps.{passphrase_asked}
 use Rattle.scrypt_run.specs.declared.refusal.ScryptRefusal.{ScryptRefusal}
 
 -- a source gives one passphrase
@@ -124,20 +125,9 @@ length_input task before passphrase h =
 admitted : (task : Task) (before : Seen) (passphrase : List ℕ) → IsGenuine task before passphrase → limits_refusal_of task before ≡ None
 admitted task before passphrase h = limits_pass before.input (allowance_of task) passphrase _ refl h.passes
 
-opening_from_outside : (task : Task) (before : Seen) (passphrase : List ℕ) (r : ScryptRefusal) → IsGenuine task before passphrase
-    → OpenRefused r (first_line_at task.source before) (take 96 before.input) → IsFromOutside r
-opening_from_outside task before passphrase r h (inl refused) = passphrase_from_outside _ passphrase r h.given refused
-opening_from_outside task before passphrase r h (inr (inl lacks)) = inr (inr (inr lacks.0))
-opening_from_outside task before passphrase r h (inr (inr (is, other, given, wrong))) =
-    let long : 96 ≤ length before.input = omega (arith, length_input task before passphrase h) in
-    let same : other ≡ passphrase = one_passphrase _ other passphrase given h.given in
-    absurd (none-some WrongPassphrase (sym h.passes
-    ∙ front_refusal-wrong before.input (allowance_of task) passphrase long (admitted task before passphrase h)
-    (subst (λ p. HasRightHeaderCode (take 96 before.input) p → ⊥) same wrong)))
-
 releasing_from_outside : (task : Task) (before after : Seen) (passphrase other : List ℕ) (r : ScryptRefusal) → IsGenuine task before passphrase
     → HasPassphrase (first_line_at task.source before) other
-    → ReleaseRefused r other (take 96 before.input) task.outfile (passphrase_asked task before) after → IsFromOutside r
+    → ReleaseRefused r other (take 96 before.input) task.outfile (passphrase_asked task 96 before) after → IsFromOutside r
 releasing_from_outside task before after passphrase other r h given (inl failed) = inr (inl failed.0)
 releasing_from_outside task before after passphrase other r h given (inr (inl (inl reading))) = inl reading.0
 releasing_from_outside task before after passphrase other r h given (inr (inl (inr (inl writing)))) = inr (inl writing.0)
@@ -152,9 +142,13 @@ releasing_from_outside task before after passphrase other r h given (inr (inr (i
 pub decrypt_from_outside : (task : Task) (before after : Seen) (passphrase : List ℕ) (r : ScryptRefusal) → IsGenuine task before passphrase
     → DecryptRefused r task before after → IsFromOutside r
 decrypt_from_outside task before after passphrase r h (inl front) = front_from_outside _ task.infile before after r (admitted task before passphrase h) front
-decrypt_from_outside task before after passphrase r h (inr (inl opening)) = opening_from_outside task before passphrase r h opening.refused
-decrypt_from_outside task before after passphrase r h (inr (inr releasing)) =
-    releasing_from_outside task before after passphrase releasing.passphrase r h releasing.given releasing.refused
+decrypt_from_outside task before after passphrase r h (inr (checked, inl refused)) = passphrase_from_outside _ passphrase r h.given refused.0
+decrypt_from_outside task before after passphrase r h (inr (checked, inr (other, given, inl lacks))) = inr (inr (inr lacks.0))
+decrypt_from_outside task before after passphrase r h (inr (checked, inr (other, given, inr (inl told)))) =
+    let passes = ap (front_refusal_of task before) (one_passphrase _ other passphrase given h.given) ∙ h.passes in
+    absurd (none_refuses (front_refusal_of task before other) r passes told.0)
+decrypt_from_outside task before after passphrase r h (inr (checked, inr (other, given, inr (inr ends)))) =
+    releasing_from_outside task before after passphrase other r h given ends.1
 
 pub file_from_outside : (task : Task) (before after : Seen) (passphrase salt : List ℕ) (costs : Parameters) (text : List ℕ) (r : ScryptRefusal)
     → CanBeOpened task before passphrase salt costs text → DecryptRefused r task before after → IsFromOutside r

@@ -1,23 +1,23 @@
 -- Two refusals of a request are one end, or one is from outside: the others are decided by the request and the host.
-use Rattle.std.proofs.Common.{◌≡◌, ◌<◌, ◌≤◌, ◌+◌, ◌-◌, ◌^◌, ◌⊎◌, inl, inr, ℕ, Bool, List, Option, Some, None, ap, drop, take, length, option_map, refl, sym, subst, true, false, ◌∙◌, arith}
+use Rattle.std.proofs.Common.{◌≡◌, ◌<◌, ◌≤◌, ◌+◌, ◌-◌, ◌^◌, ◌⊎◌, inl, inr, ℕ, List, Option, Some, None, ap, drop, take, length, option_map, refl, sym, subst, true, false, ◌∙◌, arith}
 use Rattle.std.specs.Prelude.{if◌then◌else◌, nat_lt}
 use Rattle.std.proofs.lemmas.Bool.Decides.{nat_tests}
 use Rattle.std.proofs.lemmas.List.{length-drop}
 use Rattle.std.proofs.lemmas.Option.{none-some, same_Some}
 use Rattle.encfile.specs.Front.{FrontRefusal, format_refusal}
-use Rattle.encfile.specs.Front.FrontRefusal.{NotScryptData, WrongPassphrase}
-use Rattle.encfile.proofs.Fronts.{format_refusal-short, front_refusal-wrong, limits_refusal-format}
 use Rattle.host.specs.Seen.{Seen, Text, after_open_output}
-use Rattle.scrypt_run.specs.Decrypting.{DecryptRefused, OpenRefused, ReleaseRefused, front_refusal_of, limits_refusal_of, text_after, passphrase_asked as passphrase_asked_by_dec}
-use Rattle.scrypt_run.specs.Encrypting.{EncryptRefused, StartRefused, TextNotOpened, WriteRefused, costs_refusal_of, passphrase_asked, salt_asked, salt_used}
+use Rattle.scrypt_run.specs.Decrypting.{DecryptRefused, front_refusal_of, limits_refusal_of, text_after}
+use Rattle.scrypt_run.specs.Encrypting.{EncryptRefused, costs_refusal_of}
 use Rattle.scrypt_run.specs.Front.{FrontRefused, after_front}
+use Rattle.scrypt_run.specs.Inside.Decrypting.{ReleaseRefused}
 use Rattle.scrypt_run.specs.Inspecting.{InspectRefused}
 use Rattle.scrypt_run.specs.Laws.{AreOneEnd, IsFromOutside, IsRefusedFromOutside}
 use Rattle.scrypt_run.specs.Passphrase.{HasPassphrase, PassphraseRefused, first_line_at}
 use Rattle.scrypt_run.specs.Refusal.{refusal_of}
 use Rattle.scrypt_run.specs.Request.{Encryption, Request, Task, allowance_of, decrypt, encrypt, inspect}
 use Rattle.scrypt_run.specs.Run.{RequestRefused}
-use Rattle.scrypt_run.specs.Steps.{after_passing}
+use Rattle.scrypt_run.specs.Steps.{after_passing, passphrase_asked}
+use Rattle.scrypt_run.specs.Text.{EndsText}
 use Rattle.scrypt_run.specs.declared.refusal.ScryptRefusal.{ScryptRefusal}
 use Rattle.scrypt_run.specs.declared.refusal.ScryptRefusal.TheVariants as refusal
 use Rattle.scrypt_run.proofs.Openings.{both_parts, limits_pass}
@@ -50,22 +50,22 @@ by_length n released = if nat_lt n (2 ^ 60 + 128) then inside refusal.Damaged (S
 -- the whole text of a file was released
 abbrev all_released : Task → Seen → List ℕ → Seen
 all_released task s passphrase =
-    let asked = passphrase_asked_by_dec task s in
+    let asked = passphrase_asked task 96 s in
     after_passing (text_after passphrase (take 96 s.input)) (length asked.input) (after_open_output task.outfile asked)
 
 -- of `enc`, once the limits admit the costs; under a passphrase a text is refused from inside as too long alone
 abbrev of_text : Encryption → Seen → Option Inside
-of_text asked s = by_line (first_line_at asked.task.source s) (passphrase_asked asked s) (λ _. Some (inside refusal.TooLong None))
+of_text asked s = by_line (first_line_at asked.task.source s) (passphrase_asked asked.task 0 s) (λ _. Some (inside refusal.TooLong None))
 
 -- of `dec`, once there is a passphrase
 abbrev under_passphrase : Task → Seen → List ℕ → Option Inside
 under_passphrase task s passphrase =
-    by_front (front_refusal_of task s passphrase) (passphrase_asked_by_dec task s)
+    by_front (front_refusal_of task s passphrase) (passphrase_asked task 96 s)
     (Some (by_length (length s.input) (all_released task s passphrase)))
 
 -- of `dec`, once the limits admit the file
 abbrev of_file : Task → Seen → Option Inside
-of_file task s = by_line (first_line_at task.source s) (passphrase_asked_by_dec task s) (under_passphrase task s)
+of_file task s = by_line (first_line_at task.source s) (passphrase_asked task 96 s) (under_passphrase task s)
 
 -- the one end of a request that may come from inside, if any may
 abbrev from_inside : Request → Seen → Option Inside
@@ -158,74 +158,39 @@ encrypt_decided : (asked : Encryption) (s : Seen) (r : ScryptRefusal) (after : S
 encrypt_decided asked s r after (inl outside) = inl (inl outside)
 encrypt_decided asked s r after (inr due) = inr due
 
-text_not_opened : (asked : Encryption) (before after : Seen) (r : ScryptRefusal) → TextNotOpened r asked before after
-    → OutsideOr (from_inside (encrypt asked) before) r after
-text_not_opened asked before after r (same, inl told) =
-    inr (due_at _ r before after (front_told (costs_refusal_of asked) before (of_text asked before) r told) same)
-text_not_opened asked before after r (same, inr failed) = inl (inl failed.1)
-
 -- the costs are admitted
 to_text : (asked : Encryption) (s : Seen) → costs_refusal_of asked ≡ None → from_inside (encrypt asked) s ≡ of_text asked s
 to_text asked s admitted = front_passed (costs_refusal_of asked) s (of_text asked s) admitted
 
-start_refused : (asked : Encryption) (before after : Seen) (r : ScryptRefusal) → costs_refusal_of asked ≡ None
-    → StartRefused r asked.salt (first_line_at asked.task.source before) (passphrase_asked asked before) after → EncryptDecided asked before r after
-start_refused asked before after r admitted (inl refused) =
-    encrypt_decided asked before r after
-    (later r after _ (of_text asked before) (to_text asked before admitted)
-    (passphrase_refused (first_line_at asked.task.source before) (passphrase_asked asked before) after r _ refused.1 refused.0))
-start_refused asked before after r admitted (inr (inl failed)) = inl (inr (failed.0, failed.1))
-start_refused asked before after r admitted (inr (inr lacks)) = inl (inl (inr (inr (inr lacks.0))))
-
-write_refused : (asked : Encryption) (passphrase salt : List ℕ) (before after : Seen) (r : ScryptRefusal)
-    → WriteRefused r passphrase salt asked.costs asked.task.outfile before after → OutsideOr (Some (inside refusal.TooLong None)) r after
-write_refused asked passphrase salt before after r (inl failed) = inl (inr (inl failed.0))
-write_refused asked passphrase salt before after r (inr (inl writing)) = inl (inr (inl writing.0))
-write_refused asked passphrase salt before after r (inr (inr (inl reading))) = inl (inl reading.0)
-write_refused asked passphrase salt before after r (inr (inr (inr long))) =
-    inr (record { end = None; is = ap Some (told_as r refusal.TooLong None long.0); fits = long.0 })
+-- the text's passing ended early
+text_ended : (asked : Encryption) (before after : Seen) (r : ScryptRefusal) (passphrase : List ℕ) (gives decides : List ℕ → List ℕ) (s : Seen)
+    → costs_refusal_of asked ≡ None → HasPassphrase (first_line_at asked.task.source before) passphrase
+    → EndsText r (2 ^ 60) 4128 gives decides s after → EncryptDecided asked before r after
+text_ended asked before after r passphrase gives decides s admitted given (inl reading) = inl (inl (inl reading.0))
+text_ended asked before after r passphrase gives decides s admitted given (inr (inl writing)) = inl (inl (inr (inl writing.0)))
+text_ended asked before after r passphrase gives decides s admitted given (inr (inr long)) =
+    let passed = line_passed (first_line_at asked.task.source before) (passphrase_asked asked.task 0 before) _ passphrase given in
+    inr (due_later r after _ (Some (inside refusal.TooLong None)) (to_text asked before admitted ∙ passed)
+    (record { end = None; is = ap Some (told_as r refusal.TooLong None long.0); fits = long.0 }))
 
 encrypt_refused : (asked : Encryption) (before after : Seen) (r : ScryptRefusal) → EncryptRefused r asked before after → EncryptDecided asked before r after
-encrypt_refused asked before after r (inl opening) = encrypt_decided asked before r after (text_not_opened asked before after r opening)
-encrypt_refused asked before after r (inr (inl starting)) = start_refused asked before after r starting.admitted starting.refused
-encrypt_refused asked before after r (inr (inr ends)) =
+encrypt_refused asked before after r (inl told) =
+    inr (due_at _ r before after (front_told (costs_refusal_of asked) before (of_text asked before) r told.0) told.1)
+encrypt_refused asked before after r (inr (admitted, inl failed)) = inl (inl (inl failed.0))
+encrypt_refused asked before after r (inr (admitted, inr (inl refused))) =
     encrypt_decided asked before r after
-    (later r after _ (Some (inside refusal.TooLong None))
-    (to_text asked before ends.admitted
-    ∙ line_passed (first_line_at asked.task.source before) (passphrase_asked asked before) _ ends.passphrase ends.given)
-    (write_refused asked ends.passphrase (salt_used asked.salt before) (salt_asked asked before) after r ends.refused))
+    (later r after _ (of_text asked before) (to_text asked before admitted)
+    (passphrase_refused (first_line_at asked.task.source before) (passphrase_asked asked.task 0 before) after r _ refused.1 refused.0))
+encrypt_refused asked before after r (inr (admitted, inr (inr (passphrase, given, inl failed)))) = inl (inr (failed.0, failed.1))
+encrypt_refused asked before after r (inr (admitted, inr (inr (passphrase, given, inr (inl lacks))))) = inl (inl (inr (inr (inr lacks.0))))
+encrypt_refused asked before after r (inr (admitted, inr (inr (passphrase, given, inr (inr (inl failed)))))) = inl (inl (inr (inl failed.0)))
+encrypt_refused asked before after r (inr (admitted, inr (inr (passphrase, given, inr (inr (inr ends)))))) =
+    text_ended asked before after r passphrase _ _ _ admitted given ends
 
 -- ---- of `dec`
 
-front_by_length : (task : Task) (s : Seen) (short : Bool) → nat_lt (length s.input) 96 ≡ short → limits_refusal_of task s ≡ None
-    → 96 ≤ length s.input
-front_by_length task s false is admitted = grind (arith, nat_tests, is)
-front_by_length task s true is admitted =
-    let short : length s.input < 96 = grind (arith, nat_tests, is) in
-    absurd (none-some NotScryptData (sym admitted
-    ∙ limits_refusal-format s.input (allowance_of task) NotScryptData (format_refusal-short s.input short)))
-
--- a file that limits admit has its first 96 bytes
-has_front : (task : Task) (s : Seen) → limits_refusal_of task s ≡ None → 96 ≤ length s.input
-has_front task s admitted = front_by_length task s (nat_lt (length s.input) 96) refl admitted
-
-open_refused : (task : Task) (before after : Seen) (r : ScryptRefusal) → limits_refusal_of task before ≡ None
-    → after ≡ passphrase_asked_by_dec task before → OpenRefused r (first_line_at task.source before) (take 96 before.input)
-    → OutsideOr (of_file task before) r after
-open_refused task before after r admitted same (inl refused) =
-    passphrase_refused (first_line_at task.source before) (passphrase_asked_by_dec task before) after r (under_passphrase task before) same refused
-open_refused task before after r admitted same (inr (inl lacks)) = inl (inr (inr (inr lacks.0)))
-open_refused task before after r admitted same (inr (inr (is, passphrase, given, wrong))) =
-    let at = passphrase_asked_by_dec task before in
-    let other : front_refusal_of task before passphrase ≡ Some WrongPassphrase =
-    front_refusal-wrong before.input (allowance_of task) passphrase (has_front task before admitted) admitted wrong in
-    inr (due_at _ r at after
-    (line_passed (first_line_at task.source before) at (under_passphrase task before) passphrase given
-    ∙ front_told (front_refusal_of task before passphrase) at _ refusal.WrongPassphrase (ap (option_map refusal_of) other)
-    ∙ ap Some (told_as r refusal.WrongPassphrase (Some at) is)) same)
-
 release_refused : (task : Task) (passphrase : List ℕ) (before after : Seen) (r : ScryptRefusal)
-    → ReleaseRefused r passphrase (take 96 before.input) task.outfile (passphrase_asked_by_dec task before) after
+    → ReleaseRefused r passphrase (take 96 before.input) task.outfile (passphrase_asked task 96 before) after
     → OutsideOr (Some (by_length (length before.input) (all_released task before passphrase))) r after
 release_refused task passphrase before after r (inl failed) = inl (inr (inl failed.0))
 release_refused task passphrase before after r (inr (inl (inl reading))) = inl (inl reading.0)
@@ -252,7 +217,7 @@ to_length : (task : Task) (s : Seen) (passphrase : List ℕ) → HasPassphrase (
     → front_refusal_of task s passphrase ≡ None
     → from_inside (decrypt task) s ≡ Some (by_length (length s.input) (all_released task s passphrase))
 to_length task s passphrase given passes =
-    let at = passphrase_asked_by_dec task s in
+    let at = passphrase_asked task 96 s in
     to_file task s (limits_pass s.input (allowance_of task) passphrase _ refl passes)
     ∙ line_passed (first_line_at task.source s) at (under_passphrase task s) passphrase given
     ∙ front_passed (front_refusal_of task s passphrase) at (Some (by_length (length s.input) (all_released task s passphrase))) passes
@@ -260,20 +225,25 @@ to_length task s passphrase given passes =
 decrypt_refused : (task : Task) (before after : Seen) (r : ScryptRefusal) → DecryptRefused r task before after
     → OutsideOr (from_inside (decrypt task) before) r after
 decrypt_refused task before after r (inl front) = front_refused (limits_refusal_of task before) task.infile before after r (of_file task before) front
-decrypt_refused task before after r (inr (inl opening)) =
-    later r after _ (of_file task before) (to_file task before opening.checked)
-    (open_refused task before after r opening.checked opening.unopened opening.refused)
-decrypt_refused task before after r (inr (inr ends)) =
-    later r after _ (Some (by_length (length before.input) (all_released task before ends.passphrase)))
-    (to_length task before ends.passphrase ends.given ends.passes)
-    (release_refused task ends.passphrase before after r ends.refused)
+decrypt_refused task before after r (inr (checked, inl refused)) =
+    later r after _ (of_file task before) (to_file task before checked)
+    (passphrase_refused (first_line_at task.source before) (passphrase_asked task 96 before) after r (under_passphrase task before) refused.1 refused.0)
+decrypt_refused task before after r (inr (checked, inr (passphrase, given, inl lacks))) = inl (inr (inr (inr lacks.0)))
+decrypt_refused task before after r (inr (checked, inr (passphrase, given, inr (inl told)))) =
+    let at = passphrase_asked task 96 before in
+    let passed = line_passed (first_line_at task.source before) at (under_passphrase task before) passphrase given in
+    later r after _ (under_passphrase task before passphrase) (to_file task before checked ∙ passed)
+    (inr (due_at _ r at after (front_told (front_refusal_of task before passphrase) at _ r told.0) told.1))
+decrypt_refused task before after r (inr (checked, inr (passphrase, given, inr (inr ends)))) =
+    later r after _ (Some (by_length (length before.input) (all_released task before passphrase)))
+    (to_length task before passphrase given ends.0) (release_refused task passphrase before after r ends.1)
 
 -- ---- of `info`
 
 inspect_refused : (infile : Option Text) (before after : Seen) (r : ScryptRefusal) → InspectRefused r infile before after
     → OutsideOr (from_inside (inspect infile) before) r after
 inspect_refused infile before after r (inl front) = front_refused (format_refusal before.input) infile before after r None front
-inspect_refused infile before after r (inr ends) = inl (line_from_outside r _ _ _ ends.refused)
+inspect_refused infile before after r (inr ends) = inl (line_from_outside r _ _ _ ends.1)
 
 -- ---- of a request
 

@@ -1,17 +1,17 @@
 -- What follows from a request's success: no other comes, `enc` wrote an encryption, and what refuses the request is from outside.
-use Rattle.std.proofs.Common.{◌≡◌, ◌<◌, ◌^◌, ◌++◌, ◌⊎◌, inl, inr, ℕ, List, Option, None, take, length, ap, sym, ◌∙◌, arith}
+use Rattle.std.proofs.Common.{◌≡◌, ◌<◌, ◌^◌, ◌++◌, ◌⊎◌, inl, inr, ℕ, List, Option, take, length, ap, sym, ◌∙◌, arith}
 use Rattle.std.proofs.lemmas.Grind.{common_steps}
 use Rattle.encfile.specs.EncryptedFile.{encrypted_file}
 use Rattle.encfile.specs.Front.{format_refusal}
 use Rattle.host.specs.Seen.{Seen, Text, after_open_output}
-use Rattle.scrypt_run.specs.Decrypting.{DecryptSucceeds, text_after, passphrase_asked as passphrase_asked_by_dec}
-use Rattle.scrypt_run.specs.Encrypting.{EncryptRefused, EncryptSucceeds, StartRefused, TextNotOpened, WriteRefused, costs_refusal_of, passphrase_asked, salt_asked, salt_used}
+use Rattle.scrypt_run.specs.Decrypting.{DecryptSucceeds, text_after}
+use Rattle.scrypt_run.specs.Encrypting.{EncryptRefused, EncryptSucceeds, costs_refusal_of, salt_asked, salt_used}
 use Rattle.scrypt_run.specs.Inspecting.{InspectRefused, InspectSucceeds}
 use Rattle.scrypt_run.specs.Laws.{IsFromOutside, IsRefusedFromOutside, WroteAnEncryption}
-use Rattle.scrypt_run.specs.Passphrase.{HasPassphrase, first_line_at}
 use Rattle.scrypt_run.specs.Request.{Encryption, Request, Task, decrypt, encrypt, inspect}
 use Rattle.scrypt_run.specs.Run.{RequestRefused, RequestSucceeds}
-use Rattle.scrypt_run.specs.Steps.{after_passing}
+use Rattle.scrypt_run.specs.Steps.{after_passing, passphrase_asked}
+use Rattle.scrypt_run.specs.Text.{EndsText}
 use Rattle.scrypt_run.specs.declared.refusal.ScryptRefusal.{ScryptRefusal}
 use Rattle.scrypt_run.specs.declared.refusal.ScryptRefusal.TheVariants as refusal
 use Rattle.scrypt_run.proofs.Openings.{decrypt_from_outside, front_from_outside, none_refuses, one_passphrase, genuine_by_success, passphrase_from_outside}
@@ -28,7 +28,7 @@ one_encryption asked before a b ha hb =
 
 one_decryption : (task : Task) (before a b : Seen) → DecryptSucceeds task before a → DecryptSucceeds task before b → a ≡ b
 one_decryption task before a b ha hb =
-    let pulled = passphrase_asked_by_dec task before in
+    let pulled = passphrase_asked task 96 before in
     ha.decrypted.released
     ∙ ap (λ p. after_passing (text_after p (take 96 before.input)) (length pulled.input) (after_open_output task.outfile pulled))
     (one_passphrase _ ha.passphrase hb.passphrase ha.given hb.given)
@@ -57,33 +57,24 @@ wrote_an_encryption asked before after done =
 
 -- ---- no refusal of the product's own
 
-opening_from_outside : (asked : Encryption) (before ended : Seen) (r : ScryptRefusal) → costs_refusal_of asked ≡ None → TextNotOpened r asked before ended
-    → IsFromOutside r
-opening_from_outside asked before ended r admitted (same, inl told) = absurd (none_refuses (costs_refusal_of asked) r admitted told)
-opening_from_outside asked before ended r admitted (same, inr failed) = inl failed.1
-
-starting_from_outside : (asked : Encryption) (before ended : Seen) (passphrase : List ℕ) (r : ScryptRefusal)
-    → HasPassphrase (first_line_at asked.task.source before) passphrase → StartRefused r asked.salt (first_line_at asked.task.source before) (passphrase_asked asked before) ended
-    → IsRefusedFromOutside (encrypt asked) r
-starting_from_outside asked before ended passphrase r given (inl refused) = inl (passphrase_from_outside _ passphrase r given refused.0)
-starting_from_outside asked before ended passphrase r given (inr (inl failed)) = inr (failed.0, failed.1)
-starting_from_outside asked before ended passphrase r given (inr (inr lacks)) = inl (inr (inr (inr lacks.0)))
-
-writing_from_outside : (asked : Encryption) (before ended : Seen) (passphrase salt : List ℕ) (r : ScryptRefusal) → length before.input < 2 ^ 60
-    → WriteRefused r passphrase salt asked.costs asked.task.outfile before ended → IsFromOutside r
-writing_from_outside asked before ended passphrase salt r short (inl failed) = inr (inl failed.0)
-writing_from_outside asked before ended passphrase salt r short (inr (inl writing)) = inr (inl writing.0)
-writing_from_outside asked before ended passphrase salt r short (inr (inr (inl reading))) = inl reading.0
-writing_from_outside asked before ended passphrase salt r short (inr (inr (inr (is, long)))) =
+text_from_outside : (r : ScryptRefusal) (gives decides : List ℕ → List ℕ) (before ended : Seen) → length before.input < 2 ^ 60
+    → EndsText r (2 ^ 60) 4128 gives decides before ended → IsFromOutside r
+text_from_outside r gives decides before ended short (inl reading) = inl reading.0
+text_from_outside r gives decides before ended short (inr (inl writing)) = inr (inl writing.0)
+text_from_outside r gives decides before ended short (inr (inr (is, long))) =
     absurd (let h : ⊥ = omega (arith, short, long.within, long.too_long) in h)
 
 encrypt_from_outside : (asked : Encryption) (before after ended : Seen) (r : ScryptRefusal) → EncryptSucceeds asked before after
     → EncryptRefused r asked before ended → IsRefusedFromOutside (encrypt asked) r
-encrypt_from_outside asked before after ended r done (inl opening) = inl (opening_from_outside asked before ended r done.admitted opening)
-encrypt_from_outside asked before after ended r done (inr (inl starting)) =
-    starting_from_outside asked before ended done.passphrase r done.given starting.refused
-encrypt_from_outside asked before after ended r done (inr (inr writing)) =
-    inl (writing_from_outside asked (salt_asked asked before) ended writing.passphrase (salt_used asked.salt before) r done.encrypted.below_limit writing.refused)
+encrypt_from_outside asked before after ended r done (inl told) = absurd (none_refuses (costs_refusal_of asked) r done.admitted told.0)
+encrypt_from_outside asked before after ended r done (inr (admitted, inl failed)) = inl (inl failed.0)
+encrypt_from_outside asked before after ended r done (inr (admitted, inr (inl refused))) =
+    inl (passphrase_from_outside _ done.passphrase r done.given refused.0)
+encrypt_from_outside asked before after ended r done (inr (admitted, inr (inr (passphrase, given, inl failed)))) = inr (failed.0, failed.1)
+encrypt_from_outside asked before after ended r done (inr (admitted, inr (inr (passphrase, given, inr (inl lacks))))) = inl (inr (inr (inr lacks.0)))
+encrypt_from_outside asked before after ended r done (inr (admitted, inr (inr (passphrase, given, inr (inr (inl failed)))))) = inl (inr (inl failed.0))
+encrypt_from_outside asked before after ended r done (inr (admitted, inr (inr (passphrase, given, inr (inr (inr ends)))))) =
+    inl (text_from_outside r _ _ _ ended done.encrypted.encryption.below_limit ends)
 
 pub line_from_outside : (r : ScryptRefusal) (Unwritten Left CutShort : Type 0)
     → ((r ≡ refusal.OutOfMemory) × Unwritten) ⊎ ((r ≡ refusal.OutputFault) × Left) ⊎ ((r ≡ refusal.OutputFault) × CutShort) → IsFromOutside r
@@ -94,7 +85,7 @@ line_from_outside r Unwritten Left CutShort (inr (inr failed)) = inr (inl failed
 inspect_from_outside : (infile : Option Text) (before after ended : Seen) (r : ScryptRefusal) → InspectSucceeds infile before after
     → InspectRefused r infile before ended → IsFromOutside r
 inspect_from_outside infile before after ended r done (inl front) = front_from_outside (format_refusal before.input) infile before ended r done.valid front
-inspect_from_outside infile before after ended r done (inr ends) = line_from_outside r _ _ _ ends.refused
+inspect_from_outside infile before after ended r done (inr ends) = line_from_outside r _ _ _ ends.1
 
 pub refused_from_outside : (request : Request) (before after ended : Seen) (r : ScryptRefusal) → RequestSucceeds request before after
     → RequestRefused r request before ended → IsRefusedFromOutside request r

@@ -7,10 +7,11 @@ use Rattle.romix.specs.Sparse.{sparse_cores}
 use Rattle.romix.specs.SparseCosts.{SparseParameters}
 use Rattle.encfile.specs.Front.{FrontRefusal}
 use Rattle.encfile.specs.Header.{costs_of, salt_of}
-use Rattle.host.specs.Seen.{SecretSource, Seen, Text, after_ask}
-use Rattle.scrypt_run.specs.Decrypting.{ReleaseRefused}
-use Rattle.scrypt_run.specs.Encrypting.{WriteRefused, salt_used, text_opened}
+use Rattle.host.specs.Seen.{SecretSource, Seen, Text, after_ask, after_open_input}
+use Rattle.scrypt_run.specs.Encrypting.{salt_used}
 use Rattle.scrypt_run.specs.Front.{FrontRefused}
+use Rattle.scrypt_run.specs.Inside.Decrypting.{ReleaseRefused}
+use Rattle.scrypt_run.specs.Inside.Encrypting.{WriteRefused}
 use Rattle.scrypt_run.specs.Passphrase.{HasPassphrase, first_line_at}
 use Rattle.scrypt_run.specs.Refusal.{follows_work}
 use Rattle.scrypt_run.specs.Request.{Encryption, Task, allowance_of}
@@ -50,7 +51,7 @@ started_works asked s t passphrase salt held sparse m n asks given used same cos
     (record { passphrase = passphrase; given = given; count = count })
 
 -- and so it is said of the host before the input was opened
-pub works_before : (asked : Encryption) (s t : Seen) (m n : ℕ) → t ≡ text_opened asked s → EncryptWorks asked t m n → EncryptWorks asked s m n
+pub works_before : (asked : Encryption) (s t : Seen) (m n : ℕ) → t ≡ after_open_input asked.task.infile s → EncryptWorks asked t m n → EncryptWorks asked s m n
 works_before asked s t m n opened works =
     derives_as _ _ _ _ _ _ m n (ap (first_line_at asked.task.source) opened ∙ first_line_at-reading asked.task.source asked.task.infile 0 s)
     (ap (salt_used asked.salt) opened ∙ salt_used-opening asked.salt asked.task.infile s) refl works
@@ -107,6 +108,6 @@ release_after r passphrase front outfile before after (inr (inr damaged)) = inl 
 pub write_after : (r : ScryptRefusal) (passphrase salt : List ℕ) (costs : Parameters) (outfile : Option Text) (before after : Seen)
     → WriteRefused r passphrase salt costs outfile before after → EndsAfterWork r after
 write_after r passphrase salt costs outfile before after (inl failed) = inl (ap follows_work failed.0)
-write_after r passphrase salt costs outfile before after (inr (inl cut)) = inl (ap follows_work cut.0)
-write_after r passphrase salt costs outfile before after (inr (inr (inl reading))) = opened_after r outfile after (same_output _ after reading.1.passes)
+write_after r passphrase salt costs outfile before after (inr (inl reading)) = opened_after r outfile after (same_output _ after reading.1.passes)
+write_after r passphrase salt costs outfile before after (inr (inr (inl writing))) = inl (ap follows_work writing.0)
 write_after r passphrase salt costs outfile before after (inr (inr (inr long))) = inl (ap follows_work long.0)

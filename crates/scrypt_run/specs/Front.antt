@@ -1,5 +1,5 @@
 -- The first 96 bytes of a file: how reading and checking them may end.
-use Rattle.std.specs.Prelude.{◌≡◌, ◌<◌, ◌≤◌, ◌⊎◌, ℕ, Option, Some, option_map, length, min}
+use Rattle.std.specs.Prelude.{◌≡◌, ◌<◌, ◌≤◌, ◌⊎◌, ℕ, Option, Some, option_map, length}
 use Rattle.encfile.specs.Front.{FrontRefusal}
 use Rattle.host.specs.Seen.{Seen, Text}
 use Rattle.scrypt_run.specs.Steps.{after_reading}
@@ -20,7 +20,7 @@ FrontNotRead infile before after = (after ≡ before) ⊎ FrontCutOff infile bef
 
 -- the input was opened, and its first 96 bytes were pulled, or all where there are fewer
 abbrev pub after_front : Option Text → Seen → Seen
-after_front infile s = after_reading infile (min 96 (length s.input)) s
+after_front infile s = after_reading infile 96 s
 
 -- the run ended at the first 96 bytes: the input failed, or they are refused by the first test that holds
 abbrev pub FrontRefused : ScryptRefusal → Option FrontRefusal → Option Text → Seen → Seen → Type 0

@@ -6,8 +6,7 @@ use Rattle.encfile.specs.Front.{format_refusal}
 use Rattle.encfile.specs.Header.{costs_of}
 use Rattle.host.specs.Output.{IsCutShort, after_writing}
 use Rattle.host.specs.Seen.{Seen, Text}
-use Rattle.scrypt_run.specs.Front.{FrontRefused}
-use Rattle.scrypt_run.specs.Steps.{after_reading}
+use Rattle.scrypt_run.specs.Front.{FrontRefused, after_front}
 use Rattle.scrypt_run.specs.declared.refusal.ScryptRefusal.{ScryptRefusal}
 use Rattle.scrypt_run.specs.declared.refusal.ScryptRefusal.TheVariants as refusal
 
@@ -21,10 +20,6 @@ costs_line c =
     ++ codes "; cores = " ++ decimal (cores c)
     ++ codes "\n"
 
--- the host after the first 96 bytes were pulled
-abbrev pub front_pulled : Option Text → Seen → Seen
-front_pulled infile before = after_reading infile 96 before
-
 -- the line of the input's costs
 abbrev pub line_due : Seen → Text
 line_due before = costs_line (costs_of before.input)
@@ -32,17 +27,14 @@ line_due before = costs_line (costs_of before.input)
 -- the run ends with status 0: standard output got the line
 pub record InspectSucceeds (infile : Option Text) (before after : Seen) : Type 0 where
   pub valid : format_refusal before.input ≡ None
-  pub written : after ≡ after_writing None (line_due before) (front_pulled infile before)
+  pub written : after ≡ after_writing None (line_due before) (after_front infile before)
 
--- the front is valid, and the run ended later: no memory for the line, or the output failed
-pub record EndsLine (r : ScryptRefusal) (infile : Option Text) (before after : Seen) : Type 0 where
-  pub valid : format_refusal before.input ≡ None
-  pub refused : ((r ≡ refusal.OutOfMemory) × (after ≡ front_pulled infile before))
-      ⊎ ((r ≡ refusal.OutputFault) × (after ≡ front_pulled infile before))
-      ⊎ ((r ≡ refusal.OutputFault) × IsCutShort None (line_due before) (front_pulled infile before) after)
-
--- the run ends with this refusal
+-- the run ends with this refusal, one row after another: of the first 96 bytes; no memory for the line; the output could
+-- not be opened; it failed. What stands before the `× (` holds for all rows after it: the first 96 bytes are valid
 abbrev pub InspectRefused : ScryptRefusal → Option Text → Seen → Seen → Type 0
 InspectRefused r infile before after =
     FrontRefused r (format_refusal before.input) infile before after
-    ⊎ EndsLine r infile before after
+    ⊎ ((format_refusal before.input ≡ None) × (
+    ((r ≡ refusal.OutOfMemory) × (after ≡ after_front infile before))
+    ⊎ ((r ≡ refusal.OutputFault) × (after ≡ after_front infile before))
+    ⊎ ((r ≡ refusal.OutputFault) × IsCutShort None (line_due before) (after_front infile before) after)))

@@ -1,10 +1,15 @@
 -- What a run does to a host, step by step.
 use Rattle.std.specs.Prelude.{ℕ, List, Option, take}
-use Rattle.host.specs.Seen.{Seen, Text, after_open_input, after_pull, after_push}
+use Rattle.host.specs.Seen.{Seen, Text, after_ask, after_open_input, after_pull, after_push}
+use Rattle.scrypt_run.specs.Request.{Task}
 
 -- the input was opened under this name, and its first n bytes were pulled
 abbrev pub after_reading : Option Text → ℕ → Seen → Seen
 after_reading infile n s = after_pull n (after_open_input infile s)
+
+-- and the passphrase's source was asked: by `enc` at once, by `dec` after 96 bytes
+abbrev pub passphrase_asked : Task → ℕ → Seen → Seen
+passphrase_asked task n s = after_ask task.source (after_reading task.infile n s)
 
 -- n bytes of the input were pulled, and what they give was written
 abbrev pub after_passing : (List ℕ → List ℕ) → ℕ → Seen → Seen

@@ -1,4 +1,5 @@
--- How the passing of a text through a cipher may end early. `gives` is what the bytes so far give in all.
+-- How the passing of a text through a cipher may end early. `gives` is what the bytes so far give in all, and `decides`
+-- what they decide, which with the last of them may be more.
 use Rattle.std.specs.Prelude.{◌≡◌, ◌+◌, ◌-◌, ◌<◌, ◌≤◌, ◌⊎◌, ℕ, List, length, take}
 use Rattle.host.specs.Seen.{Seen, after_pull, after_push}
 use Rattle.scrypt_run.specs.Steps.{after_passing}
@@ -12,16 +13,16 @@ pub record FailsReading (limit : ℕ) (gives : List ℕ → List ℕ) (before af
   pub within : pulled ≤ length before.input
   pub passes : after ≡ after_passing gives pulled before
 
--- fewer bytes than the limit were pulled, and a beginning of what they give was written, not the whole; at most `most`
--- bytes of it are missing
-pub record FailsWriting (limit most : ℕ) (gives : List ℕ → List ℕ) (before after : Seen) : Type 0 where
+-- fewer bytes than the limit were pulled, and a beginning of what they decide was written, not the whole; at most
+-- `most` bytes of it are missing
+pub record FailsWriting (limit most : ℕ) (decides : List ℕ → List ℕ) (before after : Seen) : Type 0 where
   pub pulled : ℕ
   pub below : pulled < limit
   pub within : pulled ≤ length before.input
   pub written : ℕ
-  pub begun : written < length (gives (take pulled before.input))
-  pub missing : length (gives (take pulled before.input)) ≤ written + most
-  pub passes : after ≡ after_push (take written (gives (take pulled before.input))) (after_pull pulled before)
+  pub begun : written < length (decides (take pulled before.input))
+  pub missing : length (decides (take pulled before.input)) ≤ written + most
+  pub passes : after ≡ after_push (take written (decides (take pulled before.input))) (after_pull pulled before)
 
 -- the input reaches the limit: its bytes before the last piece were handed on, and all that they give was written; of the
 -- last piece no more was pulled than one buffer of 4,096 bytes
@@ -35,9 +36,9 @@ pub record IsTooLong (limit : ℕ) (gives : List ℕ → List ℕ) (before after
   pub most : pulled ≤ handed_on + 4096
   pub passes : after ≡ after_push (gives (take handed_on before.input)) (after_pull pulled before)
 
--- the passing ended before the input's end
-abbrev pub EndsText : ScryptRefusal → ℕ → ℕ → (List ℕ → List ℕ) → Seen → Seen → Type 0
-EndsText r limit most gives before after =
+-- the passing ended before the end of what is due
+abbrev pub EndsText : ScryptRefusal → ℕ → ℕ → (List ℕ → List ℕ) → (List ℕ → List ℕ) → Seen → Seen → Type 0
+EndsText r limit most gives decides before after =
     ((r ≡ refusal.InputFault) × FailsReading limit gives before after)
-    ⊎ ((r ≡ refusal.OutputFault) × FailsWriting limit most gives before after)
+    ⊎ ((r ≡ refusal.OutputFault) × FailsWriting limit most decides before after)
     ⊎ ((r ≡ refusal.TooLong) × IsTooLong limit gives before after)

@@ -9,11 +9,12 @@ ghost use Rattle.encfile.specs.Header.{IsHeaderOf, costs_of};
 ghost use Rattle.host.specs.Faults.{AreBelow};
 ghost use Rattle.host.specs.Secret.{source_of};
 ghost use Rattle.host.specs.Seen.{IsFresh, after_ask};
-ghost use Rattle.scrypt_run.specs.Decrypting.{DecryptRefused, DecryptSucceeds, Decrypted, OpenRefused, ReleaseRefused, text_after};
+ghost use Rattle.scrypt_run.specs.Decrypting.{DecryptRefused, DecryptSucceeds, Decrypted, text_after};
 ghost use Rattle.scrypt_run.specs.Passphrase.{HasPassphrase, first_line_at};
 ghost use Rattle.scrypt_run.specs.Refusal.{counted_by, follows_work, may_follow_work};
 ghost use Rattle.scrypt_run.specs.Request.{HasAllowedLimits, allowance_of, task_seen, text_of};
 ghost use Rattle.scrypt_run.specs.Inside.Admission.{IsAdmitted};
+ghost use Rattle.scrypt_run.specs.Inside.Decrypting.{OpenRefused, ReleaseRefused};
 ghost use Rattle.scrypt_run.specs.Steps.{after_passing};
 ghost use Rattle.scrypt_run.specs.Text.{EndsText};
 ghost use Rattle.scrypt_run.specs.Work.{DecryptWorks, DerivesOnce, EndsAfterWork};
@@ -97,7 +98,7 @@ fn release<H: Host>(host: &mut H, dec: &mut Dec) -> Result<(), ScryptRefusal>
     ensures refused { IsTrue H.tells → IfErr result (λ r. (passphrase front : List ℕ)
         → HasRead dec.old passphrase front
         → EndsText r (2 ^ 60 + 32) 4128 (text_after passphrase front)
-        (H.seen host.old) (H.seen host.new)) }
+        (text_after passphrase front) (H.seen host.old) (H.seen host.new)) }
     ensures late { IfErr result (λ r. may_follow_work r ≡ true) }
 {
     let mut buf = [0u8; 4096];

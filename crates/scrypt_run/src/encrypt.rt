@@ -6,11 +6,12 @@ ghost use Rattle.encfile.specs.Encrypting.{HasEncrypted};
 ghost use Rattle.host.specs.Faults.{AreBelow};
 ghost use Rattle.host.specs.Secret.{source_of};
 ghost use Rattle.host.specs.Seen.{IsFresh, after_ask, after_open_input};
-ghost use Rattle.scrypt_run.specs.Encrypting.{EncryptRefused, EncryptSucceeds, IsEncrypted, StartRefused, TextNotOpened, WriteRefused, after_salting, costs_refusal_of, salt_used};
+ghost use Rattle.scrypt_run.specs.Encrypting.{EncryptRefused, EncryptSucceeds, IsEncrypted, after_salting, costs_refusal_of, salt_used};
 ghost use Rattle.scrypt_run.specs.Passphrase.{HasPassphrase, first_line_at};
 ghost use Rattle.scrypt_run.specs.Refusal.{counted_by, follows_work, may_follow_work};
 ghost use Rattle.scrypt_run.specs.Request.{HasAllowedLimits, encryption_seen, task_seen, text_of};
 ghost use Rattle.scrypt_run.specs.Inside.Admission.{IsAdmitted};
+ghost use Rattle.scrypt_run.specs.Inside.Encrypting.{StartRefused, TextNotOpened, WriteRefused};
 ghost use Rattle.scrypt_run.specs.Steps.{after_passing};
 ghost use Rattle.scrypt_run.specs.Text.{EndsText};
 ghost use Rattle.scrypt_run.specs.Work.{EncryptWorks, EndsAfterWork};
@@ -136,7 +137,7 @@ fn write_body<H: Host>(host: &mut H, enc: &mut Enc) -> Result<(), ScryptRefusal>
     ensures refused { IsTrue H.tells → (passphrase salt : List ℕ) (costs : Parameters)
         → HasEncrypted enc.old passphrase salt costs []
         → IfErr result (λ r. EndsText r (2 ^ 60) 4096 (body passphrase salt costs)
-        (H.seen host.old) (H.seen host.new)) }
+        (body passphrase salt costs) (H.seen host.old) (H.seen host.new)) }
     ensures late { IfErr result (λ r. may_follow_work r ≡ true) }
 {
     let Ok(()) = push_all(host, &enc.header()) else {

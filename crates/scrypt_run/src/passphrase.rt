@@ -71,9 +71,9 @@ pub(crate) fn read_passphrase<H: Host>(
     ensures early { IfErr result (λ r. follows_work r ≡ false) }
 {
     let mut room = [0u8; 2049];
-    let Ok(n) = host.secret(source, &mut room) else {
-        return Err(ScryptRefusal::PassphraseFault);
-    };
+    let n = host
+        .secret(source, &mut room)
+        .map_err(|_| ScryptRefusal::PassphraseFault)?;
     let len = line_length(&room[..n]);
     if len > 2048 {
         return Err(ScryptRefusal::LongPassphrase);

@@ -1,13 +1,14 @@
-use Rattle.std.proofs.Common.{rules, ◌≡◌, ◌∙◌, None, ap, subst, sym, inl, inr, take}
+use Rattle.std.proofs.Common.{rules, ◌≡◌, ◌∙◌, None, ap, subst, sym, inr, take}
 use Rattle.encfile.specs.Decrypting.{HasRead}
 use Rattle.encfile.specs.EncryptedFile.{HasRightHeaderCode}
 use Rattle.encfile.proofs.Fronts.{front_refusal-right}
 use Rattle.host.specs.Seen.{Seen, after_ask}
-use Rattle.scrypt_run.specs.Decrypting.{DecryptRefused, Decrypted, OpenRefused, ReleaseRefused}
+use Rattle.scrypt_run.specs.Decrypting.{DecryptRefused, Decrypted}
+use Rattle.scrypt_run.specs.Inside.Decrypting.{OpenRefused, ReleaseRefused}
 use Rattle.scrypt_run.specs.Passphrase.{HasPassphrase, first_line_at}
 use Rattle.scrypt_run.specs.Request.{allowance_of, task_seen}
 use Rattle.scrypt_run.specs.Work.{DecryptWorks, EndsAfterWork}
-use Rattle.scrypt_run.proofs.Decrypting.{length_read-first}
+use Rattle.scrypt_run.proofs.Decrypting.{length_read-first, opening_ends}
 use Rattle.scrypt_run.proofs.Ends.{always_err, always_ok, first_line_at-reading, handed_on, if_err, on_ok}
 use Rattle.scrypt_run.proofs.Working.{early_of, file_works, front_unopened, late_of, not_after, release_after}
 use Rattle.scrypt_run.proofs.decrypt.decrypt.Goals as goal
@@ -21,12 +22,11 @@ returns-in_err-dec-clause-refused g c = λ t.
     let r = c.in_err-dec.field-0.0 in
     let line : first_line_at task.source read ≡ first_line_at task.source s =
     ap (first_line_at task.source) (c.in_ok-front.ensures.reads t) ∙ first_line_at-reading task.source task.infile 96 s in
-    let ends : DecryptRefused r task s after = inr (inl (record {
-      checked = c.in_ok-front.ensures.checked t;
-      refused = subst (λ l. OpenRefused r l (take 96 s.input)) line
-          (subst (λ front. OpenRefused r (first_line_at task.source read) front) (c.in_ok-front.ensures.front t) (c.in_err-dec.ensures.refused t));
-      unopened = c.in_err-dec.ensures.asks t ∙ ap (after_ask task.source) (c.in_ok-front.ensures.reads t);
-    })) in
+    let ends : DecryptRefused r task s after =
+    opening_ends task s after r (c.in_ok-front.ensures.long t) (c.in_ok-front.ensures.checked t)
+    (c.in_err-dec.ensures.asks t ∙ ap (after_ask task.source) (c.in_ok-front.ensures.reads t))
+    (subst (λ l. OpenRefused r l (take 96 s.input)) line
+    (subst (λ front. OpenRefused r (first_line_at task.source read) front) (c.in_ok-front.ensures.front t) (c.in_err-dec.ensures.refused t))) in
     handed_on c.from_residual-in_err-dec.result c.from_residual-in_err-dec.ensures.1 (λ e same.
     subst (λ x. DecryptRefused x task s after) (sym same) ends)
 
@@ -64,14 +64,22 @@ returns-clause-refused g c = λ t.
     let passphrase = opened.0 in
     let before = c.in_ok-dec.ensures.asks t ∙ ap (after_ask task.source) (c.in_ok-front.ensures.reads t) in
     let line = ap (first_line_at task.source) (c.in_ok-front.ensures.reads t) ∙ first_line_at-reading task.source task.infile 96 s in
-    if_err c.finish.result (λ r ends. inr (inr (record {
-      passphrase = passphrase;
-      given = subst (λ l. HasPassphrase l passphrase) line opened.1;
-      passes = front_refusal-right s.input (allowance_of task) passphrase (c.in_ok-front.ensures.long t) (c.in_ok-front.ensures.checked t)
-          (subst (λ f. HasRightHeaderCode f passphrase) here opened.2);
-      refused = subst (λ w. ReleaseRefused r passphrase front task.outfile w (g.H.Host.seen c.finish.new.host)) before
-          (ends passphrase front (subst (λ f. HasRead c.in_ok-dec.dec passphrase f) here opened.3));
-    }))) (c.finish.ensures.refused t)
+    let given : HasPassphrase (first_line_at task.source s) passphrase = subst (λ l. HasPassphrase l passphrase) line opened.1 in
+    let passes =
+    front_refusal-right s.input (allowance_of task) passphrase (c.in_ok-front.ensures.long t) (c.in_ok-front.ensures.checked t)
+    (subst (λ f. HasRightHeaderCode f passphrase) here opened.2) in
+    if_err c.finish.result (λ r ends. inr (
+      c.in_ok-front.ensures.checked t,
+      inr (
+        passphrase,
+        given,
+        inr (inr (
+          passes,
+          subst (λ w. ReleaseRefused r passphrase front task.outfile w (g.H.Host.seen c.finish.new.host)) before
+              (ends passphrase front (subst (λ f. HasRead c.in_ok-dec.dec passphrase f) here opened.3)),
+        )),
+      ),
+    )) (c.finish.ensures.refused t)
 
 pub returns-clause-count : goal.returns-clause-count
 returns-clause-count g c = λ t.

@@ -2,7 +2,8 @@ use Rattle.std.proofs.Common.{◌≡◌, ◌+◌, ◌<◌, ◌++◌, ◌^◌, ap
 use Rattle.encfile.specs.Decrypting.{HasRead}
 use Rattle.encfile.specs.EncryptedFile.{IsEncryptionOf, released_text}
 use Rattle.host.specs.Seen.{Seen}
-use Rattle.scrypt_run.specs.Decrypting.{ReleaseRefused, text_after}
+use Rattle.scrypt_run.specs.Decrypting.{text_after}
+use Rattle.scrypt_run.specs.Inside.Decrypting.{ReleaseRefused}
 use Rattle.scrypt_run.specs.Request.{text_of}
 use Rattle.scrypt_run.specs.Steps.{after_passing}
 use Rattle.scrypt_run.specs.Text.{EndsText}
@@ -15,7 +16,7 @@ returns-in_err-release-clause-refused g c = λ t.
     let r = c.in_err-release.field-0.0 in
     let ends : (passphrase front : List ℕ) → HasRead c.args.dec passphrase front
     → ReleaseRefused r passphrase front (text_of c.args.outfile) before after = λ passphrase front h.
-    inr (inl (subst (λ s. EndsText r (2 ^ 60 + 32) 4128 (text_after passphrase front) s after) (c.in-Ok.ensures.opened t)
+    inr (inl (subst (λ s. EndsText r (2 ^ 60 + 32) 4128 (text_after passphrase front) (text_after passphrase front) s after) (c.in-Ok.ensures.opened t)
     (c.in_err-release.ensures.refused t passphrase front h))) in
     search (rules, ends)
 

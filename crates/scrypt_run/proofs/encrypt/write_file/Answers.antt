@@ -1,9 +1,10 @@
-use Rattle.std.proofs.Common.{rules, ◌^◌, subst, refl, inl, inr}
+use Rattle.std.proofs.Common.{rules, ◌^◌, length, subst, refl, inl, inr}
 use Rattle.encfile.specs.EncryptedFile.{body}
 use Rattle.host.specs.Seen.{after_open_output}
-use Rattle.scrypt_run.specs.Encrypting.{FileCutShort, WriteRefused}
+use Rattle.scrypt_run.specs.Encrypting.{decided}
+use Rattle.scrypt_run.specs.Inside.Encrypting.{WriteRefused}
 use Rattle.scrypt_run.specs.Request.{text_of}
-use Rattle.scrypt_run.specs.Text.{EndsText}
+use Rattle.scrypt_run.specs.Text.{EndsText, FailsWriting}
 use Rattle.scrypt_run.proofs.Encrypting.{code_cut, passing_ended}
 use Rattle.scrypt_run.proofs.encrypt.write_file.Goals as goal
 
@@ -13,8 +14,8 @@ returns-in_err-write_body-clause-refused g c = λ t passphrase salt costs h.
     let after = g.H.Host.seen c.write_body.new.host in
     let r = c.in_err-write_body.field-0.0 in
     let ends : WriteRefused r passphrase salt costs (text_of c.args.outfile) (g.H.Host.seen c.args.host.now) after =
-    inr (passing_ended r passphrase salt costs opened after h.salt_has_32_bytes
-    (subst (λ s. EndsText r (2 ^ 60) 4096 (body passphrase salt costs) s after) (c.in-Ok.ensures.opened t) (c.in_err-write_body.ensures.refused t passphrase salt costs h))) in
+    inr (passing_ended r passphrase salt costs _ opened after h.salt_has_32_bytes
+    (subst (λ s. EndsText r (2 ^ 60) 4096 (body passphrase salt costs) (body passphrase salt costs) s after) (c.in-Ok.ensures.opened t) (c.in_err-write_body.ensures.refused t passphrase salt costs h))) in
     search (rules, ends)
 
 pub returns-in_default-push_all-clause-refused : goal.returns-in_default-push_all-clause-refused
@@ -24,9 +25,9 @@ returns-in_default-push_all-clause-refused g c = λ t passphrase salt costs h.
     let after = g.H.Host.seen c.push_all.new.host in
     let cut = c.in_default-push_all.ensures.begun t in
     let whole = c.in_ok-write_body.ensures.encrypted t passphrase salt costs h in
-    inr (inl (
+    inr (inr (inl (
       refl,
-      subst (λ s. FileCutShort passphrase salt costs s after) (c.in-Ok.ensures.opened t)
+      subst (λ s. FailsWriting (2 ^ 60) 4128 (decided passphrase salt costs (length s.input)) s after) (c.in-Ok.ensures.opened t)
           (code_cut passphrase salt costs cut.0 c.finish.result opened text after h.salt_has_32_bytes whole.below_limit (c.finish.ensures.code passphrase salt costs opened.input whole)
           (c.in_ok-write_body.ensures.written t passphrase salt costs h) cut.1 cut.2),
-    ))
+    )))

@@ -23,6 +23,6 @@ returns-in_err-sparse-clause-refused g c = λ t.
     let allowed = allowance_of (task_seen c.args.task.now) in
     let refused =
     refused_front c.in_err-sparse.field-0.0 (limits_refusal s.input allowed) (limits_refusal front allowed) (text_of c.args.task.now.infile) s
-    (g.H.Host.seen c.open_front.new.host) (c.in_ok-front.ensures.long t) (c.in_ok-front.ensures.reads t)
+    (g.H.Host.seen c.open_front.new.host) (c.in_ok-front.ensures.reads t)
     (limits_front front s.input allowed (c.in_ok-front.ensures.long t) (c.in_ok-front.ensures.front t)) c.in_err-sparse.ensures.refused in
     search (rules, refused)

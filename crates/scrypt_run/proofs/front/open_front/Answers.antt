@@ -22,6 +22,6 @@ returns-in_err-header-clause-refused g c = λ t.
     let front = c.in_ok-front.front in
     let refused =
     refused_front c.in_err-header.field-0.0 (format_refusal s.input) (format_refusal front) (text_of c.args.infile) s (g.H.Host.seen c.read_front.new.host)
-    (c.in_ok-front.ensures.long t) (c.in_ok-front.ensures.reads t) (format_front front s.input (c.in_ok-front.ensures.long t) (c.in_ok-front.ensures.front t))
+    (c.in_ok-front.ensures.reads t) (format_front front s.input (c.in_ok-front.ensures.long t) (c.in_ok-front.ensures.front t))
     c.in_err-header.ensures.refused in
     search (rules, refused)

@@ -9,4 +9,4 @@ returns-in-Ok-pull_front-clause-refused g c = λ t.
     let told = c.in-Ok-pull_front.ensures in
     let few : c.in-Ok-pull_front.field-0 < 96 = grind (arith, nat_tests, told.bound, c.in-Ok-pull_front.field-0-test, c.in-Ok-pull_front.field-0-is) in
     short_input (text_of c.args.infile) c.in-Ok-pull_front.field-0 (g.H.Host.seen c.args.host.now) (g.H.Host.seen c.open_input.new.self)
-    (g.H.Host.seen c.pull_front.new.host) (c.in-Ok.ensures.opened t) few (told.within t) (told.whole t few) (told.taken t)
+    (g.H.Host.seen c.pull_front.new.host) (c.in-Ok.ensures.opened t) few (told.whole t few) (told.taken t)

@@ -1,0 +1,25 @@
+-- What the steps of `dec` after the first 96 bytes may come to: to each its rows of `DecryptRefused`. `front` are these
+-- bytes, and the input of `before` are the bytes after them.
+use Rattle.std.specs.Prelude.{◌≡◌, ◌+◌, ◌^◌, ◌⊎◌, ℕ, List, Option}
+use Rattle.encfile.specs.EncryptedFile.{HasRightHeaderCode}
+use Rattle.host.specs.Seen.{Seen, Text, after_open_output}
+use Rattle.scrypt_run.specs.Decrypting.{IsDamaged, text_after}
+use Rattle.scrypt_run.specs.Passphrase.{HasPassphrase, PassphraseRefused}
+use Rattle.scrypt_run.specs.Text.{EndsText}
+use Rattle.scrypt_run.specs.declared.refusal.ScryptRefusal.{ScryptRefusal}
+use Rattle.scrypt_run.specs.declared.refusal.ScryptRefusal.TheVariants as refusal
+
+-- no passphrase, no memory, or a wrong passphrase; `line` is the first line of the passphrase's source
+abbrev pub OpenRefused : ScryptRefusal → Option (List ℕ) → List ℕ → Type 0
+OpenRefused r line front =
+    PassphraseRefused r line
+    ⊎ ((r ≡ refusal.OutOfMemory) × (passphrase : List ℕ) × HasPassphrase line passphrase)
+    ⊎ ((r ≡ refusal.WrongPassphrase) × (passphrase : List ℕ) × HasPassphrase line passphrase
+    × (HasRightHeaderCode front passphrase → ⊥))
+
+-- the output could not be opened, the text's passing ended early, or all was released and is damaged
+abbrev pub ReleaseRefused : ScryptRefusal → List ℕ → List ℕ → Option Text → Seen → Seen → Type 0
+ReleaseRefused r passphrase front outfile before after =
+    ((r ≡ refusal.OutputFault) × (after ≡ before))
+    ⊎ EndsText r (2 ^ 60 + 32) 4128 (text_after passphrase front) (text_after passphrase front) (after_open_output outfile before) after
+    ⊎ ((r ≡ refusal.Damaged) × IsDamaged passphrase front outfile before after)
