@@ -7,4 +7,5 @@ pub mod RequestView
 pub mod Refusal
 pub mod Output
 pub mod Run
+pub mod Laws
 pub mod Inside

@@ -6,6 +6,8 @@
 #![tactic(auto)]
 
 mod items;
+#[cfg(test)]
+mod laws;
 mod line;
 mod output;
 mod password;
