@@ -56,7 +56,7 @@ install: | bin/argon2 bin/scrypt ## puts what was built, with pages, completions
 uninstall: ## takes away what make install put below PREFIX
 	@packaging/install.sh uninstall '$(DESTDIR)$(PREFIX)'
 
-deb: bin/x86-64-v2/argon2 bin/x86-64-v2/scrypt ## makes a package for Debian in bin/, with programs for x86-64-v2
+deb: bin/x86-64-v2/argon2 bin/x86-64-v2/scrypt bin/lib/libpikhsen.so.0 ## makes packages for Debian in bin/, for x86-64-v2
 	@packaging/deb.sh
 
 bench: $(LEVELS:%=bin/%/argon2) $(LEVELS:%=bin/%/scrypt) ## times the programs beside those that are installed

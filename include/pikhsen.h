@@ -15,9 +15,10 @@
  *  - Memory is taken by malloc and realloc alone, and all of it is freed, by free, before the function returns; the
  *    three must be of one allocator. A call needs a stack of 64 KiB. It writes no file, reads no clock, starts no
  *    thread, sets no errno but by a malloc that refuses, and never ends the process.
- *  - Before a function that derives or hashes answers, it puts zeros over 32 KiB of the stack below its own frame, where
- *    its work stood; this is tested, and not proved. What it frees is not wiped. Registers may hold a piece of a key,
- *    which a later call of a function whose name is not bound yet may store: link with -z now.
+ *  - Before a function that derives or hashes answers, it puts zeros over 32 KiB of the stack below its own frame,
+ *    where its work stood, and over the memory of the hash or the derivation before it is freed; this is tested, and
+ *    not proved. Salt, tag and text of a hash are freed as they are. Registers may hold a piece of a key, which a later
+ *    call of a function whose name is not bound yet may store: link with -z now.
  *  - Not to be called from a signal handler, nor in the forked child of a process with threads.
  */
 #ifndef PIKHSEN_H
@@ -89,6 +90,7 @@ unsigned int pikhsen_version(void);
  * The blocks B are memory_kib, rounded down to a multiple of 4 * lanes. The block functions are passes * B - 2 * lanes,
  * and two more for every 128 blocks, or part of them, of each segment (B / (4 * lanes) blocks) whose accesses do not
  * depend on the password: there are 4 * lanes * passes of these for Argon2i, 2 * lanes for Argon2id, none for Argon2d.
+ * So 2 * passes * memory_kib block functions are always enough, multiplied as pikhsen_u64.
  */
 PIKHSEN_MUST_CHECK
 unsigned int pikhsen_argon2_hash(unsigned int kind, unsigned int version, unsigned int passes, unsigned int memory_kib,

@@ -1,35 +1,129 @@
 #!/bin/sh
-# Makes bin/pikhsen_VERSION_amd64.deb from bin/x86-64-v2: both programs, their pages, completions and documents.
+# Makes Debian's packages, with the programs in bin/x86-64-v2.
+#
+#     packaging/deb.sh                     with the library in bin/lib, in bin/
+#     packaging/deb.sh LIBRARY FOLDER      with the library in LIBRARY, in FOLDER
+#
+#     pikhsen            the programs, their pages, completions and documents
+#     libpikhsen0        the shared library
+#     libpikhsen-dev     what programs in C are built with: the header, both ways to link, pikhsen.pc, the page
+#     python3-pikhsen    the module for Python
+#
+# They are the same bytes each time, with the time of the last commit (without git: of now), or SOURCE_DATE_EPOCH where
+# it is set. Programs and library are not stripped: they are the bytes that the tests run.
 set -eu
+umask 022
 cd "$(dirname "$0")/.."
-version=$(cat VERSION)
-root=$(mktemp -d)
-trap 'rm -rf "$root"' EXIT
-chmod 755 "$root"
+library=${1:-bin/lib} out=${2:-bin} version=$(cat VERSION)
+maintainer='The authors of Pikhsen <pikhsen@localhost>'
 export SOURCE_DATE_EPOCH="${SOURCE_DATE_EPOCH:-$(git log -1 --format=%ct 2>/dev/null || date +%s)}"
+work=$(mktemp -d)
+trap 'rm -rf "$work"' EXIT
+libraries=lib/x86_64-linux-gnu
+modules=lib/python3/dist-packages
 
-ZSH=share/zsh/vendor-completions packaging/install.sh install "$root/usr" bin/x86-64-v2
-gzip -9n "$root"/usr/share/man/man1/*.1
-mkdir "$root/DEBIAN"
-# the newest version of the C library that a program asks for
-libc=$(objdump -T "$root"/usr/bin/* | grep -o 'GLIBC_[0-9.]*' | sort -Vu | tail -n 1 | cut -d_ -f2)
-cat >"$root/DEBIAN/control" <<END
-Package: pikhsen
-Version: $version
-Architecture: amd64
-Maintainer: The authors of Pikhsen <pikhsen@localhost>
-Installed-Size: $(du -sk --apparent-size "$root/usr" | cut -f1)
-Depends: libc6 (>= $libc)
-Conflicts: argon2, scrypt
+PREFIX=/usr PIKHSEN_LIB=$libraries PIKHSEN_PYTHON=$modules PIKHSEN_ZSH=share/zsh/vendor-completions \
+    packaging/install.sh install "$work/usr" bin/x86-64-v2 "$library"
+gzip -9n "$work"/usr/share/man/man*/*
+
+# contents PACKAGE FILE..: these files, or folders, are the package's.
+contents() {
+    package=$1 && shift
+    mkdir -p "$work/$package/DEBIAN"
+    for file in "$@"; do
+        folder=$work/$package/usr/$(dirname "$file")
+        mkdir -p "$folder"
+        mv "$work/usr/$file" "$folder"
+    done
+}
+
+# The package on the newest version of the C library that these files of it ask for.
+libc() {
+    echo "libc6 (>= $(objdump -T "$@" | grep -o 'GLIBC_[0-9.]*' | sort -Vu | tail -n 1 | cut -d_ -f2))"
+}
+
+# What a folder takes, in KiB, as Debian counts it: each file rounded up, and 1 for all else. Every file system says so.
+size() {
+    find "$1" \( -type f -printf '%s\n' \) -o -printf '1\n' | awk '{ kib += int(($1 + 1023) / 1024) } END { print kib }'
+}
+
+# build PACKAGE ARCHITECTURE: makes the package. What is its own in `control` comes from standard input.
+build() {
+    root=$work/$1
+    documents=$root/usr/share/doc/$1
+    install -D -m 644 -t "$documents" CHANGELOG.md
+    {
+        printf 'pikhsen (%s) unstable; urgency=medium\n\n' "$version"
+        printf '  * CHANGELOG.md says what changed.\n\n'
+        printf ' -- %s  %s\n' "$maintainer" "$(LC_ALL=C date -Rud "@$SOURCE_DATE_EPOCH")"
+    } | gzip -9n >"$documents/changelog.gz"
+    {
+        printf 'Package: %s\nSource: pikhsen\nVersion: %s\nArchitecture: %s\n' "$1" "$version" "$2"
+        printf 'Maintainer: %s\nPriority: optional\n' "$maintainer"
+        printf 'Installed-Size: %s\n' "$(size "$root/usr")"
+        cat
+    } >"$root/DEBIAN/control"
+    (cd "$root" && find usr -type f | LC_ALL=C sort | xargs md5sum) >"$root/DEBIAN/md5sums"
+    dpkg-deb -Zxz --root-owner-group --build "$root" "$out/$1_${version}_$2.deb"
+}
+
+contents pikhsen bin share/doc share/man/man1 share/bash-completion share/zsh
+contents libpikhsen0 "$libraries/libpikhsen.so.0"
+contents libpikhsen-dev include "$libraries" share/man/man3
+contents python3-pikhsen "$modules"
+
+build pikhsen amd64 <<END
 Section: utils
-Priority: optional
+Depends: $(libc "$work"/pikhsen/usr/bin/*)
+Conflicts: argon2, scrypt
+Replaces: argon2, scrypt
 Description: scrypt and argon2, proved in Rattle
  scrypt keeps files under a passphrase, in the format of Tarsnap's scrypt;
- argon2 hashes passwords (RFC 9106). Both are proved to do what the standards
- define.
+ argon2 hashes passwords (RFC 9106). Their code is proved to compute what the
+ standards define; that the system does its part is tested.
  .
  The programs have the names of those in Debian's packages scrypt and argon2,
  so that this package conflicts with both. It is built for processors of the
  level x86-64-v2 and above.
 END
-dpkg-deb --root-owner-group --build "$root" "bin/pikhsen_${version}_amd64.deb"
+
+echo 'activate-noawait ldconfig' >"$work/libpikhsen0/DEBIAN/triggers"
+echo "libpikhsen 0 libpikhsen0 (>= $version)" >"$work/libpikhsen0/DEBIAN/shlibs"
+build libpikhsen0 amd64 <<END
+Section: libs
+Multi-Arch: same
+Depends: $(libc "$work/libpikhsen0/usr/$libraries/libpikhsen.so.0")
+Description: Argon2, scrypt and scrypt's encrypted files, proved in Rattle
+ The shared library: hashes of passwords (RFC 9106), keys (RFC 7914), and files
+ in the format of Tarsnap's scrypt. Its functions are proved to compute what the
+ standards define. It is built for processors of the level x86-64-v2 and above.
+END
+
+build libpikhsen-dev amd64 <<END
+Section: libdevel
+Multi-Arch: same
+Depends: libpikhsen0 (= $version)
+Description: Argon2, scrypt and scrypt's encrypted files (development files)
+ What programs in C are built with that call libpikhsen: header, static library,
+ the flags for pkg-config, and the manual page, pikhsen(3).
+END
+
+# What Debian's own packages do, so that no compiled module is left behind.
+cat >"$work/python3-pikhsen/DEBIAN/postinst" <<'END'
+#!/bin/sh
+set -e
+! command -v py3compile >/dev/null || py3compile -p python3-pikhsen
+END
+cat >"$work/python3-pikhsen/DEBIAN/prerm" <<'END'
+#!/bin/sh
+set -e
+! command -v py3clean >/dev/null || py3clean -p python3-pikhsen
+END
+chmod 755 "$work/python3-pikhsen/DEBIAN/postinst" "$work/python3-pikhsen/DEBIAN/prerm"
+build python3-pikhsen all <<END
+Section: python
+Depends: python3:any (>= 3.9), libpikhsen0 (>= $version)
+Description: Argon2, scrypt and scrypt's encrypted files, from Python
+ The module pikhsen, which calls libpikhsen: hashes of passwords, the test of a
+ password, keys, and encrypted files in the format of Tarsnap's scrypt.
+END

@@ -2,15 +2,24 @@
 # Puts the programs, their manual pages, completions and documents below a folder, or takes them away from there.
 #
 #     packaging/install.sh install FOLDER PROGRAMS      FOLDER as /usr/local, from the folder with argon2 and scrypt
-#     packaging/install.sh install FOLDER PROGRAMS LIBRARY      also the library for C, from the folder with libpikhsen.a
+#     packaging/install.sh install FOLDER PROGRAMS LIBRARY      also the library for C, from that with libpikhsen.a
 #     packaging/install.sh uninstall FOLDER
 #
-# PREFIX is what pikhsen.pc says of where it lies; FOLDER where it is not set.
-# ZSH is where completions of zsh go, below FOLDER; share/zsh/site-functions where it is not set.
+# PREFIX is what pikhsen.pc says of where it lies; FOLDER where it is not set. Below FOLDER, where these are not set:
+# PIKHSEN_ZSH is where completions of zsh go, share/zsh/site-functions; PIKHSEN_LIB where the library goes, lib;
+# PIKHSEN_PYTHON where its module for Python goes, share/pikhsen.
 set -eu
+umask 022
 cd "$(dirname "$0")/.."
 what=$1 below=$2 programs=${3:-bin} library=${4:-}
-zsh=${ZSH:-share/zsh/site-functions}
+zsh=${PIKHSEN_ZSH:-share/zsh/site-functions} lib=${PIKHSEN_LIB:-lib} python=${PIKHSEN_PYTHON:-share/pikhsen}
+case $what in
+install | uninstall) ;;
+*)
+    echo "packaging/install.sh: install or uninstall, not $what" >&2
+    exit 2
+    ;;
+esac
 
 # A file, with its permissions, into a folder; or away from there.
 place() {
@@ -29,18 +38,18 @@ for name in argon2 scrypt; do
 done
 # The library for C. The linker's name for it is a link, which is made here alone: the gate refuses links at the top.
 if test "$what" = uninstall || test -n "$library"; then
-    place 644 "$library/libpikhsen.a" lib
-    place 644 "$library/libpikhsen.so.0" lib
+    place 644 "$library/libpikhsen.a" "$lib"
+    place 644 "$library/libpikhsen.so.0" "$lib"
     place 644 include/pikhsen.h include
     place 644 man/pikhsen.3 share/man/man3
-    place 644 python/pikhsen.py share/pikhsen
-    rm -f "$below/lib/libpikhsen.so" "$below/lib/pkgconfig/pikhsen.pc"
+    place 644 python/pikhsen.py "$python"
+    rm -f "$below/$lib/libpikhsen.so" "$below/$lib/pkgconfig/pikhsen.pc" "$below/$python"/__pycache__/pikhsen.*.pyc
     if test "$what" = install; then
-        ln -s libpikhsen.so.0 "$below/lib/libpikhsen.so"
-        mkdir -p "$below/lib/pkgconfig"
-        sed "s|@PREFIX@|${PREFIX:-$below}|; s|@VERSION@|$(cat VERSION)|" packaging/pikhsen.pc.in \
-            >"$below/lib/pkgconfig/pikhsen.pc"
-        chmod 644 "$below/lib/pkgconfig/pikhsen.pc"
+        ln -s libpikhsen.so.0 "$below/$lib/libpikhsen.so"
+        mkdir -p "$below/$lib/pkgconfig"
+        sed "s|@PREFIX@|${PREFIX:-$below}|; s|@LIB@|$lib|; s|@VERSION@|$(cat VERSION)|" packaging/pikhsen.pc.in \
+            >"$below/$lib/pkgconfig/pikhsen.pc"
+        chmod 644 "$below/$lib/pkgconfig/pikhsen.pc"
     fi
 fi
 for file in README.md CHANGELOG.md; do
@@ -49,4 +58,6 @@ done
 for file in docs/*.md docs/*.svg docs/*.tsv; do
     place 644 "$file" share/doc/pikhsen/docs
 done
-test "$what" = install || rmdir -p --ignore-fail-on-non-empty "$below/share/doc/pikhsen/docs" 2>/dev/null || true
+test "$what" = uninstall || exit 0
+rmdir "$below/$python/__pycache__" "$below/$python" "$below/$lib/pkgconfig" 2>/dev/null || true
+rmdir -p --ignore-fail-on-non-empty "$below/share/doc/pikhsen/docs" 2>/dev/null || true

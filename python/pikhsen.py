@@ -220,7 +220,7 @@ def _loaded() -> ctypes.CDLL:
             function = getattr(library, name)
             function.argtypes, function.restype = parameters, c_uint
     except (AttributeError, OSError) as why:
-        raise ImportError(f"libpikhsen can't be loaded: {why}") from None
+        raise ImportError(f"libpikhsen can't be loaded (PIKHSEN_LIBRARY may name its file): {why}") from None
     number = library.pikhsen_version()
     if number // 10000 != _MAJOR:
         raise ImportError(f"libpikhsen has the version {_dotted(number)}, and this module is for {_MAJOR}.x")
@@ -342,7 +342,7 @@ def encode(
 def verify(
     text: Union[str, BytesLike], password: BytesLike, *, max_kib: int = 1 << 20, max_ops: int = 1 << 23
 ) -> bool:
-    """Whether the password is that of an encoded text, a str or bytes.
+    """Whether the password is that of an encoded text, a str or bytes, with nothing after it, no line end either.
 
     The text may come from a stranger and ask for 4 TiB and days, so LimitExceeded is raised, before memory for the hash
     is taken, where it needs more than `max_kib` KiB (1 GiB if not given) or `max_ops` block functions, about passes *
@@ -370,7 +370,7 @@ def scrypt(
 
     Raises LimitExceeded, before memory is taken, where the table, 128 * r * N / S bytes, or 128 * r * p bytes are more
     than `max_bytes` (4 GiB if not given), or 2 * r * p * N * (1 + S) cores of Salsa20/8 more than `max_ops`. Two rows
-    of 128 * r bytes, or three with S above 1, come beside the table.
+    of 128 * r bytes, or three with S above 1, come beside the table. Raises Invalid where an argument is out of range.
     """
     length = operator.index(length)
     if not 0 <= length <= 32 * _TOP:

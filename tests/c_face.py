@@ -1,7 +1,8 @@
 #!/usr/bin/env python3
 """Builds libpikhsen over what the gate proved, and calls it from C and from Python: header and exports are the same,
 both ways to link, RFC vectors, hashlib, each byte of a file changed, each cut, threads, processes, keys that a call
-leaves in memory, libraries that the module must refuse, and README's two programs.
+leaves in memory, libraries that the module must refuse, what README and the manual page show, and Debian's
+packages.
 
     tests/c_face.py              rt lib proves and builds crates/pikhsen_c, over what earlier proofs left
     tests/c_face.py --built      takes the static library as make lib or an earlier run left it
@@ -115,7 +116,7 @@ def numbers_of_module():
 
 
 def numbers_of_page():
-    found = re.findall(r"^(\d+)\tPIKHSEN_(\w+)\t(.*)", PAGE.replace("\\-", "-"), re.MULTILINE)
+    found = re.findall(r"^(\d+)\tPIKHSEN_(\w+)\tT\{\n(.*)\nT\}", PAGE.replace("\\-", "-"), re.MULTILINE)
     return {name: (int(number), says) for number, name, says in found}
 
 
@@ -281,27 +282,71 @@ def kept_pieces(process, pieces):
     return sorted(found)
 
 
+def pieces_of(name, content):
+    """The first sixteen of each 64 bytes, but for the beginning and the end, where the heap writes once it is freed."""
+    return {f"{name}, bytes {at} to {at + 15}": content[at:at + 16] for at in range(64, len(content) - 64, 64)}
+
+
+def first_rows():
+    """The first row of scrypt's table (RFC 7914, section 6, step 1): in its own order, and as it stands in the table,
+    where the sixteen words of each 64 bytes stand along their diagonals."""
+    row = hashlib.pbkdf2_hmac("sha256", b"pw", b"\7" * 32, 1, 1024)
+    places = [(4 * diagonal + 5 * step) % 16 for diagonal in range(4) for step in range(4)]
+    turned = b"".join(row[at + 4 * word:at + 4 * word + 4] for at in range(0, 1024, 64) for word in places)
+    return {**pieces_of("row", row), **pieces_of("row of the table", turned)}
+
+
+def first_blocks(kib, lanes, length):
+    """The first two blocks of each lane of Argon2id (RFC 9106, section 3.2, steps 1, 3 and 4), in one pass."""
+    numbers = b"".join(it.to_bytes(4, "little") for it in (lanes, length, kib, 1, 0x13, 2))
+    texts = b"".join(len(it).to_bytes(4, "little") + it for it in (b"pw", b"\7" * 32, b"", b""))
+    first_hash = hashlib.blake2b(numbers + texts).digest()
+    pieces = {}
+    for lane in range(lanes):
+        for column in (0, 1):
+            # H' of 1,024 bytes (section 3.3)
+            given = first_hash + column.to_bytes(4, "little") + lane.to_bytes(4, "little")
+            hashes = [hashlib.blake2b((1024).to_bytes(4, "little") + given).digest()]
+            while len(hashes) < 31:
+                hashes.append(hashlib.blake2b(hashes[-1]).digest())
+            block = b"".join(it[:32] for it in hashes[:-1]) + hashes[-1]
+            pieces.update(pieces_of(f"block {column} of lane {lane}, tag of {length} bytes", block))
+    return pieces
+
+
 def secrets_from_c(checks, folder, lib, pikhsen):
     """After a call no key is in writable memory, on the stack or elsewhere: none of the four pieces of the 64 derived
-    bytes."""
-    salt, costs = b"\7" * 32, {"log_n": 10, "r": 8, "p": 1}
-    keys = hashlib.scrypt(b"pw", salt=salt, n=1024, r=8, p=1, dklen=64, maxmem=1 << 26)
-    pieces = {f"bytes {at} to {at + 15}": keys[at:at + 16] for at in range(0, 64, 16)}
+    bytes, nor what they are made of. And the memory that a call frees holds zeros alone."""
+    salt, costs = b"\7" * 32, {"log_n": 6, "r": 8, "p": 1}
+    keys = hashlib.scrypt(b"pw", salt=salt, n=64, r=8, p=1, dklen=64)
+    of_key = {f"bytes {at} to {at + 15}": keys[at:at + 16] for at in range(0, 64, 16)}
+    pieces = {**of_key, **first_rows(), **first_blocks(64, 2, 64), **first_blocks(64, 2, 32)}
     file = pikhsen.encrypt(bytes(1000), b"pw", salt=salt, **costs)
     program = f"{folder}/secrets"
     # -z now: to bind a name at its first call would store vector registers, and a piece of a key may be in these
-    made = compile_c(TOP / "tests/secrets.c", lib, program, True, *STRICT, "-Wl,-z,now")
+    flags = ["-Wl,-z,now", "-Wl,--wrap=malloc,--wrap=realloc,--wrap=free"]
+    made = compile_c(TOP / "tests/secrets.c", lib, program, True, *STRICT, *flags)
     checks.that("secrets.c, compiled", made, (0, ""))
-    for words in ([], ["keys"], ["painted"], ["painted", "kept"], ["key", "kept"]):
+    for words in ([], ["keys"], ["painted"], ["painted", "kept"], ["freed", "kept"], ["key", "kept"]):
         found = subprocess.run([program, *words], stdin=subprocess.DEVNULL, stdout=subprocess.DEVNULL).returncode
         checks.that(f"secrets.c, other words: {words}", found, 2)
-    for what in ("hash", "encoded", "verify", "key", "encrypt", "decrypt"):
+    # a matrix of 64 KiB; a table of 64 rows, or 16, of 1,024 bytes, and two rows, or three; and such of 8 MiB
+    told_wrong = numbers_of_header()["WRONG_PASSPHRASE"][0]
+    for what, told, freed in (
+        ("hash", 0, 65536), ("encoded", 0, 65536), ("verify", 0, 65536), ("key", 0, 67584), ("sparse", 0, 19456),
+        ("encrypt", 0, 67584), ("decrypt", 0, 67584), ("wrong", told_wrong, 67584),
+        ("large-hash", 0, 8388608), ("large-key", 0, 8390656),
+    ):
         found = said(program, "painted", what, check=False)
-        checks.that(f"stack after: {what}", found, "told 0, not wiped 0, touched deeper 0\n")
+        checks.that(f"stack after: {what}", found, f"told {told}, not wiped 0, touched deeper 0\n")
+        found = said(program, "freed", what, check=False)
+        checks.that(f"freed by: {what}", found, f"told {told}, freed {freed}, not zero 0\n")
+    found = said(program, "freed", "seven", check=False)
+    checks.that("freed, and not wiped before", found, "told 0, freed 1024, not zero 1024\n")
     # the first two show that the search finds what is there, on the stack too
     for what, given, expected in (
-        ("kept", b"", sorted(pieces)), ("stack", b"", sorted(pieces)), ("key", b"", []), ("encrypt", b"", []),
-        ("decrypt", file, []),
+        ("kept", b"", sorted(of_key)), ("stack", b"", sorted(of_key)), ("hash", b"", []), ("encoded", b"", []),
+        ("verify", b"", []), ("key", b"", []), ("sparse", b"", []), ("encrypt", b"", []), ("decrypt", file, []),
     ):
         with subprocess.Popen([program, what], stdin=subprocess.PIPE, stdout=subprocess.PIPE) as process:
             process.stdin.write(given)
@@ -613,7 +658,7 @@ def libraries_of_python(checks, folder, lib):
         checks.that(name, ran.stdout, expected)
 
 
-# ---- what README shows
+# ---- what README and the manual page show
 
 
 def shown(language):
@@ -623,10 +668,10 @@ def shown(language):
     return found and (found[1], re.sub(r"^    ", "", found[2], flags=re.MULTILINE).splitlines())
 
 
-def readme_runs(checks, folder, lib):
+def readme_runs(checks, folder, lib, include=TOP / "include", module=TOP / "python"):
     """Types README's programs in C and in Python, as they stand there, where compiler and Python find the library."""
-    environment = {**os.environ, "LD_LIBRARY_PATH": lib, "LIBRARY_PATH": lib, "C_INCLUDE_PATH": str(TOP / "include")}
-    environment.update(PYTHONPATH=str(TOP / "python"), PYTHONDONTWRITEBYTECODE="1")
+    environment = {**os.environ, "LD_LIBRARY_PATH": str(lib), "LIBRARY_PATH": str(lib), "C_INCLUDE_PATH": str(include)}
+    environment.update(PYTHONPATH=str(module), PYTHONDONTWRITEBYTECODE="1", PIKHSEN_LIBRARY="")
     for language, file in (("c", "login.c"), ("python", "login.py")):
         program, lines = shown(language) or ("", ["$ false"])
         pathlib.Path(folder, file).write_text(program, encoding="utf-8")
@@ -637,6 +682,63 @@ def readme_runs(checks, folder, lib):
             stderr=subprocess.STDOUT, text=True
         )
         checks.that(f"README's {file}", (ran.returncode, ran.stdout), (0, printed))
+
+
+EXAMPLE = """#include <pikhsen.h>
+#include <stdio.h>
+#include <sys/random.h>
+int main(void)
+{
+    const unsigned char password[] = "correct horse";
+    size_t password_len = 13;
+    TEXT
+    return 0;
+}
+"""
+
+
+def page_runs(checks, folder, lib):
+    """Compiles and runs what the manual page shows."""
+    shown_there = PAGE.split("\n.SH EXAMPLES\n")[1].split("\n.nf\n")[1].split("\n.fi\n")[0]
+    source = pathlib.Path(folder, "example.c")
+    source.write_text(EXAMPLE.replace("TEXT", shown_there.replace("\n", "\n    ")), encoding="utf-8")
+    made = compile_c(source, lib, f"{folder}/example", True, "-Wall", "-Wextra", "-Werror")
+    checks.that("the manual page's example, compiled", made, (0, ""))
+    checks.that("the manual page's example", said("sh", "-c", f"{folder}/example", check=False), "welcome\n")
+
+
+# ---- Debian's packages
+
+
+def packages(checks, folder, lib):
+    """Debian's packages are the same bytes each time and have each file once; README's programs run with what is in
+    them."""
+    if not shutil.which("dpkg-deb") or not (TOP / "bin/x86-64-v2/scrypt").exists():
+        print("dpkg-deb is not installed, or the programs are not built: packages are not made")
+        return
+    made = []
+    for out in (f"{folder}/packages", f"{folder}/same"):
+        os.mkdir(out)
+        subprocess.run([TOP / "packaging/deb.sh", lib, out], stdout=subprocess.DEVNULL, check=True)
+        made.append({file.name: file.read_bytes() for file in sorted(pathlib.Path(out).iterdir())})
+    checks.that("packages, made twice", made[0] == made[1], True)
+    root, below = f"{folder}/root", []
+    for name in made[0]:
+        for what in ("-x", "-e"):
+            subprocess.run(["dpkg-deb", what, f"{folder}/packages/{name}", root + ("" if what == "-x" else "/DEBIAN")],
+                           check=True)
+        sums = pathlib.Path(root, "DEBIAN/md5sums").read_text(encoding="utf-8").splitlines()
+        below += [line.split("  ")[1] for line in sums]
+        checked = subprocess.run(["md5sum", "-c", "--quiet", "DEBIAN/md5sums"], cwd=root).returncode
+        checks.that(f"sums of {name}", checked, 0)
+        shutil.rmtree(f"{root}/DEBIAN")
+    files = [file for file in pathlib.Path(root).rglob("*") if file.is_file() and not file.is_symlink()]
+    found = sorted(str(file.relative_to(root)) for file in files)
+    checks.that("files, each in one package", sorted(below), found)
+    usr = pathlib.Path(root, "usr")
+    libraries = usr / "lib/x86_64-linux-gnu"
+    checks.that("linker's name", os.readlink(libraries / "libpikhsen.so"), "libpikhsen.so.0")
+    readme_runs(checks, folder, libraries, usr / "include", usr / "lib/python3/dist-packages")
 
 
 def main():
@@ -663,6 +765,8 @@ def main():
         secrets_from_c(checks, folder, lib, pikhsen)
         libraries_of_python(checks, folder, lib)
         readme_runs(checks, folder, lib)
+        page_runs(checks, folder, lib)
+        packages(checks, folder, lib)
     checks.end()
 
 

@@ -63,7 +63,6 @@ def main():
             run(["rt", "check"], TOP / "crates" / name)
         if name in changed:
             run(["rt", "test"], TOP / "crates" / name)
-    run(["tests/wrong_bodies.py", "--read"], TOP)
     run(["tests/sources.sh"], TOP)
     run(["tests/documents.py"], TOP)
 

@@ -11,6 +11,7 @@ import shutil
 import subprocess
 import sys
 
+from edits import Edit
 from proof_map import drawn
 
 TOP = pathlib.Path(__file__).resolve().parent.parent
@@ -86,6 +87,18 @@ for heading, cells in tables("EXAMPLES.md"):
             owner = [named.pop(0)] if named and named[0] in SOURCES else ["argon2_command", "scrypt_command"]
             for name in named:
                 expect(any(is_function(name, crate) for crate in owner), "EXAMPLES.md", f"row {cells[0]}: {name}")
+
+# Wrong bodies: what each replaces stands in its place once, each has a row, and each row is of one.
+for file in sorted(TOP.glob("crates/*/*/*.edit")):
+    expect(Edit(file).texts, file.parent.name, f"{file.stem}: what it replaces, once")
+edits = {(file.parent.parent.name, f"`{file.stem}`"): file.parent.name for file in TOP.glob("crates/*/*/*.edit")}
+rows = [(crate, *cells) for crate, cells in tables("WRONG_BODIES.md") if "`" in cells[0]]
+for crate, name in sorted(edits.keys() - {(crate, cell.strip("*")) for crate, cell, _ in rows}):
+    expect(False, "WRONG_BODIES.md", f"{crate}: {name}")
+for crate, cell, goal in rows:
+    folder = edits.pop((crate, cell.strip("*")), "no edit, or a second row")
+    expect(folder == ("must-fail" if "*" in cell else "wrong-bodies"), "WRONG_BODIES.md", f"{crate}: {cell}: {folder}")
+    expect("`" in goal or " " in goal, "WRONG_BODIES.md", f"{crate}: {cell}: the goal that refuses it")
 
 # Calls and clauses that carry a promise, and the picture of what they stand on; the definitions of each run.
 picture, wrong = drawn()

@@ -1,6 +1,7 @@
 #!/usr/bin/env python3
 """Runs the built programs over a system that refuses: each request for memory, alone and from there on, each that is too large, all
 memory above a limit, and each call that opens, looks at, reads, writes or empties a file, which fails, is interrupted, or comes short.
+And looks at the memory of a hash or a key when it is freed: it holds zeros.
 
     tests/hostile.py ARGON2 SCRYPT
 
@@ -217,12 +218,12 @@ class System:
                 content = file.read()
         return ran.returncode, ran.stdout, ran.stderr, content
 
-    def logged(self, run):
+    def logged(self, run, **hostile):
         """What it does over a system that refuses nothing, its calls, and how often it asks for memory."""
         reading, writing = os.pipe()
         with os.fdopen(reading) as log:
             try:
-                done = self.run(run, {"HOSTILE_LOG": str(writing)}, pass_fds=[writing])
+                done = self.run(run, {"HOSTILE_LOG": str(writing), **hostile}, pass_fds=[writing])
             finally:
                 os.close(writing)
             *called, memory = log.read().splitlines()
@@ -293,6 +294,19 @@ def largest_requests(checks, system):
         checks.that(f"no larger request: {name}", found, (0, run.output, b"", None))
         found = system.run(run, {"HOSTILE_LARGEST": str(size - 1)})
         checks.that(f"a request as large: {name}", found, run.after("A10" if run.program == "argon2" else "S15", None))
+
+
+def freed_blocks(checks, system):
+    """Matrix and table hold zeros when they are freed."""
+    for run, size in LARGE_REQUESTS:
+        done, called, _ = system.logged(run, HOSTILE_FREED=str(size))
+        checks.that(f"over a system that looks: {run.program} {run.words}", done, (0, run.output, b"", None))
+        found = [call for call in called if call.startswith("free ")]
+        checks.that(f"freed: {run.program} {run.words}", found, ["free zeros"])
+    # a program that frees what it holds as it is: so the look at a block sees more than zeros
+    system.programs["python"] = sys.executable
+    _, called, _ = system.logged(Run("python", "-c b=b'7'*(1<<20);del(b)", b"", b"", []), HOSTILE_FREED=str(1 << 20))
+    checks.that("freed: a block of sevens", "free what is there" in called, True)
 
 
 # In bytes; a limit below which the loader starts no program is passed over.
@@ -404,6 +418,7 @@ def main():
             checks.that(f"memory refused: {name}", requested.result(), (True, REQUESTS_THAT_MAY_FAIL, []))
             checks.that(f"memory limited: {name}", limited.result(), (["plain"], []))
         largest_requests(checks, system)
+        freed_blocks(checks, system)
         salts(checks, system)
         lines(checks, system)
         no_other_calls(checks, system)

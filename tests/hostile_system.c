@@ -7,10 +7,13 @@
        HOSTILE_WAY=interrupted      or with EINTR,
        HOSTILE_WAY=short            or read or write one byte, where they read or write
        HOSTILE_LOG=DESCRIPTOR       a line for each call and the count of requests for memory go there
-   What the loader does before `main` is not counted. */
+       HOSTILE_FREED=BYTES          before that a line for each block of as many bytes, or more, that is freed: of zeros, or not
+   What the loader does before `main` is not counted. Blocks of 128 KiB and more come from the system, which fills them
+   with zeros, one by one: what is in one was put there. */
 #define _GNU_SOURCE
 #include <errno.h>
 #include <fcntl.h>
+#include <malloc.h>
 #include <stdarg.h>
 #include <stdint.h>
 #include <stdio.h>
@@ -23,6 +26,7 @@
 void *__libc_malloc(size_t);
 void *__libc_calloc(size_t, size_t);
 void *__libc_realloc(void *, size_t);
+void __libc_free(void *);
 
 struct range {
     long first, last;
@@ -33,7 +37,7 @@ enum way { FAILS, INTERRUPTED, SHORT };
 static struct range refused_requests, bad_calls;
 static enum way way;
 static long requests, calls;
-static size_t largest_request = SIZE_MAX;
+static size_t largest_request = SIZE_MAX, told_when_freed = SIZE_MAX;
 static int log_descriptor = -1;
 static char names[16][64] = {"standard input", "standard output", "standard error"};
 
@@ -54,6 +58,9 @@ __attribute__((constructor)) static void begin(void) {
     text = getenv("HOSTILE_LARGEST");
     if (text)
         largest_request = strtoull(text, NULL, 10);
+    text = getenv("HOSTILE_FREED");
+    if (text)
+        told_when_freed = strtoull(text, NULL, 10);
     text = getenv("HOSTILE_LOG");
     if (text)
         log_descriptor = atoi(text);
@@ -77,6 +84,16 @@ static void tell(const char *call, const char *name) {
     int length = snprintf(line, sizeof line, "%s %s\n", call, name);
     if (log_descriptor >= 0)
         syscall(SYS_write, log_descriptor, line, length);
+}
+
+void free(void *block) {
+    size_t size = block ? malloc_usable_size(block) : 0, at = 0;
+    if (size >= told_when_freed) {
+        while (at < size && ((unsigned char *)block)[at] == 0)
+            ++at;
+        tell("free", at < size ? "what is there" : "zeros");
+    }
+    __libc_free(block);
 }
 
 /* Whether this call is made: if not, errno says why. */

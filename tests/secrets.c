@@ -1,22 +1,30 @@
 /*
- * What calls of libpikhsen leave in memory, for tests/c_face.py, in two ways.
+ * What calls of libpikhsen leave in memory, for tests/c_face.py, in three ways. CALL is hash, encoded, verify, key,
+ * sparse (a key over every fourth row of the table), encrypt, decrypt, wrong (decrypt with a wrong passphrase), or
+ * large-hash and large-key (over 8 MiB).
  *
  * Makes one call, says "0" where it was told PIKHSEN_OK, and waits for the end of standard input, so that its memory
- * can be searched for the key:
+ * can be searched for the key, and for what the key was made of:
  *
  *     secrets kept        a key by scrypt, which stays where the call wrote it
  *     secrets stack       the same, in an array on the stack
- *     secrets key         the same as kept, and the key is wiped
- *     secrets encrypt     a file of 1,000 bytes
  *     secrets decrypt     the text of the file of 1,128 bytes that is standard input's beginning
+ *     secrets CALL        any other call; a key is wiped after it
  *
  * Or paints the stack below the frame of a function, makes one call from there, and looks at the paint:
  *
- *     secrets painted CALL      CALL is hash, encoded, verify, key, encrypt or decrypt
+ *     secrets painted CALL
+ *
+ * Or makes one call, and looks at each block of memory when the library frees it. The linker puts the functions below
+ * in the place of the C library's (--wrap):
+ *
+ *     secrets freed CALL
+ *     secrets freed seven       frees 1,024 bytes that are all 7
  *
  * Any other words end it with status 2.
  */
 #include <stdio.h>
+#include <stdlib.h>
 #include <string.h>
 #include <unistd.h>
 
@@ -50,7 +58,7 @@ static unsigned int verify(void)
 
 static unsigned int derive_to(unsigned char *out)
 {
-	return pikhsen_scrypt(passphrase, 2, salt, 32, 10, 8, 1, 1, most, most, out, 64);
+	return pikhsen_scrypt(passphrase, 2, salt, 32, 6, 8, 1, 1, most, most, out, 64);
 }
 
 static unsigned int derive(void)
@@ -58,14 +66,133 @@ static unsigned int derive(void)
 	return derive_to(key);
 }
 
+static unsigned int derive_sparse(void)
+{
+	return pikhsen_scrypt(passphrase, 2, salt, 32, 6, 8, 1, 4, most, most, key, 64);
+}
+
+static unsigned int hash_large(void)
+{
+	return pikhsen_argon2_hash(PIKHSEN_ARGON2ID, 0x13, 1, 8192, 2, passphrase, 2, salt, 32, none, 0, none, 0, 8192, most,
+	    key, sizeof key);
+}
+
+static unsigned int derive_large(void)
+{
+	return pikhsen_scrypt(passphrase, 2, salt, 32, 13, 8, 1, 1, most, most, key, 64);
+}
+
 static unsigned int encrypt(void)
 {
-	return pikhsen_scrypt_encrypt(passphrase, 2, salt, 32, 10, 8, 1, 1, most, most, text, 1000, file, 1128);
+	return pikhsen_scrypt_encrypt(passphrase, 2, salt, 32, 6, 8, 1, 1, most, most, text, 1000, file, 1128);
 }
 
 static unsigned int decrypt(void)
 {
 	return pikhsen_scrypt_decrypt(passphrase, 2, 1, most, most, file, 1128, text, 1128, &len);
+}
+
+static unsigned int decrypt_wrongly(void)
+{
+	return pikhsen_scrypt_decrypt(passphrase, 1, 1, most, most, file, 1128, text, 1128, &len);
+}
+
+/* ---- the memory that the library takes and frees */
+
+/* How many bytes were freed in blocks of 1,024 bytes and more, and how many of these bytes were not 0. */
+static size_t freed, not_zero;
+
+/* Its size stands 16 bytes before a block, so that the block stands as malloc's do. */
+enum { BEFORE = 16 };
+
+void *__real_malloc(size_t size);
+void __real_free(void *block);
+void *__wrap_malloc(size_t size);
+void *__wrap_realloc(void *block, size_t size);
+void __wrap_free(void *block);
+
+void *__wrap_malloc(size_t size)
+{
+	unsigned char *start = __real_malloc(BEFORE + size);
+
+	if (start == NULL)
+		return NULL;
+	memcpy(start, &size, sizeof size);
+	return start + BEFORE;
+}
+
+void __wrap_free(void *block)
+{
+	const unsigned char *bytes = block;
+	size_t size, at;
+
+	if (block == NULL)
+		return;
+	memcpy(&size, bytes - BEFORE, sizeof size);
+	/* the texts of hashes, which are no secrets, are shorter */
+	if (size >= 1024) {
+		freed += size;
+		for (at = 0; at < size; ++at)
+			not_zero += bytes[at] != 0;
+	}
+	__real_free((unsigned char *)block - BEFORE);
+}
+
+void *__wrap_realloc(void *block, size_t size)
+{
+	void *moved = __wrap_malloc(size);
+	size_t before = 0;
+
+	if (block != NULL && moved != NULL) {
+		memcpy(&before, (unsigned char *)block - BEFORE, sizeof before);
+		memcpy(moved, block, before < size ? before : size);
+		__wrap_free(block);
+	}
+	return moved;
+}
+
+static unsigned int free_seven(void)
+{
+	unsigned char *block = malloc(1024);
+	size_t at;
+
+	if (block == NULL)
+		return PIKHSEN_OUT_OF_MEMORY;
+	/* the compiler would leave out what is written before it is freed, as here it may not */
+	for (at = 0; at < 1024; ++at)
+		((volatile unsigned char *)block)[at] = 7;
+	free(block);
+	return PIKHSEN_OK;
+}
+
+/* ---- by name */
+
+/* Each call, and the one that makes what it needs. */
+static const struct {
+	const char *name;
+	unsigned int (*call)(void), (*before)(void);
+} calls[] = {
+	{"hash", hash, NULL},
+	{"encoded", encode, NULL},
+	{"verify", verify, encode},
+	{"key", derive, NULL},
+	{"sparse", derive_sparse, NULL},
+	{"encrypt", encrypt, NULL},
+	{"decrypt", decrypt, encrypt},
+	{"wrong", decrypt_wrongly, encrypt},
+	{"large-hash", hash_large, NULL},
+	{"large-key", derive_large, NULL},
+};
+
+/* The call of this name, once what it needs is made; null where there is none. */
+static unsigned int (*call_of(const char *name))(void)
+{
+	size_t at;
+
+	for (at = 0; at < sizeof calls / sizeof calls[0]; ++at)
+		if (strcmp(name, calls[at].name) == 0 && (calls[at].before == NULL || calls[at].before() == PIKHSEN_OK))
+			return calls[at].call;
+	return NULL;
 }
 
 /* ---- for the search */
@@ -90,22 +217,21 @@ static NOINLINE int wait_with_key_on_stack(void)
 
 static int wait_after_call(const char *what)
 {
+	unsigned int (*call)(void);
 	unsigned int told;
 
 	if (strcmp(what, "kept") == 0)
 		return wait_after(derive());
 	if (strcmp(what, "stack") == 0)
 		return wait_with_key_on_stack();
-	if (strcmp(what, "key") == 0) {
-		told = derive();
-		memset(key, 0, sizeof key);
-		return wait_after(told);
-	}
-	if (strcmp(what, "encrypt") == 0)
-		return wait_after(encrypt());
 	if (strcmp(what, "decrypt") == 0)
 		return fread(file, 1, sizeof file, stdin) == sizeof file ? wait_after(decrypt()) : 1;
-	return 2;
+	call = call_of(what);
+	if (call == NULL)
+		return 2;
+	told = call();
+	memset(key, 0, sizeof key);
+	return wait_after(told);
 }
 
 /* ---- on a painted stack */
@@ -153,29 +279,35 @@ static NOINLINE int painted(unsigned int (*call)(void))
 	return 0;
 }
 
-static int paint_and_call(const char *what)
+/* ---- what is freed */
+
+static int look_at_freed(unsigned int (*call)(void))
 {
-	if (strcmp(what, "hash") == 0)
-		return painted(hash);
-	if (strcmp(what, "encoded") == 0)
-		return painted(encode);
-	if (strcmp(what, "verify") == 0)
-		return encode() == PIKHSEN_OK ? painted(verify) : 1;
-	if (strcmp(what, "key") == 0)
-		return painted(derive);
-	if (strcmp(what, "encrypt") == 0)
-		return painted(encrypt);
-	if (strcmp(what, "decrypt") == 0)
-		return encrypt() == PIKHSEN_OK ? painted(decrypt) : 1;
-	return 2;
+	unsigned int told;
+
+	freed = not_zero = 0;
+	told = call();
+	printf("told %u, freed %lu, not zero %lu\n", told, (unsigned long)freed, (unsigned long)not_zero);
+	return 0;
 }
 
 int main(int count, char **words)
 {
+	unsigned int (*call)(void);
+
 	memset(salt, 7, sizeof salt);
 	if (count == 2)
 		return wait_after_call(words[1]);
-	if (count == 3 && strcmp(words[1], "painted") == 0)
-		return paint_and_call(words[2]);
+	if (count != 3)
+		return 2;
+	if (strcmp(words[1], "freed") == 0 && strcmp(words[2], "seven") == 0)
+		return look_at_freed(free_seven);
+	call = call_of(words[2]);
+	if (call == NULL)
+		return 2;
+	if (strcmp(words[1], "painted") == 0)
+		return painted(call);
+	if (strcmp(words[1], "freed") == 0)
+		return look_at_freed(call);
 	return 2;
 }

@@ -61,17 +61,37 @@ for text in '.to_vec(' 'Vec::new(' '.write(' 'Encoded::read(' 'Encoded::read(*se
     expect_below crates/pikhsen_c "$text" "memory is asked for by the sources of memory alone" crates/pikhsen_c/src/source.rt
 done
 if grep -nHE '(\.|::)(append|clone\w*|extend\w*|from_elem|insert\w*|push\w*|(try_)?reserve\w*|(try_)?resize\w*|sort\w*|Box::new)\(' \
-    crates/pikhsen_c/src/*.rt | grep -vE '/tests\.rt:|: *//|: +(Matrix|Workspace)::reserve\(\*self,'; then
+    crates/pikhsen_c/src/*.rt | grep -vE ': *//|: +(Matrix|Workspace)::reserve\(\*self,'; then
     fail "memory is asked for by a function for C that is not a source of memory"
 fi
 expect 'burn(told)' "zeros are put over the stack before an answer" crates/pikhsen_c/src/argon2.rt \
     crates/pikhsen_c/src/encoded.rt crates/pikhsen_c/src/file.rt crates/pikhsen_c/src/file.rt \
     crates/pikhsen_c/src/scrypt.rt crates/pikhsen_c/src/verifying.rt
 for text in 'forget(' 'ManuallyDrop' 'leak(' 'into_raw('; do
-    expect_below crates/pikhsen_c "$text" "all memory that a function for C takes is freed"
+    for crate in pikhsen_c romix argon; do
+        expect_below "crates/$crate" "$text" "all memory that is taken is freed"
+    done
 done
+# What comes from a password stands in lists that `Held::free` alone lets go of, on the condition that they hold zeros:
+# the type has no Drop, and its list is its module's. The other lists are zeros, or public.
+for name in argon:Block romix:u32; do
+    file=crates/${name%:*}/src/held.rt
+    grep -qxF "    list: Vec<${name#*:}>," "$file" || fail "$file: the list is lent by its module alone"
+    if grep -nE 'Drop|derive|Clone|mem::' "$file" | grep -vE '^[0-9]+: *//'; then
+        fail "$file: a list is let go of by Held::free alone"
+    fi
+done
+for text in '.clone()' '.to_vec(' 'try_take('; do
+    expect_below crates/romix "$text" "a list of words stands once until it is wiped"
+    expect_below crates/argon "$text" "a list of blocks stands once until it is wiped"
+done
+expect_below crates/romix 'Vec<u32>' "a list of words is not wiped" crates/romix/src/held.rt crates/romix/src/held.rt \
+    crates/romix/src/reservation.rt crates/romix/src/reservation.rt crates/romix/src/reservation.rt \
+    crates/romix/src/reservation.rt
+expect_below crates/argon 'Vec<Block>' "a list of blocks is not wiped" crates/argon/src/held.rt crates/argon/src/held.rt \
+    crates/argon/src/lanes.rt crates/argon/src/room.rt crates/argon/src/room.rt crates/argon/src/weave.rt
 # An exported function makes a source of the heap, and hands that on: no other line speaks of the heap.
-if grep -nH alloc crates/pikhsen_c/src/*.rt | grep -vE '/(source|tests)\.rt:|: *//' |
+if grep -nH alloc crates/pikhsen_c/src/*.rt | grep -vE '/source\.rt:|: *//' |
     grep -vE ': *(alloc: Global,|let mut source = alloc;|use std::alloc::Global;)$'; then
     fail "the heap is used by a function for C that is not a source of memory"
 fi
