@@ -308,49 +308,6 @@ fn file_of_a_passphrase_longer_than_a_block(rt: HostRuntime) -> Result<(), Fail>
     Ok(())
 }
 
-#[test]
-fn files_that_are_cut_or_longer(rt: HostRuntime) -> Result<(), Fail> {
-    // how many bytes of the file there are, and how many bytes of `hello` come out
-    let cuts: &[(usize, usize)] = &[
-        (96, 0),
-        (97, 0),
-        (127, 0),
-        (128, 0),
-        (129, 1),
-        (130, 2),
-        (132, 4),
-    ];
-    for size in SIZES {
-        for (len, released) in cuts {
-            let (text, outcome) = decrypt(rt, &HELLO_FILE[..*len], b"pw", *size, 1)?;
-            assert_eq!(rt; outcome, Outcome::Damaged);
-            assert_eq!(rt; text.as_slice(), &b"hello"[..*released]);
-        }
-        let mut longer = Vec::new(rt.alloc());
-        longer.extend_from_slice(HELLO_FILE)?;
-        longer.push(0)?;
-        let (text, outcome) = decrypt(rt, &longer, b"pw", *size, 1)?;
-        assert_eq!(rt; outcome, Outcome::Damaged);
-        assert_eq!(rt; text.len(), 6);
-        assert_eq!(rt; &text[..5], b"hello".as_slice());
-    }
-    Ok(())
-}
-
-// Each byte after the first 96 counts, those of the final code, too.
-#[test]
-fn files_with_one_bit_changed(rt: HostRuntime) -> Result<(), Fail> {
-    for place in 96..HELLO_FILE.len() {
-        let mut file = Vec::new(rt.alloc());
-        file.extend_from_slice(HELLO_FILE)?;
-        file[place] ^= 0x10;
-        let (text, outcome) = decrypt(rt, &file, b"pw", 32, 1)?;
-        assert_eq!(rt; outcome, Outcome::Damaged);
-        assert_eq!(rt; text.len(), 5);
-    }
-    Ok(())
-}
-
 // The example at the head of the crate.
 #[test]
 fn example(rt: HostRuntime) -> Result<(), Fail> {
@@ -415,13 +372,6 @@ fn fronts_that_are_refused(rt: HostRuntime) -> Result<(), Fail> {
     // HMAC pads a short key with zeros, so this one has the same keys
     let (_, outcome) = decrypt(rt, HELLO_FILE, b"pw\0", 32, 1)?;
     assert_eq!(rt; outcome, Outcome::Whole);
-    for place in 64..96 {
-        let mut file = Vec::new(rt.alloc());
-        file.extend_from_slice(HELLO_FILE)?;
-        file[place] ^= 1;
-        let (_, outcome) = decrypt(rt, &file, b"pw", 32, 1)?;
-        assert_eq!(rt; outcome, Outcome::WrongPassphrase);
-    }
     Ok(())
 }
 

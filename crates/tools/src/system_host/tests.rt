@@ -34,7 +34,7 @@ fn makes_and_empties_a_file(rt: HostRuntime) -> Result<(), Fail> {
 }
 
 #[test]
-fn counts_what_fails(rt: HostRuntime) -> Result<(), Fail> {
+fn counts_faults_of_the_input(rt: HostRuntime) -> Result<(), Fail> {
     fs::create_dir(&rt, "folder")?;
     let mut host = SystemHost::new(rt);
     let mut buf = [0; 3];
@@ -42,10 +42,17 @@ fn counts_what_fails(rt: HostRuntime) -> Result<(), Fail> {
     assert_eq!(rt; host.open_input(Some("missing")), Err(HostFault));
     assert_eq!(rt; host.open_input(Some("folder")), Ok(()));
     assert_eq!(rt; host.pull(&mut buf), Err(HostFault));
+    assert_eq!(rt; host.input_faults, 3);
+    Ok(())
+}
+
+#[test]
+fn counts_faults_of_the_output(rt: HostRuntime) -> Result<(), Fail> {
+    fs::create_dir(&rt, "folder")?;
+    let mut host = SystemHost::new(rt);
     assert_eq!(rt; host.push(b"hello"), Err(HostFault));
     assert_eq!(rt; host.open_output(Some("missing/file")), Err(HostFault));
     assert_eq!(rt; host.open_output(Some("folder")), Err(HostFault));
-    assert_eq!(rt; host.input_faults, 3);
     assert_eq!(rt; host.output_faults, 3);
     Ok(())
 }
@@ -85,27 +92,38 @@ fn salts_are_random_in_each_place(rt: HostRuntime) {
     assert_eq!(rt; varies, [true; 32]);
 }
 
+// No output opens under this name while the file `one` is input.
+fn check_input_stays(rt: HostRuntime, name: &str) {
+    let mut host = SystemHost::new(rt);
+    assert_eq!(rt; host.open_input(Some("one")), Ok(()));
+    assert_eq!(rt; host.open_output(Some(name)), Err(HostFault), "{name}");
+    assert_eq!(rt; host.output_faults, 1);
+}
+
+// None does while that file is where the secret is from.
+fn check_secret_stays(rt: HostRuntime, name: &str) {
+    let mut host = SystemHost::new(rt);
+    assert_eq!(rt; host.secret(Source::File("one"), &mut [0; 8]), Ok(4));
+    assert_eq!(rt; host.open_output(Some(name)), Err(HostFault), "{name}");
+}
+
 #[test]
 fn files_that_are_read_stay_under_each_name(rt: HostRuntime) -> Result<(), Fail> {
     fs::write(&rt, "one", "kept")?;
-    fs::write(&rt, "other", "lost")?;
     fs::hard_link(&rt, "one", "hard-link")?;
     symlink(&rt, "one", "symbolic-link")?;
     for name in ["one", "./one", "hard-link", "symbolic-link"] {
-        let mut host = SystemHost::new(rt);
-        assert_eq!(rt; host.open_input(Some("one")), Ok(()));
-        assert_eq!(rt; host.open_output(Some(name)), Err(HostFault), "{name}");
-        assert_eq!(rt; host.output_faults, 1);
-
-        let mut host = SystemHost::new(rt);
-        assert_eq!(rt; host.secret(Source::File("one"), &mut [0; 8]), Ok(4));
-        assert_eq!(rt; host.open_output(Some(name)), Err(HostFault), "{name}");
-        assert_eq!(rt;
-            fs::read(&rt, "one")?.as_slice(),
-            b"kept".as_slice(),
-            "{name}"
-        );
+        check_input_stays(rt, name);
+        check_secret_stays(rt, name);
+        assert_eq!(rt; fs::read(&rt, "one")?.as_slice(), b"kept".as_slice());
     }
+    Ok(())
+}
+
+#[test]
+fn a_file_that_is_not_read_is_emptied(rt: HostRuntime) -> Result<(), Fail> {
+    fs::write(&rt, "one", "kept")?;
+    fs::write(&rt, "other", "lost")?;
     let mut host = SystemHost::new(rt);
     assert_eq!(rt; host.open_input(Some("one")), Ok(()));
     assert_eq!(rt; host.secret(Source::File("one"), &mut [0; 8]), Ok(4));
