@@ -1,5 +1,5 @@
 #!/bin/sh
-# Makes Debian's packages, with the programs in bin/x86-64-v2.
+# Makes the packages for Debian, with the programs in bin/x86-64-v2.
 #
 #     packaging/deb.sh                     with the library in bin/lib, in bin/
 #     packaging/deb.sh LIBRARY FOLDER      with the library in LIBRARY, in FOLDER

@@ -316,7 +316,7 @@ def first_blocks(kib, lanes, length):
 
 def secrets_from_c(checks, folder, lib, pikhsen):
     """After a call no key is in writable memory, on the stack or elsewhere: none of the four pieces of the 64 derived
-    bytes, nor what they are made of. And the memory that a call frees holds zeros alone."""
+    bytes, nor what they are made of. And the memory that a call frees, but for texts of hashes, holds zeros alone."""
     salt, costs = b"\7" * 32, {"log_n": 6, "r": 8, "p": 1}
     keys = hashlib.scrypt(b"pw", salt=salt, n=64, r=8, p=1, dklen=64)
     of_key = {f"bytes {at} to {at + 15}": keys[at:at + 16] for at in range(0, 64, 16)}
@@ -330,12 +330,13 @@ def secrets_from_c(checks, folder, lib, pikhsen):
     for words in ([], ["keys"], ["painted"], ["painted", "kept"], ["freed", "kept"], ["key", "kept"]):
         found = subprocess.run([program, *words], stdin=subprocess.DEVNULL, stdout=subprocess.DEVNULL).returncode
         checks.that(f"secrets.c, other words: {words}", found, 2)
-    # a matrix of 64 KiB; a table of 64 rows, or 16, of 1,024 bytes, and two rows, or three; and such of 8 MiB
+    # a matrix of 64 KiB; a table of 64 rows, or 16, of 1,024 bytes, and two rows, or three; four rows of 128 bytes, and
+    # two; and such of 8 MiB
     told_wrong = numbers_of_header()["WRONG_PASSPHRASE"][0]
     for what, told, freed in (
         ("hash", 0, 65536), ("encoded", 0, 65536), ("verify", 0, 65536), ("key", 0, 67584), ("sparse", 0, 19456),
         ("encrypt", 0, 67584), ("decrypt", 0, 67584), ("wrong", told_wrong, 67584),
-        ("large-hash", 0, 8388608), ("large-key", 0, 8390656),
+        ("small-key", 0, 768), ("large-hash", 0, 8388608), ("large-key", 0, 8390656),
     ):
         found = said(program, "painted", what, check=False)
         checks.that(f"stack after: {what}", found, f"told {told}, not wiped 0, touched deeper 0\n")
@@ -707,11 +708,11 @@ def page_runs(checks, folder, lib):
     checks.that("the manual page's example", said("sh", "-c", f"{folder}/example", check=False), "welcome\n")
 
 
-# ---- Debian's packages
+# ---- the packages for Debian
 
 
 def packages(checks, folder, lib):
-    """Debian's packages are the same bytes each time and have each file once; README's programs run with what is in
+    """The packages for Debian are the same bytes each time and have each file once; README's programs run with what is in
     them."""
     if not shutil.which("dpkg-deb") or not (TOP / "bin/x86-64-v2/scrypt").exists():
         print("dpkg-deb is not installed, or the programs are not built: packages are not made")

@@ -5,7 +5,7 @@
 
 What differs from the commit (HEAD), files that are not committed too, names the crates that changed. Lowest first,
 each of them is checked and tested, and each crate that stands on one of them is checked. No wrong body is tried; that
-each replaces what stands in the sources once is seen.
+the text which each replaces stands in its source once is checked.
 """
 import pathlib
 import subprocess

@@ -24,12 +24,18 @@ def path_of(folder, file, impl, name):
     return "::".join([*module, *([kind + of_trait] if kind else []), name])
 
 
+def opens_at(lines, start, indent):
+    """The line that opens the body of a function, or ends one without a body; its clauses stand deeper."""
+    own = re.compile(rf"{indent}(?=\S).*(?:{{|{{}}|;)$|.*}};$")
+    return next(at for at in range(start, len(lines)) if own.match(lines[at]))
+
+
 def function_at(folder, file, text, line, body=False):
     """The path of the function that holds this line of a source, in its body, if asked."""
     lines = text.split("\n")
     for start, found in enumerate(map(FUNCTION.match, lines)):
         if found:
-            opens = next(at for at in range(start, len(lines)) if lines[at].endswith(("{", ";", "{}")))
+            opens = opens_at(lines, start, found[1])
             ends = lines.index(found[1] + "}", opens) if lines[opens].endswith("{") else opens
             while lines[start - 1].lstrip().startswith("#["):
                 start -= 1

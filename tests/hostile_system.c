@@ -7,9 +7,10 @@
        HOSTILE_WAY=interrupted      or with EINTR,
        HOSTILE_WAY=short            or read or write one byte, where they read or write
        HOSTILE_LOG=DESCRIPTOR       a line for each call and the count of requests for memory go there
-       HOSTILE_FREED=BYTES          before that a line for each block of as many bytes, or more, that is freed: of zeros, or not
-   What the loader does before `main` is not counted. Blocks of 128 KiB and more come from the system, which fills them
-   with zeros, one by one: what is in one was put there. */
+       HOSTILE_FREED=BYTES          before that a line for each block of as many bytes, or more, that is freed: of
+                                    zeros, or not
+   What the loader does before `main` is not counted. Blocks of 128 KiB and more are mapped one by one and come zeroed,
+   so other bytes in one were written by the program. */
 #define _GNU_SOURCE
 #include <errno.h>
 #include <fcntl.h>

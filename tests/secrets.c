@@ -1,7 +1,7 @@
 /*
  * What calls of libpikhsen leave in memory, for tests/c_face.py, in three ways. CALL is hash, encoded, verify, key,
- * sparse (a key over every fourth row of the table), encrypt, decrypt, wrong (decrypt with a wrong passphrase), or
- * large-hash and large-key (over 8 MiB).
+ * sparse (a key over every fourth row of the table), encrypt, decrypt, wrong (decrypt with a wrong passphrase),
+ * small-key (over rows of 128 bytes), or large-hash and large-key (over 8 MiB).
  *
  * Makes one call, says "0" where it was told PIKHSEN_OK, and waits for the end of standard input, so that its memory
  * can be searched for the key, and for what the key was made of:
@@ -15,8 +15,9 @@
  *
  *     secrets painted CALL
  *
- * Or makes one call, and looks at each block of memory when the library frees it. The linker puts the functions below
- * in the place of the C library's (--wrap):
+ * Or makes one call, and looks at each block of memory when the library frees it, or, where the call also frees the
+ * text of a hash, which is no secret, at each of 1,024 bytes and more. The linker puts the functions below in the place
+ * of the C library's (--wrap):
  *
  *     secrets freed CALL
  *     secrets freed seven       frees 1,024 bytes that are all 7
@@ -71,6 +72,11 @@ static unsigned int derive_sparse(void)
 	return pikhsen_scrypt(passphrase, 2, salt, 32, 6, 8, 1, 4, most, most, key, 64);
 }
 
+static unsigned int derive_small(void)
+{
+	return pikhsen_scrypt(passphrase, 2, salt, 32, 2, 1, 1, 1, most, most, key, 64);
+}
+
 static unsigned int hash_large(void)
 {
 	return pikhsen_argon2_hash(PIKHSEN_ARGON2ID, 0x13, 1, 8192, 2, passphrase, 2, salt, 32, none, 0, none, 0, 8192, most,
@@ -99,8 +105,8 @@ static unsigned int decrypt_wrongly(void)
 
 /* ---- the memory that the library takes and frees */
 
-/* How many bytes were freed in blocks of 1,024 bytes and more, and how many of these bytes were not 0. */
-static size_t freed, not_zero;
+/* How many bytes were freed in blocks of this size and more, and how many of these bytes were not 0. */
+static size_t least = 1, freed, not_zero;
 
 /* Its size stands 16 bytes before a block, so that the block stands as malloc's do. */
 enum { BEFORE = 16 };
@@ -129,8 +135,7 @@ void __wrap_free(void *block)
 	if (block == NULL)
 		return;
 	memcpy(&size, bytes - BEFORE, sizeof size);
-	/* the texts of hashes, which are no secrets, are shorter */
-	if (size >= 1024) {
+	if (size >= least) {
 		freed += size;
 		for (at = 0; at < size; ++at)
 			not_zero += bytes[at] != 0;
@@ -180,6 +185,7 @@ static const struct {
 	{"encrypt", encrypt, NULL},
 	{"decrypt", decrypt, encrypt},
 	{"wrong", decrypt_wrongly, encrypt},
+	{"small-key", derive_small, NULL},
 	{"large-hash", hash_large, NULL},
 	{"large-key", derive_large, NULL},
 };
@@ -307,7 +313,9 @@ int main(int count, char **words)
 		return 2;
 	if (strcmp(words[1], "painted") == 0)
 		return painted(call);
-	if (strcmp(words[1], "freed") == 0)
+	if (strcmp(words[1], "freed") == 0) {
+		least = call == encode || call == verify ? 1024 : 1;
 		return look_at_freed(call);
+	}
 	return 2;
 }

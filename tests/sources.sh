@@ -1,7 +1,8 @@
 #!/bin/sh
-# What a reader of the sources relies on, beside the proofs: proofs by hand are all listed in docs/GATE.md, each counter ticks in one
-# place, and a counter is made where a whole run begins: no crate that is handed one makes its own. Memory is reserved and work begun
-# where contracts say what was tested before. Tables that another program made are what it makes.
+# What a reader of the sources relies on, beside the proofs: proofs by hand are all listed in docs/GATE.md, each
+# counter ticks in one place, and a counter is made where a whole run begins: no crate that is handed one makes its own.
+# Memory is reserved and work begun where contracts say what was tested before. Tables that another program made are
+# what it makes.
 set -eu
 cd "$(dirname "$0")/.."
 status=0
@@ -73,23 +74,29 @@ for text in 'forget(' 'ManuallyDrop' 'leak(' 'into_raw('; do
     done
 done
 # What comes from a password stands in lists that `Held::free` alone lets go of, on the condition that they hold zeros:
-# the type has no Drop, and its list is its module's. The other lists are zeros, or public.
-for name in argon:Block romix:u32; do
-    file=crates/${name%:*}/src/held.rt
-    grep -qxF "    list: Vec<${name#*:}>," "$file" || fail "$file: the list is lent by its module alone"
+# the type has no Drop and no further function, and its list is its module's. The other lists are zeros, or public.
+for name in 'argon:Block:new blocks blocks_mut free' 'romix:u32:new words free'; do
+    file=crates/${name%%:*}/src/held.rt item=${name#*:}
+    grep -qxF "    list: Vec<${item%%:*}>," "$file" || fail "$file: the list is lent by its module alone"
+    grep -qF '        requires wiped { self.list.items ≡ replicate ' "$file" || fail "$file: a list is freed when it holds zeros"
+    test "$(grep -oE '\bfn \w+' "$file" | cut -c4- | tr '\n' ' ')" = "${item#*:} " ||
+        fail "$file: a list is made, lent and freed by these functions alone"
     if grep -nE 'Drop|derive|Clone|mem::' "$file" | grep -vE '^[0-9]+: *//'; then
         fail "$file: a list is let go of by Held::free alone"
     fi
 done
-for text in '.clone()' '.to_vec(' 'try_take('; do
+for text in 'clone(' 'Clone::' '.to_vec(' 'to_owned(' 'collect(' 'try_take(' 'allocator(' 'Box'; do
     expect_below crates/romix "$text" "a list of words stands once until it is wiped"
     expect_below crates/argon "$text" "a list of blocks stands once until it is wiped"
 done
-expect_below crates/romix 'Vec<u32>' "a list of words is not wiped" crates/romix/src/held.rt crates/romix/src/held.rt \
+expect_below crates/romix 'Vec::' "a list of words is made by the source of memory alone" crates/romix/src/reservation.rt
+expect_below crates/argon 'Vec::' "a list of blocks is made by the source of memory alone"
+expect_below crates/romix 'Vec<' "a list of words is not wiped" crates/romix/src/held.rt crates/romix/src/held.rt \
     crates/romix/src/reservation.rt crates/romix/src/reservation.rt crates/romix/src/reservation.rt \
     crates/romix/src/reservation.rt
-expect_below crates/argon 'Vec<Block>' "a list of blocks is not wiped" crates/argon/src/held.rt crates/argon/src/held.rt \
-    crates/argon/src/lanes.rt crates/argon/src/room.rt crates/argon/src/room.rt crates/argon/src/weave.rt
+expect_below crates/argon 'Vec<' "a list of blocks is not wiped" crates/argon/src/held.rt crates/argon/src/held.rt \
+    crates/argon/src/lanes.rt crates/argon/src/lanes.rt crates/argon/src/room.rt crates/argon/src/room.rt \
+    crates/argon/src/room.rt crates/argon/src/room.rt crates/argon/src/weave.rt crates/argon/src/weave.rt
 # An exported function makes a source of the heap, and hands that on: no other line speaks of the heap.
 if grep -nH alloc crates/pikhsen_c/src/*.rt | grep -vE '/source\.rt:|: *//' |
     grep -vE ': *(alloc: Global,|let mut source = alloc;|use std::alloc::Global;)$'; then
