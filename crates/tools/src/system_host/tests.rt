@@ -4,6 +4,7 @@ use super::*;
 use host::refuse;
 use std::fs;
 use std::os::unix::fs::symlink;
+use std::process::Abort;
 use std::test::Fail;
 
 #[test]
@@ -93,16 +94,16 @@ fn salts_are_random_in_each_place(rt: HostRuntime) {
 }
 
 // No output opens under this name while the file `one` is input.
-fn check_input_stays(rt: HostRuntime, name: &str) {
-    let mut host = SystemHost::new(rt);
+fn check_input_stays(rt: &impl Abort, system: HostRuntime, name: &str) {
+    let mut host = SystemHost::new(system);
     assert_eq!(rt; host.open_input(Some("one")), Ok(()));
     assert_eq!(rt; host.open_output(Some(name)), Err(HostFault), "{name}");
     assert_eq!(rt; host.output_faults, 1);
 }
 
 // None does while that file is where the secret is from.
-fn check_secret_stays(rt: HostRuntime, name: &str) {
-    let mut host = SystemHost::new(rt);
+fn check_secret_stays(rt: &impl Abort, system: HostRuntime, name: &str) {
+    let mut host = SystemHost::new(system);
     assert_eq!(rt; host.secret(Source::File("one"), &mut [0; 8]), Ok(4));
     assert_eq!(rt; host.open_output(Some(name)), Err(HostFault), "{name}");
 }
@@ -113,8 +114,8 @@ fn files_that_are_read_stay_under_each_name(rt: HostRuntime) -> Result<(), Fail>
     fs::hard_link(&rt, "one", "hard-link")?;
     symlink(&rt, "one", "symbolic-link")?;
     for name in ["one", "./one", "hard-link", "symbolic-link"] {
-        check_input_stays(rt, name);
-        check_secret_stays(rt, name);
+        check_input_stays(&rt, rt, name);
+        check_secret_stays(&rt, rt, name);
         assert_eq!(rt; fs::read(&rt, "one")?.as_slice(), b"kept".as_slice());
     }
     Ok(())
