@@ -26,6 +26,7 @@ GOAL = re.compile(
     r"`(?:returns|\S+-requires|loop-\S+|\S+-(?:init|preserved|smaller)|invariant_of-|overflow_)[^`]*`"
     r"(?:, at its answer)?|the lemma \w+"
 )
+CLAUSES_OF_THE_LIBRARY = {"steps"}  # of Iterator::next
 missing = []
 
 
@@ -107,7 +108,8 @@ for crate, cell, goal in rows:
     expect(folder == ("must-fail" if "*" in cell else "wrong-bodies"), "WRONG_BODIES.md", f"{crate}: {cell}: {folder}")
     told = GOAL.fullmatch(goal)
     clause = told and re.search(r"-clause-(\w+)`", goal)
-    is_there = told and (not clause or re.search(rf"\b(?:ensures|requires)\*? {clause[1]}\b", ALL_SOURCES))
+    is_ours = clause and re.search(rf"\b(?:ensures|requires)\*? {clause[1]}\b", ALL_SOURCES)
+    is_there = told and (not clause or is_ours or clause[1] in CLAUSES_OF_THE_LIBRARY)
     expect(is_there, "WRONG_BODIES.md", f"{crate}: {cell}: the goal that refuses it")
 
 # Calls and clauses that carry a promise, and the picture of what they stand on; the definitions of each run.

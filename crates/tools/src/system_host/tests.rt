@@ -36,12 +36,12 @@ fn makes_and_empties_a_file(rt: HostRuntime) -> Result<(), Fail> {
 
 #[test]
 fn counts_faults_of_the_input(rt: HostRuntime) -> Result<(), Fail> {
-    fs::create_dir(&rt, "folder")?;
+    fs::create_dir(&rt, "folder-to-read")?;
     let mut host = SystemHost::new(rt);
     let mut buf = [0; 3];
     assert_eq!(rt; host.pull(&mut buf), Err(HostFault));
     assert_eq!(rt; host.open_input(Some("missing")), Err(HostFault));
-    assert_eq!(rt; host.open_input(Some("folder")), Ok(()));
+    assert_eq!(rt; host.open_input(Some("folder-to-read")), Ok(()));
     assert_eq!(rt; host.pull(&mut buf), Err(HostFault));
     assert_eq!(rt; host.input_faults, 3);
     Ok(())
@@ -49,11 +49,11 @@ fn counts_faults_of_the_input(rt: HostRuntime) -> Result<(), Fail> {
 
 #[test]
 fn counts_faults_of_the_output(rt: HostRuntime) -> Result<(), Fail> {
-    fs::create_dir(&rt, "folder")?;
+    fs::create_dir(&rt, "folder-to-write")?;
     let mut host = SystemHost::new(rt);
     assert_eq!(rt; host.push(b"hello"), Err(HostFault));
     assert_eq!(rt; host.open_output(Some("missing/file")), Err(HostFault));
-    assert_eq!(rt; host.open_output(Some("folder")), Err(HostFault));
+    assert_eq!(rt; host.open_output(Some("folder-to-write")), Err(HostFault));
     assert_eq!(rt; host.output_faults, 3);
     Ok(())
 }
@@ -123,13 +123,13 @@ fn files_that_are_read_stay_under_each_name(rt: HostRuntime) -> Result<(), Fail>
 
 #[test]
 fn a_file_that_is_not_read_is_emptied(rt: HostRuntime) -> Result<(), Fail> {
-    fs::write(&rt, "one", "kept")?;
-    fs::write(&rt, "other", "lost")?;
+    fs::write(&rt, "first", "kept")?;
+    fs::write(&rt, "second", "lost")?;
     let mut host = SystemHost::new(rt);
-    assert_eq!(rt; host.open_input(Some("one")), Ok(()));
-    assert_eq!(rt; host.secret(Source::File("one"), &mut [0; 8]), Ok(4));
-    assert_eq!(rt; host.open_output(Some("other")), Ok(()));
-    assert_eq!(rt; fs::read(&rt, "other")?.len(), 0);
+    assert_eq!(rt; host.open_input(Some("first")), Ok(()));
+    assert_eq!(rt; host.secret(Source::File("first"), &mut [0; 8]), Ok(4));
+    assert_eq!(rt; host.open_output(Some("second")), Ok(()));
+    assert_eq!(rt; fs::read(&rt, "second")?.len(), 0);
     Ok(())
 }
 
