@@ -20,8 +20,8 @@ done
 
 # The lines of the sources below a folder, without comments and without tests, that have this text.
 places() {
-    grep -rnHF --include='*.rt' --exclude-dir=out --exclude-dir=tests --exclude=tests.rt --exclude=vectors.rt -- "$2" "$1" |
-        grep -vE '^[^:]*:[0-9]+: *//' | cut -d: -f1 | sort
+    grep -rnHF --include='*.rt' --exclude-dir=out --exclude-dir=tests --exclude=tests.rt --exclude=vectors.rt \
+        -- "$2" "$1" | grep -vE '^[^:]*:[0-9]+: *//' | cut -d: -f1 | sort
 }
 # expect_below FOLDER TEXT REASON FILE..: below the folder the text stands once in each of these files, twice where it is
 # named twice, and nowhere else.
@@ -37,7 +37,7 @@ expect() {
 }
 expect '.tick()' "the counters tick in the one block function and the one core" \
     crates/argon/src/compression.rt crates/romix/src/salsa20.rt
-expect 'Ticks::new()' "a counter is made by the test of a password, the functions for C and the commands, each for its one work" \
+expect 'Ticks::new()' "a counter is made by the test of a password, the functions for C and the commands, once each" \
     crates/argon_text/src/verify_password.rt crates/argon2_command/src/run.rt \
     crates/scrypt_command/src/run.rt crates/pikhsen_c/src/argon2.rt crates/pikhsen_c/src/encoded.rt \
     crates/pikhsen_c/src/file.rt crates/pikhsen_c/src/file.rt crates/pikhsen_c/src/scrypt.rt
@@ -55,14 +55,16 @@ expect 'with_capacity(' "room for a given length is asked for by the sources of 
 expect '.hash(' "a hash is made by the test of a password, the functions for C and argon2" \
     crates/argon_text/src/verify_password.rt crates/argon2_command/src/output.rt crates/pikhsen_c/src/argon2.rt \
     crates/pikhsen_c/src/encoded.rt
-# The functions for C: one copy of a list is made, where memory comes from, no list grows, and none is kept from being freed.
-for text in '.to_vec(' 'Vec::new(' '.write(' 'Encoded::read(' 'Encoded::read(*self, text)' 'Matrix::reserve(*self, params)' \
-    'Workspace::reserve(*self, sparse)' 'text_of_zeros(*self, kind, params, salt)' 'verify(*self' \
-    'verify(*self, encoded, password, max_kib, max_ops)'; do
-    expect_below crates/pikhsen_c "$text" "memory is asked for by the sources of memory alone" crates/pikhsen_c/src/source.rt
+# The functions for C: one copy of a list is made, where memory comes from, no list grows, and each is freed.
+for text in '.to_vec(' 'Vec::new(' '.write(' 'Encoded::read(' 'Encoded::read(*self, text)' \
+    'Matrix::reserve(*self, params)' 'Workspace::reserve(*self, sparse)' 'text_of_zeros(*self, kind, params, salt)' \
+    'verify(*self' 'verify(*self, encoded, password, max_kib, max_ops)'; do
+    expect_below crates/pikhsen_c "$text" "memory is asked for by the sources of memory alone" \
+        crates/pikhsen_c/src/source.rt
 done
-if grep -nHE '(\.|::)(append|clone\w*|extend\w*|from_elem|insert\w*|push\w*|(try_)?reserve\w*|(try_)?resize\w*|sort\w*|Box::new)\(' \
-    crates/pikhsen_c/src/*.rt | grep -vE ': *//|: +(Matrix|Workspace)::reserve\(\*self,'; then
+grows='append|clone\w*|extend\w*|from_elem|insert\w*|push\w*|(try_)?reserve\w*|(try_)?resize\w*|sort\w*|Box::new'
+if grep -nHE "(\.|::)($grows)\(" crates/pikhsen_c/src/*.rt |
+    grep -vE ': *//|: +(Matrix|Workspace)::reserve\(\*self,'; then
     fail "memory is asked for by a function for C that is not a source of memory"
 fi
 expect 'burn(told)' "zeros are put over the stack before an answer" crates/pikhsen_c/src/argon2.rt \
@@ -118,7 +120,7 @@ expect 'difference |= left[i] ^ right[i];' "the comparison looks at every byte" 
 expect 'source.test(' "a password is tested for C in one place" crates/pikhsen_c/src/verifying.rt
 for text in '==' '!=' '.eq(' '.ne(' '.cmp(' '.starts_with(' '.position(' 'are_same('; do
     for file in verifying source; do
-        expect_below "crates/pikhsen_c/src/$file.rt" "$text" "the function for C that tests a password compares nothing itself"
+        expect_below "crates/pikhsen_c/src/$file.rt" "$text" "what tests a password for C compares nothing itself"
     done
 done
 
