@@ -97,8 +97,8 @@ expect_below crates/romix 'Vec<' "a list of words is not wiped" crates/romix/src
     crates/romix/src/reservation.rt crates/romix/src/reservation.rt crates/romix/src/reservation.rt \
     crates/romix/src/reservation.rt
 expect_below crates/argon 'Vec<' "a list of blocks is not wiped" crates/argon/src/held.rt crates/argon/src/held.rt \
-    crates/argon/src/lanes.rt crates/argon/src/lanes.rt crates/argon/src/room.rt crates/argon/src/room.rt \
-    crates/argon/src/room.rt crates/argon/src/room.rt crates/argon/src/weave.rt crates/argon/src/weave.rt
+    crates/argon/src/lanes.rt crates/argon/src/room.rt crates/argon/src/room.rt crates/argon/src/room.rt \
+    crates/argon/src/room.rt crates/argon/src/weave.rt
 # An exported function makes a source of the heap, and hands that on: no other line speaks of the heap.
 if grep -nH alloc crates/pikhsen_c/src/*.rt | grep -vE '/source\.rt:|: *//' |
     grep -vE ': *(alloc: Global,|let mut source = alloc;|use std::alloc::Global;)$'; then

@@ -7,4 +7,4 @@ use Rattle.argon.specs.declared.lanes.Lanes.TheInside.{Inside}
 pub record IsForLanes (lanes : Inside) : Type 0 where
   pub in_range : IsInRange lanes.params
   pub left : vec_len lanes.left ≡ lanes.params.lanes
-  pub addresses : vec_len lanes.addresses ≡ lanes.params.lanes
+  pub addresses : vec_len lanes.addresses.held.list ≡ lanes.params.lanes

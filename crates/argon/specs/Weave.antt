@@ -20,7 +20,7 @@ weaving_of weave = record {
 -- what holds of the fields: beside the rest, each lane has the address block of its columns
 pub record IsWeave (weave : Inside) : Type 0 where
   pub weaving : IsWeaving (weaving_of weave)
-  pub addresses_size : length weave.addresses.items ≡ weave.params.lanes
+  pub addresses_size : length weave.addresses.held.list.items ≡ weave.params.lanes
   pub addresses : (lane : ℕ) → lane < weave.params.lanes
       → HasAddresses weave.params (weave.slices_made / 4) lane (weave.slices_made % 4)
-      (next_index (weaving_of weave) lane) (slice_index_or weave.addresses.items lane [])
+      (next_index (weaving_of weave) lane) (slice_index_or weave.addresses.held.list.items lane [])

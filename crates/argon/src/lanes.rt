@@ -1,7 +1,8 @@
 //! What each lane holds beside the matrix while a slice is made by lanes in any order.
 ghost use Rattle.std.specs.Prelude.{◌≡◌, ◌⊎◌, IfOk, OnErr, OnOk};
 
-use crate::block::Block;
+use crate::blocks::Blocks;
+use crate::held::Held;
 use crate::params::Params;
 use crate::room::Room;
 use std::alloc::{AllocError, Global};
@@ -17,7 +18,7 @@ pub struct Lanes {
     pub(crate) left: Vec<u32>,
     // The address block that the words J of each lane stand in, where the addressing is
     // independent.
-    pub(crate) addresses: Vec<Block>,
+    pub(crate) addresses: Blocks,
 }
 
 impl Model for Lanes {
@@ -42,11 +43,11 @@ pub(crate) fn reserve_from<R: Room>(room: &mut R, params: &Params) -> Result<Lan
 {
     let count = params.lanes() as usize;
     let left = room.numbers(count)?;
-    let addresses = room.blocks(count)?;
+    let held = Held::new(room.blocks(count)?);
     Ok(Lanes {
         params: params.copied(),
         left,
-        addresses,
+        addresses: Blocks { held },
     })
 }
 

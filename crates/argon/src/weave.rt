@@ -31,7 +31,7 @@ pub struct Weave {
     slices_made: u64,
     blocks: Blocks,
     left: Vec<u32>,
-    addresses: Vec<Block>,
+    addresses: Blocks,
     scratch: Scratch,
 }
 
@@ -108,7 +108,14 @@ impl Weave {
         } = lanes;
         let mut scratch = Scratch::new();
         left.fill(params.segment_len() - first_index(pass, slice));
-        prepare_lanes(&params, pass, slice, &mut addresses, &mut scratch, ticks);
+        prepare_lanes(
+            &params,
+            pass,
+            slice,
+            addresses.held.blocks_mut(),
+            &mut scratch,
+            ticks,
+        );
         Weave {
             params,
             h0,
@@ -160,7 +167,7 @@ impl Weave {
             &self.params,
             &at,
             index,
-            &mut self.addresses[lane as usize],
+            &mut self.addresses.held.blocks_mut()[lane as usize],
             &mut self.scratch,
             ticks,
         );

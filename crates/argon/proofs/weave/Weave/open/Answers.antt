@@ -22,9 +22,9 @@ invariant_of-result c =
     c.fill.ensures.items (λ y e. e) ∙ rw (count, c.segment_len.ensures.value, c.first_index.ensures.value) refl in
     let next : HasNext (filling_of c.matrix.inside) = rw c.matrix.view_is c.requires.next in
     let weaving = opened f c.fill.new.self.items c.matrix.invariant next left in
-    let kept : length c.prepare_lanes.new.addresses ≡ c.lanes.inside.addresses.len = omega (arith, c.prepare_lanes.ensures.size, c.deref_mut.ensures.len) in
-    let same : (with_items c.lanes.inside.addresses c.prepare_lanes.new.addresses).items ≡ c.prepare_lanes.new.addresses =
-    with_items_is c.lanes.inside.addresses c.prepare_lanes.new.addresses kept in
+    let kept : length c.prepare_lanes.new.addresses ≡ c.lanes.inside.addresses.held.list.len = omega (arith, c.prepare_lanes.ensures.size, c.blocks_mut.ensures.len) in
+    let same : (with_items c.lanes.inside.addresses.held.list c.prepare_lanes.new.addresses).items ≡ c.prepare_lanes.new.addresses =
+    with_items_is c.lanes.inside.addresses.held.list c.prepare_lanes.new.addresses kept in
     record {
       weaving = weaving;
       addresses_size = ap length same ∙ kept ∙ c.lanes.invariant.addresses ∙ lanes;

@@ -23,18 +23,25 @@ invariant_of-self c =
     ∙ stepped w lane c.blocks_mut.result.now c.fill_next_column.new.blocks at.len at.lane at.pass at.slice c.index.result.now c.self.invariant.weaving some
     c.blocks_mut.ensures.value c.new-at.ensures.is_of.len place.lane place.pass place.slice (get_or_read weave.left.items lane c.index.result.now fits c.index.ensures 0)
     c.fill_next_column.ensures.value in
-    let fewer : (with_item c.self.inside.left c.args.lane (c.index_mut-2.result.now - 1)).items
+    let fewer : (with_item c.self.inside.left c.args.lane (c.index_mut.result.now - 1)).items
     ≡ set c.self.inside.left.items c.args.lane (slice_index c.self.inside.left.items c.args.lane - 1) =
-    ap (λ (n : ℕ). set weave.left.items lane (n - 1)) (get_or_read weave.left.items lane c.index_mut-2.result.now fits c.index_mut-2.ensures.value 0) in
-    let weaving = weaving_after w lane (with_items weave.blocks.held.list c.fill_next_column.new.blocks).items (with_item weave.left lane (c.index_mut-2.result.now - 1)).items
+    ap (λ (n : ℕ). set weave.left.items lane (n - 1)) (get_or_read weave.left.items lane c.index_mut.result.now fits c.index_mut.ensures.value 0) in
+    let weaving = weaving_after w lane (with_items weave.blocks.held.list c.fill_next_column.new.blocks).items (with_item weave.left lane (c.index_mut.result.now - 1)).items
     c.self.invariant.weaving some made fewer in
+    let list = weave.addresses.held.list in
+    let renewed : length (set c.blocks_mut-2.result.now lane c.fill_next_column.new.addresses) ≡ list.len =
+    length-set c.blocks_mut-2.result.now lane c.fill_next_column.new.addresses ∙ c.blocks_mut-2.ensures.len in
+    let same : (with_items list (set c.blocks_mut-2.result.now lane c.fill_next_column.new.addresses)).items
+    ≡ set list.items lane c.fill_next_column.new.addresses =
+    with_items_is list (set c.blocks_mut-2.result.now lane c.fill_next_column.new.addresses) renewed
+    ∙ ap (λ (blocks : List (List ℕ)). set blocks lane c.fill_next_column.new.addresses) c.blocks_mut-2.ensures.value in
     record {
       weaving = weaving;
-      addresses_size = length-set weave.addresses.items lane c.fill_next_column.new.addresses ∙ c.self.invariant.addresses_size;
-      addresses = addresses_stepped w lane (with_items weave.blocks.held.list c.fill_next_column.new.blocks).items weave.addresses.items
-          (with_item weave.left lane (c.index_mut-2.result.now - 1)).items c.fill_next_column.new.addresses at.len at.lane at.pass at.slice c.index.result.now
+      addresses_size = ap length same ∙ length-set list.items lane c.fill_next_column.new.addresses ∙ c.self.invariant.addresses_size;
+      addresses = rw same (addresses_stepped w lane (with_items weave.blocks.held.list c.fill_next_column.new.blocks).items list.items
+          (with_item weave.left lane (c.index_mut.result.now - 1)).items c.fill_next_column.new.addresses at.len at.lane at.pass at.slice c.index.result.now
           c.self.invariant.weaving some c.self.invariant.addresses_size c.new-at.ensures.is_of.len place.lane place.pass place.slice
-          (get_or_read weave.left.items lane c.index.result.now fits c.index.ensures 0) fewer c.fill_next_column.ensures.addresses c.self.invariant.addresses;
+          (get_or_read weave.left.items lane c.index.result.now fits c.index.ensures 0) fewer c.fill_next_column.ensures.addresses c.self.invariant.addresses);
     }
 
 pub returns-clause-matrix : goal.returns-clause-matrix
@@ -76,10 +83,10 @@ returns-clause-newest c =
     ∙ stepped w lane c.blocks_mut.result.now c.fill_next_column.new.blocks at.len at.lane at.pass at.slice c.index.result.now c.self.invariant.weaving some
     c.blocks_mut.ensures.value c.new-at.ensures.is_of.len place.lane place.pass place.slice (get_or_read weave.left.items lane c.index.result.now fits c.index.ensures 0)
     c.fill_next_column.ensures.value in
-    let fewer : (with_item c.self.inside.left c.args.lane (c.index_mut-2.result.now - 1)).items
+    let fewer : (with_item c.self.inside.left c.args.lane (c.index_mut.result.now - 1)).items
     ≡ set c.self.inside.left.items c.args.lane (slice_index c.self.inside.left.items c.args.lane - 1) =
-    ap (λ (n : ℕ). set weave.left.items lane (n - 1)) (get_or_read weave.left.items lane c.index_mut-2.result.now fits c.index_mut-2.ensures.value 0) in
-    let weaving = weaving_after w lane (with_items weave.blocks.held.list c.fill_next_column.new.blocks).items (with_item weave.left lane (c.index_mut-2.result.now - 1)).items
+    ap (λ (n : ℕ). set weave.left.items lane (n - 1)) (get_or_read weave.left.items lane c.index_mut.result.now fits c.index_mut.ensures.value 0) in
+    let weaving = weaving_after w lane (with_items weave.blocks.held.list c.fill_next_column.new.blocks).items (with_item weave.left lane (c.index_mut.result.now - 1)).items
     c.self.invariant.weaving some made fewer in
     weaving.newest
 
@@ -98,10 +105,10 @@ returns-clause-woven c =
     ∙ stepped w lane c.blocks_mut.result.now c.fill_next_column.new.blocks at.len at.lane at.pass at.slice c.index.result.now c.self.invariant.weaving some
     c.blocks_mut.ensures.value c.new-at.ensures.is_of.len place.lane place.pass place.slice (get_or_read weave.left.items lane c.index.result.now fits c.index.ensures 0)
     c.fill_next_column.ensures.value in
-    let fewer : (with_item c.self.inside.left c.args.lane (c.index_mut-2.result.now - 1)).items
+    let fewer : (with_item c.self.inside.left c.args.lane (c.index_mut.result.now - 1)).items
     ≡ set c.self.inside.left.items c.args.lane (slice_index c.self.inside.left.items c.args.lane - 1) =
-    ap (λ (n : ℕ). set weave.left.items lane (n - 1)) (get_or_read weave.left.items lane c.index_mut-2.result.now fits c.index_mut-2.ensures.value 0) in
-    rw (← c.self.view_is) (stepped_woven w lane (with_items weave.blocks.held.list c.fill_next_column.new.blocks).items (with_item weave.left lane (c.index_mut-2.result.now - 1)).items
+    ap (λ (n : ℕ). set weave.left.items lane (n - 1)) (get_or_read weave.left.items lane c.index_mut.result.now fits c.index_mut.ensures.value 0) in
+    rw (← c.self.view_is) (stepped_woven w lane (with_items weave.blocks.held.list c.fill_next_column.new.blocks).items (with_item weave.left lane (c.index_mut.result.now - 1)).items
     c.self.invariant.weaving some made fewer)
 
 pub returns-clause-share : goal.returns-clause-share
@@ -113,11 +120,11 @@ returns-clause-share c =
     let at = c.new-at.result in
     let place = c.new-at.ensures in
     let fits : c.args.lane < length c.self.inside.left.items = lane_with_some weave.left.items lane (length weave.left.items) refl some in
-    let fewer : (with_item c.self.inside.left c.args.lane (c.index_mut-2.result.now - 1)).items
+    let fewer : (with_item c.self.inside.left c.args.lane (c.index_mut.result.now - 1)).items
     ≡ set c.self.inside.left.items c.args.lane (slice_index c.self.inside.left.items c.args.lane - 1) =
-    ap (λ (n : ℕ). set weave.left.items lane (n - 1)) (get_or_read weave.left.items lane c.index_mut-2.result.now fits c.index_mut-2.ensures.value 0) in
+    ap (λ (n : ℕ). set weave.left.items lane (n - 1)) (get_or_read weave.left.items lane c.index_mut.result.now fits c.index_mut.ensures.value 0) in
     rw (← c.self.view_is)
-    (share_stepped w lane (with_items weave.blocks.held.list c.fill_next_column.new.blocks).items (with_item weave.left lane (c.index_mut-2.result.now - 1)).items
+    (share_stepped w lane (with_items weave.blocks.held.list c.fill_next_column.new.blocks).items (with_item weave.left lane (c.index_mut.result.now - 1)).items
     c.args.ticks.now c.fill_next_column.new.ticks at.len at.pass at.slice c.index.result.now
     c.self.invariant.weaving some c.new-at.ensures.is_of.len place.pass place.slice
     (get_or_read weave.left.items lane c.index.result.now fits c.index.ensures 0) fewer c.fill_next_column.ensures.count)
