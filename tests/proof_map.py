@@ -18,8 +18,9 @@ WIDTH, COLUMNS = 1200, [(30, 372), (446, 336), (826, 344)]
 PLACES = [["scrypt_command", "scrypt_run", "encfile", "aes_ctr"],
           ["command_words", "host", "tools", "comparison", "romix", "macs"],
           ["argon2_command", "argon_text", "argon", "blake"]]
-# Crates without a promise: lemmas, and the programs; and the functions for C, which promise what the calls below them do.
-UNDRAWN = ["four_words", "argon_tool", "scrypt_tool", "pikhsen_c"]
+# Crates without a promise: lemmas, a count, and the programs; and the functions for C, which promise what the calls
+# below them do.
+UNDRAWN = ["four_words", "counter", "argon_tool", "scrypt_tool", "pikhsen_c"]
 # Each standard as docs/DEFINITIONS.md names it, below the column of the crates that restate it.
 STANDARDS = [{"FORMAT": "scrypt's file", "SP 800-38A": "CTR mode", "FIPS 197": "AES", "FIPS 180-4": "SHA-256"},
              {"RFC 2104": "HMAC", "RFC 8018": "PBKDF2", "RFC 7914": "scrypt"},

@@ -41,6 +41,8 @@ expect 'Ticks::new()' "a counter is made by the test of a password, the function
     crates/argon_text/src/verify_password.rt crates/argon2_command/src/run.rt \
     crates/scrypt_command/src/run.rt crates/pikhsen_c/src/argon2.rt crates/pikhsen_c/src/encoded.rt \
     crates/pikhsen_c/src/file.rt crates/pikhsen_c/src/file.rt crates/pikhsen_c/src/scrypt.rt
+expect 'Count::new()' "argon and romix count, each in its own counter" crates/argon/src/ticks.rt crates/romix/src/ticks.rt
+expect '.plus_one()' "argon and romix count, each in its own counter" crates/argon/src/ticks.rt crates/romix/src/ticks.rt
 
 # Memory is reserved, and work begun, in one place for each way to it, where contracts say what was tested before.
 expect '::reserve(' "only a source of memory reserves, on the condition that limits admit the work" \

@@ -1,6 +1,5 @@
 pub mod Buffer
 pub mod ColumnBlock
-pub mod Counter
 pub mod FirstColumns
 pub mod FourWords
 pub mod Independent

@@ -1,24 +1,20 @@
-//! A count that contracts see. It takes no bytes, and its methods do nothing at run time.
+//! The count of block functions, which contracts see. It takes no bytes, and its methods do nothing at run time.
 ghost use Rattle.std.specs.Prelude.{◌≡◌, ℕ, ◌+◌};
-ghost use Rattle.std.specs.Borrow.{ftrue};
 
+use counter::Count;
 use std::marker::Model;
 
 /// How many block functions, that is, calls of the compression function G, were done with it.
 /// Contracts see a whole number without a bound. At run time it takes no bytes and can't be read.
 #[derive(Drop)]
 pub struct Ticks {
-    // keeps other modules from making one
-    seal: (),
-    ghost count: { ℕ },
+    count: Count,
 }
 
 impl Model for Ticks {
     ghost Value = { ℕ };
 
-    ghost view = { λ t. t.count };
-
-    ghost also_owns = { λ _. ftrue };
+    ghost view = { λ ticks. ticks.count };
 }
 
 impl Ticks {
@@ -26,21 +22,16 @@ impl Ticks {
     pub fn new() -> Ticks
         ensures zero { result ≡ 0 }
     {
-        Ticks { seal: () }
-    }
-
-    // The counter that stands one above another.
-    fn next(_before: &Ticks) -> Ticks
-        ensures one_more { result ≡ _before.now + 1 }
-    {
-        Ticks { seal: () }
+        Ticks {
+            count: Count::new(),
+        }
     }
 
     // Counts one block function.
     pub(crate) fn tick(&mut self)
         ensures one_more { self.new ≡ self.old + 1 }
     {
-        *self = Ticks::next(self);
+        self.count = self.count.plus_one();
     }
 }
 

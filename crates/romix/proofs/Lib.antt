@@ -1,4 +1,3 @@
-pub mod Counter
 pub mod FourLanes
 pub mod Keeps
 pub mod Kept

@@ -1,24 +1,20 @@
-//! A count that contracts see. It takes no bytes, and its methods do nothing at run time.
+//! The count of Salsa20/8 cores, which contracts see. It takes no bytes, and its methods do nothing at run time.
 ghost use Rattle.std.specs.Prelude.{◌≡◌, ℕ, ◌+◌};
-ghost use Rattle.std.specs.Borrow.{ftrue};
 
+use counter::Count;
 use std::marker::Model;
 
-/// A count of Salsa20/8 cores. Contracts see the number, which has no bound. It has no
-/// bytes, so counting costs nothing, and only this crate's core counts.
+/// How many Salsa20/8 cores were done with it. Contracts see a whole number without a bound. At run
+/// time it takes no bytes and can't be read.
 #[derive(Drop)]
 pub struct Ticks {
-    // keeps other modules from making one
-    seal: (),
-    ghost count: { ℕ },
+    count: Count,
 }
 
 impl Model for Ticks {
     ghost Value = { ℕ };
 
-    ghost view = { λ t. t.count };
-
-    ghost also_owns = { λ _. ftrue };
+    ghost view = { λ ticks. ticks.count };
 }
 
 impl Ticks {
@@ -26,21 +22,16 @@ impl Ticks {
     pub fn new() -> Ticks
         ensures zero { result ≡ 0 }
     {
-        Ticks { seal: () }
+        Ticks {
+            count: Count::new(),
+        }
     }
 
-    // A counter that has counted one more.
-    fn next(_before: &Ticks) -> Ticks
-        ensures more { result ≡ _before.now + 1 }
-    {
-        Ticks { seal: () }
-    }
-
-    /// Counts one.
+    // Counts one core.
     pub(crate) fn tick(&mut self)
-        ensures more { self.new ≡ self.old + 1 }
+        ensures one_more { self.new ≡ self.old + 1 }
     {
-        *self = Ticks::next(self);
+        self.count = self.count.plus_one();
     }
 }
 

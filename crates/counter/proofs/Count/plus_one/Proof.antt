@@ -18,18 +18,18 @@ use denote.Triple.Entry.{alive}
 use denote.Triple.Walked.{Goes-dropped, Stays, ends_at, says, stay_dropped, walk_of}
 use base.Fml.{ftrue}
 use Rattle.std.proofs.raw_atomic.Walks.{proved}
-use Rattle.argon.proofs.Counter.{for_nothing, stored}
-use Rattle.argon.specs.contracts.ticks.Ticks.{the_row}
-use Rattle.argon.specs.contracts.ticks.Ticks.next as f
-use Rattle.argon.proofs.ticks.Ticks.next.Statement.{statement}
-use Rattle.argon.proofs.ticks.Ticks.next.Code as code
+use Rattle.counter.proofs.Nothing.{for_nothing, stored}
+use Rattle.counter.specs.contracts.Count.{the_row}
+use Rattle.counter.specs.contracts.Count.plus_one as f
+use Rattle.counter.proofs.Count.plus_one.Statement.{statement}
+use Rattle.counter.proofs.Count.plus_one.Code as code
 
 -- nothing is wanted of the reference at the return
 abbrev stayed : Stays f.ended.signature.params f.ended.kept
 stayed = (stay_dropped _ yes, tt)
 
-pub next_spec : {M : Type 1} → statement M
-next_spec 𝓤 𝓛 𝓜 𝓡 wired =
+pub plus_one_spec : {M : Type 1} → statement M
+plus_one_spec 𝓤 𝓛 𝓜 𝓡 wired =
     let c = f.clauses 𝓛 𝓜.mem 𝓡.returns in let W = walk_of 𝓛 f.ended stayed c in
     proved 𝓛 f.ended stayed c 𝓜 𝓡 (Goes-dropped 𝓛 1 (RefOf (0 ∷ []) tt (plain (λ _. the_row)) (λ _. tt)) yes (λ κs x w. refl), tt)
     f.Key.name code.function (code.unfolded 𝓤 𝓛.H 𝓜 𝓡 wired)

@@ -11,11 +11,11 @@ use denote.Triple.Entry.{alive}
 use denote.Triple.Walked.{Stays, ends_at, says, walk_of}
 use base.Fml.{ftrue}
 use Rattle.std.proofs.raw_atomic.Walks.{proved}
-use Rattle.romix.proofs.Counter.{for_nothing, stored}
-use Rattle.romix.specs.contracts.ticks.Ticks.{the_row}
-use Rattle.romix.specs.contracts.ticks.Ticks.new as f
-use Rattle.romix.proofs.ticks.Ticks.new.Statement.{statement}
-use Rattle.romix.proofs.ticks.Ticks.new.Code as code
+use Rattle.counter.proofs.Nothing.{for_nothing, stored}
+use Rattle.counter.specs.contracts.Count.{the_row}
+use Rattle.counter.specs.contracts.Count.new as f
+use Rattle.counter.proofs.Count.new.Statement.{statement}
+use Rattle.counter.proofs.Count.new.Code as code
 
 -- there are no parameters, of which something could be left
 abbrev stayed : Stays f.ended.signature.params f.ended.kept
