@@ -207,7 +207,9 @@ def judge_all(name, words, logins):
         running.stdin.flush()
         answers = running.stdout.read(len(part)).decode()
         sizes.append(high_water(running))
-        for (password, text), answer in zip(part, answers, strict=True):
+        if len(answers) != len(part):
+            raise SystemExit(f"{name}: {len(answers)} answers to {len(part)} logins")
+        for (password, text), answer in zip(part, answers):
             if answer != answer_due(password, text):
                 due = answer_due(password, text)
                 raise SystemExit(f"{name}: {answer} and not {due} for {password!r}, {text[:200]!r}")

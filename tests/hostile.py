@@ -286,8 +286,14 @@ LARGE_REQUESTS = [
 ]
 
 
+INFO = Run("scrypt", "info -", F_MIB, b"N = 8192; r = 1; p = 1; memory = 1048576; cores = 32768\n", calls(LINE))
+
+
 def largest_requests(checks, system):
-    """No request is for more than 65,536 bytes above those of the matrix or the table, and one is for no fewer."""
+    """No request is for more than 65,536 bytes above those of the matrix or the table, and one is for no fewer; `info` of a file
+    asks for no table."""
+    found = system.run(INFO, {"HOSTILE_LARGEST": "65536"})
+    checks.that(f"no table: {INFO.program} {INFO.words}", found, (0, INFO.output, b"", None))
     for run, size in LARGE_REQUESTS:
         name = f"{run.program} {run.words}"
         found = system.run(run, {"HOSTILE_LARGEST": str(size + 65536)})
@@ -296,11 +302,16 @@ def largest_requests(checks, system):
         checks.that(f"a request as large: {name}", found, run.after("A10" if run.program == "argon2" else "S15", None))
 
 
+# A file is refused for its passphrase, once its table of 1 MiB was filled.
+WRONG_PASSPHRASE = (Run("scrypt", "dec --passphrase file:other-pw -", F_MIB, b"", calls(LINE), "S10"), 1 << 20)
+
+
 def freed_blocks(checks, system):
-    """Matrix and table hold zeros when they are freed."""
-    for run, size in LARGE_REQUESTS:
+    """Matrix and table hold zeros when they are freed, after a refusal, too."""
+    for run, size in [*LARGE_REQUESTS, WRONG_PASSPHRASE]:
         done, called, _ = system.logged(run, HOSTILE_FREED=str(size))
-        checks.that(f"over a system that looks: {run.program} {run.words}", done, (0, run.output, b"", None))
+        expected = (0, run.output, b"", None) if run.refusal is None else run.plain()
+        checks.that(f"over a system that looks: {run.program} {run.words}", done, expected)
         found = [call for call in called if call.startswith("free ")]
         checks.that(f"freed: {run.program} {run.words}", found, ["free zeros"])
     # a program that frees what it holds as it is: so the look at a block sees more than zeros

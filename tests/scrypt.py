@@ -194,6 +194,15 @@ def outfiles(checks):
         checks.put("out", before)
         found, out, _ = checks.run(words.split())
         checks.that(f"outfile: {name}", (found, out, checks.content("out")), (status, b"", after))
+    for name, mode, expected in (("a new one", None, 0o640), ("one that is there", 0o604, 0o604)):
+        checks.put("out", None if mode is None else b"before")
+        path = os.path.join(checks.folder, "out")
+        if mode is not None:
+            os.chmod(path, mode)
+        found = checks.shell(f'umask 027; "$0" dec {FROM_PW} F5 out')
+        modes = os.stat(path).st_mode & 0o7777
+        checks.that(f"permissions of an outfile: {name}", (found, modes), (done(), expected))
+        checks.put("out", None)
     checks.put("-", None)
     found = checks.run(f"dec {FROM_PW} F5 -".split())
     checks.that("a dash is a plain outfile", (found, checks.content("-")), (done(), b"hello"))

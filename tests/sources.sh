@@ -23,8 +23,8 @@ places() {
     grep -rnHF --include='*.rt' --exclude-dir=out --exclude-dir=tests --exclude=tests.rt --exclude=vectors.rt \
         -- "$2" "$1" | grep -vE '^[^:]*:[0-9]+: *//' | cut -d: -f1 | sort
 }
-# expect_below FOLDER TEXT REASON FILE..: below the folder the text stands once in each of these files, twice where it is
-# named twice, and nowhere else.
+# expect_below FOLDER TEXT REASON FILE..: below the folder the text stands once in each of these files, twice where it
+# is named twice, and nowhere else.
 expect_below() {
     folder=$1 text=$2 reason=$3
     shift 3
@@ -41,13 +41,29 @@ expect 'Ticks::new()' "a counter is made by the test of a password, the function
     crates/argon_text/src/verify_password.rt crates/argon2_command/src/run.rt \
     crates/scrypt_command/src/run.rt crates/pikhsen_c/src/argon2.rt crates/pikhsen_c/src/encoded.rt \
     crates/pikhsen_c/src/file.rt crates/pikhsen_c/src/file.rt crates/pikhsen_c/src/scrypt.rt
-expect 'Count::new()' "argon and romix count, each in its own counter" crates/argon/src/ticks.rt crates/romix/src/ticks.rt
-expect '.plus_one()' "argon and romix count, each in its own counter" crates/argon/src/ticks.rt crates/romix/src/ticks.rt
+for text in 'Count::new()' '.plus_one()'; do
+    expect "$text" "argon and romix count, each in its own counter" crates/argon/src/ticks.rt crates/romix/src/ticks.rt
+done
 
 # Memory is reserved, and work begun, in one place for each way to it, where contracts say what was tested before.
 expect '::reserve(' "only a source of memory reserves, on the condition that limits admit the work" \
     crates/argon_text/src/room.rt crates/argon2_command/src/room.rt crates/pikhsen_c/src/source.rt \
     crates/pikhsen_c/src/source.rt crates/scrypt_run/src/admission.rt
+expect_below crates/scrypt_run 'reserve(alloc,' "a run reserves one workspace, and info none" \
+    crates/scrypt_run/src/admission.rt crates/scrypt_run/src/decrypt.rt crates/scrypt_run/src/encrypt.rt
+expect 'reserve(alloc, sparse, &task.limits)' "the workspace is that of the request, under its limits" \
+    crates/scrypt_run/src/decrypt.rt
+expect 'reserve(alloc, sparse, &asked.task.limits)' "the workspace is that of the request, under its limits" \
+    crates/scrypt_run/src/encrypt.rt
+# Of what only hands on the heap, or a counter that it makes, no contract sees that a step is done twice.
+expect 'run(alloc' "a run is made once" crates/scrypt_command/src/run.rt
+expect 'attempt(' "a run is made once" crates/argon2_command/src/run.rt crates/scrypt_command/src/run.rt
+expect 'verify_in(' "a password is tested once" crates/argon_text/src/verify_password.rt \
+    crates/pikhsen_c/src/verifying.rt
+expect 'read_from(&mut' "a text is read once" crates/argon_text/src/read.rt
+expect '.decode(' "a salt or a tag is decoded once" crates/argon_text/src/room.rt
+expect 'reserve_from(&mut' "memory is asked for once" crates/argon/src/lanes.rt crates/argon/src/matrix.rt \
+    crates/romix/src/workspace.rt
 expect '.allocator()' "no function takes the heap out of what it is lent, but the writing of a text" \
     crates/argon_text/src/encoded.rt
 expect 'vec![in' "lists of a given length are made by the sources of memory alone" crates/argon/src/room.rt \
@@ -73,16 +89,15 @@ expect 'burn(told)' "zeros are put over the stack before an answer" crates/pikhs
     crates/pikhsen_c/src/encoded.rt crates/pikhsen_c/src/file.rt crates/pikhsen_c/src/file.rt \
     crates/pikhsen_c/src/scrypt.rt crates/pikhsen_c/src/verifying.rt
 for text in 'forget(' 'ManuallyDrop' 'leak(' 'into_raw('; do
-    for crate in pikhsen_c romix argon; do
-        expect_below "crates/$crate" "$text" "all memory that is taken is freed"
-    done
+    expect "$text" "all memory that is taken is freed"
 done
 # What comes from a password stands in lists that `Held::free` alone lets go of, on the condition that they hold zeros:
 # the type has no Drop and no further function, and its list is its module's. The other lists are zeros, or public.
 for name in 'argon:Block:new blocks blocks_mut free' 'romix:u32:new words free'; do
     file=crates/${name%%:*}/src/held.rt item=${name#*:}
     grep -qxF "    list: Vec<${item%%:*}>," "$file" || fail "$file: the list is lent by its module alone"
-    grep -qF '        requires wiped { self.list.items ≡ replicate ' "$file" || fail "$file: a list is freed when it holds zeros"
+    grep -qF '        requires wiped { self.list.items ≡ replicate ' "$file" ||
+        fail "$file: a list is freed when it holds zeros"
     test "$(grep -oE '\bfn \w+' "$file" | cut -c4- | tr '\n' ' ')" = "${item#*:} " ||
         fail "$file: a list is made, lent and freed by these functions alone"
     if grep -nE 'Drop|derive|Clone|mem::' "$file" | grep -vE '^[0-9]+: *//'; then
@@ -93,7 +108,8 @@ for text in 'clone(' 'Clone::' '.to_vec(' 'to_owned(' 'collect(' 'try_take(' 'al
     expect_below crates/romix "$text" "a list of words stands once until it is wiped"
     expect_below crates/argon "$text" "a list of blocks stands once until it is wiped"
 done
-expect_below crates/romix 'Vec::' "a list of words is made by the source of memory alone" crates/romix/src/reservation.rt
+expect_below crates/romix 'Vec::' "a list of words is made by the source of memory alone" \
+    crates/romix/src/reservation.rt
 expect_below crates/argon 'Vec::' "a list of blocks is made by the source of memory alone"
 expect_below crates/romix 'Vec<' "a list of words is not wiped" crates/romix/src/held.rt crates/romix/src/held.rt \
     crates/romix/src/reservation.rt crates/romix/src/reservation.rt crates/romix/src/reservation.rt \
@@ -113,6 +129,18 @@ expect 'Enc::start(' "a derivation for a new file is begun by enc and its functi
     crates/pikhsen_c/src/file.rt crates/scrypt_run/src/encrypt.rt
 expect 'Dec::open(' "a derivation for a file that is read is begun by dec and its function for C" \
     crates/pikhsen_c/src/file.rt crates/scrypt_run/src/decrypt.rt
+
+# The system's host hands each buffer on, and looks into none; and no program changes what a file may be used for.
+handed=$(sed -n '/^impl Host for SystemHost/,/^}/p' crates/tools/src/system_host.rt |
+    grep -vE '^ *(fn |//)' | grep -wE 'buf|bytes|line|out' | sed 's/^ *//')
+test "$handed" = 'Some(input) => read_some(input, buf),
+Some(output) => write_some(output, bytes),
+let read = read_secret(&mut self.rt, source, buf);
+counted(&mut self.salt_faults, read_salt(&mut self.rt, out))
+let said = eprintln!(self.rt; "{line}").map_err(|_| HostFault);' ||
+    fail "crates/tools/src/system_host.rt: a buffer is not handed on as it is"
+expect 'set_permissions' "a file keeps the permissions that it has or is made with"
+expect 'PermissionsExt' "a file keeps the permissions that it has or is made with"
 
 # A comparison that ends at the first byte that differs tells by its time where that is, and no contract sees time.
 expect 'are_same(tag, claim.tag)' "tags are compared over all their bytes" crates/argon_text/src/verify_password.rt

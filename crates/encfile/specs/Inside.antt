@@ -1,2 +1,2 @@
--- Helpers that private contracts and proofs cite; no public contract reaches them.
+-- Definitions that private contracts and proofs cite; no public contract reaches them.
 pub mod Lengths
