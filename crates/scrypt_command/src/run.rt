@@ -1,8 +1,10 @@
 //! A whole run of `scrypt`.
-ghost use Rattle.std.specs.Prelude.{◌≡◌, ◌≤◌, ◌^◌, Err, MatchResult, IfErr, IsOk, OnOk, IsTrue, map, string_bytes};
+ghost use Rattle.std.specs.Prelude.{◌≡◌, ◌≤◌, ◌+◌, ◌^◌, false, Err, MatchResult, IfOk, IfErr, IsOk, OnOk, IsTrue, map, string_bytes};
 ghost use Rattle.host.specs.Faults.{AreBelow};
 ghost use Rattle.host.specs.Seen.{IsFresh};
-ghost use Rattle.scrypt_run.specs.Refusal.{counted_by};
+ghost use Rattle.scrypt_run.specs.Refusal.{counted_by, may_follow_work};
+ghost use Rattle.scrypt_run.specs.Run.{most_cores};
+ghost use Rattle.scrypt_run.specs.Work.{EndsAfterWork, RequestWorks};
 ghost use Rattle.scrypt_run.specs.declared.refusal.ScryptRefusal.{ScryptRefusal};
 ghost use Rattle.scrypt_command.specs.Request.{scrypt_request};
 ghost use Rattle.scrypt_command.specs.Run.{IsRefused, Refuses, Succeeds, TellsOfWords, TellsWords};
@@ -14,7 +16,12 @@ use scrypt_run::{ScryptRefusal, run};
 use std::alloc::Global;
 
 // All of a run but the line of a refusal.
-fn attempt<H: Host>(alloc: Global, words: &[String], host: &mut H) -> Result<(), ScryptRefusal>
+fn attempt<H: Host>(
+    alloc: Global,
+    words: &[String],
+    host: &mut H,
+    ticks: &mut Ticks,
+) -> Result<(), ScryptRefusal>
     requires room { AreBelow (2 ^ 63) (H.faults host.old) }
     requires fresh { IsTrue H.tells → IsFresh (H.seen host.old) }
     ensures counts { MatchResult result (λ _. H.faults host.new ≡ H.faults host.old)
@@ -28,9 +35,21 @@ fn attempt<H: Host>(alloc: Global, words: &[String], host: &mut H) -> Result<(),
         OnOk result (Succeeds (map string_bytes words.now) (H.seen host.old) (H.seen host.new)) }
     ensures refused { IsTrue H.tells → IfErr result (λ r.
         IsRefused r (map string_bytes words.now) (H.seen host.old) (H.seen host.new)) }
+    // Words that are refused cost no core, and others no more than their limit.
+    ensures work_bound { MatchResult (scrypt_request (map string_bytes words.now))
+        (λ request. ticks.new ≤ ticks.old + most_cores request) (λ _. ticks.new ≡ ticks.old) }
+    ensures idle { IfErr result (λ r. may_follow_work r ≡ false → ticks.new ≡ ticks.old) }
+    // What ends well, or is refused after the derivation, counts exactly one.
+    ensures count { IsTrue H.tells → OnOk result (IfOk (scrypt_request (map string_bytes words.now))
+        (λ request. RequestWorks request (H.seen host.old) ticks.old ticks.new)) }
+    ensures worked { IsTrue H.tells → IfErr result (λ r. EndsAfterWork r (H.seen host.new)
+        → IfOk (scrypt_request (map string_bytes words.now))
+        (λ request. RequestWorks request (H.seen host.old) ticks.old ticks.new)) }
+    ensures unworked { IsTrue H.tells → IfErr result (λ r.
+        (EndsAfterWork r (H.seen host.new) → ⊥) → ticks.new ≡ ticks.old) }
 {
     match read_request(alloc, words) {
-        Ok(request) => run(alloc, host, &request, &mut Ticks::new()),
+        Ok(request) => run(alloc, host, &request, ticks),
         Err(refusal) => Err(refusal),
     }
 }
@@ -59,7 +78,7 @@ pub fn scrypt<H: Host>(alloc: Global, words: &[String], host: &mut H) -> u8
     ensures refuses { result ≡ 1 → Refuses H.tells (map string_bytes words.now)
         (H.seen host.old) (H.seen host.new) (H.faults host.old) (H.faults host.new) }
 {
-    match attempt(alloc, words, host) {
+    match attempt(alloc, words, host, &mut Ticks::new()) {
         Ok(()) => 0,
         Err(refusal) => refuse(host, refusal.line()),
     }
