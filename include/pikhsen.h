@@ -1,6 +1,7 @@
 /*
  * pikhsen.h: Argon2 (RFC 9106, and its version 0x10), scrypt (RFC 7914) and scrypt's encrypted files, version 0, from
- * proved libraries. For Linux on x86-64. man 3 pikhsen tells more.
+ * proved libraries. For Linux on x86-64. man 3 pikhsen tells more. The library does not look at the processor: below
+ * x86-64-v2 the process may end by an illegal instruction.
  *
  * What holds of every function:
  *
@@ -33,9 +34,9 @@ extern "C" {
 /* The version of this header, as pikhsen_version() tells that of the library. */
 #define PIKHSEN_VERSION 100u
 
-/* Stands at each function whose answer must be looked at. */
+/* Stands at each function whose answer must be looked at, and whose pointers must not be null. */
 #ifdef __GNUC__
-#define PIKHSEN_MUST_CHECK __attribute__((__warn_unused_result__))
+#define PIKHSEN_MUST_CHECK __attribute__((__warn_unused_result__, __nonnull__))
 #else
 #define PIKHSEN_MUST_CHECK
 #endif
@@ -118,7 +119,8 @@ unsigned int pikhsen_argon2_encoded(unsigned int kind, unsigned int version, uns
  * PIKHSEN_MISMATCH: it is not. Any other answer: that is not known. 0 is yes: compare with PIKHSEN_OK, since a bare
  * "if (pikhsen_argon2_verify(..))" takes a yes for a no. A text without a version is read as one of version 0x10. A
  * text can ask for 4 TiB and for days, so limits, as above, are tested before memory for the hash is asked for; memory
- * for the text's salt and tag, together less than text_len bytes, is asked for before that.
+ * for the text's salt and tag, together less than text_len bytes, is asked for before that. A password of no bytes or
+ * of more than 127 is PIKHSEN_PASSWORD_LENGTH: refuse it when it is enrolled, and take it for a wrong one at a login.
  */
 PIKHSEN_MUST_CHECK
 unsigned int pikhsen_argon2_verify(const unsigned char *text, size_t text_len, const unsigned char *password,

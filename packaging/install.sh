@@ -5,13 +5,14 @@
 #     packaging/install.sh install FOLDER PROGRAMS LIBRARY      also the library for C, from that with libpikhsen.a
 #     packaging/install.sh uninstall FOLDER
 #
-# PREFIX is what pikhsen.pc says of where it lies; FOLDER where it is not set. Below FOLDER, where these are not set:
-# PIKHSEN_ZSH is where completions of zsh go, share/zsh/site-functions; PIKHSEN_LIB where the library goes, lib;
-# PIKHSEN_PYTHON where its module for Python goes, share/pikhsen.
+# PREFIX is what pikhsen.pc says of where it lies; FOLDER where it is not set. It begins with a slash. Below FOLDER,
+# where these are not set: PIKHSEN_ZSH is where completions of zsh go, share/zsh/site-functions; PIKHSEN_LIB where the
+# library goes, lib; PIKHSEN_PYTHON where its module for Python goes, share/pikhsen.
 set -eu
 umask 022
 cd "$(dirname "$0")/.."
 what=$1 below=$2 programs=${3:-bin} library=${4:-}
+prefix=${PREFIX:-$below}
 zsh=${PIKHSEN_ZSH:-share/zsh/site-functions} lib=${PIKHSEN_LIB:-lib} python=${PIKHSEN_PYTHON:-share/pikhsen}
 case $what in
 install | uninstall) ;;
@@ -20,14 +21,24 @@ install | uninstall) ;;
     exit 2
     ;;
 esac
+if test "$what" = install && test "${prefix#/}" = "$prefix"; then
+    echo "packaging/install.sh: $prefix does not begin with /, as PREFIX, or FOLDER in its place, must" >&2
+    exit 2
+fi
 
-# A file, with its permissions, into a folder; or away from there.
+# A file, with its permissions, into a folder, by its own name or by another; or away from there.
 place() {
+    to=$below/$3/${4:-${2##*/}}
     if test "$what" = install; then
-        install -D -m "$1" -t "$below/$3" "$2"
+        install -D -m "$1" -T "$2" "$to"
     else
-        rm -f "$below/$3/${2##*/}"
+        rm -f "$to"
     fi
+}
+
+# A text as sed takes it between the second and the third | of s|||.
+escaped() {
+    printf '%s\n' "$1" | sed 's/[&|\\]/\\&/g'
 }
 
 for name in argon2 scrypt; do
@@ -42,13 +53,16 @@ if test "$what" = uninstall || test -n "$library"; then
     place 644 "$library/libpikhsen.so.0" "$lib"
     place 644 include/pikhsen.h include
     place 644 man/pikhsen.3 share/man/man3
-    place 644 python/pikhsen.py "$python"
-    rm -f "$below/$lib/libpikhsen.so" "$below/$lib/pkgconfig/pikhsen.pc" "$below/$python"/__pycache__/pikhsen.*.pyc
+    # py.typed tells checkers that the module has types. It counts in a folder of the module's own alone.
+    place 644 python/pikhsen.py "$python/pikhsen" __init__.py
+    place 644 /dev/null "$python/pikhsen" py.typed
+    rm -f "$below/$lib/libpikhsen.so" "$below/$lib/pkgconfig/pikhsen.pc" \
+        "$below/$python"/pikhsen/__pycache__/__init__.*.pyc
     if test "$what" = install; then
         ln -s libpikhsen.so.0 "$below/$lib/libpikhsen.so"
         mkdir -p "$below/$lib/pkgconfig"
-        sed "s|@PREFIX@|${PREFIX:-$below}|; s|@LIB@|$lib|; s|@VERSION@|$(cat VERSION)|" packaging/pikhsen.pc.in \
-            >"$below/$lib/pkgconfig/pikhsen.pc"
+        sed "s|@PREFIX@|$(escaped "$prefix")|; s|@LIB@|$(escaped "$lib")|; s|@VERSION@|$(cat VERSION)|" \
+            packaging/pikhsen.pc.in >"$below/$lib/pkgconfig/pikhsen.pc"
         chmod 644 "$below/$lib/pkgconfig/pikhsen.pc"
     fi
 fi
@@ -59,5 +73,6 @@ for file in docs/*.md docs/*.svg docs/*.tsv; do
     place 644 "$file" share/doc/pikhsen/docs
 done
 test "$what" = uninstall || exit 0
-rmdir "$below/$python/__pycache__" "$below/$python" "$below/$lib/pkgconfig" 2>/dev/null || true
+rmdir "$below/$python/pikhsen/__pycache__" "$below/$python/pikhsen" "$below/$python" "$below/$lib/pkgconfig" \
+    2>/dev/null || true
 rmdir -p --ignore-fail-on-non-empty "$below/share/doc/pikhsen/docs" 2>/dev/null || true

@@ -12,16 +12,17 @@ Passwords, salts and files are bytes, or anything else that holds bytes: a bytea
 refused raises Refused, whose `status` tells why, and numbers that are out of range raise Invalid, a ValueError.
 
 Limits: `max_kib` is in KiB, `max_bytes` in bytes. The work of Argon2 is counted in block functions, one for each KiB
-and pass and a few more; that of scrypt in cores of Salsa20/8, 4 * r * p * 2 ** log_n of them with `keep` 1. On a
-machine of 2026 a million block functions took about 1.3 seconds, and 2 ** 28 cores, which `decrypt` allows, 15 to 35.
+and pass and a few more; that of scrypt in cores of Salsa20/8, 4 * r * p * 2 ** log_n of them with `keep` 1. On a Xeon
+of 2.5 GHz a million block functions took 0.7 to 2.1 seconds, most at 256 MiB, and 2 ** 28 cores, which `decrypt`
+allows, 20 to 27.
 
 Threads and processes: a call lets other threads run meanwhile, and any number of calls may run at a time. Ctrl-C is
 heeded when the call is over, so limits are what bounds the time. Work is best spread over threads; for processes take
 the start methods spawn or forkserver of multiprocessing, since the library is not to be called in the forked child of
 a process with threads.
 
-The library is libpikhsen.so.0, or the file that the variable PIKHSEN_LIBRARY names, which an empty value and the
-options -E and -I of Python leave out of account.
+The library is libpikhsen.so.0, or the file that the variable PIKHSEN_LIBRARY names. An empty value counts as none, and
+under Python's options -E and -I the variable is not read.
 """
 import ctypes
 import enum
@@ -29,15 +30,19 @@ import operator
 import os
 import sys
 from ctypes import POINTER, byref, c_char_p, c_size_t, c_uint, c_ulong
-from typing import Callable, Dict, List, NamedTuple, Optional, Type, Union
+from typing import TYPE_CHECKING, Callable, Dict, List, NamedTuple, Optional, Type, Union
 
 __all__ = [
     "BytesLike", "Costs", "Damaged", "Invalid", "Kind", "LimitExceeded", "NotAFile", "OutOfMemory", "Refused", "Status",
     "WrongPassphrase", "decrypt", "encode", "encrypt", "hash", "info", "scrypt", "verify", "version",
 ]
 
-# What is taken for bytes: these, and whatever else a memoryview can be made of, but no str.
-BytesLike = Union[bytes, bytearray, memoryview]
+# What is taken for bytes: all that a memoryview can be made of, so no str. In Python 3.9 only checkers of types have a
+# name for that; a program that runs finds three of these types here.
+if TYPE_CHECKING:
+    from _typeshed import ReadableBuffer as BytesLike
+else:
+    BytesLike = Union[bytes, bytearray, memoryview]
 
 
 class Kind(enum.IntEnum):
@@ -84,7 +89,8 @@ class Status(enum.IntEnum):
     FILE_SALT = 30
 
 
-# What the statuses say, as pikhsen.h and man 3 pikhsen do.
+# What the statuses say, as pikhsen.h and man 3 pikhsen do, but for BUFFER: a program in Python gives no buffer, and
+# nothing but the length of a key by scrypt is refused so.
 _SENTENCES: Dict[int, str] = {
     Status.OK: "the call did what it says",
     Status.PASSES: "Argon2: passes are not 1 to 2^32-1",
@@ -99,7 +105,7 @@ _SENTENCES: Dict[int, str] = {
     Status.KIND: "Argon2: the kind is not 0, 1 or 2",
     Status.ARGON2_VERSION: "Argon2: the version is not 0x10 or 0x13",
     Status.INPUT_LENGTH: "Argon2: secret or data have 2^32 bytes or more",
-    Status.BUFFER: "out has not the length that the function needs",
+    Status.BUFFER: "scrypt: the length is not 0 to 32 * (2^32-1)",
     Status.NOT_ENCODED: "the text is no encoded text",
     Status.OUT_OF_RANGE: "the text is an encoded text with a value out of range",
     Status.MISMATCH: "the password is not that of the text",
@@ -251,6 +257,13 @@ def _bytes(given: BytesLike) -> bytes:
     return given if type(given) is bytes else memoryview(given).tobytes()
 
 
+def _beginning(given: BytesLike, length: int) -> bytes:
+    """The first bytes, so many if there are as many. No more items than that are copied."""
+    view = memoryview(given)
+    # what has no dimension is one item, and can't be cut
+    return (view[:length] if view.ndim else view).tobytes()[:length]
+
+
 def _u32(number: int, other: int = 0) -> int:
     """The number, or the other, which is refused for the same reason, where the number doesn't fit 32 bits."""
     number = operator.index(number)
@@ -368,9 +381,11 @@ def scrypt(
     With `keep` S above 1, a power of two up to 1024 and N, every S-th row of the table is kept: 1/S of the memory, up
     to (1 + S) / 2 times the work, and the same key.
 
-    Raises LimitExceeded, before memory is taken, where the table, 128 * r * N / S bytes, or 128 * r * p bytes are more
-    than `max_bytes` (4 GiB if not given), or 2 * r * p * N * (1 + S) cores of Salsa20/8 more than `max_ops`. Two rows
-    of 128 * r bytes, or three with S above 1, come beside the table. Raises Invalid where an argument is out of range.
+    Raises LimitExceeded, before memory for the table is taken, where the table, 128 * r * N / S bytes, or 128 * r * p
+    bytes are more than `max_bytes` (4 GiB if not given), or 2 * r * p * N * (1 + S) cores of Salsa20/8 more than
+    `max_ops`. Two rows of 128 * r bytes, or three with S above 1, come beside the table, so where r is great and N / S
+    small up to four times `max_bytes` is taken. Memory for the key's own bytes is taken first, and no limit counts it.
+    Raises Invalid where an argument is out of range.
     """
     length = operator.index(length)
     if not 0 <= length <= 32 * _TOP:
@@ -386,7 +401,7 @@ def scrypt(
 def info(file: BytesLike) -> Costs:
     """The costs that the first 64 bytes of a file say. Anyone can make them, so they don't tell who wrote the file."""
     costs = _Costs()
-    _call(_lib.pikhsen_scrypt_info, _bytes(file)[:64], byref(costs))
+    _call(_lib.pikhsen_scrypt_info, _beginning(file, 64), byref(costs))
     return Costs(costs.log_n, costs.r, costs.p)
 
 
@@ -413,19 +428,25 @@ def decrypt(
 ) -> bytes:
     """The text of an encrypted file, if the whole file is right under the passphrase, its final code included.
 
-    Raises NotAFile, LimitExceeded, WrongPassphrase or Damaged otherwise, and then gives nothing of the text.
+    Otherwise it gives nothing of the text, and raises the first of these that has a reason: NotAFile; Invalid, where
+    `keep` is no power of two up to 1024, or above the file's N; LimitExceeded; OutOfMemory; WrongPassphrase; Damaged.
 
-    The file may come from a stranger and ask for any costs. What it may take is bounded by `max_bytes`, in bytes, and
-    `max_ops`, in cores of Salsa20/8, as `scrypt` counts them. If nothing else is said these are 1 GiB, enough for log_n
-    20 and r 8, and 2 ** 28, for which a machine of 2026 took 15 to 35 seconds. Ctrl-C waits for the end of the call.
+    The file may come from a stranger and ask for any costs. What opening it may take is bounded by `max_bytes`, in
+    bytes, and `max_ops`, in cores of Salsa20/8, as `scrypt` counts them: up to four times `max_bytes` is taken where r
+    is great and N / `keep` small. If nothing else is said these are 1 GiB, enough for log_n 20 and r 8, and 2 ** 28,
+    for which a Xeon of 2.5 GHz took 20 to 27 seconds. Copies of file and text, up to three times the file's length,
+    come beside that; a long input that does not begin as a file does is refused before it is copied. Ctrl-C waits for
+    the end of the call.
     """
+    front = _beginning(file, 96)
+    given = (_bytes(passphrase), _u32(keep), *_limits(max_bytes, max_ops))
+    # the library tests the length first, then the header, then all else
+    if len(front) == 96:
+        info(front)
     file = _bytes(file)
     out, text_len = _buffer(len(file)), c_size_t()
     try:
-        _call(
-            _lib.pikhsen_scrypt_decrypt, _bytes(passphrase), _u32(keep), *_limits(max_bytes, max_ops), file, out,
-            byref(text_len),
-        )
+        _call(_lib.pikhsen_scrypt_decrypt, *given, file, out, byref(text_len))
         return _front(out, text_len.value)
     finally:
         ctypes.memset(out, 0, len(out))

@@ -1,8 +1,8 @@
 #!/usr/bin/env python3
 """Builds libpikhsen over what the gate proved, and calls it from C and from Python: header and exports are the same,
 both ways to link, RFC vectors, hashlib, each byte of a file changed, each cut, threads, processes, keys that a call
-leaves in memory, libraries that the module must refuse, what README and the manual page show, and Debian's
-packages.
+leaves in memory, libraries that the module must refuse, what README and the manual page show, what packaging/install.sh
+puts below a folder and takes away again, and Debian's packages.
 
     tests/c_face.py              rt lib proves and builds crates/pikhsen_c, over what earlier proofs left
     tests/c_face.py --built      takes the static library as make lib or an earlier run left it
@@ -11,15 +11,19 @@ packages.
 import array
 import concurrent.futures
 import copy
+import ctypes
 import hashlib
+import mmap
 import os
 import pathlib
 import pickle
 import re
+import shlex
 import shutil
 import subprocess
 import sys
 import tempfile
+import time
 
 from checking import Checks
 
@@ -58,6 +62,8 @@ RENAMED = {
     "HeaderFault::CostsOutOfRange": "FILE_COSTS",
     "ReadFault::NotInGrammar": "NOT_ENCODED",
 }
+# What the module says in its own words, since in Python nobody gives an `out`.
+OF_THE_MODULE = {"BUFFER": "scrypt: the length is not 0 to 32 * (2^32-1)"}
 
 
 # ---- header, sources, Python module and manual page
@@ -108,6 +114,11 @@ def numbers_of_header():
     return {name: (int(number), says) for name, number, says in found}
 
 
+def expected_of_module():
+    """The numbers and what they say in Python."""
+    return {name: (it, OF_THE_MODULE.get(name, says)) for name, (it, says) in numbers_of_header().items()}
+
+
 def numbers_of_module():
     table = MODULE.split("class Status(")[1].split("\nclass ")[0]
     numbers = dict(re.findall(r"^    (\w+) = (\d+)$", table, re.MULTILINE))
@@ -143,7 +154,7 @@ def compare_texts(checks):
     numbers = numbers_of_header()
     plain = {name: number for name, (number, _) in numbers.items()}
     checks.that("numbers of the sources", numbers_of_sources(), plain)
-    checks.that("numbers of the Python module", numbers_of_module(), numbers)
+    checks.that("numbers of the Python module", numbers_of_module(), expected_of_module())
     checks.that("numbers of the manual page", numbers_of_page(), numbers)
     checks.that("numbers, each once", sorted(plain.values()), list(range(len(numbers))))
     checks.that("kinds", kinds(), [{"D": 0, "I": 1, "ID": 2}] * 3)
@@ -161,23 +172,58 @@ def compare_texts(checks):
         checks.that(f"{name} hands on once, then wipes the stack, and does nothing else", is_so, True)
     synopsis = re.sub(r"\n +", " ", PAGE.split("\n.SH ")[2])
     checks.that("prototypes of the manual page", prototypes(synopsis), declared)
+    overheads = [re.findall(form, text) for form, text in (
+        (r"\n#define PIKHSEN_FILE_OVERHEAD (\d+)\n", HEADER), (r"PIKHSEN_FILE_OVERHEAD ,\n(\d+), bytes longer", PAGE)
+    )]
+    checks.that("overhead of a file, of the header and the manual page", overheads, [["128"]] * 2)
     version = (TOP / "VERSION").read_text(encoding="utf-8").strip()
-    checks.that("version of the manual page", f'"Pikhsen {version}"' in PAGE.split("\n")[0], True)
-    if shutil.which("mandoc"):
+    first_lines = PAGE.split("\n")[:2]
+    checks.that("the manual page asks for tbl", first_lines[0], "'\\\" t")
+    checks.that("version of the manual page", f'"Pikhsen {version}"' in first_lines[1], True)
+    if is_there("mandoc", "the manual page is not looked at"):
         checks.that("manual page", said("mandoc", "-T", "lint", str(TOP / "man/pikhsen.3"), check=False), "")
-    if shutil.which("mypy"):
-        # the oldest Python that README promises
-        words = ["mypy", "--strict", "--python-version", "3.9", "--no-error-summary", "--cache-dir=/dev/null"]
-        ran = subprocess.run([*words, TOP / "python/pikhsen.py"], stdout=subprocess.PIPE, stderr=subprocess.STDOUT,
-                             text=True)
-        checks.that("types of the Python module", (ran.returncode, ran.stdout), (0, ""))
+    if is_there("mypy", "types of the Python module are not looked at"):
+        checks.that("types of the Python module and of its callers", types(MYPYPATH=str(TOP / "python")), (0, ""))
     first, second, third = map(int, version.split("."))
     number = 10000 * first + 100 * second + third
     checks.that("version of the header", re.findall(r"PIKHSEN_VERSION (\d+)u", HEADER), [str(number)])
     checks.that("version of the sources", f"\n    {number}\n}}" in SOURCES["version"], True)
 
 
+# What passes bytes in some forms, and a text: mypy says so where it need not be told to leave that error out.
+CALLER = """import array
+import mmap
+import pikhsen
+
+
+def costs(file: pikhsen.BytesLike) -> int:
+    return pikhsen.info(file).log_n
+
+
+with mmap.mmap(-1, 128) as file:
+    print(costs(file), pikhsen.decrypt(file, array.array("B", b"pw"), keep=2), pikhsen.verify("text", bytearray(b"pw")))
+pikhsen.info("file")  # type: ignore[arg-type]
+"""
+
+
+def types(*words, **environment):
+    """What mypy says of a caller of the module, and of the module."""
+    # the oldest Python that README promises
+    strict = ["mypy", "--strict", "--python-version", "3.9", "--no-error-summary", "--cache-dir=/dev/null"]
+    ran = subprocess.run([*strict, *words, "-c", CALLER], env={"PATH": os.environ["PATH"], **environment},
+                         stdout=subprocess.PIPE, stderr=subprocess.STDOUT, text=True)
+    return ran.returncode, ran.stdout
+
+
 # ---- the library
+
+
+def is_there(program, without):
+    """Whether a program is installed. Where it is not, what is left out is said."""
+    found = shutil.which(program) is not None
+    if not found:
+        print(f"{program} is not installed: {without}")
+    return found
 
 
 def said(*words, check=True):
@@ -213,20 +259,34 @@ def compile_c(source, lib, out, static, *flags, compiler="gcc"):
     return ran.returncode, ran.stdout
 
 
+def warned_of(checks, folder, name, body, warning):
+    """The compiler warns of this in the body of a function, and of nothing else."""
+    source = pathlib.Path(folder, "warned_of.c")
+    head = '#include "pikhsen.h"\nunsigned int f(const unsigned char *file, struct pikhsen_scrypt_costs *costs)\n'
+    source.write_text(f"{head}{{\n    {body}\n}}\n", encoding="utf-8")
+    words = ["gcc", *STRICT, "-Wno-unused-parameter", *INCLUDE, "-c", source, "-o", f"{folder}/warned_of.o"]
+    ran = subprocess.run(words, stderr=subprocess.PIPE, text=True)
+    found = re.findall(r"\[-W(?:error=)?([\w-]+)\]$", ran.stderr, re.MULTILINE)
+    checks.that(f"warned of: {name}", (ran.returncode, found), (1, [warning]))
+
+
 def from_c(checks, folder, lib):
+    has_cpp = is_there("g++", "the header is not compiled as C++, and nothing is called from it")
+    has_valgrind = is_there("valgrind", "nothing runs under it")
     empty = pathlib.Path(folder, "empty.c")
     empty.write_text('#include "pikhsen.h"\n', encoding="utf-8")
-    for words in (["gcc", *STRICT], ["g++", "-Wall", "-Wextra", "-Werror", "-x", "c++"]):
-        if shutil.which(words[0]):
-            ran = subprocess.run([*words, *INCLUDE, "-fsyntax-only", empty], stderr=subprocess.PIPE, text=True)
-            checks.that(f"header under {words[0]}", (ran.returncode, ran.stderr), (0, ""))
-    ignored = pathlib.Path(folder, "ignored.c")
-    ignored.write_text('#include "pikhsen.h"\nvoid f(void) { pikhsen_scrypt_info(0, 0, 0); }\n', encoding="utf-8")
-    words = ["gcc", *STRICT, *INCLUDE, "-c", ignored, "-o", f"{folder}/ignored.o"]
-    ran = subprocess.run(words, stderr=subprocess.PIPE, text=True)
-    checks.that("an answer that is ignored", (ran.returncode, "unused-result" in ran.stderr), (1, True))
+    for words in (["gcc", *STRICT], *([["g++", "-Wall", "-Wextra", "-Werror", "-x", "c++"]] if has_cpp else [])):
+        ran = subprocess.run([*words, *INCLUDE, "-fsyntax-only", empty], stderr=subprocess.PIPE, text=True)
+        checks.that(f"header under {words[0]}", (ran.returncode, ran.stderr), (0, ""))
+    for name, body, warning in (
+        ("an answer that is ignored", "pikhsen_scrypt_info(file, 64, costs); return 0;", "unused-result"),
+        ("a null pointer with length 0", "return pikhsen_scrypt_info(0, 0, costs);", "nonnull"),
+        ("a null pointer without a length", "return pikhsen_scrypt_info(file, 64, 0);", "nonnull"),
+    ):
+        warned_of(checks, folder, name, body, warning)
     for static in (True, False):
-        from_cpp(checks, folder, lib, static)
+        if has_cpp:
+            from_cpp(checks, folder, lib, static)
         for refuse in (["-DREFUSE"], []):
             name = f"c_face.c {'static' if static else 'shared'} {' '.join(refuse)}"
             program = f"{folder}/program"
@@ -234,7 +294,7 @@ def from_c(checks, folder, lib):
             checks.that(f"{name}, compiled", made, (0, ""))
             ran = subprocess.run([program], stdout=subprocess.PIPE, stderr=subprocess.STDOUT, text=True)
             checks.that(name, (ran.returncode, ran.stdout), (0, ""))
-            if not refuse and shutil.which("valgrind"):
+            if not refuse and has_valgrind:
                 words = ["valgrind", "-q", "--error-exitcode=9", "--leak-check=full", "--track-origins=yes", program]
                 ran = subprocess.run(words, stdout=subprocess.PIPE, stderr=subprocess.STDOUT, text=True)
                 checks.that(f"{name} under valgrind", (ran.returncode, ran.stdout), (0, ""))
@@ -257,8 +317,6 @@ int main() {
 
 def from_cpp(checks, folder, lib, static):
     """One call, compiled and linked as C++."""
-    if not shutil.which("g++"):
-        return
     source, program = pathlib.Path(folder, "call.cpp"), f"{folder}/call"
     source.write_text(CPP, encoding="utf-8")
     strict = ["-Wall", "-Wextra", "-pedantic", "-Werror", "-Wold-style-cast", "-Wconversion", "-Wsign-conversion"]
@@ -317,17 +375,13 @@ def first_blocks(kib, lanes, length):
 def secrets_from_c(checks, folder, lib, pikhsen):
     """After a call no key is in writable memory, on the stack or elsewhere: none of the four pieces of the 64 derived
     bytes, nor what they are made of. And the memory that a call frees, but for texts of hashes, holds zeros alone."""
-    salt, costs = b"\7" * 32, {"log_n": 6, "r": 8, "p": 1}
-    keys = hashlib.scrypt(b"pw", salt=salt, n=64, r=8, p=1, dklen=64)
-    of_key = {f"bytes {at} to {at + 15}": keys[at:at + 16] for at in range(0, 64, 16)}
-    pieces = {**of_key, **first_rows(), **first_blocks(64, 2, 64), **first_blocks(64, 2, 32)}
-    file = pikhsen.encrypt(bytes(1000), b"pw", salt=salt, **costs)
     program = f"{folder}/secrets"
     # -z now: to bind a name at its first call would store vector registers, and a piece of a key may be in these
     flags = ["-Wl,-z,now", "-Wl,--wrap=malloc,--wrap=realloc,--wrap=free"]
     made = compile_c(TOP / "tests/secrets.c", lib, program, True, *STRICT, *flags)
     checks.that("secrets.c, compiled", made, (0, ""))
-    for words in ([], ["keys"], ["painted"], ["painted", "kept"], ["freed", "kept"], ["key", "kept"]):
+    of_two = [[it, "kept"] for it in ("painted", "freed", "again", "key")]
+    for words in ([], ["keys"], ["painted"], ["again"], *of_two):
         found = subprocess.run([program, *words], stdin=subprocess.DEVNULL, stdout=subprocess.DEVNULL).returncode
         checks.that(f"secrets.c, other words: {words}", found, 2)
     # a matrix of 64 KiB; a table of 64 rows, or 16, of 1,024 bytes, and two rows, or three; four rows of 128 bytes, and
@@ -344,23 +398,52 @@ def secrets_from_c(checks, folder, lib, pikhsen):
         checks.that(f"freed by: {what}", found, f"told {told}, freed {freed}, not zero 0\n")
     found = said(program, "freed", "seven", check=False)
     checks.that("freed, and not wiped before", found, "told 0, freed 1024, not zero 1024\n")
-    # the first two show that the search finds what is there, on the stack too
+    try:
+        searches_from_c(checks, program, pikhsen)
+    except PermissionError as why:
+        print(f"the memory of a process may not be read here ({why}): keys are not looked for")
+
+
+def searches_from_c(checks, program, pikhsen):
+    """What a search finds after each call, and, to show that it finds what is there, while such calls are made."""
+    salt = b"\7" * 32
+    keys = hashlib.scrypt(b"pw", salt=salt, n=64, r=8, p=1, dklen=64)
+    of_key = {f"bytes {at} to {at + 15}": keys[at:at + 16] for at in range(0, 64, 16)}
+    rows, blocks, other_blocks = first_rows(), first_blocks(64, 2, 64), first_blocks(64, 2, 32)
+    pieces = {**of_key, **rows, **blocks, **other_blocks}
+    file = pikhsen.encrypt(bytes(1000), b"pw", salt=salt, log_n=6, r=8, p=1)
+    # the first two show that the search finds a key, on the stack too
     for what, given, expected in (
         ("kept", b"", sorted(of_key)), ("stack", b"", sorted(of_key)), ("hash", b"", []), ("encoded", b"", []),
         ("verify", b"", []), ("key", b"", []), ("sparse", b"", []), ("encrypt", b"", []), ("decrypt", file, []),
     ):
-        with subprocess.Popen([program, what], stdin=subprocess.PIPE, stdout=subprocess.PIPE) as process:
+        found = searched(checks, [program, what], given, lambda process: kept_pieces(process, pieces))
+        checks.that(f"keys in memory after: {what}", found, expected)
+    # a row stands in its own order only before it is turned
+    turned = {name: piece for name, piece in rows.items() if "table" in name}
+    for what, wanted in (("hash", blocks), ("encoded", other_blocks), ("key", turned), ("sparse", turned)):
+        found = searched(checks, [program, "again", what], b"", lambda process: pieces_during(process, wanted))
+        checks.that(f"what a key is made of, in memory during: {what}", found, sorted(wanted))
+
+
+def searched(checks, words, given, search):
+    """What a search finds in the memory of a process that made a call."""
+    with subprocess.Popen(words, stdin=subprocess.PIPE, stdout=subprocess.PIPE) as process:
+        try:
             process.stdin.write(given)
             process.stdin.flush()
-            checks.that(f"answer of: {what}", process.stdout.readline(), b"0\n")
-            try:
-                found = kept_pieces(process, pieces)
-            except OSError as why:
-                print(f"the memory of a process may not be read here ({why}): keys are not looked for")
-                return
-            finally:
-                process.kill()
-            checks.that(f"keys in memory after: {what}", found, expected)
+            checks.that(f"answer of: {' '.join(words[1:])}", process.stdout.readline(), b"0\n")
+            return search(process)
+        finally:
+            process.kill()
+
+
+def pieces_during(process, wanted):
+    """Which of these bytes stand in the memory of a process at one time or another; 30 seconds are enough for all."""
+    found, end = set(), time.monotonic() + 30
+    while len(found) < len(wanted) and time.monotonic() < end:
+        found.update(kept_pieces(process, wanted))
+    return sorted(found)
 
 
 # ---- from Python
@@ -477,6 +560,44 @@ def files_from_python(checks, pikhsen):
         ({"max_bytes": 1 << 20}, "MEMORY_LIMIT"), ({"max_ops": 1 << 20}, "WORK_LIMIT"), ({"keep": 7}, "KEEP"),
     ):
         checks.that(f"decrypt {limits}", refusal(pikhsen.decrypt, large, b"pw", **limits), why)
+    low = pikhsen.encrypt(b"", b"", log_n=3)
+    checks.that("decrypt, keep above N", refusal(pikhsen.decrypt, low, b"", keep=16), "KEEP_ABOVE_N")
+    # of several reasons the first: wrong types, the length, the header, keep, the limits
+    none = {"keep": 7, "max_bytes": 0, "max_ops": 0}
+    for name, given, named, why in (
+        ("no bytes", "file", {"keep": "x"}, "TypeError"), ("no number", b"", {"keep": "x"}, "TypeError"),
+        ("95 bytes", bytes(95), none, "TOO_SHORT"), ("95 bytes of a file", file[:95], none, "TOO_SHORT"),
+        ("96 bytes", bytes(96), none, "MAGIC"), ("a wrong sum", changed[63], none, "CHECKSUM"),
+        ("keep", file, none, "KEEP"), ("limits", file, {**none, "keep": 1}, "MEMORY_LIMIT"),
+    ):
+        checks.that(f"the first reason: {name}", (refusal(pikhsen.decrypt, given, b"PW", **named) or "")[:9], why[:9])
+    checks.that("no passphrase, and no file", refusal(pikhsen.decrypt, bytes(96), "PW")[:9], "TypeError")
+    checks.that("a header and no file", refusal(pikhsen.info, bytes(64)), "MAGIC")
+
+
+NO_FILE = """import mmap, pikhsen, resource, sys
+with open(sys.argv[1], "rb") as file, mmap.mmap(file.fileno(), 0, access=mmap.ACCESS_READ) as content:
+    with open("/proc/self/statm") as sizes:
+        taken = int(sizes.read().split()[0]) * mmap.PAGESIZE
+    resource.setrlimit(resource.RLIMIT_AS, (taken + (64 << 20), resource.getrlimit(resource.RLIMIT_AS)[1]))
+    for call in (pikhsen.info, lambda it: pikhsen.decrypt(it, b"pw"), lambda it: pikhsen.info(memoryview(it)[4:])):
+        try:
+            print(call(content))
+        except (MemoryError, ValueError) as refused:
+            print(repr(refused))
+"""
+
+
+def large_from_python(checks, folder, lib):
+    """What is no file is refused before it is copied: a GiB of it, where 64 MiB are left to the process."""
+    with open(f"{folder}/large", "wb") as large:
+        large.write(b"no file")
+        large.truncate(1 << 30)
+    environment = {**os.environ, "PIKHSEN_LIBRARY": f"{lib}/libpikhsen.so.0", "PYTHONPATH": str(TOP / "python")}
+    ran = subprocess.run([sys.executable, "-B", "-c", NO_FILE, f"{folder}/large"], env=environment,
+                         stdout=subprocess.PIPE, stderr=subprocess.STDOUT, text=True)
+    checks.that("a GiB that is no file", ran.stdout, "NotAFile(<Status.MAGIC: 22>)\n" * 3)
+    os.remove(f"{folder}/large")
 
 
 def threads_from_python(checks, pikhsen):
@@ -499,6 +620,24 @@ class Longer(bytes):
         return super().__len__() + 9
 
 
+def mapped(content):
+    """A map of memory with these bytes; there is none of no bytes."""
+    memory = mmap.mmap(-1, len(content) or 1)
+    memory[:len(content)] = content
+    return memory if content else content
+
+
+def in_rows(content):
+    """Rows of four bytes; there are none of no bytes."""
+    return memoryview(content).cast("B", (len(content) // 4, 4)) if content else content
+
+
+def in_structure(content):
+    """One item that holds all the bytes, and has no dimension."""
+    fields = [("held", ctypes.c_char * len(content))]
+    return type("Structure", (ctypes.Structure,), {"_fields_": fields}).from_buffer_copy(content)
+
+
 def arguments_from_python(checks, pikhsen):
     """All that holds bytes is taken for its bytes, and nothing else is."""
     # all have lengths that 4 divides, and so has the text
@@ -511,6 +650,7 @@ def arguments_from_python(checks, pikhsen):
         ("bytearray", bytearray), ("subclass", Longer), ("memoryview", memoryview),
         ("items of four bytes", lambda it: array.array("I", it)),
         ("every other byte", lambda it: memoryview(bytes(b for each in it for b in (each, 0)))[::2]),
+        ("mmap", mapped), ("two dimensions", in_rows), ("no dimension", in_structure),
     ):
         checks.that(f"hash, {name}", pikhsen.hash(form(b"password"), form(salt), secret=form(b""), **small), tag)
         checks.that(f"encode, {name}", pikhsen.encode(form(b"password"), salt=form(salt), **small), text)
@@ -598,7 +738,7 @@ def exceptions_from_python(checks, pikhsen):
         is_value = status is not pikhsen.Status.OUT_OF_MEMORY
         found = isinstance(made, ValueError), isinstance(made, MemoryError)
         checks.that(f"family of {made!r}", found, (is_value, not is_value))
-        checks.that(f"sentence of {status!r}", str(made), numbers_of_header()[status.name][1])
+        checks.that(f"sentence of {status!r}", str(made), expected_of_module()[status.name][1])
     checks.that("memory", pikhsen.OutOfMemory.__mro__[1:3], (MemoryError, pikhsen.Refused))
 
 
@@ -637,8 +777,8 @@ def libraries_of_python(checks, folder, lib):
         ("named", right, [], version), ("of another version", other, [], "version 1.2.3, and this module is for 0.x"),
         ("that lacks a function", lacks, [], "ImportError: libpikhsen can't be loaded"),
         ("that is not there", f"{folder}/none", [], "ImportError: libpikhsen can't be loaded"),
-        ("found, under an empty name", "", [], version), ("found, under -I", other, ["-I"], version),
-        ("found, under -E", other, ["-E"], version),
+        ("found, under an empty name", "", [], version), ("found, under -I", other, ["-I", "-B"], version),
+        ("found, under -E", other, ["-E", "-B"], version),
     ):
         environment = {**os.environ, "LD_LIBRARY_PATH": lib, "PIKHSEN_LIBRARY": named, "PYTHONDONTWRITEBYTECODE": "1"}
         ran = subprocess.run([sys.executable, *options, "-c", module], env=environment, stdout=subprocess.PIPE,
@@ -708,14 +848,79 @@ def page_runs(checks, folder, lib):
     checks.that("the manual page's example", said("sh", "-c", f"{folder}/example", check=False), "welcome\n")
 
 
+# ---- what is installed
+
+
+def install(*words, **environment):
+    """Status and output of packaging/install.sh; of the environment it has the path, and what is given."""
+    ran = subprocess.run([TOP / "packaging/install.sh", *words], env={"PATH": os.environ["PATH"], **environment},
+                         stdout=subprocess.PIPE, stderr=subprocess.STDOUT, text=True)
+    return ran.returncode, ran.stdout
+
+
+def files_below(folder):
+    return sorted(str(it.relative_to(folder)) for it in pathlib.Path(folder).rglob("*") if not it.is_dir())
+
+
+def installed(checks, folder, lib):
+    """What packaging/install.sh puts below a folder is found there, and all of it is taken away again."""
+    programs, below = pathlib.Path(folder, "programs"), pathlib.Path(folder, "this&that|other")
+    for path in (programs, below):
+        path.mkdir()
+    for name in ("argon2", "scrypt"):
+        (programs / name).touch()
+    found = install("install", below, programs, lib, PREFIX="usr/local")[0], files_below(below)
+    checks.that("a prefix that does not begin with a slash", found, (2, []))
+    found = install("install", below, programs, lib, PREFIX="/a\\b&c|d", PIKHSEN_LIB="lib/e&f|g")
+    text = (below / "lib/e&f|g/pkgconfig/pikhsen.pc").read_text(encoding="utf-8")
+    checks.that("a prefix with signs of sed's", (found, text.splitlines()[:2]),
+                ((0, ""), ["prefix=/a\\b&c|d", "libdir=${prefix}/lib/e&f|g"]))
+    taken_away(checks, below, PIKHSEN_LIB="lib/e&f|g")
+    checks.that("install", install("install", below, programs, lib), (0, ""))
+    module_installed(checks, folder, below)
+    if is_there("pkg-config", "what it says of the library is not looked at"):
+        environment = {"PATH": os.environ["PATH"], "PKG_CONFIG_PATH": str(below / "lib/pkgconfig")}
+        ran = subprocess.run(["pkg-config", "--cflags", "--libs", "pikhsen"], env=environment, stdout=subprocess.PIPE,
+                             text=True)
+        checks.that("pkg-config", shlex.split(ran.stdout), [f"-I{below}/include", f"-L{below}/lib", "-lpikhsen"])
+    taken_away(checks, below)
+
+
+def taken_away(checks, below, **environment):
+    before = {it.rpartition("/")[2] for it in files_below(below)}
+    wanted = {"scrypt", "libpikhsen.a", "libpikhsen.so", "libpikhsen.so.0", "pikhsen.h", "pikhsen.3", "README.md"}
+    checks.that("files, installed", sorted(wanted - before), [])
+    found = install("uninstall", below, **environment), files_below(below)
+    checks.that("uninstall, and what is left", found, ((0, ""), []))
+
+
+def module_installed(checks, folder, below):
+    """Python finds the installed module, which leaves its bytecode there, and mypy finds that it has types."""
+    modules = below / "share/pikhsen"
+    environment = {"PYTHONPATH": str(modules), "PIKHSEN_LIBRARY": str(below / "lib/libpikhsen.so.0")}
+    ran = subprocess.run([sys.executable, "-c", "import pikhsen; print(pikhsen.__file__)"], env=environment, cwd=folder,
+                         stdout=subprocess.PIPE, stderr=subprocess.STDOUT, text=True)
+    checks.that("the installed module", ran.stdout, f"{modules}/pikhsen/__init__.py\n")
+    checks.that("its bytecode", any(it.endswith(".pyc") for it in files_below(modules)), True)
+    if is_there("mypy", "types of the installed module are not looked at"):
+        # a Python of its own, since mypy asks for py.typed only where Python finds a module by itself
+        subprocess.run([sys.executable, "-m", "venv", "--without-pip", f"{folder}/venv"], check=True)
+        site = next(pathlib.Path(folder, "venv").glob("lib/python*/site-packages"))
+        (site / "installed.pth").write_text(f"{modules}\n", encoding="utf-8")
+        found = types("--python-executable", f"{folder}/venv/bin/python")
+        checks.that("types of the installed module", found, (0, ""))
+
+
 # ---- the packages for Debian
 
 
 def packages(checks, folder, lib):
-    """The packages for Debian are the same bytes each time and have each file once; README's programs run with what is in
-    them."""
-    if not shutil.which("dpkg-deb") or not (TOP / "bin/x86-64-v2/scrypt").exists():
-        print("dpkg-deb is not installed, or the programs are not built: packages are not made")
+    """The packages for Debian are the same bytes each time and have each file once; README's programs run with what is
+    in them."""
+    if not is_there("dpkg-deb", "packages are not made"):
+        return
+    if not (TOP / "bin/x86-64-v2/scrypt").exists():
+        print("the programs are not built: packages are not made")
         return
     made = []
     for out in (f"{folder}/packages", f"{folder}/same"):
@@ -747,8 +952,7 @@ def main():
     compare_texts(checks)
     if "--read" in sys.argv:
         checks.end()
-    if not shutil.which("gcc"):
-        print("gcc is not installed: the library is not built, and not called")
+    if not is_there("gcc", "the library is not built, and not called"):
         checks.end()
     with tempfile.TemporaryDirectory() as folder:
         lib = build(checks, folder)
@@ -764,9 +968,11 @@ def main():
         ):
             part(checks, pikhsen)
         secrets_from_c(checks, folder, lib, pikhsen)
+        large_from_python(checks, folder, lib)
         libraries_of_python(checks, folder, lib)
         readme_runs(checks, folder, lib)
         page_runs(checks, folder, lib)
+        installed(checks, folder, lib)
         packages(checks, folder, lib)
     checks.end()
 

@@ -1,5 +1,5 @@
 /*
- * What calls of libpikhsen leave in memory, for tests/c_face.py, in three ways. CALL is hash, encoded, verify, key,
+ * What calls of libpikhsen leave in memory, for tests/c_face.py, in four ways. CALL is hash, encoded, verify, key,
  * sparse (a key over every fourth row of the table), encrypt, decrypt, wrong (decrypt with a wrong passphrase),
  * small-key (over rows of 128 bytes), or large-hash and large-key (over 8 MiB).
  *
@@ -10,6 +10,11 @@
  *     secrets stack       the same, in an array on the stack
  *     secrets decrypt     the text of the file of 1,128 bytes that is standard input's beginning
  *     secrets CALL        any other call; a key is wiped after it
+ *
+ * Or makes one call, says the same, and makes the call again and again, for a minute if nobody ends the process before,
+ * so that what a key is made of can be found while it is still there:
+ *
+ *     secrets again CALL
  *
  * Or paints the stack below the frame of a function, makes one call from there, and looks at the paint:
  *
@@ -240,6 +245,19 @@ static int wait_after_call(const char *what)
 	return wait_after(told);
 }
 
+/* Ends with status 1 where a call is refused. */
+static int again(unsigned int (*call)(void))
+{
+	unsigned int told = call();
+
+	alarm(60);
+	if (write(1, told == PIKHSEN_OK ? "0\n" : "1\n", 2) != 2)
+		return 1;
+	while (told == PIKHSEN_OK)
+		told = call();
+	return 1;
+}
+
 /* ---- on a painted stack */
 
 /*
@@ -311,6 +329,8 @@ int main(int count, char **words)
 	call = call_of(words[2]);
 	if (call == NULL)
 		return 2;
+	if (strcmp(words[1], "again") == 0)
+		return again(call);
 	if (strcmp(words[1], "painted") == 0)
 		return painted(call);
 	if (strcmp(words[1], "freed") == 0) {
