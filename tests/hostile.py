@@ -86,7 +86,12 @@ def password(*rows):
 LOOKED = ("look at /proc/self/fd/1", None)
 WRITTEN = [("look at /proc/self/fd/0", None), LOOKED, ("write standard output", "A9", 0)]
 LINE = ("write standard error", "no line")
-OPENED_OUT = [("open out", "S13"), ("look at out", "S13", 0), ("empty out", "S13", 0)]
+
+
+def opened_out(*read):
+    """The opening of `out`: what is read is looked at while it is open, and before it is emptied."""
+    return [("open out", "S13"), ("look at out", "S13", 0), *((f"look at {name}", refusal, 0) for name, refusal in read),
+            ("empty out", "S13", 0)]
 
 
 def read_twice(name, refusal):
@@ -104,8 +109,8 @@ def enc_body(source, target):
 
 
 ENC_HELLO_OUT = calls(
-    ("open hello", "S12"), ("open pw", "S4a"), *read_twice("pw", "S4a"), ("look at hello", "S13"), ("look at pw", "S13"),
-    *OPENED_OUT, *enc_body("hello", "out"),
+    ("open hello", "S12"), ("open pw", "S4a"), *read_twice("pw", "S4a"), *opened_out(("hello", "S13"), ("pw", "S13")),
+    *enc_body("hello", "out"),
 )
 DEC_F5 = calls(
     ("open F5", "S12"), ("read F5", "S12"), ("open pw", "S4a"), *read_twice("pw", "S4a"), ("look at F5", "S13"),
@@ -154,8 +159,8 @@ RUNS = [
     Run(
         "scrypt", "dec -P F5 out", b"pw\n", b"hello",
         calls(
-            ("open F5", "S12"), ("read F5", "S12"), *read_twice("standard input", "S4a"), ("look at F5", "S13"),
-            ("look at /proc/self/fd/0", None), *OPENED_OUT, ("read F5", "S12", 0), ("write out", "S13", 0), ("read F5", "S12", 5),
+            ("open F5", "S12"), ("read F5", "S12"), *read_twice("standard input", "S4a"),
+            *opened_out(("F5", "S13"), ("/proc/self/fd/0", None)), ("read F5", "S12", 0), ("write out", "S13", 0), ("read F5", "S12", 5),
         ),
         to_file=True,
     ),
@@ -178,7 +183,7 @@ RUNS = [
         "scrypt", f"dec {FROM_PW} F5-cut-127 out", b"", b"",
         calls(
             ("open F5-cut-127", "S12"), ("read F5-cut-127", "S12"), ("open pw", "S4a"), *read_twice("pw", "S4a"),
-            ("look at F5-cut-127", "S13"), ("look at pw", "S13"), *OPENED_OUT, ("read F5-cut-127", "S12", 0),
+            *opened_out(("F5-cut-127", "S13"), ("pw", "S13")), ("read F5-cut-127", "S12", 0),
             ("read F5-cut-127", "S12", 0), ("write standard error", "no line", 0),
         ),
         "S11", to_file=True,

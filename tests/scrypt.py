@@ -418,6 +418,59 @@ def output_by_a_bind_mount(checks):
     checks.that("the input by a bind mount", (found, checks.content("kept")), (refused("S13"), b"kept"))
 
 
+def over_layers(checks, content, text):
+    """What a shell's line does in a file system of layers, in whose lower layer the file `kept` has this content and two names, and
+    what `kept` holds after it. None where there can be no such file system."""
+    folder = tempfile.mkdtemp(dir=checks.folder)
+    for layer in ("below", "above", "work", "merged"):
+        os.mkdir(os.path.join(folder, layer))
+    below = os.path.join(folder, "below")
+    for name, held in (("kept", content), ("hello", b"hello"), ("pw", FILES["pw"])):
+        with open(os.path.join(below, name), "wb") as file:
+            file.write(held)
+    os.link(os.path.join(below, "kept"), os.path.join(below, "hard-link"))
+    os.symlink("kept", os.path.join(below, "symbolic-link"))
+    mount = "mount -t overlay overlay -o lowerdir=below,upperdir=above,workdir=work,index=off merged"
+    line = f"cd {folder} && {mount} || exit 99; cd merged; {text}; s=$?; cp kept ../after; exit $s"
+    found = checks.shell(f"unshare -m --propagation private sh -c '{line}' \"$0\"")
+    after = checks.content(os.path.join(folder, "after"))
+    return None if after is None else (found, after)
+
+
+def outputs_over_layers(checks):
+    """The same on overlayfs: there a file that is opened to be written is copied, and each descriptor of it, also one that was opened
+    before, tells from then on the numbers of the copy."""
+    if over_layers(checks, b"kept", "true") != (done(), b"kept"):
+        print("skipped: a file system of layers, which root alone can mount, and not over each other one")
+        return
+    from_secret = "--passphrase file:kept"
+    for content, words in (
+        (b"kept", f"enc {COSTS} {FROM_PW} kept ./kept"),
+        (b"kept", f"enc {COSTS} {FROM_PW} kept symbolic-link"),
+        (b"kept", f"enc {COSTS} {FROM_PW} symbolic-link kept"),
+        (b"kept", f"enc {COSTS} {FROM_PW} - kept <kept"),
+        (b"kept", f"enc {COSTS} {FROM_PW} kept >>kept"),
+        (b"kept", f"enc {COSTS} {FROM_PW} kept 1<>kept"),
+        (b"kept", f"enc {COSTS} {FROM_PW} - <kept >>kept"),
+        (b"kept", f"enc {COSTS} {FROM_PW} - <kept 1<>kept"),
+        (F5, f"dec {FROM_PW} kept ./kept"),
+        (F5, f"dec {FROM_PW} - kept <kept"),
+        (F5, f"dec {FROM_PW} kept >>kept"),
+        (F5[:-1], f"dec {FROM_PW} kept ./kept"),
+        (b"pw\n", f"enc {COSTS} {from_secret} hello ./kept"),
+        (b"pw\n", f"enc {COSTS} {from_secret} hello symbolic-link"),
+        (b"pw\n", f"enc {COSTS} {from_secret} hello >>kept"),
+        (b"pw\n", f"enc {COSTS} -P hello ./kept <kept"),
+        (b"pw\n", f"enc {COSTS} -P hello <kept >>kept"),
+    ):
+        found = over_layers(checks, content, f'"$0" {words}')
+        checks.that(f"over layers: {words}", found, (refused("S13"), content))
+    # Without an index the copy is another file than its hard link, and what is not read is written.
+    for words, out in ((f"enc {FIXED} {FROM_PW} hello kept", F5), (f"enc {FIXED} {FROM_PW} hello hard-link", b"kept")):
+        found = over_layers(checks, b"kept", f'"$0" {words}')
+        checks.that(f"over layers: {words}", found, (done(), out))
+
+
 def large_costs(checks):
     """No memory is wanted where there is enough: a block past r of 32, and a table above 64 MiB."""
     for costs in ("--logN 10 -r 33 -p 1", "--logN 10 -r 128 -p 2", "--logN 16 -r 9 -p 1", "--logN 15 -r 24 -p 1"):
@@ -523,6 +576,7 @@ def main():
         outputs_that_are_read(checks)
         standard_output_that_is_read(checks)
         output_by_a_bind_mount(checks)
+        outputs_over_layers(checks)
         words_of_bytes(checks)
         passphrase_of_bytes(checks)
         lengths(checks)

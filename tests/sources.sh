@@ -130,6 +130,14 @@ expect 'Enc::start(' "a derivation for a new file is begun by enc and its functi
 expect 'Dec::open(' "a derivation for a file that is read is begun by dec and its function for C" \
     crates/pikhsen_c/src/file.rt crates/scrypt_run/src/decrypt.rt
 
+# What is emptied was compared with what is read when it was open, and no opening empties.
+expect 'OpenOptions::new()' "an output is opened in one place, and not emptied there" crates/tools/src/system_files.rt
+expect 'open_named(files' "a named output is opened beside what is read" crates/tools/src/system_files.rt
+expect '.set_len(' "a file is emptied by what asks that it is not read" crates/tools/src/system_files.rt
+for text in '.truncate(' 'File::create' 'File::options' 'fs::write'; do
+    expect "$text" "no opening empties a file"
+done
+
 # The system's host hands each buffer on, and looks into none; and no program changes what a file may be used for.
 handed=$(sed -n '/^impl Host for SystemHost/,/^}/p' crates/tools/src/system_host.rt |
     grep -vE '^ *(fn |//)' | grep -wE 'buf|bytes|line|out' | sed 's/^ *//')

@@ -1,6 +1,7 @@
 #!/usr/bin/env python3
 """Types the story of README.md in an empty folder and compares what comes; its login is that of a test, and the text that its
-Rust program enrols is what the built argon2 writes.
+Rust program enrols is what the built argon2 writes. Then the examples of both manual pages, in each shell that they are for, also
+where a command before a pipe fails, a password is wrong, and the stored text is empty.
 
     tests/story.py FOLDER       in which the programs argon2 and scrypt lie
     tests/story.py --prove      proves, builds and runs the README's Rust program over the crates (some minutes)
@@ -8,6 +9,7 @@ Rust program enrols is what the built argon2 writes.
 import os
 import pathlib
 import re
+import shutil
 import subprocess
 import sys
 import tempfile
@@ -40,6 +42,121 @@ def printed(commands, folder):
             ["bash", "-c", script], stdin=subprocess.DEVNULL, stdout=subprocess.PIPE, cwd=room, env=environment
         )
     return ran.stdout.decode().split(END + "\n")[:-1]
+
+
+def examples(page):
+    """The examples of a manual page, in their order, as they are typed, and what the page says that they print."""
+    section = (TOP / "man" / page).read_text(encoding="utf-8").split("\n.SH EXAMPLES\n")[1].split("\n.SH ")[0]
+    found = []
+    for text in re.findall(r"^\.nf\n(.*?)^\.fi$", section, re.MULTILINE | re.DOTALL):
+        for written, meant in ((r"\-", "-"), (r"\(aq", "'"), (r"\e", "\\")):
+            text = text.replace(written, meant)
+        lines = text.splitlines(keepends=True)
+        if not any(line.startswith("$ ") for line in lines):
+            found.append((text, ""))
+            continue
+        typed = [line.removeprefix("$ ") for line in lines if line.startswith(("$ ", "    "))]
+        found.append(("".join(typed), "".join(line for line in lines if not line.startswith(("$ ", "    ")))))
+    return found
+
+
+class Shell:
+    """A shell with the programs on its path, in an empty folder."""
+
+    def __init__(self, name, programs, room):
+        self.name, self.room = name, room
+        self.environment = {**os.environ, "PATH": f"{os.path.abspath(programs)}:{os.environ['PATH']}", "LC_ALL": "C"}
+
+    def run(self, text, given=b"", **variables):
+        """Status and what is printed on both streams."""
+        ran = subprocess.run(
+            [self.name, "-c", text], input=given, stdout=subprocess.PIPE, stderr=subprocess.STDOUT, cwd=self.room,
+            env={**self.environment, **variables},
+        )
+        return ran.returncode, ran.stdout.decode()
+
+
+def scrypt_examples(checks, shell):
+    backup, look, opened, whole, again, typed, small, keep = examples("scrypt.1")
+
+    def expect(name, found, expected):
+        checks.that(f"scrypt.1 in {shell.name}: {name}", found, expected)
+
+    status, _ = shell.run(backup[0])
+    expect("a backup of what is not there fails", status != 0, True)
+    shell.run("mkdir letters; echo 'Dear Ada' >letters/to-ada; head -c 32 /dev/urandom | base64 >new-key")
+    expect("a backup", shell.run(backup[0]), (0, ""))
+    status, _ = shell.run(backup[0].replace("letters |", "letters nothere |"))
+    expect("a backup of which a part is not there fails", status != 0, True)
+    expect("a backup", shell.run(backup[0]), (0, ""))
+    expect("look at it", shell.run(look[0]), (0, look[1]))
+    expect("open it", shell.run(opened[0]), (0, ""))
+    expect("what was opened", shell.run("tar -tf letters.tar"), (0, "letters/\nletters/to-ada\n"))
+    expect("is it whole", shell.run(whole[0]), (0, "whole\n"))
+    shell.run("cp letters.enc saved; head -c 500 saved >letters.enc; cp letters.enc cut")
+    status, _ = shell.run(again[0])
+    kept = shell.run("cmp cut letters.enc; test ! -e letters.new && mv saved letters.enc")
+    expect("a new passphrase for a damaged file fails, and the file stays", (status != 0, kept), (True, (0, "")))
+    expect("a new passphrase", shell.run(again[0]), (0, ""))
+    expect("with it", shell.run(whole[0].replace("backup-key", "new-key")), (0, "whole\n"))
+    expect("without it", shell.run(whole[0]), (1, "scrypt: wrong passphrase\n"))
+    expect("no text was left", shell.run("ls")[1].split(), ["backup-key", "cut", "letters", "letters.enc", "letters.tar", "new-key"])
+    asked = "Passphrase: \n" * 2
+    for name, given in (("other words", b"words\nwords.\n"), ("an empty line", b"\n\n"), ("nothing", b"")):
+        status, said = shell.run(typed[0], given)
+        expect(f"typed twice, {name}", (status != 0, "whole" in said), (True, False))
+    expect("typed twice", shell.run(typed[0], b"words of ours\nwords of ours\n"), (0, asked + "whole\n"))
+    key = {"KEY": "words of ours"}
+    expect("a small machine", shell.run(small[0], **key), (0, small[1]))
+    status, _ = shell.run(small[0].splitlines(keepends=True)[1] + small[0].splitlines(keepends=True)[2])
+    expect("a small machine without the variable fails", status, 1)
+    expect("what it made", shell.run("scrypt info small.enc; scrypt dec --passphrase env:KEY small.enc | cmp - letters.tar", **key),
+           (0, "N = 32768; r = 8; p = 2; memory = 33554432; cores = 2097152\n"))
+    expect("rows kept in part", shell.run(keep[0] + "cmp letters.part letters.tar", **key), (0, ""))
+
+
+def argon2_examples(checks, shell):
+    enrol, ask, check, key = examples("argon2.1")
+
+    def expect(name, found, expected):
+        checks.that(f"argon2.1 in {shell.name}: {name}", found, expected)
+
+    right = {"password": "correct horse"}
+    expect("a hash to keep", shell.run(enrol[0], **right), (0, ""))
+    if shell.name != "dash":
+        expect("a typed password", shell.run(ask[0] + check[0], b"correct horse\n"), (0, "Password: \nwelcome\n"))
+    expect("the right password", shell.run(check[0], **right), (0, "welcome\n"))
+    for password in ("battery staple", "correct horse ", "", "x" * 200):
+        status, said = shell.run(check[0], password=password)
+        expect(f"the password '{password}'", (status != 0, "welcome" in said), (True, False))
+    for name, stored in (("empty", ": >stored"), ("of a line feed", "echo >stored"), ("that is missing", "rm stored"),
+                         ("made of no password", enrol[0])):
+        shell.run(stored, password="")
+        for password in ("anything", "correct horse", ""):
+            status, said = shell.run(check[0], password=password)
+            expect(f"a stored text {name}, and the password '{password}'", (status != 0, "welcome" in said), (True, False))
+    status, said = shell.run(key[0], **right)
+    expect("a key", (status, len(bytes.fromhex(said))), (0, 64))
+
+
+def compare_examples(checks, programs):
+    for page, run, names in (("scrypt.1", scrypt_examples, ("bash", "zsh")), ("argon2.1", argon2_examples, ("bash", "dash", "zsh"))):
+        for name in names:
+            if shutil.which(name) is None:
+                print(f"skipped: the examples of {page} in {name}, which is not there")
+                continue
+            with tempfile.TemporaryDirectory() as room:
+                run(checks, Shell(name, programs, room))
+
+
+def compare_login(checks, programs, typed):
+    """The login of the story lets nobody in where the stored text is empty, and argon2 refuses the password."""
+    (login,) = [command for command, answer in typed if answer.endswith("welcome\n")]
+    with tempfile.TemporaryDirectory() as room:
+        shell = Shell("bash", programs, room)
+        for password in ("''", "%200d"):
+            status, said = shell.run(": >stored; " + login.replace("'correct horse'", password))
+            checks.that(f"README: {password} and an empty stored text", (status != 0, "welcome" in said), (True, False))
 
 
 def rust_program():
@@ -101,6 +218,8 @@ def main():
     checks.that("as many answers as commands", len(found), len(typed))
     for (command, expected), answer in zip(typed, found):
         checks.that(f"README: {command}", answer, expected)
+    compare_login(checks, sys.argv[1], typed)
+    compare_examples(checks, sys.argv[1])
     checks.end()
 
 

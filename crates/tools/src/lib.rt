@@ -7,6 +7,7 @@ mod inputs;
 mod outputs;
 mod placeholders;
 mod streams;
+mod system_files;
 mod system_host;
 
 pub use arguments::{WordsFault, words};

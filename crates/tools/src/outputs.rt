@@ -1,15 +1,15 @@
 //! What is written: the output.
-ghost use Rattle.std.specs.Prelude.{Option, None, IsNone, IsSome, IsErr, IfOk, IsOkAnd, OnOk, OnErr};
+ghost use Rattle.std.specs.Prelude.{◌≡◌, Option, None, IsErr, IfOk, IsOkAnd, OnOk, OnErr};
 ghost use Rattle.std.specs.Io.KnownBytes.{IsAtEnd, Keeps};
-ghost use Rattle.tools.specs.Identity.{IsKnown};
-ghost use Rattle.tools.specs.Inside.KnownFiles.{IncludesFile, IsOther, IsRead, IsRegular};
-ghost use Rattle.tools.specs.Opened.{IsNamedOutput, IsStandardOutput};
+ghost use Rattle.tools.specs.Identity.{AreKnown, IncludesFile, IsKnown, IsRead, IsUnread};
+ghost use Rattle.tools.specs.Inside.KnownFiles.{IsOther, IsRegular};
+ghost use Rattle.tools.specs.Opened.{IsStandardOutput};
 ghost use Rattle.tools.specs.declared.identity.FileIdentity.{FileIdentity};
+ghost use Rattle.tools.specs.declared.identity.FilesRead.{FilesRead};
 
-use crate::identity::{FileIdentity, FilesRead, regular_file, regular_stream};
-use crate::placeholders::beside_standard_streams;
+use crate::identity::{FileIdentity, FilesRead, regular_file};
 use host::HostFault;
-use std::fs::{File, OpenOptions};
+use std::fs::File;
 use std::io;
 use std::io::{Stdout, Write};
 
@@ -46,11 +46,6 @@ pub trait Writable: Write {
     /// Which regular file it is, if it is one.
     fn identity(&self) -> Result<Option<FileIdentity>, HostFault>
         ensures found { IfOk result (IsKnown (known self.now)) };
-
-    /// Takes away what it holds. After a fault it holds what it held.
-    fn empty(&mut self) -> Result<(), HostFault>
-        ensures emptied { OnOk result (IsAtEnd (Self.contents self.new)) }
-        ensures kept { OnErr result (Keeps (Self.contents self.old) (Self.contents self.new)) };
 }
 
 impl Writable for File {
@@ -59,30 +54,60 @@ impl Writable for File {
     fn identity(&self) -> Result<Option<FileIdentity>, HostFault> {
         regular_file(self)
     }
-
-    fn empty(&mut self) -> Result<(), HostFault> {
-        match self.set_len(0) {
-            Ok(()) => Ok(()),
-            Err(_) => Err(HostFault),
-        }
-    }
 }
 
-/// Empties an opened output, where it is a regular file. One of the files that are read is a fault. After
+/// Where outputs are opened and emptied, beside the files that are read. To open an output may change
+/// which files those are: a file system of layers, as overlayfs, copies a file that is opened to be written,
+/// and from then on each descriptor of the file tells the numbers of the copy. So what was found before the
+/// opening says nothing after it.
+pub trait Outputs {
+    type Opened: Writable + Drop;
+
+    // Which regular files are read now, where contracts know it.
+    ghost read: { Self → Option FilesRead };
+
+    /// Which regular files are read now.
+    fn files_read(&self) -> Result<FilesRead, HostFault>
+        ensures found { IfOk result (AreKnown (read self.now)) };
+
+    /// Opens the file of this name to be written, and makes it where it is not there. It holds what it held.
+    fn open(&mut self, name: &str) -> Result<Self::Opened, HostFault>;
+
+    /// Takes away what an opened file holds, which is none of those that are read now. After a fault it holds
+    /// what it held.
+    fn empty(&self, file: &mut Self::Opened) -> Result<(), HostFault>
+        requires unread { IsUnread (read self.now) (Self.Opened.known file.old) }
+        ensures same { Self.Opened.known file.new ≡ Self.Opened.known file.old }
+        ensures emptied { OnOk result (IsAtEnd (Self.Opened.contents file.new)) }
+        ensures kept { OnErr result (Keeps (Self.Opened.contents file.old) (Self.Opened.contents file.new)) };
+}
+
+/// Empties an opened output, where it is a regular file. One of the files that are read now is a fault. After
 /// a fault the file holds what it held, and so does at any time what is no regular file.
-pub fn empty_unless_read<F: Writable>(file: &mut F, read: &FilesRead) -> Result<(), HostFault>
-    ensures refused { IsRead read.now (F.known file.old) → IsErr result }
-    ensures untouched { OnErr result (Keeps (F.contents file.old) (F.contents file.new)) }
-    ensures emptied { OnOk result (IsRegular (F.known file.old) → IsAtEnd (F.contents file.new)) }
-    ensures other { IsOther (F.known file.old) → Keeps (F.contents file.old) (F.contents file.new) }
+pub fn empty_unless_read<O: Outputs>(outputs: &O, file: &mut O::Opened) -> Result<(), HostFault>
+    ensures same { O.Opened.known file.new ≡ O.Opened.known file.old }
+    ensures refused { IsRead (O.read outputs.now) (O.Opened.known file.old) → IsErr result }
+    ensures untouched { OnErr result (Keeps (O.Opened.contents file.old) (O.Opened.contents file.new)) }
+    ensures emptied { OnOk result (IsRegular (O.Opened.known file.old) → IsAtEnd (O.Opened.contents file.new)) }
+    ensures other { IsOther (O.Opened.known file.old) → Keeps (O.Opened.contents file.old) (O.Opened.contents file.new) }
 {
     let Some(identity) = file.identity()? else {
         return Ok(());
     };
-    if read.includes(identity) {
+    if outputs.files_read()?.includes(identity) {
         return Err(HostFault);
     }
-    file.empty()
+    outputs.empty(file)
+}
+
+/// A named file to be written, made or emptied. One of the files that are read is a fault.
+pub fn open_named<O: Outputs>(outputs: &mut O, name: &str) -> Result<O::Opened, HostFault>
+    ensures unread { IfOk result (λ file. IsUnread (O.read outputs.new) (O.Opened.known file)) }
+    ensures emptied { IfOk result (λ file. IsRegular (O.Opened.known file) → IsAtEnd (O.Opened.contents file)) }
+{
+    let mut file = outputs.open(name)?;
+    empty_unless_read(outputs, &mut file)?;
+    Ok(file)
 }
 
 /// Standard output, which is this regular file or none. One of the files that are read is a fault.
@@ -100,25 +125,6 @@ pub fn standard_output(
         return Err(HostFault);
     }
     Ok(Output::Standard(rt.stdout()))
-}
-
-/// A named file to be written, made or emptied, or standard output. One of the files that are read is
-/// a fault.
-pub fn open_output(
-    rt: HostRuntime,
-    name: Option<&str>,
-    read: &FilesRead,
-) -> Result<Output, HostFault>
-    ensures standard { IsNone name.entry → IfOk result IsStandardOutput }
-    ensures named { IsSome name.entry → IfOk result IsNamedOutput }
-{
-    let Some(path) = name else {
-        return standard_output(rt, regular_stream(rt, "/proc/self/fd/1"), read);
-    };
-    let opened = OpenOptions::new().write(true).create(true).open(&rt, path);
-    let mut file = beside_standard_streams(opened)?;
-    empty_unless_read(&mut file, read)?;
-    Ok(Output::Named(file))
 }
 
 #[cfg(test)]

@@ -3,11 +3,11 @@ ghost use Rattle.std.specs.Prelude.{◌≡◌, ◌+◌, ◌-◌, ◌<◌, ◌^�
 ghost use Rattle.host.specs.Faults.{no_faults};
 ghost use Rattle.host.specs.Seen.{nothing_seen};
 
-use crate::identity::{FileIdentity, FilesRead};
-use crate::inputs::{Input, Secret, open_input, read_salt, read_secret};
-use crate::outputs::{Output, open_output};
+use crate::inputs::{Secret, open_input, read_salt, read_secret};
+use crate::outputs::Output;
 use crate::placeholders::Placeholders;
 use crate::streams::{read_some, write_some};
+use crate::system_files::{SystemFiles, open_output};
 use host::{Host, HostFault, Source};
 
 /// Files, the environment, the standard streams, and the system's random bytes for salts.
@@ -26,8 +26,7 @@ use host::{Host, HostFault, Source};
 pub struct SystemHost {
     rt: HostRuntime,
     placeholders: Placeholders,
-    input: Option<Input>,
-    secret: Option<Input>,
+    files: SystemFiles,
     output: Option<Output>,
     input_faults: u64,
     output_faults: u64,
@@ -45,8 +44,11 @@ impl SystemHost {
         SystemHost {
             rt,
             placeholders: Placeholders::new(rt),
-            input: None,
-            secret: None,
+            files: SystemFiles {
+                rt,
+                input: None,
+                secret: None,
+            },
             output: None,
             input_faults: 0,
             output_faults: 0,
@@ -54,15 +56,6 @@ impl SystemHost {
             salt_faults: 0,
             line_faults: 0,
         }
-    }
-
-    // The output of this name, which is no file that is read.
-    fn output_beside_inputs(&self, name: Option<&str>) -> Result<Output, HostFault> {
-        let read = FilesRead {
-            input: file_read(self.rt, &self.input)?,
-            secret: file_read(self.rt, &self.secret)?,
-        };
-        open_output(self.rt, name, &read)
     }
 }
 
@@ -77,14 +70,6 @@ fn counted<T>(count: &mut u64, outcome: Result<T, HostFault>) -> Result<T, HostF
         *count += 1;
     }
     outcome
-}
-
-// The regular file that is read, if an input is opened and is one.
-fn file_read(rt: HostRuntime, opened: &Option<Input>) -> Result<Option<FileIdentity>, HostFault> {
-    match opened {
-        Some(input) => input.identity(rt),
-        None => Ok(None),
-    }
 }
 
 impl Host for SystemHost {
@@ -102,18 +87,18 @@ impl Host for SystemHost {
 
     fn open_input(&mut self, name: Option<&str>) -> Result<(), HostFault> {
         let opened = open_input(self.rt, name);
-        self.input = Some(counted(&mut self.input_faults, opened)?);
+        self.files.input = Some(counted(&mut self.input_faults, opened)?);
         Ok(())
     }
 
     fn open_output(&mut self, name: Option<&str>) -> Result<(), HostFault> {
-        let opened = self.output_beside_inputs(name);
+        let opened = open_output(&mut self.files, name);
         self.output = Some(counted(&mut self.output_faults, opened)?);
         Ok(())
     }
 
     fn pull(&mut self, buf: &mut [u8]) -> Result<usize, HostFault> {
-        let outcome = match &mut self.input {
+        let outcome = match &mut self.files.input {
             None => Err(HostFault),
             Some(input) => read_some(input, buf),
         };
@@ -131,7 +116,7 @@ impl Host for SystemHost {
     fn secret(&mut self, source: Source<'_>, buf: &mut [u8]) -> Result<usize, HostFault> {
         let read = read_secret(&mut self.rt, source, buf);
         let Secret { length, opened } = counted(&mut self.secret_faults, read)?;
-        self.secret = opened;
+        self.files.secret = opened;
         Ok(length)
     }
 

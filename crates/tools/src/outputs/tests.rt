@@ -28,12 +28,43 @@ impl Writable for FourBytes {
     fn identity(&self) -> Result<Option<FileIdentity>, HostFault> {
         self.identity
     }
+}
 
-    fn empty(&mut self) -> Result<(), HostFault> {
-        if self.emptying.is_ok() {
-            self.length = 0;
+// Files that are read, which may not be told, and which are others once an output is opened: that of a file
+// system of layers.
+#[derive(Drop)]
+struct Layers {
+    read: Result<FilesRead, HostFault>,
+    after: FilesRead,
+    identity: FileIdentity,
+}
+
+impl Outputs for Layers {
+    type Opened = FourBytes;
+
+    ghost read = { λ _. None };
+
+    fn files_read(&self) -> Result<FilesRead, HostFault> {
+        self.read
+    }
+
+    fn open(&mut self, name: &str) -> Result<FourBytes, HostFault> {
+        self.read = Ok(self.after);
+        if name == "missing/file" {
+            return Err(HostFault);
         }
-        self.emptying
+        Ok(FourBytes {
+            identity: Ok(Some(self.identity)),
+            emptying: Ok(()),
+            length: 4,
+        })
+    }
+
+    fn empty(&self, file: &mut FourBytes) -> Result<(), HostFault> {
+        if file.emptying.is_ok() {
+            file.length = 0;
+        }
+        file.emptying
     }
 }
 
@@ -51,6 +82,11 @@ const ON_ANOTHER_DEVICE: FileIdentity = FileIdentity {
 const ANOTHER: FileIdentity = FileIdentity {
     device: 1,
     inode: 4,
+};
+
+const NOTHING: FilesRead = FilesRead {
+    input: None,
+    secret: None,
 };
 
 #[test]
@@ -84,12 +120,90 @@ fn files_that_are_read_stay(rt: HostRuntime) {
             length: 4,
         };
         let read = FilesRead { input, secret };
+        let outputs = Layers {
+            read: Ok(read),
+            after: read,
+            identity: THIS,
+        };
         assert_eq!(rt;
-            empty_unless_read(&mut file, &read),
+            empty_unless_read(&outputs, &mut file),
             outcome,
             "{identity:?} {read:?}"
         );
         assert_eq!(rt; file.length, length, "{identity:?} {read:?}");
+    }
+}
+
+#[test]
+fn a_file_stays_where_it_is_not_told_what_is_read(rt: HostRuntime) {
+    let outputs = Layers {
+        read: Err(HostFault),
+        after: NOTHING,
+        identity: THIS,
+    };
+    let mut file = FourBytes {
+        identity: Ok(Some(THIS)),
+        emptying: Ok(()),
+        length: 4,
+    };
+    assert_eq!(rt; empty_unless_read(&outputs, &mut file), Err(HostFault));
+    assert_eq!(rt; file.length, 4);
+}
+
+// What is read is asked when the output is opened: a file that was copied then has the numbers of the copy.
+#[test]
+fn a_copied_file_stays(rt: HostRuntime) {
+    let (input, secret) = (Some(THIS), Some(ANOTHER));
+    for (before, after, name, length) in [
+        (
+            NOTHING,
+            FilesRead {
+                input,
+                secret: None,
+            },
+            "copied",
+            None,
+        ),
+        (
+            NOTHING,
+            FilesRead {
+                input: None,
+                secret: input,
+            },
+            "copied",
+            None,
+        ),
+        (
+            FilesRead {
+                input: secret,
+                secret: None,
+            },
+            FilesRead { input, secret },
+            "copied",
+            None,
+        ),
+        (
+            FilesRead {
+                input,
+                secret: None,
+            },
+            FilesRead {
+                input: secret,
+                secret: None,
+            },
+            "other",
+            Some(0),
+        ),
+        (NOTHING, NOTHING, "other", Some(0)),
+        (NOTHING, NOTHING, "missing/file", None),
+    ] {
+        let mut outputs = Layers {
+            read: Ok(before),
+            after,
+            identity: THIS,
+        };
+        let found = open_named(&mut outputs, name).ok().map(|file| file.length);
+        assert_eq!(rt; found, length, "{before:?} {after:?} {name}");
     }
 }
 
