@@ -157,7 +157,8 @@ unsigned int pikhsen_scrypt_info(const unsigned char *file, size_t file_len, str
 /*
  * Writes the encrypted file of a text. out_len is text_len + PIKHSEN_FILE_OVERHEAD. The salt has 32 bytes, AND MUST BE
  * NEW AND RANDOM FOR EACH FILE: two files of one passphrase, salt and costs are encrypted with one key stream, and who
- * has both learns of their texts. Costs, keep and limits as above; the file does not depend on keep.
+ * has both learns of their texts. AN EMPTY PASSPHRASE IS ACCEPTED, and anybody can open such a file. Costs, keep and
+ * limits as above; the file does not depend on keep.
  */
 PIKHSEN_MUST_CHECK
 unsigned int pikhsen_scrypt_encrypt(const unsigned char *passphrase, size_t passphrase_len, const unsigned char *salt,

@@ -44,9 +44,9 @@ def printed(commands, folder):
     return ran.stdout.decode().split(END + "\n")[:-1]
 
 
-def examples(page):
-    """The examples of a manual page, in their order, as they are typed, and what the page says that they print."""
-    section = (TOP / "man" / page).read_text(encoding="utf-8").split("\n.SH EXAMPLES\n")[1].split("\n.SH ")[0]
+def examples(page, heading="EXAMPLES"):
+    """The examples in a section of a manual page, in their order, as they are typed, and what the page says that they print."""
+    section = (TOP / "man" / page).read_text(encoding="utf-8").split(f"\n.SH {heading}\n")[1].split("\n.SH ")[0]
     found = []
     for text in re.findall(r"^\.nf\n(.*?)^\.fi$", section, re.MULTILINE | re.DOTALL):
         for written, meant in ((r"\-", "-"), (r"\(aq", "'"), (r"\e", "\\")):
@@ -77,7 +77,8 @@ class Shell:
 
 
 def scrypt_examples(checks, shell):
-    backup, look, opened, whole, again, typed, small, keep = examples("scrypt.1")
+    backup, look, opened, whole, again, typed, typed_again, small, keep = examples("scrypt.1")
+    (guard,) = examples("scrypt.1", "SECURITY")
 
     def expect(name, found, expected):
         checks.that(f"scrypt.1 in {shell.name}: {name}", found, expected)
@@ -101,18 +102,28 @@ def scrypt_examples(checks, shell):
     expect("with it", shell.run(whole[0].replace("backup-key", "new-key")), (0, "whole\n"))
     expect("without it", shell.run(whole[0]), (1, "scrypt: wrong passphrase\n"))
     expect("no text was left", shell.run("ls")[1].split(), ["backup-key", "cut", "letters", "letters.enc", "letters.tar", "new-key"])
-    asked = "Passphrase: \n" * 2
+    asked, last = "Passphrase: \nThe same again: \n", typed[0].splitlines(keepends=True)[0] + typed_again[0]
     for name, given in (("other words", b"words\nwords.\n"), ("an empty line", b"\n\n"), ("nothing", b"")):
-        status, said = shell.run(typed[0], given)
-        expect(f"typed twice, {name}", (status != 0, "whole" in said), (True, False))
-    expect("typed twice", shell.run(typed[0], b"words of ours\nwords of ours\n"), (0, asked + "whole\n"))
+        expect(f"typed twice, {name}", shell.run(typed[0] + "s=$?; ls typed.enc 2>&1; exit $s", given),
+               (1, asked + "ls: cannot access 'typed.enc': No such file or directory\n"))
+    expect("typed twice", shell.run(typed[0], b"words of ours\nwords of ours\n"), (0, asked))
+    expect("typed to open it", shell.run(last + "cmp letters.part letters.tar", b"words of ours\n"), (0, "Passphrase: \n"))
+    expect("typed to open it, other words", shell.run(last, b"words\n"), (1, "Passphrase: \nscrypt: wrong passphrase\n"))
+    expect("typed to open it, nothing", shell.run(last), (1, "Passphrase: \nscrypt: wrong passphrase\n"))
+    for name, command in (("that fails", "false"), ("that prints nothing", ":"), ("that prints and fails", "{ echo words; false; }")):
+        status, said = shell.run(f"echo Dear >in; pass() {{ {command}; }}; {guard[0]}s=$?; test -e out && echo made; exit $s")
+        expect(f"the guard and a command {name}", (status, said), (1, ""))
+    line = guard[0].replace("pass backup", "echo words")
+    expect("the guard", shell.run(f"{line}scrypt dec -P out <<E\nwords\nE"), (0, "Dear\n"))
+    expect("an empty passphrase after a pipe", shell.run("false | scrypt enc -P in open; scrypt dec -P open </dev/null"), (0, "Dear\n"))
     key = {"KEY": "words of ours"}
     expect("a small machine", shell.run(small[0], **key), (0, small[1]))
     status, _ = shell.run(small[0].splitlines(keepends=True)[1] + small[0].splitlines(keepends=True)[2])
     expect("a small machine without the variable fails", status, 1)
     expect("what it made", shell.run("scrypt info small.enc; scrypt dec --passphrase env:KEY small.enc | cmp - letters.tar", **key),
            (0, "N = 32768; r = 8; p = 2; memory = 33554432; cores = 2097152\n"))
-    expect("rows kept in part", shell.run(keep[0] + "cmp letters.part letters.tar", **key), (0, ""))
+    made = "scrypt enc --passphrase env:KEY letters.tar letters.enc; "
+    expect("rows kept in part", shell.run(made + keep[0] + "cmp letters.part letters.tar", **key), (0, ""))
 
 
 def argon2_examples(checks, shell):
@@ -123,15 +134,18 @@ def argon2_examples(checks, shell):
 
     right = {"password": "correct horse"}
     expect("a hash to keep", shell.run(enrol[0], **right), (0, ""))
+    for password in ("", "x" * 128):
+        status, said = shell.run("cp stored before; " + enrol[0], password=password)
+        kept = shell.run("cmp before stored")
+        expect(f"a hash of {len(password)} bytes is refused, and what was stored stays", (status, kept), (1, (0, "")))
     if shell.name != "dash":
         expect("a typed password", shell.run(ask[0] + check[0], b"correct horse\n"), (0, "Password: \nwelcome\n"))
     expect("the right password", shell.run(check[0], **right), (0, "welcome\n"))
     for password in ("battery staple", "correct horse ", "", "x" * 200):
         status, said = shell.run(check[0], password=password)
         expect(f"the password '{password}'", (status != 0, "welcome" in said), (True, False))
-    for name, stored in (("empty", ": >stored"), ("of a line feed", "echo >stored"), ("that is missing", "rm stored"),
-                         ("made of no password", enrol[0])):
-        shell.run(stored, password="")
+    for name, stored in (("empty", ": >stored"), ("of a line feed", "echo >stored"), ("that is missing", "rm stored")):
+        shell.run(stored)
         for password in ("anything", "correct horse", ""):
             status, said = shell.run(check[0], password=password)
             expect(f"a stored text {name}, and the password '{password}'", (status != 0, "welcome" in said), (True, False))
@@ -151,12 +165,14 @@ def compare_examples(checks, programs):
 
 def compare_login(checks, programs, typed):
     """The login of the story lets nobody in where the stored text is empty, and argon2 refuses the password."""
-    (login,) = [command for command, answer in typed if answer.endswith("welcome\n")]
+    (encoded,) = [command for command, _ in typed if command.startswith("encoded()")]
+    (login,) = [command for command, answer in typed if answer == "welcome\n"]
     with tempfile.TemporaryDirectory() as room:
         shell = Shell("bash", programs, room)
-        for password in ("''", "%200d"):
-            status, said = shell.run(": >stored; " + login.replace("'correct horse'", password))
-            checks.that(f"README: {password} and an empty stored text", (status != 0, "welcome" in said), (True, False))
+        for stored in (": >stored", "echo >stored", "rm stored"):
+            for password in ("''", "$(printf %200d 0)", "'correct horse'"):
+                status, said = shell.run(f"{stored}; {encoded}\n" + login.replace("'correct horse'", password))
+                checks.that(f"README: {password} after {stored}", (status != 0, "welcome" in said), (True, False))
 
 
 def rust_program():
