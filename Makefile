@@ -26,20 +26,23 @@ bin/%/argon2 bin/%/scrypt: $(SOURCES)
 	@packaging/build.sh $*
 
 lib: bin/lib/libpikhsen.so.0 ## proves and builds the library for C: bin/lib/libpikhsen.a and libpikhsen.so.0, for x86-64-v2
+	@echo 'bin/lib/libpikhsen.a and bin/lib/libpikhsen.so.0 are proved, and built for the level x86-64-v2.' >&2
 
 bin/lib/libpikhsen.so.0: $(SOURCES) packaging/lib.sh packaging/pikhsen.map
 	@packaging/lib.sh bin/lib x86-64-v2
 
-check: ## proves what differs from the last commit, and runs the tests of the crates that changed
+check: ## proves what differs from the last commit and what stands on it, and runs the tests of the crates that changed
 	tests/changed.py
 
 # What was built for another level is tested, too, and built anew before, if the sources changed.
 test: $(filter bin/x86-64-v3/%,$(wildcard $(LEVELS:%=bin/%/scrypt))) ## the gate: all proofs from nothing, all edits and tests, the built programs
+	@rm -rf bin/rooms
 	rt ci
 	@install -D -m 755 crates/argon_tool/out/argon_tool bin/x86-64-v2/argon2
 	@install -D -m 755 crates/scrypt_tool/out/scrypt_tool bin/x86-64-v2/scrypt
 	@test -f bin/level && test "$$(cat bin/level)" != x86-64-v2 || packaging/chosen.sh x86-64-v2
 	tests/wrong_bodies.py
+	tests/first_run.py
 	tests/sources.sh
 	tests/documents.py
 	tests/reading.py --check
@@ -58,6 +61,7 @@ uninstall: ## takes away what make install put below PREFIX
 
 deb: bin/x86-64-v2/argon2 bin/x86-64-v2/scrypt bin/lib/libpikhsen.so.0 ## makes packages for Debian in bin/, for x86-64-v2
 	@packaging/deb.sh
+	@echo 'made, for x86-64-v2:' bin/*_$$(cat VERSION)_*.deb >&2
 
 bench: $(LEVELS:%=bin/%/argon2) $(LEVELS:%=bin/%/scrypt) ## times the programs beside those that are installed
 	bench/table.py $(LEVELS:%=bin/%) --out $(BENCH)

@@ -8,12 +8,10 @@ cd "$(dirname "$0")/.."
 folder=$1
 archive=crates/pikhsen_c/out/libpikhsen_c.a
 mkdir -p "$folder"
+# Where the proof fails, no older library is left.
 if test $# = 2; then
-    echo "Proving and building libpikhsen for $2. The first time this takes some minutes." >&2
-    log=$(realpath "$folder")/log
-    rm -f "$archive"
-    (cd crates/pikhsen_c && rt lib --cpu "$2") >"$log" 2>&1 || true
-    test -f "$archive" || { tail -n 20 "$log" >&2 && echo "The library was not built: $log says why." >&2 && exit 1; }
+    rm -f "$folder/libpikhsen.a" "$folder/libpikhsen.so.0"
+    packaging/prove.py --cpu "$2" pikhsen_c
 fi
 kit=$(dirname "$(dirname "$(readlink -f "$(command -v rt)")")")
 work=$(mktemp -d)
