@@ -11,7 +11,7 @@ CPU ?= $(lastword $(LEVELS))
 
 .DELETE_ON_ERROR:
 .NOTPARALLEL:
-.PHONY: help run lib check test map install uninstall deb bench clean
+.PHONY: help run lib check test audit map install uninstall deb bench clean
 
 help: ## prints these lines
 	@sed -n 's/^\([a-z]*\):.*## /make \1\t/p' Makefile | expand -t 16
@@ -34,20 +34,26 @@ bin/lib/libpikhsen.so.0: $(SOURCES) packaging/lib.sh packaging/pikhsen.map
 check: ## proves what differs from the last commit and what stands on it, and runs the tests of the crates that changed
 	tests/changed.py
 
-# What was built for another level is tested, too, and built anew before, if the sources changed.
-test: $(filter bin/x86-64-v3/%,$(wildcard $(LEVELS:%=bin/%/scrypt))) ## the gate: all proofs from nothing, all edits and tests, the built programs
-	@rm -rf bin/rooms
-	rt ci
+# What was built for another level is tested, too, and built anew before, if the sources changed. With SINCE=COMMIT, a
+# commit that the gate passed, a wrong body is taken by record only where that commit has the row.
+test: $(filter bin/x86-64-v3/%,$(wildcard $(LEVELS:%=bin/%/scrypt))) ## the gate: proofs from nothing, tests, wrong bodies that are new or in turn, the built programs
+	@rm -rf bin/gate.tsv bin/rooms
+	@tests/step.sh tests/sources.sh
+	@tests/step.sh tests/documents.py
+	@tests/step.sh tests/reading.py --check
+	@tests/step.sh tests/record_test.py
+	@tests/step.sh tests/first_run.py
+	@tests/step.sh rt ci
 	@install -D -m 755 crates/argon_tool/out/argon_tool bin/x86-64-v2/argon2
 	@install -D -m 755 crates/scrypt_tool/out/scrypt_tool bin/x86-64-v2/scrypt
 	@test -f bin/level && test "$$(cat bin/level)" != x86-64-v2 || packaging/chosen.sh x86-64-v2
-	tests/wrong_bodies.py
-	tests/first_run.py
-	tests/sources.sh
-	tests/documents.py
-	tests/reading.py --check
-	@for level in $(LEVELS); do test ! -x bin/$$level/scrypt || tests/outside.sh bin/$$level || exit 1; done
-	tests/c_face.py
+	@tests/step.sh tests/wrong_bodies.py $(SINCE:%=--since %)
+	@for level in $(LEVELS); do test ! -x bin/$$level/scrypt || tests/step.sh tests/outside.sh bin/$$level || exit 1; done
+	@tests/step.sh tests/c_face.py
+	@echo 'seconds, those of the processors, and step:' && cat bin/gate.tsv
+
+audit: ## tries each wrong body, whatever the record says, and writes the record anew
+	tests/wrong_bodies.py --audit
 
 map: ## draws docs/proof-map.svg anew: which promise stands on what
 	tests/proof_map.py docs/proof-map.svg

@@ -4,7 +4,7 @@ both ways to link, RFC vectors, hashlib, each byte of a file changed, each cut, 
 leaves in memory, libraries that the module must refuse, what README and the manual page show, what packaging/install.sh
 puts below a folder and takes away again, and Debian's packages.
 
-    tests/c_face.py              rt lib proves and builds crates/pikhsen_c, over what earlier proofs left
+    tests/c_face.py              rt lib proves and builds crates/pikhsen_c, over the proofs that tests/wrong_bodies.py left
     tests/c_face.py --built      takes the static library as make lib or an earlier run left it
     tests/c_face.py --read       compares header, sources, Python module and manual page alone
 """
@@ -234,6 +234,11 @@ def build(checks, folder):
     """Both libraries, twice, and what they show of themselves."""
     level = [] if "--built" in sys.argv else ["x86-64-v2"]
     subprocess.run([TOP / "packaging/lib.sh", f"{folder}/lib", *level], check=True)
+    if level:
+        log = pathlib.Path(folder, "lib/log").read_text(encoding="utf-8")
+        counts = re.findall(r"^crate \w+: modules loaded=(\d+) checked=(\d+)$", log, re.MULTILINE)
+        loaded, checked = (sum(int(it[at]) for it in counts) for at in (0, 1))
+        print(f"{len(counts)} crates: {loaded} modules loaded, {checked} checked")
     subprocess.run([TOP / "packaging/lib.sh", f"{folder}/again"], check=True)
     for file in ("libpikhsen.a", "libpikhsen.so.0"):
         both = [pathlib.Path(folder, it, file).read_bytes() for it in ("lib", "again")]

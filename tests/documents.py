@@ -12,6 +12,7 @@ import shutil
 import subprocess
 import sys
 
+import record
 from edits import Edit
 from proof_map import drawn
 
@@ -21,9 +22,9 @@ MANUALS = sorted((TOP / "man").glob("*.1"))
 DOCUMENTS = [*PAGES, *sorted((TOP / "docs").glob("*.md")), *MANUALS]
 COMPLETIONS = {"argon2": ("bash/argon2", "zsh/_argon2"), "scrypt": ("bash/scrypt", "zsh/_scrypt")}
 IN_BACKTICKS = re.compile(r"`([^`]+)`")
-# How a goal is called: of a return, a call, a loop, a type, or of a number that must fit; or it is a lemma's.
+# How a goal is called: of a return, a call, a loop or a type; or it is a lemma's. That a number fits is no contract's.
 GOAL = re.compile(
-    r"`(?:returns|\S+-requires|loop-\S+|\S+-(?:init|preserved|smaller)|invariant_of-|overflow_)[^`]*`"
+    r"`(?:returns|\S+-requires|loop-\S+|\S+-(?:init|preserved|smaller)|invariant_of-)[^`]*`"
     r"(?:, at its answer)?|the lemma \w+"
 )
 CLAUSES_OF_THE_LIBRARY = {"steps"}  # of Iterator::next
@@ -96,21 +97,24 @@ for heading, cells in tables("EXAMPLES.md"):
             for name in named:
                 expect(any(is_function(name, crate) for crate in owner), "EXAMPLES.md", f"row {cells[0]}: {name}")
 
-# Wrong bodies: what each replaces stands in its place once, each has a row, and each row is of one.
+# Wrong bodies: what each replaces stands in its place once, each has a row in its crate's record, each row names a goal
+# that is there, and the page is made from these rows.
 for file in sorted(TOP.glob("crates/*/*/*.edit")):
     expect(Edit(file).texts, file.relative_to(TOP), "the text that it replaces, once")
-edits = {(file.parent.parent.name, f"`{file.stem}`"): file.parent.name for file in TOP.glob("crates/*/*/*.edit")}
-rows = [(crate, *cells) for crate, cells in tables("WRONG_BODIES.md") if "`" in cells[0]]
-for crate, name in sorted(edits.keys() - {(crate, cell.strip("*")) for crate, cell, _ in rows}):
-    expect(False, "WRONG_BODIES.md", f"{crate}: {name}")
-for crate, cell, goal in rows:
-    folder = edits.pop((crate, cell.strip("*")), "no edit, or a second row")
-    expect(folder == ("must-fail" if "*" in cell else "wrong-bodies"), "WRONG_BODIES.md", f"{crate}: {cell}: {folder}")
-    told = GOAL.fullmatch(goal)
-    clause = told and re.search(r"-clause-(\w+)`", goal)
-    is_ours = clause and re.search(rf"\b(?:ensures|requires)\*? {clause[1]}\b", ALL_SOURCES)
-    is_there = told and (not clause or is_ours or clause[1] in CLAUSES_OF_THE_LIBRARY)
-    expect(is_there, "WRONG_BODIES.md", f"{crate}: {cell}: the goal that refuses it")
+for crate in SOURCES:
+    rows, file = record.rows_of(crate), record.file_of(crate)
+    named = [path.stem for folder in record.FOLDERS for path in record.edits_of(crate, folder)]
+    for name in sorted({*named} - {*rows}):
+        expect(False, file, f"{name}: a row of its trial (tests/wrong_bodies.py {crate}/{name} writes it)")
+    for name, (_, goal) in rows.items():
+        expect(named.count(name) == 1, file, f"{name}: one edit of this name")
+        told = GOAL.fullmatch(goal)
+        clause = told and re.search(r"-clause-(\w+)`", goal)
+        is_ours = clause and re.search(rf"\b(?:ensures|requires)\*? {clause[1]}\b", ALL_SOURCES)
+        is_there = told and (not clause or is_ours or clause[1] in CLAUSES_OF_THE_LIBRARY)
+        expect(is_there, file, f"{name}: {goal}: the goal that refuses it")
+tables_made = record.page() == record.PAGE.read_text(encoding="utf-8")
+expect(tables_made, "WRONG_BODIES.md", "the tables that the records make (each run of tests/wrong_bodies.py writes them)")
 
 # Calls and clauses that carry a promise, and the picture of what they stand on; the definitions of each run.
 picture, wrong = drawn()

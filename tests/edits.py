@@ -2,6 +2,7 @@
 import pathlib
 import re
 
+TOP = pathlib.Path(__file__).resolve().parent.parent
 FUNCTION = re.compile(r'( *)(?:pub(?:\([a-z]+\))? )?(?:const )?(?:unsafe )?(?:extern "C" )?fn (\w+)')
 IMPL = re.compile(r"impl(?:<[^>]*>)? (?:(\w+(?:<.*>)?) for )?(\w+)")
 

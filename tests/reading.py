@@ -49,10 +49,10 @@ class File:
             self.items.setdefault(item, []).append(line)
 
 
-def all_files():
+def all_files(crates=CRATES):
     found = {}
-    for path in sorted(CRATES.glob("*/specs/**/*.antt")):
-        crate, _, *inside = path.relative_to(CRATES).with_suffix("").parts
+    for path in sorted(crates.glob("*/specs/**/*.antt")):
+        crate, _, *inside = path.relative_to(crates).with_suffix("").parts
         found[".".join([crate, "specs", *inside])] = File(path)
     return found
 
@@ -149,4 +149,5 @@ def main():
     return 0
 
 
-sys.exit(main())
+if __name__ == "__main__":
+    sys.exit(main())

@@ -1,0 +1,76 @@
+"""The record of wrong bodies: under which key each was tried, and at which goal it was refused.
+
+crates/CRATE/wrong-bodies/record has a row for each edit that was tried: its name, its key (tests/keys.py) and the goal,
+with tabs between. The tables of docs/WRONG_BODIES.md are made from these files.
+"""
+import pathlib
+import subprocess
+
+from edits import TOP
+
+PAGE = TOP / "docs" / "WRONG_BODIES.md"
+FOLDERS = {"must-fail": "**`{}`**", "wrong-bodies": "`{}`"}  # and how the page names an edit of each
+
+
+def git(*words):
+    """What git says, or None where it fails."""
+    ran = subprocess.run(["git", *words], cwd=TOP, stdout=subprocess.PIPE, stderr=subprocess.DEVNULL, text=True)
+    return ran.stdout.strip() if ran.returncode == 0 else None
+
+
+def below():
+    """The crates of crates.txt, in its order, each with all below it, lowest first."""
+    named = {}
+    for line in (TOP / "crates.txt").read_text(encoding="utf-8").splitlines():
+        name, colon, others = line.partition("#")[0].partition(":")
+        if colon:
+            named[name.split()[0]] = others.split()
+
+    def of(name):
+        found = (it for other in named[name] if other in named for it in [*of(other), other])
+        return list(dict.fromkeys(found))
+
+    return {name: of(name) for name in named}
+
+
+def edits_of(crate, folder):
+    """The edits that a folder of a crate holds."""
+    return sorted((TOP / "crates" / crate / folder).glob("*.edit"))
+
+
+def file_of(crate):
+    return pathlib.Path("crates", crate, "wrong-bodies", "record")
+
+
+def rows_of(crate, commit=None):
+    """The rows of a crate's record, as it stands or stood at a commit: key and goal by the edit's name."""
+    if commit:
+        text = git("show", f"{commit}:{file_of(crate)}") or ""
+    else:
+        path = TOP / file_of(crate)
+        text = path.read_text(encoding="utf-8") if path.is_file() else ""
+    return {name: (key, goal) for name, key, goal in (line.split("\t") for line in text.splitlines())}
+
+
+def write(crate, rows):
+    """Writes the rows of the edits that are there; a record without rows is taken away."""
+    there = {path.stem for folder in FOLDERS for path in edits_of(crate, folder)}
+    lines = [f"{name}\t{key}\t{goal}\n" for name, (key, goal) in sorted(rows.items()) if name in there]
+    path = TOP / file_of(crate)
+    if lines:
+        path.parent.mkdir(exist_ok=True)
+        path.write_text("".join(lines), encoding="utf-8")
+    elif path.exists():
+        path.unlink()
+
+
+def page():
+    """docs/WRONG_BODIES.md with its tables as the records have them."""
+    made = [PAGE.read_text(encoding="utf-8").partition("\n## ")[0]]
+    for crate in below():
+        rows = rows_of(crate)
+        named = [(form, it.stem) for folder, form in FOLDERS.items() for it in edits_of(crate, folder) if it.stem in rows]
+        lines = [f"| {form.format(name)} | {rows[name][1]} |\n" for form, name in named]
+        if lines:
+            made.append(f"\n## {crate}\n\n| wrong body | refused at |\n|---|---|\n" + "".join(lines))
+    return "".join(made)

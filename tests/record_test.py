@@ -1,0 +1,85 @@
+#!/usr/bin/env python3
+"""Tests the record of wrong bodies: which keys change with which text, in a copy of the crate macs, and that turns are
+even.
+"""
+import pathlib
+import shutil
+import tempfile
+
+import record
+import turns
+from checking import Checks
+from edits import TOP, Edit
+from keys import RULES, Tree
+
+CRATE = "macs"
+ALL = {path.stem for path in record.edits_of(CRATE, "wrong-bodies")}
+# A text that stands in a file of the crate once, what is put in its place, and the edits that then have other keys.
+CHANGES = (
+    ("a body", "src/hmac.rt", "        xored[i] = ", "        xored[0] = ", set()),
+    ("a body that an edit changes", "src/hmac.rt", "[0u8; BLOCK_LEN];\n    if", "[1u8; BLOCK_LEN];\n    if", {"long-key-cut"}),
+    ("a clause", "src/hmac.rt", "ensures block { ", "ensures other { ", {"long-key-cut", "one-pad-twice"}),
+    ("a clause of a method", "src/hmac.rt", "ensures code {", "ensures other {", {
+        "hashes-exchanged", "index-low-byte-first", "pair-of-half-a-key"}),
+    ("a constant", "src/hmac.rt", "0x36", "0x37", {"one-pad-twice"}),
+    ("a definition", "specs/Pbkdf2.antt", "take n (", "take 1 (", {
+        "blocks-from-zero", "pair-key-a-byte-short", "pair-of-half-a-key"}),
+    ("an answer", "proofs/hmac/key_block/Answers.antt", "64 0,", "63 0,", {"long-key-cut"}),
+    ("a loop's invariant", "proofs/pbkdf2_sha256/write_key/Invariants.antt", "min (32", "min (31", {"blocks-from-zero"}),
+    ("a comment", "src/hmac.rt", "/// The code of the message", "/// The code", set()),
+    ("the edit", "wrong-bodies/salt-as-password.edit", "new: ", "new:  ", {"salt-as-password"}),
+)
+
+
+def tree_of(room):
+    """A copy of the crate and of the rules."""
+    shutil.copytree(TOP / "crates" / CRATE, room / "crates" / CRATE, ignore=shutil.ignore_patterns("out"))
+    (room / "tests").mkdir()
+    for name in RULES:
+        shutil.copy(TOP / "tests" / name, room / "tests")
+    return room
+
+
+def keys(folder, kit="a kit"):
+    """The key of each of the crate's edits in this copy, by the edit's name."""
+    tree = Tree(folder)
+    edits = sorted((folder / "crates" / CRATE / "wrong-bodies").glob("*.edit"))
+    return {path.stem: tree.key(Edit(path), [CRATE], kit) for path in edits}
+
+
+def other(folder, file, old, new):
+    """The edits whose keys are others with this text in place of that, or how often that stands there, if not once."""
+    path, before = folder / file, keys(folder)
+    text = path.read_text(encoding="utf-8")
+    path.write_text(text.replace(old, new), encoding="utf-8")
+    after = keys(folder)
+    path.write_text(text, encoding="utf-8")
+    return {it for it in before if before[it] != after[it]} if text.count(old) == 1 else text.count(old)
+
+
+def keys_change(checks, folder):
+    for what, file, old, new, expected in CHANGES:
+        checks.that(f"keys: {what}", other(folder, f"crates/{CRATE}/{file}", old, new), expected)
+    checks.that("keys: a rule of the trial", other(folder, "tests/trial.py", "MOST = 9", "MOST = 8"), ALL)
+    checks.that("keys: a comment on a rule", other(folder, "tests/edits.py", "\nclass ", "\n# That is:\nclass "), set())
+    checks.that("keys: the toolchain", {*keys(folder).items()} & {*keys(folder, "another").items()}, set())
+
+
+def turns_are_even(checks):
+    costs = {f"unit {at}": 1 + at * at % 40 for at in range(60)}
+    found = turns.turns(costs)
+    sums = [sum(cost for unit, cost in costs.items() if found[unit] == turn) for turn in range(turns.TURNS)]
+    checks.that("turns: each unit has one", [*found], sorted(costs, key=lambda it: (-costs[it], it)))
+    checks.that("turns: the dearest is at most one unit above the cheapest", max(sums) - min(sums) <= max(costs.values()), True)
+    checks.that("turns: a commit is one of them", turns.turn("e44a48b0") in range(turns.TURNS), True)
+
+
+def main():
+    checks = Checks("none")
+    with tempfile.TemporaryDirectory() as room:
+        keys_change(checks, tree_of(pathlib.Path(room)))
+    turns_are_even(checks)
+    checks.end()
+
+
+main()
