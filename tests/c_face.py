@@ -235,7 +235,9 @@ def build(checks, folder):
     level = [] if "--built" in sys.argv else ["x86-64-v2"]
     subprocess.run([TOP / "packaging/lib.sh", f"{folder}/lib", *level], check=True)
     if level:
-        log = pathlib.Path(folder, "lib/log").read_text(encoding="utf-8")
+        logs = TOP / "bin/logs"
+        names = re.findall(r"^(\w+):", (logs / "seconds").read_text(encoding="utf-8"), re.MULTILINE)
+        log = "".join((logs / name).read_text(encoding="utf-8") for name in names)
         counts = re.findall(r"^crate \w+: modules loaded=(\d+) checked=(\d+)$", log, re.MULTILINE)
         loaded, checked = (sum(int(it[at]) for it in counts) for at in (0, 1))
         print(f"{len(counts)} crates: {loaded} modules loaded, {checked} checked")

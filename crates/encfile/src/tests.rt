@@ -228,6 +228,33 @@ fn decrypt(
     }
 }
 
+// Whether a decryption releases this text and has this outcome.
+fn comes_to(
+    rt: HostRuntime,
+    file: &[u8],
+    passphrase: &[u8],
+    size: usize,
+    keep: u64,
+    expected: (&[u8], Outcome),
+) -> Result<bool, Fail> {
+    let (text, outcome) = decrypt(rt, file, passphrase, size, keep)?;
+    Ok(text.as_slice() == expected.0 && outcome == expected.1)
+}
+
+// Whether the file of the text with the costs and the salt of a file is that file, and opens.
+fn is_made_and_opened(
+    rt: HostRuntime,
+    file: &[u8],
+    passphrase: &[u8],
+    text: &[u8],
+    size: usize,
+    keep: u64,
+) -> Result<bool, Fail> {
+    let made = encrypt_as(rt, file, passphrase, text, size, keep)?;
+    let opens = comes_to(rt, file, passphrase, size, keep, (text, Outcome::Whole))?;
+    Ok(opens && made.as_slice() == file)
+}
+
 // A file, its passphrase and its text.
 struct File {
     bytes: &'static [u8],
@@ -262,11 +289,8 @@ const FILES: &[File] = &[
 fn files_are_those_of_other_programs(rt: HostRuntime) -> Result<(), Fail> {
     for file in FILES {
         for size in SIZES {
-            let made = encrypt_as(rt, file.bytes, file.passphrase, file.text, *size, 1)?;
-            assert_eq!(rt; made.as_slice(), file.bytes);
-            let (text, outcome) = decrypt(rt, file.bytes, file.passphrase, *size, 1)?;
-            assert_eq!(rt; outcome, Outcome::Whole);
-            assert_eq!(rt; text.as_slice(), file.text);
+            let is_same = is_made_and_opened(rt, file.bytes, file.passphrase, file.text, *size, 1)?;
+            assert!(rt; is_same, "by {size}");
         }
     }
     Ok(())
@@ -277,33 +301,33 @@ fn files_are_those_of_other_programs(rt: HostRuntime) -> Result<(), Fail> {
 fn files_with_each_sparse_table(rt: HostRuntime) -> Result<(), Fail> {
     for file in FILES {
         for keep in [1u64, 2, 4, 8, 16] {
-            let made = encrypt_as(rt, file.bytes, file.passphrase, file.text, 200, keep)?;
-            assert_eq!(rt; made.as_slice(), file.bytes, "with {keep}");
-            let (text, outcome) = decrypt(rt, file.bytes, file.passphrase, 200, keep)?;
-            assert_eq!(rt; outcome, Outcome::Whole, "with {keep}");
-            assert_eq!(rt; text.as_slice(), file.text, "with {keep}");
+            let is_same = is_made_and_opened(
+                rt,
+                file.bytes,
+                file.passphrase,
+                file.text,
+                200,
+                keep,
+            )?;
+            assert!(rt; is_same, "with {keep}");
         }
     }
+    let hello = (b"hello".as_slice(), Outcome::Whole);
     for keep in [32u64, 64, 128, 256, 512, 1024] {
-        let (text, outcome) = decrypt(rt, DEBIAN_HELLO_FILE, b"pw", 200, keep)?;
-        assert_eq!(rt; outcome, Outcome::Whole, "with {keep}");
-        assert_eq!(rt; text.as_slice(), b"hello".as_slice(), "with {keep}");
+        let opens = comes_to(rt, DEBIAN_HELLO_FILE, b"pw", 200, keep, hello)?;
+        assert!(rt; opens, "with {keep}");
     }
     // N is 16
-    let (_, outcome) = decrypt(rt, HELLO_FILE, b"pw", 200, 32)?;
-    assert_eq!(rt; outcome, Outcome::NotAdmitted);
+    let too_few = (b"".as_slice(), Outcome::NotAdmitted);
+    assert!(rt; comes_to(rt, HELLO_FILE, b"pw", 200, 32, too_few)?);
     Ok(())
 }
 
 #[test]
 fn file_of_a_passphrase_longer_than_a_block(rt: HostRuntime) -> Result<(), Fail> {
-    let passphrase = [b'a'; 70];
     for size in SIZES {
-        let made = encrypt_as(rt, PYTHON_FILE, &passphrase, &TEXT[..45], *size, 1)?;
-        assert_eq!(rt; made.as_slice(), PYTHON_FILE);
-        let (text, outcome) = decrypt(rt, PYTHON_FILE, &passphrase, *size, 1)?;
-        assert_eq!(rt; outcome, Outcome::Whole);
-        assert_eq!(rt; text.as_slice(), &TEXT[..45]);
+        let is_same = is_made_and_opened(rt, PYTHON_FILE, &[b'a'; 70], &TEXT[..45], *size, 1)?;
+        assert!(rt; is_same, "by {size}");
     }
     Ok(())
 }
@@ -341,37 +365,44 @@ fn example(rt: HostRuntime) -> Result<(), Fail> {
 }
 
 // 31 of 127 bytes are held at the end: one byte more is held, too, and the next one moves the
-// first.
+// first. Pieces of the bytes up to there, and how much each of the three further ones releases.
+fn released(rt: HostRuntime, size: usize) -> Result<Option<[usize; 3]>, Fail> {
+    let Ok(mut dec) = opened(rt, &front_of(HELLO_FILE), b"pw", 1)? else {
+        return Ok(None);
+    };
+    let mut out = [0u8; 64];
+    for piece in HELLO_FILE[96..127].chunks(size.clamp(1, 32)) {
+        if dec.feed(piece, &mut out) != Ok(0) {
+            return Ok(None);
+        }
+    }
+    let held = dec.feed(&HELLO_FILE[127..128], &mut out)?;
+    let first = dec.feed(&HELLO_FILE[128..129], &mut out)?;
+    let is_h = out[0] == b'h';
+    let rest = dec.feed(&HELLO_FILE[129..], &mut out)?;
+    dec.finish()?;
+    if is_h && out.starts_with(b"ello") {
+        Ok(Some([held, first, rest]))
+    } else {
+        Ok(None)
+    }
+}
+
 #[test]
 fn bytes_that_are_held(rt: HostRuntime) -> Result<(), Fail> {
-    let front = front_of(HELLO_FILE);
-    let mut out = [0u8; 64];
     for size in SIZES {
-        let mut dec = match opened(rt, &front, b"pw", 1)? {
-            Ok(dec) => dec,
-            Err(_) => panic!(rt; "not opened"),
-        };
-        for piece in HELLO_FILE[96..127].chunks((*size).clamp(1, 32)) {
-            assert_eq!(rt; dec.feed(piece, &mut out), Ok(0));
-        }
-        assert_eq!(rt; dec.feed(&HELLO_FILE[127..128], &mut out), Ok(0));
-        assert_eq!(rt; dec.feed(&HELLO_FILE[128..129], &mut out), Ok(1));
-        assert_eq!(rt; out[0], b'h');
-        assert_eq!(rt; dec.feed(&HELLO_FILE[129..], &mut out), Ok(4));
-        assert_eq!(rt; &out[..4], b"ello".as_slice());
-        assert_eq!(rt; dec.finish(), Ok(()));
+        assert_eq!(rt; released(rt, *size)?, Some([0, 1, 4]), "by {size}");
     }
     Ok(())
 }
 
 #[test]
 fn fronts_that_are_refused(rt: HostRuntime) -> Result<(), Fail> {
-    let (text, outcome) = decrypt(rt, HELLO_FILE, b"other", 32, 1)?;
-    assert_eq!(rt; outcome, Outcome::WrongPassphrase);
-    assert_eq!(rt; text.len(), 0);
+    let nothing = (b"".as_slice(), Outcome::WrongPassphrase);
+    assert!(rt; comes_to(rt, HELLO_FILE, b"other", 32, 1, nothing)?);
     // HMAC pads a short key with zeros, so this one has the same keys
-    let (_, outcome) = decrypt(rt, HELLO_FILE, b"pw\0", 32, 1)?;
-    assert_eq!(rt; outcome, Outcome::Whole);
+    let hello = (b"hello".as_slice(), Outcome::Whole);
+    assert!(rt; comes_to(rt, HELLO_FILE, b"pw\0", 32, 1, hello)?);
     Ok(())
 }
 
@@ -390,10 +421,10 @@ fn first_fault_of_a_header(rt: HostRuntime) -> Result<(), Fail> {
     let mut bytes = front_of(HELLO_FILE);
     for (place, byte, expected) in faults {
         bytes[*place] = *byte;
-        match Header::of_front(&bytes) {
-            Ok(_) => panic!(rt; "byte {place} is not looked at"),
-            Err(fault) => assert_eq!(rt; fault, *expected),
-        }
+        assert!(rt;
+            Header::of_front(&bytes).err() == Some(*expected),
+            "byte {place}"
+        );
     }
     Ok(())
 }
@@ -525,24 +556,33 @@ const OUT_OF_RANGE: &[Said] = &[
     },
 ];
 
+// Whether a header is read with the costs that it says, and the salt.
+fn is_read(said: &Said) -> bool {
+    match Header::read(&said.bytes()) {
+        Ok(header) => {
+            header.costs().log_n() == said.log_n
+                && header.costs().r() == said.r
+                && header.costs().p() == said.p
+                && header.salt().as_slice() == &EMPTY_FILE[16..48]
+        }
+        Err(_) => false,
+    }
+}
+
 #[test]
 fn costs_of_a_header(rt: HostRuntime) -> Result<(), Fail> {
     for said in IN_RANGE {
-        match Header::read(&said.bytes()) {
-            Ok(header) => {
-                assert_eq!(rt; header.costs().log_n(), said.log_n);
-                assert_eq!(rt; header.costs().r(), said.r);
-                assert_eq!(rt; header.costs().p(), said.p);
-                assert_eq!(rt; header.salt().as_slice(), &EMPTY_FILE[16..48]);
-            }
-            Err(_) => panic!(rt; "refused"),
-        }
+        assert!(rt; is_read(said), "{} {} {}", said.log_n, said.r, said.p);
     }
     for said in OUT_OF_RANGE {
-        match Header::read(&said.bytes()) {
-            Ok(_) => panic!(rt; "not refused"),
-            Err(fault) => assert_eq!(rt; fault, HeaderFault::CostsOutOfRange),
-        }
+        let fault = Header::read(&said.bytes()).err();
+        assert!(rt;
+            fault == Some(HeaderFault::CostsOutOfRange),
+            "{} {} {}",
+            said.log_n,
+            said.r,
+            said.p
+        );
     }
     Ok(())
 }

@@ -1,5 +1,5 @@
 //! A host in memory.
-ghost use Rattle.std.specs.Prelude.{◌≡◌, ◌-◌, ◌^◌, ◌<◌, ◌≤◌, ◌==◌, ℕ, true, List, take, drop, length, min, map, option_map, Some, IfOk, OnOk, OnErr, string_bytes, bytes_eq, if◌then◌else◌};
+ghost use Rattle.std.specs.Prelude.{◌≡◌, ◌-◌, ◌+◌, ◌^◌, ◌<◌, ◌≤◌, ◌==◌, ℕ, true, None, List, take, drop, length, min, map, option_map, Some, IfOk, OnOk, OnErr, string_bytes, bytes_eq, if◌then◌else◌};
 ghost use Rattle.host.specs.Asked.{asked_source};
 ghost use Rattle.host.specs.Faults.{AreBelow, input_failed, line_failed, output_failed};
 ghost use Rattle.host.specs.Memory.{Memory, lookup, memory_seen, memory_faults, new_memory, with_variable, with_file};
@@ -405,57 +405,98 @@ mod tests {
         Ok(())
     }
 
-    // What a host gives of a source for which there is room for six bytes.
-    fn given(alloc: Global, source: Source<'_>) -> Result<Option<Vec<u8>>, AllocError> {
+    // Sets a variable.
+    fn set_variable(
+        alloc: Global,
+        host: &mut MemoryHost,
+        name: &str,
+        bytes: &[u8],
+    ) -> Result<(), AllocError>
+        ensures faults { memory_faults host.new ≡ memory_faults host.old }
+        ensures asked { host.new.asked ≡ host.old.asked }
+    {
+        let bytes = bytes.to_vec(alloc)?;
+        host.set_env(String::from_str(alloc, name)?, bytes)
+    }
+
+    // Sets a file.
+    fn set_secret_file(
+        alloc: Global,
+        host: &mut MemoryHost,
+        name: &str,
+        bytes: &[u8],
+    ) -> Result<(), AllocError>
+        ensures faults { memory_faults host.new ≡ memory_faults host.old }
+        ensures asked { host.new.asked ≡ host.old.asked }
+    {
+        let bytes = bytes.to_vec(alloc)?;
+        host.set_file(String::from_str(alloc, name)?, bytes)
+    }
+
+    // A host that has three secrets.
+    fn with_secrets(alloc: Global) -> Result<MemoryHost, AllocError>
+        ensures room { IfOk result (λ host. AreBelow (2 ^ 63) (memory_faults host)) }
+        ensures unasked { IfOk result (λ host. host.asked ≡ None) }
+    {
         let stdin = b"typed".to_vec(alloc)?;
         let mut host = MemoryHost::new(alloc, Vec::new(alloc), stdin, [7; 32]);
-        host.set_env(String::from_str(alloc, "PW")?, b"first".to_vec(alloc)?)?;
-        host.set_env(String::from_str(alloc, "PW")?, b"second".to_vec(alloc)?)?;
-        host.set_file(String::from_str(alloc, "pw")?, b"long file".to_vec(alloc)?)?;
+        set_variable(alloc, &mut host, "PW", b"first")?;
+        set_variable(alloc, &mut host, "PW", b"second")?;
+        set_secret_file(alloc, &mut host, "pw", b"long file")?;
+        Ok(host)
+    }
+
+    // Whether the host gives this of a source for which there is room for six bytes.
+    fn gives(alloc: Global, source: Source<'_>, text: Option<&[u8]>) -> Result<bool, AllocError> {
+        let mut host = with_secrets(alloc)?;
         let mut buf = [0u8; 6];
-        let Ok(n) = host.secret(source, &mut buf) else {
-            return Ok(None);
-        };
-        Ok(Some(buf[..n].to_vec(alloc)?))
+        match host.secret(source, &mut buf) {
+            Ok(n) => Ok(text == Some(&buf[..n])),
+            Err(_) => Ok(text.is_none()),
+        }
     }
 
     #[test]
     fn gives_secrets(rt: HostRuntime) -> Result<(), Fail> {
         let rows = [
-            (Source::StdinOnce, Some("typed")),
-            (Source::Env("PW"), Some("second")),
-            (Source::File("pw"), Some("long f")),
+            (Source::StdinOnce, Some(b"typed".as_slice())),
+            (Source::Env("PW"), Some(b"second")),
+            (Source::File("pw"), Some(b"long f")),
             (Source::Env("pw"), None),
             (Source::File("PW"), None),
         ];
         for (source, text) in rows {
-            match (given(rt.alloc(), source)?, text) {
-                (Some(bytes), Some(text)) => assert_eq!(rt; bytes.as_slice(), text.as_bytes()),
-                (bytes, text) => assert!(rt; bytes.is_none() && text.is_none(), "{source:?}"),
-            }
+            assert!(rt; gives(rt.alloc(), source, text)?, "{source:?}");
         }
         Ok(())
     }
 
+    // What a pull of at most so many bytes puts into a buffer.
+    fn pulled(host: &mut MemoryHost, most: usize, buf: &mut [u8; 4]) -> Result<usize, HostFault>
+        requires some { 0 < most }
+        requires room { AreBelow (2 ^ 63) (memory_faults host.old) }
+        ensures faults { OnOk result (memory_faults host.new ≡ memory_faults host.old) }
+    {
+        host.set_sizes(most, 1);
+        host.pull(buf)
+    }
+
+    // What four pulls give, and the buffer after each.
+    fn pulls(alloc: Global) -> Result<[(usize, [u8; 4]); 4], Fail> {
+        let input = b"the input".to_vec(alloc)?;
+        let mut host = MemoryHost::new(alloc, input, Vec::new(alloc), [7; 32]);
+        let mut buf = [0u8; 4];
+        let first = (pulled(&mut host, 3, &mut buf)?, buf);
+        let second = (pulled(&mut host, 9, &mut buf)?, buf);
+        let third = (pulled(&mut host, 9, &mut buf)?, buf);
+        let last = (pulled(&mut host, 9, &mut buf)?, buf);
+        Ok([first, second, third, last])
+    }
+
     #[test]
     fn gives_the_input_piece_by_piece(rt: HostRuntime) -> Result<(), Fail> {
-        let alloc = rt.alloc();
-        let mut host = MemoryHost::new(
-            alloc,
-            b"the input".to_vec(alloc)?,
-            Vec::new(alloc),
-            [7; 32],
-        );
-        let mut buf = [0u8; 4];
-        host.set_sizes(3, 1);
-        assert_eq!(rt; host.pull(&mut buf), Ok(3));
-        assert_eq!(rt; buf, *b"the\0");
-        host.set_sizes(9, 1);
-        assert_eq!(rt; host.pull(&mut buf), Ok(4));
-        assert_eq!(rt; buf, *b" inp");
-        assert_eq!(rt; host.pull(&mut buf), Ok(2));
-        assert_eq!(rt; buf, *b"utnp");
-        assert_eq!(rt; host.pull(&mut buf), Ok(0));
+        let pieces = [(3, *b"the\0"), (4, *b" inp"), (2, *b"utnp"), (0, *b"utnp")];
+        assert_eq!(rt; pulls(rt.alloc())?, pieces);
         Ok(())
     }
 
@@ -471,39 +512,75 @@ mod tests {
         }
     }
 
+    // Whether a first opening of the input fails, and leaves no name.
+    fn is_refused(host: &mut MemoryHost) -> bool
+        requires room { AreBelow (2 ^ 63) (memory_faults host.old) }
+        requires unopened { host.old.input_opened ≡ None }
+        ensures room { AreBelow (2 ^ 63 + 1) (memory_faults host.new) }
+        ensures unopened { result ≡ true → host.new.input_opened ≡ None }
+    {
+        host.fail_at(1);
+        host.open_input(Some("in")).is_err() && host.input_name().is_none()
+    }
+
+    // Whether an input of two bytes has its name, and is given after a pull that fails.
+    fn is_given_later(host: &mut MemoryHost) -> bool
+        requires room { AreBelow (2 ^ 63 + 1) (memory_faults host.old) }
+    {
+        let mut buf = [0u8; 4];
+        host.fail_at(3);
+        host.input_name() == Some(Some("in"))
+            && host.pull(&mut buf) == Err(HostFault)
+            && host.pull(&mut buf) == Ok(2)
+            && buf == *b"in\0\0"
+            && host.pull(&mut buf) == Ok(0)
+    }
+
     #[test]
     fn fails_at_each_call_of_the_input(rt: HostRuntime) -> Result<(), Fail> {
         let alloc = rt.alloc();
         let mut host = MemoryHost::new(alloc, b"in".to_vec(alloc)?, Vec::new(alloc), [7; 32]);
-        let mut buf = [0u8; 4];
-        host.fail_at(1);
-        assert_eq!(rt; host.open_input(Some("in")), Err(HostFault));
-        assert_eq!(rt; host.input_name(), None);
-        assert_eq!(rt; host.open_input(Some("in")), Ok(()));
-        assert_eq!(rt; host.input_name(), Some(Some("in")));
-        host.fail_at(3);
-        assert_eq!(rt; host.pull(&mut buf), Err(HostFault));
-        assert_eq!(rt; host.pull(&mut buf), Ok(2));
-        assert_eq!(rt; buf, *b"in\0\0");
-        assert_eq!(rt; host.pull(&mut buf), Ok(0));
+        assert!(rt; is_refused(&mut host));
+        host.open_input(Some("in"))?;
+        assert!(rt; is_given_later(&mut host));
         Ok(())
+    }
+
+    // What four calls answer.
+    type Answers = (
+        Result<(), HostFault>,
+        Result<usize, HostFault>,
+        Result<usize, HostFault>,
+        Result<(), HostFault>,
+    );
+
+    // Calls of a host, of which the third fails.
+    fn answers(host: &mut MemoryHost) -> Answers
+        requires room { AreBelow (2 ^ 63) (memory_faults host.old) }
+        requires unopened { host.old.output_opened ≡ None }
+    {
+        host.set_sizes(1, 2);
+        host.fail_at(3);
+        let opened = host.open_output(Some("out"));
+        let first = host.push(b"abc");
+        let second = host.push(b"c");
+        (opened, first, second, host.say("told"))
+    }
+
+    // Whether a host has what they leave.
+    fn is_left(host: &MemoryHost) -> bool {
+        host.output() == b"ab".as_slice()
+            && host.output_name() == Some(Some("out"))
+            && host.input_name().is_none()
+            && matches!(host.lines(), [line] if line.as_str() == "told")
     }
 
     #[test]
     fn fails_at_the_call_named(rt: HostRuntime) -> Result<(), Fail> {
         let alloc = rt.alloc();
         let mut host = MemoryHost::new(alloc, Vec::new(alloc), Vec::new(alloc), [7; 32]);
-        host.set_sizes(1, 2);
-        host.fail_at(3);
-        assert_eq!(rt; host.open_output(Some("out")), Ok(()));
-        assert_eq!(rt; host.push(b"abc"), Ok(2));
-        assert_eq!(rt; host.push(b"c"), Err(HostFault));
-        assert_eq!(rt; host.say("told"), Ok(()));
-        assert_eq!(rt; host.output(), b"ab".as_slice());
-        assert_eq!(rt; host.output_name(), Some(Some("out")));
-        assert_eq!(rt; host.input_name(), None);
-        assert_eq!(rt; host.lines().len(), 1);
-        assert_eq!(rt; host.lines()[0].as_str(), "told");
+        assert_eq!(rt; answers(&mut host), (Ok(()), Ok(2), Err(HostFault), Ok(())));
+        assert!(rt; is_left(&host));
         Ok(())
     }
 }

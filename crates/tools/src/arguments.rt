@@ -52,6 +52,7 @@ fn words_of<E: Env + AllocGlobal>(process: &E) -> Result<Vec<String>, WordsFault
 #[cfg(test)]
 mod tests {
     use super::*;
+    use std::alloc::Global;
     use std::test::Fail;
 
     // A process with these arguments.
@@ -81,6 +82,26 @@ mod tests {
         }
     }
 
+    // Whether words are these texts.
+    fn are_texts(words: &[String], texts: &[&str]) -> bool {
+        words.len() == texts.len()
+            && words
+                .iter()
+                .zip(texts)
+                .all(|(word, text)| word.as_str() == *text)
+    }
+
+    // Whether the words of a process, or its fault, are these.
+    fn are_words(process: Process, alloc: Global, expected: Result<&[&str], WordsFault>) -> bool {
+        match words_of(&(process, alloc)) {
+            Ok(words) => match expected {
+                Ok(texts) => are_texts(&words, texts),
+                Err(_) => false,
+            },
+            Err(fault) => expected.err() == Some(fault),
+        }
+    }
+
     #[test]
     fn leaves_out_the_name(rt: HostRuntime) -> Result<(), Fail> {
         let rows: [(Process, Result<&[&str], WordsFault>); 5] = [
@@ -91,19 +112,7 @@ mod tests {
             (Process(&[b"\xff", b"-e"]), Ok(&["-e"])),
         ];
         for (process, expected) in rows {
-            match (words_of(&(process, rt.alloc())), expected) {
-                (Ok(words), Ok(texts)) => {
-                    assert_eq!(rt; words.len(), texts.len());
-                    assert!(rt;
-                        words
-                            .iter()
-                            .zip(texts)
-                            .all(|(word, text)| word.as_str() == *text)
-                    );
-                }
-                (Err(fault), Err(told)) => assert_eq!(rt; fault, told),
-                (outcome, _) => assert!(rt; false, "{}", outcome.is_ok()),
-            }
+            assert!(rt; are_words(process, rt.alloc(), expected), "{expected:?}");
         }
         assert!(rt; words(rt).is_ok());
         Ok(())

@@ -1,13 +1,14 @@
 //! Texts that other programs made of the reference library of Argon2, with salts, lengths and passwords of their own.
 use crate::{Encoded, verify};
 use argon::Kind;
+use std::alloc::Global;
 use std::test::Fail;
 
 /// A text, its type, its version and its password.
 type Row = (&'static str, Kind, u32, &'static str);
 
-// python3-argon2 21.1.0: low_level.hash_secret(password, salt, t, m, p, length, type, version).
-const ARGON2_CFFI: [Row; 12] = [
+const ROWS: &[Row] = &[
+    // python3-argon2 21.1.0: low_level.hash_secret(password, salt, t, m, p, length, type, version)
     (
         "$argon2i$v=16$m=32,t=1,p=2$c2FsdHlzYWx0$B4xgENicBeE",
         Kind::I,
@@ -80,10 +81,7 @@ const ARGON2_CFFI: [Row; 12] = [
         0x13,
         "pass word",
     ),
-];
-
-// passlib 1.7.4, which writes no version of 0x10: hash.argon2.genhash(password, text with another tag).
-const PASSLIB: [Row; 9] = [
+    // passlib 1.7.4, which writes no version of 0x10: hash.argon2.genhash(password, text with another tag)
     (
         "$argon2i$m=48,t=2,p=3$cGFzc2xpYi1zYWx0$ESNWSC1hulX5QgYXt+N/pOBacFE",
         Kind::I,
@@ -140,17 +138,18 @@ const PASSLIB: [Row; 9] = [
     ),
 ];
 
+// Whether a text is read as its row says, and fits its password and no other.
+fn is_as_made(alloc: Global, (text, kind, version, password): Row) -> Result<bool, Fail> {
+    let encoded = Encoded::read(alloc, text.as_bytes())?;
+    let fits = verify(alloc, &encoded, password.as_bytes(), 64, 1000)?;
+    let fits_another = verify(alloc, &encoded, b"Password", 64, 1000)?;
+    Ok(encoded.kind == kind && encoded.version == version && fits && !fits_another)
+}
+
 #[test]
 fn passwords_of_other_programs(rt: HostRuntime) -> Result<(), Fail> {
-    let alloc = rt.alloc();
-    for (text, kind, version, password) in ARGON2_CFFI.iter().chain(PASSLIB.iter()) {
-        let encoded = Encoded::read(alloc, text.as_bytes())?;
-        assert!(rt; encoded.kind == *kind, "{text}");
-        assert_eq!(rt; encoded.version, *version, "{text}");
-        for (tried, expected) in [(*password, true), ("Password", false)] {
-            let found = verify(alloc, &encoded, tried.as_bytes(), 64, 1000)?;
-            assert_eq!(rt; found, expected, "{text} {tried}");
-        }
+    for row in ROWS {
+        assert!(rt; is_as_made(rt.alloc(), *row)?, "{}", row.0);
     }
     Ok(())
 }

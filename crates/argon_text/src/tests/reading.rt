@@ -1,10 +1,10 @@
 //! What reading takes and refuses: texts of the reference program, worked examples, near misses.
-ghost use Rattle.std.specs.Prelude.{◌≤◌};
+ghost use Rattle.std.specs.Prelude.{◌<◌, length};
 
 use super::near_misses::{
     LEFT_OUT, PREFIXES, REPLACED, SHORT_LEFT_OUT, SHORT_PREFIXES, SHORT_TWICE, TWICE,
 };
-use super::reference_texts::{KNOWN, ROWS};
+use super::reference_texts::{KNOWN, ROWS, Row};
 use super::refusing::Refusing;
 use super::version_0x10::SHORT;
 use crate::read::read_from;
@@ -13,9 +13,7 @@ use std::alloc::{AllocError, Global};
 use std::test::Fail;
 
 // A fault by its number, and 0 where the text is read.
-fn answer(alloc: Global, text: &[u8]) -> u8
-    ensures number { result ≤ 3 }
-{
+fn answer(alloc: Global, text: &[u8]) -> u8 {
     match Encoded::read(alloc, text) {
         Ok(_) => 0,
         Err(ReadFault::NotInGrammar) => 1,
@@ -24,21 +22,27 @@ fn answer(alloc: Global, text: &[u8]) -> u8
     }
 }
 
+// Whether a text is read as its row says, and written again as it was.
+fn is_read_and_written(alloc: Global, row: &Row) -> Result<bool, Fail> {
+    let encoded = Encoded::read(alloc, row.text.as_bytes())?;
+    let mut out = Vec::new(alloc);
+    encoded.write(&mut out)?;
+    Ok(
+        encoded.kind == row.kind
+            && encoded.version == 0x13
+            && encoded.memory == row.memory
+            && encoded.passes == row.passes
+            && encoded.lanes == row.lanes
+            && encoded.salt.as_slice() == row.salt.as_bytes()
+            && encoded.tag.len() == row.tag_len
+            && out.as_slice() == row.text.as_bytes(),
+    )
+}
+
 #[test]
 fn reads_and_writes_texts_of_the_reference_program(rt: HostRuntime) -> Result<(), Fail> {
-    let alloc = rt.alloc();
     for row in ROWS {
-        let encoded = Encoded::read(alloc, row.text.as_bytes())?;
-        assert!(rt; encoded.kind == row.kind, "{}", row.text);
-        assert_eq!(rt; encoded.version, 0x13);
-        assert_eq!(rt; encoded.memory, row.memory);
-        assert_eq!(rt; encoded.passes, row.passes);
-        assert_eq!(rt; encoded.lanes, row.lanes);
-        assert_eq!(rt; encoded.salt.as_slice(), row.salt.as_bytes());
-        assert_eq!(rt; encoded.tag.len(), row.tag_len);
-        let mut out = Vec::new(alloc);
-        encoded.write(&mut out)?;
-        assert_eq!(rt; out.as_slice(), row.text.as_bytes());
+        assert!(rt; is_read_and_written(rt.alloc(), row)?, "{}", row.text);
     }
     Ok(())
 }
@@ -298,50 +302,70 @@ fn changed_texts(rt: HostRuntime) {
     }
 }
 
-// The digit of the answer to a text.
-fn digit(alloc: Global, text: &[u8]) -> u8 {
-    b'0' + answer(alloc, text)
+// The answer to the parts of a text, one after another.
+fn answer_to(alloc: Global, parts: [&[u8]; 3]) -> Result<u8, AllocError> {
+    let mut text = Vec::new(alloc);
+    for part in parts {
+        text.extend_from_slice(part)?;
+    }
+    Ok(answer(alloc, &text))
+}
+
+// What becomes of a text at a place.
+#[derive(Clone, Copy)]
+enum Change {
+    Replaced(u8),
+    LeftOut,
+    Twice,
+    Prefix,
+}
+
+// A text that is changed at a place.
+fn changed(alloc: Global, known: &[u8], place: usize, change: Change) -> Result<Vec<u8>, AllocError>
+    requires place { place < length known.now }
+{
+    let mut text = known[..place].to_vec(alloc)?;
+    match change {
+        Change::Replaced(other) => text.push(other)?,
+        Change::LeftOut => {}
+        Change::Twice => text.extend_from_slice(&[known[place], known[place]])?,
+        Change::Prefix => return Ok(text),
+    }
+    text.extend_from_slice(&known[place + 1..])?;
+    Ok(text)
+}
+
+// The answers to a text that is changed at each of its places in turn, by their digits.
+fn answers(alloc: Global, known: &[u8], change: Change) -> Result<Vec<u8>, AllocError> {
+    let mut found = Vec::new(alloc);
+    for place in 0..known.len() {
+        let text = changed(alloc, known, place, change)?;
+        found.push(b'0'.wrapping_add(answer(alloc, &text)))?;
+    }
+    Ok(found)
 }
 
 #[test]
 fn each_byte_replaced(rt: HostRuntime) -> Result<(), Fail> {
-    let alloc = rt.alloc();
     for (byte, expected) in REPLACED {
-        let mut found = Vec::new(alloc);
-        for place in 0..KNOWN.len() {
-            let mut text = KNOWN.to_vec(alloc)?;
-            text[place] = *byte;
-            found.push(digit(alloc, &text))?;
-        }
-        assert_eq!(rt; found.as_slice(), expected.as_bytes(), "{byte}");
+        let found = answers(rt.alloc(), KNOWN, Change::Replaced(*byte))?;
+        assert!(rt; found.as_slice() == expected.as_bytes(), "{byte}");
     }
     Ok(())
 }
 
 #[test]
 fn each_byte_left_out_and_twice_and_each_prefix(rt: HostRuntime) -> Result<(), Fail> {
-    let alloc = rt.alloc();
-    for (known, answers) in [
-        (KNOWN, [LEFT_OUT, TWICE, PREFIXES]),
-        (SHORT, [SHORT_LEFT_OUT, SHORT_TWICE, SHORT_PREFIXES]),
+    for (known, change, expected) in [
+        (KNOWN, Change::LeftOut, LEFT_OUT),
+        (KNOWN, Change::Twice, TWICE),
+        (KNOWN, Change::Prefix, PREFIXES),
+        (SHORT, Change::LeftOut, SHORT_LEFT_OUT),
+        (SHORT, Change::Twice, SHORT_TWICE),
+        (SHORT, Change::Prefix, SHORT_PREFIXES),
     ] {
-        let mut left_out = Vec::new(alloc);
-        let mut twice = Vec::new(alloc);
-        let mut prefixes = Vec::new(alloc);
-        for place in 0..known.len() {
-            let mut text = known[..place].to_vec(alloc)?;
-            prefixes.push(digit(alloc, &text))?;
-            text.extend_from_slice(&known[place + 1..])?;
-            left_out.push(digit(alloc, &text))?;
-            text.truncate(place);
-            text.push(known[place])?;
-            text.extend_from_slice(&known[place..])?;
-            twice.push(digit(alloc, &text))?;
-        }
-        let [expected_left_out, expected_twice, expected_prefixes] = answers;
-        assert_eq!(rt; left_out.as_slice(), expected_left_out.as_bytes());
-        assert_eq!(rt; twice.as_slice(), expected_twice.as_bytes());
-        assert_eq!(rt; prefixes.as_slice(), expected_prefixes.as_bytes());
+        let found = answers(rt.alloc(), known, change)?;
+        assert!(rt; found.as_slice() == expected.as_bytes(), "{expected}");
     }
     Ok(())
 }
@@ -428,26 +452,35 @@ const NUMBERS: &[(&str, &str, &[(u8, &str)])] = &[
     ),
 ];
 
+// The first number of a row that has another answer.
+fn first_wrong<'a>(
+    alloc: Global,
+    front: &str,
+    back: &str,
+    rows: &[(u8, &'a str)],
+) -> Result<Option<&'a str>, AllocError> {
+    for (expected, digits) in rows {
+        let parts = [front.as_bytes(), digits.as_bytes(), back.as_bytes()];
+        if answer_to(alloc, parts)? != *expected {
+            return Ok(Some(digits));
+        }
+    }
+    Ok(None)
+}
+
+// The answers to a number of 1000 times the digit 1, and 1000 times 0.
+fn answers_to_long(alloc: Global, front: &str, back: &str) -> Result<(u8, u8), AllocError> {
+    let ones = repeated(alloc, front.as_bytes(), b'1', 1000, back.as_bytes())?;
+    let zeros = repeated(alloc, front.as_bytes(), b'0', 1000, back.as_bytes())?;
+    Ok((answer(alloc, &ones), answer(alloc, &zeros)))
+}
+
 #[test]
 fn numbers_at_their_bounds_and_of_any_length(rt: HostRuntime) -> Result<(), Fail> {
-    let alloc = rt.alloc();
     for (front, back, rows) in NUMBERS {
-        let front = front.as_bytes();
-        let back = back.as_bytes();
-        for (expected, digits) in *rows {
-            let mut text = front.to_vec(alloc)?;
-            text.extend_from_slice(digits.as_bytes())?;
-            text.extend_from_slice(back)?;
-            assert_eq!(rt; answer(alloc, &text), *expected, "{digits}");
-        }
-        assert_eq!(rt;
-            answer(alloc, &repeated(alloc, front, b'1', 1000, back)?),
-            2
-        );
-        assert_eq!(rt;
-            answer(alloc, &repeated(alloc, front, b'0', 1000, back)?),
-            1
-        );
+        let wrong = first_wrong(rt.alloc(), front, back, rows)?;
+        let long = answers_to_long(rt.alloc(), front, back)?;
+        assert_eq!(rt; (wrong, long), (None, (2, 1)), "{front}");
     }
     Ok(())
 }

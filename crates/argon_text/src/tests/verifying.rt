@@ -19,75 +19,97 @@ fn number_of(answer: Result<bool, VerifyFault>) -> u8 {
     }
 }
 
+// Password, limits and answer for the known text.
+const ANSWERS: [(&[u8], u32, u64, u8); 9] = [
+    (b"password", 256, 526, 1),
+    (b"Password", 256, 526, 0),
+    (b"passwor", 256, 526, 0),
+    (b"password", 255, 525, 7),
+    (b"password", 256, 525, 8),
+    (b"", 255, 525, 6),
+    (b"p", 256, 526, 0),
+    (&[b'p'; 127], 256, 526, 0),
+    (&[b'p'; 128], 256, 526, 6),
+];
+
+// The number of the answer to a password of the known text.
+fn answered(alloc: Global, password: &[u8], max_kib: u32, max_ops: u64) -> Result<u8, Fail> {
+    let encoded = Encoded::read(alloc, KNOWN)?;
+    Ok(number_of(verify(alloc, &encoded, password, max_kib, max_ops)))
+}
+
 #[test]
 fn answers_in_their_order(rt: HostRuntime) -> Result<(), Fail> {
-    let encoded = Encoded::read(rt.alloc(), KNOWN)?;
-    for (password, max_kib, max_ops, expected) in [
-        ("password", 256, 526, 1),
-        ("Password", 256, 526, 0),
-        ("passwor", 256, 526, 0),
-        ("password", 255, 525, 7),
-        ("password", 256, 525, 8),
-        ("", 255, 525, 6),
-    ] {
-        let found = verify(rt.alloc(), &encoded, password.as_bytes(), max_kib, max_ops);
-        assert_eq!(rt;
-            number_of(found),
-            expected,
-            "{password} {max_kib} {max_ops}"
-        );
-    }
-    let passwords = [b'p'; 128];
-    for (len, expected) in [(1, 0), (127, 0), (128, 6)] {
-        let found = verify(rt.alloc(), &encoded, &passwords[..len], 256, 526);
-        assert_eq!(rt; number_of(found), expected, "{len}");
+    for (password, max_kib, max_ops, expected) in ANSWERS {
+        let found = answered(rt.alloc(), password, max_kib, max_ops)?;
+        assert_eq!(rt; found, expected, "{} {max_kib} {max_ops}", password.len());
     }
     Ok(())
+}
+
+// Whether a password fits a text.
+fn fits(alloc: Global, text: &[u8], password: &str) -> Result<bool, Fail> {
+    let encoded = Encoded::read(alloc, text)?;
+    Ok(verify(alloc, &encoded, password.as_bytes(), 256, 526)?)
 }
 
 #[test]
 fn passwords_of_the_reference_program(rt: HostRuntime) -> Result<(), Fail> {
     for row in ROWS {
-        let encoded = Encoded::read(rt.alloc(), row.text.as_bytes())?;
-        for (password, expected) in [(row.password, true), ("another", false)] {
-            let found = verify(rt.alloc(), &encoded, password.as_bytes(), 256, 526)?;
-            assert_eq!(rt; found, expected, "{}", row.text);
-        }
+        assert!(rt;
+            fits(rt.alloc(), row.text.as_bytes(), row.password)?,
+            "{}",
+            row.text
+        );
+        assert!(rt;
+            !fits(rt.alloc(), row.text.as_bytes(), "another")?,
+            "{}",
+            row.text
+        );
     }
     Ok(())
 }
 
 // A tag with one byte changed is another tag, whichever byte it is.
+fn fits_changed(alloc: Global, place: usize) -> Result<bool, Fail> {
+    let mut text = KNOWN.to_vec(alloc)?;
+    if let Some(byte) = text.get_mut(place) {
+        *byte = b'A';
+    }
+    fits(alloc, &text, "password")
+}
+
 #[test]
 fn each_byte_of_the_tag_counts(rt: HostRuntime) -> Result<(), Fail> {
-    let alloc = rt.alloc();
     for place in [40, 41, 61, 62, 81, 82] {
-        let mut text = KNOWN.to_vec(alloc)?;
-        text[place] = b'A';
-        let encoded = Encoded::read(alloc, &text)?;
-        assert!(rt; !verify(alloc, &encoded, b"password", 256, 526)?, "{place}");
+        assert!(rt; !fits_changed(rt.alloc(), place)?, "{place}");
     }
     Ok(())
 }
 
 // The matrix is the one request, and comes after the limits.
+fn answered_with(alloc: Global, left: u32, max_ops: u64) -> Result<u8, Fail> {
+    let encoded = Encoded::read(alloc, KNOWN)?;
+    let mut room = Refusing { alloc, left };
+    let found = verify_in(
+        &mut room,
+        &Claim::of(&encoded),
+        b"password",
+        256,
+        max_ops,
+        &mut Ticks::new(),
+    );
+    Ok(number_of(found))
+}
+
 #[test]
 fn the_one_request_is_refused(rt: HostRuntime) -> Result<(), Fail> {
-    let encoded = Encoded::read(rt.alloc(), KNOWN)?;
     for (left, max_ops, expected) in [(0, 526, 9), (1, 526, 1), (0, 525, 8)] {
-        let mut room = Refusing {
-            alloc: rt.alloc(),
-            left,
-        };
-        let found = verify_in(
-            &mut room,
-            &Claim::of(&encoded),
-            b"password",
-            256,
-            max_ops,
-            &mut Ticks::new(),
+        assert_eq!(rt;
+            answered_with(rt.alloc(), left, max_ops)?,
+            expected,
+            "{left}"
         );
-        assert_eq!(rt; number_of(found), expected, "{left}");
     }
     Ok(())
 }

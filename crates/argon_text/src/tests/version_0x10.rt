@@ -2,6 +2,7 @@
 use super::reference_texts::KNOWN;
 use crate::{Encoded, verify};
 use argon::Kind;
+use std::alloc::{AllocError, Global};
 use std::test::Fail;
 
 /// What `printf password | argon2 somesalt -t 2 -m 8 -v 10 -e` of the reference program writes, as it
@@ -42,38 +43,57 @@ const ROWS: [(Kind, &str, &str); 6] = [
     ),
 ];
 
-// Both texts are read as one value, which is written with its version, and a password is tested.
+// A text in its parts, and the version between them.
+fn joined(alloc: Global, parts: &[&str]) -> Result<Vec<u8>, AllocError> {
+    let mut text = Vec::new(alloc);
+    for part in parts {
+        text.extend_from_slice(part.as_bytes())?;
+    }
+    Ok(text)
+}
+
+// Whether a text is read as version 0x10 of its type, is written as this one, and fits its password alone.
+fn is_text_of(alloc: Global, text: &[u8], kind: Kind, whole: &[u8]) -> Result<bool, Fail> {
+    let encoded = Encoded::read(alloc, text)?;
+    let mut out = Vec::new(alloc);
+    encoded.write(&mut out)?;
+    let fits = verify(alloc, &encoded, b"password", 256, 526)?;
+    let fits_another = verify(alloc, &encoded, b"Password", 256, 526)?;
+    Ok(
+        encoded.kind == kind
+            && encoded.version == 0x10
+            && out.as_slice() == whole
+            && fits
+            && !fits_another,
+    )
+}
+
+// Whether both texts of a row are read as one value, which is written with its version.
+fn are_one(alloc: Global, (kind, name, rest): (Kind, &str, &str)) -> Result<bool, Fail> {
+    let whole = joined(alloc, &[name, "$v=16", rest])?;
+    let short = joined(alloc, &[name, rest])?;
+    Ok(is_text_of(alloc, &whole, kind, &whole)? && is_text_of(alloc, &short, kind, &whole)?)
+}
+
 #[test]
 fn reads_both_texts_and_writes_one(rt: HostRuntime) -> Result<(), Fail> {
-    let alloc = rt.alloc();
-    for (kind, name, rest) in ROWS {
-        let mut whole = name.as_bytes().to_vec(alloc)?;
-        whole.extend_from_slice(b"$v=16")?;
-        whole.extend_from_slice(rest.as_bytes())?;
-        let mut short = name.as_bytes().to_vec(alloc)?;
-        short.extend_from_slice(rest.as_bytes())?;
-        for text in [&whole, &short] {
-            let encoded = Encoded::read(alloc, text)?;
-            assert!(rt; encoded.kind == kind, "{rest}");
-            assert_eq!(rt; encoded.version, 0x10, "{rest}");
-            let mut out = Vec::new(alloc);
-            encoded.write(&mut out)?;
-            assert_eq!(rt; out.as_slice(), whole.as_slice(), "{rest}");
-            assert!(rt; verify(alloc, &encoded, b"password", 256, 526)?, "{rest}");
-            assert!(rt; !verify(alloc, &encoded, b"Password", 256, 526)?, "{rest}");
-        }
+    for row in ROWS {
+        assert!(rt; are_one(rt.alloc(), row)?, "{}", row.2);
     }
     Ok(())
 }
 
 // A text of version 0x13 that lost its version is a text of version 0x10, and its tag is another.
-#[test]
-fn text_that_lost_its_version(rt: HostRuntime) -> Result<(), Fail> {
-    let alloc = rt.alloc();
+fn lost(alloc: Global) -> Result<(u32, bool), Fail> {
     let mut text = KNOWN[..8].to_vec(alloc)?;
     text.extend_from_slice(&KNOWN[13..])?;
     let encoded = Encoded::read(alloc, &text)?;
-    assert_eq!(rt; encoded.version, 0x10);
-    assert!(rt; !verify(alloc, &encoded, b"password", 256, 526)?);
+    let fits = verify(alloc, &encoded, b"password", 256, 526)?;
+    Ok((encoded.version, fits))
+}
+
+#[test]
+fn text_that_lost_its_version(rt: HostRuntime) -> Result<(), Fail> {
+    assert_eq!(rt; lost(rt.alloc())?, (0x10, false));
     Ok(())
 }

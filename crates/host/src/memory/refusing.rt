@@ -1,4 +1,8 @@
 //! Each growth of a host in memory refused in turn.
+ghost use Rattle.std.specs.Prelude.{◌^◌};
+ghost use Rattle.host.specs.Faults.{AreBelow};
+ghost use Rattle.host.specs.Memory.{memory_faults};
+
 use super::MemoryHost;
 use crate::growth::Growth;
 use crate::host::Host;
@@ -67,8 +71,40 @@ enum Call {
     Say,
 }
 
+// Whether a call of a host is done, with this growth.
+fn is_done(
+    host: &mut MemoryHost,
+    growth: &mut Refusing,
+    call: Call,
+    name: String,
+    bytes: Vec<u8>,
+) -> bool
+    requires room { AreBelow (2 ^ 63) (memory_faults host.old) }
+{
+    match call {
+        Call::SetVariable => put_first(growth, &mut host.variables, name, bytes).is_ok(),
+        Call::SetFile => put_first(growth, &mut host.files, name, bytes).is_ok(),
+        Call::OpenInput => host.open_input_with(growth, Some("in")).is_ok(),
+        Call::OpenOutput => host.open_output_with(growth, Some("out")).is_ok(),
+        Call::Push => host.push_with(growth, b"text").is_ok(),
+        Call::Say => host.say_with(growth, "line").is_ok(),
+    }
+}
+
+// Whether a host tells of a call that is done.
+fn is_seen(host: &MemoryHost, call: Call) -> bool {
+    match call {
+        Call::SetVariable => find(&host.variables, "pw").is_some(),
+        Call::SetFile => find(&host.files, "pw").is_some(),
+        Call::OpenInput => host.input_name() == Some(Some("in")),
+        Call::OpenOutput => host.output_name() == Some(Some("out")),
+        Call::Push => host.output() == b"text".as_slice(),
+        Call::Say => host.lines().len() == 1,
+    }
+}
+
 // What a new host tells of the call after it, whether it answered, and how often it asked.
-#[derive(Drop)]
+#[derive(Drop, Debug, PartialEq, Eq)]
 struct Told {
     is_done: bool,
     is_seen: bool,
@@ -84,25 +120,10 @@ fn told_of(alloc: Global, call: Call, refused: u32) -> Result<Told, AllocError> 
     let name = String::from_str(alloc, "pw")?;
     let bytes = b"secret".to_vec(alloc)?;
     let mut host = MemoryHost::new(alloc, Vec::new(alloc), Vec::new(alloc), [7; 32]);
-    let is_done = match call {
-        Call::SetVariable => put_first(&mut growth, &mut host.variables, name, bytes).is_ok(),
-        Call::SetFile => put_first(&mut growth, &mut host.files, name, bytes).is_ok(),
-        Call::OpenInput => host.open_input_with(&mut growth, Some("in")).is_ok(),
-        Call::OpenOutput => host.open_output_with(&mut growth, Some("out")).is_ok(),
-        Call::Push => host.push_with(&mut growth, b"text").is_ok(),
-        Call::Say => host.say_with(&mut growth, "line").is_ok(),
-    };
-    let is_seen = match call {
-        Call::SetVariable => find(&host.variables, "pw").is_some(),
-        Call::SetFile => find(&host.files, "pw").is_some(),
-        Call::OpenInput => host.input_name() == Some(Some("in")),
-        Call::OpenOutput => host.output_name() == Some(Some("out")),
-        Call::Push => host.output() == b"text".as_slice(),
-        Call::Say => host.lines().len() == 1,
-    };
+    let is_done = is_done(&mut host, &mut growth, call, name, bytes);
     Ok(Told {
         is_done,
-        is_seen,
+        is_seen: is_seen(&host, call),
         asked: growth.asked,
     })
 }
@@ -120,9 +141,12 @@ fn each_growth_is_refused(rt: HostRuntime) -> Result<(), Fail> {
     ] {
         for refused in 1..=growths + 1 {
             let told = told_of(rt.alloc(), call, refused)?;
-            assert_eq!(rt; told.is_done, refused > growths, "{call:?}, {refused}");
-            assert_eq!(rt; told.is_seen, told.is_done, "{call:?}, {refused}");
-            assert_eq!(rt; told.asked, refused.min(growths), "{call:?}, {refused}");
+            let expected = Told {
+                is_done: refused > growths,
+                is_seen: refused > growths,
+                asked: refused.min(growths),
+            };
+            assert_eq!(rt; told, expected, "{call:?}, {refused}");
         }
     }
     Ok(())

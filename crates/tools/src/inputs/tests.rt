@@ -47,43 +47,48 @@ impl Places for Sevens {
     }
 }
 
+// The length of a secret where so many sevens are, whether its source stays open, and the buffer.
+fn secret_of(count: usize, source: Source<'_>) -> Result<(usize, bool, [u8; 8]), HostFault> {
+    let mut buf = [0; 8];
+    let secret = read_secret(&mut Sevens { count }, source, &mut buf)?;
+    Ok((secret.length, secret.opened.is_some(), buf))
+}
+
 #[test]
 fn takes_secrets_in_pieces(rt: HostRuntime) {
-    for source in [Source::StdinOnce, Source::File("name"), Source::Env("name")] {
-        for (count, length) in [(0, 0), (1, 1), (5, 5), (8, 8), (9, 8)] {
-            let mut buf = [0; 8];
-            let Ok(secret) = read_secret(&mut Sevens { count }, source, &mut buf) else {
-                assert!(rt; false, "{source:?}");
-                return;
-            };
-            assert_eq!(rt; secret.length, length, "{source:?}, {count} bytes");
-            assert_eq!(rt; secret.opened.is_none(), matches!(&source, Source::Env(_)));
-            assert!(rt;
-                buf.iter()
-                    .enumerate()
-                    .all(|(i, byte)| (*byte == 7) == (i < length))
+    for (source, is_open) in [
+        (Source::StdinOnce, true),
+        (Source::File("name"), true),
+        (Source::Env("name"), false),
+    ] {
+        for (count, length, buf) in [
+            (0, 0, [0; 8]),
+            (1, 1, [7, 0, 0, 0, 0, 0, 0, 0]),
+            (5, 5, [7, 7, 7, 7, 7, 0, 0, 0]),
+            (8, 8, [7; 8]),
+            (9, 8, [7; 8]),
+        ] {
+            assert_eq!(rt;
+                secret_of(count, source),
+                Ok((length, is_open, buf)),
+                "{source:?}, {count} bytes"
             );
         }
     }
-    let missing = read_secret(
-        &mut Sevens { count: 1 },
-        Source::File("missing"),
-        &mut [0; 8],
-    );
-    assert!(rt; missing.is_err());
+    assert_eq!(rt; secret_of(1, Source::File("missing")), Err(HostFault));
+}
+
+// A salt where so many sevens are.
+fn salt_of(count: usize) -> Result<[u8; 32], HostFault> {
+    let mut salt = [0; 32];
+    read_salt(&mut Sevens { count }, &mut salt)?;
+    Ok(salt)
 }
 
 #[test]
 fn takes_whole_salts(rt: HostRuntime) {
-    let mut salt = [0; 32];
-    assert_eq!(rt;
-        read_salt(&mut Sevens { count: 31 }, &mut salt),
-        Err(HostFault)
-    );
-    for count in [32, 40] {
-        salt = [0; 32];
-        assert_eq!(rt; read_salt(&mut Sevens { count }, &mut salt), Ok(()));
-        assert_eq!(rt; salt, [7; 32]);
+    for (count, salt) in [(31, Err(HostFault)), (32, Ok([7; 32])), (40, Ok([7; 32]))] {
+        assert_eq!(rt; salt_of(count), salt, "{count} bytes");
     }
 }
 
@@ -111,14 +116,23 @@ impl Env for Environment {
     }
 }
 
+// The answer to a variable with so much room, and the buffer.
+fn variable_of(name: &str, room: usize) -> (Result<usize, HostFault>, [u8; 8]) {
+    let mut buf = [0; 8];
+    let answer = match buf.get_mut(..room) {
+        Some(beginning) => read_variable(&Environment, name, beginning),
+        None => Err(HostFault),
+    };
+    (answer, buf)
+}
+
 #[test]
 fn reads_variables(rt: HostRuntime) {
-    let mut buf = [0; 8];
-    assert_eq!(rt; read_variable(&Environment, "SET", &mut buf), Ok(6));
-    assert_eq!(rt; &buf[..6], b"longer".as_slice());
-    assert_eq!(rt; read_variable(&Environment, "SET", &mut buf[..5]), Ok(5));
-    assert_eq!(rt;
-        read_variable(&Environment, "UNSET", &mut buf),
-        Err(HostFault)
-    );
+    for (name, room, answer, buf) in [
+        ("SET", 8, Ok(6), *b"longer\0\0"),
+        ("SET", 5, Ok(5), *b"longe\0\0\0"),
+        ("UNSET", 8, Err(HostFault), [0; 8]),
+    ] {
+        assert_eq!(rt; variable_of(name, room), (answer, buf), "{name}, {room}");
+    }
 }

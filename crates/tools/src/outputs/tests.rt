@@ -89,6 +89,26 @@ const NOTHING: FilesRead = FilesRead {
     secret: None,
 };
 
+// What comes of emptying a file, and its length then, with these files read.
+fn emptied(
+    read: Result<FilesRead, HostFault>,
+    identity: Result<Option<FileIdentity>, HostFault>,
+    emptying: Result<(), HostFault>,
+) -> (Result<(), HostFault>, usize) {
+    let mut file = FourBytes {
+        identity,
+        emptying,
+        length: 4,
+    };
+    let outputs = Layers {
+        read,
+        after: NOTHING,
+        identity: THIS,
+    };
+    let outcome = empty_unless_read(&outputs, &mut file);
+    (outcome, file.length)
+}
+
 #[test]
 fn files_that_are_read_stay(rt: HostRuntime) {
     for (input, secret, identity, emptying, outcome, length) in [
@@ -114,40 +134,32 @@ fn files_that_are_read_stay(rt: HostRuntime) {
         (None, None, Ok(None), Ok(()), Ok(()), 4),
         (None, None, Err(HostFault), Ok(()), Err(HostFault), 4),
     ] {
-        let mut file = FourBytes {
-            identity,
-            emptying,
-            length: 4,
-        };
         let read = FilesRead { input, secret };
-        let outputs = Layers {
-            read: Ok(read),
-            after: read,
-            identity: THIS,
-        };
         assert_eq!(rt;
-            empty_unless_read(&outputs, &mut file),
-            outcome,
+            emptied(Ok(read), identity, emptying),
+            (outcome, length),
             "{identity:?} {read:?}"
         );
-        assert_eq!(rt; file.length, length, "{identity:?} {read:?}");
     }
 }
 
 #[test]
 fn a_file_stays_where_it_is_not_told_what_is_read(rt: HostRuntime) {
-    let outputs = Layers {
-        read: Err(HostFault),
-        after: NOTHING,
+    let found = emptied(Err(HostFault), Ok(Some(THIS)), Ok(()));
+    assert_eq!(rt; found, (Err(HostFault), 4));
+}
+
+// The length of the file that is opened, where one is.
+fn opened_length(before: FilesRead, after: FilesRead, name: &str) -> Option<usize> {
+    let mut outputs = Layers {
+        read: Ok(before),
+        after,
         identity: THIS,
     };
-    let mut file = FourBytes {
-        identity: Ok(Some(THIS)),
-        emptying: Ok(()),
-        length: 4,
-    };
-    assert_eq!(rt; empty_unless_read(&outputs, &mut file), Err(HostFault));
-    assert_eq!(rt; file.length, 4);
+    match open_named(&mut outputs, name) {
+        Ok(file) => Some(file.length),
+        Err(_) => None,
+    }
 }
 
 // What is read is asked when the output is opened: a file that was copied then has the numbers of the copy.
@@ -197,13 +209,11 @@ fn a_copied_file_stays(rt: HostRuntime) {
         (NOTHING, NOTHING, "other", Some(0)),
         (NOTHING, NOTHING, "missing/file", None),
     ] {
-        let mut outputs = Layers {
-            read: Ok(before),
-            after,
-            identity: THIS,
-        };
-        let found = open_named(&mut outputs, name).ok().map(|file| file.length);
-        assert_eq!(rt; found, length, "{before:?} {after:?} {name}");
+        assert_eq!(rt;
+            opened_length(before, after, name),
+            length,
+            "{before:?} {after:?} {name}"
+        );
     }
 }
 

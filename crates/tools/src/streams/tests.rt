@@ -57,25 +57,19 @@ impl Write for Interrupted {
     }
 }
 
+// The answers to reading some bytes, to reading all, and to writing, with so many interruptions before each byte.
+fn answers_after(times: usize) -> [Result<usize, HostFault>; 3] {
+    let mut buf = [0; 4];
+    let some = read_some(&mut Interrupted::new(times), &mut buf);
+    let full = read_full(&mut Interrupted::new(times), &mut buf);
+    let written = write_some(&mut Interrupted::new(times), &buf);
+    [some, full, written]
+}
+
 #[test]
 fn asks_again_sixteen_times(rt: HostRuntime) {
-    let mut buf = [0; 4];
-    for (times, some, full) in [(16, Ok(1), Ok(4)), (17, Err(HostFault), Err(HostFault))] {
-        assert_eq!(rt;
-            read_some(&mut Interrupted::new(times), &mut buf),
-            some,
-            "{times} times"
-        );
-        assert_eq!(rt;
-            read_full(&mut Interrupted::new(times), &mut buf),
-            full,
-            "{times} times"
-        );
-        assert_eq!(rt;
-            write_some(&mut Interrupted::new(times), &buf),
-            some,
-            "{times} times"
-        );
+    for (times, answers) in [(16, [Ok(1), Ok(4), Ok(1)]), (17, [Err(HostFault); 3])] {
+        assert_eq!(rt; answers_after(times), answers, "{times} times");
     }
 }
 
@@ -86,10 +80,6 @@ struct FailsOnce {
 }
 
 impl FailsOnce {
-    fn new() -> FailsOnce {
-        FailsOnce { failed: false }
-    }
-
     fn all_of(&mut self, buf: &[u8]) -> io::Result<usize>
         ensures all { IfOk result (λ n. n ≡ length buf.now) }
     {
@@ -117,16 +107,20 @@ impl Write for FailsOnce {
     }
 }
 
+// The answers to reading some bytes, to reading all, and to writing, each of a stream of its own.
+fn answers_of(failed: bool) -> [Result<usize, HostFault>; 3] {
+    let mut buf = [0; 4];
+    let some = read_some(&mut FailsOnce { failed }, &mut buf);
+    let full = read_full(&mut FailsOnce { failed }, &mut buf);
+    let written = write_some(&mut FailsOnce { failed }, &buf);
+    [some, full, written]
+}
+
 // Only what was interrupted is asked again.
 #[test]
 fn tells_another_fault(rt: HostRuntime) {
-    let mut buf = [0; 4];
-    assert_eq!(rt; read_some(&mut FailsOnce::new(), &mut buf), Err(HostFault));
-    assert_eq!(rt; read_full(&mut FailsOnce::new(), &mut buf), Err(HostFault));
-    assert_eq!(rt; write_some(&mut FailsOnce::new(), &buf), Err(HostFault));
-    let mut stream = FailsOnce { failed: true };
-    assert_eq!(rt; read_full(&mut stream, &mut buf), Ok(4));
-    assert_eq!(rt; write_some(&mut stream, &buf), Ok(4));
+    assert_eq!(rt; answers_of(false), [Err(HostFault); 3]);
+    assert_eq!(rt; answers_of(true), [Ok(4); 3]);
 }
 
 // A reader that gives two bytes at a time, and then fails or ends.

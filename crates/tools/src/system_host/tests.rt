@@ -4,108 +4,190 @@ use super::*;
 use host::refuse;
 use std::fs;
 use std::os::unix::fs::symlink;
-use std::process::Abort;
 use std::test::Fail;
+
+// The outcome of opening five bytes, two pieces with what the buffer holds after each, and the end.
+fn pieces_of_five_bytes(
+    system: HostRuntime,
+) -> (
+    Result<(), HostFault>,
+    (Result<usize, HostFault>, [u8; 3]),
+    (Result<usize, HostFault>, [u8; 3]),
+    Result<usize, HostFault>,
+) {
+    let mut host = SystemHost::new(system);
+    let opened = host.open_input(Some("five-bytes"));
+    let mut buf = [0; 3];
+    let first = (host.pull(&mut buf), buf);
+    let second = (host.pull(&mut buf), buf);
+    (opened, first, second, host.pull(&mut buf))
+}
 
 #[test]
 fn reads_a_file_in_pieces(rt: HostRuntime) -> Result<(), Fail> {
     fs::write(&rt, "five-bytes", "hello")?;
-    let mut host = SystemHost::new(rt);
-    assert_eq!(rt; host.open_input(Some("five-bytes")), Ok(()));
-    let mut buf = [0; 3];
-    assert_eq!(rt; host.pull(&mut buf), Ok(3));
-    assert_eq!(rt; &buf, b"hel");
-    assert_eq!(rt; host.pull(&mut buf), Ok(2));
-    assert_eq!(rt; &buf, b"lol");
-    assert_eq!(rt; host.pull(&mut buf), Ok(0));
+    assert_eq!(rt;
+        pieces_of_five_bytes(rt),
+        (Ok(()), (Ok(3), *b"hel"), (Ok(2), *b"lol"), Ok(0))
+    );
     Ok(())
 }
 
-#[test]
-fn makes_and_empties_a_file(rt: HostRuntime) -> Result<(), Fail> {
-    for _ in 0..2 {
-        let mut host = SystemHost::new(rt);
-        assert_eq!(rt; host.open_output(Some("written")), Ok(()));
-        assert_eq!(rt; fs::read(&rt, "written")?.len(), 0);
-        assert_eq!(rt; host.push(b"hello"), Ok(5));
-        assert_eq!(rt; host.push(b""), Ok(0));
-        assert_eq!(rt; fs::read(&rt, "written")?.as_slice(), b"hello".as_slice());
+// Whether a file holds these bytes.
+fn holds(system: HostRuntime, name: &str, bytes: &[u8]) -> bool {
+    match fs::read(&system, name) {
+        Ok(held) => held.as_slice() == bytes,
+        Err(_) => false,
     }
-    Ok(())
+}
+
+// The outcomes of opening an output, and of pushes to it; whether the file is empty then, and holds what was pushed.
+fn pushes(
+    system: HostRuntime,
+) -> (
+    Result<(), HostFault>,
+    bool,
+    [Result<usize, HostFault>; 2],
+    bool,
+) {
+    let mut host = SystemHost::new(system);
+    let opened = host.open_output(Some("written"));
+    let is_empty = holds(system, "written", b"");
+    let pushed = host.push(b"hello");
+    let nothing = host.push(b"");
+    (
+        opened,
+        is_empty,
+        [pushed, nothing],
+        holds(system, "written", b"hello"),
+    )
+}
+
+#[test]
+fn makes_and_empties_a_file(rt: HostRuntime) {
+    for time in 0..2 {
+        assert_eq!(rt; pushes(rt), (Ok(()), true, [Ok(5), Ok(0)], true), "{time}");
+    }
+}
+
+// The outcomes of pulling before anything is opened, of opening what is missing and a folder, and of pulling from that,
+// with the count of faults.
+fn faults_of_the_input(
+    system: HostRuntime,
+) -> (
+    [Result<usize, HostFault>; 2],
+    [Result<(), HostFault>; 2],
+    u64,
+) {
+    let mut host = SystemHost::new(system);
+    let mut buf = [0; 3];
+    let before = host.pull(&mut buf);
+    let missing = host.open_input(Some("missing"));
+    let folder = host.open_input(Some("folder-to-read"));
+    let pulled = host.pull(&mut buf);
+    ([before, pulled], [missing, folder], host.input_faults)
 }
 
 #[test]
 fn counts_faults_of_the_input(rt: HostRuntime) -> Result<(), Fail> {
     fs::create_dir(&rt, "folder-to-read")?;
-    let mut host = SystemHost::new(rt);
-    let mut buf = [0; 3];
-    assert_eq!(rt; host.pull(&mut buf), Err(HostFault));
-    assert_eq!(rt; host.open_input(Some("missing")), Err(HostFault));
-    assert_eq!(rt; host.open_input(Some("folder-to-read")), Ok(()));
-    assert_eq!(rt; host.pull(&mut buf), Err(HostFault));
-    assert_eq!(rt; host.input_faults, 3);
+    assert_eq!(rt;
+        faults_of_the_input(rt),
+        ([Err(HostFault); 2], [Err(HostFault), Ok(())], 3)
+    );
     Ok(())
+}
+
+// The outcomes of pushing before anything is opened, and of opening what is missing and a folder, with the count of
+// faults.
+fn faults_of_the_output(
+    system: HostRuntime,
+) -> (Result<usize, HostFault>, [Result<(), HostFault>; 2], u64) {
+    let mut host = SystemHost::new(system);
+    let before = host.push(b"hello");
+    let missing = host.open_output(Some("missing/file"));
+    let folder = host.open_output(Some("folder-to-write"));
+    (before, [missing, folder], host.output_faults)
 }
 
 #[test]
 fn counts_faults_of_the_output(rt: HostRuntime) -> Result<(), Fail> {
     fs::create_dir(&rt, "folder-to-write")?;
-    let mut host = SystemHost::new(rt);
-    assert_eq!(rt; host.push(b"hello"), Err(HostFault));
-    assert_eq!(rt; host.open_output(Some("missing/file")), Err(HostFault));
-    assert_eq!(rt; host.open_output(Some("folder-to-write")), Err(HostFault));
-    assert_eq!(rt; host.output_faults, 3);
+    assert_eq!(rt;
+        faults_of_the_output(rt),
+        (Err(HostFault), [Err(HostFault); 2], 3)
+    );
     Ok(())
+}
+
+// The outcome of a secret, the buffer, and the count of faults.
+fn secret_of(system: HostRuntime, source: Source<'_>) -> (Result<usize, HostFault>, [u8; 5], u64) {
+    let mut host = SystemHost::new(system);
+    let mut buf = *b".....";
+    let outcome = host.secret(source, &mut buf);
+    (outcome, buf, host.secret_faults)
 }
 
 #[test]
 fn reads_secrets(rt: HostRuntime) -> Result<(), Fail> {
     fs::write(&rt, "short", "short")?;
     fs::write(&rt, "long", "longer")?;
-    for (source, outcome, front) in [
-        (Source::File("short"), Ok(5), b"short"),
-        (Source::File("long"), Ok(5), b"longe"),
-        (Source::File("missing"), Err(HostFault), b"....."),
-        (Source::Env("NOT=A NAME"), Err(HostFault), b"....."),
+    for (source, outcome, front, faults) in [
+        (Source::File("short"), Ok(5), *b"short", 0),
+        (Source::File("long"), Ok(5), *b"longe", 0),
+        (Source::File("missing"), Err(HostFault), *b".....", 1),
+        (Source::Env("NOT=A NAME"), Err(HostFault), *b".....", 1),
     ] {
-        let mut host = SystemHost::new(rt);
-        let mut buf = *b".....";
-        assert_eq!(rt; host.secret(source, &mut buf), outcome);
-        assert_eq!(rt; &buf, front);
-        assert_eq!(rt; host.secret_faults, u64::from(outcome.is_err()));
+        assert_eq!(rt;
+            secret_of(rt, source),
+            (outcome, front, faults),
+            "{source:?}"
+        );
     }
     Ok(())
 }
 
+// A salt of the system.
+fn salt_of(system: HostRuntime) -> Result<[u8; 32], HostFault> {
+    let mut salt = [0; 32];
+    SystemHost::new(system).salt(&mut salt)?;
+    Ok(salt)
+}
+
 // Each place of a salt is another byte in some salt: that eight random salts meet in a place has a chance of 2^-51.
 #[test]
-fn salts_are_random_in_each_place(rt: HostRuntime) {
-    let mut first = [0; 32];
-    assert_eq!(rt; SystemHost::new(rt).salt(&mut first), Ok(()));
+fn salts_are_random_in_each_place(rt: HostRuntime) -> Result<(), Fail> {
+    let first = salt_of(rt)?;
     let mut varies = [false; 32];
     for _ in 0..7 {
-        let mut salt = [0; 32];
-        assert_eq!(rt; SystemHost::new(rt).salt(&mut salt), Ok(()));
+        let salt = salt_of(rt)?;
         for i in 0..32 {
             varies[i] |= salt[i] != first[i];
         }
     }
     assert_eq!(rt; varies, [true; 32]);
+    Ok(())
 }
 
-// No output opens under this name while the file `one` is input.
-fn check_input_stays(rt: &impl Abort, system: HostRuntime, name: &str) {
+// The outcomes of opening the file `one` as input and then a name as output, with the count of faults.
+fn output_beside_input(
+    system: HostRuntime,
+    name: &str,
+) -> (Result<(), HostFault>, Result<(), HostFault>, u64) {
     let mut host = SystemHost::new(system);
-    assert_eq!(rt; host.open_input(Some("one")), Ok(()));
-    assert_eq!(rt; host.open_output(Some(name)), Err(HostFault), "{name}");
-    assert_eq!(rt; host.output_faults, 1);
+    let input = host.open_input(Some("one"));
+    let output = host.open_output(Some(name));
+    (input, output, host.output_faults)
 }
 
-// None does while that file is where the secret is from.
-fn check_secret_stays(rt: &impl Abort, system: HostRuntime, name: &str) {
+// The outcomes of taking the secret from that file, and then opening a name as output.
+fn output_beside_secret(
+    system: HostRuntime,
+    name: &str,
+) -> (Result<usize, HostFault>, Result<(), HostFault>) {
     let mut host = SystemHost::new(system);
-    assert_eq!(rt; host.secret(Source::File("one"), &mut [0; 8]), Ok(4));
-    assert_eq!(rt; host.open_output(Some(name)), Err(HostFault), "{name}");
+    let secret = host.secret(Source::File("one"), &mut [0; 8]);
+    (secret, host.open_output(Some(name)))
 }
 
 #[test]
@@ -114,37 +196,74 @@ fn files_that_are_read_stay_under_each_name(rt: HostRuntime) -> Result<(), Fail>
     fs::hard_link(&rt, "one", "hard-link")?;
     symlink(&rt, "one", "symbolic-link")?;
     for name in ["one", "./one", "hard-link", "symbolic-link"] {
-        check_input_stays(&rt, rt, name);
-        check_secret_stays(&rt, rt, name);
-        assert_eq!(rt; fs::read(&rt, "one")?.as_slice(), b"kept".as_slice());
+        assert_eq!(rt;
+            output_beside_input(rt, name),
+            (Ok(()), Err(HostFault), 1),
+            "{name}"
+        );
+        assert_eq!(rt;
+            output_beside_secret(rt, name),
+            (Ok(4), Err(HostFault)),
+            "{name}"
+        );
+        assert!(rt; holds(rt, "one", b"kept"), "{name}");
     }
     Ok(())
+}
+
+// The outcomes of opening the first file as input, taking the secret from it and opening the second as output, and
+// whether that is empty then.
+fn another_output(
+    system: HostRuntime,
+) -> (
+    Result<(), HostFault>,
+    Result<usize, HostFault>,
+    Result<(), HostFault>,
+    bool,
+) {
+    let mut host = SystemHost::new(system);
+    let input = host.open_input(Some("first"));
+    let secret = host.secret(Source::File("first"), &mut [0; 8]);
+    let output = host.open_output(Some("second"));
+    (input, secret, output, holds(system, "second", b""))
 }
 
 #[test]
 fn a_file_that_is_not_read_is_emptied(rt: HostRuntime) -> Result<(), Fail> {
     fs::write(&rt, "first", "kept")?;
     fs::write(&rt, "second", "lost")?;
-    let mut host = SystemHost::new(rt);
-    assert_eq!(rt; host.open_input(Some("first")), Ok(()));
-    assert_eq!(rt; host.secret(Source::File("first"), &mut [0; 8]), Ok(4));
-    assert_eq!(rt; host.open_output(Some("second")), Ok(()));
-    assert_eq!(rt; fs::read(&rt, "second")?.len(), 0);
+    assert_eq!(rt; another_output(rt), (Ok(()), Ok(4), Ok(()), true));
     Ok(())
+}
+
+// The outcomes of opening a device as input and as output, and of a push to it.
+fn device_as_both(
+    system: HostRuntime,
+) -> (
+    Result<(), HostFault>,
+    Result<(), HostFault>,
+    Result<usize, HostFault>,
+) {
+    let mut host = SystemHost::new(system);
+    let input = host.open_input(Some("/dev/null"));
+    let output = host.open_output(Some("/dev/null"));
+    (input, output, host.push(b"hello"))
 }
 
 #[test]
 fn a_device_may_be_input_and_output(rt: HostRuntime) {
-    let mut host = SystemHost::new(rt);
-    assert_eq!(rt; host.open_input(Some("/dev/null")), Ok(()));
-    assert_eq!(rt; host.open_output(Some("/dev/null")), Ok(()));
-    assert_eq!(rt; host.push(b"hello"), Ok(5));
+    assert_eq!(rt; device_as_both(rt), (Ok(()), Ok(()), Ok(5)));
+}
+
+// The outcome of a line, the status of a refusal, and the count of faults.
+fn lines(system: HostRuntime) -> (Result<(), HostFault>, u8, u64) {
+    let mut host = SystemHost::new(system);
+    let said = host.say("a line that a test says");
+    let status = refuse(&mut host, "a refusal that a test says");
+    (said, status, host.line_faults)
 }
 
 #[test]
 fn says_lines(rt: HostRuntime) {
-    let mut host = SystemHost::new(rt);
-    assert_eq!(rt; host.say("a line that a test says"), Ok(()));
-    assert_eq!(rt; refuse(&mut host, "a refusal that a test says"), 1);
-    assert_eq!(rt; host.line_faults, 0);
+    assert_eq!(rt; lines(rt), (Ok(()), 1, 0));
 }
