@@ -78,18 +78,24 @@ class Shell:
 
 def scrypt_examples(checks, shell):
     backup, look, opened, whole, again, typed, typed_again, small, keep = examples("scrypt.1")
-    (guard,) = examples("scrypt.1", "SECURITY")
+    guard_of_a_file, guard = examples("scrypt.1", "SECURITY")
 
     def expect(name, found, expected):
         checks.that(f"scrypt.1 in {shell.name}: {name}", found, expected)
 
     status, _ = shell.run(backup[0])
     expect("a backup of what is not there fails", status != 0, True)
+    for name in ("head", "base64"):
+        shell.run("rm -f letters.enc backup-key")
+        status, _ = shell.run(f"{name}() {{ return 1; }}; {backup[0]}ls letters.enc")
+        expect(f"a backup without a key, since {name} fails, is none", (status != 0, shell.run("ls letters.enc")[0] != 0), (True, True))
+    shell.run("rm -f backup-key")
     shell.run("mkdir letters; echo 'Dear Ada' >letters/to-ada; head -c 32 /dev/urandom | base64 >new-key")
     expect("a backup", shell.run(backup[0]), (0, ""))
     status, _ = shell.run(backup[0].replace("letters |", "letters nothere |"))
     expect("a backup of which a part is not there fails", status != 0, True)
-    expect("a backup", shell.run(backup[0]), (0, ""))
+    status, said = shell.run(f"cp backup-key first; {backup[0]}cmp backup-key first && rm first")
+    expect("a backup again keeps the key", (status, "backup-key" in said), (0, True))
     expect("look at it", shell.run(look[0]), (0, look[1]))
     expect("open it", shell.run(opened[0]), (0, ""))
     expect("what was opened", shell.run("tar -tf letters.tar"), (0, "letters/\nletters/to-ada\n"))
@@ -110,11 +116,21 @@ def scrypt_examples(checks, shell):
     expect("typed to open it", shell.run(last + "cmp letters.part letters.tar", b"words of ours\n"), (0, "Passphrase: \n"))
     expect("typed to open it, other words", shell.run(last, b"words\n"), (1, "Passphrase: \nscrypt: wrong passphrase\n"))
     expect("typed to open it, nothing", shell.run(last), (1, "Passphrase: \nscrypt: wrong passphrase\n"))
-    for name, command in (("that fails", "false"), ("that prints nothing", ":"), ("that prints and fails", "{ echo words; false; }")):
-        status, said = shell.run(f"echo Dear >in; pass() {{ {command}; }}; {guard[0]}s=$?; test -e out && echo made; exit $s")
-        expect(f"the guard and a command {name}", (status, said), (1, ""))
-    line = guard[0].replace("pass backup", "echo words")
-    expect("the guard", shell.run(f"{line}scrypt dec -P out <<E\nwords\nE"), (0, "Dear\n"))
+    shell.run("echo Dear >in")
+    for held in ("", r"\n", r"\nwords", r"\r\n", r"\rwords", r"\0", r"\0\0\n"):
+        for name, of, given in (("a file", guard_of_a_file, f"printf '{held}' >key"), ("a command", guard, f"pass() {{ printf '{held}'; }}")):
+            found = shell.run(f"{given}; {of[0]}s=$?; ls out; exit $s")
+            expect(f"the guard and {name} of '{held}'", (found[0], "No such file" in found[1]), (1, True))
+        status, said = shell.run(f"printf '{held}' >new-key.empty; " + again[0].replace("new-key", "new-key.empty"))
+        kept = shell.run("scrypt dec --passphrase file:new-key letters.enc | cmp - letters.tar; test ! -e letters.new")
+        expect(f"a new passphrase of '{held}' fails, and the file stays", (status, said, kept), (1, "", (0, "")))
+    for name, command in (("fails", "false"), ("prints and fails", "{ echo words; false; }")):
+        found = shell.run(f"pass() {{ {command}; }}; {guard[0]}s=$?; ls out; exit $s")
+        expect(f"the guard and a command that {name}", (found[0], "No such file" in found[1]), (1, True))
+    for name, of, given in (("a file", guard_of_a_file, "echo words >key"), ("a command", guard, "pass() { echo words; }")):
+        line = f"{given}; {of[0]}echo words | scrypt dec -P out && rm out"
+        expect(f"the guard of {name}", shell.run(line), (0, "Dear\n"))
+    shell.run("rm -f key new-key.empty")
     expect("an empty passphrase after a pipe", shell.run("false | scrypt enc -P in open; scrypt dec -P open </dev/null"), (0, "Dear\n"))
     key = {"KEY": "words of ours"}
     expect("a small machine", shell.run(small[0], **key), (0, small[1]))
