@@ -130,13 +130,88 @@ expect 'Enc::start(' "a derivation for a new file is begun by enc and its functi
 expect 'Dec::open(' "a derivation for a file that is read is begun by dec and its function for C" \
     crates/pikhsen_c/src/file.rt crates/scrypt_run/src/decrypt.rt
 
-# What is emptied was compared with what is read when it was open, and no opening empties.
-expect 'OpenOptions::new()' "an output is opened in one place, and not emptied there" crates/tools/src/system_files.rt
-expect 'open_named(files' "a named output is opened beside what is read" crates/tools/src/system_files.rt
-expect '.set_len(' "a file is emptied by what asks that it is not read" crates/tools/src/system_files.rt
-for text in '.truncate(' 'File::create' 'File::options' 'fs::write'; do
-    expect "$text" "no opening empties a file"
-done
+# Of the system's files no contract knows a byte. So the file that opens and empties outputs is compared whole, without
+# comments and white space; beside it these lines alone name what opens or empties a file, and these of the system's host
+# what is read.
+without_space() { tr -d ' \n'; }
+system_files='
+ghost use Rattle.std.specs.Prelude.{None, IsNone, IsSome, IfOk};
+ghost use Rattle.tools.specs.Opened.{IsNamedOutput, IsStandardOutput};
+use crate::identity::{FileIdentity, FilesRead, regular_stream};
+use crate::inputs::Input;
+use crate::outputs::{Output, Outputs, open_named, standard_output};
+use crate::placeholders::beside_standard_streams;
+use host::HostFault;
+use std::fs::{File, OpenOptions};
+#[derive(Drop)]
+pub struct SystemFiles {
+    pub rt: HostRuntime,
+    pub input: Option<Input>,
+    pub secret: Option<Input>,
+}
+impl Outputs for SystemFiles {
+    type Opened = File;
+    ghost read = { λ _. None };
+    ghost opened = { λ _. None };
+    fn files_read(&self) -> Result<FilesRead, HostFault> {
+        Ok(FilesRead {
+            input: file_read(self.rt, &self.input)?,
+            secret: file_read(self.rt, &self.secret)?,
+        })
+    }
+    fn open(&mut self, name: &str) -> Result<File, HostFault> {
+        let opened = OpenOptions::new()
+            .write(true)
+            .create(true)
+            .open(&self.rt, name);
+        beside_standard_streams(opened)
+    }
+    fn empty(&self, file: &mut File) -> Result<(), HostFault> {
+        match file.set_len(0) {
+            Ok(()) => Ok(()),
+            Err(_) => Err(HostFault),
+        }
+    }
+}
+pub fn open_output(files: &mut SystemFiles, name: Option<&str>) -> Result<Output, HostFault>
+    ensures standard { IsNone name.entry → IfOk result IsStandardOutput }
+    ensures named { IsSome name.entry → IfOk result IsNamedOutput }
+{
+    let Some(path) = name else {
+        let read = files.files_read()?;
+        return standard_output(files.rt, regular_stream(files.rt, "/proc/self/fd/1"), &read);
+    };
+    let file = open_named(files, path)?;
+    Ok(Output::Named(file))
+}
+fn file_read(rt: HostRuntime, opened: &Option<Input>) -> Result<Option<FileIdentity>, HostFault> {
+    match opened {
+        Some(input) => input.identity(rt),
+        None => Ok(None),
+    }
+}
+'
+test "$(grep -vE '^ *//' crates/tools/src/system_files.rt | without_space)" = "$(printf %s "$system_files" | without_space)" ||
+    fail "crates/tools/src/system_files.rt: the system's outputs are not opened and emptied by this:$system_files"
+lines_with() { grep -hwE "$1" $2 | grep -vE '^ *//' | sed "s/^ *//" | LC_ALL=C sort; }
+sources=$(find crates -name out -prune -o -name '*.rt' ! -name tests.rt ! -path '*/tests/*' ! -name system_files.rt -print)
+test "$(lines_with 'fs|set_len|OpenOptions' "$sources")" = 'match fs::metadata(&rt, descriptor) {
+use std::fs::File;
+use std::fs::File;
+use std::fs::File;
+use std::fs::{File, Metadata};
+use std::fs;
+use std::os::unix::fs::MetadataExt;' ||
+    fail "files are opened, emptied or asked for in other lines than these:
+$(lines_with 'fs|set_len|OpenOptions' "$sources")"
+test "$(lines_with files crates/tools/src/system_host.rt)" = 'files: SystemFiles {
+files: SystemFiles,
+let opened = open_output(&mut self.files, name);
+let outcome = match &mut self.files.input {
+self.files.input = Some(counted(&mut self.input_faults, opened)?);
+self.files.secret = opened;' ||
+    fail "the system's host does other things to the files that it reads:
+$(lines_with files crates/tools/src/system_host.rt)"
 
 # The system's host hands each buffer on, and looks into none; and no program changes what a file may be used for.
 handed=$(sed -n '/^impl Host for SystemHost/,/^}/p' crates/tools/src/system_host.rt |

@@ -1,6 +1,6 @@
 //! Whole runs over a host in memory. The two files were made by Python's hashlib.scrypt and hmac with OpenSSL's
 //! aes-256-ctr, and scrypt(1) 1.3.1 opens them.
-ghost use Rattle.std.specs.Prelude.{◌^◌, ◌<◌, IfOk};
+ghost use Rattle.std.specs.Prelude.{◌≡◌, ◌^◌, ◌<◌, IfOk};
 ghost use Rattle.host.specs.Faults.{AreBelow};
 ghost use Rattle.host.specs.Memory.{memory_faults, memory_seen};
 ghost use Rattle.host.specs.Seen.{IsFresh};
@@ -8,7 +8,6 @@ ghost use Rattle.host.specs.Seen.{IsFresh};
 use super::scrypt;
 use host::MemoryHost;
 use std::alloc::{AllocError, Global};
-use std::process::Abort;
 use std::test::Fail;
 
 // The passphrase is `pw`, N is 16, r and p are 1, and the salt is 0 to 31.
@@ -75,6 +74,24 @@ fn file(alloc: Global, rest: &str) -> Result<Vec<u8>, Fail> {
     Ok(file)
 }
 
+// Puts a passphrase into the file `pw`.
+fn set_file(alloc: Global, host: &mut MemoryHost, passphrase: &[u8]) -> Result<(), AllocError>
+    ensures faults { memory_faults host.new ≡ memory_faults host.old }
+    ensures fresh { IsFresh (memory_seen host.old) → IsFresh (memory_seen host.new) }
+{
+    let passphrase = passphrase.to_vec(alloc)?;
+    host.set_file(String::from_str(alloc, "pw")?, passphrase)
+}
+
+// Puts a passphrase into the variable PW.
+fn set_variable(alloc: Global, host: &mut MemoryHost, passphrase: &[u8]) -> Result<(), AllocError>
+    ensures faults { memory_faults host.new ≡ memory_faults host.old }
+    ensures fresh { IsFresh (memory_seen host.old) → IsFresh (memory_seen host.new) }
+{
+    let passphrase = passphrase.to_vec(alloc)?;
+    host.set_env(String::from_str(alloc, "PW")?, passphrase)
+}
+
 // A host with this input, with a passphrase in the file `pw` and the variable PW, and with `pw` and a line end at the
 // beginning of standard input.
 fn host_with(alloc: Global, input: &[u8], passphrase: &[u8]) -> Result<MemoryHost, AllocError>
@@ -85,13 +102,10 @@ fn host_with(alloc: Global, input: &[u8], passphrase: &[u8]) -> Result<MemoryHos
     for (i, byte) in salt.iter_mut().enumerate() {
         *byte = i as u8;
     }
-    let input = input.to_vec(alloc)?;
     let stdin = b"pw\nmore".to_vec(alloc)?;
-    let mut host = MemoryHost::new(alloc, input, stdin, salt);
-    let name = String::from_str(alloc, "pw")?;
-    host.set_file(name, passphrase.to_vec(alloc)?)?;
-    let name = String::from_str(alloc, "PW")?;
-    host.set_env(name, passphrase.to_vec(alloc)?)?;
+    let mut host = MemoryHost::new(alloc, input.to_vec(alloc)?, stdin, salt);
+    set_file(alloc, &mut host, passphrase)?;
+    set_variable(alloc, &mut host, passphrase)?;
     Ok(host)
 }
 
@@ -136,91 +150,100 @@ fn refused(line: &str) -> End<'_> {
     }
 }
 
-// The end of a run that is refused once this much was written.
-fn broken<'a>(line: &'a str, output: &'a [u8]) -> End<'a> {
+// The line of a refusal, how much was written before it, and whether the output was opened.
+type Broken = (&'static str, usize, bool);
+
+// The end of a run that would have written the whole.
+fn broken_off<'a>((told, written, is_opened): Broken, whole: &'a [u8]) -> End<'a> {
     End {
-        line: Some(line),
-        output,
-        is_opened: true,
+        line: Some(told),
+        output: whole.get(..written).unwrap_or(&[]),
+        is_opened,
     }
 }
 
-// Compares all that came to the host.
-fn check(rt: &impl Abort, host: &MemoryHost, status: u8, end: End<'_>, line: &str) {
-    assert_eq!(rt; status, u8::from(end.line.is_some()), "{line}");
-    assert_eq!(rt; host.output(), end.output, "{line}");
-    assert_eq!(rt; host.output_name().is_some(), end.is_opened, "{line}");
-    assert_eq!(rt; only_line(host), end.line, "{line}");
-    assert_eq!(rt;
-        host.lines().len(),
-        usize::from(end.line.is_some()),
-        "{line}"
-    );
+// Whether this is all that came to the host.
+fn ends(host: &MemoryHost, status: u8, end: End<'_>) -> bool {
+    status == u8::from(end.line.is_some())
+        && host.output() == end.output
+        && host.output_name().is_some() == end.is_opened
+        && only_line(host) == end.line
+        && host.lines().len() == usize::from(end.line.is_some())
 }
 
-// Runs the words over a host with this input and this passphrase.
-fn check_run(
-    rt: &impl Abort,
+// Runs the words of a line.
+fn run_line(alloc: Global, line: &str, host: &mut MemoryHost) -> Result<u8, AllocError>
+    requires room { AreBelow (2 ^ 63) (memory_faults host.old) }
+    requires fresh { IsFresh (memory_seen host.old) }
+{
+    let words = words(alloc, line)?;
+    Ok(scrypt(alloc, &words, host))
+}
+
+// Whether the words end so over a host with this input and this passphrase.
+fn runs(
     alloc: Global,
     line: &str,
     passphrase: &[u8],
     input: &[u8],
     end: End<'_>,
-) -> Result<(), AllocError> {
-    let words = words(alloc, line)?;
+) -> Result<bool, AllocError> {
     let mut host = host_with(alloc, input, passphrase)?;
-    let status = scrypt(alloc, &words, &mut host);
-    check(rt, &host, status, end, line);
-    Ok(())
+    let status = run_line(alloc, line, &mut host)?;
+    Ok(ends(&host, status, end))
 }
 
-// The same for each row: what is written by a run with status 0, or the line of a refusal.
-fn check_rows(
-    rt: &impl Abort,
-    alloc: Global,
-    rows: &[(&str, &[u8], Result<&[u8], &str>)],
-    input: &[u8],
-) -> Result<(), AllocError> {
-    for (line, passphrase, answer) in rows {
-        let end = match answer {
-            Ok(output) => done(output),
-            Err(told) => refused(told),
-        };
-        check_run(rt, alloc, line, passphrase, input, end)?;
+// Words, a passphrase, and what is written by a run with status 0, or the line of a refusal.
+type Row = (
+    &'static str,
+    &'static [u8],
+    Result<&'static [u8], &'static str>,
+);
+
+// Whether the file of `hello` ends as a row says.
+fn row_runs(alloc: Global, row: &Row) -> Result<bool, Fail> {
+    let (line, passphrase, answer) = row;
+    let end = match answer {
+        Ok(output) => done(output),
+        Err(told) => refused(told),
+    };
+    Ok(runs(alloc, line, passphrase, &file(alloc, REST_OF_HELLO)?, end)?)
+}
+
+// Words and passphrases that make a file. The salt of the host is the one that the words give.
+const MAKERS: &[(&str, &[u8])] = &[
+    (NEW_FILE, b"pw\n"),
+    ("enc --logN 4 -r 1 -p 1 -P in", b""),
+    ("enc --logN 4 -r 1 -p 1 --keep 16 -P in", b""),
+];
+
+const SHOWN: &[u8] = b"N = 16; r = 1; p = 1; memory = 2048; cores = 64\n";
+
+// Whether each of them makes the file of the text.
+fn is_made(alloc: Global, text: &[u8], file: &[u8]) -> Result<bool, AllocError> {
+    for (line, passphrase) in MAKERS {
+        if !runs(alloc, line, passphrase, text, done(file))? {
+            return Ok(false);
+        }
     }
-    Ok(())
+    Ok(true)
 }
 
-// A file is made, shown and opened. The salt of the host is the one that the words give.
-fn check_file(rt: &impl Abort, alloc: Global, text: &[u8], rest: &str) -> Result<(), Fail> {
+// Whether a file is made, shown and opened.
+fn is_file(alloc: Global, text: &[u8], rest: &str) -> Result<bool, Fail> {
     let file = file(alloc, rest)?;
-    check_run(rt, alloc, NEW_FILE, b"pw\n", text, done(&file))?;
-    check_run(
-        rt,
-        alloc,
-        "enc --logN 4 -r 1 -p 1 -P in",
-        b"",
-        text,
-        done(&file),
-    )?;
-    check_run(
-        rt,
-        alloc,
-        "enc --logN 4 -r 1 -p 1 --keep 16 -P in",
-        b"",
-        text,
-        done(&file),
-    )?;
-    let line = b"N = 16; r = 1; p = 1; memory = 2048; cores = 64\n";
-    check_run(rt, alloc, "info F5", b"", &file, done(line))?;
-    check_run(rt, alloc, OPEN, b"pw\n", &file, done(text))?;
-    Ok(())
+    Ok(
+        is_made(alloc, text, &file)?
+            && runs(alloc, "info F5", b"", &file, done(SHOWN))?
+            && runs(alloc, OPEN, b"pw\n", &file, done(text))?,
+    )
 }
 
 #[test]
 fn files(rt: HostRuntime) -> Result<(), Fail> {
-    check_file(&rt, rt.alloc(), b"", REST_OF_NO_TEXT)?;
-    check_file(&rt, rt.alloc(), b"hello", REST_OF_HELLO)
+    assert!(rt; is_file(rt.alloc(), b"", REST_OF_NO_TEXT)?);
+    assert!(rt; is_file(rt.alloc(), b"hello", REST_OF_HELLO)?);
+    Ok(())
 }
 
 // Words and the names under which input and output are opened.
@@ -233,76 +256,96 @@ const NAMES: &[(&str, Option<&str>, Option<&str>)] = &[
     ("info -", None, None),
 ];
 
+// Whether a run over the file of `hello` opens these.
+fn opens(
+    alloc: Global,
+    line: &str,
+    input: Option<&str>,
+    output: Option<&str>,
+) -> Result<bool, Fail> {
+    let mut host = host_with(alloc, &file(alloc, REST_OF_HELLO)?, b"pw\n")?;
+    let status = run_line(alloc, line, &mut host)?;
+    Ok(status == 0 && host.input_name() == Some(input) && host.output_name() == Some(output))
+}
+
 #[test]
 fn names(rt: HostRuntime) -> Result<(), Fail> {
-    let alloc = rt.alloc();
-    let file = file(alloc, REST_OF_HELLO)?;
     for (line, input, output) in NAMES {
-        let words = words(alloc, line)?;
-        let mut host = host_with(alloc, &file, b"pw\n")?;
-        assert_eq!(rt; scrypt(alloc, &words, &mut host), 0, "{line}");
-        assert_eq!(rt; host.input_name(), Some(*input), "{line}");
-        assert_eq!(rt; host.output_name(), Some(*output), "{line}");
+        assert!(rt; opens(rt.alloc(), line, *input, *output)?, "{line}");
     }
     Ok(())
 }
 
-// A file that is cut: its length and how `dec` ends.
-fn check_cut(rt: &impl Abort, alloc: Global, len: usize, end: End<'_>) -> Result<(), Fail> {
-    let file = file(alloc, REST_OF_HELLO)?;
-    let cut = file.get(..len).unwrap_or(&[]);
-    check_run(rt, alloc, OPEN, b"pw\n", cut, end)?;
-    Ok(())
-}
+// Lengths of a file that is cut, and how `dec` ends.
+const CUTS: &[(usize, Broken)] = &[
+    (132, (DAMAGED, 4, true)),
+    (130, (DAMAGED, 2, true)),
+    (127, (DAMAGED, 0, true)),
+    (96, (DAMAGED, 0, true)),
+    (95, (NOT_SCRYPT, 0, false)),
+    (0, (NOT_SCRYPT, 0, false)),
+];
 
 #[test]
 fn files_that_are_cut(rt: HostRuntime) -> Result<(), Fail> {
-    let alloc = rt.alloc();
-    check_cut(&rt, alloc, 132, broken(DAMAGED, b"hell"))?;
-    check_cut(&rt, alloc, 130, broken(DAMAGED, b"he"))?;
-    check_cut(&rt, alloc, 127, broken(DAMAGED, b""))?;
-    check_cut(&rt, alloc, 96, broken(DAMAGED, b""))?;
-    check_cut(&rt, alloc, 95, refused(NOT_SCRYPT))?;
-    check_cut(&rt, alloc, 0, refused(NOT_SCRYPT))
-}
-
-// A file with one byte more: its last 32 bytes are no code, and the byte before them is released.
-#[test]
-fn file_that_is_longer(rt: HostRuntime) -> Result<(), Fail> {
-    let alloc = rt.alloc();
-    let mut file = file(alloc, REST_OF_HELLO)?;
-    file.push(0)?;
-    let words = words(alloc, OPEN)?;
-    let mut host = host_with(alloc, &file, b"pw\n")?;
-    assert_eq!(rt; scrypt(alloc, &words, &mut host), 1);
-    assert_eq!(rt; only_line(&host), Some(DAMAGED));
-    assert_eq!(rt; host.output().len(), 6);
-    assert!(rt; host.output().starts_with(b"hello"));
+    let file = file(rt.alloc(), REST_OF_HELLO)?;
+    for (len, how) in CUTS {
+        let cut = file.get(..*len).unwrap_or(&[]);
+        let end = broken_off(*how, b"hello");
+        assert!(rt; runs(rt.alloc(), OPEN, b"pw\n", cut, end)?, "{len}");
+    }
     Ok(())
 }
 
-// The file of `hello` with one byte changed, and how `dec` ends.
-fn check_changed(rt: &impl Abort, alloc: Global, place: usize, end: End<'_>) -> Result<(), Fail> {
+// A file with one byte more: its last 32 bytes are no code, and the byte before them is released.
+fn longer_is_damaged(alloc: Global) -> Result<bool, Fail> {
+    let mut file = file(alloc, REST_OF_HELLO)?;
+    file.push(0)?;
+    let mut host = host_with(alloc, &file, b"pw\n")?;
+    let status = run_line(alloc, OPEN, &mut host)?;
+    Ok(
+        status == 1
+            && only_line(&host) == Some(DAMAGED)
+            && host.output().len() == 6
+            && host.output().starts_with(b"hello"),
+    )
+}
+
+#[test]
+fn file_that_is_longer(rt: HostRuntime) -> Result<(), Fail> {
+    assert!(rt; longer_is_damaged(rt.alloc())?);
+    Ok(())
+}
+
+// Places of a byte that is changed in the file of `hello`, and how `dec` ends.
+const CHANGES: &[(usize, Broken)] = &[
+    (0, (NOT_SCRYPT, 0, false)),
+    (6, (VERSION, 0, false)),
+    (20, (NOT_SCRYPT, 0, false)),
+    (64, (OTHER_PASSPHRASE, 0, false)),
+    (132, (DAMAGED, 5, true)),
+];
+
+// Whether `dec` ends so.
+fn is_noticed(alloc: Global, place: usize, end: End<'_>) -> Result<bool, Fail> {
     let mut file = file(alloc, REST_OF_HELLO)?;
     if let Some(byte) = file.get_mut(place) {
         *byte ^= 1;
     }
-    check_run(rt, alloc, OPEN, b"pw\n", &file, end)?;
-    Ok(())
+    Ok(runs(alloc, OPEN, b"pw\n", &file, end)?)
 }
 
 #[test]
 fn files_that_are_changed(rt: HostRuntime) -> Result<(), Fail> {
-    let alloc = rt.alloc();
-    check_changed(&rt, alloc, 0, refused(NOT_SCRYPT))?;
-    check_changed(&rt, alloc, 6, refused(VERSION))?;
-    check_changed(&rt, alloc, 20, refused(NOT_SCRYPT))?;
-    check_changed(&rt, alloc, 64, refused(OTHER_PASSPHRASE))?;
-    check_changed(&rt, alloc, 132, broken(DAMAGED, b"hello"))
+    for (place, how) in CHANGES {
+        let end = broken_off(*how, b"hello");
+        assert!(rt; is_noticed(rt.alloc(), *place, end)?, "{place}");
+    }
+    Ok(())
 }
 
 // Words, passphrase and answer for the file of `hello`.
-const LIMITS: &[(&str, &[u8], Result<&[u8], &str>)] = &[
+const LIMITS: &[Row] = &[
     ("dec -M 2048 --maxops 64 -P F5", b"", Ok(b"hello")),
     ("dec -M 2047 -P F5", b"", Err(MEMORY_LIMIT)),
     ("dec --maxops 63 -P F5", b"", Err(WORK_LIMIT)),
@@ -346,8 +389,9 @@ const LIMITS: &[(&str, &[u8], Result<&[u8], &str>)] = &[
 
 #[test]
 fn limits(rt: HostRuntime) -> Result<(), Fail> {
-    let alloc = rt.alloc();
-    check_rows(&rt, alloc, LIMITS, &file(alloc, REST_OF_HELLO)?)?;
+    for row in LIMITS {
+        assert!(rt; row_runs(rt.alloc(), row)?, "{}", row.0);
+    }
     Ok(())
 }
 
@@ -359,9 +403,9 @@ fn greatest_costs(rt: HostRuntime) -> Result<(), Fail> {
     let huge = hex::decode(alloc, HUGE)?;
     let line =
         b"N = 9223372036854775808; r = 1; p = 1; memory = 1180591620717411303424; cores = 36893488147419103232\n";
-    check_run(&rt, alloc, "info huge", b"", &huge, done(line))?;
+    assert!(rt; runs(alloc, "info huge", b"", &huge, done(line))?);
     let open = "dec -M 1099511627776 --maxops 9223372036854775807 --passphrase file:missing huge";
-    check_run(&rt, alloc, open, b"", &huge, refused(MEMORY_LIMIT))?;
+    assert!(rt; runs(alloc, open, b"", &huge, refused(MEMORY_LIMIT))?);
     Ok(())
 }
 
@@ -379,24 +423,23 @@ fn greater_block_size(rt: HostRuntime) -> Result<(), Fail> {
     let alloc = rt.alloc();
     let wide = hex::decode(alloc, WIDE_FILE)?;
     let make = "enc --logN 4 -r 40 -p 1 -P in";
-    check_run(&rt, alloc, make, b"", b"hello", done(&wide))?;
+    assert!(rt; runs(alloc, make, b"", b"hello", done(&wide))?);
     let open = "dec --keep 16 -M 5120 --maxops 21760 -P F";
-    check_run(&rt, alloc, open, b"", &wide, done(b"hello"))?;
+    assert!(rt; runs(alloc, open, b"", &wide, done(b"hello"))?);
     Ok(())
 }
 
 // A table above 64 MiB.
 #[test]
 fn greater_table(rt: HostRuntime) -> Result<(), Fail> {
-    let alloc = rt.alloc();
-    let large = hex::decode(alloc, LARGE_FILE)?;
+    let large = hex::decode(rt.alloc(), LARGE_FILE)?;
     let make = "enc --logN 17 -r 5 -p 1 -P in";
-    check_run(&rt, alloc, make, b"", b"hello", done(&large))?;
+    assert!(rt; runs(rt.alloc(), make, b"", b"hello", done(&large))?);
     Ok(())
 }
 
 // The passphrase is the first line of its source, of at most 2,048 bytes.
-const PASSPHRASES: &[(&str, &[u8], Result<&[u8], &str>)] = &[
+const PASSPHRASES: &[Row] = &[
     ("dec --passphrase file:pw F5", b"pw\r\nmore", Ok(b"hello")),
     ("dec --passphrase file:pw F5", b"pw", Ok(b"hello")),
     (
@@ -428,8 +471,9 @@ const PASSPHRASES: &[(&str, &[u8], Result<&[u8], &str>)] = &[
 
 #[test]
 fn passphrases(rt: HostRuntime) -> Result<(), Fail> {
-    let alloc = rt.alloc();
-    check_rows(&rt, alloc, PASSPHRASES, &file(alloc, REST_OF_HELLO)?)?;
+    for row in PASSPHRASES {
+        assert!(rt; row_runs(rt.alloc(), row)?, "{}", row.0);
+    }
     Ok(())
 }
 
@@ -445,22 +489,25 @@ const WORDS: &[(&str, &str)] = &[
     ("dec --passphrase dev:tty-stdin a", ONE_SOURCE),
 ];
 
+// Whether words are refused by this line.
+fn is_refused(alloc: Global, line: &str, told: &str) -> Result<bool, AllocError> {
+    let mut host = host_with(alloc, b"hello", b"pw\n")?;
+    let status = run_line(alloc, line, &mut host)?;
+    Ok(
+        status == 1
+            && only_line(&host) == Some(told)
+            && host.input_name().is_none()
+            && host.output_name().is_none(),
+    )
+}
+
 #[test]
 fn words_that_are_refused(rt: HostRuntime) -> Result<(), Fail> {
-    let alloc = rt.alloc();
     for (line, told) in WORDS {
-        let words = words(alloc, line)?;
-        let mut host = host_with(alloc, b"hello", b"pw\n")?;
-        assert_eq!(rt; scrypt(alloc, &words, &mut host), 1, "{line}");
-        assert_eq!(rt; only_line(&host), Some(*told), "{line}");
-        assert_eq!(rt; host.input_name(), None, "{line}");
-        assert_eq!(rt; host.output_name(), None, "{line}");
+        assert!(rt; is_refused(rt.alloc(), line, told)?, "{line}");
     }
     Ok(())
 }
-
-// The line that call k of the host's leaves where it fails, how much was written, and whether the output was opened.
-type Broken = (&'static str, usize, bool);
 
 // One byte a pull and one a push. The calls of `dec` are one opening, 96 pulls, one secret and one opening; then 32 pulls,
 // five times a pull and a push, and a pull at the end.
@@ -508,70 +555,47 @@ fn broken_enc(call: u64) -> Broken {
     }
 }
 
-// Runs the words, one byte a pull and so many a push, with this call of the host's failing.
-fn check_failing(
-    rt: &impl Abort,
+// Whether the words, one byte a pull and so many a push, end so with this call of the host's failing.
+fn fails(
     alloc: Global,
     run: (&str, &[u8]),
     push: usize,
     call: u64,
     end: End<'_>,
-) -> Result<(), AllocError>
+) -> Result<bool, AllocError>
     requires some { 0 < push }
 {
     let (line, input) = run;
-    let words = words(alloc, line)?;
     let mut host = host_with(alloc, input, b"pw\n")?;
     host.set_sizes(1, push);
     host.fail_at(call);
-    let status = scrypt(alloc, &words, &mut host);
-    check(rt, &host, status, end, line);
-    Ok(())
-}
-
-// The same with one byte a push, of a run that would have written the whole.
-fn check_broken(
-    rt: &impl Abort,
-    alloc: Global,
-    (line, input, whole): (&str, &[u8], &[u8]),
-    call: u64,
-    (told, written, is_opened): Broken,
-) -> Result<(), AllocError> {
-    let end = End {
-        line: Some(told),
-        output: whole.get(..written).unwrap_or(&[]),
-        is_opened,
-    };
-    check_failing(rt, alloc, (line, input), 1, call, end)
+    let status = run_line(alloc, line, &mut host)?;
+    Ok(ends(&host, status, end))
 }
 
 #[test]
 fn each_host_call_of_dec_fails(rt: HostRuntime) -> Result<(), Fail> {
     let file = file(rt.alloc(), REST_OF_HELLO)?;
+    let run = (OPEN, file.as_slice());
     for call in 1..=142u64 {
-        let run = (OPEN, file.as_slice(), b"hello".as_slice());
-        check_broken(&rt, rt.alloc(), run, call, broken_dec(call))?;
+        let end = broken_off(broken_dec(call), b"hello");
+        assert!(rt; fails(rt.alloc(), run, 1, call, end)?, "{call}");
     }
     // there is no further call
-    let run = (OPEN, file.as_slice());
-    check_failing(&rt, rt.alloc(), run, 1, 143, done(b"hello"))?;
+    assert!(rt; fails(rt.alloc(), run, 1, 143, done(b"hello"))?);
     Ok(())
 }
 
 #[test]
 fn each_host_call_of_enc_fails(rt: HostRuntime) -> Result<(), Fail> {
     let file = file(rt.alloc(), REST_OF_HELLO)?;
+    let run = ("enc --logN 4 -r 1 -p 1 -P in", b"hello".as_slice());
     for call in 1..=143u64 {
-        let run = (
-            "enc --logN 4 -r 1 -p 1 -P in",
-            b"hello".as_slice(),
-            file.as_slice(),
-        );
-        check_broken(&rt, rt.alloc(), run, call, broken_enc(call))?;
+        let end = broken_off(broken_enc(call), &file);
+        assert!(rt; fails(rt.alloc(), run, 1, call, end)?, "{call}");
     }
     // there is no further call
-    let run = ("enc --logN 4 -r 1 -p 1 -P in", b"hello".as_slice());
-    check_failing(&rt, rt.alloc(), run, 1, 144, done(&file))?;
+    assert!(rt; fails(rt.alloc(), run, 1, 144, done(&file))?);
     Ok(())
 }
 
@@ -600,38 +624,41 @@ const BROKEN_BY_WHOLE_PUSHES: &[(u64, Broken)] = &[
 fn each_host_call_of_enc_by_whole_pushes_fails(rt: HostRuntime) -> Result<(), Fail> {
     let file = file(rt.alloc(), REST_OF_HELLO)?;
     let run = (NEW_FILE, b"hello".as_slice());
-    for (call, (told, written, is_opened)) in BROKEN_BY_WHOLE_PUSHES {
-        let end = End {
-            line: Some(*told),
-            output: file.get(..*written).unwrap_or(&[]),
-            is_opened: *is_opened,
-        };
-        check_failing(&rt, rt.alloc(), run, usize::MAX, *call, end)?;
+    for (call, how) in BROKEN_BY_WHOLE_PUSHES {
+        let end = broken_off(*how, &file);
+        assert!(rt; fails(rt.alloc(), run, usize::MAX, *call, end)?, "{call}");
     }
     // there is no further call
-    check_failing(&rt, rt.alloc(), run, usize::MAX, 17, done(&file))?;
+    assert!(rt; fails(rt.alloc(), run, usize::MAX, 17, done(&file))?);
     Ok(())
 }
 
 // A wrong passphrase, one byte a pull: the calls of `dec` are one opening, 96 pulls, one secret and the line.
+const UNSAID: &[(u64, Option<&str>)] = &[
+    (98, Some(NO_PASSPHRASE)),
+    (99, None),
+    (100, Some(OTHER_PASSPHRASE)),
+];
+
+// Whether nothing is opened nor written, and this alone is said, where this call fails.
+fn says_only(alloc: Global, call: u64, told: Option<&str>) -> Result<bool, Fail> {
+    let mut host = host_with(alloc, &file(alloc, REST_OF_HELLO)?, b"pv\n")?;
+    host.set_sizes(1, usize::MAX);
+    host.fail_at(call);
+    let status = run_line(alloc, OPEN, &mut host)?;
+    Ok(
+        status == 1
+            && only_line(&host) == told
+            && host.lines().len() == usize::from(told.is_some())
+            && host.output().is_empty()
+            && host.output_name().is_none(),
+    )
+}
+
 #[test]
 fn line_of_a_wrong_passphrase_is_not_said(rt: HostRuntime) -> Result<(), Fail> {
-    let alloc = rt.alloc();
-    let file = file(alloc, REST_OF_HELLO)?;
-    let words = words(alloc, OPEN)?;
-    for (call, told) in [
-        (98, Some(NO_PASSPHRASE)),
-        (99, None),
-        (100, Some(OTHER_PASSPHRASE)),
-    ] {
-        let mut host = host_with(alloc, &file, b"pv\n")?;
-        host.set_sizes(1, usize::MAX);
-        host.fail_at(call);
-        assert_eq!(rt; scrypt(alloc, &words, &mut host), 1, "{call}");
-        assert_eq!(rt; only_line(&host), told, "{call}");
-        assert_eq!(rt; host.lines().len(), usize::from(told.is_some()), "{call}");
-        assert_eq!(rt; host.output().len(), 0, "{call}");
-        assert_eq!(rt; host.output_name(), None, "{call}");
+    for (call, told) in UNSAID {
+        assert!(rt; says_only(rt.alloc(), *call, *told)?, "{call}");
     }
     Ok(())
 }
@@ -639,11 +666,9 @@ fn line_of_a_wrong_passphrase_is_not_said(rt: HostRuntime) -> Result<(), Fail> {
 // A line that cannot be said is passed over.
 #[test]
 fn says_nothing(rt: HostRuntime) -> Result<(), Fail> {
-    let alloc = rt.alloc();
-    let words = words(alloc, "")?;
-    let mut host = host_with(alloc, b"", b"")?;
+    let mut host = host_with(rt.alloc(), b"", b"")?;
     host.fail_at(1);
-    assert_eq!(rt; scrypt(alloc, &words, &mut host), 1);
+    assert_eq!(rt; run_line(rt.alloc(), "", &mut host)?, 1);
     assert_eq!(rt; host.lines().len(), 0);
     Ok(())
 }

@@ -1,9 +1,9 @@
 //! What is written: the output.
-ghost use Rattle.std.specs.Prelude.{◌≡◌, Option, None, IsErr, IfOk, IsOkAnd, OnOk, OnErr};
+ghost use Rattle.std.specs.Prelude.{◌≡◌, ℕ, Bool, List, Option, None, IsErr, IfOk, IsOkAnd, OnOk, OnErr};
 ghost use Rattle.std.specs.Io.KnownBytes.{IsAtEnd, Keeps};
 ghost use Rattle.tools.specs.Identity.{AreKnown, IncludesFile, IsKnown, IsRead, IsUnread};
 ghost use Rattle.tools.specs.Inside.KnownFiles.{IsOther, IsRegular};
-ghost use Rattle.tools.specs.Opened.{IsStandardOutput};
+ghost use Rattle.tools.specs.Opened.{HasOpened, IsStandardOutput, MayOpen};
 ghost use Rattle.tools.specs.declared.identity.FileIdentity.{FileIdentity};
 ghost use Rattle.tools.specs.declared.identity.FilesRead.{FilesRead};
 
@@ -38,8 +38,11 @@ impl Write for Output {
     }
 }
 
-/// A file that was opened to be written, and holds what it held before.
-pub trait Writable: Write {
+/// A file that was opened to be written, and holds what it held before. Nothing is written by this trait.
+pub trait Writable {
+    // What it holds, where contracts know it.
+    ghost contents: { Self → Option (List ℕ) };
+
     // Which regular file it is (None inside: it is another kind of file), where contracts know it.
     ghost known: { Self → Option (Option FileIdentity) };
 
@@ -49,6 +52,8 @@ pub trait Writable: Write {
 }
 
 impl Writable for File {
+    ghost contents = { λ _. None };
+
     ghost known = { λ _. None };
 
     fn identity(&self) -> Result<Option<FileIdentity>, HostFault> {
@@ -66,15 +71,21 @@ pub trait Outputs {
     // Which regular files are read now, where contracts know it.
     ghost read: { Self → Option FilesRead };
 
+    // Whether an output was opened, where contracts know it.
+    ghost opened: { Self → Option Bool };
+
     /// Which regular files are read now.
     fn files_read(&self) -> Result<FilesRead, HostFault>
         ensures found { IfOk result (AreKnown (read self.now)) };
 
-    /// Opens the file of this name to be written, and makes it where it is not there. It holds what it held.
-    fn open(&mut self, name: &str) -> Result<Self::Opened, HostFault>;
+    /// Opens the file of this name to be written, and makes it where it is not there. It holds what it held. Only
+    /// one output is opened.
+    fn open(&mut self, name: &str) -> Result<Self::Opened, HostFault>
+        requires unopened { MayOpen (opened self.old) }
+        ensures opens { HasOpened (opened self.old) (opened self.new) };
 
-    /// Takes away what an opened file holds, which is none of those that are read now. After a fault it holds
-    /// what it held.
+    /// Takes away what an opened file holds. The file is not known to be one of those that are read now. After a
+    /// fault it holds what it held.
     fn empty(&self, file: &mut Self::Opened) -> Result<(), HostFault>
         requires unread { IsUnread (read self.now) (Self.Opened.known file.old) }
         ensures same { Self.Opened.known file.new ≡ Self.Opened.known file.old }
@@ -102,6 +113,7 @@ pub fn empty_unless_read<O: Outputs>(outputs: &O, file: &mut O::Opened) -> Resul
 
 /// A named file to be written, made or emptied. One of the files that are read is a fault.
 pub fn open_named<O: Outputs>(outputs: &mut O, name: &str) -> Result<O::Opened, HostFault>
+    requires unopened { MayOpen (O.opened outputs.old) }
     ensures unread { IfOk result (λ file. IsUnread (O.read outputs.new) (O.Opened.known file)) }
     ensures emptied { IfOk result (λ file. IsRegular (O.Opened.known file) → IsAtEnd (O.Opened.contents file)) }
 {

@@ -24,6 +24,8 @@ impl Outputs for SystemFiles {
 
     ghost read = { λ _. None };
 
+    ghost opened = { λ _. None };
+
     fn files_read(&self) -> Result<FilesRead, HostFault> {
         Ok(FilesRead {
             input: file_read(self.rt, &self.input)?,

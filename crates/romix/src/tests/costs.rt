@@ -52,16 +52,45 @@ fn costs_out_of_range(rt: HostRuntime) {
     }
 }
 
+// What costs say of themselves: the three numbers, and what the table and the cores take.
+fn said(log_n: u8, r: u32, p: u32) -> Result<(u8, u32, u32, u128, u128), CostFault> {
+    let costs = Costs::new(log_n, r, p)?;
+    Ok((
+        costs.log_n(),
+        costs.r(),
+        costs.p(),
+        costs.table_bytes(),
+        costs.cores(),
+    ))
+}
+
 #[test]
-fn what_costs_take(rt: HostRuntime) -> Result<(), Fail> {
-    let costs = Costs::new(14, 8, 3)?;
-    assert_eq!(rt; (costs.log_n(), costs.r(), costs.p()), (14, 8, 3));
-    assert_eq!(rt; costs.table_bytes(), 128 * 16384 * 8);
-    assert_eq!(rt; costs.cores(), 4 * 16384 * 8 * 3);
-    let largest = Costs::new(63, (1 << 30) - 1, 1)?;
-    assert_eq!(rt; largest.table_bytes(), (1 << 100) - (1 << 70));
-    assert_eq!(rt; largest.cores(), (1 << 95) - (1 << 65));
-    Ok(())
+fn what_costs_take(rt: HostRuntime) {
+    for (log_n, r, p, table_bytes, cores) in [
+        (14, 8, 3, 128 * 16384 * 8, 4 * 16384 * 8 * 3),
+        (
+            63,
+            (1 << 30) - 1,
+            1,
+            (1 << 100) - (1 << 70),
+            (1 << 95) - (1 << 65),
+        ),
+    ] {
+        assert_eq!(rt; said(log_n, r, p), Ok((log_n, r, p, table_bytes, cores)));
+    }
+}
+
+// Whether limits have this answer, and the same with every row kept.
+fn is_limited(
+    log_n: u8,
+    r: u32,
+    p: u32,
+    limits: &Limits,
+    fault: Option<CostFault>,
+) -> Result<bool, CostFault> {
+    let costs = Costs::new(log_n, r, p)?;
+    let whole = Sparse::whole(&costs);
+    Ok(costs.admitted(limits).err() == fault && whole.admitted(limits).err() == fault)
 }
 
 #[test]
@@ -92,21 +121,18 @@ fn limits_of_costs(rt: HostRuntime) -> Result<(), Fail> {
         (1, 1, (1 << 30) - 1, u64::MAX, (1 << 33) - 8, None),
     ] {
         let limits = Limits { max_bytes, max_ops };
-        let costs = Costs::new(log_n, r, p)?;
-        assert_eq!(rt;
-            costs.admitted(&limits).err(),
-            fault,
-            "{log_n}, {r}, {p}, {limits:?}"
-        );
-        // with every row kept the answer is the same
-        let whole = Sparse::whole(&costs);
-        assert_eq!(rt;
-            whole.admitted(&limits).err(),
-            fault,
+        assert!(rt;
+            is_limited(log_n, r, p, &limits, fault)?,
             "{log_n}, {r}, {p}, {limits:?}"
         );
     }
     Ok(())
+}
+
+// The fault of so many rows of which one is kept.
+fn keep_fault(log_n: u8, keep: u64) -> Result<Option<CostFault>, CostFault> {
+    let costs = Costs::new(log_n, 1, 1)?;
+    Ok(Sparse::new(&costs, keep).err())
 }
 
 #[test]
@@ -147,10 +173,28 @@ fn rows_that_are_kept(rt: HostRuntime) -> Result<(), Fail> {
         (1, 3, KEEP),
         (4, 2048, KEEP),
     ] {
-        let costs = Costs::new(log_n, 1, 1)?;
-        assert_eq!(rt; Sparse::new(&costs, keep).err(), fault, "{log_n}, {keep}");
+        assert_eq!(rt; keep_fault(log_n, keep)?, fault, "{log_n}, {keep}");
     }
     Ok(())
+}
+
+// Whether a sparse table says its costs, and that it takes so many bytes and cores.
+fn takes(
+    log_n: u8,
+    r: u32,
+    p: u32,
+    keep: u64,
+    table_bytes: u128,
+    cores_bound: u128,
+) -> Result<bool, CostFault> {
+    let costs = Costs::new(log_n, r, p)?;
+    let sparse = Sparse::new(&costs, keep)?;
+    Ok(
+        sparse.costs() == costs
+            && sparse.keep() == keep
+            && sparse.table_bytes() == table_bytes
+            && sparse.cores_bound() == cores_bound,
+    )
 }
 
 #[test]
@@ -170,15 +214,23 @@ fn what_sparse_tables_take(rt: HostRuntime) -> Result<(), Fail> {
         ),
         (63, 1 << 29, 1, 1024, 1 << 89, 1025 << 93),
     ] {
-        let sparse = Sparse::new(&Costs::new(log_n, r, p)?, keep)?;
-        assert_eq!(rt; sparse.table_bytes(), table_bytes, "{sparse:?}");
-        assert_eq!(rt; sparse.cores_bound(), cores_bound, "{sparse:?}");
-        assert_eq!(rt;
-            (sparse.costs(), sparse.keep()),
-            (Costs::new(log_n, r, p)?, keep)
+        assert!(rt;
+            takes(log_n, r, p, keep, table_bytes, cores_bound)?,
+            "{log_n}, {r}, {p}, {keep}"
         );
     }
     Ok(())
+}
+
+// The fault of limits of a sparse table with r = 1.
+fn limit_fault(
+    log_n: u8,
+    p: u32,
+    keep: u64,
+    limits: &Limits,
+) -> Result<Option<CostFault>, CostFault> {
+    let sparse = Sparse::new(&Costs::new(log_n, 1, p)?, keep)?;
+    Ok(sparse.admitted(limits).err())
 }
 
 #[test]
@@ -209,12 +261,11 @@ fn limits_of_sparse_tables(rt: HostRuntime) -> Result<(), Fail> {
         // a table of 2^66 bytes
         (63, 1, 16, u64::MAX, u64::MAX, MEMORY),
     ] {
-        let sparse = Sparse::new(&Costs::new(log_n, 1, p)?, keep)?;
         let limits = Limits { max_bytes, max_ops };
         assert_eq!(rt;
-            sparse.admitted(&limits).err(),
+            limit_fault(log_n, p, keep, &limits)?,
             fault,
-            "{sparse:?}, {limits:?}"
+            "{log_n}, {p}, {keep}, {limits:?}"
         );
     }
     Ok(())

@@ -152,6 +152,33 @@ impl Reservation for Refusing {
     }
 }
 
+// Whether a source that grants so many requests is asked for these lengths alone, to the one that it refuses.
+fn is_asked_in_turn(
+    alloc: Global,
+    keep: u64,
+    requests: &[usize],
+    granted: usize,
+) -> Result<bool, Fail> {
+    let sparse = Sparse::new(&Costs::new(4, 1, 1)?, keep)?;
+    sparse.admitted(&Limits {
+        max_bytes: 2048,
+        max_ops: 544,
+    })?;
+    let mut source = Refusing {
+        alloc,
+        granted,
+        unasked: 10,
+        last: 0,
+    };
+    let is_reserved = reserve_from(&mut source, &sparse).is_ok();
+    let asked = requests.len().min(granted.saturating_add(1));
+    Ok(
+        is_reserved == (granted == requests.len())
+            && source.unasked == 10usize.saturating_sub(asked)
+            && Some(&source.last) == requests[..asked].last(),
+    )
+}
+
 // Each request is refused in turn, and nothing is asked for after it: the table and two rows where every row is kept,
 // and a third row otherwise. With N = 16 and r = 1 a row has 32 words.
 #[test]
@@ -163,33 +190,9 @@ fn each_growth_may_be_refused(rt: HostRuntime) -> Result<(), Fail> {
         (16, &[32, 32, 32, 32]),
     ];
     for (keep, requests) in rows {
-        let sparse = Sparse::new(&Costs::new(4, 1, 1)?, keep)?;
-        sparse.admitted(&Limits {
-            max_bytes: 2048,
-            max_ops: 544,
-        })?;
         for granted in 0..=requests.len() {
-            let mut source = Refusing {
-                alloc: rt.alloc(),
-                granted,
-                unasked: 10,
-                last: 0,
-            };
-            let is_reserved = reserve_from(&mut source, &sparse).is_ok();
-            assert_eq!(rt;
-                is_reserved,
-                granted == requests.len(),
-                "with {keep}, {granted}"
-            );
-            let asked = requests.len().min(granted.saturating_add(1));
-            assert_eq!(rt;
-                source.unasked,
-                10usize.saturating_sub(asked),
-                "with {keep}, {granted}"
-            );
-            assert_eq!(rt;
-                Some(&source.last),
-                requests[..asked].last(),
+            assert!(rt;
+                is_asked_in_turn(rt.alloc(), keep, requests, granted)?,
                 "with {keep}, {granted}"
             );
         }

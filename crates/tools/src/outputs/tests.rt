@@ -12,17 +12,9 @@ struct FourBytes {
     length: usize,
 }
 
-impl Write for FourBytes {
-    fn write(&mut self, buf: &[u8]) -> io::Result<usize> {
-        Ok(buf.len())
-    }
-
-    fn flush(&mut self) -> io::Result<()> {
-        Ok(())
-    }
-}
-
 impl Writable for FourBytes {
+    ghost contents = { λ _. None };
+
     ghost known = { λ _. None };
 
     fn identity(&self) -> Result<Option<FileIdentity>, HostFault> {
@@ -43,6 +35,8 @@ impl Outputs for Layers {
     type Opened = FourBytes;
 
     ghost read = { λ _. None };
+
+    ghost opened = { λ _. None };
 
     fn files_read(&self) -> Result<FilesRead, HostFault> {
         self.read
