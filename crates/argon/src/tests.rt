@@ -14,7 +14,7 @@ use crate::block::{Block, write_xor, write_xor_over};
 use crate::compression::{Scratch, compression};
 use crate::matrix::reserve_from;
 use crate::room::Room;
-use reference_tags::{LONGEST, ROWS, Row};
+use reference_tags::{LONGER_RUNS, LONGEST, OTHER_RUNS, RUNS, Row};
 use std::alloc::{AllocError, Global};
 use std::test::Fail;
 
@@ -29,26 +29,25 @@ fn hex_text(alloc: Global, bytes: &[u8]) -> Result<String, AllocError> {
     Ok(text)
 }
 
-// The tag in lower hexadecimal. Empty where the parameters are refused.
-fn tag_text(
-    rt: HostRuntime,
+// Whether the tag of the inputs, in lower hexadecimal, is this one.
+fn has_tag(
+    alloc: Global,
     kind: Kind,
     version: u32,
     passes: u32,
     memory_kib: u32,
     lanes: u32,
-    tag_len: usize,
     inputs: &Inputs<'_>,
-) -> Result<String, Fail>
+    tag: &str,
+) -> Result<bool, Fail>
     requires version { is_version version ≡ true }
-    requires short { tag_len < 2 ^ 32 }
     requires secret { length inputs.now.secret.now < 2 ^ 32 }
     requires associated { length inputs.now.associated.now < 2 ^ 32 }
 {
-    let alloc = rt.alloc();
+    let tag_len = tag.len() / 2 % 4097;
     let salt_len = inputs.salt.len();
     let password_len = inputs.password.len();
-    let Ok(params) = Params::new(
+    let params = Params::new(
         kind,
         version,
         passes,
@@ -57,13 +56,11 @@ fn tag_text(
         tag_len,
         salt_len,
         password_len,
-    ) else {
-        return Ok(String::new(alloc));
-    };
+    )?;
     let mut matrix = Matrix::reserve(alloc, &params)?;
-    let mut tag = vec![in alloc; 0u8; tag_len]?;
-    matrix.hash(inputs, &mut tag, &mut Ticks::new());
-    Ok(hex_text(alloc, &tag)?)
+    let mut found = vec![in alloc; 0u8; tag_len]?;
+    matrix.hash(inputs, &mut found, &mut Ticks::new());
+    Ok(hex_text(alloc, &found)?.as_str() == tag)
 }
 
 // Each kind of RFC 9106, section 5, with its tag (5.1 to 5.3) and how many block functions it
@@ -96,9 +93,9 @@ fn tags_of_the_standard(rt: HostRuntime) -> Result<(), Fail> {
         associated: &[4; 12],
     };
     for (kind, tag, _) in STANDARD {
-        assert_eq!(rt;
-            tag_text(rt, kind, 0x13, 3, 32, 4, 32, &inputs)?.as_str(),
-            tag
+        assert!(rt;
+            has_tag(rt.alloc(), kind, 0x13, 3, 32, 4, &inputs, tag)?,
+            "{tag}"
         );
     }
     Ok(())
@@ -147,39 +144,65 @@ fn tags_of_the_reference_tests(rt: HostRuntime) -> Result<(), Fail> {
         associated: &[],
     };
     for (kind, lanes, tag) in KNOWN {
-        assert_eq!(rt;
-            tag_text(rt, kind, 0x13, 2, 256, lanes, 32, &inputs)?.as_str(),
-            tag
+        assert!(rt;
+            has_tag(rt.alloc(), kind, 0x13, 2, 256, lanes, &inputs, tag)?,
+            "{tag}"
         );
     }
     Ok(())
 }
 
-// The tag of a run of the reference program.
-fn tag_of_row(rt: HostRuntime, row: &Row) -> Result<String, Fail> {
+// Whether the tag is that of a run of the reference program.
+fn has_tag_of_row(alloc: Global, password: &str, salt: &str, row: Row) -> Result<bool, Fail> {
+    let (kind, passes, memory_kib, lanes, tag) = row;
     let inputs = Inputs {
-        password: row.password.as_bytes(),
-        salt: row.salt.as_bytes(),
+        password: password.as_bytes(),
+        salt: salt.as_bytes(),
         secret: &[],
         associated: &[],
     };
-    tag_text(
-        rt,
-        row.kind,
-        0x13,
-        row.passes,
-        row.memory_kib,
-        row.lanes,
-        row.tag.len() / 2 % 4097,
-        &inputs,
-    )
+    has_tag(alloc, kind, 0x13, passes, memory_kib, lanes, &inputs, tag)
+}
+
+// The first tag of these runs that is another.
+fn first_wrong(
+    alloc: Global,
+    password: &str,
+    salt: &str,
+    rows: &[Row],
+) -> Result<Option<&'static str>, Fail> {
+    for row in rows {
+        if !has_tag_of_row(alloc, password, salt, *row)? {
+            return Ok(Some(row.4));
+        }
+    }
+    Ok(None)
+}
+
+// The three tables, each opened in one function.
+fn wrong_run(alloc: Global) -> Result<Option<&'static str>, Fail> {
+    first_wrong(alloc, "password", "somesalt", &RUNS)
+}
+
+fn wrong_longer_run(alloc: Global) -> Result<Option<&'static str>, Fail> {
+    first_wrong(alloc, "password", "somesalt", &LONGER_RUNS)
+}
+
+fn wrong_other_run(alloc: Global) -> Result<Option<&'static str>, Fail> {
+    for (password, salt, rows) in &OTHER_RUNS {
+        let wrong = first_wrong(alloc, password, salt, rows)?;
+        if wrong.is_some() {
+            return Ok(wrong);
+        }
+    }
+    Ok(None)
 }
 
 #[test]
 fn tags_of_the_reference_program(rt: HostRuntime) -> Result<(), Fail> {
-    for row in ROWS {
-        assert_eq!(rt; tag_of_row(rt, row)?.as_str(), row.tag);
-    }
+    assert_eq!(rt; wrong_run(rt.alloc())?, None);
+    assert_eq!(rt; wrong_longer_run(rt.alloc())?, None);
+    assert_eq!(rt; wrong_other_run(rt.alloc())?, None);
     Ok(())
 }
 
@@ -191,10 +214,7 @@ fn longest_tag(rt: HostRuntime) -> Result<(), Fail> {
         secret: &[],
         associated: &[],
     };
-    assert_eq!(rt;
-        tag_text(rt, Kind::Id, 0x13, 1, 64, 1, 4096, &inputs)?.as_str(),
-        LONGEST
-    );
+    assert!(rt; has_tag(rt.alloc(), Kind::Id, 0x13, 1, 64, 1, &inputs, LONGEST)?);
     Ok(())
 }
 
@@ -252,88 +272,110 @@ const SECRETS: [(Kind, u32, u32, u32, &[u8], &[u8], &str); 6] = [
     ),
 ];
 
+// Whether the tag of a secret and data is this one. False where one of them is long.
+fn has_tag_with(
+    alloc: Global,
+    (kind, passes, memory_kib, lanes): (Kind, u32, u32, u32),
+    secret: &[u8],
+    associated: &[u8],
+    tag: &str,
+) -> Result<bool, Fail> {
+    if secret.len() >= 1000 || associated.len() >= 1000 {
+        return Ok(false);
+    }
+    let inputs = Inputs {
+        password: b"password",
+        salt: b"somesalt",
+        secret,
+        associated,
+    };
+    has_tag(alloc, kind, 0x13, passes, memory_kib, lanes, &inputs, tag)
+}
+
 #[test]
 fn tags_with_secret_and_data(rt: HostRuntime) -> Result<(), Fail> {
     for (kind, passes, memory_kib, lanes, secret, associated, tag) in SECRETS {
-        assert!(rt; secret.len() < 1000 && associated.len() < 1000);
-        let inputs = Inputs {
-            password: b"password",
-            salt: b"somesalt",
-            secret,
-            associated,
-        };
-        let text = tag_text(
-            rt,
-            kind,
-            0x13,
-            passes,
-            memory_kib,
-            lanes,
-            tag.len() / 2 % 4097,
-            &inputs,
-        )?;
-        assert_eq!(rt; text.as_str(), tag);
+        let costs = (kind, passes, memory_kib, lanes);
+        assert!(rt;
+            has_tag_with(rt.alloc(), costs, secret, associated, tag)?,
+            "{tag}"
+        );
     }
     Ok(())
 }
 
-// Passes, lanes, memory, the lengths of tag, salt and password, and the fault.
-const RANGES: [(u32, u32, u32, usize, usize, usize, Option<ParamFault>); 34] = [
-    (1, 1, 8, 4, 8, 1, None),
-    (0xFFFF_FFFF, 0xFF_FFFF, 0xFFFF_FFFF, 4096, 255, 127, None),
+// Passes, lanes and memory, the lengths of tag, salt and password, and the fault.
+const RANGES: [([u32; 3], [usize; 3], Option<ParamFault>); 34] = [
+    ([1, 1, 8], [4, 8, 1], None),
+    (
+        [0xFFFF_FFFF, 0xFF_FFFF, 0xFFFF_FFFF],
+        [4096, 255, 127],
+        None,
+    ),
     // one inside each end
-    (2, 1, 8, 4, 8, 1, None),
-    (0xFFFF_FFFE, 1, 8, 4, 8, 1, None),
-    (1, 0xFF_FFFE, 0xFFFF_FFFF, 4, 8, 1, None),
-    (1, 1, 9, 4, 8, 1, None),
-    (1, 1, 0xFFFF_FFFE, 4, 8, 1, None),
-    (1, 2, 17, 4, 8, 1, None),
-    (1, 0xFF_FFFF, 134_217_721, 4, 8, 1, None),
-    (1, 1, 8, 5, 8, 1, None),
-    (1, 1, 8, 4095, 8, 1, None),
-    (1, 1, 8, 4, 9, 1, None),
-    (1, 1, 8, 4, 254, 1, None),
-    (1, 1, 8, 4, 8, 2, None),
-    (1, 1, 8, 4, 8, 126, None),
-    (2, 2, 17, 5, 9, 2, None),
-    (0, 1, 8, 4, 8, 1, Some(ParamFault::Passes)),
-    (1, 0, 8, 4, 8, 1, Some(ParamFault::Lanes)),
-    (1, 0x100_0000, 0xFFFF_FFFF, 4, 8, 1, Some(ParamFault::Lanes)),
-    (1, 1, 7, 4, 8, 1, Some(ParamFault::Memory)),
-    (1, 2, 15, 4, 8, 1, Some(ParamFault::Memory)),
-    (1, 2, 16, 4, 8, 1, None),
-    (1, 0xFF_FFFF, 134_217_719, 4, 8, 1, Some(ParamFault::Memory)),
-    (1, 0xFF_FFFF, 134_217_720, 4, 8, 1, None),
-    (1, 1, 8, 3, 8, 1, Some(ParamFault::TagLength)),
-    (1, 1, 8, 4097, 8, 1, Some(ParamFault::TagLength)),
-    (1, 1, 8, 4, 7, 1, Some(ParamFault::SaltLength)),
-    (1, 1, 8, 4, 256, 1, Some(ParamFault::SaltLength)),
-    (1, 1, 8, 4, 8, 0, Some(ParamFault::PasswordLength)),
-    (1, 1, 8, 4, 8, 128, Some(ParamFault::PasswordLength)),
-    (0, 0, 0, 0, 0, 0, Some(ParamFault::Passes)),
-    (1, 0, 0, 0, 0, 0, Some(ParamFault::Lanes)),
-    (1, 1, 0, 0, 0, 0, Some(ParamFault::Memory)),
-    (1, 1, 8, 0, 0, 0, Some(ParamFault::TagLength)),
+    ([2, 1, 8], [4, 8, 1], None),
+    ([0xFFFF_FFFE, 1, 8], [4, 8, 1], None),
+    ([1, 0xFF_FFFE, 0xFFFF_FFFF], [4, 8, 1], None),
+    ([1, 1, 9], [4, 8, 1], None),
+    ([1, 1, 0xFFFF_FFFE], [4, 8, 1], None),
+    ([1, 2, 17], [4, 8, 1], None),
+    ([1, 0xFF_FFFF, 134_217_721], [4, 8, 1], None),
+    ([1, 1, 8], [5, 8, 1], None),
+    ([1, 1, 8], [4095, 8, 1], None),
+    ([1, 1, 8], [4, 9, 1], None),
+    ([1, 1, 8], [4, 254, 1], None),
+    ([1, 1, 8], [4, 8, 2], None),
+    ([1, 1, 8], [4, 8, 126], None),
+    ([2, 2, 17], [5, 9, 2], None),
+    ([0, 1, 8], [4, 8, 1], Some(ParamFault::Passes)),
+    ([1, 0, 8], [4, 8, 1], Some(ParamFault::Lanes)),
+    (
+        [1, 0x100_0000, 0xFFFF_FFFF],
+        [4, 8, 1],
+        Some(ParamFault::Lanes),
+    ),
+    ([1, 1, 7], [4, 8, 1], Some(ParamFault::Memory)),
+    ([1, 2, 15], [4, 8, 1], Some(ParamFault::Memory)),
+    ([1, 2, 16], [4, 8, 1], None),
+    (
+        [1, 0xFF_FFFF, 134_217_719],
+        [4, 8, 1],
+        Some(ParamFault::Memory),
+    ),
+    ([1, 0xFF_FFFF, 134_217_720], [4, 8, 1], None),
+    ([1, 1, 8], [3, 8, 1], Some(ParamFault::TagLength)),
+    ([1, 1, 8], [4097, 8, 1], Some(ParamFault::TagLength)),
+    ([1, 1, 8], [4, 7, 1], Some(ParamFault::SaltLength)),
+    ([1, 1, 8], [4, 256, 1], Some(ParamFault::SaltLength)),
+    ([1, 1, 8], [4, 8, 0], Some(ParamFault::PasswordLength)),
+    ([1, 1, 8], [4, 8, 128], Some(ParamFault::PasswordLength)),
+    ([0, 0, 0], [0, 0, 0], Some(ParamFault::Passes)),
+    ([1, 0, 0], [0, 0, 0], Some(ParamFault::Lanes)),
+    ([1, 1, 0], [0, 0, 0], Some(ParamFault::Memory)),
+    ([1, 1, 8], [0, 0, 0], Some(ParamFault::TagLength)),
 ];
+
+// The fault of parameters, if they have one.
+fn fault_of(costs: [u32; 3], lengths: [usize; 3]) -> Option<ParamFault> {
+    let [passes, lanes, memory_kib] = costs;
+    let [tag_len, salt_len, password_len] = lengths;
+    Params::new(
+        Kind::Id,
+        0x13,
+        passes,
+        lanes,
+        memory_kib,
+        tag_len,
+        salt_len,
+        password_len,
+    )
+    .err()
+}
 
 #[test]
 fn ends_of_each_range(rt: HostRuntime) {
-    for (passes, lanes, memory_kib, tag_len, salt_len, password_len, fault) in RANGES {
-        let params = Params::new(
-            Kind::Id,
-            0x13,
-            passes,
-            lanes,
-            memory_kib,
-            tag_len,
-            salt_len,
-            password_len,
-        );
-        assert_eq!(rt;
-            params.err(),
-            fault,
-            "{passes} {lanes} {memory_kib} {tag_len} {salt_len} {password_len}"
-        );
+    for (costs, lengths, fault) in RANGES {
+        assert_eq!(rt; fault_of(costs, lengths), fault, "{costs:?} {lengths:?}");
     }
 }
 
@@ -356,40 +398,53 @@ const WORK: [(Kind, u32, u32, u32, u32, u128); 6] = [
     ),
 ];
 
+// Whether memory is told before work one below the blocks, and work at the blocks and one above.
+fn admits_no_work(params: &Params, blocks: u32) -> bool {
+    params.admitted(blocks.wrapping_sub(1), 0) == Err(ParamFault::MemoryLimit)
+        && params.admitted(blocks, 0) == Err(ParamFault::WorkLimit)
+        && params.admitted(blocks.wrapping_add(1), 0) == Err(ParamFault::WorkLimit)
+}
+
+// Whether so many blocks and block functions are admitted, and one more of each, and one less of neither.
+fn admits_at_least(params: &Params, blocks: u32, ops: u64) -> bool {
+    params.admitted(blocks.wrapping_sub(1), ops) == Err(ParamFault::MemoryLimit)
+        && params.admitted(blocks, ops) == Ok(())
+        && params.admitted(blocks.wrapping_add(1), ops) == Ok(())
+        && params.admitted(blocks, ops.wrapping_sub(1)) == Err(ParamFault::WorkLimit)
+        && params.admitted(blocks, ops.wrapping_add(1)) == Ok(())
+}
+
+// Whether the parameters take so many blocks and block functions, and limits admit exactly these.
+fn takes(
+    kind: Kind,
+    passes: u32,
+    lanes: u32,
+    memory_kib: u32,
+    blocks: u32,
+    work: u128,
+) -> Result<bool, ParamFault> {
+    let params = Params::new(kind, 0x13, passes, lanes, memory_kib, 32, 8, 8)?;
+    let is_exact = match u64::try_from(work) {
+        Ok(ops) => admits_at_least(&params, blocks, ops),
+        Err(_) => true,
+    };
+    Ok(
+        params.blocks() == blocks
+            && params.work() == work
+            && admits_no_work(&params, blocks)
+            && is_exact,
+    )
+}
+
 #[test]
-fn limits_admit_exactly(rt: HostRuntime) {
+fn limits_admit_exactly(rt: HostRuntime) -> Result<(), Fail> {
     for (kind, passes, lanes, memory_kib, blocks, work) in WORK {
-        let Ok(params) = Params::new(kind, 0x13, passes, lanes, memory_kib, 32, 8, 8) else {
-            assert!(rt; false, "{memory_kib}");
-            return;
-        };
-        assert_eq!(rt; params.blocks(), blocks);
-        assert_eq!(rt; params.work(), work);
-        // one below the blocks, where memory is told before work, the blocks, and one above
-        for (max_kib, fault) in [
-            (blocks.wrapping_sub(1), Err(ParamFault::MemoryLimit)),
-            (blocks, Err(ParamFault::WorkLimit)),
-            (blocks.wrapping_add(1), Err(ParamFault::WorkLimit)),
-        ] {
-            assert_eq!(rt; params.admitted(max_kib, 0), fault, "{max_kib}");
-        }
-        let Ok(ops) = u64::try_from(work) else {
-            continue;
-        };
-        for (max_kib, max_ops, fault) in [
-            (blocks.wrapping_sub(1), ops, Err(ParamFault::MemoryLimit)),
-            (blocks, ops, Ok(())),
-            (blocks.wrapping_add(1), ops, Ok(())),
-            (blocks, ops.wrapping_sub(1), Err(ParamFault::WorkLimit)),
-            (blocks, ops.wrapping_add(1), Ok(())),
-        ] {
-            assert_eq!(rt;
-                params.admitted(max_kib, max_ops),
-                fault,
-                "{max_kib} {max_ops}"
-            );
-        }
+        assert!(rt;
+            takes(kind, passes, lanes, memory_kib, blocks, work)?,
+            "{memory_kib}"
+        );
     }
+    Ok(())
 }
 
 // The greatest Argon2i has 4,294,967,292 blocks, and more block functions than 64 bits hold.
@@ -415,38 +470,50 @@ fn greatest_limits_admit_exactly(rt: HostRuntime) -> Result<(), Fail> {
     Ok(())
 }
 
-// `start`, four slices and `tag` give what `hash` gives, and a matrix serves a second hash.
-#[test]
-fn slice_by_slice(rt: HostRuntime) -> Result<(), Fail> {
+// What is next before a hash, after it, before each slice, and after the last; and whether the slices give the tag.
+fn slices(alloc: Global) -> Result<([Option<(u32, u32)>; 7], bool), Fail> {
     let inputs = Inputs {
         password: b"password",
         salt: b"somesalt",
         secret: &[],
         associated: &[],
     };
-    let Ok(params) = Params::new(Kind::Id, 0x13, 1, 2, 32, 32, 8, 8) else {
-        assert!(rt; false);
-        return Ok(());
-    };
-    let mut matrix = Matrix::reserve(rt.alloc(), &params)?;
-    assert_eq!(rt; matrix.next(), None);
+    let params = Params::new(Kind::Id, 0x13, 1, 2, 32, 32, 8, 8)?;
+    let mut matrix = Matrix::reserve(alloc, &params)?;
+    let reserved = matrix.next();
     let mut whole = [0u8; 32];
     matrix.hash(&inputs, &mut whole, &mut Ticks::new());
-    assert_eq!(rt; matrix.next(), None);
+    let hashed = matrix.next();
     let mut ticks = Ticks::new();
     matrix.start(&inputs);
-    assert_eq!(rt; matrix.next(), Some((0, 0)));
+    let first = matrix.next();
     matrix.slice(&mut ticks);
-    assert_eq!(rt; matrix.next(), Some((0, 1)));
+    let second = matrix.next();
     matrix.slice(&mut ticks);
-    assert_eq!(rt; matrix.next(), Some((0, 2)));
+    let third = matrix.next();
     matrix.slice(&mut ticks);
-    assert_eq!(rt; matrix.next(), Some((0, 3)));
+    let fourth = matrix.next();
     matrix.slice(&mut ticks);
-    assert_eq!(rt; matrix.next(), None);
+    let last = matrix.next();
     let mut tag = [0u8; 32];
     matrix.tag(&mut tag);
-    assert_eq!(rt; tag, whole);
+    let nexts = [reserved, hashed, first, second, third, fourth, last];
+    Ok((nexts, tag == whole))
+}
+
+// `start`, four slices and `tag` give what `hash` gives, and a matrix serves a second hash.
+#[test]
+fn slice_by_slice(rt: HostRuntime) -> Result<(), Fail> {
+    let nexts = [
+        None,
+        None,
+        Some((0, 0)),
+        Some((0, 1)),
+        Some((0, 2)),
+        Some((0, 3)),
+        None,
+    ];
+    assert_eq!(rt; slices(rt.alloc())?, (nexts, true));
     Ok(())
 }
 
@@ -722,26 +789,35 @@ const PLANNED: [(u32, u32, usize, Place); 5] = [
     (516, 0, 2, Place { lane: 0, column: 0 }),
 ];
 
+// Whether the plan of a segment has this place, and those of the second slice are in the first.
+fn is_planned(
+    alloc: Global,
+    memory_kib: u32,
+    slice: u32,
+    index: usize,
+    place: Place,
+) -> Result<bool, Fail> {
+    let params = Params::new(Kind::I, 0x13, 1, 1, memory_kib, 32, 8, 8)?;
+    if slice >= 4 || !params.is_independent(0, slice) {
+        return Ok(false);
+    }
+    let mut plan = vec![in alloc; UNPLANNED; params.segment_len() as usize]?;
+    plan_segment(&params, 0, 0, slice, &mut plan, &mut Ticks::new());
+    let within = plan.iter().all(|place| place.lane == 0 && place.column < 2);
+    Ok(
+        params.segment_len() == memory_kib / 4
+            && plan.get(index) == Some(&place)
+            && (slice != 1 || within),
+    )
+}
+
 #[test]
 fn plans_of_one_lane(rt: HostRuntime) -> Result<(), Fail> {
     for (memory_kib, slice, index, place) in PLANNED {
-        let Ok(params) = Params::new(Kind::I, 0x13, 1, 1, memory_kib, 32, 8, 8) else {
-            assert!(rt; false);
-            return Ok(());
-        };
-        assert_eq!(rt; params.segment_len(), memory_kib / 4);
-        let mut plan = vec![in rt.alloc(); UNPLANNED; params.segment_len() as usize]?;
-        assert!(rt; slice < 4 && params.is_independent(0, slice));
-        plan_segment(&params, 0, 0, slice, &mut plan, &mut Ticks::new());
-        assert_eq!(rt;
-            plan.get(index),
-            Some(&place),
+        assert!(rt;
+            is_planned(rt.alloc(), memory_kib, slice, index, place)?,
             "{memory_kib} {slice} {index}"
         );
-        if slice == 1 {
-            let within = plan.iter().all(|place| place.lane == 0 && place.column < 2);
-            assert!(rt; within);
-        }
     }
     Ok(())
 }

@@ -12,6 +12,7 @@ ghost use Rattle.argon.specs.Woven.{IsWovenFrom, with_next_slice};
 
 use super::{SECRETS, STANDARD, hex_text};
 use crate::{Inputs, Kind, Lanes, Matrix, Params, Ticks, Weave};
+use std::alloc::Global;
 use std::test::Fail;
 
 // Makes a lane's next block, where it has one left.
@@ -102,47 +103,44 @@ fn hash_by(
     matrix.tag(out);
 }
 
-// The tag in lower hexadecimal. Empty where the parameters are refused.
-fn tag_by(
-    rt: HostRuntime,
-    kind: Kind,
-    passes: u32,
-    memory_kib: u32,
-    lanes: u32,
-    tag_len: usize,
+// Whether the tag of the inputs, made in that order, is this one in lower hexadecimal.
+fn has_tag_by(
+    alloc: Global,
+    costs: (Kind, u32, u32, u32),
     inputs: &Inputs<'_>,
     order: &[u32],
-) -> Result<String, Fail>
-    requires short { tag_len < 2 ^ 32 }
+    tag: &str,
+) -> Result<bool, Fail>
     requires secret { length inputs.now.secret.now < 2 ^ 32 }
     requires associated { length inputs.now.associated.now < 2 ^ 32 }
 {
-    let alloc = rt.alloc();
-    let Ok(params) = Params::new(
+    let (kind, passes, memory_kib, lanes) = costs;
+    let tag_len = tag.len() / 2 % 4097;
+    let salt_len = inputs.salt.len();
+    let password_len = inputs.password.len();
+    let params = Params::new(
         kind,
         0x13,
         passes,
         lanes,
         memory_kib,
         tag_len,
-        inputs.salt.len(),
-        inputs.password.len(),
-    ) else {
-        return Ok(String::new(alloc));
-    };
+        salt_len,
+        password_len,
+    )?;
     let matrix = Matrix::reserve(alloc, &params)?;
     let lanes = Lanes::reserve(alloc, &params)?;
-    let mut tag = vec![in alloc; 0u8; tag_len]?;
+    let mut found = vec![in alloc; 0u8; tag_len]?;
     hash_by(
         matrix,
         lanes,
         &params,
         inputs,
         order,
-        &mut tag,
+        &mut found,
         &mut Ticks::new(),
     );
-    Ok(hex_text(alloc, &tag)?)
+    Ok(hex_text(alloc, &found)?.as_str() == tag)
 }
 
 // Every order of four lanes.
@@ -173,50 +171,63 @@ const ORDERS: [[u32; 4]; 24] = [
     [3, 2, 1, 0],
 ];
 
-// The vectors of RFC 9106, section 5, whose segments have two columns: lane by lane, and in turn
-// block by block.
-#[test]
-fn every_order_of_four_lanes(rt: HostRuntime) -> Result<(), Fail> {
+// The vectors of RFC 9106, section 5, whose segments have two columns.
+fn has_tag_of_standard(alloc: Global, kind: Kind, order: &[u32], tag: &str) -> Result<bool, Fail> {
     let inputs = Inputs {
         password: &[1; 32],
         salt: &[2; 16],
         secret: &[3; 8],
         associated: &[4; 12],
     };
+    has_tag_by(alloc, (kind, 3, 32, 4), &inputs, order, tag)
+}
+
+// Lane by lane, and in turn block by block.
+#[test]
+fn every_order_of_four_lanes(rt: HostRuntime) -> Result<(), Fail> {
     for (kind, tag, _) in STANDARD {
         for [a, b, c, d] in ORDERS {
             for order in [[a, a, b, b, c, c, d, d], [a, b, c, d, a, b, c, d]] {
-                let text = tag_by(rt, kind, 3, 32, 4, 32, &inputs, &order)?;
-                assert_eq!(rt; text.as_str(), tag);
+                assert!(rt;
+                    has_tag_of_standard(rt.alloc(), kind, &order, tag)?,
+                    "{order:?}"
+                );
             }
         }
     }
     Ok(())
 }
 
-// Of these rows some have segments of more than 128 columns. The second lane goes first, where there
-// is one.
+// Whether the tag of a secret and data, made with the second lane first, where there is one, is this one. False where
+// one of them is long.
+fn has_tag_with(
+    alloc: Global,
+    costs: (Kind, u32, u32, u32),
+    secret: &[u8],
+    associated: &[u8],
+    tag: &str,
+) -> Result<bool, Fail> {
+    if secret.len() >= 1000 || associated.len() >= 1000 {
+        return Ok(false);
+    }
+    let inputs = Inputs {
+        password: b"password",
+        salt: b"somesalt",
+        secret,
+        associated,
+    };
+    has_tag_by(alloc, costs, &inputs, &[1; 140], tag)
+}
+
+// Of these rows some have segments of more than 128 columns.
 #[test]
 fn second_lane_first(rt: HostRuntime) -> Result<(), Fail> {
     for (kind, passes, memory_kib, lanes, secret, associated, tag) in SECRETS {
-        assert!(rt; secret.len() < 1000 && associated.len() < 1000);
-        let inputs = Inputs {
-            password: b"password",
-            salt: b"somesalt",
-            secret,
-            associated,
-        };
-        let text = tag_by(
-            rt,
-            kind,
-            passes,
-            memory_kib,
-            lanes,
-            tag.len() / 2 % 4097,
-            &inputs,
-            &[1; 140],
-        )?;
-        assert_eq!(rt; text.as_str(), tag);
+        let costs = (kind, passes, memory_kib, lanes);
+        assert!(rt;
+            has_tag_with(rt.alloc(), costs, secret, associated, tag)?,
+            "{tag}"
+        );
     }
     Ok(())
 }

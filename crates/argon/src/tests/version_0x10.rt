@@ -1,5 +1,5 @@
 //! Tags of version 0x10.
-use super::tag_text;
+use super::has_tag;
 use crate::inputs::Inputs;
 use crate::kind::Kind;
 use std::test::Fail;
@@ -68,8 +68,10 @@ const INPUTS: Inputs<'static> = Inputs {
 #[test]
 fn tags_of_the_reference_tests_of_version_0x10(rt: HostRuntime) -> Result<(), Fail> {
     for (lanes, tag) in KNOWN {
-        let found = tag_text(rt, Kind::I, 0x10, 2, 256, lanes, 32, &INPUTS)?;
-        assert_eq!(rt; found.as_str(), tag);
+        assert!(rt;
+            has_tag(rt.alloc(), Kind::I, 0x10, 2, 256, lanes, &INPUTS, tag)?,
+            "{tag}"
+        );
     }
     Ok(())
 }
@@ -77,8 +79,19 @@ fn tags_of_the_reference_tests_of_version_0x10(rt: HostRuntime) -> Result<(), Fa
 #[test]
 fn tags_of_version_0x10(rt: HostRuntime) -> Result<(), Fail> {
     for (kind, passes, memory_kib, lanes, tag) in ROWS {
-        let found = tag_text(rt, *kind, 0x10, *passes, *memory_kib, *lanes, 16, &INPUTS)?;
-        assert_eq!(rt; found.as_str(), *tag);
+        assert!(rt;
+            has_tag(
+                rt.alloc(),
+                *kind,
+                0x10,
+                *passes,
+                *memory_kib,
+                *lanes,
+                &INPUTS,
+                tag
+            )?,
+            "{tag}"
+        );
     }
     Ok(())
 }

@@ -48,7 +48,7 @@ fn reads_and_writes_texts_of_the_reference_program(rt: HostRuntime) -> Result<()
 }
 
 // The known text with something changed, by the grammar (docs/FORMATS.md).
-const CHANGED: &[(u8, &str)] = &[
+static CHANGED: [(u8, &str); 62] = [
     (1, ""),
     (
         1,
@@ -297,7 +297,7 @@ const CHANGED: &[(u8, &str)] = &[
 
 #[test]
 fn changed_texts(rt: HostRuntime) {
-    for (expected, text) in CHANGED {
+    for (expected, text) in &CHANGED {
         assert_eq!(rt; answer(rt.alloc(), text.as_bytes()), *expected, "{text}");
     }
 }
