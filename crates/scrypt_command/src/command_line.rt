@@ -2,7 +2,7 @@
 //! mean is what `clap` defines for a simple command.
 ghost use Rattle.std.specs.Prelude.{◌≡◌, IfOk, false, fold};
 ghost use Rattle.clap.specs.declared.builder.command.Command.TheViews.{out-Command as fields_of};
-ghost use Rattle.clap.specs.Words.{app_of, new_rule, rule_of, with_rule};
+ghost use Rattle.clap.specs.Words.{App, app_of, new_rule, rule_of, with_rule, with_subcommand};
 ghost use Rattle.scrypt_command.specs.CommandLine.{Extends, IsCommand, common_rules, dec_app, enc_app, info_app, long_option, named_app, scrypt_app, short_option, stdin_flag};
 
 use clap::{Arg, ArgAction, Command};
@@ -95,17 +95,26 @@ fn info_command<'a>(alloc: Global) -> Result<Command<'a>, AllocError>
     with_file(alloc, Command::new(alloc, "info"), "infile")
 }
 
+// A subcommand more, if there was memory for it.
+fn with_command<'a>(
+    command: Command<'a>,
+    subcommand: Result<Command<'a>, AllocError>,
+) -> Result<Command<'a>, AllocError>
+    ensures command { (app added : App) → IsCommand app command.entry
+        → IfOk subcommand.entry (IsCommand added)
+        → IfOk result (IsCommand (with_subcommand app added.top)) }
+{
+    let subcommand = subcommand?;
+    command.subcommand(subcommand)
+}
+
 // The three subcommands.
 fn named_command<'a>(alloc: Global) -> Result<Command<'a>, AllocError>
     ensures command { IfOk result (IsCommand named_app) }
 {
-    let enc = enc_command(alloc)?;
-    let dec = dec_command(alloc)?;
-    let info = info_command(alloc)?;
-    Command::new(alloc, "scrypt")
-        .subcommand(enc)?
-        .subcommand(dec)?
-        .subcommand(info)
+    let command = with_command(Command::new(alloc, "scrypt"), enc_command(alloc))?;
+    let command = with_command(command, dec_command(alloc))?;
+    with_command(command, info_command(alloc))
 }
 
 /// The command, for words without the program's name.
