@@ -5,8 +5,9 @@
     tests/reading.py --check    fails where docs/DEFINITIONS.md gives other lengths than these, where what is public reaches
                                 a definition of specs/Inside/, and where it doesn't reach one that stands outside
 
-What is public: calls, traits and what they are for a type, what contracts see of types, laws and vectors. A call is written CRATE::FUNCTION or CRATE::TRAIT. Lines of comments and imports, and blank ones, are not counted, nor
-what the toolchain's own libraries define.
+What is public: calls, traits and what they are for a type, what contracts see of types, laws and vectors. A call is
+written CRATE::FUNCTION or CRATE::TRAIT. Lines of comments and imports, and blank ones, are not counted, nor what the
+toolchain's own libraries define.
 """
 import pathlib
 import re
@@ -16,7 +17,11 @@ TOP = pathlib.Path(__file__).resolve().parent.parent
 CRATES = TOP / "crates"
 ITEM = re.compile(r"(?:(?:pub|abbrev|unfoldable|opaque|data|record)\s+)*([^\s:(){},=]+)(?:\s+[({].*)?\s+:(?:\s|$)")
 PART = re.compile(r"\s+(?:pub )?([^\s:]+) :")
-FUNCTION = re.compile(r'(?ms)^( *)(pub )?(?:const )?(?:extern "C" )?fn (\w+).*?^\1\{(?:\}|$)')
+# A function with its clauses, to the brace of its body: on a line of its own after clauses, else at the end of a line.
+FUNCTION = re.compile(
+    r'(?ms)^( *)(pub )?(?:const )?(?:extern "C" )?fn (\w+)'
+    r"(?:[^\n]*(?:\{\}?|;)$|.*?^\1(?:\{(?:\}|$)|\)[^\n]*(?:\{\}?|;)$))"
+)
 BLOCK = re.compile(r"(?ms)^(?:pub trait (\w+)|impl\b[^\n]* for \w+).*?^\}$")
 TESTS = {"tests", "tests.rt", "testing.rt"}
 IMPORT = re.compile(r"(?m)^ *(?:pub |ghost )?use Rattle\.(\w+\.specs\.[\w.]+)\.\{([^}]*)\}")
