@@ -1,7 +1,7 @@
 #!/usr/bin/env python3
 """Whether what the documents name is there: files, definitions, tests, clauses and calls; whether docs/proof-map.svg is
-drawn from them as they are; and whether the manual pages tell every message, the completions every option, and all of
-them one version.
+drawn from them as they are, and the tables of docs/WRONG_BODIES.md and docs/GATE.md are what the scripts make; and
+whether the manual pages tell every message, the completions every option, and all of them one version.
 
 Reads README.md and the other pages, docs/ and man/ against crates/, says each name that it does not find, and fails
 where there is one.
@@ -12,6 +12,7 @@ import shutil
 import subprocess
 import sys
 
+import gate_page
 import record
 from edits import Edit
 from proof_map import drawn
@@ -115,6 +116,10 @@ for crate in SOURCES:
         expect(is_there, file, f"{name}: {goal}: the goal that refuses it")
 tables_made = record.page() == record.PAGE.read_text(encoding="utf-8")
 expect(tables_made, "WRONG_BODIES.md", "the tables that the records make (each run of tests/wrong_bodies.py writes them)")
+
+# Counts and seconds of the gate.
+tables_made = gate_page.page() == gate_page.PAGE.read_text(encoding="utf-8")
+expect(tables_made, "GATE.md", "the tables that tests/gate_page.py makes (each run of it writes them)")
 
 # Calls and clauses that carry a promise, and the picture of what they stand on; the definitions of each run.
 picture, wrong = drawn()

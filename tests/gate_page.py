@@ -1,0 +1,253 @@
+#!/usr/bin/env python3
+"""Writes the tables of docs/GATE.md: the steps of the gate, and what each crate has and takes.
+
+    tests/gate_page.py                       writes them anew
+    tests/gate_page.py --check               fails where the page has others
+    tests/gate_page.py --take LOAD [FOLDER]  takes the seconds of runs before that, from FOLDER or from bin/; LOAD is
+                                             what else the machine did, as "quiet"
+
+Steps are those of the Makefile, in its order; functions, tests and edits are counted in the sources. Seconds stand in
+docs/gate.tsv, by steps, and in docs/crates.tsv, by crates; the first lines of both say of which run. They come from
+
+- gate.tsv of a whole make test, which has each step;
+- wrong-bodies.tsv of a run of tests/wrong_bodies.py that tried each edit, as make audit does;
+- logs/ of a run of packaging/prove.py that proved each crate anew, as after make clean
+
+      packaging/prove.py argon_tool scrypt_tool pikhsen_c
+
+What is of no such run is not taken, and --take says so. No step leaves what each proof with tests took: these seconds
+stay in docs/crates.tsv, with the run that they are of.
+"""
+import argparse
+import datetime
+import os
+import pathlib
+import re
+import sys
+import textwrap
+
+import record
+from edits import TOP
+from keys import Source
+from reading import TESTS
+
+PAGE, STEPS, CRATES = TOP / "docs" / "GATE.md", TOP / "docs" / "gate.tsv", TOP / "docs" / "crates.tsv"
+COLUMNS = ("check", "tests", "bodies")
+# What each step does, by its words in the Makefile.
+DOES = {
+    "tests/sources.sh": "proofs by hand are those listed below; a counter ticks, memory is reserved, wiped and freed, "
+    "and a hash begins in the places that the script lists alone; a table that a script made is what it makes",
+    "tests/documents.py": "what the pages name is there: files, definitions, tests, clauses, a row for each wrong "
+    "body; manual pages have every message, completions every option; pictures and tables are what scripts make",
+    "tests/reading.py --check": "docs/DEFINITIONS.md says how much a reader of a call has to read; `specs/Inside/` "
+    "has what no public contract reaches, and nothing else",
+    "tests/record_test.py": "which change of a text gives which wrong bodies another key, and that turns cost about "
+    "the same",
+    "tests/first_run.py": "`make run`, `make lib` and `make check` over a stand-in for `rt`: their order, their "
+    "lines, and what they leave when a proof fails or they are stopped",
+    "rt ci": "proves every crate and its tests from nothing, tries the edits of `must-fail/`, and runs each test, and "
+    "the programs as two compilers make them",
+    "tests/wrong_bodies.py": "tries the edits of `wrong-bodies/` that are new, and a tenth of the others",
+    "tests/outside.sh": "the built programs: words, files and streams, each form of a damaged file, memory and calls "
+    "refused in turn, memory that is freed, the story of README.md and the manual pages' examples",
+    "tests/c_face.py": "builds `libpikhsen` and calls it from C, C++ and Python; header, module and manual page are "
+    "as the sources; what is installed; the packages for Debian",
+}
+
+
+def steps():
+    """The steps of the gate in their order: the words of the Makefile after tests/step.sh."""
+    recipe = (TOP / "Makefile").read_text(encoding="utf-8").partition("\ntest:")[2].partition("\n\n")[0]
+    return re.findall(r"tests/step\.sh ([\w./]+(?: ci| --\w+)?)", recipe)
+
+
+def rows_of(path):
+    """The rows of a file as lists of cells, without the lines at its head that begin with #."""
+    lines = path.read_text(encoding="utf-8").splitlines() if path.is_file() else []
+    return [line.split("\t") for line in lines if not line.startswith("#")]
+
+
+def runs_of(path):
+    """Of which runs a file's seconds are, by the names of its columns."""
+    return dict(re.findall(r"^# (\w+): (.*)$", path.read_text(encoding="utf-8"), re.MULTILINE))
+
+
+def total(column):
+    """The sum of a column's numbers, and nothing where there are none."""
+    numbers = [int(it) for it in column if f"{it}".isdigit()]
+    return sum(numbers) if numbers else ""
+
+
+def seconds_of_steps(path):
+    """By each step the seconds of its rows, where they are known: by the clock, and of the processors."""
+    found = {}
+    for *seconds, words in rows_of(path):
+        step = next((it for it in steps() if f"{words} ".startswith(f"{it} ")), words)
+        found.setdefault(step, []).append(seconds)
+    return {step: [total(column) for column in zip(*rows)] for step, rows in found.items()}
+
+
+def seconds_of_crates():
+    """The seconds of each crate, by the names of their columns."""
+    return {name: dict(zip(COLUMNS, cells)) for name, *cells in rows_of(CRATES)[1:]}
+
+
+def functions(crate):
+    """How many functions a crate has, laws among them, without tests and vectors."""
+    folder, left_out = TOP / "crates" / crate, TESTS | {"vectors.rt"}
+    paths = [it for it in (folder / "src").rglob("*.rt") if not left_out & {*it.relative_to(folder).parts}]
+    return sum(len(Source(folder, it).functions) for it in paths)
+
+
+def tests(crate):
+    """How many tests a crate has."""
+    texts = (it.read_text(encoding="utf-8") for it in (TOP / "crates" / crate / "src").rglob("*.rt"))
+    return sum(len(re.findall(r"^ *#\[test\]$", text, re.MULTILINE)) for text in texts)
+
+
+def line_of(cells):
+    """A row of a table, with its numbers as they are read."""
+    shown = [f"{int(it):,}" if f"{it}".isdigit() else it for it in cells]
+    return "|" + "|".join(f" {it} " if it else " " for it in shown) + "|\n"
+
+
+def table(head, rows):
+    """A table of these rows, with the sums of its numbers below; columns of numbers stand at the right."""
+    columns = [*zip(*rows)]
+    has_words = [any(f"{it}" and not f"{it}".isdigit() for it in column) for column in columns]
+    sides = "|".join("---" if it else "---:" for it in has_words)
+    return line_of(head) + f"|{sides}|\n" + "".join(map(line_of, rows)) + line_of(["all", *map(total, columns[1:])])
+
+
+def said(text):
+    return textwrap.fill(text, 120, break_on_hyphens=False, break_long_words=False) + "\n\n"
+
+
+def table_of_steps():
+    """What a run of the gate does, with the run and its seconds."""
+    found = seconds_of_steps(STEPS)
+    rows = [[f"`{it}`", DOES[it], *found.get(it, ["", ""])] for it in steps()]
+    text = f"The steps in their order, with seconds by the clock and of all processors, in {runs_of(STEPS)['run']}."
+    return said(text) + table(["step", "what it does or looks at", "clock", "processors"], rows)
+
+
+def table_of_crates():
+    """What each crate has, and how long its proofs and its wrong bodies take, with the runs."""
+    seconds, runs, rows = seconds_of_crates(), runs_of(CRATES), []
+    for crate in record.below():
+        edits = [len(record.edits_of(crate, folder)) for folder in record.FOLDERS]
+        cells = [seconds.get(crate, {}).get(column, "") for column in COLUMNS]
+        rows.append([f"`{crate}`", functions(crate), tests(crate), *edits, *cells])
+    text = (
+        "Functions are counted with laws, without tests, vectors and what macros write; edits, which are wrong "
+        "bodies, by their folder. The last three columns have seconds. Check: of the processor, for the proof of the "
+        f"crate from nothing, in {runs['check']}. With tests: of the processor, for the second proof that a crate "
+        f"with tests gets, in {runs['tests']}. Wrong bodies: by the clock, for all its edits, with checks that go side by "
+        f"side added up, in {runs['bodies']}.")
+    folders = [f"`{it}/`" for it in record.FOLDERS]
+    return said(text) + table(["crate", "functions", "tests", *folders, "check", "with tests", "wrong bodies"], rows)
+
+
+def placed(text, heading, made):
+    """The page with this in the place of what it has below a heading, down to the end of its first table."""
+    before, head, after = text.partition(f"\n## {heading}\n\n")
+    found = re.search(r"(?:^\|.*\n)+", after, re.MULTILINE)
+    if not found:
+        sys.exit(f"{PAGE.relative_to(TOP)} has no table below {heading}")
+    return before + head + made + after[found.end():]
+
+
+def page():
+    """docs/GATE.md with its tables as they are made now."""
+    text = placed(PAGE.read_text(encoding="utf-8"), "What runs", table_of_steps())
+    return placed(text, "Times", table_of_crates())
+
+
+def commit_of(path):
+    """The last commit before this file was written, and if it is the last one now, whether the sources differ."""
+    of_tree = ["-C", record.git("-C", str(path.parent), "rev-parse", "--show-toplevel")]
+    commit = record.git(*of_tree, "rev-list", "-1", f"--before={int(path.stat().st_mtime)}", "HEAD")
+    is_last = commit == record.git(*of_tree, "rev-parse", "HEAD")
+    changes = record.git(*of_tree, "status", "--porcelain", "--", ":!docs", ":!crates/*/wrong-bodies/record")
+    return f"commit {commit[:7]}" + " with changes" * bool(is_last and changes)
+
+
+def run_of(path, load):
+    """When, where, beside what and over which commit a run left this file."""
+    speed = re.search(r"^cpu MHz\s*: (\d+)", pathlib.Path("/proc/cpuinfo").read_text(encoding="utf-8"), re.MULTILINE)
+    speed = f" of {int(speed[1]) / 1000:.1f} GHz" if speed else ""
+    day = datetime.date.fromtimestamp(path.stat().st_mtime)
+    return f"the run of {day}, on {len(os.sched_getaffinity(0))} processors{speed}, {load}, {commit_of(path)}"
+
+
+def tried_in(path):
+    """How many edits of each crate a run of tests/wrong_bodies.py tried, and what they took."""
+    return {name: (int(tried), seconds) for name, *_, tried, seconds in rows_of(path)[1:]}
+
+
+def take_steps(folder, load):
+    """Takes the seconds of the steps, and says whether it did."""
+    path, bodies = folder / "gate.tsv", folder / "wrong-bodies.tsv"
+    lacking = [it for it in steps() if it not in seconds_of_steps(path)]
+    if lacking:
+        return f"{path}: not taken, since it lacks {', '.join(lacking)}"
+    if bodies.is_file() and bodies.stat().st_mtime <= path.stat().st_mtime:
+        edits = sum(len(record.edits_of(it, "wrong-bodies")) for it in record.below())
+        load += f", {sum(tried for tried, _ in tried_in(bodies).values())} of {edits} edits tried"
+    STEPS.write_text(f"# run: {run_of(path, load)}\n" + path.read_text(encoding="utf-8"), encoding="utf-8")
+    return f"{path}: taken"
+
+
+def take_column(column, path, found, why, load):
+    """Takes a column of the crates' seconds, unless there is a reason not to, and says whether it did."""
+    if why:
+        return f"{path}: not taken, since {why}"
+    seconds, runs = seconds_of_crates(), {**runs_of(CRATES), column: run_of(path, load)}
+    lines = [f"# {it}: {runs[it]}" for it in COLUMNS] + ["\t".join(["crate", *COLUMNS])]
+    for crate in record.below():
+        cells = {**dict.fromkeys(COLUMNS, ""), **seconds.get(crate, {}), column: found.get(crate, "")}
+        lines.append("\t".join([crate, *(cells[it] for it in COLUMNS)]))
+    CRATES.write_text("\n".join(lines) + "\n", encoding="utf-8")
+    return f"{path}: taken"
+
+
+def take_bodies(folder, load):
+    """Takes what all wrong bodies of each crate took, of a run that tried them all."""
+    path = folder / "wrong-bodies.tsv"
+    found = tried_in(path)
+    left = [it for it in record.below() if found.get(it, (0, ""))[0] < len(record.edits_of(it, "wrong-bodies"))]
+    why = f"it did not try each edit of {', '.join(left)}" if left else ""
+    return take_column("bodies", path, {it: seconds for it, (tried, seconds) in found.items() if tried}, why, load)
+
+
+def take_checks(folder, load):
+    """Takes what each check took, of a run that proved something of every crate: so all of it, from nothing."""
+    path, found = folder / "logs" / "seconds", {}
+    lines = path.read_text(encoding="utf-8") if path.is_file() else ""
+    largest = max(map(int, re.findall(r"(\d+) MiB", lines)), default=0)
+    for crate, seconds in re.findall(r"^(\w+): \d+ s, (\d+) s of the processor", lines, re.MULTILINE):
+        log = (folder / "logs" / crate).read_text(encoding="utf-8", errors="replace")
+        if re.search(rf"^crate {crate}: modules loaded=\d+ checked=[1-9]", log, re.MULTILINE):
+            found[crate] = seconds
+    left = [it for it in record.below() if it not in found]
+    why = f"it proved nothing of {', '.join(left)}" if left else ""
+    return take_column("check", path, found, why, f"{load}, {largest / 1024:.1f} GB in the largest process")
+
+
+def main():
+    parser = argparse.ArgumentParser()
+    parser.add_argument("--check", action="store_true")
+    parser.add_argument("--take", metavar="LOAD")
+    parser.add_argument("folder", nargs="?", type=pathlib.Path, default=TOP / "bin")
+    given = parser.parse_args()
+    for take in (take_steps, take_bodies, take_checks) if given.take else ():
+        print(take(given.folder.resolve(), given.take))
+    made = page()
+    if given.check and made != PAGE.read_text(encoding="utf-8"):
+        sys.exit("docs/GATE.md has other tables than tests/gate_page.py makes")
+    if not given.check:
+        PAGE.write_text(made, encoding="utf-8")
+
+
+if __name__ == "__main__":
+    main()
