@@ -411,8 +411,8 @@ def encrypt(
 ) -> bytes:
     """The encrypted file of a text, 128 bytes longer, as scrypt(1) writes it.
 
-    AN EMPTY PASSPHRASE IS ACCEPTED like any other, and anybody can open such a file: `if not passphrase: raise ..`
-    where it comes from a variable, a file or a pipe.
+    AN EMPTY PASSPHRASE IS ACCEPTED, and anybody can open such a file: look at it before, where it comes from a variable,
+    a file or a pipe.
 
     The salt is new, 32 bytes, if none is given. Two files with one passphrase, salt and costs betray their texts.
     Costs and limits are those of `scrypt`; `decrypt` allows less if nothing else is said.
