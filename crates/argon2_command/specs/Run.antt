@@ -1,7 +1,7 @@
 -- A whole run of argon2: what stands at its end.
 use Rattle.std.specs.Prelude.{◌≡◌, ◌⊎◌, ℕ, Bool, List, Option, None, Ok, Err, IsOk, IsTrue, is_ok, if◌then◌else◌}
 use Rattle.host.specs.Output.{IsCutShort, after_writing}
-use Rattle.host.specs.Seen.{Seen, Text, after_ask, stdin_once}
+use Rattle.host.specs.Seen.{Seen, Text, after_ask, after_ask_output, stdin_once}
 use Rattle.host.specs.Faults.{Faults}
 use Rattle.host.specs.Lines.{SaysOneLine}
 use Rattle.argon2_command.specs.Refusal.{IsEarly, IsLate, counted_by, line_of}
@@ -29,7 +29,7 @@ IsDue r words before after = (argon2_output words before ≡ Err r) × IsEarly r
 abbrev pub FailsPassword : Argon2Refusal → List Text → Seen → Seen → Type 0
 FailsPassword r words before after = (r ≡ refusal.PasswordFault) × IsOk (argon2_request words) × (after ≡ password_asked words before)
 
--- no refusal was due, and a growth of memory was refused before the output was opened
+-- no refusal was due, and a growth of memory was refused before the output was asked for
 abbrev pub LacksMemory : Argon2Refusal → List Text → Seen → Seen → Type 0
 LacksMemory r words before after = (r ≡ refusal.OutOfMemory) × IsOk (argon2_output words before) × (after ≡ password_asked words before)
 
@@ -38,7 +38,8 @@ pub record FailsOutput (r : Argon2Refusal) (words : List Text) (before after : S
   pub is : r ≡ refusal.OutputFault
   pub output : List ℕ
   pub due : argon2_output words before ≡ Ok output
-  pub left : (after ≡ password_asked words before) ⊎ IsCutShort None output (password_asked words before) after
+  pub left : (after ≡ after_ask_output None (password_asked words before))
+      ⊎ IsCutShort None output (password_asked words before) after
 
 -- the run ended with this refusal, whose line isn't said yet
 abbrev pub IsRefused : Argon2Refusal → List Text → Seen → Seen → Type 0

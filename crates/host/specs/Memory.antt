@@ -20,6 +20,7 @@ pub record Memory : Type 0 where
   pub output : List ℕ
   pub input_opened : Option (Option Text)
   pub output_opened : Option (Option Text)
+  pub output_asked : Option (Option Text)
   pub asked : Option SecretSource
   pub salted : Bool
   pub said : List Text
@@ -40,6 +41,7 @@ new_memory input stdin salt = record {
   output = [];
   input_opened = None;
   output_opened = None;
+  output_asked = None;
   asked = None;
   salted = false;
   said = [];
@@ -61,6 +63,7 @@ memory_seen m = record {
   output = m.output;
   input_opened = m.input_opened;
   output_opened = m.output_opened;
+  output_asked = m.output_asked;
   asked = m.asked;
   salted = m.salted;
   said = m.said;

@@ -12,13 +12,15 @@ pub data SecretSource : Type 0 where
   file : Text → SecretSource
 
 -- the input that is left, the output so far, the names under which they were opened (None: not opened; Some None:
--- the standard stream), the secret source that was asked (None: none was), whether a salt was asked for, the lines said
--- so far, the secret sources, and the salt
+-- the standard stream), the name under which an output was asked for, whether or not it could be opened (None: none was
+-- asked for), the secret source that was asked (None: none was), whether a salt was asked for, the lines said so far, the
+-- secret sources, and the salt
 pub record Seen : Type 0 where
   pub input : List ℕ
   pub output : List ℕ
   pub input_opened : Option (Option Text)
   pub output_opened : Option (Option Text)
+  pub output_asked : Option (Option Text)
   pub asked : Option SecretSource
   pub salted : Bool
   pub said : List Text
@@ -27,10 +29,10 @@ pub record Seen : Type 0 where
   pub files : Text → Option (List ℕ)
   pub salt : List ℕ
 
--- no input and no output is opened yet, no secret source was asked, and no salt was asked for
+-- no input is opened yet, no output was asked for, no secret source was asked, and no salt was asked for
 pub record IsFresh (s : Seen) : Type 0 where
   pub input : s.input_opened ≡ None
-  pub output : s.output_opened ≡ None
+  pub output : s.output_asked ≡ None
   pub asked : s.asked ≡ None
   pub unsalted : s.salted ≡ false
 
@@ -50,9 +52,13 @@ after_say line s = record s { said = s.said ++ (line ∷ []) }
 abbrev pub after_open_input : Option Text → Seen → Seen
 after_open_input name s = record s { input_opened = Some name }
 
+-- an output was asked for under this name, and could not be opened
+abbrev pub after_ask_output : Option Text → Seen → Seen
+after_ask_output name s = record s { output_asked = Some name }
+
 -- the output was opened under this name
 abbrev pub after_open_output : Option Text → Seen → Seen
-after_open_output name s = record s { output_opened = Some name }
+after_open_output name s = record s { output_opened = Some name; output_asked = Some name }
 
 -- this secret source was asked
 abbrev pub after_ask : SecretSource → Seen → Seen
@@ -69,6 +75,7 @@ nothing_seen = record {
   output = [];
   input_opened = None;
   output_opened = None;
+  output_asked = None;
   asked = None;
   salted = false;
   said = [];

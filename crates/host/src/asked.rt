@@ -27,18 +27,21 @@ pub enum Asked {
     File(Name),
 }
 
-// The name of this text, from its last byte to its first.
-fn name_of(text: &str) -> Name
-    ensures bytes { name_bytes result ≡ text.now }
-{
-    let bytes = text.as_bytes();
-    let mut name = Name::End;
-    let mut at = bytes.len();
-    while at > 0 {
-        at -= 1;
-        name = Name::Byte(bytes[at], Snapshot::of(&name));
+impl Name {
+    /// The name that is this text.
+    pub fn of(text: &str) -> Name
+        ensures bytes { name_bytes result ≡ text.now }
+    {
+        // from its last byte to its first
+        let bytes = text.as_bytes();
+        let mut name = Name::End;
+        let mut at = bytes.len();
+        while at > 0 {
+            at -= 1;
+            name = Name::Byte(bytes[at], Snapshot::of(&name));
+        }
+        name
     }
-    name
 }
 
 impl Asked {
@@ -48,8 +51,8 @@ impl Asked {
     {
         match source {
             Source::StdinOnce => Asked::StdinOnce,
-            Source::Env(name) => Asked::Env(name_of(name)),
-            Source::File(name) => Asked::File(name_of(name)),
+            Source::Env(name) => Asked::Env(Name::of(name)),
+            Source::File(name) => Asked::File(Name::of(name)),
         }
     }
 }

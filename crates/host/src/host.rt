@@ -2,12 +2,12 @@
 ghost use Rattle.std.specs.Prelude.{◌≡◌, ◌-◌, ◌<◌, ◌≤◌, ◌^◌, Bool, false, [], None, take, length, option_map, IfOk, OnOk, OnErr, IsTrue};
 ghost use Rattle.host.specs.Faults.{Faults, AreBelow, input_failed, output_failed, secret_failed, salt_failed, line_failed};
 ghost use Rattle.host.specs.Secret.{secret_of, source_of, IsBeginning};
-ghost use Rattle.host.specs.Seen.{Seen, after_ask, after_pull, after_push, after_salt, after_say, after_open_input, after_open_output};
+ghost use Rattle.host.specs.Seen.{Seen, after_ask, after_pull, after_push, after_salt, after_say, after_ask_output, after_open_input, after_open_output};
 
 use thiserror::Error;
 
 /// The host could not do what it was asked. Its count of such failures has risen by one, and
-/// nothing else has changed, but that a secret source was asked, or a salt was asked for.
+/// nothing else has changed, but that an output, a secret source or a salt was asked for.
 #[derive(Clone, Copy, Debug, PartialEq, Eq, Error)]
 #[error("the host failed")]
 pub struct HostFault;
@@ -28,12 +28,13 @@ pub enum Source<'a> {
 /// Contracts see whether the host tells its bytes (`tells`), its bytes, names and lines (`seen`), and
 /// how often its calls have failed (`faults`). A call that answers `Ok` changes no count, and of
 /// `seen` only what its clauses say; a call that answers `Err` raises its count by one and changes
-/// nothing else, but that a secret source was asked, or a salt was asked for. What is said of bytes,
+/// nothing else, but that an output, a secret source or a salt was asked for. What is said of bytes,
 /// names and lines holds of a host that tells them; the counts and the bounds on lengths hold of every
 /// host.
 ///
-/// An input is opened once, and so is an output: opened again under the same name, a file would be
-/// read from its beginning, or be emptied, and contracts would not see it. One secret source is asked,
+/// An input is opened once: opened again, a file would be read from its beginning, and contracts would
+/// not see it. One output is asked for, once: a file that is made or emptied stays so, also where it is
+/// not taken, so contracts see its name whatever the answer. One secret source is asked,
 /// once: asked again, standard input would be at its end, or wait for more. A salt is asked for once:
 /// asked for again, another would come, and a command could take the one that it likes.
 pub trait Host {
@@ -56,13 +57,15 @@ pub trait Host {
         ensures opened { IsTrue tells → OnOk result
             (seen self.new ≡ after_open_input (option_map (λ n. n.now) name.entry) (seen self.old)) };
 
-    /// Opens the output under this name, once; `None` is standard output.
+    /// Opens the output under this name; `None` is standard output. No output was asked for before;
+    /// this one is asked for, whatever the answer.
     fn open_output(&mut self, name: Option<&str>) -> Result<(), HostFault>
         requires room { AreBelow (2 ^ 64 - 1) (faults self.old) }
-        requires unopened { IsTrue tells → (seen self.old).output_opened ≡ None }
+        requires unasked { IsTrue tells → (seen self.old).output_asked ≡ None }
         ensures counts { OnOk result (faults self.new ≡ faults self.old) }
         ensures counted { OnErr result (faults self.new ≡ output_failed (faults self.old)) }
-        ensures kept { IsTrue tells → OnErr result (seen self.new ≡ seen self.old) }
+        ensures asks { IsTrue tells → OnErr result
+            (seen self.new ≡ after_ask_output (option_map (λ n. n.now) name.entry) (seen self.old)) }
         ensures opened { IsTrue tells → OnOk result
             (seen self.new ≡ after_open_output (option_map (λ n. n.now) name.entry) (seen self.old)) };
 

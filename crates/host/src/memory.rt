@@ -1,13 +1,13 @@
 //! A host in memory.
 ghost use Rattle.std.specs.Prelude.{◌≡◌, ◌-◌, ◌+◌, ◌^◌, ◌<◌, ◌≤◌, ◌==◌, ℕ, true, None, List, take, drop, length, min, map, option_map, Some, IfOk, OnOk, OnErr, string_bytes, bytes_eq, if◌then◌else◌};
-ghost use Rattle.host.specs.Asked.{asked_source};
+ghost use Rattle.host.specs.Asked.{asked_source, name_bytes};
 ghost use Rattle.host.specs.Faults.{AreBelow, input_failed, line_failed, output_failed};
 ghost use Rattle.host.specs.Memory.{Memory, lookup, memory_seen, memory_faults, new_memory, with_variable, with_file};
 ghost use Rattle.host.specs.Inside.Calls.{next_call};
 ghost use Rattle.host.specs.Secret.{secret_of};
-ghost use Rattle.host.specs.Seen.{after_open_input, after_open_output, after_push, after_say};
+ghost use Rattle.host.specs.Seen.{after_ask_output, after_open_input, after_open_output, after_push, after_say};
 
-use crate::asked::Asked;
+use crate::asked::{Asked, Name};
 use crate::growth::Growth;
 use crate::host::{Host, HostFault, Source};
 use crate::named_secret::{NamedSecret, find, put_first};
@@ -28,6 +28,7 @@ pub struct MemoryHost {
     output: Vec<u8>,
     input_name: Option<Option<String>>,
     output_name: Option<Option<String>>,
+    output_asked: Option<Option<Name>>,
     asked: Option<Asked>,
     salted: bool,
     lines: Vec<String>,
@@ -54,6 +55,7 @@ impl Model for MemoryHost {
       output = h.output.items;
       input_opened = option_map (option_map string_bytes) h.input_name;
       output_opened = option_map (option_map string_bytes) h.output_name;
+      output_asked = option_map (option_map name_bytes) h.output_asked;
       asked = option_map asked_source h.asked;
       salted = h.salted;
       said = map string_bytes h.lines.items;
@@ -92,6 +94,7 @@ impl MemoryHost {
             output: Vec::new(alloc),
             input_name: None,
             output_name: None,
+            output_asked: None,
             asked: None,
             salted: false,
             lines: Vec::new(alloc),
@@ -236,10 +239,12 @@ impl MemoryHost {
         requires room { AreBelow (2 ^ 64 - 1) (memory_faults self.old) }
         ensures counts { OnOk result (memory_faults self.new ≡ memory_faults self.old) }
         ensures counted { OnErr result (memory_faults self.new ≡ output_failed (memory_faults self.old)) }
-        ensures kept { OnErr result (memory_seen self.new ≡ memory_seen self.old) }
+        ensures asks { OnErr result (memory_seen self.new
+            ≡ after_ask_output (option_map (λ n. n.now) name.entry) (memory_seen self.old)) }
         ensures opened { OnOk result (memory_seen self.new
             ≡ after_open_output (option_map (λ n. n.now) name.entry) (memory_seen self.old)) }
     {
+        self.output_asked = Some(name_asked(name));
         if !self.is_failing()
             && let Ok(kept) = keep_name(growth, name)
         {
@@ -297,6 +302,16 @@ fn name_kept(name: &Option<Option<String>>) -> Option<Option<&str>>
         None => None,
         Some(None) => Some(None),
         Some(Some(text)) => Some(Some(text.as_str())),
+    }
+}
+
+// A name as it was asked for, of which contracts alone see all bytes.
+fn name_asked(name: Option<&str>) -> Option<Name>
+    ensures asked { option_map name_bytes result ≡ option_map (λ n. n.now) name.entry }
+{
+    match name {
+        None => None,
+        Some(text) => Some(Name::of(text)),
     }
 }
 
@@ -557,7 +572,7 @@ mod tests {
     // Calls of a host, of which the third fails.
     fn answers(host: &mut MemoryHost) -> Answers
         requires room { AreBelow (2 ^ 63) (memory_faults host.old) }
-        requires unopened { host.old.output_opened ≡ None }
+        requires unasked { host.old.output_asked ≡ None }
     {
         host.set_sizes(1, 2);
         host.fail_at(3);

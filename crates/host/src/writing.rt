@@ -3,7 +3,7 @@ ghost use Rattle.std.specs.Prelude.{◌≡◌, ◌-◌, ◌<◌, ◌^◌, ◌⊎
 ghost use Rattle.host.specs.Faults.{AreBelow, output_failed};
 ghost use Rattle.host.specs.Lines.{SaysOneLine};
 ghost use Rattle.host.specs.Output.{IsCutShort, after_writing};
-ghost use Rattle.host.specs.Seen.{after_push};
+ghost use Rattle.host.specs.Seen.{after_ask_output, after_push};
 
 use crate::host::{Host, HostFault};
 
@@ -28,12 +28,12 @@ pub fn push_all<H: Host>(host: &mut H, bytes: &[u8]) -> Result<(), HostFault>
 /// of them has been written, not the whole.
 pub fn write_output<H: Host>(host: &mut H, bytes: &[u8]) -> Result<(), HostFault>
     requires room { AreBelow (2 ^ 64 - 1) (H.faults host.old) }
-    requires unopened { IsTrue H.tells → (H.seen host.old).output_opened ≡ None }
+    requires unasked { IsTrue H.tells → (H.seen host.old).output_asked ≡ None }
     ensures counts { OnOk result (H.faults host.new ≡ H.faults host.old) }
     ensures counted { OnErr result (H.faults host.new ≡ output_failed (H.faults host.old)) }
     ensures written { IsTrue H.tells →
         OnOk result (H.seen host.new ≡ after_writing None bytes.now (H.seen host.old)) }
-    ensures left { IsTrue H.tells → OnErr result ((H.seen host.new ≡ H.seen host.old)
+    ensures left { IsTrue H.tells → OnErr result ((H.seen host.new ≡ after_ask_output None (H.seen host.old))
         ⊎ IsCutShort None bytes.now (H.seen host.old) (H.seen host.new)) }
 {
     host.open_output(None)?;

@@ -2,7 +2,7 @@
 use Rattle.std.proofs.Common.{◌≡◌, ◌⊎◌, inl, inr, ℕ, List, Option, None, ap}
 use Rattle.encfile.specs.Front.{FrontRefusal}
 use Rattle.host.specs.Output.{IsCutShort}
-use Rattle.host.specs.Seen.{Seen, Text}
+use Rattle.host.specs.Seen.{Seen, Text, after_ask_output}
 use Rattle.scrypt_run.specs.Decrypting.{DecryptRefused}
 use Rattle.scrypt_run.specs.Encrypting.{EncryptRefused}
 use Rattle.scrypt_run.specs.Front.{FrontRefused}
@@ -39,7 +39,7 @@ of_release r passphrase front outfile before after (inr (inl ends)) = of_text r 
 of_release r passphrase front outfile before after (inr (inr damaged)) = same_source _ after damaged.1.released
 
 of_line : (LacksMemory FailsOutput : Type 0) (line : List ℕ) (before after : Seen)
-    → (LacksMemory × (after ≡ before)) ⊎ (FailsOutput × (after ≡ before)) ⊎ (FailsOutput × IsCutShort None line before after) → after.asked ≡ before.asked
+    → (LacksMemory × (after ≡ before)) ⊎ (FailsOutput × (after ≡ after_ask_output None before)) ⊎ (FailsOutput × IsCutShort None line before after) → after.asked ≡ before.asked
 of_line LacksMemory FailsOutput line before after (inl lacks) = same_source _ after lacks.1
 of_line LacksMemory FailsOutput line before after (inr (inl failed)) = same_source _ after failed.1
 of_line LacksMemory FailsOutput line before after (inr (inr cut)) = same_source _ after cut.1.begun

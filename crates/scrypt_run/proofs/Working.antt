@@ -65,10 +65,10 @@ file_works task s t salt costs m n reads hs hc derives =
 
 -- ---- before it
 
--- an early refusal, and no output was opened
-pub not_after : (r : ScryptRefusal) (s : Seen) → follows_work r ≡ false → s.output_opened ≡ None → EndsAfterWork r s → ⊥
-not_after r s early unopened (inl late) = let bad : false ≡ true = sym early ∙ late in cc
-not_after r s early unopened (inr opened) = opened unopened
+-- an early refusal, and no output was asked for
+pub not_after : (r : ScryptRefusal) (s : Seen) → follows_work r ≡ false → s.output_asked ≡ None → EndsAfterWork r s → ⊥
+not_after r s early unasked (inl late) = let bad : false ≡ true = sym early ∙ late in cc
+not_after r s early unasked (inr asked) = asked unasked
 
 is_false : (b : Bool) → (b ≡ true → ⊥) → b ≡ false
 is_false true h = absurd (h refl)
@@ -77,30 +77,30 @@ is_false false h = refl
 pub early_of : (r : ScryptRefusal) (s : Seen) → (EndsAfterWork r s → ⊥) → follows_work r ≡ false
 early_of r s before = is_false (follows_work r) (λ late. before (inl late))
 
--- where no output was opened, what comes after the work is a late refusal
-pub late_of : (r : ScryptRefusal) (s : Seen) → s.output_opened ≡ None → EndsAfterWork r s → follows_work r ≡ true
-late_of r s unopened (inl late) = late
-late_of r s unopened (inr opened) = absurd (opened unopened)
+-- where no output was asked for, what comes after the work is a late refusal
+pub late_of : (r : ScryptRefusal) (s : Seen) → s.output_asked ≡ None → EndsAfterWork r s → follows_work r ≡ true
+late_of r s unasked (inl late) = late
+late_of r s unasked (inr asked) = absurd (asked unasked)
 
--- the output is as it was
-same_output : (s t : Seen) → t ≡ s → t.output_opened ≡ s.output_opened
-same_output s t same = ap (λ (w : Seen). w.output_opened) same
+-- the output that was asked for is as it was
+same_output : (s t : Seen) → t ≡ s → t.output_asked ≡ s.output_asked
+same_output s t same = ap (λ (w : Seen). w.output_asked) same
 
-pub front_unopened : (r : ScryptRefusal) (first : Option FrontRefusal) (infile : Option Text) (before after : Seen) → FrontRefused r first infile before after
-    → after.output_opened ≡ before.output_opened
-front_unopened r first infile before after (inl (is, inl same)) = same_output _ after same
-front_unopened r first infile before after (inl (is, inr cut)) = same_output _ after cut.reads
-front_unopened r first infile before after (inr told) = same_output _ after told.1
+pub front_unasked : (r : ScryptRefusal) (first : Option FrontRefusal) (infile : Option Text) (before after : Seen) → FrontRefused r first infile before after
+    → after.output_asked ≡ before.output_asked
+front_unasked r first infile before after (inl (is, inl same)) = same_output _ after same
+front_unasked r first infile before after (inl (is, inr cut)) = same_output _ after cut.reads
+front_unasked r first infile before after (inr told) = same_output _ after told.1
 
 -- ---- after it: every end from the output's opening on
 
-opened_after : (r : ScryptRefusal) (outfile : Option Text) (after : Seen) → after.output_opened ≡ Some outfile → EndsAfterWork r after
-opened_after r outfile after opened = inr (λ none. none-some outfile (sym none ∙ opened))
+asked_after : (r : ScryptRefusal) (outfile : Option Text) (after : Seen) → after.output_asked ≡ Some outfile → EndsAfterWork r after
+asked_after r outfile after asked = inr (λ none. none-some outfile (sym none ∙ asked))
 
 pub release_after : (r : ScryptRefusal) (passphrase front : List ℕ) (outfile : Option Text) (before after : Seen)
     → ReleaseRefused r passphrase front outfile before after → EndsAfterWork r after
 release_after r passphrase front outfile before after (inl failed) = inl (ap follows_work failed.0)
-release_after r passphrase front outfile before after (inr (inl (inl reading))) = opened_after r outfile after (same_output _ after reading.1.passes)
+release_after r passphrase front outfile before after (inr (inl (inl reading))) = asked_after r outfile after (same_output _ after reading.1.passes)
 release_after r passphrase front outfile before after (inr (inl (inr (inl writing)))) = inl (ap follows_work writing.0)
 release_after r passphrase front outfile before after (inr (inl (inr (inr long)))) = inl (ap follows_work long.0)
 release_after r passphrase front outfile before after (inr (inr damaged)) = inl (ap follows_work damaged.0)
@@ -108,6 +108,6 @@ release_after r passphrase front outfile before after (inr (inr damaged)) = inl 
 pub write_after : (r : ScryptRefusal) (passphrase salt : List ℕ) (costs : Parameters) (outfile : Option Text) (before after : Seen)
     → WriteRefused r passphrase salt costs outfile before after → EndsAfterWork r after
 write_after r passphrase salt costs outfile before after (inl failed) = inl (ap follows_work failed.0)
-write_after r passphrase salt costs outfile before after (inr (inl reading)) = opened_after r outfile after (same_output _ after reading.1.passes)
+write_after r passphrase salt costs outfile before after (inr (inl reading)) = asked_after r outfile after (same_output _ after reading.1.passes)
 write_after r passphrase salt costs outfile before after (inr (inr (inl writing))) = inl (ap follows_work writing.0)
 write_after r passphrase salt costs outfile before after (inr (inr (inr long))) = inl (ap follows_work long.0)

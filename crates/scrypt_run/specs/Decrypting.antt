@@ -2,7 +2,7 @@
 use Rattle.std.specs.Prelude.{◌≡◌, ◌+◌, ◌<◌, ◌^◌, ◌++◌, ◌⊎◌, ℕ, List, Option, Some, None, length, option_map, take}
 use Rattle.encfile.specs.EncryptedFile.{IsEncryptionOf, released_text}
 use Rattle.encfile.specs.Front.{FrontRefusal, front_refusal, limits_refusal}
-use Rattle.host.specs.Seen.{Seen, Text, after_open_output}
+use Rattle.host.specs.Seen.{Seen, Text, after_ask_output, after_open_output}
 use Rattle.scrypt_run.specs.Front.{FrontRefused}
 use Rattle.scrypt_run.specs.Passphrase.{HasPassphrase, PassphraseRefused, first_line_at}
 use Rattle.scrypt_run.specs.Refusal.{refusal_of}
@@ -64,7 +64,7 @@ DecryptRefused r task before after =
     ⊎ ((option_map refusal_of (front_refusal_of task before passphrase) ≡ Some r)
     × (after ≡ passphrase_asked task 96 before))
     ⊎ ((front_refusal_of task before passphrase ≡ None) × (
-    ((r ≡ refusal.OutputFault) × (after ≡ passphrase_asked task 96 before))
+    ((r ≡ refusal.OutputFault) × (after ≡ after_ask_output task.outfile (passphrase_asked task 96 before)))
     ⊎ EndsText r (2 ^ 60 + 32) 4128 (text_after passphrase (take 96 before.input))
     (text_after passphrase (take 96 before.input))
     (after_open_output task.outfile (passphrase_asked task 96 before)) after

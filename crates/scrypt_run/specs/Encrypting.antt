@@ -3,7 +3,7 @@ use Rattle.std.specs.Prelude.{◌≡◌, ◌^◌, ◌⊎◌, ◌==◌, ◌||◌,
 use Rattle.romix.specs.Costs.{Parameters}
 use Rattle.encfile.specs.EncryptedFile.{IsEncryptionOf, body, encrypted_file}
 use Rattle.encfile.specs.Front.{FrontRefusal, costs_refusal}
-use Rattle.host.specs.Seen.{Seen, Text, after_open_output}
+use Rattle.host.specs.Seen.{Seen, Text, after_ask_output, after_open_output}
 use Rattle.scrypt_run.specs.Passphrase.{HasPassphrase, PassphraseRefused, first_line_at}
 use Rattle.scrypt_run.specs.Refusal.{refusal_of}
 use Rattle.scrypt_run.specs.Request.{Encryption, allowance_of}
@@ -61,7 +61,7 @@ EncryptRefused r asked before after =
     ⊎ ((passphrase : List ℕ) × HasPassphrase (first_line_at asked.task.source before) passphrase × (
     ((r ≡ refusal.SaltFault) × (asked.salt ≡ None) × (after ≡ salt_asked asked before))
     ⊎ ((r ≡ refusal.OutOfMemory) × (after ≡ salt_asked asked before))
-    ⊎ ((r ≡ refusal.OutputFault) × (after ≡ salt_asked asked before))
+    ⊎ ((r ≡ refusal.OutputFault) × (after ≡ after_ask_output asked.task.outfile (salt_asked asked before)))
     ⊎ EndsText r (2 ^ 60) 4128 (body passphrase (salt_used asked.salt before) asked.costs)
     (decided passphrase (salt_used asked.salt before) asked.costs (length before.input))
     (after_open_output asked.task.outfile (salt_asked asked before)) after))))

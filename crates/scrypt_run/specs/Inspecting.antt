@@ -5,7 +5,7 @@ use Rattle.romix.specs.Costs.{Parameters, cores, table_bytes}
 use Rattle.encfile.specs.Front.{format_refusal}
 use Rattle.encfile.specs.Header.{costs_of}
 use Rattle.host.specs.Output.{IsCutShort, after_writing}
-use Rattle.host.specs.Seen.{Seen, Text}
+use Rattle.host.specs.Seen.{Seen, Text, after_ask_output}
 use Rattle.scrypt_run.specs.Front.{FrontRefused, after_front}
 use Rattle.scrypt_run.specs.declared.refusal.ScryptRefusal.{ScryptRefusal}
 use Rattle.scrypt_run.specs.declared.refusal.ScryptRefusal.TheVariants as refusal
@@ -36,5 +36,5 @@ InspectRefused r infile before after =
     FrontRefused r (format_refusal before.input) infile before after
     ⊎ ((format_refusal before.input ≡ None) × (
     ((r ≡ refusal.OutOfMemory) × (after ≡ after_front infile before))
-    ⊎ ((r ≡ refusal.OutputFault) × (after ≡ after_front infile before))
+    ⊎ ((r ≡ refusal.OutputFault) × (after ≡ after_ask_output None (after_front infile before)))
     ⊎ ((r ≡ refusal.OutputFault) × IsCutShort None (line_due before) (after_front infile before) after)))

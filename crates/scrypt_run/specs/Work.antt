@@ -33,7 +33,7 @@ RequestWorks (encrypt asked) s before after = EncryptWorks asked s before after
 RequestWorks (decrypt task) s before after = DecryptWorks task s before after
 RequestWorks (inspect infile) s before after = after ≡ before
 
--- the run ended after its derivation: its refusal comes only there, or its output was opened. So S12 is told apart: no
--- output is opened where the input could not be opened, or failed in its first 96 bytes
+-- the run ended after its derivation: its refusal comes only there, or an output was asked for. So S12 is told apart:
+-- no output is asked for where the input could not be opened, or failed in its first 96 bytes
 abbrev pub EndsAfterWork : ScryptRefusal → Seen → Type 0
-EndsAfterWork r s = (follows_work r ≡ true) ⊎ (s.output_opened ≡ None → ⊥)
+EndsAfterWork r s = (follows_work r ≡ true) ⊎ (s.output_asked ≡ None → ⊥)

@@ -122,7 +122,7 @@ fn release<H: Host>(host: &mut H, dec: &mut Dec) -> Result<(), ScryptRefusal>
 // Opens the output, writes the text, and tests the final code.
 fn finish<H: Host>(host: &mut H, outfile: Option<&str>, dec: Dec) -> Result<(), ScryptRefusal>
     requires room { AreBelow (2 ^ 63) (H.faults host.old) }
-    requires unopened { IsTrue H.tells → (H.seen host.old).output_opened ≡ None }
+    requires unasked { IsTrue H.tells → (H.seen host.old).output_asked ≡ None }
     requires new { length_read dec ≡ 0 }
     requires read { (passphrase front : List ℕ) × HasRead dec passphrase front }
     ensures counts { MatchResult result (λ _. H.faults host.new ≡ H.faults host.old)

@@ -164,7 +164,7 @@ fn write_body<H: Host>(host: &mut H, enc: &mut Enc) -> Result<(), ScryptRefusal>
 // Opens the output, and writes the file of the input's text.
 fn write_file<H: Host>(host: &mut H, outfile: Option<&str>, enc: Enc) -> Result<(), ScryptRefusal>
     requires room { AreBelow (2 ^ 63) (H.faults host.old) }
-    requires unopened { IsTrue H.tells → (H.seen host.old).output_opened ≡ None }
+    requires unasked { IsTrue H.tells → (H.seen host.old).output_asked ≡ None }
     requires begun { (passphrase salt : List ℕ) × (costs : Parameters)
         × HasEncrypted enc passphrase salt costs [] }
     ensures counts { MatchResult result (λ _. H.faults host.new ≡ H.faults host.old)

@@ -77,9 +77,12 @@ fn ends_do_not_depend_on_keep()
         → RequestRefused refusal (with_keep keep request) before after }
 {}
 
-// Want of memory is never told after an output was opened.
+// Want of memory is never told after an output was asked for.
 fn want_of_memory_opens_no_output()
     ensures unopened { (request : Request) (before after : Seen)
         → RequestRefused ScryptRefusal.OutOfMemory request before after
         → after.output_opened ≡ before.output_opened }
+    ensures unasked { (request : Request) (before after : Seen)
+        → RequestRefused ScryptRefusal.OutOfMemory request before after
+        → after.output_asked ≡ before.output_asked }
 {}

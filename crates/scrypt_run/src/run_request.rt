@@ -20,8 +20,8 @@ use std::alloc::Global;
 /// opened yet, and the limit `-M` is at most 2^40 bytes.
 ///
 /// The faults are S4a, S4b, S5b, S6 to S15 and S16b, in the order of the subcommand. Whatever was written
-/// before a fault stays written, and no output is opened before every check up to the header's code
-/// has passed; `OutOfMemory` is never told after an output was opened.
+/// before a fault stays written, and no output is asked for before every check up to the header's
+/// code has passed; `OutOfMemory` is never told after an output was asked for.
 ///
 /// `ticks` counts the Salsa20/8 cores: none where the words, the limits, the header, the passphrase,
 /// the salt or want of memory refuse, and never more than the limit on work. A run that ends well, or

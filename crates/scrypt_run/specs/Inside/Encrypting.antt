@@ -2,7 +2,7 @@
 use Rattle.std.specs.Prelude.{◌≡◌, ◌^◌, ◌⊎◌, ℕ, List, Option, Some, None, option_map, length}
 use Rattle.romix.specs.Costs.{Parameters}
 use Rattle.encfile.specs.EncryptedFile.{body}
-use Rattle.host.specs.Seen.{Seen, Text, after_open_output}
+use Rattle.host.specs.Seen.{Seen, Text, after_ask_output, after_open_output}
 use Rattle.scrypt_run.specs.Encrypting.{after_salting, costs_refusal_of, decided}
 use Rattle.scrypt_run.specs.Passphrase.{HasPassphrase, PassphraseRefused}
 use Rattle.scrypt_run.specs.Refusal.{refusal_of}
@@ -28,5 +28,5 @@ StartRefused r salt line before after =
 -- the run ended from the output's opening on
 abbrev pub WriteRefused : ScryptRefusal → List ℕ → List ℕ → Parameters → Option Text → Seen → Seen → Type 0
 WriteRefused r passphrase salt costs outfile before after =
-    ((r ≡ refusal.OutputFault) × (after ≡ before))
+    ((r ≡ refusal.OutputFault) × (after ≡ after_ask_output outfile before))
     ⊎ EndsText r (2 ^ 60) 4128 (body passphrase salt costs) (decided passphrase salt costs (length before.input)) (after_open_output outfile before) after

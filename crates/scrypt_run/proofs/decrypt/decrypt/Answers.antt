@@ -10,7 +10,7 @@ use Rattle.scrypt_run.specs.Request.{allowance_of, task_seen}
 use Rattle.scrypt_run.specs.Work.{DecryptWorks, EndsAfterWork}
 use Rattle.scrypt_run.proofs.Decrypting.{length_read-first, opening_ends}
 use Rattle.scrypt_run.proofs.Ends.{always_err, always_ok, first_line_at-reading, handed_on, if_err, on_ok}
-use Rattle.scrypt_run.proofs.Working.{early_of, file_works, front_unopened, late_of, not_after, release_after}
+use Rattle.scrypt_run.proofs.Working.{early_of, file_works, front_unasked, late_of, not_after, release_after}
 use Rattle.scrypt_run.proofs.decrypt.decrypt.Goals as goal
 
 pub returns-in_err-dec-clause-refused : goal.returns-in_err-dec-clause-refused
@@ -110,12 +110,12 @@ returns-in_err-dec-clause-worked g c = λ t.
     let after = g.H.Host.seen c.«open».new.host in
     let task = task_seen c.args.task.now in
     let r = c.in_err-dec.field-0.0 in
-    let unopened : after.output_opened ≡ None =
-    ap (λ (w : Seen). w.output_opened) (c.in_err-dec.ensures.asks t ∙ ap (after_ask task.source) (c.in_ok-front.ensures.reads t)) ∙ (c.requires.fresh t).output in
+    let unasked : after.output_asked ≡ None =
+    ap (λ (w : Seen). w.output_asked) (c.in_err-dec.ensures.asks t ∙ ap (after_ask task.source) (c.in_ok-front.ensures.reads t)) ∙ (c.requires.fresh t).output in
     handed_on c.from_residual-in_err-dec.result c.from_residual-in_err-dec.ensures.1 (λ e same.
     subst (λ x. EndsAfterWork x after → DecryptWorks task s c.args.ticks.now c.«open».new.ticks) (sym same) (λ late.
     file_works task s read _ _ c.args.ticks.now c.«open».new.ticks (c.in_ok-front.ensures.reads t) (c.in_ok-front.ensures.same_salt t) (c.in_ok-front.ensures.same_costs t)
-    (c.in_err-dec.ensures.worked t (late_of r after unopened late))))
+    (c.in_err-dec.ensures.worked t (late_of r after unasked late))))
 
 pub returns-in_err-dec-clause-unworked : goal.returns-in_err-dec-clause-unworked
 returns-in_err-dec-clause-unworked g c = λ t.
@@ -130,6 +130,6 @@ returns-in_err-front-clause-worked g c = λ t.
     let after = g.H.Host.seen c.open_admitted_front.new.host in
     let task = task_seen c.args.task.now in
     let r = c.in_err-front.field-0.0 in
-    let unopened : after.output_opened ≡ None = front_unopened r _ _ s after (c.in_err-front.ensures.refused t) ∙ (c.requires.fresh t).output in
+    let unasked : after.output_asked ≡ None = front_unasked r _ _ s after (c.in_err-front.ensures.refused t) ∙ (c.requires.fresh t).output in
     handed_on c.from_residual.result c.from_residual.ensures.1 (λ e same.
-    subst (λ x. EndsAfterWork x after → DecryptWorks task s c.args.ticks.now c.args.ticks.now) (sym same) (λ late. absurd (not_after r after c.in_err-front.ensures.early unopened late)))
+    subst (λ x. EndsAfterWork x after → DecryptWorks task s c.args.ticks.now c.args.ticks.now) (sym same) (λ late. absurd (not_after r after c.in_err-front.ensures.early unasked late)))

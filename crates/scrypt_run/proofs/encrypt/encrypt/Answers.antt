@@ -79,7 +79,8 @@ returns-clause-worked g c = λ t.
 pub returns-clause-unworked : goal.returns-clause-unworked
 returns-clause-unworked g c = λ t.
     let asked = encryption_seen c.args.asked.now in
+    let before = g.H.Host.seen c.start.new.host in
     let after = g.H.Host.seen c.write_file.new.host in
     let started = c.in_ok-enc.ensures.started t in
-    if_err c.write_file.result (λ r refused early. absurd (early (write_after r started.0 _ asked.costs asked.task.outfile _ after refused)))
+    if_err c.write_file.result (λ r refused early. absurd (early (write_after r started.0 _ asked.costs asked.task.outfile before after refused)))
     (c.write_file.ensures.refused t started.0 _ asked.costs started.2)

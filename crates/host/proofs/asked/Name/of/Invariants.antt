@@ -1,6 +1,6 @@
 use Rattle.std.proofs.Common.{◌≡◌, ◌≤◌, length, drop}
 use Rattle.host.specs.Asked.{name_bytes}
-use Rattle.host.proofs.asked.name_of.Given as goal
+use Rattle.host.proofs.asked.Name.of.Given as goal
 
 abbrev pub invariant-loop-at : goal.invariant-loop-at
 invariant-loop-at l = record {
