@@ -23,19 +23,6 @@ from dataclasses import dataclass
 from checking import Checks
 from scrypt_files import COSTS, F0, F5, FILES, FIXED, FROM_PW, HEADER, LINES, SALT, header_of
 
-ARGON2_LINES = {
-    "A4": b"argon2: bad number\n",
-    "A6.5": b"argon2: salt length out of range\n",
-    "A8a": b"argon2: password cannot be read\n",
-    "A8b": b"argon2: password is empty\n",
-    "A9": b"argon2: output cannot be written\n",
-    "A10": b"argon2: out of memory\n",
-}
-SCRYPT_LINES = {
-    **LINES,
-    "S5b": b"scrypt: no salt can be read\n",
-    "S15": b"scrypt: out of memory\n",
-}
 ENVIRONMENT = {"PW": "pw"}
 
 
@@ -57,7 +44,7 @@ class Run:
 
     def after(self, refusal, written):
         """Status, standard output, standard error and the content of `out` where it ends so, with so many bytes written."""
-        line = b"" if refusal is None else (ARGON2_LINES | SCRYPT_LINES)[refusal]
+        line = b"" if refusal is None else LINES[refusal]
         front = b"" if written is None else self.output[:written]
         status = 0 if refusal is None else 1
         if self.to_file:
@@ -83,8 +70,9 @@ def password(*rows):
     return calls(("read standard input", "A8a"), ("read standard input", "A8a"), *rows)
 
 
+# Standard output, which is a pipe here: so what is read is not looked at.
 LOOKED = ("look at /proc/self/fd/1", None)
-WRITTEN = [("look at /proc/self/fd/0", None), LOOKED, ("write standard output", "A9", 0)]
+WRITTEN = [LOOKED, ("write standard output", "A9", 0)]
 LINE = ("write standard error", "no line")
 
 
@@ -113,8 +101,7 @@ ENC_HELLO_OUT = calls(
     *enc_body("hello", "out"),
 )
 DEC_F5 = calls(
-    ("open F5", "S12"), ("read F5", "S12"), ("open pw", "S4a"), *read_twice("pw", "S4a"), ("look at F5", "S13"),
-    ("look at pw", "S13"), LOOKED, ("read F5", "S12", 0), ("write standard output", "S13", 0), ("read F5", "S12", 5),
+    ("open F5", "S12"), ("read F5", "S12"), ("open pw", "S4a"), *read_twice("pw", "S4a"), LOOKED, ("read F5", "S12", 0), ("write standard output", "S13", 0), ("read F5", "S12", 5),
 )
 
 
@@ -141,8 +128,7 @@ RUNS = [
     Run(
         "scrypt", f"enc {FIXED} {FROM_PW} -", b"", F0,
         calls(
-            ("open pw", "S4a"), *read_twice("pw", "S4a"), ("look at /proc/self/fd/0", None), ("look at pw", "S13"), LOOKED,
-            ("write standard output", "S13", 0), ("read standard input", "S12", 96), ("write standard output", "S13", 96),
+            ("open pw", "S4a"), *read_twice("pw", "S4a"), LOOKED, ("write standard output", "S13", 0), ("read standard input", "S12", 96), ("write standard output", "S13", 96),
         ),
     ),
     Run("scrypt", f"enc {FIXED} {FROM_PW} hello out", b"", F5, ENC_HELLO_OUT, to_file=True),
@@ -150,8 +136,7 @@ RUNS = [
     Run(
         "scrypt", f"enc {FIXED} -P hello", b"pw", F5,
         calls(
-            ("open hello", "S12"), *read_twice("standard input", "S4a"), ("look at hello", "S13"), ("look at /proc/self/fd/0", None),
-            LOOKED, *enc_body("hello", "standard output"),
+            ("open hello", "S12"), *read_twice("standard input", "S4a"), LOOKED, *enc_body("hello", "standard output"),
         ),
     ),
     Run("scrypt", f"dec {FROM_PW} F5", b"", b"hello", DEC_F5),
@@ -167,13 +152,12 @@ RUNS = [
     Run(
         "scrypt", "dec --passphrase env:PW -", F5, b"hello",
         calls(
-            ("read standard input", "S12"), ("look at /proc/self/fd/0", None), LOOKED, ("read standard input", "S12", 0),
-            ("write standard output", "S13", 0), ("read standard input", "S12", 5),
+            ("read standard input", "S12"), LOOKED, ("read standard input", "S12", 0), ("write standard output", "S13", 0), ("read standard input", "S12", 5),
         ),
     ),
     Run(
         "scrypt", "info F5", b"", b"N = 16; r = 1; p = 1; memory = 2048; cores = 64\n",
-        calls(("open F5", "S12"), ("read F5", "S12"), ("look at F5", "S13"), LOOKED, ("write standard output", "S13", 0)),
+        calls(("open F5", "S12"), ("read F5", "S12"), LOOKED, ("write standard output", "S13", 0)),
     ),
     Run(
         "scrypt", "dec --passphrase file:other-pw F5 out", b"", b"",
@@ -233,11 +217,6 @@ class System:
                 os.close(writing)
             *called, memory = log.read().splitlines()
         return done, called, int(memory.split()[1])
-
-
-# The list of the words is reserved at once; where that is refused, it grows word by word. So each run has one request that may be
-# refused alone.
-REQUESTS_THAT_MAY_FAIL = 1
 
 
 def memory(system, run):
@@ -436,7 +415,7 @@ def main():
         for run, called, requested, limited in tables:
             name = f"{run.program} {run.words}"
             checks.that(f"a call refused: {name}", called.result(), [])
-            checks.that(f"memory refused: {name}", requested.result(), (True, REQUESTS_THAT_MAY_FAIL, []))
+            checks.that(f"memory refused: {name}", requested.result(), (True, 0, []))
             checks.that(f"memory limited: {name}", limited.result(), (["plain"], []))
         largest_requests(checks, system)
         freed_blocks(checks, system)

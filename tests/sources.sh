@@ -66,9 +66,9 @@ expect 'reserve_from(&mut' "memory is asked for once" crates/argon/src/lanes.rt 
     crates/romix/src/workspace.rt
 expect '.allocator()' "no function takes the heap out of what it is lent, but the writing of a text" \
     crates/argon_text/src/encoded.rt
-expect 'vec![in' "lists of a given length are made by the sources of memory alone" crates/argon/src/room.rt \
-    crates/argon/src/room.rt crates/argon2_command/src/room.rt crates/pikhsen_c/src/source.rt \
-    crates/romix/src/reservation.rt
+expect 'vec![in' "lists of a given length are made by the sources of memory, and for the words of the process" \
+    crates/argon/src/room.rt crates/argon/src/room.rt crates/argon2_command/src/room.rt \
+    crates/pikhsen_c/src/source.rt crates/romix/src/reservation.rt crates/tools/src/arguments.rt
 expect 'with_capacity(' "room for a given length is asked for by the sources of memory alone, which use lists"
 expect '.hash(' "a hash is made by the test of a password, the functions for C and argon2" \
     crates/argon_text/src/verify_password.rt crates/argon2_command/src/output.rt crates/pikhsen_c/src/argon2.rt \
@@ -122,106 +122,22 @@ if grep -nH alloc crates/pikhsen_c/src/*.rt | grep -vE '/source\.rt:|: *//' |
     grep -vE ': *(alloc: Global,|let mut source = alloc;|use std::alloc::Global;)$'; then
     fail "the heap is used by a function for C that is not a source of memory"
 fi
-# Of the system's host, which tells no bytes, no contract sees that a secret or a salt is read twice.
-expect 'read_secret(' "the system reads a secret once" crates/tools/src/system_host.rt
-expect 'read_salt(&' "the system reads a salt once" crates/tools/src/system_host.rt
 expect 'Enc::start(' "a derivation for a new file is begun by enc and its function for C" \
     crates/pikhsen_c/src/file.rt crates/scrypt_run/src/encrypt.rt
 expect 'Dec::open(' "a derivation for a file that is read is begun by dec and its function for C" \
     crates/pikhsen_c/src/file.rt crates/scrypt_run/src/decrypt.rt
 
-# Of the system's files no contract knows a byte. So the file that opens and empties outputs is compared whole, without
-# comments and white space; beside it these lines alone name what opens or empties a file, and these of the system's host
-# what is read.
-without_space() { tr -d ' \n'; }
-system_files='
-ghost use Rattle.std.specs.Prelude.{None, IsNone, IsSome, IfOk};
-ghost use Rattle.tools.specs.Opened.{IsNamedOutput, IsStandardOutput};
-use crate::identity::{FileIdentity, FilesRead, regular_stream};
-use crate::inputs::Input;
-use crate::outputs::{Output, Outputs, open_named, standard_output};
-use crate::placeholders::beside_standard_streams;
-use host::HostFault;
-use std::fs::{File, OpenOptions};
-#[derive(Drop)]
-pub struct SystemFiles {
-    pub rt: HostRuntime,
-    pub input: Option<Input>,
-    pub secret: Option<Input>,
+# Of the system no contract knows a byte. So the files that call it, and what hands the system to the programs, are
+# compared whole, without comments and white space, by their sums: who changes one reads it again, and puts its new sum here.
+compare() {
+    sum=$(grep -vE '^ *//' "$2" | tr -d ' \n' | sha256sum | cut -c1-64)
+    test "$sum" = "$1" || fail "$2 is not what was read when its sum was put here; its sum is $sum"
 }
-impl Outputs for SystemFiles {
-    type Opened = File;
-    ghost read = { λ _. None };
-    ghost opened = { λ _. None };
-    fn files_read(&self) -> Result<FilesRead, HostFault> {
-        Ok(FilesRead {
-            input: file_read(self.rt, &self.input)?,
-            secret: file_read(self.rt, &self.secret)?,
-        })
-    }
-    fn open(&mut self, name: &str) -> Result<File, HostFault> {
-        let opened = OpenOptions::new()
-            .write(true)
-            .create(true)
-            .open(&self.rt, name);
-        beside_standard_streams(opened)
-    }
-    fn empty(&self, file: &mut File) -> Result<(), HostFault> {
-        match file.set_len(0) {
-            Ok(()) => Ok(()),
-            Err(_) => Err(HostFault),
-        }
-    }
-}
-pub fn open_output(files: &mut SystemFiles, name: Option<&str>) -> Result<Output, HostFault>
-    ensures standard { IsNone name.entry → IfOk result IsStandardOutput }
-    ensures named { IsSome name.entry → IfOk result IsNamedOutput }
-{
-    let Some(path) = name else {
-        let read = files.files_read()?;
-        return standard_output(files.rt, regular_stream(files.rt, "/proc/self/fd/1"), &read);
-    };
-    let file = open_named(files, path)?;
-    Ok(Output::Named(file))
-}
-fn file_read(rt: HostRuntime, opened: &Option<Input>) -> Result<Option<FileIdentity>, HostFault> {
-    match opened {
-        Some(input) => input.identity(rt),
-        None => Ok(None),
-    }
-}
-'
-test "$(grep -vE '^ *//' crates/tools/src/system_files.rt | without_space)" = "$(printf %s "$system_files" | without_space)" ||
-    fail "crates/tools/src/system_files.rt: the system's outputs are not opened and emptied by this:$system_files"
-lines_with() { grep -hwE "$1" $2 | grep -vE '^ *//' | sed "s/^ *//" | LC_ALL=C sort; }
-sources=$(find crates -name out -prune -o -name '*.rt' ! -name tests.rt ! -path '*/tests/*' ! -name system_files.rt -print)
-test "$(lines_with 'fs|set_len|OpenOptions' "$sources")" = 'match fs::metadata(&rt, descriptor) {
-use std::fs::File;
-use std::fs::File;
-use std::fs::File;
-use std::fs::{File, Metadata};
-use std::fs;
-use std::os::unix::fs::MetadataExt;' ||
-    fail "files are opened, emptied or asked for in other lines than these:
-$(lines_with 'fs|set_len|OpenOptions' "$sources")"
-test "$(lines_with files crates/tools/src/system_host.rt)" = 'files: SystemFiles {
-files: SystemFiles,
-let opened = open_output(&mut self.files, name);
-let outcome = match &mut self.files.input {
-self.files.input = Some(counted(&mut self.input_faults, opened)?);
-self.files.secret = opened;' ||
-    fail "the system's host does other things to the files that it reads:
-$(lines_with files crates/tools/src/system_host.rt)"
-
-# The system's host hands each buffer on, and looks into none; and no program changes what a file may be used for.
-handed=$(sed -n '/^impl Host for SystemHost/,/^}/p' crates/tools/src/system_host.rt |
-    grep -vE '^ *(fn |//)' | grep -wE 'buf|bytes|line|out' | sed 's/^ *//')
-test "$handed" = 'Some(input) => read_some(input, buf),
-Some(output) => write_some(output, bytes),
-let read = read_secret(&mut self.rt, source, buf);
-counted(&mut self.salt_faults, read_salt(&mut self.rt, out))
-let said = eprintln!(self.rt; "{line}").map_err(|_| HostFault);' ||
-    fail "crates/tools/src/system_host.rt: a buffer is not handed on as it is"
+compare 1d804d1995a484dd0678e343a795020b6d3b97d6b986b6977adee401fa4ba8a7 crates/tools/src/real.rt
+compare 8a4250968e40c078f6e24ee22868d9d6c804e22344261c42f76e34fe841cced2 crates/tools/src/identity.rt
+compare 27ab446a5ed92bf7fbb468982580077c327db7e9fbc8780f5c76c96b0f983535 crates/tools/src/placeholders.rt
+compare fd72d58f020e62464528b85c0313b937310d5f45d00dd62f1a495d89e964cc97 crates/argon_tool/src/main.rt
+compare 10cd5b39cfdf89c939a2f8bba840c7f608433a105dd98231b48621fce5838759 crates/scrypt_tool/src/main.rt
 expect 'set_permissions' "a file keeps the permissions that it has or is made with"
 expect 'PermissionsExt' "a file keeps the permissions that it has or is made with"
 

@@ -1,19 +1,13 @@
 //! The program `scrypt`: the command over the system.
 #![tactic(auto)]
 
-use command::ScryptRefusal;
-use host::refuse;
+mod program;
+
 use std::process::ExitCode;
-use tools::{SystemHost, WordsFault, words};
+use tools::Real;
 
 fn main(rt: HostRuntime) -> ExitCode {
-    let mut host = SystemHost::new(rt);
-    let status = match words(rt) {
-        Ok(words) => command::scrypt(rt.alloc(), &words, &mut host),
-        Err(WordsFault::NotText) => refuse(&mut host, ScryptRefusal::Usage.line()),
-        Err(WordsFault::OutOfMemory) => refuse(&mut host, ScryptRefusal::OutOfMemory.line()),
-    };
-    ExitCode::from(status)
+    ExitCode::from(program::run(rt.alloc(), Real::new(rt)).0)
 }
 
 #[cfg(test)]

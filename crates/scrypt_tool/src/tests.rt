@@ -3,7 +3,7 @@
 use std::alloc::Global;
 use std::fs;
 use std::test::Fail;
-use tools::SystemHost;
+use tools::{Real, SystemHost};
 
 const FILE_OF_HELLO: &[u8] = b"scrypt\x00\x04\x00\x00\x00\x01\x00\x00\x00\x01\
 \x00\x01\x02\x03\x04\x05\x06\x07\x08\x09\x0a\x0b\x0c\x0d\x0e\x0f\x10\x11\x12\x13\x14\x15\x16\x17\x18\x19\x1a\x1b\x1c\x1d\x1e\x1f\
@@ -20,7 +20,7 @@ fn status(rt: HostRuntime, line: &str) -> Result<u8, Fail> {
     for word in line.split_whitespace() {
         words.push(String::from_str(alloc, word)?)?;
     }
-    Ok(command::scrypt(alloc, &words, &mut SystemHost::new(rt)))
+    Ok(command::scrypt(alloc, &words, &mut SystemHost::new(Real::new(rt))))
 }
 
 // A backup is made, shown and opened.

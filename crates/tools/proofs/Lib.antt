@@ -1,2 +1,5 @@
--- Lemmas on buffers.
-mod Filled
+-- What loops keep.
+mod Interrupted
+mod Opened
+mod Parts
+mod Taking

@@ -1,2 +1,2 @@
--- Definitions that private contracts and proofs cite; no public contract reaches them.
-pub mod KnownFiles
+-- Definitions that private contracts cite; no public contract reaches them.
+pub mod Opened

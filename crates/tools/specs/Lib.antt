@@ -1,5 +1,8 @@
--- What the clauses of this crate cite: inputs and outputs that are opened, and which files they are.
-pub mod Opened
-pub mod Beginning
+-- What contracts see of a system, and of the host that is made of it.
 pub mod Identity
+pub mod Words
+pub mod World
+pub mod Held
+pub mod Memory
+pub mod Numbers
 pub mod Inside

@@ -1,7 +1,9 @@
 //! The words after a program's name.
-use std::env;
-use std::env::{Env, FillError};
-use std::io::ErrorKind;
+ghost use Rattle.std.specs.Prelude.{◌≡◌, ◌++◌, ◌∷◌, [], drop, map, option_map, string_bytes, IfOk, IfErr, IsTrue, Some};
+ghost use Rattle.tools.specs.Words.{IsNoText, LacksText, word_at};
+
+use crate::system::{System, WordFault};
+use std::alloc::{AllocError, Global};
 
 /// Why the words cannot be handed to a command.
 #[derive(Clone, Copy, Debug, PartialEq, Eq)]
@@ -12,109 +14,75 @@ pub enum WordsFault {
     OutOfMemory,
 }
 
+// The bytes of room for a word that is asked for first.
+const FIRST_ROOM: usize = 256;
+
 /// The words after the program's name, which may itself be of any bytes. They come as a whole or
 /// not at all.
-pub fn words(rt: HostRuntime) -> Result<Vec<String>, WordsFault> {
-    words_of(&rt)
-}
-
-// A process without its first argument, its name.
-#[derive(Clone, Copy)]
-struct Nameless<'a, E>(&'a E);
-
-impl<'a, E: Env> Env for Nameless<'a, E> {
-    fn arg(&self, i: usize, buf: &mut [u8]) -> Result<usize, FillError> {
-        match i.checked_add(1) {
-            Some(place) => self.0.arg(place, buf),
-            None => Err(FillError::NotPresent),
-        }
-    }
-
-    fn var(&self, name: &str, buf: &mut [u8]) -> Result<usize, FillError> {
-        self.0.var(name, buf)
-    }
-
-    fn var_at(&self, i: usize, buf: &mut [u8]) -> Result<usize, FillError> {
-        self.0.var_at(i, buf)
-    }
-}
-
-// The words of a process with these arguments.
-fn words_of<E: Env + AllocGlobal>(process: &E) -> Result<Vec<String>, WordsFault> {
-    let alloc = process.alloc();
-    match env::args(&(Nameless(process), alloc)) {
-        Ok(words) => words.collect(alloc).map_err(|_| WordsFault::OutOfMemory),
-        Err(e) if e.kind() == ErrorKind::OutOfMemory => Err(WordsFault::OutOfMemory),
-        Err(_) => Err(WordsFault::NotText),
-    }
-}
-
-#[cfg(test)]
-mod tests {
-    use super::*;
-    use std::alloc::Global;
-    use std::test::Fail;
-
-    // A process with these arguments.
-    #[derive(Clone, Copy)]
-    struct Process(&'static [&'static [u8]]);
-
-    impl Env for Process {
-        fn arg(&self, i: usize, buf: &mut [u8]) -> Result<usize, FillError> {
-            match self.0.get(i) {
-                None => Err(FillError::NotPresent),
-                Some(word) => {
-                    if buf.len() < word.len() {
-                        return Err(FillError::TooLong);
-                    }
-                    buf[..word.len()].copy_from_slice(word);
-                    Ok(word.len())
-                }
-            }
-        }
-
-        fn var(&self, _name: &str, _buf: &mut [u8]) -> Result<usize, FillError> {
-            Err(FillError::NotPresent)
-        }
-
-        fn var_at(&self, _i: usize, _buf: &mut [u8]) -> Result<usize, FillError> {
-            Err(FillError::NotPresent)
-        }
-    }
-
-    // Whether words are these texts.
-    fn are_texts(words: &[String], texts: &[&str]) -> bool {
-        words.len() == texts.len()
-            && words
-                .iter()
-                .zip(texts)
-                .all(|(word, text)| word.as_str() == *text)
-    }
-
-    // Whether the words of a process, or its fault, are these.
-    fn are_words(process: Process, alloc: Global, expected: Result<&[&str], WordsFault>) -> bool {
-        match words_of(&(process, alloc)) {
-            Ok(words) => match expected {
-                Ok(texts) => are_texts(&words, texts),
-                Err(_) => false,
+pub fn words<S: System>(system: &S, alloc: Global) -> Result<Vec<String>, WordsFault>
+    ensures words { IsTrue S.tells → IfOk result (λ words.
+        map string_bytes words.items ≡ drop 1 (S.words system.now)) }
+    ensures refused { IsTrue S.tells → IfErr result (λ fault. LacksText fault (S.words system.now)) }
+{
+    let mut words = Vec::new(alloc);
+    for place in 1..usize::MAX {
+        match word(system, alloc, place) {
+            Err(fault) => return Err(fault),
+            Ok(None) => return Ok(words),
+            Ok(Some(word)) => match with_word(words, word) {
+                Ok(more) => words = more,
+                Err(_) => return Err(WordsFault::OutOfMemory),
             },
-            Err(fault) => expected.err() == Some(fault),
         }
     }
+    Err(WordsFault::OutOfMemory)
+}
 
-    #[test]
-    fn leaves_out_the_name(rt: HostRuntime) -> Result<(), Fail> {
-        let rows: [(Process, Result<&[&str], WordsFault>); 5] = [
-            (Process(&[]), Ok(&[])),
-            (Process(&[b"argon2"]), Ok(&[])),
-            (Process(&[b"argon2", b"", b"-e"]), Ok(&["", "-e"])),
-            (Process(&[b"argon2", b"\xff"]), Err(WordsFault::NotText)),
-            (Process(&[b"\xff", b"-e"]), Ok(&["-e"])),
-        ];
-        for (process, expected) in rows {
-            assert!(rt; are_words(process, rt.alloc(), expected), "{expected:?}");
+// Words, and one more.
+fn with_word(mut words: Vec<String>, word: String) -> Result<Vec<String>, AllocError>
+    ensures words { IfOk result (λ more.
+        map string_bytes more.items ≡ map string_bytes words.items ++ (string_bytes word ∷ [])) }
+{
+    match words.push(word) {
+        Ok(()) => Ok(words),
+        Err(_) => Err(AllocError),
+    }
+}
+
+// The word at a place, if there is one.
+fn word<S: System>(system: &S, alloc: Global, place: usize) -> Result<Option<String>, WordsFault>
+    ensures word { IsTrue S.tells → IfOk result (λ word.
+        option_map string_bytes word ≡ word_at (S.words system.now) place) }
+    ensures refused { IsTrue S.tells → IfErr result (λ fault.
+        IsNoText fault (word_at (S.words system.now) place)) }
+{
+    let mut room = FIRST_ROOM;
+    loop {
+        let Ok(mut buf) = vec![in alloc; 0; room] else {
+            return Err(WordsFault::OutOfMemory);
+        };
+        match system.word(place, &mut buf) {
+            Ok(n) => {
+                buf.truncate(n);
+                return text_of(buf);
+            }
+            Err(WordFault::Missing) => return Ok(None),
+            Err(WordFault::TooLong) => {}
         }
-        assert!(rt; words(rt).is_ok());
-        Ok(())
+        let Some(more) = room.checked_mul(2) else {
+            return Err(WordsFault::OutOfMemory);
+        };
+        room = more;
+    }
+}
+
+// Bytes as a text.
+fn text_of(bytes: Vec<u8>) -> Result<Option<String>, WordsFault>
+    ensures text { IfOk result (λ text. option_map string_bytes text ≡ Some bytes.items) }
+    ensures refused { IfErr result (λ fault. IsNoText fault (Some bytes.items)) }
+{
+    match String::from_utf8(bytes) {
+        Ok(text) => Ok(Some(text)),
+        Err(_) => Err(WordsFault::NotText),
     }
 }

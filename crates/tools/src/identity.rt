@@ -23,11 +23,14 @@ pub struct FilesRead {
 }
 
 impl FilesRead {
-    /// Whether the file is one of them.
-    pub fn includes(&self, identity: FileIdentity) -> bool
-        ensures { IsTrue result ↔ Includes self.now identity }
+    /// Whether a file is a regular one, and one of them.
+    pub fn includes(&self, file: Option<FileIdentity>) -> bool
+        ensures exact { IsTrue result ↔ Includes self.now file }
     {
-        self.input == Some(identity) || self.secret == Some(identity)
+        match file {
+            None => false,
+            Some(file) => self.input == Some(file) || self.secret == Some(file),
+        }
     }
 }
 

@@ -1,14 +1,28 @@
-//! What the programs share: the system as a host, and the words after a program's name.
+//! What the programs share: a host over any system, the system itself and one in memory, and the words after
+//! a program's name.
 #![tactic(auto)]
 
 mod arguments;
+mod contents;
+#[cfg(test)]
+mod fixtures;
 mod identity;
 mod inputs;
+mod memory_source;
+mod memory_system;
 mod outputs;
 mod placeholders;
+mod real;
+mod run;
 mod streams;
-mod system_files;
+mod system;
 mod system_host;
+mod tries;
 
 pub use arguments::{WordsFault, words};
+pub use contents::{Contents, Identities};
+pub use identity::FileIdentity;
+pub use memory_system::{MADE, MemorySystem};
+pub use real::Real;
+pub use system::{Reading, Stream, System, WordFault};
 pub use system_host::SystemHost;

@@ -1,21 +1,32 @@
-//! Reading and writing streams that signals may interrupt.
-ghost use Rattle.std.specs.Prelude.{◌<◌, ◌≤◌, ℕ, take, length, IfOk, OnErr};
-ghost use Rattle.std.specs.Io.KnownBytes.{Appends, Consumes, IsAtEnd, ReadConsumes, WriteAppends};
-ghost use Rattle.tools.specs.Beginning.{IsKnownBeginning};
+//! Reading and writing what signals may interrupt.
+ghost use Rattle.std.specs.Prelude.{◌≡◌, ◌+◌, ◌<◌, ◌≤◌, ℕ, Some, false, true, take, length, IfOk, OnErr, IsTrue};
+ghost use Rattle.host.specs.Secret.{IsBeginning};
+ghost use Rattle.tools.specs.World.{IsApart, Reads, TakesFrom, after_write, source_at};
 
+use crate::system::{Reading, System};
 use host::HostFault;
-use std::io::{ErrorKind, Read, Write};
+use std::io::ErrorKind;
 
 // How often an interrupted read or write is asked again.
 const TRIES: usize = 16;
 
-/// One read, asked again where a signal interrupts it. After a fault nothing was read.
-pub fn read_some<R: Read>(reader: &mut R, buf: &mut [u8]) -> Result<usize, HostFault>
+/// One read, asked again where a signal interrupts it, at most 16 times. After a fault nothing was read.
+pub fn read_some<S: System>(
+    system: &mut S,
+    reading: Reading,
+    buf: &mut [u8],
+) -> Result<usize, HostFault>
+    requires some { 0 < length buf.old }
+    requires going { IsTrue S.tells → (source_at reading (S.world system.old)).is_ended ≡ false }
     ensures bound { IfOk result (λ n. n ≤ length buf.old) }
-    ensures bytes { ReadConsumes (R.remaining reader.old) (R.remaining reader.new) result buf.new }
+    ensures kept { IsTrue S.tells → OnErr result (S.world system.new ≡ S.world system.old) }
+    ensures bytes { IsTrue S.tells → IfOk result (λ n.
+        Reads reading n buf.new (S.world system.old) (S.world system.new)) }
+    ensures same_files { IsTrue S.tells → S.files system.new ≡ S.files system.old }
+    ensures tries { IsTrue S.tells → S.tries system.new ≤ S.tries system.old + 17 }
 {
     for _ in 0..=TRIES {
-        match reader.read(buf) {
+        match system.read(reading, buf) {
             Ok(n) => return Ok(n),
             Err(e) if e.kind() == ErrorKind::Interrupted => {}
             Err(_) => return Err(HostFault),
@@ -26,16 +37,20 @@ pub fn read_some<R: Read>(reader: &mut R, buf: &mut [u8]) -> Result<usize, HostF
 
 /// Reads until the buffer is full or the end has come: as many bytes as there are and as fit. After a
 /// fault some bytes may have been read.
-pub fn read_full<R: Read>(reader: &mut R, buf: &mut [u8]) -> Result<usize, HostFault>
+pub fn read_full<S: System>(
+    system: &mut S,
+    reading: Reading,
+    buf: &mut [u8],
+) -> Result<usize, HostFault>
+    requires going { IsTrue S.tells → (source_at reading (S.world system.old)).is_ended ≡ false }
     ensures bound { IfOk result (λ n. n ≤ length buf.old) }
-    ensures bytes { IfOk result (λ n.
-        Consumes (R.remaining reader.old) (R.remaining reader.new) (take n buf.new)) }
-    ensures end { IfOk result (λ n. n < length buf.old → IsAtEnd (R.remaining reader.new)) }
-    ensures whole { IfOk result (λ n. IsKnownBeginning (R.remaining reader.old) n buf.new) }
+    ensures taken { IsTrue S.tells → TakesFrom reading (S.world system.old) (S.world system.new) }
+    ensures whole { IsTrue S.tells → IfOk result (λ n.
+        IsBeginning (Some (source_at reading (S.world system.old)).left) n buf.new) }
 {
     let mut at = 0;
     while at < buf.len() {
-        let n = read_some(reader, &mut buf[at..])?;
+        let n = read_some(system, reading, &mut buf[at..])?;
         if n == 0 {
             break;
         }
@@ -44,41 +59,32 @@ pub fn read_full<R: Read>(reader: &mut R, buf: &mut [u8]) -> Result<usize, HostF
     Ok(at)
 }
 
-// One write, asked again where a signal interrupts it. Writing nothing is a fault.
-fn write_once<W: Write>(writer: &mut W, bytes: &[u8]) -> Result<usize, HostFault>
+/// One write, asked again where a signal interrupts it, at most 16 times: a beginning of the bytes, of at
+/// least one where there is one. Writing nothing where there is something is a fault. After a fault
+/// nothing was written.
+pub fn write_some<S: System>(system: &mut S, bytes: &[u8]) -> Result<usize, HostFault>
+    requires apart { IsTrue S.tells → IsApart (S.files system.old) }
+    requires new { IsTrue S.tells → (S.world system.old).is_new ≡ true }
     ensures bound { IfOk result (λ n. n ≤ length bytes.now) }
-    ensures some { IfOk result (λ n. 0 < n) }
-    ensures put { WriteAppends (W.contents writer.old) (W.contents writer.new) result bytes.now }
+    ensures some { IfOk result (λ n. 0 < length bytes.now → 0 < n) }
+    ensures kept { IsTrue S.tells → OnErr result (S.world system.new ≡ S.world system.old) }
+    ensures put { IsTrue S.tells → IfOk result (λ n.
+        S.world system.new ≡ after_write (take n bytes.now) (S.world system.old)) }
+    ensures same_files { IsTrue S.tells → S.files system.new ≡ S.files system.old }
+    ensures tries { IsTrue S.tells → S.tries system.new ≤ S.tries system.old + 17 }
 {
+    if bytes.is_empty() {
+        return Ok(0);
+    }
     for _ in 0..=TRIES {
-        match writer.write(bytes) {
+        match system.write(bytes) {
             Ok(0) => return Err(HostFault),
-            Ok(n) => return Ok(n),
+            Ok(written) => return Ok(written),
             Err(e) if e.kind() == ErrorKind::Interrupted => {}
             Err(_) => return Err(HostFault),
         }
     }
     Err(HostFault)
-}
-
-/// One write and a flush: a beginning of the bytes, of at least one where there is one. After a fault
-/// a beginning may have been written.
-pub fn write_some<W: Write>(writer: &mut W, bytes: &[u8]) -> Result<usize, HostFault>
-    ensures bound { IfOk result (λ n. n ≤ length bytes.now) }
-    ensures some { IfOk result (λ n. 0 < length bytes.now → 0 < n) }
-    ensures put { IfOk result (λ n.
-        Appends (W.contents writer.old) (W.contents writer.new) (take n bytes.now)) }
-    ensures begun { OnErr result ((n : ℕ)
-        × Appends (W.contents writer.old) (W.contents writer.new) (take n bytes.now)) }
-{
-    if bytes.is_empty() {
-        return Ok(0);
-    }
-    let n = write_once(writer, bytes)?;
-    match writer.flush() {
-        Ok(()) => Ok(n),
-        Err(_) => Err(HostFault),
-    }
 }
 
 #[cfg(test)]

@@ -1,13 +1,11 @@
 //! The system as a host.
-ghost use Rattle.std.specs.Prelude.{◌≡◌, ◌+◌, ◌-◌, ◌<◌, ◌^◌, false, OnOk, OnErr};
+ghost use Rattle.std.specs.Prelude.{◌≡◌, ◌+◌, ◌-◌, ◌<◌, ◌^◌, OnOk, OnErr, IsTrue};
 ghost use Rattle.host.specs.Faults.{no_faults};
-ghost use Rattle.host.specs.Seen.{nothing_seen};
+ghost use Rattle.tools.specs.Held.{host_over, host_seen};
+ghost use Rattle.tools.specs.World.{IsUnused};
 
-use crate::inputs::{Secret, open_input, read_salt, read_secret};
-use crate::outputs::Output;
-use crate::placeholders::Placeholders;
-use crate::streams::{read_some, write_some};
-use crate::system_files::{SystemFiles, open_output};
+use crate::run::Run;
+use crate::system::System;
 use host::{Host, HostFault, Source};
 
 /// Files, the environment, the standard streams, and the system's random bytes for salts.
@@ -15,19 +13,14 @@ use host::{Host, HostFault, Source};
 /// A named output is made, or emptied where it is there; one that is the opened input or the secret's
 /// file, under whatever name or as standard output, is a fault and stays as it is. A push is written at
 /// once. A read or a write that a signal interrupts is asked again at most 16 times, and a write of no
-/// bytes is a fault; a line goes out by the toolchain's printing, with its line feed in one call. A standard
-/// stream that is closed when the host is made stays without use: no file that is opened later takes
-/// its place, and reading or writing it is a fault. Where the root folder may not be opened, opening
-/// a file is a fault as long as a standard stream is closed.
+/// bytes is a fault; after the end of the input the system is not asked for more. What is read is opened
+/// before the output is asked for, and is a fault afterwards.
 ///
-/// It tells no bytes, since what the system holds is not known to contracts. They see how often each
-/// kind of call has failed.
+/// It tells its bytes where the system does. Of every system contracts see how often each kind of call
+/// has failed.
 #[derive(Drop)]
-pub struct SystemHost {
-    rt: HostRuntime,
-    placeholders: Placeholders,
-    files: SystemFiles,
-    output: Option<Output>,
+pub struct SystemHost<S: System> {
+    run: Run<S>,
     input_faults: u64,
     output_faults: u64,
     secret_faults: u64,
@@ -35,27 +28,28 @@ pub struct SystemHost {
     line_faults: u64,
 }
 
-impl SystemHost {
-    /// The system, of which no input and no output is opened and no call has failed. Take it before
-    /// any file is opened.
-    pub fn new(rt: HostRuntime) -> SystemHost
-        ensures counts { ⟦<SystemHost as Host>⟧.faults result ≡ no_faults }
+impl<S: System> SystemHost<S> {
+    /// The system, of which nothing was used, and no call has failed.
+    pub fn new(system: S) -> SystemHost<S>
+        requires unused { IsTrue S.tells → IsUnused (S.world system) }
+        ensures counts { ⟦<SystemHost<S> as Host>⟧.faults result ≡ no_faults }
+        ensures seen { ⟦<SystemHost<S> as Host>⟧.seen result ≡ host_over (S.world system) }
     {
         SystemHost {
-            rt,
-            placeholders: Placeholders::new(rt),
-            files: SystemFiles {
-                rt,
-                input: None,
-                secret: None,
-            },
-            output: None,
+            run: Run::new(system),
             input_faults: 0,
             output_faults: 0,
             secret_faults: 0,
             salt_faults: 0,
             line_faults: 0,
         }
+    }
+
+    /// The system.
+    pub fn system(&self) -> &S
+        ensures same { S.world result.now ≡ self.now.run.world }
+    {
+        self.run.system()
     }
 }
 
@@ -72,10 +66,10 @@ fn counted<T>(count: &mut u64, outcome: Result<T, HostFault>) -> Result<T, HostF
     outcome
 }
 
-impl Host for SystemHost {
-    ghost tells = { false };
+impl<S: System> Host for SystemHost<S> {
+    ghost tells = { S.tells };
 
-    ghost seen = { λ _. nothing_seen };
+    ghost seen = { λ h. host_seen h.run };
 
     ghost faults = { λ h. record {
       input = h.input_faults;
@@ -86,49 +80,42 @@ impl Host for SystemHost {
     } };
 
     fn open_input(&mut self, name: Option<&str>) -> Result<(), HostFault> {
-        let opened = open_input(self.rt, name);
-        self.files.input = Some(counted(&mut self.input_faults, opened)?);
-        Ok(())
+        let opened = self.run.open_input(name);
+        counted(&mut self.input_faults, opened)
     }
 
     fn open_output(&mut self, name: Option<&str>) -> Result<(), HostFault> {
-        let opened = open_output(&mut self.files, name);
-        self.output = Some(counted(&mut self.output_faults, opened)?);
-        Ok(())
+        let opened = self.run.open_output(name);
+        counted(&mut self.output_faults, opened)
     }
 
     fn pull(&mut self, buf: &mut [u8]) -> Result<usize, HostFault> {
-        let outcome = match &mut self.files.input {
-            None => Err(HostFault),
-            Some(input) => read_some(input, buf),
-        };
-        counted(&mut self.input_faults, outcome)
+        let pulled = self.run.pull(buf);
+        counted(&mut self.input_faults, pulled)
     }
 
     fn push(&mut self, bytes: &[u8]) -> Result<usize, HostFault> {
-        let outcome = match &mut self.output {
-            None => Err(HostFault),
-            Some(output) => write_some(output, bytes),
-        };
-        counted(&mut self.output_faults, outcome)
+        let pushed = self.run.push(bytes);
+        counted(&mut self.output_faults, pushed)
     }
 
     fn secret(&mut self, source: Source<'_>, buf: &mut [u8]) -> Result<usize, HostFault> {
-        let read = read_secret(&mut self.rt, source, buf);
-        let Secret { length, opened } = counted(&mut self.secret_faults, read)?;
-        self.files.secret = opened;
-        Ok(length)
+        let read = self.run.secret(source, buf);
+        counted(&mut self.secret_faults, read)
     }
 
     fn salt(&mut self, out: &mut [u8; 32]) -> Result<(), HostFault> {
-        counted(&mut self.salt_faults, read_salt(&mut self.rt, out))
+        let read = self.run.salt(out);
+        counted(&mut self.salt_faults, read)
     }
 
     fn say(&mut self, line: &str) -> Result<(), HostFault> {
-        let said = eprintln!(self.rt; "{line}").map_err(|_| HostFault);
+        let said = self.run.say(line);
         counted(&mut self.line_faults, said)
     }
 }
 
+#[cfg(test)]
+mod memory_tests;
 #[cfg(test)]
 mod tests;

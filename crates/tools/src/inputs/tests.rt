@@ -1,138 +1,85 @@
 //! Secrets and salts whose bytes come in pieces.
-
-ghost use Rattle.std.specs.Prelude.{None};
+ghost use Rattle.std.specs.Prelude.{IfOk};
+ghost use Rattle.tools.specs.World.{IsUnused};
 
 use super::*;
+use crate::contents::{Contents, Identities};
+use crate::fixtures::{put, put_variable};
+use crate::memory_system::MemorySystem;
+use std::alloc::{AllocError, Global};
+use std::test::Fail;
 
-// A reader of as many sevens as are left, which come two at a time.
-#[derive(Drop)]
-struct InPairs {
-    left: usize,
+// A system where each source gives so many sevens, two at a time.
+fn sevens(alloc: Global, count: usize) -> Result<MemorySystem, AllocError>
+    ensures unused { IfOk result (λ s. IsUnused s.world) }
+{
+    let bytes = &[7; 40][..count.min(40)];
+    let mut system = MemorySystem::new(alloc);
+    let stdin = Contents::new(bytes.to_vec(alloc)?, Identities::NONE);
+    system.set_standard(stdin, Identities::NONE);
+    put(alloc, &mut system, "name", bytes, Identities::NONE)?;
+    put(alloc, &mut system, "/dev/urandom", bytes, Identities::NONE)?;
+    put_variable(alloc, &mut system, "name", bytes)?;
+    system.set_sizes(2, 2);
+    Ok(system)
 }
 
-impl Read for InPairs {
-    fn read(&mut self, buf: &mut [u8]) -> io::Result<usize> {
-        let n = self.left.min(2).min(buf.len());
-        buf[..n].fill(7);
-        self.left -= n;
-        Ok(n)
-    }
-}
-
-// Places each of which holds as many sevens, and of which one is missing.
-#[derive(Drop)]
-struct Sevens {
+// The answer to a secret where so many sevens are, and the buffer.
+fn secret_of(
+    alloc: Global,
     count: usize,
-}
-
-impl Places for Sevens {
-    type Opened = InPairs;
-
-    ghost opened = { λ _. None };
-
-    ghost inputs = { λ _ _. None };
-
-    ghost variables = { λ _ _. None };
-
-    fn open(&mut self, name: Option<&str>) -> Result<InPairs, HostFault> {
-        if name == Some("missing") {
-            return Err(HostFault);
-        }
-        Ok(InPairs { left: self.count })
-    }
-
-    fn variable(&self, name: &str, buf: &mut [u8]) -> Result<usize, HostFault> {
-        let mut places = Sevens { count: self.count };
-        read_full(&mut places.open(Some(name))?, buf)
-    }
-}
-
-// The length of a secret where so many sevens are, whether its source stays open, and the buffer.
-fn secret_of(count: usize, source: Source<'_>) -> Result<(usize, bool, [u8; 8]), HostFault> {
+    source: Source<'_>,
+) -> Result<(Result<usize, HostFault>, [u8; 8]), AllocError> {
+    let mut system = sevens(alloc, count)?;
     let mut buf = [0; 8];
-    let secret = read_secret(&mut Sevens { count }, source, &mut buf)?;
-    Ok((secret.length, secret.opened.is_some(), buf))
+    let answer = read_secret(&mut system, source, &mut buf);
+    Ok((answer, buf))
 }
 
 #[test]
-fn takes_secrets_in_pieces(rt: HostRuntime) {
-    for (source, is_open) in [
-        (Source::StdinOnce, true),
-        (Source::File("name"), true),
-        (Source::Env("name"), false),
+fn takes_secrets_in_pieces(rt: HostRuntime) -> Result<(), Fail> {
+    for (count, length, buf) in [
+        (0, 0, [0; 8]),
+        (1, 1, [7, 0, 0, 0, 0, 0, 0, 0]),
+        (5, 5, [7, 7, 7, 7, 7, 0, 0, 0]),
+        (8, 8, [7; 8]),
+        (9, 8, [7; 8]),
     ] {
-        for (count, length, buf) in [
-            (0, 0, [0; 8]),
-            (1, 1, [7, 0, 0, 0, 0, 0, 0, 0]),
-            (5, 5, [7, 7, 7, 7, 7, 0, 0, 0]),
-            (8, 8, [7; 8]),
-            (9, 8, [7; 8]),
-        ] {
-            assert_eq!(rt;
-                secret_of(count, source),
-                Ok((length, is_open, buf)),
-                "{source:?}, {count} bytes"
-            );
+        for source in [Source::StdinOnce, Source::File("name"), Source::Env("name")] {
+            let secret = secret_of(rt.alloc(), count, source)?;
+            assert_eq!(rt; secret, (Ok(length), buf), "{source:?}, {count} bytes");
         }
     }
-    assert_eq!(rt; secret_of(1, Source::File("missing")), Err(HostFault));
+    Ok(())
 }
 
-// A salt where so many sevens are.
-fn salt_of(count: usize) -> Result<[u8; 32], HostFault> {
+#[test]
+fn missing_secrets_are_faults(rt: HostRuntime) -> Result<(), Fail> {
+    for source in [Source::File("missing"), Source::Env("missing")] {
+        let secret = secret_of(rt.alloc(), 8, source)?;
+        assert_eq!(rt; secret, (Err(HostFault), [0; 8]), "{source:?}");
+    }
+    Ok(())
+}
+
+// The answer to a salt where so many sevens are, and the buffer.
+fn salt_of(alloc: Global, count: usize) -> Result<(Result<(), HostFault>, [u8; 32]), AllocError> {
+    let mut system = sevens(alloc, count)?;
     let mut salt = [0; 32];
-    read_salt(&mut Sevens { count }, &mut salt)?;
-    Ok(salt)
+    let answer = read_salt(&mut system, &mut salt);
+    Ok((answer, salt))
 }
 
 #[test]
-fn takes_whole_salts(rt: HostRuntime) {
-    for (count, salt) in [(31, Err(HostFault)), (32, Ok([7; 32])), (40, Ok([7; 32]))] {
-        assert_eq!(rt; salt_of(count), salt, "{count} bytes");
-    }
-}
-
-// An environment whose one variable holds six bytes.
-#[derive(Clone, Copy)]
-struct Environment;
-
-impl Env for Environment {
-    fn arg(&self, _i: usize, _buf: &mut [u8]) -> Result<usize, FillError> {
-        Err(FillError::NotPresent)
-    }
-
-    fn var(&self, name: &str, buf: &mut [u8]) -> Result<usize, FillError> {
-        if name != "SET" {
-            return Err(FillError::NotPresent);
-        }
-        match read_full(&mut b"longer".as_slice(), buf) {
-            Ok(6) => Ok(6),
-            _ => Err(FillError::TooLong),
-        }
-    }
-
-    fn var_at(&self, _i: usize, _buf: &mut [u8]) -> Result<usize, FillError> {
-        Err(FillError::NotPresent)
-    }
-}
-
-// The answer to a variable with so much room, and the buffer.
-fn variable_of(name: &str, room: usize) -> (Result<usize, HostFault>, [u8; 8]) {
-    let mut buf = [0; 8];
-    let answer = match buf.get_mut(..room) {
-        Some(beginning) => read_variable(&Environment, name, beginning),
-        None => Err(HostFault),
-    };
-    (answer, buf)
-}
-
-#[test]
-fn reads_variables(rt: HostRuntime) {
-    for (name, room, answer, buf) in [
-        ("SET", 8, Ok(6), *b"longer\0\0"),
-        ("SET", 5, Ok(5), *b"longe\0\0\0"),
-        ("UNSET", 8, Err(HostFault), [0; 8]),
+fn takes_whole_salts(rt: HostRuntime) -> Result<(), Fail> {
+    for (count, answer, last) in [
+        (0, Err(HostFault), 0),
+        (31, Err(HostFault), 0),
+        (32, Ok(()), 7),
+        (40, Ok(()), 7),
     ] {
-        assert_eq!(rt; variable_of(name, room), (answer, buf), "{name}, {room}");
+        let (answered, salt) = salt_of(rt.alloc(), count)?;
+        assert_eq!(rt; (answered, salt[31]), (answer, last), "{count} bytes");
     }
+    Ok(())
 }

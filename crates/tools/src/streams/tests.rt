@@ -1,191 +1,133 @@
 //! Streams that are interrupted, that fail in the middle, and that take or give little.
-ghost use Rattle.std.specs.Prelude.{◌≡◌, length, IfOk};
+ghost use Rattle.std.specs.Prelude.{◌≡◌, true, false, IfOk};
+ghost use Rattle.tools.specs.World.{IsApart};
 
 use super::*;
-use std::io;
+use crate::contents::{Contents, Identities};
+use crate::memory_system::MemorySystem;
+use crate::system::Stream;
+use std::alloc::Global;
 
-// A stream that is interrupted a number of times before each byte that it takes or gives.
-#[derive(Drop)]
-struct Interrupted {
-    before_each: usize,
+// What is asked for, of five bytes or with room for them.
+#[derive(Clone, Copy, Debug)]
+enum Ask {
+    ReadSome,
+    ReadFull,
+    Write,
+    WriteNothing,
+}
+
+// How many bytes there are to be read, how many come or go at a time, how often each read or write is
+// interrupted, and which of them fails, counted from 1; 0 is none.
+#[derive(Clone, Copy, Debug)]
+struct Trouble {
     left: usize,
+    size: usize,
+    interruptions: u64,
+    failing: u64,
 }
 
-impl Interrupted {
-    fn new(times: usize) -> Interrupted
-        ensures left { result.left ≡ times }
-    {
-        Interrupted {
-            before_each: times,
-            left: times,
-        }
+// A system whose standard streams are opened.
+fn opened(alloc: Global, trouble: Trouble) -> Result<MemorySystem, HostFault>
+    ensures going { IfOk result (λ s. s.world.input.is_ended ≡ false) }
+    ensures new { IfOk result (λ s. s.world.is_new ≡ true) }
+    ensures apart { IfOk result (λ s. IsApart s.files) }
+{
+    let bytes = [7; 8][..trouble.left.min(8)].to_vec(alloc);
+    let stdin = Contents::new(bytes.map_err(|_| HostFault)?, Identities::NONE);
+    let mut system = MemorySystem::new(alloc);
+    system.set_standard(stdin, Identities::NONE);
+    system.set_input(None)?;
+    system.open(Reading::Input, None)?;
+    system.open_output(None)?;
+    if system.file(Stream::Output)?.is_some() {
+        return Err(HostFault);
     }
-
-    fn one_byte(&mut self) -> io::Result<usize>
-        ensures one { IfOk result (λ n. n ≡ 1) }
-    {
-        if self.left == 0 {
-            self.left = self.before_each;
-            return Ok(1);
-        }
-        self.left -= 1;
-        Err(io::Error::from(ErrorKind::Interrupted))
-    }
+    system.set_sizes(trouble.size.max(1), trouble.size);
+    system.interrupt(trouble.interruptions);
+    system.fail_at(system.calls().saturating_add(trouble.failing));
+    Ok(system)
 }
 
-impl Read for Interrupted {
-    fn read(&mut self, buf: &mut [u8]) -> io::Result<usize> {
-        if buf.is_empty() {
-            Ok(0)
-        } else {
-            self.one_byte()
-        }
-    }
+// The answer, and how often the system was asked.
+fn answer(
+    alloc: Global,
+    ask: Ask,
+    trouble: Trouble,
+) -> Result<(Result<usize, HostFault>, u64), HostFault> {
+    let mut system = opened(alloc, trouble)?;
+    let mut buf = [0; 5];
+    let answer = match ask {
+        Ask::ReadSome => read_some(&mut system, Reading::Input, &mut buf),
+        Ask::ReadFull => read_full(&mut system, Reading::Input, &mut buf),
+        Ask::Write => write_some(&mut system, b"hello"),
+        Ask::WriteNothing => write_some(&mut system, b""),
+    };
+    Ok((answer, system.tries()))
 }
 
-impl Write for Interrupted {
-    fn write(&mut self, buf: &[u8]) -> io::Result<usize> {
-        if buf.is_empty() {
-            Ok(0)
-        } else {
-            self.one_byte()
-        }
-    }
-
-    fn flush(&mut self) -> io::Result<()> {
-        Ok(())
-    }
-}
-
-// The answers to reading some bytes, to reading all, and to writing, with so many interruptions before each byte.
-fn answers_after(times: usize) -> [Result<usize, HostFault>; 3] {
-    let mut buf = [0; 4];
-    let some = read_some(&mut Interrupted::new(times), &mut buf);
-    let full = read_full(&mut Interrupted::new(times), &mut buf);
-    let written = write_some(&mut Interrupted::new(times), &buf);
-    [some, full, written]
-}
-
+// What was interrupted is asked again sixteen times, and nothing else is asked again.
 #[test]
 fn asks_again_sixteen_times(rt: HostRuntime) {
-    for (times, answers) in [(16, [Ok(1), Ok(4), Ok(1)]), (17, [Err(HostFault); 3])] {
-        assert_eq!(rt; answers_after(times), answers, "{times} times");
-    }
-}
-
-// A stream that fails once, and then takes and gives all that it is asked for.
-#[derive(Drop)]
-struct FailsOnce {
-    failed: bool,
-}
-
-impl FailsOnce {
-    fn all_of(&mut self, buf: &[u8]) -> io::Result<usize>
-        ensures all { IfOk result (λ n. n ≡ length buf.now) }
-    {
-        if self.failed {
-            return Ok(buf.len());
-        }
-        self.failed = true;
-        Err(io::Error::from(ErrorKind::WouldBlock))
-    }
-}
-
-impl Read for FailsOnce {
-    fn read(&mut self, buf: &mut [u8]) -> io::Result<usize> {
-        self.all_of(buf)
-    }
-}
-
-impl Write for FailsOnce {
-    fn write(&mut self, buf: &[u8]) -> io::Result<usize> {
-        self.all_of(buf)
-    }
-
-    fn flush(&mut self) -> io::Result<()> {
-        Ok(())
-    }
-}
-
-// The answers to reading some bytes, to reading all, and to writing, each of a stream of its own.
-fn answers_of(failed: bool) -> [Result<usize, HostFault>; 3] {
-    let mut buf = [0; 4];
-    let some = read_some(&mut FailsOnce { failed }, &mut buf);
-    let full = read_full(&mut FailsOnce { failed }, &mut buf);
-    let written = write_some(&mut FailsOnce { failed }, &buf);
-    [some, full, written]
-}
-
-// Only what was interrupted is asked again.
-#[test]
-fn tells_another_fault(rt: HostRuntime) {
-    assert_eq!(rt; answers_of(false), [Err(HostFault); 3]);
-    assert_eq!(rt; answers_of(true), [Ok(4); 3]);
-}
-
-// A reader that gives two bytes at a time, and then fails or ends.
-#[derive(Drop)]
-struct InPairs {
-    left: usize,
-    fails: bool,
-}
-
-impl Read for InPairs {
-    fn read(&mut self, buf: &mut [u8]) -> io::Result<usize> {
-        if self.left == 0 && self.fails {
-            return Err(io::Error::from(ErrorKind::Other));
-        }
-        let n = self.left.min(2).min(buf.len());
-        self.left -= n;
-        Ok(n)
-    }
-}
-
-#[test]
-fn reads_until_full_or_at_the_end(rt: HostRuntime) {
-    for (left, fails, outcome) in [
-        (0, false, Ok(0)),
-        (4, false, Ok(4)),
-        (5, false, Ok(5)),
-        (6, false, Ok(5)),
-        (6, true, Ok(5)),
-        (4, true, Err(HostFault)),
+    for (ask, left, size, interruptions, failing, outcome, tries) in [
+        (Ask::ReadSome, 4, 1, 16, 0, Ok(1), 17),
+        (Ask::ReadFull, 4, 1, 16, 0, Ok(4), 85),
+        (Ask::Write, 4, 1, 16, 0, Ok(1), 17),
+        (Ask::ReadSome, 4, 1, 17, 0, Err(HostFault), 17),
+        (Ask::ReadFull, 4, 1, 17, 0, Err(HostFault), 17),
+        (Ask::Write, 4, 1, 17, 0, Err(HostFault), 17),
+        (Ask::ReadSome, 4, 8, 0, 1, Err(HostFault), 1),
+        (Ask::ReadFull, 4, 8, 0, 1, Err(HostFault), 1),
+        (Ask::Write, 4, 8, 0, 1, Err(HostFault), 1),
+        (Ask::ReadSome, 4, 8, 0, 2, Ok(4), 1),
+        (Ask::Write, 4, 8, 0, 2, Ok(5), 1),
+        // interrupted once, and then a fault
+        (Ask::ReadSome, 4, 8, 1, 2, Err(HostFault), 2),
+        (Ask::Write, 4, 8, 1, 2, Err(HostFault), 2),
     ] {
-        let mut buf = [0; 5];
+        let trouble = Trouble {
+            left,
+            size,
+            interruptions,
+            failing,
+        };
         assert_eq!(rt;
-            read_full(&mut InPairs { left, fails }, &mut buf),
-            outcome,
-            "{left} bytes"
+            answer(rt.alloc(), ask, trouble),
+            Ok((outcome, tries)),
+            "{ask:?}, {trouble:?}"
         );
     }
 }
 
-// A writer that takes no byte, or that cannot be flushed.
-#[derive(Drop)]
-enum Stuck {
-    AtWrite,
-    AtFlush,
-}
-
-impl Write for Stuck {
-    fn write(&mut self, buf: &[u8]) -> io::Result<usize> {
-        match self {
-            Stuck::AtWrite => Ok(0),
-            Stuck::AtFlush => Ok(buf.len()),
-        }
-    }
-
-    fn flush(&mut self) -> io::Result<()> {
-        match self {
-            Stuck::AtWrite => Ok(()),
-            Stuck::AtFlush => Err(io::Error::from(ErrorKind::Other)),
-        }
-    }
-}
-
+// Five bytes are read, or as many as there are, by two at a time; a write of none of them is a fault.
 #[test]
-fn writing_nothing_and_a_failed_flush_are_faults(rt: HostRuntime) {
-    assert_eq!(rt; write_some(&mut Stuck::AtWrite, b"line"), Err(HostFault));
-    assert_eq!(rt; write_some(&mut Stuck::AtFlush, b"line"), Err(HostFault));
-    assert_eq!(rt; write_some(&mut Stuck::AtWrite, b""), Ok(0));
+fn takes_and_gives_in_pairs(rt: HostRuntime) {
+    for (ask, left, size, failing, outcome, tries) in [
+        (Ask::ReadSome, 0, 2, 0, Ok(0), 1),
+        (Ask::ReadSome, 1, 2, 0, Ok(1), 1),
+        (Ask::ReadSome, 6, 2, 0, Ok(2), 1),
+        (Ask::ReadFull, 0, 2, 0, Ok(0), 1),
+        (Ask::ReadFull, 4, 2, 0, Ok(4), 3),
+        (Ask::ReadFull, 5, 2, 0, Ok(5), 3),
+        (Ask::ReadFull, 6, 2, 0, Ok(5), 3),
+        (Ask::ReadFull, 6, 2, 4, Ok(5), 3),
+        (Ask::ReadFull, 4, 2, 3, Err(HostFault), 3),
+        (Ask::Write, 0, 2, 0, Ok(2), 1),
+        (Ask::Write, 0, 8, 0, Ok(5), 1),
+        (Ask::Write, 0, 0, 0, Err(HostFault), 1),
+        (Ask::WriteNothing, 0, 2, 0, Ok(0), 0),
+        (Ask::WriteNothing, 0, 0, 0, Ok(0), 0),
+    ] {
+        let trouble = Trouble {
+            left,
+            size,
+            interruptions: 0,
+            failing,
+        };
+        assert_eq!(rt;
+            answer(rt.alloc(), ask, trouble),
+            Ok((outcome, tries)),
+            "{ask:?}, {trouble:?}"
+        );
+    }
 }

@@ -1,6 +1,7 @@
-//! The system's files, its environment and its random bytes.
+//! The system's own files, its environment and its random bytes.
 
 use super::*;
+use crate::real::Real;
 use host::refuse;
 use std::fs;
 use std::os::unix::fs::symlink;
@@ -8,14 +9,14 @@ use std::test::Fail;
 
 // The outcome of opening five bytes, two pieces with what the buffer holds after each, and the end.
 fn pieces_of_five_bytes(
-    system: HostRuntime,
+    rt: HostRuntime,
 ) -> (
     Result<(), HostFault>,
     (Result<usize, HostFault>, [u8; 3]),
     (Result<usize, HostFault>, [u8; 3]),
     Result<usize, HostFault>,
 ) {
-    let mut host = SystemHost::new(system);
+    let mut host = SystemHost::new(Real::new(rt));
     let opened = host.open_input(Some("five-bytes"));
     let mut buf = [0; 3];
     let first = (host.pull(&mut buf), buf);
@@ -34,8 +35,8 @@ fn reads_a_file_in_pieces(rt: HostRuntime) -> Result<(), Fail> {
 }
 
 // Whether a file holds these bytes.
-fn holds(system: HostRuntime, name: &str, bytes: &[u8]) -> bool {
-    match fs::read(&system, name) {
+fn holds(rt: HostRuntime, name: &str, bytes: &[u8]) -> bool {
+    match fs::read(&rt, name) {
         Ok(held) => held.as_slice() == bytes,
         Err(_) => false,
     }
@@ -43,23 +44,23 @@ fn holds(system: HostRuntime, name: &str, bytes: &[u8]) -> bool {
 
 // The outcomes of opening an output, and of pushes to it; whether the file is empty then, and holds what was pushed.
 fn pushes(
-    system: HostRuntime,
+    rt: HostRuntime,
 ) -> (
     Result<(), HostFault>,
     bool,
     [Result<usize, HostFault>; 2],
     bool,
 ) {
-    let mut host = SystemHost::new(system);
+    let mut host = SystemHost::new(Real::new(rt));
     let opened = host.open_output(Some("written"));
-    let is_empty = holds(system, "written", b"");
+    let is_empty = holds(rt, "written", b"");
     let pushed = host.push(b"hello");
     let nothing = host.push(b"");
     (
         opened,
         is_empty,
         [pushed, nothing],
-        holds(system, "written", b"hello"),
+        holds(rt, "written", b"hello"),
     )
 }
 
@@ -70,22 +71,28 @@ fn makes_and_empties_a_file(rt: HostRuntime) {
     }
 }
 
-// The outcomes of pulling before anything is opened, of opening what is missing and a folder, and of pulling from that,
-// with the count of faults.
+// The outcomes of pulling before anything is opened, of opening what is missing and a folder, of pulling from that, and
+// of opening what is missing then and pulling, with the count of faults.
 fn faults_of_the_input(
-    system: HostRuntime,
+    rt: HostRuntime,
 ) -> (
-    [Result<usize, HostFault>; 2],
-    [Result<(), HostFault>; 2],
+    [Result<usize, HostFault>; 3],
+    [Result<(), HostFault>; 3],
     u64,
 ) {
-    let mut host = SystemHost::new(system);
+    let mut host = SystemHost::new(Real::new(rt));
     let mut buf = [0; 3];
     let before = host.pull(&mut buf);
     let missing = host.open_input(Some("missing"));
     let folder = host.open_input(Some("folder-to-read"));
     let pulled = host.pull(&mut buf);
-    ([before, pulled], [missing, folder], host.input_faults)
+    let again = host.open_input(Some("missing"));
+    let after = host.pull(&mut buf);
+    (
+        [before, pulled, after],
+        [missing, folder, again],
+        host.input_faults,
+    )
 }
 
 #[test]
@@ -93,21 +100,30 @@ fn counts_faults_of_the_input(rt: HostRuntime) -> Result<(), Fail> {
     fs::create_dir(&rt, "folder-to-read")?;
     assert_eq!(rt;
         faults_of_the_input(rt),
-        ([Err(HostFault); 2], [Err(HostFault), Ok(())], 3)
+        (
+            [Err(HostFault); 3],
+            [Err(HostFault), Ok(()), Err(HostFault)],
+            5
+        )
     );
     Ok(())
 }
 
-// The outcomes of pushing before anything is opened, and of opening what is missing and a folder, with the count of
-// faults.
+// The outcomes of pushing before anything is opened and after what could not be, and of opening what is missing and a
+// folder, with the count of faults.
 fn faults_of_the_output(
-    system: HostRuntime,
-) -> (Result<usize, HostFault>, [Result<(), HostFault>; 2], u64) {
-    let mut host = SystemHost::new(system);
+    rt: HostRuntime,
+) -> (
+    [Result<usize, HostFault>; 2],
+    [Result<(), HostFault>; 2],
+    u64,
+) {
+    let mut host = SystemHost::new(Real::new(rt));
     let before = host.push(b"hello");
     let missing = host.open_output(Some("missing/file"));
     let folder = host.open_output(Some("folder-to-write"));
-    (before, [missing, folder], host.output_faults)
+    let after = host.push(b"hello");
+    ([before, after], [missing, folder], host.output_faults)
 }
 
 #[test]
@@ -115,14 +131,31 @@ fn counts_faults_of_the_output(rt: HostRuntime) -> Result<(), Fail> {
     fs::create_dir(&rt, "folder-to-write")?;
     assert_eq!(rt;
         faults_of_the_output(rt),
-        (Err(HostFault), [Err(HostFault); 2], 3)
+        ([Err(HostFault); 2], [Err(HostFault); 2], 4)
     );
     Ok(())
 }
 
+// The outcomes of opening an output and then one that is missing, and of a push after it; whether the first is empty.
+fn second_output(rt: HostRuntime) -> ([Result<(), HostFault>; 2], Result<usize, HostFault>, bool) {
+    let mut host = SystemHost::new(Real::new(rt));
+    let opened = host.open_output(Some("opened"));
+    let missing = host.open_output(Some("missing/file"));
+    let pushed = host.push(b"hello");
+    ([opened, missing], pushed, holds(rt, "opened", b""))
+}
+
+#[test]
+fn a_second_output_that_is_a_fault_ends_the_first(rt: HostRuntime) {
+    assert_eq!(rt;
+        second_output(rt),
+        ([Ok(()), Err(HostFault)], Err(HostFault), true)
+    );
+}
+
 // The outcome of a secret, the buffer, and the count of faults.
-fn secret_of(system: HostRuntime, source: Source<'_>) -> (Result<usize, HostFault>, [u8; 5], u64) {
-    let mut host = SystemHost::new(system);
+fn secret_of(rt: HostRuntime, source: Source<'_>) -> (Result<usize, HostFault>, [u8; 5], u64) {
+    let mut host = SystemHost::new(Real::new(rt));
     let mut buf = *b".....";
     let outcome = host.secret(source, &mut buf);
     (outcome, buf, host.secret_faults)
@@ -148,9 +181,9 @@ fn reads_secrets(rt: HostRuntime) -> Result<(), Fail> {
 }
 
 // A salt of the system.
-fn salt_of(system: HostRuntime) -> Result<[u8; 32], HostFault> {
+fn salt_of(rt: HostRuntime) -> Result<[u8; 32], HostFault> {
     let mut salt = [0; 32];
-    SystemHost::new(system).salt(&mut salt)?;
+    SystemHost::new(Real::new(rt)).salt(&mut salt)?;
     Ok(salt)
 }
 
@@ -171,10 +204,10 @@ fn salts_are_random_in_each_place(rt: HostRuntime) -> Result<(), Fail> {
 
 // The outcomes of opening the file `one` as input and then a name as output, with the count of faults.
 fn output_beside_input(
-    system: HostRuntime,
+    rt: HostRuntime,
     name: &str,
 ) -> (Result<(), HostFault>, Result<(), HostFault>, u64) {
-    let mut host = SystemHost::new(system);
+    let mut host = SystemHost::new(Real::new(rt));
     let input = host.open_input(Some("one"));
     let output = host.open_output(Some(name));
     (input, output, host.output_faults)
@@ -182,10 +215,10 @@ fn output_beside_input(
 
 // The outcomes of taking the secret from that file, and then opening a name as output.
 fn output_beside_secret(
-    system: HostRuntime,
+    rt: HostRuntime,
     name: &str,
 ) -> (Result<usize, HostFault>, Result<(), HostFault>) {
-    let mut host = SystemHost::new(system);
+    let mut host = SystemHost::new(Real::new(rt));
     let secret = host.secret(Source::File("one"), &mut [0; 8]);
     (secret, host.open_output(Some(name)))
 }
@@ -214,18 +247,18 @@ fn files_that_are_read_stay_under_each_name(rt: HostRuntime) -> Result<(), Fail>
 // The outcomes of opening the first file as input, taking the secret from it and opening the second as output, and
 // whether that is empty then.
 fn another_output(
-    system: HostRuntime,
+    rt: HostRuntime,
 ) -> (
     Result<(), HostFault>,
     Result<usize, HostFault>,
     Result<(), HostFault>,
     bool,
 ) {
-    let mut host = SystemHost::new(system);
+    let mut host = SystemHost::new(Real::new(rt));
     let input = host.open_input(Some("first"));
     let secret = host.secret(Source::File("first"), &mut [0; 8]);
     let output = host.open_output(Some("second"));
-    (input, secret, output, holds(system, "second", b""))
+    (input, secret, output, holds(rt, "second", b""))
 }
 
 #[test]
@@ -238,13 +271,13 @@ fn a_file_that_is_not_read_is_emptied(rt: HostRuntime) -> Result<(), Fail> {
 
 // The outcomes of opening a device as input and as output, and of a push to it.
 fn device_as_both(
-    system: HostRuntime,
+    rt: HostRuntime,
 ) -> (
     Result<(), HostFault>,
     Result<(), HostFault>,
     Result<usize, HostFault>,
 ) {
-    let mut host = SystemHost::new(system);
+    let mut host = SystemHost::new(Real::new(rt));
     let input = host.open_input(Some("/dev/null"));
     let output = host.open_output(Some("/dev/null"));
     (input, output, host.push(b"hello"))
@@ -256,8 +289,8 @@ fn a_device_may_be_input_and_output(rt: HostRuntime) {
 }
 
 // The outcome of a line, the status of a refusal, and the count of faults.
-fn lines(system: HostRuntime) -> (Result<(), HostFault>, u8, u64) {
-    let mut host = SystemHost::new(system);
+fn lines(rt: HostRuntime) -> (Result<(), HostFault>, u8, u64) {
+    let mut host = SystemHost::new(Real::new(rt));
     let said = host.say("a line that a test says");
     let status = refuse(&mut host, "a refusal that a test says");
     (said, status, host.line_faults)

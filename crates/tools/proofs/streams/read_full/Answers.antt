@@ -1,10 +1,18 @@
-use Rattle.std.proofs.Common.{◌≤◌, rules, length}
-use Rattle.tools.proofs.Filled.{Consumes-put_mid}
+use Rattle.std.proofs.Common.{◌≡◌, ◌≤◌, ◌-◌, rules, length}
+use Rattle.tools.proofs.Parts.{beginning_at_put, is_read-more}
 use Rattle.tools.proofs.streams.read_full.Goals as goal
+use borrow.Rule.Slice.PartMut.{put_mid}
 
 pub loop-at-preserved : goal.loop-at-preserved
 loop-at-preserved g c =
     let fits : c.in_ok-n.n ≤ length c.read_some.new.buf = search rules in (
       search rules,
-      Consumes-put_mid _ _ _ _ _ _ _ _ c.loop-at.invariant.0 fits c.loop-at.invariant.1 c.in_ok-n.ensures.bytes.0,
+      λ t. is_read-more c.args.reading c.loop-at.at _ c.in_ok-n.n c.loop-at.buf c.read_some.new.buf _ _ _ c.loop-at.invariant.0 fits
+          c.if-n-eq0.false (c.loop-at.invariant.1 t) (c.in_ok-n.ensures.bytes t),
     )
+
+pub returns-then-n-eq0-clause-whole : goal.returns-then-n-eq0-clause-whole
+returns-then-n-eq0-clause-whole g c =
+    let same : length (put_mid c.loop-at.at (length c.loop-at.buf - c.loop-at.at) c.loop-at.buf c.read_some.new.buf) ≡ length c.loop-at.buf = search rules in
+    λ t. beginning_at_put c.args.reading c.loop-at.at _ c.loop-at.buf c.read_some.new.buf _ _ c.loop-at.invariant.0 (c.loop-at.invariant.1 t)
+    ((c.in_ok-n.ensures.bytes t).end c.if-n-eq0.true) same

@@ -1,10 +1,10 @@
-use Rattle.std.proofs.Common.{length, take, ◌-◌, ◌≤◌}
-use Rattle.std.specs.Io.KnownBytes.{Consumes}
+use Rattle.std.proofs.Common.{length, ◌-◌, ◌≤◌, IsTrue}
+use Rattle.tools.proofs.Parts.{IsRead}
 use Rattle.tools.proofs.streams.read_full.Given as goal
 
 abbrev pub invariant-loop-at : goal.invariant-loop-at
 invariant-loop-at g l = (l.at ≤ length l.buf)
-    × Consumes (g.R.Read.remaining l.initial.reader) (g.R.Read.remaining l.reader) (take l.at l.buf)
+    × (IsTrue g.S.System.tells → IsRead l.reading l.at l.buf (g.S.System.world l.initial.system) (g.S.System.world l.system))
 
 abbrev pub decreases-loop-at : goal.decreases-loop-at
 decreases-loop-at g l = length l.initial.buf - l.at

@@ -1,6 +1,9 @@
--- An interrupted read takes nothing.
-use Rattle.std.specs.Io.KnownBytes.{Keeps}
+-- An interrupted read takes nothing, and is counted.
+use Rattle.std.proofs.Common.{IsTrue}
+use Rattle.tools.proofs.Interrupted.{IsInterrupted}
 use Rattle.tools.proofs.streams.read_some.Given as goal
 
 abbrev pub invariant-loop : goal.invariant-loop
-invariant-loop g l = Keeps (g.R.Read.remaining l.initial.reader) (g.R.Read.remaining l.reader)
+invariant-loop g l = IsTrue g.S.System.tells → IsInterrupted l.counter (g.S.System.world l.initial.system)
+    (g.S.System.world l.system) (g.S.System.files l.initial.system) (g.S.System.files l.system)
+    (g.S.System.tries l.initial.system) (g.S.System.tries l.system)

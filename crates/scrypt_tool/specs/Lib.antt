@@ -1,0 +1,2 @@
+-- What the program scrypt comes to over a system.
+pub mod Program

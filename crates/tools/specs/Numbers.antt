@@ -1,0 +1,8 @@
+-- A number that is kept for contracts alone.
+use Rattle.std.specs.Prelude.{ℕ, ◌+◌}
+use Rattle.tools.specs.declared.tries.Number.{Number, Zero, OneMore'}
+
+-- the number
+abbrev pub number_of : Number → ℕ
+number_of Zero = 0
+number_of (OneMore' held less) = number_of less + 1

@@ -1,0 +1,36 @@
+-- The words of a process, as a system gives them.
+use Rattle.std.specs.Prelude.{◌≡◌, ◌<◌, ℕ, List, [], ◌∷◌, drop, length, take, Option, None, Some, Result, Ok, Err, IsUtf8, ⊤}
+use Rattle.host.specs.Seen.{Text}
+use Rattle.tools.specs.declared.system.WordFault.{WordFault}
+use Rattle.tools.specs.declared.system.WordFault.TheVariants as fault
+use Rattle.tools.specs.declared.arguments.WordsFault.{WordsFault}
+use Rattle.tools.specs.declared.arguments.WordsFault.TheVariants as words_fault
+
+-- the first of some words
+abbrev pub first_word : List Text → Option Text
+first_word [] = None
+first_word (word ∷ rest) = Some word
+
+-- the word at a place, counted from 0
+abbrev pub word_at : List Text → ℕ → Option Text
+word_at words place = first_word (drop place words)
+
+-- what a system gives of a word: all its bytes; or it says that the buffer is too short, or that there is no such word
+abbrev pub GivesWord : Option Text → Result ℕ WordFault → List ℕ → Type 0
+GivesWord None (Ok n) buf = ⊥
+GivesWord (Some word) (Ok n) buf = (n ≡ length word) × (take n buf ≡ word)
+GivesWord None (Err fault.Missing) buf = ⊤
+GivesWord (Some word) (Err fault.Missing) buf = ⊥
+GivesWord None (Err fault.TooLong) buf = ⊥
+GivesWord (Some word) (Err fault.TooLong) buf = length buf < length word
+
+-- a word that is said to be no text is none: it is not UTF-8
+abbrev pub IsNoText : WordsFault → Option Text → Type 0
+IsNoText words_fault.OutOfMemory word = ⊤
+IsNoText words_fault.NotText None = ⊥
+IsNoText words_fault.NotText (Some word) = IsUtf8 word → ⊥
+
+-- where a word is said to be no text, one after the name of the process is none
+abbrev pub LacksText : WordsFault → List Text → Type 0
+LacksText words_fault.OutOfMemory words = ⊤
+LacksText words_fault.NotText words = (place : ℕ) × (0 < place) × IsNoText words_fault.NotText (word_at words place)

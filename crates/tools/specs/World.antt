@@ -1,0 +1,179 @@
+-- What contracts see of a system that tells its bytes, and what each call leaves of it.
+use Rattle.std.specs.Prelude.{◌≡◌, ◌≤◌, ◌==◌, Bool, true, false, ℕ, List, [], ◌∷◌, ◌++◌, drop, length, take, Option, None, Some}
+use Rattle.host.specs.Memory.{Entry, lookup}
+use Rattle.host.specs.Seen.{Text}
+use Rattle.tools.specs.declared.identity.FileIdentity.{FileIdentity}
+use Rattle.tools.specs.declared.system.Reading.{Reading}
+use Rattle.tools.specs.declared.system.Reading.TheVariants as reading
+use Rattle.tools.specs.declared.system.Stream.{Stream}
+use Rattle.tools.specs.declared.system.Stream.TheVariants as stream
+
+-- a stream that is read: the name under which it was opened (None: it isn't opened; Some None: standard input), what is
+-- left of it, and whether a read found its end
+pub record Source : Type 0 where
+  pub opened : Option (Option Text)
+  pub left : List ℕ
+  pub is_ended : Bool
+
+-- the input, a secret's source and the random bytes; what was written; the name under which an output was asked for,
+-- whatever came of it (None: none was; Some None: standard output); whether the output holds only what is written from
+-- now on, and whether it was emptied; the lines said so far; what standard input gives from its beginning, if it is there, and what each file does,
+-- other than as the input; and the variables
+pub record World : Type 0 where
+  pub input : Source
+  pub secret : Source
+  pub random : Source
+  pub output : List ℕ
+  pub output_asked : Option (Option Text)
+  pub is_new : Bool
+  pub is_emptied : Bool
+  pub said : List Text
+  pub stdin : Option (List ℕ)
+  pub files : List Entry
+  pub variables : List Entry
+
+-- which regular file each opened stream is, if it is one
+pub record Files : Type 0 where
+  pub input : Option FileIdentity
+  pub secret : Option FileIdentity
+  pub output : Option FileIdentity
+
+-- which regular file this stream is
+abbrev pub file_of : Stream → Files → Option FileIdentity
+file_of stream.Input f = f.input
+file_of stream.Secret f = f.secret
+file_of stream.Output f = f.output
+
+-- the output is no regular file that is read
+pub record IsApart (f : Files) : Type 0 where
+  pub input : (identity : FileIdentity) → f.output ≡ Some identity → f.input ≡ Some identity → ⊥
+  pub secret : (identity : FileIdentity) → f.output ≡ Some identity → f.secret ≡ Some identity → ⊥
+
+-- ---- streams that are read
+
+-- a stream
+abbrev pub source_at : Reading → World → Source
+source_at reading.Input w = w.input
+source_at reading.Secret w = w.secret
+source_at reading.Random w = w.random
+
+-- the system with another state of a stream
+abbrev pub with_source : Reading → Source → World → World
+with_source reading.Input s w = record w { input = s }
+with_source reading.Secret s w = record w { secret = s }
+with_source reading.Random s w = record w { random = s }
+
+-- what stands under this name (None: standard input), other than as the input
+abbrev pub stands_at : Option Text → World → Option (List ℕ)
+stands_at None w = w.stdin
+stands_at (Some name) w = lookup w.files name
+
+-- what a stream gives that is opened under this name; the input gives the same under each
+abbrev pub gives : Reading → Option Text → World → Option (List ℕ)
+gives reading.Input name w = Some w.input.left
+gives reading.Secret name w = stands_at name w
+gives reading.Random name w = stands_at name w
+
+-- a stream that was opened under this name, and gives these bytes
+abbrev pub opened_source : Option Text → List ℕ → Source
+opened_source name bytes = record { opened = Some name; left = bytes; is_ended = false }
+
+-- a stream was opened under this name, and gives what stands there
+pub record Opens (r : Reading) (name : Option Text) (before after : World) : Type 0 where
+  pub bytes : List ℕ
+  pub given : gives r name before ≡ Some bytes
+  pub opened : after ≡ with_source r (opened_source name bytes) before
+
+-- n bytes of a stream are gone; where there were none to give, its end was found
+abbrev pub after_reading : ℕ → Source → Source
+after_reading n s = record s { left = drop n s.left; is_ended = n == 0 }
+
+-- the same of the system
+abbrev pub after_read : Reading → ℕ → World → World
+after_read r n w = with_source r (after_reading n (source_at r w)) w
+
+-- the next n bytes of a stream came, none only at its end
+pub record Reads (r : Reading) (n : ℕ) (buf : List ℕ) (before after : World) : Type 0 where
+  pub bytes : take n buf ≡ take n (source_at r before).left
+  pub within : n ≤ length (source_at r before).left
+  pub end : n ≡ 0 → (source_at r before).left ≡ []
+  pub taken : after ≡ after_read r n before
+
+-- of all that contracts see, this stream alone may have changed
+pub record LeavesAllBut (r : Reading) (before after : World) : Type 0 where
+  pub source : Source
+  pub same : after ≡ with_source r source before
+
+-- some of a stream was read, under its name
+pub record TakesFrom (r : Reading) (before after : World) : Type 0 where
+  pub left : List ℕ
+  pub is_ended : Bool
+  pub same : after ≡ with_source r (let s = source_at r before in record s { left = left; is_ended = is_ended }) before
+
+-- ---- the output
+
+-- an output was asked for under this name, and could not be opened, or holds what it held
+abbrev pub after_ask_output : Option Text → World → World
+after_ask_output name w = record w { output_asked = Some name }
+
+-- what is opened under this name is not to be emptied: standard output, and what is no regular file
+abbrev pub stays_as_it_is : Option Text → Option FileIdentity → Bool
+stays_as_it_is None identity = true
+stays_as_it_is (Some name) None = true
+stays_as_it_is (Some name) (Some identity) = false
+
+-- an output was opened under this name, and is that regular file or none; it is new, unless it is to be emptied
+abbrev pub after_open_output : Option Text → Option FileIdentity → World → World
+after_open_output name identity w = record w { output_asked = Some name; is_new = stays_as_it_is name identity }
+
+-- an output was asked for under this name, and may be new and emptied; nothing else has changed
+pub record AsksOutput (name : Option Text) (before after : World) : Type 0 where
+  pub is_new : Bool
+  pub is_emptied : Bool
+  pub same : after ≡ (let w : World = record before { output_asked = Some name; is_new = is_new; is_emptied = is_emptied } in w)
+
+-- the output was emptied
+abbrev pub after_empty : World → World
+after_empty w = record w { is_new = true; is_emptied = true }
+
+-- these bytes stand after the output
+abbrev pub after_write : List ℕ → World → World
+after_write bytes w = record w { output = w.output ++ bytes }
+
+-- ---- the rest
+
+-- no stream was opened yet, and no output was asked for
+pub record IsUnused (w : World) : Type 0 where
+  pub input : w.input.opened ≡ None
+  pub secret : w.secret.opened ≡ None
+  pub random : w.random.opened ≡ None
+  pub output : w.output_asked ≡ None
+  pub going : w.input.is_ended ≡ false
+
+-- a line more was said
+abbrev pub after_line : Text → World → World
+after_line line w = record w { said = w.said ++ (line ∷ []) }
+
+-- stands where a system tells nothing
+abbrev pub no_source : Source
+no_source = record { opened = None; left = []; is_ended = false }
+
+-- stands where a system tells nothing
+abbrev pub no_world : World
+no_world = record {
+  input = no_source;
+  secret = no_source;
+  random = no_source;
+  output = [];
+  output_asked = None;
+  is_new = false;
+  is_emptied = false;
+  said = [];
+  stdin = None;
+  files = [];
+  variables = [];
+}
+
+-- stands where a system tells nothing
+abbrev pub no_files : Files
+no_files = record { input = None; secret = None; output = None }

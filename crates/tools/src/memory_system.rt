@@ -1,0 +1,445 @@
+//! A system in memory.
+ghost use Rattle.std.specs.Prelude.{◌≡◌, ◌+◌, ◌-◌, ◌<◌, ◌^◌, true, map, min, option_map, Some, IfOk, OnOk, OnErr, string_bytes};
+ghost use Rattle.tools.specs.Memory.{new_memory, unopened_source, with_file, with_input, with_stdin, with_variable, with_word};
+ghost use Rattle.tools.specs.World.{Opens, stands_at};
+ghost use Rattle.tools.specs.declared.system.Reading.TheVariants as reading;
+
+use crate::contents::{Contents, Identities, Named, find};
+use crate::identity::FileIdentity;
+use crate::memory_source::{MemorySource, fill, name_asked};
+use crate::system::{Reading, Stream, System, WordFault};
+use crate::tries::Tries;
+use host::{HostFault, Name};
+use std::alloc::{AllocError, Global};
+use std::cell::Cell;
+use std::io;
+use std::io::ErrorKind;
+use std::marker::Model;
+
+/// The file that is made where an output has a name under which nothing stands. Give it to no file.
+pub const MADE: FileIdentity = FileIdentity {
+    device: u64::MAX,
+    inode: u64::MAX,
+};
+
+/// Which regular files the opened streams are.
+#[derive(Clone, Copy)]
+struct OpenedFiles {
+    input: Option<FileIdentity>,
+    secret: Option<FileIdentity>,
+    output: Option<FileIdentity>,
+}
+
+const NO_FILES: OpenedFiles = OpenedFiles {
+    input: None,
+    secret: None,
+    output: None,
+};
+
+/// A system that is all in memory, and tells its bytes: files and variables under their names, standard
+/// input, and which regular files they and standard output are. It takes and gives its bytes in pieces
+/// of given sizes, is interrupted before each piece as often as it is told, and fails at a given call.
+///
+/// What stands under a name stays: what is written is kept apart, as the output. A growth of memory
+/// that is refused is a failure of the call. Contracts see a `Memory`.
+#[derive(Drop)]
+pub struct MemorySystem {
+    alloc: Global,
+    files: Vec<Named>,
+    variables: Vec<Named>,
+    words: Vec<Contents>,
+    stdin: Option<Contents>,
+    stdout: Identities,
+    input_name: Option<Option<String>>,
+    input_file: Identities,
+    input: MemorySource,
+    secret: MemorySource,
+    random: MemorySource,
+    output: Vec<u8>,
+    output_asked: Option<Option<Name>>,
+    is_new: bool,
+    is_emptied: bool,
+    lines: Vec<String>,
+    opened: OpenedFiles,
+    opened_then: OpenedFiles,
+    tries: Tries,
+    read_size: usize,
+    write_size: usize,
+    interruptions: u64,
+    interrupted: u64,
+    failing: u64,
+    calls: Cell<u64>,
+}
+
+impl Model for MemorySystem {
+    ghost use Rattle.std.specs.Prelude.{◌<◌, map, option_map, string_bytes};
+    ghost use Rattle.host.specs.Asked.{name_bytes};
+    ghost use Rattle.tools.specs.Memory.{Memory};
+
+    ghost Value = { Memory };
+
+    ghost view = { λ m. record {
+      world = record {
+        input = m.input;
+        secret = m.secret;
+        random = m.random;
+        output = m.output.items;
+        output_asked = option_map (option_map name_bytes) m.output_asked;
+        is_new = m.is_new;
+        is_emptied = m.is_emptied;
+        said = map string_bytes m.lines.items;
+        stdin = m.stdin;
+        files = m.files.items;
+        variables = m.variables.items;
+      };
+      files = record { input = m.opened.input; secret = m.opened.secret; output = m.opened.output };
+      tries = m.tries;
+      words = m.words.items;
+    } };
+
+    ghost invariant = { λ m. 0 < m.read_size };
+}
+
+impl MemorySystem {
+    /// A system in which nothing stands under any name. Its pieces have no bound, and no call is
+    /// interrupted or fails.
+    pub fn new(alloc: Global) -> MemorySystem
+        ensures fresh { result ≡ new_memory }
+    {
+        MemorySystem {
+            alloc,
+            files: Vec::new(alloc),
+            variables: Vec::new(alloc),
+            words: Vec::new(alloc),
+            stdin: None,
+            stdout: Identities::NONE,
+            input_name: None,
+            input_file: Identities::NONE,
+            input: MemorySource::new(Vec::new(alloc)),
+            secret: MemorySource::new(Vec::new(alloc)),
+            random: MemorySource::new(Vec::new(alloc)),
+            output: Vec::new(alloc),
+            output_asked: None,
+            is_new: false,
+            is_emptied: false,
+            lines: Vec::new(alloc),
+            opened: NO_FILES,
+            opened_then: NO_FILES,
+            tries: Tries::new(),
+            read_size: usize::MAX,
+            write_size: usize::MAX,
+            interruptions: 0,
+            interrupted: 0,
+            failing: 0,
+            calls: Cell::new(0),
+        }
+    }
+
+    /// Puts a file under a name. Two names of one file are two files of the same contents. Where a name
+    /// is given again, the later contents count.
+    pub fn set_file(&mut self, name: String, contents: Contents) -> Result<(), AllocError>
+        ensures ok { OnOk result (self.new ≡ with_file (string_bytes name) contents self.old) }
+        ensures err { OnErr result (self.new ≡ self.old) }
+    {
+        self.files.insert(0, Named::new(name, contents))?;
+        Ok(())
+    }
+
+    /// Gives a variable a value. Where a name is given again, the later value counts.
+    pub fn set_variable(&mut self, name: String, bytes: Vec<u8>) -> Result<(), AllocError>
+        ensures ok { OnOk result (self.new ≡ with_variable (string_bytes name) bytes.items self.old) }
+        ensures err { OnErr result (self.new ≡ self.old) }
+    {
+        let value = Contents::new(bytes, Identities::NONE);
+        self.variables.insert(0, Named::new(name, value))?;
+        Ok(())
+    }
+
+    /// Adds a word of the process, the first of which is its name.
+    pub fn add_word(&mut self, word: Vec<u8>) -> Result<(), AllocError>
+        ensures ok { OnOk result (self.new ≡ with_word word.items self.old) }
+        ensures err { OnErr result (self.new ≡ self.old) }
+    {
+        self.words.push(Contents::new(word, Identities::NONE))?;
+        Ok(())
+    }
+
+    /// Opens standard input, which gives the contents from their beginning, and standard output.
+    pub fn set_standard(&mut self, stdin: Contents, stdout: Identities)
+        ensures stdin { self.new ≡ with_stdin stdin self.old }
+    {
+        self.stdin = Some(stdin);
+        self.stdout = stdout;
+    }
+
+    /// Says under which name the input stands, which must be there; `None` is standard input. Under any
+    /// other name the input cannot be opened.
+    pub fn set_input(&mut self, name: Option<&str>) -> Result<(), HostFault>
+        ensures ok { OnOk result (self.new ≡ with_input self.new.world.input.left self.old) }
+        ensures given { OnOk result
+            (stands_at (option_map (λ n. n.now) name.entry) self.old.world ≡ Some self.new.world.input.left) }
+        ensures err { OnErr result (self.new ≡ self.old) }
+    {
+        let kept = match name {
+            None => None,
+            Some(text) => Some(String::from_str(self.alloc, text).map_err(|_| HostFault)?),
+        };
+        let (input, identities) = self.source_of(name)?;
+        self.input = input;
+        self.input_file = identities;
+        self.input_name = Some(kept);
+        Ok(())
+    }
+
+    /// Sets the greatest number of bytes of a read, at least 1, and of a write. With 0 a write takes
+    /// nothing.
+    pub fn set_sizes(&mut self, read: usize, write: usize)
+        requires some { 0 < read }
+        ensures same { self.new ≡ self.old }
+    {
+        self.read_size = read;
+        self.write_size = write;
+    }
+
+    /// Says how often each read and each write is interrupted before it is done.
+    pub fn interrupt(&mut self, times: u64)
+        ensures same { self.new ≡ self.old }
+    {
+        self.interruptions = times;
+    }
+
+    /// Names the call of the system that is to fail, counted from 1 over all its calls; 0 is none. The
+    /// counter stays at 2^64-1 once it is there.
+    pub fn fail_at(&mut self, call: u64)
+        ensures same { self.new ≡ self.old }
+    {
+        self.failing = call;
+    }
+
+    /// What was written to the output.
+    pub fn output(&self) -> &[u8]
+        ensures bytes { result.now ≡ self.now.world.output }
+    {
+        self.output.as_slice()
+    }
+
+    /// Whether the output was emptied.
+    pub fn is_emptied(&self) -> bool
+        ensures emptied { result ≡ self.now.world.is_emptied }
+    {
+        self.is_emptied
+    }
+
+    /// The lines said so far.
+    pub fn lines(&self) -> &[String]
+        ensures lines { map string_bytes result.now ≡ self.now.world.said }
+    {
+        self.lines.as_slice()
+    }
+
+    /// How often a read or a write was asked for, or 2^64-1 where it was more often.
+    pub fn tries(&self) -> u64
+        ensures number { result ≡ min self.now.tries (2 ^ 64 - 1) }
+    {
+        self.tries.shown()
+    }
+
+    /// How many calls the system was asked for, or 2^64-1 where it was more.
+    pub fn calls(&self) -> u64 {
+        self.calls.get()
+    }
+
+    // Counts a call, and says whether it is the one to fail.
+    fn is_failing(&self) -> bool {
+        self.calls.set(self.calls.get().saturating_add(1));
+        self.calls.get() == self.failing
+    }
+
+    // Counts a read or a write, which is refused where it is the call to fail, or is interrupted.
+    fn try_once(&mut self) -> io::Result<()>
+        ensures tried { self.new ≡ (let m = self.old in record m { tries = m.tries + 1 }) }
+    {
+        self.tries.add_one();
+        if self.is_failing() {
+            return Err(io::Error::from(ErrorKind::Other));
+        }
+        if self.interrupted < self.interruptions {
+            self.interrupted += 1;
+            return Err(io::Error::from(ErrorKind::Interrupted));
+        }
+        self.interrupted = 0;
+        Ok(())
+    }
+
+    // What stands under this name.
+    fn stands_at(&self, name: Option<&str>) -> Option<&Contents>
+        ensures found { option_map (λ c. c.now) result
+            ≡ stands_at (option_map (λ n. n.now) name.entry) self.now.world }
+    {
+        match name {
+            None => self.stdin.as_ref(),
+            Some(text) => find(self.files.as_slice(), text),
+        }
+    }
+
+    // A stream of what stands under this name, which is not opened yet, and which file it is.
+    fn source_of(&self, name: Option<&str>) -> Result<(MemorySource, Identities), HostFault>
+        ensures unopened { IfOk result (λ s. s.0 ≡ unopened_source s.0.left) }
+        ensures given { IfOk result (λ s.
+            stands_at (option_map (λ n. n.now) name.entry) self.now.world ≡ Some s.0.left) }
+    {
+        let contents = self.stands_at(name).ok_or(HostFault)?;
+        let bytes = contents.bytes().to_vec(self.alloc).map_err(|_| HostFault)?;
+        Ok((MemorySource::new(bytes), contents.identities()))
+    }
+
+    // Whether the input stands under this name.
+    fn gives_input(&self, name: Option<&str>) -> bool {
+        match &self.input_name {
+            None => false,
+            Some(None) => name.is_none(),
+            Some(Some(kept)) => name == Some(kept.as_str()),
+        }
+    }
+
+    // Opens the input, if it stands under this name.
+    fn open_input(&mut self, name: Option<&str>) -> Result<(), HostFault>
+        ensures ok { OnOk result (Opens reading.Input (option_map (λ n. n.now) name.entry)
+            self.old.world self.new.world) }
+        ensures err { OnErr result (self.new.world ≡ self.old.world) }
+    {
+        if !self.gives_input(name) {
+            return Err(HostFault);
+        }
+        self.input.open(name);
+        self.opened.input = self.input_file.before;
+        self.opened_then.input = self.input_file.after;
+        Ok(())
+    }
+
+    // Which file an output of this name is.
+    fn output_file(&self, name: Option<&str>) -> Identities {
+        match name {
+            None => self.stdout,
+            Some(text) => match find(self.files.as_slice(), text) {
+                None => Identities::of(MADE),
+                Some(contents) => contents.identities(),
+            },
+        }
+    }
+}
+
+impl System for MemorySystem {
+    ghost tells = { true };
+
+    ghost world = { λ m. m.world };
+
+    ghost files = { λ m. m.files };
+
+    ghost tries = { λ m. m.tries };
+
+    ghost words = { λ m. m.words };
+
+    fn word(&self, place: usize, buf: &mut [u8]) -> Result<usize, WordFault> {
+        match self.words.get(place) {
+            None => Err(WordFault::Missing),
+            Some(word) if buf.len() < word.bytes().len() => Err(WordFault::TooLong),
+            Some(word) => Ok(fill(word.bytes(), buf)),
+        }
+    }
+
+    fn variable(&self, name: &str, buf: &mut [u8]) -> Result<usize, HostFault> {
+        if self.is_failing() {
+            return Err(HostFault);
+        }
+        match find(self.variables.as_slice(), name) {
+            None => Err(HostFault),
+            Some(value) => Ok(fill(value.bytes(), buf)),
+        }
+    }
+
+    fn open(&mut self, reading: Reading, name: Option<&str>) -> Result<(), HostFault> {
+        if self.is_failing() {
+            return Err(HostFault);
+        }
+        match reading {
+            Reading::Input => self.open_input(name)?,
+            Reading::Secret => {
+                let (source, file) = self.source_of(name)?;
+                self.secret = source;
+                self.secret.open(name);
+                self.opened.secret = file.before;
+                self.opened_then.secret = file.after;
+            }
+            Reading::Random => {
+                let (source, _) = self.source_of(name)?;
+                self.random = source;
+                self.random.open(name);
+            }
+        }
+        Ok(())
+    }
+
+    fn read(&mut self, reading: Reading, buf: &mut [u8]) -> io::Result<usize> {
+        self.try_once()?;
+        match reading {
+            Reading::Input => self.input.read(buf, self.read_size),
+            Reading::Secret => self.secret.read(buf, self.read_size),
+            Reading::Random => self.random.read(buf, self.read_size),
+        }
+    }
+
+    fn open_output(&mut self, name: Option<&str>) -> Result<(), HostFault> {
+        self.output_asked = Some(name_asked(name));
+        if self.is_failing() {
+            return Err(HostFault);
+        }
+        let file = self.output_file(name).after;
+        self.opened = OpenedFiles {
+            output: file,
+            ..self.opened_then
+        };
+        self.is_new = name.is_none() || file.is_none();
+        Ok(())
+    }
+
+    fn file(&self, stream: Stream) -> Result<Option<FileIdentity>, HostFault> {
+        if self.is_failing() {
+            return Err(HostFault);
+        }
+        Ok(match stream {
+            Stream::Input => self.opened.input,
+            Stream::Secret => self.opened.secret,
+            Stream::Output => self.opened.output,
+        })
+    }
+
+    fn empty(&mut self) -> Result<(), HostFault> {
+        if self.is_failing() {
+            return Err(HostFault);
+        }
+        self.is_new = true;
+        self.is_emptied = true;
+        Ok(())
+    }
+
+    fn write(&mut self, bytes: &[u8]) -> io::Result<usize> {
+        self.try_once()?;
+        let n = bytes.len().min(self.write_size);
+        if self.output.extend_from_slice(&bytes[..n]).is_err() {
+            return Err(io::Error::from(ErrorKind::OutOfMemory));
+        }
+        Ok(n)
+    }
+
+    fn line(&mut self, line: &str) -> Result<(), HostFault> {
+        if self.is_failing() {
+            return Err(HostFault);
+        }
+        let kept = String::from_str(self.alloc, line).map_err(|_| HostFault)?;
+        self.lines.push(kept).map_err(|_| HostFault)
+    }
+}
+
+#[cfg(test)]
+mod tests;

@@ -1,0 +1,176 @@
+//! The system itself.
+ghost use Rattle.std.specs.Prelude.{false, [], IsNone, IsSome, IfOk};
+ghost use Rattle.tools.specs.Inside.Opened.{IsNamed, IsStandard};
+ghost use Rattle.tools.specs.World.{no_files, no_world};
+
+use crate::identity::{FileIdentity, regular_file, regular_stream};
+use crate::placeholders::{Placeholders, beside_standard_streams};
+use crate::system::{Reading, Stream, System, WordFault};
+use host::HostFault;
+use std::env::{Env, FillError};
+use std::fs::{File, OpenOptions};
+use std::io;
+use std::io::{ErrorKind, Read, Write};
+
+/// What stands for a stream.
+#[derive(Drop)]
+pub enum Opened {
+    /// Nothing: it is not opened.
+    Nothing,
+    /// The standard stream.
+    Standard,
+    /// A file that was opened by its name.
+    Named(File),
+}
+
+/// The system, of whose bytes contracts know none.
+///
+/// A standard stream that is closed when this is made stays without use: no file that is opened later
+/// takes its place, and reading or writing it is a fault. Where the root folder may not be opened,
+/// opening a file is a fault as long as a standard stream is closed. Which regular file a standard stream
+/// is, is told under /proc; where that is missing, it is taken for none.
+#[derive(Drop)]
+pub struct Real {
+    rt: HostRuntime,
+    placeholders: Placeholders,
+    input: Opened,
+    secret: Opened,
+    random: Opened,
+    output: Opened,
+}
+
+impl Real {
+    /// The system, of which nothing is opened. Take it before any file is opened.
+    pub fn new(rt: HostRuntime) -> Real {
+        Real {
+            rt,
+            placeholders: Placeholders::new(rt),
+            input: Opened::Nothing,
+            secret: Opened::Nothing,
+            random: Opened::Nothing,
+            output: Opened::Nothing,
+        }
+    }
+
+    fn opened(&mut self, reading: Reading) -> &mut Opened {
+        match reading {
+            Reading::Input => &mut self.input,
+            Reading::Secret => &mut self.secret,
+            Reading::Random => &mut self.random,
+        }
+    }
+}
+
+// A file to be read, or standard input.
+fn open_to_read(rt: HostRuntime, name: Option<&str>) -> Result<Opened, HostFault>
+    ensures standard { IsNone name.entry → IfOk result IsStandard }
+    ensures named { IsSome name.entry → IfOk result IsNamed }
+{
+    let Some(path) = name else {
+        return Ok(Opened::Standard);
+    };
+    let file = File::open(&rt, path);
+    Ok(Opened::Named(beside_standard_streams(file)?))
+}
+
+// A file to be written, which is made where it is not there, or standard output.
+fn open_to_write(rt: HostRuntime, name: Option<&str>) -> Result<Opened, HostFault>
+    ensures standard { IsNone name.entry → IfOk result IsStandard }
+    ensures named { IsSome name.entry → IfOk result IsNamed }
+{
+    let Some(path) = name else {
+        return Ok(Opened::Standard);
+    };
+    let made = OpenOptions::new().write(true).create(true).open(&rt, path);
+    Ok(Opened::Named(beside_standard_streams(made)?))
+}
+
+impl Opened {
+    // Which regular file it is; a standard stream is found under its descriptor.
+    fn identity(
+        &self,
+        rt: HostRuntime,
+        descriptor: &str,
+    ) -> Result<Option<FileIdentity>, HostFault> {
+        match self {
+            Opened::Nothing => Ok(None),
+            Opened::Standard => Ok(regular_stream(rt, descriptor)),
+            Opened::Named(file) => regular_file(file),
+        }
+    }
+}
+
+impl System for Real {
+    ghost tells = { false };
+
+    ghost world = { λ _. no_world };
+
+    ghost files = { λ _. no_files };
+
+    ghost tries = { λ _. 0 };
+
+    ghost words = { λ _. [] };
+
+    fn word(&self, place: usize, buf: &mut [u8]) -> Result<usize, WordFault> {
+        match self.rt.arg(place, buf) {
+            Ok(n) => Ok(n),
+            Err(FillError::TooLong) => Err(WordFault::TooLong),
+            Err(FillError::NotPresent) => Err(WordFault::Missing),
+        }
+    }
+
+    fn variable(&self, name: &str, buf: &mut [u8]) -> Result<usize, HostFault> {
+        match self.rt.var(name, buf) {
+            Ok(n) => Ok(n),
+            // The buffer holds the first bytes of the value.
+            Err(FillError::TooLong) => Ok(buf.len()),
+            Err(FillError::NotPresent) => Err(HostFault),
+        }
+    }
+
+    fn open(&mut self, reading: Reading, name: Option<&str>) -> Result<(), HostFault> {
+        *self.opened(reading) = open_to_read(self.rt, name)?;
+        Ok(())
+    }
+
+    fn read(&mut self, reading: Reading, buf: &mut [u8]) -> io::Result<usize> {
+        let rt = self.rt;
+        match self.opened(reading) {
+            Opened::Nothing => Err(io::Error::from(ErrorKind::NotFound)),
+            Opened::Standard => rt.stdin().read(buf),
+            Opened::Named(file) => file.read(buf),
+        }
+    }
+
+    fn open_output(&mut self, name: Option<&str>) -> Result<(), HostFault> {
+        self.output = open_to_write(self.rt, name)?;
+        Ok(())
+    }
+
+    fn file(&self, stream: Stream) -> Result<Option<FileIdentity>, HostFault> {
+        match stream {
+            Stream::Input => self.input.identity(self.rt, "/proc/self/fd/0"),
+            Stream::Secret => self.secret.identity(self.rt, "/proc/self/fd/0"),
+            Stream::Output => self.output.identity(self.rt, "/proc/self/fd/1"),
+        }
+    }
+
+    fn empty(&mut self) -> Result<(), HostFault> {
+        match &mut self.output {
+            Opened::Named(file) => file.set_len(0).map_err(|_| HostFault),
+            _ => Err(HostFault),
+        }
+    }
+
+    fn write(&mut self, bytes: &[u8]) -> io::Result<usize> {
+        match &mut self.output {
+            Opened::Nothing => Err(io::Error::from(ErrorKind::NotFound)),
+            Opened::Standard => self.rt.stdout().write(bytes),
+            Opened::Named(file) => file.write(bytes),
+        }
+    }
+
+    fn line(&mut self, line: &str) -> Result<(), HostFault> {
+        eprintln!(self.rt; "{line}").map_err(|_| HostFault)
+    }
+}

@@ -1,0 +1,196 @@
+//! A run over a system: the system, and how far the run has come.
+ghost use Rattle.std.specs.Prelude.{◌≡◌, ◌<◌, ◌≤◌, None, [], length, option_map, take, IfOk, OnOk, OnErr, IsTrue, false};
+ghost use Rattle.host.specs.Asked.{asked_source};
+ghost use Rattle.host.specs.Secret.{IsBeginning, secret_of, source_of};
+ghost use Rattle.host.specs.Seen.{after_ask, after_ask_output, after_open_input, after_open_output, after_pull, after_push, after_salt, after_say};
+ghost use Rattle.tools.specs.Held.{host_seen};
+ghost use Rattle.tools.specs.World.{IsUnused};
+
+use crate::inputs::{read_salt, read_secret};
+use crate::outputs::open_apart;
+use crate::streams::{read_some, write_some};
+use crate::system::{Reading, System};
+use host::{Asked, HostFault, Source};
+use std::marker::Model;
+
+/// How far the input has been read.
+#[derive(Clone, Copy, Debug, PartialEq, Eq)]
+pub enum InputStage {
+    /// It is not opened yet.
+    Unopened,
+    /// It is opened, and its end was not found.
+    Opened,
+    /// Its end was found.
+    Ended,
+}
+
+/// What came of the output.
+#[derive(Clone, Copy, Debug, PartialEq, Eq)]
+pub enum OutputStage {
+    /// None was asked for yet.
+    Unasked,
+    /// One was asked for, and is not taken into use.
+    Refused,
+    /// It is opened, new, and no regular file that is read.
+    Opened,
+}
+
+/// A system, and how far a run over it has come. What the system must not be asked for is a fault: a
+/// stream before it is opened, and one that is opened once an output was asked for.
+///
+/// Contracts see a `Held`.
+#[derive(Drop)]
+pub struct Run<S: System> {
+    system: S,
+    input: InputStage,
+    output: OutputStage,
+    asked: Option<Asked>,
+    salted: bool,
+}
+
+impl<S: System> Model for Run<S> {
+    ghost use Rattle.std.specs.Prelude.{option_map, IsTrue};
+    ghost use Rattle.host.specs.Asked.{asked_source};
+    ghost use Rattle.tools.specs.Held.{Held, IsAt, is_in_use};
+
+    ghost Value = { Held };
+
+    ghost view = { λ r. record {
+      world = S.world r.system;
+      in_use = is_in_use r.output;
+      asked = option_map asked_source r.asked;
+      salted = r.salted;
+    } };
+
+    ghost invariant = { λ r. IsTrue S.tells → IsAt r.input r.output
+        (option_map asked_source r.asked) r.salted (S.world r.system) (S.files r.system) };
+}
+
+impl<S: System> Run<S> {
+    /// A run that is to begin, over a system of which nothing was used.
+    pub fn new(system: S) -> Run<S>
+        requires unused { IsTrue S.tells → IsUnused (S.world system) }
+        ensures seen { result ≡ record { world = S.world system; in_use = false; asked = None; salted = false } }
+    {
+        Run {
+            system,
+            input: InputStage::Unopened,
+            output: OutputStage::Unasked,
+            asked: None,
+            salted: false,
+        }
+    }
+
+    /// The system.
+    pub fn system(&self) -> &S
+        ensures same { S.world result.now ≡ self.now.world }
+    {
+        &self.system
+    }
+
+    /// Opens the input, if no output was asked for.
+    pub fn open_input(&mut self, name: Option<&str>) -> Result<(), HostFault>
+        requires unopened { IsTrue S.tells → self.old.world.input.opened ≡ None }
+        ensures kept { IsTrue S.tells → OnErr result (host_seen self.new ≡ host_seen self.old) }
+        ensures opened { IsTrue S.tells → OnOk result (host_seen self.new
+            ≡ after_open_input (option_map (λ n. n.now) name.entry) (host_seen self.old)) }
+    {
+        if self.output != OutputStage::Unasked {
+            return Err(HostFault);
+        }
+        self.system.open(Reading::Input, name)?;
+        self.input = InputStage::Opened;
+        Ok(())
+    }
+
+    /// Opens an output that is no regular file that is read, and empties it where it is a regular file.
+    pub fn open_output(&mut self, name: Option<&str>) -> Result<(), HostFault>
+        requires unasked { IsTrue S.tells → self.old.world.output_asked ≡ None }
+        ensures asks { IsTrue S.tells → OnErr result (host_seen self.new
+            ≡ after_ask_output (option_map (λ n. n.now) name.entry) (host_seen self.old)) }
+        ensures opened { IsTrue S.tells → OnOk result (host_seen self.new
+            ≡ after_open_output (option_map (λ n. n.now) name.entry) (host_seen self.old)) }
+    {
+        self.output = OutputStage::Refused;
+        open_apart(&mut self.system, name)?;
+        self.output = OutputStage::Opened;
+        Ok(())
+    }
+
+    /// The next bytes of the input. Once its end was found, the system is not asked again.
+    pub fn pull(&mut self, buf: &mut [u8]) -> Result<usize, HostFault>
+        ensures bound { IfOk result (λ n. n ≤ length buf.old) }
+        ensures kept { IsTrue S.tells → OnErr result (host_seen self.new ≡ host_seen self.old) }
+        ensures within { IsTrue S.tells → IfOk result (λ n. n ≤ length self.old.world.input.left) }
+        ensures bytes { IsTrue S.tells →
+            IfOk result (λ n. take n buf.new ≡ take n self.old.world.input.left) }
+        ensures taken { IsTrue S.tells →
+            IfOk result (λ n. host_seen self.new ≡ after_pull n (host_seen self.old)) }
+        ensures some { IsTrue S.tells → IfOk result (λ n.
+            0 < length buf.old → n ≡ 0 → self.old.world.input.left ≡ []) }
+    {
+        if self.input == InputStage::Unopened {
+            return Err(HostFault);
+        }
+        if self.input == InputStage::Ended || buf.is_empty() {
+            return Ok(0);
+        }
+        let n = read_some(&mut self.system, Reading::Input, buf)?;
+        if n == 0 {
+            self.input = InputStage::Ended;
+        }
+        Ok(n)
+    }
+
+    /// Writes a beginning of the bytes to the output.
+    pub fn push(&mut self, bytes: &[u8]) -> Result<usize, HostFault>
+        ensures bound { IfOk result (λ n. n ≤ length bytes.now) }
+        ensures some { IfOk result (λ n. 0 < length bytes.now → 0 < n) }
+        ensures kept { IsTrue S.tells → OnErr result (host_seen self.new ≡ host_seen self.old) }
+        ensures put { IsTrue S.tells → IfOk result (λ n.
+            host_seen self.new ≡ after_push (take n bytes.now) (host_seen self.old)) }
+    {
+        if self.output != OutputStage::Opened {
+            return Err(HostFault);
+        }
+        write_some(&mut self.system, bytes)
+    }
+
+    /// The first bytes of a secret source, if no output was asked for.
+    pub fn secret(&mut self, source: Source<'_>, buf: &mut [u8]) -> Result<usize, HostFault>
+        requires unasked { IsTrue S.tells → self.old.asked ≡ None }
+        ensures bound { IfOk result (λ n. n ≤ length buf.old) }
+        ensures asks { IsTrue S.tells →
+            host_seen self.new ≡ after_ask (source_of source.entry) (host_seen self.old) }
+        ensures bytes { IsTrue S.tells → IfOk result (λ n.
+            IsBeginning (secret_of source.entry (host_seen self.old)) n buf.new) }
+    {
+        self.asked = Some(Asked::of(&source));
+        if self.output != OutputStage::Unasked {
+            return Err(HostFault);
+        }
+        read_secret(&mut self.system, source, buf)
+    }
+
+    /// A salt, if no output was asked for.
+    pub fn salt(&mut self, out: &mut [u8; 32]) -> Result<(), HostFault>
+        requires unsalted { IsTrue S.tells → self.old.salted ≡ false }
+        ensures salts { IsTrue S.tells → host_seen self.new ≡ after_salt (host_seen self.old) }
+        ensures bytes { IsTrue S.tells → OnOk result (out.new ≡ (host_seen self.old).salt) }
+    {
+        self.salted = true;
+        if self.output != OutputStage::Unasked {
+            return Err(HostFault);
+        }
+        read_salt(&mut self.system, out)
+    }
+
+    /// Says a line.
+    pub fn say(&mut self, line: &str) -> Result<(), HostFault>
+        ensures kept { IsTrue S.tells → OnErr result (host_seen self.new ≡ host_seen self.old) }
+        ensures said { IsTrue S.tells →
+            OnOk result (host_seen self.new ≡ after_say line.now (host_seen self.old)) }
+    {
+        self.system.line(line)
+    }
+}

@@ -1,0 +1,142 @@
+//! The calls of the system that the programs make.
+ghost use Rattle.std.specs.Prelude.{◌≡◌, ◌+◌, ◌<◌, ◌≤◌, Bool, ℕ, List, None, true, false, length, option_map, take, IfOk, OnOk, OnErr, IsTrue};
+ghost use Rattle.host.specs.Memory.{lookup};
+ghost use Rattle.host.specs.Secret.{IsBeginning};
+ghost use Rattle.host.specs.Seen.{Text};
+ghost use Rattle.tools.specs.Words.{GivesWord, word_at};
+ghost use Rattle.tools.specs.World.{Files, IsApart, Opens, Reads, World, after_ask_output, after_empty, after_line, after_open_output, after_write, file_of, source_at};
+
+use crate::identity::FileIdentity;
+use host::HostFault;
+use std::io;
+
+/// Why a word of the process is not given.
+#[derive(Clone, Copy, Debug, PartialEq, Eq)]
+pub enum WordFault {
+    /// There is no word at this place.
+    Missing,
+    /// The buffer is too short for it.
+    TooLong,
+}
+
+/// What is read.
+#[derive(Clone, Copy, Debug, PartialEq, Eq)]
+pub enum Reading {
+    /// The input.
+    Input,
+    /// The source of a secret that is no variable.
+    Secret,
+    /// The system's random bytes.
+    Random,
+}
+
+/// An opened stream that may be a regular file which must not be lost.
+#[derive(Clone, Copy, Debug, PartialEq, Eq)]
+pub enum Stream {
+    /// The input.
+    Input,
+    /// The source of a secret.
+    Secret,
+    /// The output.
+    Output,
+}
+
+/// The system, with a method for each of its calls. It keeps what it opens: one stream of each
+/// [`Reading`], and an output.
+///
+/// Contracts see whether the system tells its bytes (`tells`); its bytes, names and lines (`world`);
+/// which regular files its streams are (`files`), which may change where a file is opened, as where a
+/// file system of layers copies a file that is opened to be written; and how often a read or a write was
+/// asked for (`tries`); and the words of the process (`words`). Of a system that tells nothing only the bounds on lengths are said.
+///
+/// What must never happen is a condition of a call: each stream is opened once, and none once an output
+/// was asked for; an output is asked for once; it is emptied and written only while it is no regular
+/// file that is read, and written only if it is new; nothing is read from a stream after its end.
+pub trait System {
+    // Whether contracts may speak of the bytes, names, lines and files.
+    ghost tells: { Bool };
+
+    // The bytes, names and lines.
+    ghost world: { Self → World };
+
+    // Which regular files the opened streams are.
+    ghost files: { Self → Files };
+
+    // How often a read or a write was asked for.
+    ghost tries: { Self → ℕ };
+
+    // The words of the process, of which the first is its name.
+    ghost words: { Self → List Text };
+
+    /// Puts a word of the process into the buffer, and says how many bytes it has. The name of the process
+    /// is at place 0.
+    fn word(&self, place: usize, buf: &mut [u8]) -> Result<usize, WordFault>
+        ensures bound { IfOk result (λ n. n ≤ length buf.old) }
+        ensures bytes { IsTrue tells → GivesWord (word_at (words self.now) place) result buf.new };
+
+    /// Puts the first bytes of a variable into the buffer, as many as there are and as fit.
+    fn variable(&self, name: &str, buf: &mut [u8]) -> Result<usize, HostFault>
+        ensures bound { IfOk result (λ n. n ≤ length buf.old) }
+        ensures bytes { IsTrue tells → IfOk result (λ n.
+            IsBeginning (lookup (world self.now).variables name.now) n buf.new) };
+
+    /// Opens what has this name, to be read from its beginning; `None` is standard input.
+    fn open(&mut self, reading: Reading, name: Option<&str>) -> Result<(), HostFault>
+        requires once { IsTrue tells → (source_at reading (world self.old)).opened ≡ None }
+        requires early { IsTrue tells → (world self.old).output_asked ≡ None }
+        ensures kept { IsTrue tells → OnErr result (world self.new ≡ world self.old) }
+        ensures opened { IsTrue tells → OnOk result
+            (Opens reading (option_map (λ n. n.now) name.entry) (world self.old) (world self.new)) };
+
+    /// Reads the next bytes of an opened stream, and says how many. After an error nothing was read.
+    fn read(&mut self, reading: Reading, buf: &mut [u8]) -> io::Result<usize>
+        requires some { 0 < length buf.old }
+        requires going { IsTrue tells → (source_at reading (world self.old)).is_ended ≡ false }
+        ensures bound { IfOk result (λ n. n ≤ length buf.old) }
+        ensures kept { IsTrue tells → OnErr result (world self.new ≡ world self.old) }
+        ensures bytes { IsTrue tells → IfOk result (λ n.
+            Reads reading n buf.new (world self.old) (world self.new)) }
+        ensures same_files { IsTrue tells → files self.new ≡ files self.old }
+        ensures tried { IsTrue tells → tries self.new ≡ tries self.old + 1 };
+
+    /// Opens an output, which holds what it held before; `None` is standard output. No output was asked
+    /// for before; this one is asked for, whatever the answer.
+    fn open_output(&mut self, name: Option<&str>) -> Result<(), HostFault>
+        requires once { IsTrue tells → (world self.old).output_asked ≡ None }
+        ensures asks { IsTrue tells → OnErr result
+            (world self.new ≡ after_ask_output (option_map (λ n. n.now) name.entry) (world self.old)) }
+        ensures opened { IsTrue tells → OnOk result (world self.new ≡ after_open_output
+            (option_map (λ n. n.now) name.entry) (files self.new).output (world self.old)) };
+
+    /// Which regular file an opened stream is, if it is one. What is not opened is none.
+    fn file(&self, stream: Stream) -> Result<Option<FileIdentity>, HostFault>
+        ensures found { IsTrue tells → IfOk result (λ file. file ≡ file_of stream (files self.now)) };
+
+    /// Takes away what the output holds: a regular file that was opened by its name, was not emptied
+    /// yet, and is none that is read.
+    fn empty(&mut self) -> Result<(), HostFault>
+        requires due { IsTrue tells → (world self.old).is_new ≡ false }
+        requires apart { IsTrue tells → IsApart (files self.old) }
+        ensures kept { IsTrue tells → OnErr result (world self.new ≡ world self.old) }
+        ensures emptied { IsTrue tells → OnOk result (world self.new ≡ after_empty (world self.old)) }
+        ensures same_files { IsTrue tells → files self.new ≡ files self.old };
+
+    /// Writes a beginning of the bytes, and says how many. The output is no regular file that is read,
+    /// and is new. After an error nothing was written.
+    fn write(&mut self, bytes: &[u8]) -> io::Result<usize>
+        requires some { 0 < length bytes.now }
+        requires apart { IsTrue tells → IsApart (files self.old) }
+        requires new { IsTrue tells → (world self.old).is_new ≡ true }
+        ensures bound { IfOk result (λ n. n ≤ length bytes.now) }
+        ensures kept { IsTrue tells → OnErr result (world self.new ≡ world self.old) }
+        ensures put { IsTrue tells → IfOk result (λ n.
+            world self.new ≡ after_write (take n bytes.now) (world self.old)) }
+        ensures same_files { IsTrue tells → files self.new ≡ files self.old }
+        ensures tried { IsTrue tells → tries self.new ≡ tries self.old + 1 };
+
+    /// Writes a line and its line feed to standard error.
+    fn line(&mut self, line: &str) -> Result<(), HostFault>
+        ensures kept { IsTrue tells → OnErr result (world self.new ≡ world self.old) }
+        ensures said { IsTrue tells → OnOk result (world self.new ≡ after_line line.now (world self.old)) }
+        ensures same_files { IsTrue tells → files self.new ≡ files self.old };
+}
