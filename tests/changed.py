@@ -5,7 +5,7 @@
 
 What differs from the commit (HEAD), files that are not committed too, names the crates that changed. Each of them is
 proved and tested, and each crate that stands on one of them is proved, side by side, as packaging/prove.py does it. No
-wrong body is tried; that the text which each replaces stands in its source once is checked.
+wrong body or definition is tried; that the text which each replaces stands in its file once is checked.
 """
 import pathlib
 import subprocess
@@ -32,7 +32,7 @@ def main():
     base = sys.argv[1] if len(sys.argv) > 1 else "HEAD"
     paths = [pathlib.PurePath(line).parts for line in changed_files(base)]
     inside = [parts for parts in paths if parts[0] == "crates" and len(parts) > 2]
-    named = {name for _, name, part, *_ in inside if part not in ("must-fail", "wrong-bodies")}
+    named = {name for _, name, part, *_ in inside if part not in ("must-fail", "wrong-bodies", "wrong-definitions")}
     uses = prove.uses_of()
     changed = [name for name in uses if name in named]
     touched = [name for name in uses if named & {name, *uses[name]}]

@@ -12,15 +12,17 @@ def read(path):
 
 
 def code(crate):
-    """The texts of the crate's sources, without tests."""
-    files = sorted((ROOT / "crates" / crate / "src").rglob("*.rt"))
-    return [file.read_text(encoding="utf-8") for file in files if not TESTS & set(file.relative_to(ROOT).parts)]
+    """The texts of the crate's sources, without tests, by the paths of their modules."""
+    base = ROOT / "crates" / crate / "src"
+    files = [file for file in sorted(base.rglob("*.rt")) if not TESTS & set(file.relative_to(ROOT).parts)]
+    return {"::".join(file.relative_to(base).with_suffix("").parts): file.read_text(encoding="utf-8") for file in files}
 
 
 def functions(crate):
-    """The clauses of each function of a crate, by its name, after that of its type or trait; and its types."""
-    found = {}
-    for text in code(crate):
+    """The clauses of each function of a crate, by its name, after that of its type or trait; and its types. Where functions
+    of several modules have one name, each is told by its path."""
+    found, free = {}, {}
+    for module, text in code(crate).items():
         owner, name = "", None
         for line in text.splitlines():
             if block := re.match(r"(?:pub(?:\(crate\))? )?(?:impl|trait|struct)\b(?:<[^>]*>)? ?(?:.* for )?(\w+)", line):
@@ -29,10 +31,15 @@ def functions(crate):
             elif line.startswith("}"):
                 owner, name = "", None
             elif function := re.match(r'(    )?(?:pub(?:\(\w+\))? )?(?:const |extern "C" )?fn (\w+)', line):
-                name = (owner if function[1] else "") + function[2]
+                name = (owner if function[1] else f"{module}::") + function[2]
                 found.setdefault(name, set())
+                if not function[1]:
+                    free.setdefault(function[2], []).append(name)
             elif name and (clause := re.match(r"\s+(?:ensures|requires) (\w+) \{", line)):
                 found[name].add(clause[1])
+    for name, (path, *others) in free.items():
+        if not others:
+            found[name] = found.pop(path)
     return found
 
 
@@ -44,7 +51,7 @@ def crates():
 
 def handed_on(crate):
     """The functions of other crates that a crate hands on as its own."""
-    for owner, names in re.findall(r"^pub use (\w+)::\{?([^;}]*)\}?;", "\n".join(code(crate)), re.MULTILINE):
+    for owner, names in re.findall(r"^pub use (\w+)::\{?([^;}]*)\}?;", "\n".join(code(crate).values()), re.MULTILINE):
         for name in names.split(", "):
             if name[0].islower() and name in FUNCTIONS.get(owner, {}):
                 yield name, FUNCTIONS[owner][name]
@@ -59,10 +66,12 @@ for each, below in CRATES.items():
 
 
 def calls_named(name, crate, owner=""):
-    """The functions, or the type, of this name, which may lack its type where that is the one named last."""
+    """The functions, or the type, of this name, which may lack its type where that is the one named last; or none, where
+    several modules have one of this name."""
     there = FUNCTIONS[crate]
     exact = [each for each in (owner + name, name) if each in there][:1]
-    return exact or [each for each in there if "::" not in name and each.endswith("::" + name)]
+    hits = exact or [each for each in there if "::" not in name and each.endswith("::" + name)]
+    return [] if len([each for each in hits if each[0].islower() and "::" in each]) > 1 else hits
 
 
 def carriers(crate, promise, cell, wrong):

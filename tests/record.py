@@ -1,7 +1,9 @@
-"""The record of wrong bodies: under which key each was tried, and at which goal it was refused.
+"""The record of wrong bodies, and that of wrong definitions: under which key each was tried, and what refused it.
 
-crates/CRATE/wrong-bodies/record has a row for each edit that was tried: its name, its key (tests/keys.py) and the goal,
-with tabs between. The tables of docs/WRONG_BODIES.md are made from these files.
+crates/CRATE/wrong-bodies/record has a row for each edit that was tried: its name, its key (tests/keys.py) and the
+goal, with tabs between. The tables of docs/WRONG_BODIES.md are made from these files.
+crates/CRATE/wrong-definitions/record has the same of wrong definitions, with a key by tests/definitions.py, and the
+equation; docs/DEFINITIONS.md has their tables.
 """
 import pathlib
 import subprocess
@@ -10,6 +12,7 @@ from edits import TOP
 
 PAGE = TOP / "docs" / "WRONG_BODIES.md"
 FOLDERS = {"must-fail": "**`{}`**", "wrong-bodies": "`{}`"}  # and how the page names an edit of each
+BODIES, DEFINITIONS = "wrong-bodies", "wrong-definitions"  # the folders that have a record
 
 
 def git(*words):
@@ -38,25 +41,25 @@ def edits_of(crate, folder):
     return sorted((TOP / "crates" / crate / folder).glob("*.edit"))
 
 
-def file_of(crate):
-    return pathlib.Path("crates", crate, "wrong-bodies", "record")
+def file_of(crate, folder=BODIES):
+    return pathlib.Path("crates", crate, folder, "record")
 
 
-def rows_of(crate, commit=None):
-    """The rows of a crate's record, as it stands or stood at a commit: key and goal by the edit's name."""
+def rows_of(crate, commit=None, folder=BODIES):
+    """The rows of a crate's record, as it stands or stood at a commit: by the edit's name its key and what refused it."""
     if commit:
-        text = git("show", f"{commit}:{file_of(crate)}") or ""
+        text = git("show", f"{commit}:{file_of(crate, folder)}") or ""
     else:
-        path = TOP / file_of(crate)
+        path = TOP / file_of(crate, folder)
         text = path.read_text(encoding="utf-8") if path.is_file() else ""
     return {name: (key, goal) for name, key, goal in (line.split("\t") for line in text.splitlines())}
 
 
-def write(crate, rows):
+def write(crate, rows, folder=BODIES):
     """Writes the rows of the edits that are there; a record without rows is taken away."""
-    there = {path.stem for folder in FOLDERS for path in edits_of(crate, folder)}
+    there = {path.stem for it in (FOLDERS if folder == BODIES else [folder]) for path in edits_of(crate, it)}
     lines = [f"{name}\t{key}\t{goal}\n" for name, (key, goal) in sorted(rows.items()) if name in there]
-    path = TOP / file_of(crate)
+    path = TOP / file_of(crate, folder)
     if lines:
         path.parent.mkdir(exist_ok=True)
         path.write_text("".join(lines), encoding="utf-8")

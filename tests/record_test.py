@@ -1,19 +1,23 @@
 #!/usr/bin/env python3
-"""Tests the record of wrong bodies: which keys change with which text, in a copy of the crate macs, and that turns are
-even.
+"""Tests the records of wrong bodies and of wrong definitions: which keys change with which text, in a copy of the crate
+macs, and that turns are even.
 """
 import pathlib
 import shutil
 import tempfile
 
+import definitions
+import keys as bodies
 import record
 import turns
 from checking import Checks
+from definitions import Definitions, WrongDefinition
 from edits import TOP, Edit
-from keys import RULES, Tree
+from keys import Tree
 
 CRATE = "macs"
-ALL = {path.stem for path in record.edits_of(CRATE, "wrong-bodies")}
+ALL = {path.stem for path in record.edits_of(CRATE, record.BODIES)}
+ALL_DEFINITIONS = {path.stem for path in record.edits_of(CRATE, record.DEFINITIONS)}
 # A text that stands in a file of the crate once, what is put in its place, and the edits that then have other keys.
 CHANGES = (
     ("a body", "src/hmac.rt", "        xored[i] = ", "        xored[0] = ", set()),
@@ -29,25 +33,44 @@ CHANGES = (
     ("a comment", "src/hmac.rt", "/// The code of the message", "/// The code", set()),
     ("the edit", "wrong-bodies/salt-as-password.edit", "new: ", "new:  ", {"salt-as-password"}),
 )
+# The same, and the wrong definitions that then have other keys.
+OF_33_BYTES = {"blocks-from-0", "whole-blocks-alone"}
+CHANGES_OF_DEFINITIONS = (
+    ("a body", "src/hmac.rt", "        xored[i] = ", "        xored[0] = ", set()),
+    ("a definition", "specs/Pbkdf2.antt", "take n (", "take 1 (", OF_33_BYTES),
+    ("one that all reach", "specs/HmacSha256.antt", "sha256 (inner_key", "sha256 (outer_key", ALL_DEFINITIONS),
+    ("a comment on one", "specs/Pbkdf2.antt", "-- T_i", "-- the T_i", set()),
+    ("an equation", "src/vectors.rt", "0x49 ∷ [] }", "0x4A ∷ [] }", OF_33_BYTES),
+    ("another equation", "src/vectors.rt", "0x83 ∷ [] }", "0x84 ∷ [] }", set()),
+    ("an answer", "proofs/vectors/pbkdf2_of_33_bytes/Answers.antt", "key_block joined", "joined", OF_33_BYTES),
+    ("the edit", "wrong-definitions/whole-blocks-alone.edit", "new: ", "new:  ", {"whole-blocks-alone"}),
+)
 
 
 def tree_of(room):
     """A copy of the crate and of the rules."""
     shutil.copytree(TOP / "crates" / CRATE, room / "crates" / CRATE, ignore=shutil.ignore_patterns("out"))
     (room / "tests").mkdir()
-    for name in RULES:
+    for name in (*bodies.RULES, *definitions.RULES):
         shutil.copy(TOP / "tests" / name, room / "tests")
     return room
 
 
 def keys(folder, kit="a kit"):
-    """The key of each of the crate's edits in this copy, by the edit's name."""
+    """The key of each of the crate's wrong bodies in this copy, by the edit's name."""
     tree = Tree(folder)
-    edits = sorted((folder / "crates" / CRATE / "wrong-bodies").glob("*.edit"))
+    edits = sorted((folder / "crates" / CRATE / record.BODIES).glob("*.edit"))
     return {path.stem: tree.key(Edit(path), [CRATE], kit) for path in edits}
 
 
-def other(folder, file, old, new):
+def keys_of_definitions(folder, kit="a kit"):
+    """The same of its wrong definitions."""
+    tree, found = Tree(folder), Definitions(folder)
+    edits = sorted((folder / "crates" / CRATE / record.DEFINITIONS).glob("*.edit"))
+    return {path.stem: WrongDefinition(path, found).key(found, tree, [CRATE], kit) for path in edits}
+
+
+def other(folder, file, old, new, keys=keys):
     """The edits whose keys are others with this text in place of that, or how often that stands there, if not once."""
     path, before = folder / file, keys(folder)
     text = path.read_text(encoding="utf-8")
@@ -65,6 +88,16 @@ def keys_change(checks, folder):
     checks.that("keys: the toolchain", {*keys(folder).items()} & {*keys(folder, "another").items()}, set())
 
 
+def keys_of_definitions_change(checks, folder):
+    for what, file, old, new, expected in CHANGES_OF_DEFINITIONS:
+        found = other(folder, f"crates/{CRATE}/{file}", old, new, keys_of_definitions)
+        checks.that(f"keys of definitions: {what}", found, expected)
+    found = other(folder, "tests/definitions.py", "MOST = 8", "MOST = 7", keys_of_definitions)
+    checks.that("keys of definitions: a rule of the trial", found, ALL_DEFINITIONS)
+    found = other(folder, f"crates/{CRATE}/src/vectors.rt", "0x49 ∷ []", "0x4A ∷ []")
+    checks.that("keys: an equation", found, set())
+
+
 def turns_are_even(checks):
     costs = {f"unit {at}": 1 + at * at % 40 for at in range(60)}
     found = turns.turns(costs)
@@ -77,7 +110,9 @@ def turns_are_even(checks):
 def main():
     checks = Checks("none")
     with tempfile.TemporaryDirectory() as room:
-        keys_change(checks, tree_of(pathlib.Path(room)))
+        folder = tree_of(pathlib.Path(room))
+        keys_change(checks, folder)
+        keys_of_definitions_change(checks, folder)
     turns_are_even(checks)
     checks.end()
 

@@ -1,5 +1,5 @@
 //! The checker computes the definitions on vectors: each function has no body, and its clause is the vector.
-ghost use Rattle.std.specs.Prelude.{◌≡◌, ◌+◌, ◌*◌, ◌^◌, [], ◌∷◌};
+ghost use Rattle.std.specs.Prelude.{◌≡◌, ◌+◌, ◌-◌, ◌*◌, ◌^◌, [], ◌∷◌, drop};
 ghost use Rattle.std.specs.List.{range_with_len};
 ghost use Rattle.aes_ctr.specs.Aes.{aes256, key_schedule, product, sub_byte, word_at};
 ghost use Rattle.aes_ctr.specs.CounterMode.{counter_mode_from, key_stream_block};
@@ -54,4 +54,9 @@ fn key_stream_block_past_2_32()
 // A byte 0xFF at place 3 of that block
 fn byte_past_2_32_blocks()
     ensures byte { counter_mode_from (range_with_len 0 32) (16 * (2 ^ 32 + 4) + 3) (0xFF ∷ []) ≡ 0x0E ∷ [] }
+{}
+
+// The byte after the last one of a block is the first of the next block, here of that one, with a byte 0xFF.
+fn byte_of_the_next_block()
+    ensures byte { drop 1 (counter_mode_from (range_with_len 0 32) (16 * (2 ^ 32 + 4) - 1) (0 ∷ 0xFF ∷ [])) ≡ 0xC5 ∷ [] }
 {}

@@ -17,3 +17,4 @@ pub mod Lanes
 pub mod Weave
 pub mod Laws
 pub mod Inside
+pub mod Vectors

@@ -25,7 +25,7 @@ planned_place parameters pass lane slice index =
     }
 
 -- for this H 0, the block of a column is G of the previous block and of the one that the planned
--- word names, with the old block xored in from the second pass on
+-- word names, with the old block xored in where `is_xored_in`: from the second pass on, and never in version 0x10
 abbrev pub IsMadeAsPlanned : Parameters → List ℕ → ℕ → ℕ → ℕ → ℕ → Type 0
 IsMadeAsPlanned parameters h0 pass lane slice index =
     let number = pass * lane_len parameters + (slice * segment_len parameters + index) in

@@ -1,5 +1,5 @@
--- The ranges of the parameters (RFC 9106, 3.1). The upper ends of tag, salt and password are
--- narrower here.
+-- The ranges of the parameters (RFC 9106, 3.1). The upper ends of tag, salt and password are narrower here, and so
+-- are two lower ones: a salt has at least 8 bytes and a password 1, where the RFC allows none at all.
 use Rattle.std.specs.Prelude.{◌≡◌, ℕ, ◌*◌, ◌==◌, ◌<◌, ◌≤◌, ◌^◌, Bool, true, ◌&&◌, ◌||◌, nat_le, Result, Ok, Err, ⊤, if◌then◌else◌}
 use Rattle.argon.specs.Counts.{work}
 use Rattle.argon.specs.Parameters.{Parameters, block_count}
@@ -10,7 +10,7 @@ use Rattle.argon.specs.declared.fault.ParamFault.TheVariants as fault
 abbrev pub is_version : ℕ → Bool
 is_version version = (version == 0x10) || (version == 0x13)
 
--- each parameter is in its range (3.1)
+-- each parameter is in its range (3.1, but for the ends of lengths that are own)
 pub record IsInRange (parameters : Parameters) : Type 0 where
   pub kind : parameters.kind ≤ 2
   pub version : is_version parameters.version ≡ true

@@ -1,10 +1,16 @@
 //! What the checker computes of the definitions in specs/: each function's clause is an equation,
 //! which is proved by computing both sides. So the definitions are run, and not the code.
-ghost use Rattle.std.specs.Prelude.{◌≡◌, ◌+◌, ◌*◌, ◌%◌, ◌^◌, ◌<◌, [], ◌∷◌, codes, length, map};
+ghost use Rattle.std.specs.Prelude.{◌≡◌, ◌+◌, ◌-◌, ◌*◌, ◌%◌, ◌^◌, ◌<◌, [], ◌∷◌, Ok, Err, codes, false, length, map, replicate, true};
 ghost use Rattle.std.specs.List.{range_with_len};
-ghost use Rattle.argon.specs.Argon2.{argon2_tag};
+ghost use Rattle.argon.specs.Argon2.{argon2_tag, first_hash};
 ghost use Rattle.argon.specs.Compression.{compression};
+ghost use Rattle.argon.specs.Counts.{addresses_begun, column_work, slice_work, work};
 ghost use Rattle.argon.specs.Inputs.{AreInputsOf, inputs_of};
+ghost use Rattle.argon.specs.Range.{admission, checked_parameters};
+ghost use Rattle.argon.specs.Reference.{is_independent, reference_lane, reference_set, reference_words, relative_place};
+ghost use Rattle.argon.specs.Vectors.{two_lanes};
+ghost use Rattle.argon.specs.Weaving.{lane_work_left, work_left};
+ghost use Rattle.argon.specs.declared.fault.ParamFault.TheVariants.{Lanes, Memory, MemoryLimit, Passes, PasswordLength, SaltLength, TagLength, WorkLimit};
 
 use crate::inputs::Inputs;
 use crate::matrix::Matrix;
@@ -240,3 +246,136 @@ fn count_of_a_plan_of_129_columns(params: &Params, slice: u32, out: &mut [Place]
 {
     plan_segment(params, 0, 0, slice, out, ticks);
 }
+
+// printf password | argon2 somesalt -i -t 2 -k 9 -p 1 -l 32 -r: one KiB more than the blocks have
+fn tag_of_argon2i_in_two_passes()
+    ensures tag { argon2_tag (record {
+      kind = 1;
+      version = 0x13;
+      passes = 2;
+      lanes = 1;
+      memory_kib = 9;
+      tag_len = 32;
+      salt_len = 8;
+      password_len = 8;
+    }) (record {
+      password = codes "password";
+      salt = codes "somesalt";
+      secret = [];
+      associated = [];
+    }) ≡
+        0x89 ∷ 0x95 ∷ 0xC4 ∷ 0xD7 ∷ 0x64 ∷ 0xED ∷ 0x9F ∷ 0xFD ∷
+        0xD6 ∷ 0xBC ∷ 0x1B ∷ 0xCB ∷ 0xA0 ∷ 0x69 ∷ 0xA7 ∷ 0x36 ∷
+        0x86 ∷ 0x4B ∷ 0x13 ∷ 0xA7 ∷ 0xE4 ∷ 0xB8 ∷ 0xC8 ∷ 0x19 ∷
+        0xAB ∷ 0x9E ∷ 0x47 ∷ 0xAA ∷ 0xE8 ∷ 0x71 ∷ 0x35 ∷ 0x2C ∷ [] }
+{}
+
+// RFC 9106, section 5.1: the pre-hashing digest, with a secret and associated data.
+fn first_hash_of_the_standard()
+    ensures hash { first_hash (record {
+      kind = 0;
+      version = 0x13;
+      passes = 3;
+      lanes = 4;
+      memory_kib = 32;
+      tag_len = 32;
+      salt_len = 16;
+      password_len = 32;
+    }) (record {
+      password = replicate 32 1;
+      salt = replicate 16 2;
+      secret = replicate 8 3;
+      associated = replicate 12 4;
+    }) ≡
+        0xB8 ∷ 0x81 ∷ 0x97 ∷ 0x91 ∷ 0xA0 ∷ 0x35 ∷ 0x96 ∷ 0x60 ∷
+        0xBB ∷ 0x77 ∷ 0x09 ∷ 0xC8 ∷ 0x5F ∷ 0xA4 ∷ 0x8F ∷ 0x04 ∷
+        0xD5 ∷ 0xD8 ∷ 0x2C ∷ 0x05 ∷ 0xC5 ∷ 0xF2 ∷ 0x15 ∷ 0xCC ∷
+        0xDB ∷ 0x88 ∷ 0x54 ∷ 0x91 ∷ 0x71 ∷ 0x7C ∷ 0xF7 ∷ 0x57 ∷
+        0x08 ∷ 0x2C ∷ 0x28 ∷ 0xB9 ∷ 0x51 ∷ 0xBE ∷ 0x38 ∷ 0x14 ∷
+        0x10 ∷ 0xB5 ∷ 0xFC ∷ 0x2E ∷ 0xB7 ∷ 0x27 ∷ 0x40 ∷ 0x33 ∷
+        0xB9 ∷ 0xFD ∷ 0xC7 ∷ 0xAE ∷ 0x67 ∷ 0x2B ∷ 0xCA ∷ 0xAC ∷
+        0x5D ∷ 0x17 ∷ 0x90 ∷ 0x97 ∷ 0xA4 ∷ 0xAF ∷ 0x31 ∷ 0x09 ∷ [] }
+{}
+
+// The word J of a column that the second address block of its segment has, in the third pass, the second lane and the
+// last slice, as tests/address_block.c prints it of Debian's libargon2 0~20171227, the reference implementation.
+fn word_of_the_second_address_block()
+    ensures word { reference_words two_lanes 2 1 3 200 [] ≡ 0xC5D6A329209A6F59 }
+{}
+
+// W of segments of three columns, by RFC 9106, section 3.4.2, by hand: column c of pass r has the number 12 * r + c.
+fn reference_sets_of_three_columns()
+    ensures own_lane { reference_set 3 1 2 2 true ≡ range_with_len 9 10 }
+    ensures own_lane_first_column { reference_set 3 1 2 0 true ≡ range_with_len 9 8 }
+    ensures other_lane { reference_set 3 1 2 2 false ≡ range_with_len 9 9 }
+    ensures other_lane_first_column { reference_set 3 1 2 0 false ≡ range_with_len 9 8 }
+    ensures first_slice { reference_set 3 1 0 1 true ≡ range_with_len 3 9 }
+    ensures last_slice { reference_set 3 1 3 1 true ≡ range_with_len 12 9 }
+    ensures first_pass { reference_set 3 0 1 2 true ≡ range_with_len 0 4 }
+    ensures first_block { reference_set 3 0 0 2 true ≡ 0 ∷ [] }
+{}
+
+// J 1 of 0, of a half and of the greatest word, by RFC 9106, section 3.4.2: x is 0, a quarter and almost all.
+fn places_of_three_words()
+    ensures none { relative_place 10 0 ≡ 9 }
+    ensures half { relative_place 10 (2 ^ 31) ≡ 7 }
+    ensures greatest { relative_place 10 (2 ^ 32 - 1) ≡ 0 }
+{}
+
+// Which lane J 2 names, and which segments are addressed without blocks (RFC 9106, 3.4.1.3 and 3.4.2).
+fn lanes_and_kinds_of_segments()
+    ensures other_lane { reference_lane two_lanes 0 0 1 (2 ^ 32) ≡ 1 }
+    ensures own_lane { reference_lane two_lanes 0 1 1 (2 ^ 33) ≡ 0 }
+    ensures first_slice { reference_lane two_lanes 0 1 0 (2 ^ 33) ≡ 1 }
+    ensures first_slice_later { reference_lane two_lanes 1 1 0 (2 ^ 33) ≡ 0 }
+    ensures argon2i { is_independent two_lanes 2 3 ≡ true }
+    ensures argon2d { is_independent (record two_lanes { kind = 0 }) 0 0 ≡ false }
+    ensures argon2id { is_independent (record two_lanes { kind = 2 }) 0 1 ≡ true }
+    ensures argon2id_third_slice { is_independent (record two_lanes { kind = 2 }) 0 2 ≡ false }
+    ensures argon2id_second_pass { is_independent (record two_lanes { kind = 2 }) 1 0 ≡ false }
+{}
+
+// Block functions of a column, of what a lane has left of a segment of 201 columns, and of what two lanes have: one for
+// each column, and two for each address block, of which the first is made with the segment.
+fn work_by_columns()
+    ensures first_column { addresses_begun 0 ≡ 0 }
+    ensures column_64 { addresses_begun 64 ≡ 0 }
+    ensures column_127 { addresses_begun 127 ≡ 0 }
+    ensures column_128 { addresses_begun 128 ≡ 1 }
+    ensures column_256 { addresses_begun 256 ≡ 1 }
+    ensures work_of_column_127 { column_work two_lanes 1 2 127 ≡ 1 }
+    ensures work_of_column_128 { column_work two_lanes 1 2 128 ≡ 3 }
+    ensures work_of_argon2d { column_work (record two_lanes { kind = 0 }) 1 2 128 ≡ 1 }
+    ensures all_left { lane_work_left two_lanes 1 2 201 ≡ 203 }
+    ensures before_column_128 { lane_work_left two_lanes 1 2 73 ≡ 75 }
+    ensures after_column_128 { lane_work_left two_lanes 1 2 72 ≡ 72 }
+    ensures none_left { lane_work_left two_lanes 1 2 0 ≡ 0 }
+    ensures left_of_argon2d { lane_work_left (record two_lanes { kind = 0 }) 1 2 201 ≡ 201 }
+    ensures slice { slice_work two_lanes 1 2 ≡ 410 }
+    ensures first_slice { slice_work two_lanes 0 0 ≡ 406 }
+    ensures whole { work two_lanes ≡ 4916 }
+    ensures two_lanes_left { work_left (record {
+      matrix = record { parameters = two_lanes; is_started = true; first_hash = []; slices_made = 6; blocks = [] };
+      left = 201 ∷ 72 ∷ [];
+    }) ≡ 275 }
+{}
+
+// Parameters at the ends of their ranges, the first fault of several, and limits (RFC 9106, 3.1; the upper ends of tag,
+// salt and password, and the lower ends of salt and password, are own).
+fn faults_of_parameters()
+    ensures in_range { checked_parameters two_lanes ≡ Ok two_lanes }
+    ensures passes { checked_parameters (record two_lanes { passes = 0; lanes = 0; memory_kib = 0; tag_len = 0; salt_len = 0; password_len = 0 }) ≡ Err Passes }
+    ensures lanes { checked_parameters (record two_lanes { lanes = 0; memory_kib = 2 ^ 32; tag_len = 0; salt_len = 0; password_len = 0 }) ≡ Err Lanes }
+    ensures memory { checked_parameters (record two_lanes { memory_kib = 15; tag_len = 0; salt_len = 0; password_len = 0 }) ≡ Err Memory }
+    ensures tag { checked_parameters (record two_lanes { memory_kib = 16; tag_len = 3; salt_len = 0; password_len = 0 }) ≡ Err TagLength }
+    ensures salt { checked_parameters (record two_lanes { tag_len = 4; salt_len = 7; password_len = 0 }) ≡ Err SaltLength }
+    ensures password { checked_parameters (record two_lanes { tag_len = 4096; salt_len = 255; password_len = 128 }) ≡ Err PasswordLength }
+    ensures passes_above { checked_parameters (record two_lanes { passes = 2 ^ 32 }) ≡ Err Passes }
+    ensures lanes_above { checked_parameters (record two_lanes { lanes = 2 ^ 24 }) ≡ Err Lanes }
+    ensures memory_above { checked_parameters (record two_lanes { memory_kib = 2 ^ 32 }) ≡ Err Memory }
+    ensures tag_above { checked_parameters (record two_lanes { tag_len = 4097 }) ≡ Err TagLength }
+    ensures salt_above { checked_parameters (record two_lanes { salt_len = 256 }) ≡ Err SaltLength }
+    ensures admitted { admission two_lanes 1608 4916 ≡ Ok tt }
+    ensures memory_limit { admission two_lanes 1607 4915 ≡ Err MemoryLimit }
+    ensures work_limit { admission two_lanes 1608 4915 ≡ Err WorkLimit }
+{}

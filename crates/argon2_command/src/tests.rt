@@ -2,13 +2,17 @@
 //! words of the row gives them; its report on standard output is what a run writes.
 mod refusing;
 
+ghost use Rattle.std.specs.Prelude.{◌≡◌, ◌^◌, ◌<◌, IfOk};
+ghost use Rattle.host.specs.Faults.{AreBelow};
+ghost use Rattle.host.specs.Memory.{memory_faults, memory_seen};
+ghost use Rattle.host.specs.Seen.{IsFresh};
+
 use self::refusing::{Asked, Refusing};
 use super::run::attempt;
 use super::{Argon2Refusal, argon2};
 use argon::Ticks;
 use host::MemoryHost;
 use std::alloc::{AllocError, Global};
-use std::process::Abort;
 use std::test::Fail;
 
 const USAGE: &str =
@@ -47,12 +51,15 @@ const OUTPUT_FAULT: &str = "argon2: output cannot be written";
 // somesalt -t 2 -m 8 -e
 const TWO_PASSES: &str =
     "$argon2i$v=19$m=256,t=2,p=1$c29tZXNhbHQ$iekCn0Y3spW+sCcFanM2xBT63UP2sghkUoHLIUpWRS8";
+// That with its line feed, as it is written.
+const TWO_PASSES_LINE: &[u8] =
+    b"$argon2i$v=19$m=256,t=2,p=1$c29tZXNhbHQ$iekCn0Y3spW+sCcFanM2xBT63UP2sghkUoHLIUpWRS8\n";
 // somesalt -d -t 1 -k 8 -e
 const ONE_PASS: &str =
     "$argon2d$v=19$m=8,t=1,p=1$c29tZXNhbHQ$xRnmA6xgPsGutbcexEpheePzl1sUwMl+ORTHnmNj4Xg";
 
 // Words and what standard output gets before its line feed.
-const HASHES: [(&str, &str); 21] = [
+const HASHES: &[(&str, &str)] = &[
     ("somesalt -t 2 -m 8 -e", TWO_PASSES),
     ("somesalt -i -v 13 -p 1 -l 32 -t 2 -m 8 -e -e", TWO_PASSES),
     (
@@ -119,7 +126,7 @@ const HASHES: [(&str, &str); 21] = [
 ];
 
 // Words and the line of their refusal.
-const REFUSALS: [(&str, &str); 50] = [
+const REFUSALS: &[(&str, &str)] = &[
     ("", USAGE),
     ("-h", USAGE),
     ("-h -q", USAGE),
@@ -184,209 +191,237 @@ fn words(alloc: Global, line: &str) -> Result<Vec<String>, AllocError> {
         .try_collect(alloc)
 }
 
-// Whether this line was said, and no other.
-fn has_said(host: &MemoryHost, told: &str) -> bool {
-    matches!(host.lines(), [line] if line.as_str() == told)
+// A host with this standard input.
+fn host_with(alloc: Global, stdin: &[u8]) -> Result<MemoryHost, AllocError>
+    ensures room { IfOk result (λ host. AreBelow (2 ^ 63) (memory_faults host)) }
+    ensures fresh { IfOk result (λ host. IsFresh (memory_seen host)) }
+{
+    let stdin = stdin.to_vec(alloc)?;
+    Ok(MemoryHost::new(alloc, Vec::new(alloc), stdin, [0; 32]))
 }
 
-// Runs the words over a host that gives this standard input, and compares all that comes to the host.
-fn check(
-    rt: &impl Abort,
+// Runs the words of a line.
+fn run_line(alloc: Global, line: &str, host: &mut MemoryHost) -> Result<u8, AllocError>
+    requires room { AreBelow (2 ^ 63) (memory_faults host.old) }
+    requires fresh { IsFresh (memory_seen host.old) }
+{
+    let words = words(alloc, line)?;
+    Ok(argon2(alloc, &words, host))
+}
+
+// The line that was said, where it is one.
+fn only_line(host: &MemoryHost) -> Option<&str> {
+    match host.lines() {
+        [line] => Some(line.as_str()),
+        _ => None,
+    }
+}
+
+// Whether this is all that comes to the host: a text and a line feed after status 0, or the line of a refusal.
+fn ends(host: &MemoryHost, status: u8, answer: Result<&str, &str>) -> bool {
+    let is_so = match answer {
+        Ok(text) => {
+            status == 0
+                && host.output().strip_suffix(b"\n") == Some(text.as_bytes())
+                && host.lines().len() == 0
+                && host.output_name() == Some(None)
+        }
+        Err(told) => {
+            status == 1
+                && host.output().len() == 0
+                && only_line(host) == Some(told)
+                && host.output_name() == None
+        }
+    };
+    is_so && host.input_name() == None
+}
+
+// Whether the words end so over a host that gives this standard input.
+fn runs(
     alloc: Global,
     line: &str,
     stdin: &[u8],
     answer: Result<&str, &str>,
-) -> Result<(), AllocError> {
-    let words = words(alloc, line)?;
-    let mut host = MemoryHost::new(alloc, Vec::new(alloc), stdin.to_vec(alloc)?, [0; 32]);
-    let status = argon2(alloc, &words, &mut host);
-    match answer {
-        Ok(text) => {
-            assert_eq!(rt; status, 0, "{line}");
-            assert_eq!(rt;
-                host.output().strip_suffix(b"\n"),
-                Some(text.as_bytes()),
-                "{line}"
-            );
-            assert_eq!(rt; host.lines().len(), 0, "{line}");
-            assert_eq!(rt; host.output_name(), Some(None), "{line}");
-        }
-        Err(told) => {
-            assert_eq!(rt; status, 1, "{line}");
-            assert_eq!(rt; host.output().len(), 0, "{line}");
-            assert!(rt; has_said(&host, told), "{line}");
-            assert_eq!(rt; host.output_name(), None, "{line}");
-        }
-    }
-    assert_eq!(rt; host.input_name(), None, "{line}");
-    Ok(())
+) -> Result<bool, AllocError> {
+    let mut host = host_with(alloc, stdin)?;
+    let status = run_line(alloc, line, &mut host)?;
+    Ok(ends(&host, status, answer))
 }
 
 #[test]
 fn hashes(rt: HostRuntime) -> Result<(), Fail> {
-    for (line, text) in HASHES.iter() {
-        check(&rt, rt.alloc(), line, b"password", Ok(*text))?;
+    for (line, text) in HASHES {
+        assert!(rt; runs(rt.alloc(), line, b"password", Ok(*text))?, "{line}");
     }
     Ok(())
 }
 
 #[test]
 fn refusals(rt: HostRuntime) -> Result<(), Fail> {
-    for (line, told) in REFUSALS.iter() {
-        check(&rt, rt.alloc(), line, b"password", Err(*told))?;
+    for (line, told) in REFUSALS {
+        assert!(rt; runs(rt.alloc(), line, b"password", Err(*told))?, "{line}");
     }
     Ok(())
 }
 
-// The password is all of standard input: 1 to 127 bytes, of which none is special.
-#[test]
-fn passwords(rt: HostRuntime) -> Result<(), Fail> {
-    let alloc = rt.alloc();
+// Words, a standard input and how the run ends. The password is all of standard input: 1 to 127 bytes, of which none is
+// special.
+const PASSWORDS: &[(&str, &[u8], Result<&str, &str>)] = &[
     // head -c 127 /dev/zero | tr '\0' a | argon2 somesalt -t 2 -m 8 -e
-    let longest =
-        "$argon2i$v=19$m=256,t=2,p=1$c29tZXNhbHQ$3SM658khyO9aPcqqhCED4x7ArKLkDOScE0pcsllZ2a8";
-    check(
-        &rt,
-        alloc,
+    (
         "somesalt -t 2 -m 8 -e",
         &[b'a'; 127],
-        Ok(longest),
-    )?;
+        Ok("$argon2i$v=19$m=256,t=2,p=1$c29tZXNhbHQ$3SM658khyO9aPcqqhCED4x7ArKLkDOScE0pcsllZ2a8"),
+    ),
     // printf 'pass\nword\n' | argon2 somesalt -t 1 -k 8 -e
-    let lines = "$argon2i$v=19$m=8,t=1,p=1$c29tZXNhbHQ$XAmIu7d+PoYy1k99lTH9FPxow2atK+jpBF/mZ8FOh1Y";
-    check(
-        &rt,
-        alloc,
+    (
         "somesalt -t 1 -k 8 -e",
         b"pass\nword\n",
-        Ok(lines),
-    )?;
-    check(
-        &rt,
-        alloc,
-        "somesalt -t 2 -m 8 -e",
-        &[b'a'; 128],
-        Err(LONG_PASSWORD),
-    )?;
-    check(
-        &rt,
-        alloc,
-        "somesalt -d -t 1 -k 8 -e",
-        b"",
-        Err(EMPTY_PASSWORD),
-    )?;
+        Ok("$argon2i$v=19$m=8,t=1,p=1$c29tZXNhbHQ$XAmIu7d+PoYy1k99lTH9FPxow2atK+jpBF/mZ8FOh1Y"),
+    ),
+    ("somesalt -t 2 -m 8 -e", &[b'a'; 128], Err(LONG_PASSWORD)),
+    ("somesalt -d -t 1 -k 8 -e", b"", Err(EMPTY_PASSWORD)),
     // It is read after the words and before the ranges.
-    check(&rt, alloc, "somesalt -t 0 -e", b"", Err(EMPTY_PASSWORD))?;
-    check(&rt, alloc, "somesalt -t x -e", b"", Err(BAD_NUMBER))?;
+    ("somesalt -t 0 -e", b"", Err(EMPTY_PASSWORD)),
+    ("somesalt -t x -e", b"", Err(BAD_NUMBER)),
+];
+
+#[test]
+fn passwords(rt: HostRuntime) -> Result<(), Fail> {
+    for (line, stdin, answer) in PASSWORDS {
+        assert!(rt; runs(rt.alloc(), line, stdin, *answer)?, "{line}");
+    }
     Ok(())
+}
+
+// Whether a run, one byte a push, ends so with this call of the host's failing: with a status, one line if it is 1,
+// and so many bytes of its output, which is opened or not.
+fn breaks_off(
+    alloc: Global,
+    call: u64,
+    told: Option<&str>,
+    written: usize,
+    is_opened: bool,
+) -> Result<bool, AllocError> {
+    let mut host = host_with(alloc, b"password")?;
+    host.set_sizes(1, 1);
+    host.fail_at(call);
+    let status = run_line(alloc, "somesalt -t 2 -m 8 -e", &mut host)?;
+    Ok(
+        status == u8::from(told.is_some())
+            && only_line(&host) == told
+            && host.lines().len() == usize::from(told.is_some())
+            && host.output().len() == written
+            && TWO_PASSES_LINE.starts_with(host.output())
+            && host.output_name().is_some() == is_opened,
+    )
 }
 
 // The calls are one secret, one opening, and a push for each of the 84 bytes.
 #[test]
 fn each_host_call_fails(rt: HostRuntime) -> Result<(), Fail> {
     let alloc = rt.alloc();
-    let words = words(alloc, "somesalt -t 2 -m 8 -e")?;
-    let mut whole = TWO_PASSES.as_bytes().to_vec(alloc)?;
-    whole.push(b'\n')?;
-    for call in 1..=86usize {
-        let mut host = MemoryHost::new(alloc, Vec::new(alloc), b"password".to_vec(alloc)?, [0; 32]);
-        host.set_sizes(1, 1);
-        host.fail_at(call as u64);
-        assert_eq!(rt; argon2(alloc, &words, &mut host), 1, "call {call}");
-        let told = if call == 1 {
-            PASSWORD_FAULT
-        } else {
-            OUTPUT_FAULT
-        };
-        assert!(rt; has_said(&host, told), "call {call}");
-        assert_eq!(rt; host.output_name().is_some(), call > 2, "call {call}");
-        assert_eq!(rt;
-            host.output(),
-            &whole[..call.saturating_sub(3)],
-            "call {call}"
+    assert!(rt; breaks_off(alloc, 1, Some(PASSWORD_FAULT), 0, false)?);
+    assert!(rt; breaks_off(alloc, 2, Some(OUTPUT_FAULT), 0, false)?);
+    for written in 0..84usize {
+        let call = written as u64 + 3;
+        assert!(rt;
+            breaks_off(alloc, call, Some(OUTPUT_FAULT), written, true)?,
+            "{call}"
         );
     }
-    let mut host = MemoryHost::new(alloc, Vec::new(alloc), b"password".to_vec(alloc)?, [0; 32]);
-    host.set_sizes(1, 1);
-    host.fail_at(87);
-    assert_eq!(rt; argon2(alloc, &words, &mut host), 0);
-    assert_eq!(rt; host.output(), whole.as_slice());
+    assert!(rt; breaks_off(alloc, 87, None, 84, true)?);
     Ok(())
+}
+
+// Whether a run says and writes nothing, with this call of the host's failing.
+fn is_silent(alloc: Global, line: &str, call: u64) -> Result<bool, AllocError> {
+    let mut host = host_with(alloc, b"")?;
+    host.fail_at(call);
+    let status = run_line(alloc, line, &mut host)?;
+    Ok(status == 1 && host.lines().len() == 0 && host.output().len() == 0)
 }
 
 // A line that cannot be said is passed over.
 #[test]
 fn says_nothing(rt: HostRuntime) -> Result<(), Fail> {
-    let alloc = rt.alloc();
-    for (line, call) in [("", 1), ("somesalt -e", 2)] {
-        let mut host = MemoryHost::new(alloc, Vec::new(alloc), Vec::new(alloc), [0; 32]);
-        host.fail_at(call);
-        assert_eq!(rt; argon2(alloc, &words(alloc, line)?, &mut host), 1, "{line}");
-        assert_eq!(rt; host.lines().len(), 0, "{line}");
-        assert_eq!(rt; host.output().len(), 0, "{line}");
-    }
+    assert!(rt; is_silent(rt.alloc(), "", 1)?);
+    assert!(rt; is_silent(rt.alloc(), "somesalt -e", 2)?);
     Ok(())
 }
 
-// The longest tag, by the first and the last 32 bytes that the reference program gives.
+// Whether the longest tag has these first and last 32 bytes.
+fn has_longest_tag(alloc: Global, first: &[u8], last: &[u8]) -> Result<bool, AllocError> {
+    let mut host = host_with(alloc, b"password")?;
+    let status = run_line(alloc, "somesalt -d -t 1 -k 8 -l 4096 -r", &mut host)?;
+    Ok(
+        status == 0
+            && host.output().len() == 8193
+            && host.output().starts_with(first)
+            && host.output().ends_with(last),
+    )
+}
+
+// As the reference program gives them.
 #[test]
 fn longest_tag(rt: HostRuntime) -> Result<(), Fail> {
-    let alloc = rt.alloc();
-    let words = words(alloc, "somesalt -d -t 1 -k 8 -l 4096 -r")?;
-    let mut host = MemoryHost::new(alloc, Vec::new(alloc), b"password".to_vec(alloc)?, [0; 32]);
-    assert_eq!(rt; argon2(alloc, &words, &mut host), 0);
-    let output = host.output();
-    assert_eq!(rt; output.len(), 8193);
-    assert!(rt;
-        output.starts_with(b"11164024bbb98e6e90b14957a1d51417df657057e0c245f9359366d794eb5f63")
-    );
-    assert!(rt;
-        output.ends_with(b"b4e4162facc1fd3b88e73741e49c9fa04069973a7ee3fb65bcfef1cd394250e0\n")
-    );
+    let first = b"11164024bbb98e6e90b14957a1d51417df657057e0c245f9359366d794eb5f63";
+    let last = b"b4e4162facc1fd3b88e73741e49c9fa04069973a7ee3fb65bcfef1cd394250e0\n";
+    assert!(rt; has_longest_tag(rt.alloc(), first, last)?);
     Ok(())
+}
+
+const REFUSED: Option<Argon2Refusal> = Some(Argon2Refusal::OutOfMemory);
+
+// Words, how many requests are granted, the refusal, and the last request.
+const REQUESTS: &[(&str, u32, Option<Argon2Refusal>, Option<Asked>)] = &[
+    ("somesalt -t 2 -m 8 -e", 0, REFUSED, Some(Asked::Zeros)),
+    ("somesalt -t 2 -m 8 -e", 1, REFUSED, Some(Asked::Line)),
+    ("somesalt -t 2 -m 8 -e", 2, REFUSED, Some(Asked::Matrix)),
+    ("somesalt -t 2 -m 8 -e", 3, None, Some(Asked::Matrix)),
+    ("somesalt -t 2 -m 8 -r", 2, REFUSED, Some(Asked::Matrix)),
+    ("somesalt -t 2 -m 8 -r", 3, None, Some(Asked::Matrix)),
+    ("somesalt -e -t", 0, Some(Argon2Refusal::MissingValue), None),
+    ("seven77 -e", 0, Some(Argon2Refusal::SaltLength), None),
+    (
+        "somesalt -t 2 -m 8 -e --maxmem 255",
+        0,
+        Some(Argon2Refusal::MemoryLimit),
+        None,
+    ),
+    (
+        "somesalt -t 2 -m 8 -e --maxops 525",
+        0,
+        Some(Argon2Refusal::WorkLimit),
+        None,
+    ),
+];
+
+// The refusal of a run to which so many requests are granted, its last request, and whether the output was opened.
+fn asked(
+    alloc: Global,
+    line: &str,
+    left: u32,
+) -> Result<(Option<Argon2Refusal>, Option<Asked>, bool), AllocError> {
+    let words = words(alloc, line)?;
+    let mut room = Refusing {
+        alloc,
+        left,
+        last: None,
+    };
+    let mut host = host_with(alloc, b"password")?;
+    let answer = attempt(&mut room, &words, &mut host, &mut Ticks::new());
+    Ok((answer.err(), room.last, host.output_name().is_some()))
 }
 
 // The tag, the line and the matrix are the requests, in this order and after every other refusal: so the hash, which
 // needs the matrix, comes after them all, and nothing is asked for after it.
 #[test]
 fn each_request_is_refused(rt: HostRuntime) -> Result<(), Fail> {
-    let alloc = rt.alloc();
-    let refused = Some(Argon2Refusal::OutOfMemory);
-    for (line, left, expected, last) in [
-        ("somesalt -t 2 -m 8 -e", 0, refused, Some(Asked::Zeros)),
-        ("somesalt -t 2 -m 8 -e", 1, refused, Some(Asked::Line)),
-        ("somesalt -t 2 -m 8 -e", 2, refused, Some(Asked::Matrix)),
-        ("somesalt -t 2 -m 8 -e", 3, None, Some(Asked::Matrix)),
-        ("somesalt -t 2 -m 8 -r", 2, refused, Some(Asked::Matrix)),
-        ("somesalt -t 2 -m 8 -r", 3, None, Some(Asked::Matrix)),
-        ("somesalt -e -t", 0, Some(Argon2Refusal::MissingValue), None),
-        ("seven77 -e", 0, Some(Argon2Refusal::SaltLength), None),
-        (
-            "somesalt -t 2 -m 8 -e --maxmem 255",
-            0,
-            Some(Argon2Refusal::MemoryLimit),
-            None,
-        ),
-        (
-            "somesalt -t 2 -m 8 -e --maxops 525",
-            0,
-            Some(Argon2Refusal::WorkLimit),
-            None,
-        ),
-    ] {
-        let words = words(alloc, line)?;
-        let mut room = Refusing {
-            alloc,
-            left,
-            last: None,
-        };
-        let mut host = MemoryHost::new(alloc, Vec::new(alloc), b"password".to_vec(alloc)?, [0; 32]);
-        let answer = attempt(&mut room, &words, &mut host, &mut Ticks::new());
-        assert_eq!(rt; answer.err(), expected, "{line} {left}");
-        assert_eq!(rt; room.last, last, "{line} {left}");
-        assert_eq!(rt;
-            host.output_name().is_some(),
-            expected.is_none(),
+    for (line, left, refusal, last) in REQUESTS {
+        let expected = (*refusal, *last, refusal.is_none());
+        assert!(rt;
+            asked(rt.alloc(), line, *left)? == expected,
             "{line} {left}"
         );
     }

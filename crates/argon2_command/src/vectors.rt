@@ -1,16 +1,16 @@
 //! The definitions of argon2's words and of its output, run on what the reference program takes and
 //! gives.
-ghost use Rattle.std.specs.Prelude.{◌≡◌, [], ◌∷◌, ◌++◌, Ok, Err, Some, codes, true};
+ghost use Rattle.std.specs.Prelude.{◌≡◌, [], ◌∷◌, ◌++◌, Ok, Err, None, Some, codes, false, replicate, true};
 ghost use Rattle.argon.specs.Argon2.{argon2_tag};
-ghost use Rattle.argon.specs.declared.kind.Kind.TheVariants.{Id};
+ghost use Rattle.argon.specs.declared.kind.Kind.TheVariants.{I, Id};
 ghost use Rattle.argon_text.specs.Vectors.{known_text, known_value};
-ghost use Rattle.argon2_command.specs.Output.{argon2_output};
+ghost use Rattle.argon2_command.specs.Output.{argon2_output, output_for};
 ghost use Rattle.argon2_command.specs.Request.{argon2_request};
 ghost use Rattle.argon2_command.specs.Settings.{defaults};
 ghost use Rattle.host.specs.Seen.{nothing_seen};
-ghost use Rattle.argon2_command.specs.declared.items.Form.TheVariants.{Encoded};
-ghost use Rattle.argon2_command.specs.declared.refusal.Argon2Refusal.TheVariants.{BadNumber, MissingValue, OneForm, Usage};
-ghost use Rattle.argon2_command.specs.declared.settings.Version.TheVariants.{V10};
+ghost use Rattle.argon2_command.specs.declared.items.Form.TheVariants.{Encoded, Hex};
+ghost use Rattle.argon2_command.specs.declared.refusal.Argon2Refusal.TheVariants.{BadNumber, EmptyPassword, LongPassword, MemoryLimit, MissingValue, OneForm, Passes, PasswordFault, SaltLength, UnknownWord, Usage, WorkLimit};
+ghost use Rattle.argon2_command.specs.declared.settings.Version.TheVariants.{V10, V13};
 
 fn settings_of_two_passes()
     ensures request { argon2_request (codes "somesalt" ∷ codes "-t" ∷ codes "2" ∷ codes "-m" ∷ codes "8"
@@ -75,4 +75,61 @@ fn output_of_one_pass()
         argon2_output
         (codes "somesalt" ∷ codes "-d" ∷ codes "-t" ∷ codes "1" ∷ codes "-k" ∷ codes "8" ∷ codes "-e" ∷ [])
         (record nothing_seen { stdin = Some (codes "password") }) ≡ Ok (known_text ++ 10 ∷ []) }
+{}
+
+// What no word sets, number by number, as Debian's manual page of argon2 tells it; the limits are own.
+fn settings_of_no_item()
+    ensures request { argon2_request (codes "somesalt" ∷ codes "-r" ∷ []) ≡
+        Ok (record {
+          salt = codes "somesalt";
+          settings = record {
+            kind = I;
+            passes = 3;
+            memory_kib = 4096;
+            lanes = 1;
+            tag_length = 32;
+            version = V13;
+            max_memory_kib = 4194304;
+            max_ops = 8589934592;
+            encoded = false;
+            hex = true;
+          };
+          form = Hex;
+        }) }
+{}
+
+// Each option sets its own number.
+fn each_option()
+    ensures numbers { argon2_request (codes "somesalt" ∷ codes "-t" ∷ codes "4294967295" ∷ codes "-p" ∷ codes "5"
+        ∷ codes "-l" ∷ codes "6" ∷ codes "-k" ∷ codes "7" ∷ codes "--maxmem" ∷ codes "8" ∷ codes "--maxops" ∷ codes "9" ∷ codes "-v" ∷ codes "13" ∷ codes "-r" ∷ []) ≡
+        Ok (record {
+          salt = codes "somesalt";
+          settings = record defaults { passes = 4294967295; lanes = 5; tag_length = 6; memory_kib = 7; max_memory_kib = 8; max_ops = 9; hex = true };
+          form = Hex;
+        }) }
+{}
+
+// The ends of numbers: 2^32 is none of -t, -m has powers from 1 to 31, and no limit is 0.
+fn ends_of_numbers()
+    ensures count_above { argon2_request (codes "somesalt" ∷ codes "-t" ∷ codes "4294967296" ∷ codes "-e" ∷ []) ≡ Err BadNumber }
+    ensures no_power { argon2_request (codes "somesalt" ∷ codes "-m" ∷ codes "0" ∷ codes "-e" ∷ []) ≡ Err BadNumber }
+    ensures power_above { argon2_request (codes "somesalt" ∷ codes "-m" ∷ codes "32" ∷ codes "-e" ∷ []) ≡ Err BadNumber }
+    ensures no_memory_limit { argon2_request (codes "somesalt" ∷ codes "--maxmem" ∷ codes "0" ∷ codes "-e" ∷ []) ≡ Err BadNumber }
+    ensures no_work_limit { argon2_request (codes "somesalt" ∷ codes "--maxops" ∷ codes "0" ∷ codes "-e" ∷ []) ≡ Err BadNumber }
+    ensures unknown { argon2_request (codes "somesalt" ∷ codes "-q" ∷ codes "-t" ∷ codes "x" ∷ []) ≡ Err UnknownWord }
+    ensures help { argon2_request (codes "somesalt" ∷ codes "-h" ∷ codes "-q" ∷ []) ≡ Err Usage }
+    ensures help_first { argon2_request (codes "-h" ∷ codes "-e" ∷ []) ≡ Err Usage }
+    ensures salt_like_an_item { argon2_request (codes "-q" ∷ []) ≡ Err OneForm }
+{}
+
+// Words, password, parameters, limits: the first refusal is told. 127 bytes are a password, and 128 are none.
+fn first_refusal_of_a_run()
+    ensures words { output_for (codes "s" ∷ []) (Some []) ≡ Err OneForm }
+    ensures no_password { output_for (codes "s" ∷ codes "-e" ∷ []) (Some []) ≡ Err EmptyPassword }
+    ensures no_input { output_for (codes "s" ∷ codes "-e" ∷ []) None ≡ Err PasswordFault }
+    ensures long { output_for (codes "s" ∷ codes "-e" ∷ []) (Some (replicate 128 7)) ≡ Err LongPassword }
+    ensures longest { output_for (codes "s" ∷ codes "-e" ∷ []) (Some (replicate 127 7)) ≡ Err SaltLength }
+    ensures passes_first { output_for (codes "s" ∷ codes "-t" ∷ codes "0" ∷ codes "-e" ∷ []) (Some (codes "p")) ≡ Err Passes }
+    ensures memory_limit { output_for (codes "somesalt" ∷ codes "--maxmem" ∷ codes "4095" ∷ codes "--maxops" ∷ codes "1" ∷ codes "-e" ∷ []) (Some (codes "p")) ≡ Err MemoryLimit }
+    ensures work_limit { output_for (codes "somesalt" ∷ codes "--maxmem" ∷ codes "4096" ∷ codes "--maxops" ∷ codes "1" ∷ codes "-e" ∷ []) (Some (codes "p")) ≡ Err WorkLimit }
 {}

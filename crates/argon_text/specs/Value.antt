@@ -14,7 +14,8 @@ pub record Value : Type 0 where
   pub salt : List ℕ
   pub tag : List ℕ
 
--- version 0x10 or 0x13, and the ranges of RFC 9106, 3.1; the upper ends of salt and tag are own
+-- version 0x10 or 0x13, and the ranges of RFC 9106, 3.1; the upper ends of salt and tag are own, and so is the least
+-- length of a salt
 abbrev pub are_in_range : ℕ → ℕ → ℕ → ℕ → ℕ → ℕ → Bool
 are_in_range version memory passes lanes salt_len tag_len =
     is_version version

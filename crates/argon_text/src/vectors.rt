@@ -1,10 +1,12 @@
 //! The definitions, run on what the reference program and RFC 4648 give, and laws of them.
-ghost use Rattle.std.specs.Prelude.{◌≡◌, ◌≢◌, [], List, ℕ, codes, true, false};
+ghost use Rattle.std.specs.Prelude.{◌≡◌, ◌≢◌, [], List, None, Some, ℕ, codes, true, false, replicate};
 ghost use Rattle.argon_text.specs.Base64.{base64_bytes, is_base64};
 ghost use Rattle.argon_text.specs.EncodedText.{IsTextOf, encoded_text, short_text};
 ghost use Rattle.argon_text.specs.Grammar.{Fields, HasFields, IsTextInRange, fields_of_value, value_of_fields};
 ghost use Rattle.argon_text.specs.Value.{IsValue, Value, is_in_range};
+ghost use Rattle.argon_text.specs.Verifying.{verify_fault};
 ghost use Rattle.argon_text.specs.Vectors.{known_fields, known_text, known_value, old_short_fields, old_short_text, old_text, old_value};
+ghost use Rattle.argon_text.specs.declared.fault.VerifyFault.TheVariants.{MemoryLimit, PasswordLength, WorkLimit};
 
 fn text_of_known_value()
     ensures text { encoded_text known_value ≡ known_text }
@@ -35,6 +37,16 @@ fn base64_of_the_standard()
     ensures unused_bits { is_base64 (codes "Zm9vYmF") ≡ false }
     ensures lone_symbol { is_base64 (codes "Zm9vY") ≡ false }
     ensures padding { is_base64 (codes "Zm9vYg==") ≡ false }
+{}
+
+// Why a password is not tested: its length, then memory, then work. The known value has 8 blocks, of which 6 are made from
+// other ones (RFC 9106, 3.2).
+fn faults_of_tests()
+    ensures empty { verify_fault known_value [] 7 5 ≡ Some PasswordLength }
+    ensures long { verify_fault known_value (replicate 128 7) 8 6 ≡ Some PasswordLength }
+    ensures longest { verify_fault known_value (replicate 127 7) 8 6 ≡ None }
+    ensures memory { verify_fault known_value (codes "p") 7 5 ≡ Some MemoryLimit }
+    ensures work { verify_fault known_value (codes "p") 8 5 ≡ Some WorkLimit }
 {}
 
 // A text has one reading: its fields are the only ones.

@@ -4,6 +4,7 @@ ghost use Rattle.std.specs.List.{range_with_len};
 ghost use Rattle.encfile.specs.EncryptedFile.{encrypted_file};
 ghost use Rattle.encfile.specs.Front.{format_refusal, front_refusal, limits_refusal};
 ghost use Rattle.encfile.specs.Front.FrontRefusal.{KeepAboveN, NotScryptData, WrongPassphrase, UnsupportedVersion, TooMuchMemory, TooMuchWork};
+ghost use Rattle.encfile.specs.Header.{costs_of, header, salt_of};
 ghost use Rattle.encfile.specs.HeaderFaults.{header_fault};
 ghost use Rattle.encfile.specs.Vectors.{allowance, front_of_costs, front_of_hello};
 ghost use Rattle.encfile.specs.declared.fault.HeaderFault.TheVariants.{Checksum, CostsOutOfRange, Magic, Version};
@@ -64,4 +65,19 @@ fn passphrases_of_hello()
     ensures own { front_refusal front_of_hello (allowance 1 2048 64) (codes "pw") ≡ None }
     ensures other { front_refusal front_of_hello (allowance 1 2048 64) (codes "pv") ≡ Some WrongPassphrase }
     ensures limits_first { front_refusal front_of_hello (allowance 1 2047 64) (codes "pv") ≡ Some TooMuchMemory }
+{}
+
+// A header whose numbers have different bytes, as Python's struct and hashlib give it, and what it says.
+fn header_of_large_costs()
+    ensures bytes { header (record { log_n = 10; r = 0x01020304; p = 5 }) (range_with_len 0 32) ≡
+        0x73 ∷ 0x63 ∷ 0x72 ∷ 0x79 ∷ 0x70 ∷ 0x74 ∷ 0x00 ∷ 0x0A ∷ 0x01 ∷ 0x02 ∷ 0x03 ∷ 0x04 ∷
+        0x00 ∷ 0x00 ∷ 0x00 ∷ 0x05 ∷ 0x00 ∷ 0x01 ∷ 0x02 ∷ 0x03 ∷ 0x04 ∷ 0x05 ∷ 0x06 ∷ 0x07 ∷
+        0x08 ∷ 0x09 ∷ 0x0A ∷ 0x0B ∷ 0x0C ∷ 0x0D ∷ 0x0E ∷ 0x0F ∷ 0x10 ∷ 0x11 ∷ 0x12 ∷ 0x13 ∷
+        0x14 ∷ 0x15 ∷ 0x16 ∷ 0x17 ∷ 0x18 ∷ 0x19 ∷ 0x1A ∷ 0x1B ∷ 0x1C ∷ 0x1D ∷ 0x1E ∷ 0x1F ∷
+        0xB5 ∷ 0x13 ∷ 0x21 ∷ 0x80 ∷ 0x43 ∷ 0xC1 ∷ 0xC5 ∷ 0x44 ∷ 0x5F ∷ 0xB1 ∷ 0x38 ∷ 0x35 ∷
+        0x01 ∷ 0x61 ∷ 0x9F ∷ 0xD8 ∷ [] }
+    ensures log_n { (costs_of (header (record { log_n = 10; r = 0x01020304; p = 5 }) (range_with_len 0 32))).log_n ≡ 10 }
+    ensures r { (costs_of (header (record { log_n = 10; r = 0x01020304; p = 5 }) (range_with_len 0 32))).r ≡ 0x01020304 }
+    ensures p { (costs_of (header (record { log_n = 10; r = 0x01020304; p = 5 }) (range_with_len 0 32))).p ≡ 5 }
+    ensures salt { salt_of (header (record { log_n = 10; r = 0x01020304; p = 5 }) (range_with_len 0 32)) ≡ range_with_len 0 32 }
 {}

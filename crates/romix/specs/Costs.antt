@@ -7,7 +7,8 @@ pub record Parameters : Type 0 where
   pub r : ℕ
   pub p : ℕ
 
--- N is a power of two from 2^1 to 2^63, r and p are not 0, and r * p is below 2^30 (sections 2 and 6)
+-- N is a power of two above 1, r and p are not 0, and r * p is below 2^30 (sections 2 and 6). That N is at most 2^63
+-- is the files' bound, not the RFC's; the RFC's own, N < 2^(128 * r / 8), is dropped, since scrypt's files haven't it.
 pub record IsInRange (c : Parameters) : Type 0 where
   pub log_n_low : 1 ≤ c.log_n
   pub log_n_high : c.log_n ≤ 63

@@ -1,10 +1,14 @@
 //! Vectors that the checker computes by the definitions alone.
-ghost use Rattle.std.specs.Prelude.{◌≡◌, ◌+◌, ◌*◌, ◌^◌, ◌++◌, [], ◌∷◌, replicate};
+ghost use Rattle.std.specs.Prelude.{◌≡◌, ◌+◌, ◌-◌, ◌*◌, ◌^◌, ◌++◌, [], ◌∷◌, codes, replicate, Some, None};
 ghost use Rattle.romix.specs.BlockMix.{block_mix};
+ghost use Rattle.romix.specs.Costs.{cores, parts_bytes, table_bytes};
+ghost use Rattle.romix.specs.Faults.{cost_fault, keep_fault, limit_fault, sparse_limit_fault};
 ghost use Rattle.romix.specs.Romix.{integerify, romix};
 ghost use Rattle.romix.specs.Salsa20.{quarter_round, salsa20_8};
 ghost use Rattle.romix.specs.Scrypt.{scrypt};
 ghost use Rattle.romix.specs.Sparse.{sparse_cores};
+ghost use Rattle.romix.specs.SparseCosts.{cores_bound, sparse_table_bytes};
+ghost use Rattle.romix.specs.declared.fault.CostFault.TheVariants.{Keep, KeepAboveN, LogN, Memory, Product, Work, Zero};
 
 // Salsa20 specification, section 3, the last example.
 fn quarter_round_example()
@@ -83,4 +87,50 @@ fn sparse_cores_of_nothing()
 fn integerify_of_a_row()
     ensures number { integerify (replicate 16 9 ++ 1 ∷ 2 ∷ 3 ∷ replicate 12 0 ++ 4 ∷ [])
         ≡ 1 + 2 * 2 ^ 32 + 3 * 2 ^ 64 + 4 * 2 ^ 480 }
+{}
+
+// N is 4, r and p are 2, the password has 65 bytes and the key 40, by Python's hashlib.scrypt. So rows have four blocks,
+// the first key of HMAC is hashed, there are two parts, and of the last block of PBKDF2 not all is taken.
+fn scrypt_of_two_parts()
+    ensures key { scrypt (replicate 65 0x70) (codes "s") 4 2 2 40 ≡
+        0xBB ∷ 0x38 ∷ 0x01 ∷ 0x79 ∷ 0x89 ∷ 0x7B ∷ 0x7F ∷ 0x1D ∷
+        0xFD ∷ 0x6A ∷ 0x6E ∷ 0x15 ∷ 0x50 ∷ 0x5D ∷ 0xE1 ∷ 0x73 ∷
+        0x1A ∷ 0xA9 ∷ 0xE4 ∷ 0x8C ∷ 0xA4 ∷ 0x6A ∷ 0xBF ∷ 0x1E ∷
+        0x80 ∷ 0x5C ∷ 0x67 ∷ 0xD3 ∷ 0x3F ∷ 0xA1 ∷ 0xA3 ∷ 0x6E ∷
+        0xE7 ∷ 0x17 ∷ 0x2C ∷ 0x1D ∷ 0x58 ∷ 0x25 ∷ 0x95 ∷ 0x5E ∷ [] }
+{}
+
+// The numbers of costs with r and p above 1, by RFC 7914, 4 to 6: N is 16, and every fourth row is kept.
+fn numbers_of_costs()
+    ensures table { table_bytes (record { log_n = 4; r = 3; p = 5 }) ≡ 6144 }
+    ensures parts { parts_bytes (record { log_n = 4; r = 3; p = 5 }) ≡ 1920 }
+    ensures cores { cores (record { log_n = 4; r = 3; p = 5 }) ≡ 960 }
+    ensures sparse_table { sparse_table_bytes (record { costs = record { log_n = 4; r = 3; p = 5 }; keep = 4 }) ≡ 1536 }
+    ensures bound { cores_bound (record { costs = record { log_n = 4; r = 3; p = 5 }; keep = 4 }) ≡ 2400 }
+    ensures bound_of_whole { cores_bound (record { costs = record { log_n = 4; r = 3; p = 5 }; keep = 1 }) ≡ 960 }
+{}
+
+// Numbers at both ends of their ranges, and the first fault of several.
+fn faults_of_costs()
+    ensures least { cost_fault 1 1 1 ≡ None }
+    ensures greatest { cost_fault 63 (2 ^ 30 - 1) 1 ≡ None }
+    ensures no_log_n { cost_fault 0 0 1 ≡ Some LogN }
+    ensures log_n_above { cost_fault 64 (2 ^ 15) (2 ^ 15) ≡ Some LogN }
+    ensures no_r { cost_fault 4 0 1 ≡ Some Zero }
+    ensures no_p { cost_fault 4 (2 ^ 30) 0 ≡ Some Zero }
+    ensures product { cost_fault 4 (2 ^ 15) (2 ^ 15) ≡ Some Product }
+{}
+
+// The limits at 6144 bytes of V and 960 cores, at 1920 bytes of B, and where both are exceeded; and S.
+fn faults_of_limits()
+    ensures admitted { limit_fault (record { log_n = 4; r = 3; p = 5 }) (record { max_bytes = 6144; max_ops = 960 }) ≡ None }
+    ensures memory { limit_fault (record { log_n = 4; r = 3; p = 5 }) (record { max_bytes = 6143; max_ops = 959 }) ≡ Some Memory }
+    ensures work { limit_fault (record { log_n = 4; r = 3; p = 5 }) (record { max_bytes = 6144; max_ops = 959 }) ≡ Some Work }
+    ensures parts { limit_fault (record { log_n = 1; r = 3; p = 5 }) (record { max_bytes = 1919; max_ops = 960 }) ≡ Some Memory }
+    ensures keep { keep_fault (record { costs = record { log_n = 1; r = 1; p = 1 }; keep = 3 }) ≡ Some Keep }
+    ensures keep_above { keep_fault (record { costs = record { log_n = 4; r = 1; p = 1 }; keep = 32 }) ≡ Some KeepAboveN }
+    ensures keep_of_n { keep_fault (record { costs = record { log_n = 4; r = 1; p = 1 }; keep = 16 }) ≡ None }
+    ensures sparse { sparse_limit_fault (record { costs = record { log_n = 4; r = 3; p = 5 }; keep = 4 }) (record { max_bytes = 1919; max_ops = 1 }) ≡ Some Memory }
+    ensures sparse_work { sparse_limit_fault (record { costs = record { log_n = 4; r = 3; p = 5 }; keep = 4 }) (record { max_bytes = 1920; max_ops = 2399 }) ≡ Some Work }
+    ensures sparse_admitted { sparse_limit_fault (record { costs = record { log_n = 4; r = 3; p = 5 }; keep = 4 }) (record { max_bytes = 1920; max_ops = 2400 }) ≡ None }
 {}

@@ -1,5 +1,9 @@
-use Rattle.argon_text.proofs.KnownText.{text_of_known_value}
+use Rattle.std.proofs.Common.{refl}
+use Rattle.std.specs.Fmt.{digits}
+use Rattle.base64.specs.Rfc4648.{encode_symbols}
+use Rattle.argon_text.specs.EncodedText.{base64_text, text_of_fields}
 use Rattle.argon_text.proofs.vectors.text_of_known_value.Goals as goal
 
 pub returns : goal.returns
-returns c = record { text = text_of_known_value }
+unfolding base64_text digits encode_symbols text_of_fields
+returns c = record { text = refl }
