@@ -18,7 +18,10 @@ library=${1:-bin/lib} out=${2:-bin} version=$(cat VERSION)
 maintainer='The authors of Pikhsen <pikhsen@localhost>'
 export SOURCE_DATE_EPOCH="${SOURCE_DATE_EPOCH:-$(git log -1 --format=%ct 2>/dev/null || date +%s)}"
 work=$(mktemp -d)
-trap 'rm -rf "$work"' EXIT
+# A run that does not end well leaves no package, older ones of these names neither.
+trap 'status=$?; rm -rf "$work"; test $status = 0 || rm -f "$out"/*pikhsen*_"$version"_*.deb' EXIT
+trap 'exit 130' INT
+trap 'exit 143' HUP TERM
 libraries=lib/x86_64-linux-gnu
 modules=lib/python3/dist-packages
 
@@ -47,6 +50,13 @@ size() {
     find "$1" \( -type f -printf '%s\n' \) -o -printf '1\n' | awk '{ kib += int(($1 + 1023) / 1024) } END { print kib }'
 }
 
+# passed_over PACKAGE: what lintian would say, and why it is so, is told to it. Standard input has its lines.
+passed_over() {
+    overrides=$work/$1/usr/share/lintian/overrides
+    mkdir -p "$overrides"
+    sed "/^#/!s/^/$1: /" >"$overrides/$1"
+}
+
 # build PACKAGE ARCHITECTURE: makes the package. What is its own in `control` comes from standard input.
 build() {
     root=$work/$1
@@ -68,9 +78,25 @@ build() {
 }
 
 contents pikhsen bin share/doc share/man/man1 share/bash-completion share/zsh
+# That for x86-64-v3 is beside the other, where the machine at hand could build it.
+hwcaps=$libraries/glibc-hwcaps
+test ! -d "$work/usr/$hwcaps" || contents libpikhsen0 "$hwcaps"
 contents libpikhsen0 "$libraries/libpikhsen.so.0"
 contents libpikhsen-dev include "$libraries" share/man/man3
 contents python3-pikhsen "$modules"
+
+passed_over pikhsen <<'END'
+# These are the bytes that the tests ran.
+unstripped-binary-or-object [usr/bin/argon2]
+unstripped-binary-or-object [usr/bin/scrypt]
+# They have no code in C that a compiler of C could fortify.
+hardening-no-fortify-functions [usr/bin/argon2]
+hardening-no-fortify-functions [usr/bin/scrypt]
+END
+{
+    echo '# These are the bytes that the tests called.'
+    (cd "$work/libpikhsen0" && find usr -name libpikhsen.so.0 -printf 'unstripped-binary-or-object [%p]\n' | LC_ALL=C sort)
+} | passed_over libpikhsen0
 
 build pikhsen amd64 <<END
 Section: utils
@@ -89,6 +115,12 @@ END
 
 echo 'activate-noawait ldconfig' >"$work/libpikhsen0/DEBIAN/triggers"
 echo "libpikhsen 0 libpikhsen0 (>= $version)" >"$work/libpikhsen0/DEBIAN/shlibs"
+# Each name that is exported, with the version that had it first: all of them the first version.
+{
+    printf '%s\n' 'libpikhsen.so.0 libpikhsen0 #MINVER#' '* Build-Depends-Package: libpikhsen-dev'
+    objdump -T "$work/libpikhsen0/usr/$libraries/libpikhsen.so.0" |
+        awk '$2 == "g" && $(NF - 1) == "PIKHSEN_0" { print " " $NF "@PIKHSEN_0 0.1.0" }' | LC_ALL=C sort
+} >"$work/libpikhsen0/DEBIAN/symbols"
 build libpikhsen0 amd64 <<END
 Section: libs
 Multi-Arch: same

@@ -7,7 +7,8 @@
 #
 # PREFIX is what pikhsen.pc says of where it lies; FOLDER where it is not set. It begins with a slash. Below FOLDER,
 # where these are not set: PIKHSEN_ZSH is where completions of zsh go, share/zsh/site-functions; PIKHSEN_LIB where the
-# library goes, lib; PIKHSEN_PYTHON where its module for Python goes, share/pikhsen.
+# library goes, lib; PIKHSEN_PYTHON where its module for Python goes, share/pikhsen. With PIKHSEN_SAY it says what it
+# installed, and what shells and Python need to find it.
 set -eu
 umask 022
 cd "$(dirname "$0")/.."
@@ -41,9 +42,16 @@ escaped() {
     printf '%s\n' "$1" | sed 's/[&|\\]/\\&/g'
 }
 
+# A manual page, which names documents by where they are installed.
+page() {
+    place 644 "$1" "$2"
+    test "$what" = uninstall ||
+        sed "s|/usr/local/share/doc/|$(escaped "$prefix")/share/doc/|" "$1" >"$below/$2/${1##*/}"
+}
+
 for name in argon2 scrypt; do
     place 755 "$programs/$name" bin
-    place 644 "man/$name.1" share/man/man1
+    page "man/$name.1" share/man/man1
     place 644 "completions/bash/$name" share/bash-completion/completions
     place 644 "completions/zsh/_$name" "$zsh"
 done
@@ -51,8 +59,13 @@ done
 if test "$what" = uninstall || test -n "$library"; then
     place 644 "$library/libpikhsen.a" "$lib"
     place 644 "$library/libpikhsen.so.0" "$lib"
+    # That for a higher level of processors, where it was built: the loader looks there by itself.
+    hwcaps=glibc-hwcaps/x86-64-v3
+    if test "$what" = uninstall || test -f "$library/$hwcaps/libpikhsen.so.0"; then
+        place 644 "$library/$hwcaps/libpikhsen.so.0" "$lib/$hwcaps"
+    fi
     place 644 include/pikhsen.h include
-    place 644 man/pikhsen.3 share/man/man3
+    page man/pikhsen.3 share/man/man3
     # py.typed tells checkers that the module has types. It counts in a folder of the module's own alone.
     place 644 python/pikhsen.py "$python/pikhsen" __init__.py
     place 644 /dev/null "$python/pikhsen" py.typed
@@ -72,7 +85,20 @@ done
 for file in docs/*.md docs/*.svg docs/*.tsv; do
     place 644 "$file" share/doc/pikhsen/docs
 done
+if test "$what" = install && test -n "${PIKHSEN_SAY:-}"; then
+    echo "installed below $prefix: argon2 and scrypt, with manual pages, completions and documents"
+    test -z "$library" || echo "and the library: pikhsen.h, libpikhsen.a and libpikhsen.so.0 in $lib, and the Python module"
+    case :$PATH: in *":$prefix/bin:"*) ;; *) echo "add it to PATH:    PATH=$prefix/bin:\$PATH" ;; esac
+    case $prefix in
+    /usr | /usr/local) ;;
+    *)
+        echo "zsh completes after these lines of ~/.zshrc:"
+        echo "    fpath=($prefix/$zsh \$fpath); autoload -Uz compinit; compinit"
+        ;;
+    esac
+    test -z "$library" || echo "Python finds its module by    PYTHONPATH=$prefix/$python"
+fi
 test "$what" = uninstall || exit 0
 rmdir "$below/$python/pikhsen/__pycache__" "$below/$python/pikhsen" "$below/$python" "$below/$lib/pkgconfig" \
-    2>/dev/null || true
+    "$below/$lib/glibc-hwcaps/x86-64-v3" "$below/$lib/glibc-hwcaps" 2>/dev/null || true
 rmdir -p --ignore-fail-on-non-empty "$below/share/doc/pikhsen/docs" 2>/dev/null || true

@@ -21,8 +21,9 @@ heeded when the call is over, so limits are what bounds the time. Work is best s
 the start methods spawn or forkserver of multiprocessing, since the library is not to be called in the forked child of
 a process with threads.
 
-The library is libpikhsen.so.0, or the file that the variable PIKHSEN_LIBRARY names. An empty value counts as none, and
-under Python's options -E and -I the variable is not read.
+The library is the file that the variable PIKHSEN_LIBRARY names; or that which `make install` installed with this module;
+or libpikhsen.so.0, where the system finds it. An empty value counts as none, and under Python's options -E and -I the
+variable is not read.
 """
 import ctypes
 import enum
@@ -220,6 +221,11 @@ _PARAMETERS = {
 def _loaded() -> ctypes.CDLL:
     """The library, with the parameters of its functions, if it has the version that this module is made for."""
     named = "" if sys.flags.ignore_environment else os.environ.get("PIKHSEN_LIBRARY", "")
+    # what `make install` put below the prefix of share/pikhsen/pikhsen/__init__.py
+    prefix, is_installed, _ = os.path.abspath(__file__).rpartition("/share/pikhsen/pikhsen/__init__.py")
+    beside = f"{prefix}/lib/libpikhsen.so.0"
+    if not named and is_installed and os.path.exists(beside):
+        named = beside
     try:
         library = ctypes.CDLL(named or "libpikhsen.so.0")
         for name, parameters in _PARAMETERS.items():

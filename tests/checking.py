@@ -1,5 +1,6 @@
 """What the tests of the built programs share: a program is run, and what it did is compared with what it should have done."""
 import os
+import shutil
 import subprocess
 import time
 
@@ -92,3 +93,16 @@ class Checks:
 def shortened(found):
     text = repr(found)
     return text if len(text) < 600 else text[:400] + " .. " + text[-100:]
+
+
+def is_there(program, without):
+    """Whether a program is installed. Where it is not, what is left out is said."""
+    found = shutil.which(program) is not None
+    if not found:
+        print(f"{program} is not installed: {without}")
+    return found
+
+
+def said(*words, check=True):
+    """What a program says on standard output."""
+    return subprocess.run(words, stdout=subprocess.PIPE, check=check, text=True).stdout
