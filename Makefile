@@ -1,7 +1,7 @@
 # Pikhsen: proves, builds, tests, installs and packages scrypt and argon2.
 
 PREFIX ?= /usr/local
-# Where make bench puts its table and its plot, without .tsv and .svg.
+# Where make bench puts its table and its picture, without .tsv and .svg.
 BENCH ?= docs/benchmarks
 SOURCES := crates.txt $(shell find crates -name out -prune -o -type f \( -name '*.rt' -o -name '*.antt' \) -print)
 # The levels that this machine's processor has, of the two that can be built for, and the one that is built for.
@@ -25,42 +25,48 @@ run: bin/$(CPU)/argon2 bin/$(CPU)/scrypt ## proves and builds bin/argon2 and bin
 bin/%/argon2 bin/%/scrypt: $(SOURCES)
 	@packaging/build.sh $*
 
-lib: bin/lib/libpikhsen.so.0 ## proves and builds the library for C: bin/lib/libpikhsen.a and libpikhsen.so.0, for x86-64-v2
-	@echo 'bin/lib/libpikhsen.a and bin/lib/libpikhsen.so.0 are proved, and built for the level x86-64-v2.' >&2
+lib: bin/lib/libpikhsen.so.0 ## proves and builds the library for C, bin/lib/libpikhsen.a and libpikhsen.so.0, for all levels of this machine
+	@echo 'bin/lib/libpikhsen.a and bin/lib/libpikhsen.so.0 are proved, and built for: $(LEVELS).' >&2
 
 bin/lib/libpikhsen.so.0: $(SOURCES) packaging/lib.sh packaging/pikhsen.map
-	@packaging/lib.sh bin/lib x86-64-v2
+	@packaging/lib.sh bin/lib $(filter-out x86-64-v2,$(LEVELS)) x86-64-v2
 
 check: ## proves what differs from the last commit and what stands on it, and runs the tests of the crates that changed
 	tests/changed.py
 
 # What was built for another level is tested, too, and built anew before, if the sources changed. With SINCE=COMMIT, a
-# commit that the gate passed, a wrong body is taken by record only where that commit has the row.
-test: $(filter bin/x86-64-v3/%,$(wildcard $(LEVELS:%=bin/%/scrypt))) ## the gate: proofs from nothing, tests, wrong bodies that are new or in turn, the built programs
+# commit that the gate passed, a wrong body or definition is taken by record only where that commit has the row.
+test: $(filter bin/x86-64-v3/%,$(wildcard $(LEVELS:%=bin/%/scrypt))) ## the gate: proofs from nothing, tests, wrong bodies and definitions that are new or in turn, the built programs
 	@rm -rf bin/gate.tsv bin/rooms
 	@tests/step.sh tests/sources.sh
 	@tests/step.sh tests/documents.py
+	@tests/step.sh tests/values.py
 	@tests/step.sh tests/reading.py --check
 	@tests/step.sh tests/record_test.py
 	@tests/step.sh tests/first_run.py
+	@tests/step.sh tests/build_scripts.py
 	@tests/step.sh rt ci
 	@install -D -m 755 crates/argon_tool/out/argon_tool bin/x86-64-v2/argon2
 	@install -D -m 755 crates/scrypt_tool/out/scrypt_tool bin/x86-64-v2/scrypt
 	@test -f bin/level && test "$$(cat bin/level)" != x86-64-v2 || packaging/chosen.sh x86-64-v2
 	@tests/step.sh tests/wrong_bodies.py $(SINCE:%=--since %)
+	@tests/step.sh tests/wrong_definitions.py $(SINCE:%=--since %)
 	@for level in $(LEVELS); do test ! -x bin/$$level/scrypt || tests/step.sh tests/outside.sh bin/$$level || exit 1; done
 	@tests/step.sh tests/c_face.py
+	@tests/step.sh tests/outside_plants.py
 	@echo 'seconds, those of the processors, and step:' && cat bin/gate.tsv
 
-audit: ## tries each wrong body, whatever the record says, and writes the record anew
+audit: ## tries each wrong body, wrong definition and wrong line outside the proofs, whatever the records say, and writes them anew
 	tests/wrong_bodies.py --audit
+	tests/wrong_definitions.py --audit
+	tests/outside_plants.py --audit
 
-map: ## draws docs/proof-map.svg anew: which promise stands on what
-	tests/proof_map.py docs/proof-map.svg
+map: ## draws docs/proof-map.svg and docs/proof-map-small.svg anew: which promise stands on what
+	tests/proof_map.py docs/proof-map.svg docs/proof-map-small.svg
 
 install: | bin/argon2 bin/scrypt ## puts what was built, with pages, completions and documents, below PREFIX
-	@PREFIX='$(PREFIX)' packaging/install.sh install '$(DESTDIR)$(PREFIX)' bin $(patsubst %/libpikhsen.a,%,$(wildcard bin/lib/libpikhsen.a))
-	@echo "installed below $(PREFIX): argon2 and scrypt, built for $$(cat bin/level)" >&2
+	@PIKHSEN_SAY=1 PREFIX='$(PREFIX)' packaging/install.sh install '$(DESTDIR)$(PREFIX)' bin $(patsubst %/libpikhsen.a,%,$(wildcard bin/lib/libpikhsen.a)) >&2
+	@echo "argon2 and scrypt are built for $$(cat bin/level)" >&2
 
 uninstall: ## takes away what make install put below PREFIX
 	@packaging/install.sh uninstall '$(DESTDIR)$(PREFIX)'

@@ -38,20 +38,29 @@ DOES = {
     "tests/sources.sh": "proofs by hand are those listed below; a counter ticks, memory is reserved, wiped and freed, "
     "and a hash begins in the places that the script lists alone; a table that a script made is what it makes",
     "tests/documents.py": "what the pages name is there: files, definitions, tests, clauses, a row for each wrong "
-    "body; manual pages have every message, completions every option; pictures and tables are what scripts make",
+    "body; pictures and tables are what scripts make",
+    "tests/values.py": "options, ranges, defaults, messages and numbers are those of docs/values.tsv in the sources, the "
+    "manual pages, the completions, header, module and pages; header, sources, module and page of `libpikhsen` have the "
+    "same functions and fields",
     "tests/reading.py --check": "docs/DEFINITIONS.md says how much a reader of a call has to read; `specs/Inside/` "
     "has what no public contract reaches, and nothing else",
     "tests/record_test.py": "which change of a text gives which wrong bodies another key, and that turns cost about "
     "the same",
     "tests/first_run.py": "`make run`, `make lib` and `make check` over a stand-in for `rt`: their order, their "
     "lines, and what they leave when a proof fails or they are stopped",
+    "tests/build_scripts.py": "packaging/build.sh, chosen.sh, lib.sh and deb.sh over stand-ins: what they make, and that "
+    "one that fails or is stopped leaves no older program, library or package",
     "rt ci": "proves every crate and its tests from nothing, tries the edits of `must-fail/`, and runs each test, and "
     "the programs as two compilers make them",
-    "tests/wrong_bodies.py": "tries the edits of `wrong-bodies/` that are new, and a tenth of the others",
+    "tests/wrong_bodies.py": "tries the edits of `wrong-bodies/` that are new, and a tenth of the others; builds what "
+    "`libpikhsen` is made of",
+    "tests/wrong_definitions.py": "tries the edits of `wrong-definitions/` that are new, and a tenth of the others",
     "tests/outside.sh": "the built programs: words, files and streams, each form of a damaged file, memory and calls "
     "refused in turn, memory that is freed, the story of README.md and the manual pages' examples",
-    "tests/c_face.py": "builds `libpikhsen` and calls it from C, C++ and Python; header, module and manual page are "
-    "as the sources; what is installed; the packages for Debian",
+    "tests/c_face.py": "makes `libpikhsen` and calls it from C, C++ and Python; the module's salts, defaults and "
+    "buffers; what is installed; the packages for Debian, file by file; how programs and library are linked",
+    "tests/outside_plants.py": "puts wrong lines into copies of module, header, pages, completions and packaging, those "
+    "that are new and a tenth of the others; the test that each names fails",
 }
 
 
@@ -135,16 +144,16 @@ def table_of_crates():
     """What each crate has, and how long its proofs and its wrong bodies take, with the runs."""
     seconds, runs, rows = seconds_of_crates(), runs_of(CRATES), []
     for crate in record.below():
-        edits = [len(record.edits_of(crate, folder)) for folder in record.FOLDERS]
+        edits = [len(record.edits_of(crate, folder)) for folder in (*record.FOLDERS, record.DEFINITIONS)]
         cells = [seconds.get(crate, {}).get(column, "") for column in COLUMNS]
         rows.append([f"`{crate}`", functions(crate), tests(crate), *edits, *cells])
     text = (
         "Functions are counted with laws, without tests, vectors and what macros write; edits, which are wrong "
-        "bodies, by their folder. The last three columns have seconds. Check: of the processor, for the proof of the "
+        "bodies and wrong definitions, by their folder. The last three columns have seconds. Check: of the processor, for the proof of the "
         f"crate from nothing, in {runs['check']}. With tests: of the processor, for the second proof that a crate "
         f"with tests gets, in {runs['tests']}. Wrong bodies: by the clock, for all its edits, with checks that go side by "
         f"side added up, in {runs['bodies']}.")
-    folders = [f"`{it}/`" for it in record.FOLDERS]
+    folders = [f"`{it}/`" for it in (*record.FOLDERS, record.DEFINITIONS)]
     return said(text) + table(["crate", "functions", "tests", *folders, "check", "with tests", "wrong bodies"], rows)
 
 
@@ -168,7 +177,7 @@ def commit_of(path):
     of_tree = ["-C", record.git("-C", str(path.parent), "rev-parse", "--show-toplevel")]
     commit = record.git(*of_tree, "rev-list", "-1", f"--before={int(path.stat().st_mtime)}", "HEAD")
     is_last = commit == record.git(*of_tree, "rev-parse", "HEAD")
-    changes = record.git(*of_tree, "status", "--porcelain", "--", ":!docs", ":!crates/*/wrong-bodies/record")
+    changes = record.git(*of_tree, "status", "--porcelain", "--", ":!docs", ":!crates/*/record")
     return f"commit {commit[:7]}" + " with changes" * bool(is_last and changes)
 
 

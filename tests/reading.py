@@ -41,8 +41,7 @@ def imports(text):
 class File:
     """A file of specs/: the lines of each item, what it imports, and the item of each constructor and field."""
 
-    def __init__(self, path):
-        text = path.read_text(encoding="utf-8")
+    def __init__(self, text):
         self.imports, self.items, self.owners, item = imports(text), {}, {}, ""
         for line in text.split("\n"):
             if not line.strip() or line.lstrip().startswith("--") or re.match(r"#|((pub )?(use|mod) )", line):
@@ -58,7 +57,7 @@ def all_files(crates=CRATES):
     found = {}
     for path in sorted(crates.glob("*/specs/**/*.antt")):
         crate, _, *inside = path.relative_to(crates).with_suffix("").parts
-        found[".".join([crate, "specs", *inside])] = File(path)
+        found[".".join([crate, "specs", *inside])] = File(path.read_text(encoding="utf-8"))
     return found
 
 

@@ -10,14 +10,13 @@ tried by name and by --audit alone. tests/trial.py says what a refusal is. Each 
 crates/CRATE/wrong-bodies/record and in docs/WRONG_BODIES.md.
 
 An edit is new where its row has another key than the tree gives (tests/keys.py), or there is none; with --since a row
-counts only if that commit has it, too. The others are taken by record, but for those in turn (tests/turns.py): whole
-groups of the crates that the library for C stands on, whole crates of the others. One in turn that is refused at another
-goal than its row says has failed, and keeps its row.
+counts only if that commit has it, too. The others are taken by record, but for those in turn (tests/turns.py): a few
+groups of a crate at a time. One in turn that is refused at another goal than its row says has failed, and keeps its row.
 
-Each crate of which an edit is tried is proved once more, into its out/incremental, since rt ci keeps no proof; in the
-gate those of the library for C, too, which tests/c_face.py builds next. Where rt ci left no libraries, they are built.
+Each crate of which an edit is tried is proved once more, into its out/incremental, since rt ci keeps no proof. It stands
+on the libraries that rt ci left; where there are none, they are built. In the gate the library for C is always among
+these crates: its proof here is also what builds it, crates/pikhsen_c/out/libpikhsen_c.a, for tests/c_face.py.
 """
-import argparse
 import copy
 import os
 import pathlib
@@ -29,27 +28,15 @@ import threading
 import time
 
 import record
-import turns
+import trials
 from edits import TOP, Edit, in_groups
 from keys import Tree, sum_of
-from trial import ALONE, MOST, is_right, rt, tried
+from trial import MOST, is_right, rt, tried
 
+LEVEL = "x86-64-v2"  # what the gate builds for
+TOGETHER = 5  # groups of a crate that are in turn together
 COUNTS = re.compile(r"^crate \w+: modules loaded=(\d+) checked=(\d+)$", re.MULTILINE)
 TIMES = TOP / "bin" / "wrong-bodies.tsv"
-
-
-def arguments():
-    """What is asked for: a gate's choice since a commit, all, or crates and edits by name, and whether to tell of each."""
-    parser = argparse.ArgumentParser()
-    parser.add_argument("--audit", action="store_true")
-    parser.add_argument("--since")
-    parser.add_argument("--told", action="store_true")
-    parser.add_argument("asked", nargs="*")
-    asked = parser.parse_args()
-    asked.is_gate = not (asked.asked or asked.audit)
-    if asked.since and not record.git("rev-parse", "--verify", "--quiet", asked.since + "^{commit}"):
-        parser.error(f"there is no commit {asked.since}")
-    return asked
 
 
 class Wanted:
@@ -69,45 +56,35 @@ class Wanted:
         """Whether each file from which the crate is proved is still the one that the keys are of."""
         return all(sum_of(TOP / "crates" / it) == self.sums[it] for it in self.below)
 
-    def known(self, since):
-        """The edits whose rows are of what they would be tried over now, and stand at this commit, too, if one is given."""
-        before = record.rows_of(self.name, since) if since else self.rows
-        rows = {name: row for name, row in self.rows.items() if before.get(name) == row}
-        return {it for it in self.edits if rows.get(it.path.stem, [None])[0] == self.keys[it]}
-
-    def units(self, is_near):
-        """What is in turn together: groups of a crate that is proved once more anyway, or else all edits of the crate."""
+    def units(self):
+        """What is in turn together, by its name, with what it costs: one group where the crate is proved once more at each
+        turn, and else so many that this proof is worth it."""
         groups = [edits for edits, _ in in_groups(self.edits, MOST)]
-        if is_near:
-            return {f"{self.name} {at}": (edits, 1) for at, edits in enumerate(groups, 1)}
-        return {self.name: (self.edits, len(groups) + 2)} if groups else {}
+        most, proof = (1, 0) if self.crate.is_static else (TOGETHER, 2)
+        parts = [groups[at:at + most] for at in range(0, len(groups), most)]
+        costs = [(len(part) + proof) * self.crate.count(rb"\n") for part in parts]
+        return {f"{self.name} {at}": (sum(part, []), cost) for at, (part, cost) in enumerate(zip(parts, costs), 1)}
 
 
-def choose(wanted, asked, near):
+def choose(wanted, asked):
     """Leaves of each crate's edits those that are tried now, and says what is in turn."""
     units = {}
     for it in wanted:
-        found = it.units(it.name in near)
-        units.update((unit, (edits, cost * it.crate.count(rb"\n"))) for unit, (edits, cost) in found.items())
-    by = turns.commit()
-    found = turns.turns({unit: cost for unit, (_, cost) in units.items()})
-    chosen = [unit for unit in units if found[unit] == turns.turn(by)]
-    in_turn = {edit for unit in chosen for edit in units[unit][0]}
+        units.update(it.units())
+    edits, said = trials.in_turn(units)
     for it in wanted:
-        known = it.known(asked.since)
-        it.now = [edit for edit in it.edits if edit in in_turn or edit not in known]
-    return f"in turn by {by}: {', '.join(sorted(chosen))}"
+        known = trials.known(it.edits, it.keys, it.name, record.BODIES, asked.since)
+        it.now = [edit for edit in it.edits if edit in edits or edit not in known]
+    return said
 
 
-def left_by_ci(crates):
-    """Whether each library is as rt ci leaves it: newer than what it is made from, and without a stamp."""
-    for crate in (it for it in crates if it.makes_rlib()):
-        if not os.path.isdir(crate.rlib) or os.path.exists(f"{os.path.dirname(crate.rlib)}/stamp"):
-            return False
-        files = [file for it in [*crate.below(), crate] for file in rt.rtlib.files_of(it.folder)]
-        if os.path.getmtime(crate.rlib) < max(map(os.path.getmtime, files)):
-            return False
-    return True
+def told(crate, call):
+    """What a call of the toolchain's answers for a crate, and what it prints."""
+    crate = copy.copy(crate)
+    with tempfile.TemporaryFile("w+", errors="replace") as crate.out:
+        status = call(crate)
+        crate.out.seek(0)
+        return status, crate.out.read()
 
 
 class Run:
@@ -123,25 +100,32 @@ class Run:
 
     def build(self, crate, jobs):
         """Whether the library is built, over those below it."""
-        crate = copy.copy(crate)
-        with tempfile.TemporaryFile("w+", errors="replace") as crate.out:
-            if crate.build_rlib(["--jobs", str(jobs)], anew=False) == 0:
-                return True
-            crate.out.seek(0)
+        if said := trials.build(crate, jobs):
             with self.lock:
-                self.say(f"{crate.name} is not built:\n{crate.out.read()[-2000:]}")
-        return False
+                self.say(said)
+        return not said
+
+    def check(self, crate, jobs):
+        """What a check of the crate as it is answers and prints, into out/incremental; in the gate the library for C is
+        built by it."""
+        flags, archive = ["--jobs", str(jobs)], f"{crate.folder}/out/lib{crate.name}.a"
+        if not (self.asked.is_gate and crate.is_static):
+            ran = rt.checked(crate, {}, flags, f"{crate.folder}/out/incremental")
+            return ran.returncode, ran.stdout
+        os.makedirs(os.path.dirname(archive), exist_ok=True)
+        pathlib.Path(archive).unlink(missing_ok=True)
+        return told(crate, lambda it: it.build_static([*flags, "--cpu", LEVEL]))
 
     def prove(self, name, jobs):
         """Whether the crate is proved as it is, into out/incremental, so that a check proves again what edits change
         alone, and whether a shared check of the right bodies of what they change leaves nothing open."""
         it, begun = self.wanted[name], time.monotonic()
         kept = f"{it.crate.folder}/out/incremental"
-        ran = rt.checked(it.crate, {}, ["--jobs", str(jobs)], kept)
-        loaded, checked = map(int, (COUNTS.findall(ran.stdout) or [(0, 0)])[-1])
+        status, said = self.check(it.crate, jobs)
+        loaded, checked = map(int, (COUNTS.findall(said) or [(0, 0)])[-1])
         it.proof = loaded, checked, time.monotonic() - begun
-        is_well = ran.returncode == 0
-        said = f"{name}: {loaded} modules loaded, {checked} checked, {it.proof[2]:.0f} s" if is_well else ran.stdout[-2000:]
+        is_well = status == 0
+        said = f"{name}: {loaded} modules loaded, {checked} checked, {it.proof[2]:.0f} s" if is_well else said[-2000:]
         if is_well and it.now:
             begun = time.monotonic()
             right = f"{self.room}/right/{name}"
@@ -193,7 +177,8 @@ class Run:
     def tasks(self, crates):
         """What is done, for the toolchain's scheduler: proofs after the libraries below them, edits after the proof."""
         needed = [it for it in crates if it.name in self.wanted]
-        built = [] if left_by_ci(crates) else [it for it in crates if any(it in other.below() for other in needed)]
+        below = [it for it in crates if any(it in other.below() for other in needed)]
+        built = [] if trials.left_by_ci(below) else below
         found = {}
 
         def put(key, crate, waits, call):
@@ -222,15 +207,14 @@ class Run:
 
 
 def main():
-    asked, begun, tree = arguments(), time.monotonic(), Tree()
+    asked, begun, tree = trials.arguments(), time.monotonic(), Tree()
     crates = rt.rtlib.crates_below(str(TOP))
-    near = {below.name for it in crates if it.is_static for below in [*it.below(), it]}
     wanted = [Wanted(it, tree, asked) for it in crates]
     unknown = {*asked.asked} - {name for it in wanted for edit in it.edits for name in (it.name, edit.name)}
     if unknown:
         sys.exit(f"no crate has these wrong bodies: {', '.join(sorted(unknown))}")
-    in_turn = choose(wanted, asked, near) if asked.is_gate else ""
-    needed = [it for it in wanted if it.now or asked.is_gate and it.name in near]
+    in_turn = choose(wanted, asked) if asked.is_gate else ""
+    needed = [it for it in wanted if it.now or asked.is_gate and it.crate.is_static]
     with tempfile.TemporaryDirectory(prefix="wrong-bodies-") as room:
         run = Run(needed, asked, room)
         rt.in_lanes(run.tasks(crates))
