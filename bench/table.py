@@ -8,7 +8,7 @@ the row's work once, in turn; the least of all rounds counts, so that what else 
 user and system time of the process, and elapsed time. Memory is the greatest resident set, of a further run under GNU
 time where that is there. A ratio is to the installed program, and below 1 where ours takes less. Hashes and decrypted
 files are compared. --small has the rows that take less than a second, --large adds those of a gigabyte. --out PATH writes
-the table to PATH.tsv, too, as tab-separated values, and plots a whole one as PATH.svg where gnuplot is there.
+the table to PATH.tsv, too, as tab-separated values, and draws a whole one as PATH.svg (bench/ratios.py).
 """
 import argparse
 import datetime
@@ -17,9 +17,10 @@ import os
 import random
 import shutil
 import subprocess
-import sys
 import tempfile
 import time
+
+import ratios
 
 TIMES = "ours theirs ratio ours_elapsed theirs_elapsed ratio_elapsed".split()
 COLUMNS = ["work", "size", "level", *TIMES, "ours_MiB", "theirs_MiB", "rounds", "load"]
@@ -182,7 +183,8 @@ def main():
     if given.out:
         write(given.out, title, lines)
         if not given.only:
-            plot(given.out, title)
+            with open(f"{given.out}.svg", "w", encoding="utf-8") as file:
+                file.write(ratios.drawn(f"{given.out}.tsv"))
 
 
 def width(name):
@@ -192,14 +194,6 @@ def width(name):
 def write(path, title, lines):
     with open(f"{path}.tsv", "w", encoding="utf-8") as file:
         file.write(f"# {title}\n" + "".join("\t".join(line) + "\n" for line in [COLUMNS, *lines]))
-
-
-def plot(path, title):
-    script = os.path.join(os.path.dirname(os.path.abspath(__file__)), "plot.gp")
-    if shutil.which("gnuplot"):
-        subprocess.run(["gnuplot", "-c", script, f"{path}.tsv", f"{path}.svg", title], check=True)
-    else:
-        print("no plot: gnuplot is not installed", file=sys.stderr)
 
 
 main()

@@ -1,7 +1,8 @@
 #!/usr/bin/env python3
-"""Whether what the documents name is there: files, definitions, tests, clauses and calls; whether docs/proof-map.svg is
-drawn from them as they are, and the tables of docs/WRONG_BODIES.md and docs/GATE.md are what the scripts make; and
-whether the manual pages tell every message, the completions every option, and all of them one version.
+"""Whether what the documents name is there: files, links, definitions, tests, clauses and calls; whether the pictures in
+docs/ are drawn from them as they are, and the tables of docs/WRONG_BODIES.md, docs/GATE.md and docs/DEFINITIONS.md are what
+the scripts make; whether the figures of speed on the pages are those of docs/benchmarks.tsv; and whether all of them tell
+one version. What they say of options, messages and numbers is compared by tests/values.py.
 
 Reads README.md and the other pages, docs/ and man/ against crates/, says each name that it does not find, and fails
 where there is one.
@@ -12,16 +13,19 @@ import shutil
 import subprocess
 import sys
 
+sys.path.insert(0, str(pathlib.Path(__file__).resolve().parent.parent / "bench"))
+import definitions_page
 import gate_page
+import ratios
 import record
+from definitions import WrongDefinition
 from edits import Edit
-from proof_map import drawn
+from proof_map import drawn, small
 
 TOP = pathlib.Path(__file__).resolve().parent.parent
 PAGES = sorted(TOP.glob("*.md"))
 MANUALS = sorted((TOP / "man").glob("*.1"))
 DOCUMENTS = [*PAGES, *sorted((TOP / "docs").glob("*.md")), *MANUALS]
-COMPLETIONS = {"argon2": ("bash/argon2", "zsh/_argon2"), "scrypt": ("bash/scrypt", "zsh/_scrypt")}
 IN_BACKTICKS = re.compile(r"`([^`]+)`")
 # How a goal is called: of a return, a call, a loop or a type; or it is a lemma's. That a number fits is no contract's.
 GOAL = re.compile(
@@ -78,6 +82,64 @@ for document in DOCUMENTS:
     for path in re.findall(named, document.read_text(encoding="utf-8")):
         expect((TOP / path).exists(), document, path)
 
+
+def anchors(file):
+    """What a page's headings are called in links, as GitHub makes it."""
+    text = re.sub(r"^```.*?^```$", "", file.read_text(encoding="utf-8"), flags=re.MULTILINE | re.DOTALL)
+    for title in re.findall(r"^#+ (.*)$", text, re.MULTILINE):
+        yield re.sub(r"[^\w\- ]", "", title.lower()).replace(" ", "-")
+
+
+# Links, to files and to headings. What is installed, README, CHANGELOG and docs/, links to what is installed alone.
+for document in [*PAGES, *sorted((TOP / "docs").glob("*.md"))]:
+    for path, anchor in re.findall(r"\]\((?!https?:)([^)#\s]*)(?:#([^)\s]*))?\)", document.read_text(encoding="utf-8")):
+        target = (document.parent / path).resolve() if path else document
+        is_installed = target.parent == TOP / "docs" or target.name in ("README.md", "CHANGELOG.md")
+        is_there = target.exists() and (is_installed or document.name == "CONTRIBUTING.md")
+        expect(is_there, document, f"the link to {path}")
+        if is_there and anchor:
+            expect(anchor in anchors(target), document, f"the link to {path}#{anchor}")
+
+# Figures of speed, each sentence as docs/benchmarks.tsv gives it.
+MEASURED = ratios.read(TOP / "docs/benchmarks.tsv")[1]
+
+
+def between(works, sizes, level="", column="ratio", beside="theirs"):
+    """The least and the greatest ratio of these rows, as pages write it; with `beside` v2 those of v3 to v2."""
+    found = []
+    for (work, size, at), row in MEASURED.items():
+        if work.startswith(works) and (not sizes or size in sizes) and level in at:
+            found.append(float(row[column]) if beside == "theirs" else
+                         float(row["ours"]) / float(MEASURED[work, size, "x86-64-v2"]["ours"]))
+    return sorted(f"{ratio:.2f}" for ratio in found)
+
+
+HASHES, FILES = ("argon2 ", ("16", "18")), (("enc", "dec"), None)
+KEYS, BACKUPS = ("key", None), (("enc", "dec"), ("100",))
+hashes, keys, files = between(*HASHES), between(*KEYS), between(*FILES)
+levels = {level: [between(*rows, level) for rows in (HASHES, KEYS, BACKUPS)] for level in ("v2", "v3")}
+to_v2 = [between(*rows, "v3", beside="v2") for rows in (HASHES, KEYS, FILES)]
+lanes = between(tuple(f"argon2 -{kind} -t {passes} -p 4" for kind in ("d", "i", "id") for passes in (1, 3)),
+                ("12", "16", "18"), column="ratio_elapsed")
+lanes = [f"{1 / float(lanes[-1]):.2f}", f"{1 / float(lanes[0]):.2f}"]
+SENTENCES = [
+    ("README.md", f"hashes {hashes[0]} to {hashes[-1]}, keys {keys[0]} to {keys[-1]}, files {files[0]} to {files[-1]}"),
+    ("man/argon2.1", f"took {to_v2[0][0]} to {to_v2[0][-2]} of the processor time of those for v2 in "
+                     f"{len(to_v2[0]) - 1} of {len(to_v2[0])} settings, and {to_v2[0][-1]} in one"),
+    ("man/scrypt.1", f"took {to_v2[1][0]} to {to_v2[1][-1]} of the processor time of those for v2 for a key, and "
+                     f"{to_v2[2][0]} to {to_v2[2][-1]} for a file"),
+    ("docs/BENCHMARKS.md", f"`argon2` took {levels['v2'][0][0]} to {levels['v2'][0][-1]} of the time of Debian's if built for "
+                           f"x86-64-v2, and {levels['v3'][0][0]} to {levels['v3'][0][-1]} if built for x86-64-v3"),
+    ("docs/BENCHMARKS.md", f"{levels['v2'][1][0]} to {levels['v2'][1][-1]} for x86-64-v2, and {levels['v3'][1][0]} to "
+                           f"{levels['v3'][1][-1]} for x86-64-v3"),
+    ("docs/BENCHMARKS.md", f"{' and '.join(levels['v2'][2])} for x86-64-v2, {' and '.join(levels['v3'][2])} for x86-64-v3"),
+    ("docs/BENCHMARKS.md", f"has all {len(MEASURED)} rows"),
+    ("docs/BENCHMARKS.md", f"with `-p 4` it took {lanes[0]} to {lanes[1]} of our time, from 4 MiB on"),
+]
+for name, sentence in SENTENCES:
+    text = " ".join((TOP / name).read_text(encoding="utf-8").split())
+    expect(sentence in text, name, f"'{sentence}', as docs/benchmarks.tsv has it")
+
 # Definitions, each in the file of specs/ that its row names.
 for crate, cells in tables("DEFINITIONS.md"):
     if crate in SPECS and len(cells) == 5 and cells[0] != "definition":
@@ -114,18 +176,33 @@ for crate in SOURCES:
         is_ours = clause and re.search(rf"\b(?:ensures|requires)\*? {clause[1]}\b", ALL_SOURCES)
         is_there = told and (not clause or is_ours or clause[1] in CLAUSES_OF_THE_LIBRARY)
         expect(is_there, file, f"{name}: {goal}: the goal that refuses it")
+    rows, file = record.rows_of(crate, folder=record.DEFINITIONS), record.file_of(crate, record.DEFINITIONS)
+    for path in record.edits_of(crate, record.DEFINITIONS):
+        edit = WrongDefinition(path, definitions_page.ALL)
+        expect(not edit.wrong, path.relative_to(TOP), edit.wrong)
+        expect(path.stem in rows, file, f"{path.stem}: a row of its trial (tests/wrong_definitions.py {edit.name} writes it)")
+        expect(rows.pop(path.stem, ("", edit.row))[1] == edit.row, file, f"{path.stem}: the equation that its edit names")
+    for name in rows:
+        expect(False, file, f"{name}: an edit of this name")
 tables_made = record.page() == record.PAGE.read_text(encoding="utf-8")
 expect(tables_made, "WRONG_BODIES.md", "the tables that the records make (each run of tests/wrong_bodies.py writes them)")
+
+tables_made = definitions_page.page() == definitions_page.PAGE.read_text(encoding="utf-8")
+expect(tables_made, "DEFINITIONS.md", "the tables that the records make (each run of tests/wrong_definitions.py writes them)")
 
 # Counts and seconds of the gate.
 tables_made = gate_page.page() == gate_page.PAGE.read_text(encoding="utf-8")
 expect(tables_made, "GATE.md", "the tables that tests/gate_page.py makes (each run of it writes them)")
 
 # Calls and clauses that carry a promise, and the picture of what they stand on; the definitions of each run.
-picture, wrong = drawn()
-missing += wrong
-if picture != (TOP / "docs/proof-map.svg").read_text(encoding="utf-8"):
-    missing.append("docs/proof-map.svg as it would be drawn now (make map)")
+bars = ratios.drawn(TOP / "docs/benchmarks.tsv"), []
+for name, (picture, wrong), by in (
+    ("docs/proof-map.svg", drawn(), "make map"), ("docs/proof-map-small.svg", small(), "make map"),
+    ("docs/benchmarks.svg", bars, "bench/ratios.py"),
+):
+    missing += wrong
+    if not (TOP / name).exists() or picture != (TOP / name).read_text(encoding="utf-8"):
+        missing.append(f"{name} as it would be drawn now ({by})")
 for heading, cells in tables("PROMISES.md"):
     if heading == "scrypt" and len(cells) == 3 and cells[0] != "the run":
         for name in IN_BACKTICKS.findall(cells[2]):
@@ -133,31 +210,8 @@ for heading, cells in tables("PROMISES.md"):
             expect(found, "PROMISES.md", name)
 
 
-def plain(roff):
-    """The text of a manual page, without what sets its type."""
-    text = roff.replace("\\\n", "").replace("\\-", "-").replace("\\(aq", "'")
-    return re.sub(r"^\.[A-Z]+ ", "", re.sub(r"\\f[A-Z]", "", text), flags=re.MULTILINE)
-
-
-# Messages and options, in the manual page of each program and in its completions.
+# The type of the manual pages.
 for manual in MANUALS:
-    program, roff = manual.stem, manual.read_text(encoding="utf-8")
-    text = plain(roff)
-    messages = [
-        cells[2].strip("`").replace("\\|", "|")
-        for heading, cells in tables("REFUSALS.md")
-        if heading == program and re.fullmatch(r"[AS]\d.*", cells[0]) and "`" in cells[2]
-    ]
-    messages = [re.sub(r"^(argon2: usage: ).*|`.*$", r"\1", message) or message for message in messages]
-    for message in messages:
-        expect(any(line.startswith(message) for line in text.splitlines()), manual, message)
-    for line in re.findall(rf"^{program}: .*$", text, re.MULTILINE):
-        expect(any(line.startswith(message) for message in messages), "REFUSALS.md", line)
-    options = set(re.findall(r"(?<![\w-])--?[A-Za-z]+", text.split("\nDESCRIPTION\n")[0].split("\nSYNOPSIS\n")[1]))
-    for file in COMPLETIONS[program]:
-        words = re.findall(r"(?<![\w-])--?[A-Za-z]+", (TOP / "completions" / file).read_text(encoding="utf-8"))
-        for option in sorted(options):
-            expect(option in words, f"completions/{file}", option)
     if shutil.which("mandoc"):
         lint = subprocess.run(["mandoc", "-T", "lint", manual], stdout=subprocess.PIPE, text=True).stdout
         missing.extend(lint.splitlines())

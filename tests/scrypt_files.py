@@ -5,7 +5,8 @@ scrypt, version 1.3.1) opens them.
 """
 import hashlib
 
-USAGE = b"scrypt: usage: scrypt enc|dec|info [options] infile [outfile]\n"
+import values_table
+
 SALT = bytes(range(32)).hex()
 # The passphrase is pw, N is 16, r and p are 1, the salt is SALT; the text is empty, or hello.
 HEADER = bytes.fromhex(
@@ -67,24 +68,4 @@ ENVIRONMENT = {
     "PW": "pw", "PW_LINE": "pw\nmore", "PW_LONG": "pw\n" + "x" * 5000, "PW_2049": "p" * 2049, "PW_BYTES": PASSPHRASE_OF_BYTES
 }
 
-LINES = {
-    "S1": USAGE,
-    "S2a": b"scrypt: --logN, -r and -p are given together or not at all\n",
-    "S2b": b"scrypt: costs out of range\n",
-    "S2c": b"scrypt: passphrase and input cannot both come from standard input\n",
-    "S2d": b"scrypt: infile and outfile have the same name\n",
-    "S3": b"scrypt: one passphrase source is needed: -P, dev:stdin-once, env:NAME or file:NAME\n",
-    "S4a": b"scrypt: passphrase cannot be read\n",
-    "S4b": b"scrypt: passphrase is longer than 2048 bytes\n",
-    "S5a": b"scrypt: --salt takes 64 hexadecimal digits\n",
-    "S6": b"scrypt: not valid scrypt data\n",
-    "S7": b"scrypt: unsupported format version\n",
-    "S8": b"scrypt: more memory needed than -M allows\n",
-    "S9": b"scrypt: more work needed than --maxops allows\n",
-    "S10": b"scrypt: wrong passphrase\n",
-    "S11": b"scrypt: input is damaged or cut short\n",
-    "S12": b"scrypt: input cannot be opened or read\n",
-    "S13": b"scrypt: output cannot be opened or written\n",
-    "S16a": b"scrypt: --keep takes a power of two from 1 to 1024\n",
-    "S16b": b"scrypt: --keep is larger than N\n",
-}
+LINES = values_table.lines()

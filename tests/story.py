@@ -1,10 +1,11 @@
 #!/usr/bin/env python3
-"""Types the story of README.md in an empty folder and compares what comes; its login is that of a test, and the text that its
-Rust program enrols is what the built argon2 writes. Then the examples of both manual pages, in each shell that they are for, also
-where a command before a pipe fails, a password is wrong, and the stored text is empty.
+"""Types the commands of README.md's first screen and its story in an empty folder and compares what comes. The login of
+docs/LIBRARY.md's Rust program is that of a test, and the text that it enrols is what the built argon2 writes. Then the
+examples of both manual pages, in each shell that they are for, also where a command before a pipe fails, a password is
+wrong, and the stored text is empty; and what checks a stored text in Python, where the library is built.
 
     tests/story.py FOLDER       in which the programs argon2 and scrypt lie
-    tests/story.py --prove      proves, builds and runs the README's Rust program over the crates (some minutes)
+    tests/story.py --prove      proves, builds and runs that Rust program over the crates (some minutes)
 """
 import os
 import pathlib
@@ -18,6 +19,8 @@ from checking import Checks
 
 TOP = pathlib.Path(__file__).resolve().parent.parent
 README = (TOP / "README.md").read_text(encoding="utf-8")
+LIBRARY = (TOP / "docs/LIBRARY.md").read_text(encoding="utf-8")
+SHARED = TOP / "bin/lib/libpikhsen.so.0"
 END = "-- end of the command --"
 
 
@@ -79,10 +82,13 @@ class Shell:
 def scrypt_examples(checks, shell):
     backup, look, opened, whole, again, typed, typed_again, small, keep = examples("scrypt.1")
     guard_of_a_file, guard = examples("scrypt.1", "SECURITY")
+    (costs,) = examples("scrypt.1", "COSTS")
 
     def expect(name, found, expected):
         checks.that(f"scrypt.1 in {shell.name}: {name}", found, expected)
 
+    status, said = shell.run("set -e; echo words of ours >key\n" + costs[0].replace("14 15 16 17 18 19 20", "4 5") + "rm key")
+    expect("costs are timed", (status, re.findall(r"^--logN \d+$", said, re.MULTILINE)), (0, ["--logN 4", "--logN 5"]))
     status, _ = shell.run(backup[0])
     expect("a backup of what is not there fails", status != 0, True)
     for name in ("head", "base64"):
@@ -143,7 +149,7 @@ def scrypt_examples(checks, shell):
 
 
 def argon2_examples(checks, shell):
-    enrol, ask, check, key = examples("argon2.1")
+    enrol, ask, check, python, key = examples("argon2.1")
 
     def expect(name, found, expected):
         checks.that(f"argon2.1 in {shell.name}: {name}", found, expected)
@@ -160,6 +166,11 @@ def argon2_examples(checks, shell):
     for password in ("battery staple", "correct horse ", "", "x" * 200):
         status, said = shell.run(check[0], password=password)
         expect(f"the password '{password}'", (status != 0, "welcome" in said), (True, False))
+    if SHARED.exists():
+        (pathlib.Path(shell.room) / "check.py").write_text(python[0], encoding="utf-8")
+        for password, said in ((b"correct horse", "welcome\n"), (b"battery staple", "not you\n")):
+            found = shell.run("python3 check.py", password, PYTHONPATH=str(TOP / "python"), PIKHSEN_LIBRARY=str(SHARED))
+            expect(f"the password {password} in Python", found, (0, said))
     for name, stored in (("empty", ": >stored"), ("of a line feed", "echo >stored"), ("that is missing", "rm stored")):
         shell.run(stored)
         for password in ("anything", "correct horse", ""):
@@ -179,6 +190,39 @@ def compare_examples(checks, programs):
                 run(checks, Shell(name, programs, room))
 
 
+def compare_parts(checks, programs):
+    """The commands of the first screen; a passphrase that is typed; the loop that times costs, for small ones; and the
+    check of a stored text in Python. Each shell is bash or zsh, as README says."""
+    first, *_ = README.split("\n# Using the programs\n")
+    commands = re.findall(r"^    \$ (.*)$", first, re.MULTILINE)
+    typing, costs, stored = (
+        README.split(f"\n## {heading}\n")[1].split("\n## ")[0].split("\n# ")[0]
+        for heading in ("Typing a passphrase", "Which costs", "Checking a stored hash")
+    )
+    typed, loop = ("\n".join(re.findall(r"^    (.*)$", part, re.MULTILINE)) + "\n" for part in (typing, costs))
+    (python,) = re.findall(r"^```python\n(.*?)^```", stored, re.MULTILINE | re.DOTALL)
+    checks.that("README: the first screen has three commands", len(commands), 3)
+    for name in filter(shutil.which, ("bash", "zsh")):
+        with tempfile.TemporaryDirectory() as room:
+            shell = Shell(name, programs, room)
+            shell.run("mkdir letters; echo 'Dear Ada' >letters/to-ada; echo words of ours >key")
+            for command in commands[:2]:
+                checks.that(f"README in {name}: {command}", shell.run(f"set -o pipefail; {command}"), (0, ""))
+            checks.that(f"README in {name}: what came back", shell.run("tar -tf letters.tar")[1], "letters/\nletters/to-ada\n")
+            found = shell.run(commands[2] + " >stored", password="correct horse")
+            checks.that(f"README in {name}: {commands[2]}", found, (0, ""))
+            found = shell.run(typed + "tar -tf letters.part", b"words of ours\n")
+            checks.that(f"README in {name}: a typed passphrase", found, (0, "letters/\nletters/to-ada\n"))
+            status, said = shell.run("set -e\n" + loop.replace("14 15 16 17 18 19 20", "4 5"))
+            checks.that(f"README in {name}: costs are timed", (status, re.findall(r"^--logN \d+$", said, re.MULTILINE)), (0, ["--logN 4", "--logN 5"]))
+            if SHARED.exists():
+                pathlib.Path(room, "check.py").write_text(python, encoding="utf-8")
+                found = shell.run("python3 check.py", PYTHONPATH=str(TOP / "python"), PIKHSEN_LIBRARY=str(SHARED))
+                checks.that("README: a stored text in Python", found, (0, "True\n"))
+            else:
+                print("skipped: a stored text in Python, since bin/lib/libpikhsen.so.0 is not built")
+
+
 def compare_login(checks, programs, typed):
     """The login of the story lets nobody in where the stored text is empty, and argon2 refuses the password."""
     (encoded,) = [command for command, _ in typed if command.startswith("encoded()")]
@@ -192,8 +236,8 @@ def compare_login(checks, programs, typed):
 
 
 def rust_program():
-    (program,) = re.findall(r"^```rust\n(.*?)^```", README, re.MULTILINE | re.DOTALL)
-    after = README.split("```rust\n" + program)[1]
+    (program,) = re.findall(r"^```rust\n(.*?)^```", LIBRARY, re.MULTILINE | re.DOTALL)
+    after = LIBRARY.split("```rust\n" + program)[1]
     shown = re.search(r"It prints:\n\n((?:    .*\n)+)", after)[1]
     return program, re.sub(r"^    ", "", shown, flags=re.MULTILINE)
 
@@ -209,9 +253,9 @@ def compare_functions(checks):
         if "tests" in file.parts[-2:] or file.name == "tests.rt":
             tested.update(functions(file.read_text(encoding="utf-8")))
     shown = functions(rust_program()[0])
-    checks.that("README's login is a test's", "may_enter" in shown and "may_enter" in tested, True)
+    checks.that("LIBRARY's login is a test's", "may_enter" in shown and "may_enter" in tested, True)
     for name in sorted(shown.keys() & tested.keys() - {"main"}):
-        checks.that(f"README's {name} is that of a test", shown[name], tested[name])
+        checks.that(f"LIBRARY's {name} is that of a test", shown[name], tested[name])
 
 
 def compare_enrolled(checks, folder):
@@ -221,7 +265,7 @@ def compare_enrolled(checks, folder):
     passes, lanes, memory = re.findall(r"Params::new\(Kind::Id, 0x13, (\d+), (\d+), ([\d_]+), 32,", program)[0]
     words = [salt, "-id", "-t", passes, "-p", lanes, "-k", memory.replace("_", ""), "-e"]
     found = checks.run(words, password.encode(), program=os.path.abspath(os.path.join(folder, "argon2")))
-    checks.that("README's enrolled text", found, (0, shown.splitlines(keepends=True)[0].encode(), b""))
+    checks.that("LIBRARY's enrolled text", found, (0, shown.splitlines(keepends=True)[0].encode(), b""))
 
 
 def prove():
@@ -234,7 +278,7 @@ def prove():
         text.write_text(program, encoding="utf-8")
         ran = subprocess.run([built("accounts", "argon argon_text", str(text))], stdout=subprocess.PIPE)
     if (ran.returncode, ran.stdout.decode()) != (0, shown):
-        raise SystemExit(f"README's program prints {ran.stdout!r}")
+        raise SystemExit(f"LIBRARY's program prints {ran.stdout!r}")
 
 
 def main():
@@ -251,6 +295,7 @@ def main():
     for (command, expected), answer in zip(typed, found):
         checks.that(f"README: {command}", answer, expected)
     compare_login(checks, sys.argv[1], typed)
+    compare_parts(checks, sys.argv[1])
     compare_examples(checks, sys.argv[1])
     checks.end()
 

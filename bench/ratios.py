@@ -1,0 +1,94 @@
+#!/usr/bin/env python3
+"""Draws a table of bench/table.py: for each row that a reader asks for, our processor time beside Debian's, whose time
+is 1, at both levels, with the seconds.
+
+    bench/ratios.py docs/benchmarks.tsv docs/benchmarks.svg
+"""
+import sys
+from xml.sax.saxutils import escape
+
+# Each with its work and its size in the table, and with what it is, in words.
+ROWS = [
+    ("argon2 -id -t 3 -p 4 -m", "16", "Argon2id, 64 MiB, 3 passes, 4 lanes"),
+    ("argon2 -id -t 3 -p 1 -m", "16", "Argon2id, 64 MiB, 3 passes"),
+    ("argon2 -id -t 1 -p 1 -m", "18", "Argon2id, 256 MiB, 1 pass"),
+    ("argon2 -id -t 3 -p 1 -m", "18", "Argon2id, 256 MiB, 3 passes"),
+    ("key, -r 8 -p 1, --logN", "14", "key, N = 2^14 (16 MiB)"),
+    ("key, -r 8 -p 1, --logN", "17", "key, N = 2^17 (128 MiB)"),
+    ("key, -r 8 -p 1, --logN", "20", "key, N = 2^20 (1 GiB)"),
+    ("enc, --logN 14, MiB", "10", "scrypt enc, 10 MiB"),
+    ("dec, --logN 14, MiB", "10", "scrypt dec, 10 MiB"),
+    ("enc, --logN 14, MiB", "100", "scrypt enc, 100 MiB"),
+    ("dec, --logN 14, MiB", "100", "scrypt dec, 100 MiB"),
+]
+LEVELS = [("x86-64-v2", "v2", 1), ("x86-64-v3", "v3", 14)]
+LEFT, SCALE, STEP, TOP = 250, 400, 32, 84
+SECONDS = LEFT + int(1.3 * SCALE)
+WIDTH = SECONDS + 190
+# Colours for a light page and for a dark one: page, text, soft text, grid, v2, v3, Debian's.
+LIGHT = "#fff #1f2328 #59636e #d1d9e0 #8ec5ff #0969da #cf222e".split()
+DARK = "#0d1117 #e6edf3 #9198a1 #3d444d #1f4f86 #58a6ff #ff7b72".split()
+COLOURS = """.page{fill:%s} text{fill:%s} .soft{fill:%s} .grid{stroke:%s} .v2{fill:%s} .v3{fill:%s} .one{stroke:%s}"""
+STYLE = """text{font:13px Helvetica,Arial,"Liberation Sans",sans-serif} .title{font-size:17px;font-weight:bold}
+.soft{font-size:11.5px} .one{stroke-width:2}
+""" + "\n".join(begin + COLOURS % tuple(colours) + end for begin, colours, end in [
+    ("", LIGHT, ""), ("@media (prefers-color-scheme:dark){", DARK, "}")])
+
+
+def read(path):
+    """The first line of a table, and its rows by work, size and level."""
+    with open(path, encoding="utf-8") as file:
+        title, head, *lines = file.read().splitlines()
+    rows = [dict(zip(head.split("\t"), line.split("\t"))) for line in lines]
+    return title.lstrip("# "), {(row["work"], row["size"], row["level"]): row for row in rows}
+
+
+def seconds(text):
+    number = float(text)
+    return f"{number:.2f} s" if number >= 1 else f"{number * 1000:.0f} ms"
+
+
+def line(ratio, kind, said, height):
+    x = LEFT + ratio * SCALE
+    return (f'<line class="{kind}" x1="{x:g}" x2="{x:g}" y1="{TOP - 6}" y2="{height - 28}"/>'
+            f'<text class="soft" x="{x:g}" y="{height - 12}" text-anchor="middle">{said}</text>')
+
+
+def drawn(path):
+    """The picture of a table."""
+    title, found = read(path)
+    rows = [row for row in ROWS if any((*row[:2], level) in found for level, _, _ in LEVELS)]
+    height = TOP + STEP * len(rows) + 34
+    machine, *_, day, _ = title.split("; ")
+    parts = [
+        f'<svg xmlns="http://www.w3.org/2000/svg" viewBox="0 0 {WIDTH} {height}" width="{WIDTH}" height="{height}">',
+        f"<title>Processor time beside Debian's scrypt and argon2</title><style>{STYLE}</style>",
+        f'<rect class="page" width="{WIDTH}" height="{height}"/>',
+        '<text class="title" x="20" y="28">Processor time beside Debian\'s programs: shorter is faster</text>',
+        f'<text class="soft" x="20" y="47">{escape(machine)}; {escape(day)}; the seconds are ours and Debian\'s</text>',
+    ]
+    for (level, kind, _), x in zip(LEVELS, (20, 180)):
+        parts.append(f'<rect class="{kind}" x="{x}" y="57" width="14" height="11" rx="2"/>'
+                     f'<text class="soft" x="{x + 20}" y="67">built for {level}</text>')
+    for part in (0, 0.25, 0.5, 0.75, 1.25):
+        parts.append(line(part, "grid", f"{part:g}", height))
+    for number, (work, size, said) in enumerate(rows):
+        y = TOP + STEP * number
+        parts.append(f'<text x="{LEFT - 10}" y="{y + 18}" text-anchor="end">{said}</text>')
+        for level, kind, below in LEVELS:
+            row = found.get((work, size, level))
+            if row and row["ratio"]:
+                ratio = float(row["ratio"])
+                parts.append(
+                    f'<rect class="{kind}" x="{LEFT}" y="{y + below}" width="{ratio * SCALE:.0f}" height="12" rx="2"/>'
+                    f'<text class="soft" x="{SECONDS}" y="{y + below + 10}">{ratio:.2f}: {seconds(row["ours"])}'
+                    f' and {seconds(row["theirs"])}</text>')
+    return "\n".join([*parts, line(1, "one", "1 = Debian's", height), "</svg>"]) + "\n"
+
+
+if __name__ == "__main__":
+    if len(sys.argv) != 3:
+        raise SystemExit(__doc__)
+    picture = drawn(sys.argv[1])
+    with open(sys.argv[2], "w", encoding="utf-8") as file:
+        file.write(picture)
