@@ -4,8 +4,6 @@
 
 mod arguments;
 mod contents;
-#[cfg(test)]
-mod fixtures;
 mod identity;
 mod inputs;
 mod memory_source;

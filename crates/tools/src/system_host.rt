@@ -114,8 +114,3 @@ impl<S: System> Host for SystemHost<S> {
         counted(&mut self.line_faults, said)
     }
 }
-
-#[cfg(test)]
-mod memory_tests;
-#[cfg(test)]
-mod tests;

@@ -1,15 +1,12 @@
 //! Whole runs over a system in memory.
-ghost use Rattle.std.specs.Prelude.{◌≡◌, IfOk};
-ghost use Rattle.host.specs.Faults.{no_faults};
-ghost use Rattle.host.specs.Seen.{IsFresh};
+ghost use Rattle.std.specs.Prelude.{◌≡◌, None, false, IfOk};
 ghost use Rattle.tools.specs.World.{IsUnused};
 
-use super::*;
+use super::{steps, *};
 use crate::contents::{Contents, Identities};
 use crate::fixtures::{put, put_variable};
 use crate::identity::FileIdentity;
 use crate::memory_system::MemorySystem;
-use host::refuse;
 use std::alloc::{AllocError, Global};
 use std::test::Fail;
 
@@ -41,8 +38,10 @@ fn five_bytes(alloc: Global) -> Result<MemorySystem, AllocError>
 
 // A host over that, whose input is standard input, and of whose calls this one fails.
 fn host_of(alloc: Global, failing: u64) -> Result<SystemHost<MemorySystem>, HostFault>
-    ensures counts { IfOk result (λ h. ⟦<SystemHost<MemorySystem> as Host>⟧.faults h ≡ no_faults) }
-    ensures fresh { IfOk result (λ h. IsFresh (⟦<SystemHost<MemorySystem> as Host>⟧.seen h)) }
+    ensures input { IfOk result (λ h. h.run.world.input.opened ≡ None) }
+    ensures output { IfOk result (λ h. h.run.world.output_asked ≡ None) }
+    ensures asked { IfOk result (λ h. h.run.asked ≡ None) }
+    ensures salted { IfOk result (λ h. h.run.salted ≡ false) }
 {
     let mut system = five_bytes(alloc).map_err(|_| HostFault)?;
     system.set_input(None)?;
@@ -70,15 +69,15 @@ fn run(
 ) -> Result<([u64; 5], usize, bool, usize), HostFault> {
     let mut host = host_of(alloc, failing)?;
     let mut buf = [0; 4];
-    let _ = host.open_input(None);
-    let _ = host.pull(&mut buf);
-    let _ = host.pull(&mut buf);
-    let _ = host.pull(&mut buf);
-    let _ = host.secret(source, &mut buf);
-    let _ = host.salt(&mut [0; 32]);
-    let _ = host.open_output(Some("out"));
-    let _ = host.push(b"text");
-    let _ = host.say("line");
+    let _ = steps::open_input(&mut host, None);
+    let _ = steps::pull(&mut host, &mut buf);
+    let _ = steps::pull(&mut host, &mut buf);
+    let _ = steps::pull(&mut host, &mut buf);
+    let _ = steps::secret(&mut host, source, &mut buf);
+    let _ = steps::salt(&mut host);
+    let _ = steps::open_output(&mut host, Some("out"));
+    let _ = steps::push(&mut host, b"text");
+    let _ = steps::say(&mut host, "line");
     let system = host.system();
     Ok((
         counts(&host),
@@ -140,13 +139,13 @@ fn a_variable_that_fails_is_counted(rt: HostRuntime) {
 fn pulls(alloc: Global) -> Result<([Result<usize, HostFault>; 6], u64), HostFault> {
     let mut host = host_of(alloc, 0)?;
     let mut buf = [0; 4];
-    let before = host.pull(&mut buf);
-    let _ = host.open_input(None);
-    let nothing = host.pull(&mut []);
-    let first = host.pull(&mut buf);
-    let second = host.pull(&mut buf);
-    let end = host.pull(&mut buf);
-    let after = host.pull(&mut buf);
+    let before = steps::pull(&mut host, &mut buf);
+    let _ = steps::open_input(&mut host, None);
+    let nothing = steps::pull(&mut host, &mut []);
+    let first = steps::pull(&mut host, &mut buf);
+    let second = steps::pull(&mut host, &mut buf);
+    let end = steps::pull(&mut host, &mut buf);
+    let after = steps::pull(&mut host, &mut buf);
     let tries = host.system().tries();
     Ok(([before, nothing, first, second, end, after], tries))
 }
@@ -164,10 +163,10 @@ fn reads_nothing_after_the_end(rt: HostRuntime) {
 fn opened_late(alloc: Global, failing: u64) -> Result<([bool; 4], [u64; 5], u64), HostFault> {
     let mut host = host_of(alloc, failing)?;
     let mut buf = [0; 4];
-    let output = host.open_output(None);
-    let input = host.open_input(None);
-    let secret = host.secret(Source::File("key"), &mut buf);
-    let salt = host.salt(&mut [0; 32]);
+    let output = steps::open_output(&mut host, None);
+    let input = steps::open_input(&mut host, None);
+    let secret = steps::secret(&mut host, Source::File("key"), &mut buf);
+    let salt = steps::salt(&mut host);
     Ok((
         [output.is_ok(), input.is_ok(), secret.is_ok(), salt.is_ok()],
         counts(&host),
@@ -175,13 +174,13 @@ fn opened_late(alloc: Global, failing: u64) -> Result<([bool; 4], [u64; 5], u64)
     ))
 }
 
-// Also where the output could not be opened. Standard output that is no regular file takes two calls.
+// Also where the output could not be opened. Standard output takes four calls.
 #[test]
 fn reads_nothing_new_once_an_output_was_asked_for(rt: HostRuntime) {
     for (failing, is_opened, output_faults, calls) in [
-        (0, true, 0, 2),
+        (0, true, 0, 4),
         (1, false, 1, 1),
-        (2, false, 1, 2),
+        (4, false, 1, 4),
     ] {
         assert_eq!(rt;
             opened_late(rt.alloc(), failing),
@@ -199,12 +198,12 @@ fn reads_nothing_new_once_an_output_was_asked_for(rt: HostRuntime) {
 fn read_on(alloc: Global) -> Result<[Result<usize, HostFault>; 4], HostFault> {
     let mut host = host_of(alloc, 0)?;
     let mut buf = [0; 4];
-    let early = host.push(b"text");
-    let _ = host.open_input(None);
-    let _ = host.open_output(None);
-    let pulled = host.pull(&mut buf);
-    let pushed = host.push(b"text");
-    let nothing = host.push(b"");
+    let early = steps::push(&mut host, b"text");
+    let _ = steps::open_input(&mut host, None);
+    let _ = steps::open_output(&mut host, None);
+    let pulled = steps::pull(&mut host, &mut buf);
+    let pushed = steps::push(&mut host, b"text");
+    let nothing = steps::push(&mut host, b"");
     Ok([early, pulled, pushed, nothing])
 }
 
@@ -219,8 +218,8 @@ fn reads_on_what_was_opened(rt: HostRuntime) {
 // Whether what was said is these lines, with a refusal's status.
 fn says(alloc: Global) -> Result<(bool, u8), HostFault> {
     let mut host = host_of(alloc, 0)?;
-    let _ = host.say("a line");
-    let status = refuse(&mut host, "a refusal");
+    let _ = steps::say(&mut host, "a line");
+    let status = steps::refuse(&mut host, "a refusal");
     let said = match host.system().lines() {
         [line, refusal] => line.as_str() == "a line" && refusal.as_str() == "a refusal",
         _ => false,

@@ -1,8 +1,7 @@
 //! The system's own files, its environment and its random bytes.
 
-use super::*;
+use super::{steps, *};
 use crate::real::Real;
-use host::refuse;
 use std::fs;
 use std::os::unix::fs::symlink;
 use std::test::Fail;
@@ -17,11 +16,11 @@ fn pieces_of_five_bytes(
     Result<usize, HostFault>,
 ) {
     let mut host = SystemHost::new(Real::new(rt));
-    let opened = host.open_input(Some("five-bytes"));
+    let opened = steps::open_input(&mut host, Some("five-bytes"));
     let mut buf = [0; 3];
-    let first = (host.pull(&mut buf), buf);
-    let second = (host.pull(&mut buf), buf);
-    (opened, first, second, host.pull(&mut buf))
+    let first = (steps::pull(&mut host, &mut buf), buf);
+    let second = (steps::pull(&mut host, &mut buf), buf);
+    (opened, first, second, steps::pull(&mut host, &mut buf))
 }
 
 #[test]
@@ -52,10 +51,10 @@ fn pushes(
     bool,
 ) {
     let mut host = SystemHost::new(Real::new(rt));
-    let opened = host.open_output(Some("written"));
+    let opened = steps::open_output(&mut host, Some("written"));
     let is_empty = holds(rt, "written", b"");
-    let pushed = host.push(b"hello");
-    let nothing = host.push(b"");
+    let pushed = steps::push(&mut host, b"hello");
+    let nothing = steps::push(&mut host, b"");
     (
         opened,
         is_empty,
@@ -71,8 +70,8 @@ fn makes_and_empties_a_file(rt: HostRuntime) {
     }
 }
 
-// The outcomes of pulling before anything is opened, of opening what is missing and a folder, of pulling from that, and
-// of opening what is missing then and pulling, with the count of faults.
+// The outcomes of pulling before anything is opened, of opening what is missing and a folder, of pulling from that,
+// and of opening what is missing then and pulling, with the count of faults.
 fn faults_of_the_input(
     rt: HostRuntime,
 ) -> (
@@ -82,12 +81,12 @@ fn faults_of_the_input(
 ) {
     let mut host = SystemHost::new(Real::new(rt));
     let mut buf = [0; 3];
-    let before = host.pull(&mut buf);
-    let missing = host.open_input(Some("missing"));
-    let folder = host.open_input(Some("folder-to-read"));
-    let pulled = host.pull(&mut buf);
-    let again = host.open_input(Some("missing"));
-    let after = host.pull(&mut buf);
+    let before = steps::pull(&mut host, &mut buf);
+    let missing = steps::open_input(&mut host, Some("missing"));
+    let folder = steps::open_input(&mut host, Some("folder-to-read"));
+    let pulled = steps::pull(&mut host, &mut buf);
+    let again = steps::open_input(&mut host, Some("missing"));
+    let after = steps::pull(&mut host, &mut buf);
     (
         [before, pulled, after],
         [missing, folder, again],
@@ -119,10 +118,10 @@ fn faults_of_the_output(
     u64,
 ) {
     let mut host = SystemHost::new(Real::new(rt));
-    let before = host.push(b"hello");
-    let missing = host.open_output(Some("missing/file"));
-    let folder = host.open_output(Some("folder-to-write"));
-    let after = host.push(b"hello");
+    let before = steps::push(&mut host, b"hello");
+    let missing = steps::open_output(&mut host, Some("missing/file"));
+    let folder = steps::open_output(&mut host, Some("folder-to-write"));
+    let after = steps::push(&mut host, b"hello");
     ([before, after], [missing, folder], host.output_faults)
 }
 
@@ -139,9 +138,9 @@ fn counts_faults_of_the_output(rt: HostRuntime) -> Result<(), Fail> {
 // The outcomes of opening an output and then one that is missing, and of a push after it; whether the first is empty.
 fn second_output(rt: HostRuntime) -> ([Result<(), HostFault>; 2], Result<usize, HostFault>, bool) {
     let mut host = SystemHost::new(Real::new(rt));
-    let opened = host.open_output(Some("opened"));
-    let missing = host.open_output(Some("missing/file"));
-    let pushed = host.push(b"hello");
+    let opened = steps::open_output(&mut host, Some("opened"));
+    let missing = steps::open_output(&mut host, Some("missing/file"));
+    let pushed = steps::push(&mut host, b"hello");
     ([opened, missing], pushed, holds(rt, "opened", b""))
 }
 
@@ -157,7 +156,7 @@ fn a_second_output_that_is_a_fault_ends_the_first(rt: HostRuntime) {
 fn secret_of(rt: HostRuntime, source: Source<'_>) -> (Result<usize, HostFault>, [u8; 5], u64) {
     let mut host = SystemHost::new(Real::new(rt));
     let mut buf = *b".....";
-    let outcome = host.secret(source, &mut buf);
+    let outcome = steps::secret(&mut host, source, &mut buf);
     (outcome, buf, host.secret_faults)
 }
 
@@ -208,8 +207,8 @@ fn output_beside_input(
     name: &str,
 ) -> (Result<(), HostFault>, Result<(), HostFault>, u64) {
     let mut host = SystemHost::new(Real::new(rt));
-    let input = host.open_input(Some("one"));
-    let output = host.open_output(Some(name));
+    let input = steps::open_input(&mut host, Some("one"));
+    let output = steps::open_output(&mut host, Some(name));
     (input, output, host.output_faults)
 }
 
@@ -219,8 +218,8 @@ fn output_beside_secret(
     name: &str,
 ) -> (Result<usize, HostFault>, Result<(), HostFault>) {
     let mut host = SystemHost::new(Real::new(rt));
-    let secret = host.secret(Source::File("one"), &mut [0; 8]);
-    (secret, host.open_output(Some(name)))
+    let secret = steps::secret(&mut host, Source::File("one"), &mut [0; 8]);
+    (secret, steps::open_output(&mut host, Some(name)))
 }
 
 #[test]
@@ -255,9 +254,9 @@ fn another_output(
     bool,
 ) {
     let mut host = SystemHost::new(Real::new(rt));
-    let input = host.open_input(Some("first"));
-    let secret = host.secret(Source::File("first"), &mut [0; 8]);
-    let output = host.open_output(Some("second"));
+    let input = steps::open_input(&mut host, Some("first"));
+    let secret = steps::secret(&mut host, Source::File("first"), &mut [0; 8]);
+    let output = steps::open_output(&mut host, Some("second"));
     (input, secret, output, holds(rt, "second", b""))
 }
 
@@ -278,9 +277,9 @@ fn device_as_both(
     Result<usize, HostFault>,
 ) {
     let mut host = SystemHost::new(Real::new(rt));
-    let input = host.open_input(Some("/dev/null"));
-    let output = host.open_output(Some("/dev/null"));
-    (input, output, host.push(b"hello"))
+    let input = steps::open_input(&mut host, Some("/dev/null"));
+    let output = steps::open_output(&mut host, Some("/dev/null"));
+    (input, output, steps::push(&mut host, b"hello"))
 }
 
 #[test]
@@ -291,8 +290,8 @@ fn a_device_may_be_input_and_output(rt: HostRuntime) {
 // The outcome of a line, the status of a refusal, and the count of faults.
 fn lines(rt: HostRuntime) -> (Result<(), HostFault>, u8, u64) {
     let mut host = SystemHost::new(Real::new(rt));
-    let said = host.say("a line that a test says");
-    let status = refuse(&mut host, "a refusal that a test says");
+    let said = steps::say(&mut host, "a line that a test says");
+    let status = steps::refuse(&mut host, "a refusal that a test says");
     (said, status, host.line_faults)
 }
 
