@@ -20,6 +20,9 @@ ROWS = [
     ("dec, --logN 14, MiB", "10", "scrypt dec, 10 MiB"),
     ("enc, --logN 14, MiB", "100", "scrypt enc, 100 MiB"),
     ("dec, --logN 14, MiB", "100", "scrypt dec, 100 MiB"),
+    ("libsodium -id -t 3 -m", "16", "libsodium: 64 MiB, 3 passes"),
+    ("libsodium -id -t 1 -m", "18", "libsodium: 256 MiB, 1 pass"),
+    ("OpenSSL, -r 8 -p 1, --logN", "17", "OpenSSL: key, N = 2^17"),
 ]
 LEVELS = [("x86-64-v2", "v2", 1), ("x86-64-v3", "v3", 14)]
 LEFT, SCALE, STEP, TOP = 250, 400, 32, 84

@@ -1,5 +1,5 @@
 #!/usr/bin/env python3
-"""Times the built programs beside the argon2 and scrypt that are installed, and prints one table.
+"""Times the built programs beside the argon2 and scrypt that are installed, and libsodium and OpenSSL, in one table.
 
     bench/table.py FOLDER.. [--rounds 5] [--only WORD] [--small | --large] [--out PATH]
 
@@ -7,10 +7,13 @@ Each FOLDER, as bin/x86-64-v2, has argon2 and scrypt, built for the level of its
 the row's work once, in turn; the least of all rounds counts, so that what else the machine does hits all alike. Time is
 user and system time of the process, and elapsed time. Memory is the greatest resident set, of a further run under GNU
 time where that is there. A ratio is to the installed program, and below 1 where ours takes less. Hashes and decrypted
-files are compared. --small has the rows that take less than a second, --large adds those of a gigabyte. --out PATH writes
-the table to PATH.tsv, too, as tab-separated values, and draws a whole one as PATH.svg (bench/ratios.py).
+files are compared. Over libsodium and OpenSSL, where they are installed, a program is compiled (bench/libsodium.c,
+bench/openssl.c), and a line says which instructions they use. --small has the rows that take less than a second,
+--large adds those of a gigabyte. --out PATH writes the table to PATH.tsv, too, as tab-separated values, and draws a
+whole one as PATH.svg (bench/ratios.py).
 """
 import argparse
+import ctypes.util
 import datetime
 import hashlib
 import os
@@ -25,14 +28,17 @@ import ratios
 TIMES = "ours theirs ratio ours_elapsed theirs_elapsed ratio_elapsed".split()
 COLUMNS = ["work", "size", "level", *TIMES, "ours_MiB", "theirs_MiB", "rounds", "load"]
 COSTS = ["--logN", "14", "-r", "8", "-p", "1"]
+# Libraries that rows are beside: the C source of a program that calls each, and what the linker knows it as.
+LIBRARIES = {"libsodium": ("libsodium.c", "sodium"), "OpenSSL": ("openssl.c", "crypto")}
 
 
 class Row:
-    """One piece of work: a program with its arguments and its input, and the status that is wanted."""
+    """One piece of work: a program with its arguments and its input, the status that is wanted, and the library beside
+    which it stands, if that isn't the installed program."""
 
-    def __init__(self, work, size, program, words, given=b"", status=0, seconds=0.1):
+    def __init__(self, work, size, program, words, given=b"", status=0, seconds=0.1, library=None):
         self.work, self.size, self.program, self.words = work, size, program, words
-        self.given, self.status, self.seconds = given, status, seconds
+        self.given, self.status, self.seconds, self.library = given, status, seconds, library
 
     def name(self):
         return f"{self.work} {self.size}"
@@ -61,6 +67,31 @@ def scrypt_rows():
     yield Row("info", 1, "scrypt", ["info", "text-1.enc"])
     yield Row("a refused word", 1, "scrypt", ["encrypt"], status=1)
     yield Row("a refused word of argon2", 1, "argon2", ["somesalt", "-q"], b"password", 1)
+
+
+def library_rows():
+    for log_memory in (12, 16, 18):
+        for passes in (1, 3):
+            words = ["sixteen bytes...", "-id", "-t", str(passes), "-p", "1", "-m", str(log_memory), "-r"]
+            work, seconds = f"libsodium -id -t {passes} -m", passes * 2.0 ** (log_memory - 19)
+            yield Row(work, log_memory, "argon2", words, b"password", 0, seconds, "libsodium")
+    for log_n in (14, 17, 20):
+        words = ["enc", "--logN", str(log_n), "-r", "8", "-p", "1", "--passphrase", "env:PW", "empty", "made"]
+        work = "OpenSSL, -r 8 -p 1, --logN"
+        yield Row(work, log_n, "scrypt", words, seconds=2.0 ** (log_n - 18), library="OpenSSL")
+
+
+def compiled(name, folder):
+    """The program over a library, where that and a compiler are installed. It prints which library that is."""
+    source, known_as = LIBRARIES[name]
+    file, program = ctypes.util.find_library(known_as), os.path.join(folder, name)
+    words = ["cc", "-O2", "-o", program, os.path.join(os.path.dirname(os.path.abspath(__file__)), source)]
+    there = file is not None and shutil.which("cc") is not None
+    if not there or subprocess.run([*words, f"-l:{file}"], stderr=subprocess.DEVNULL).returncode != 0:
+        print(f"{name} or a compiler is not installed: its rows are left out")
+        return None
+    print(subprocess.run([program], stdout=subprocess.PIPE, check=True).stdout.decode().strip())
+    return program
 
 
 def run(words, row, folder):
@@ -161,19 +192,25 @@ def main():
     asked.add_argument("--out")
     given = asked.parse_args()
     greatest = 0.2 if given.small else 100 if given.large else 5
-    rows = [row for row in [*argon2_rows(), *scrypt_rows()] if row.seconds <= greatest and given.only in row.name()]
+    rows = [*argon2_rows(), *scrypt_rows(), *library_rows()]
+    rows = [row for row in rows if row.seconds <= greatest and given.only in row.name()]
     levels = {os.path.basename(os.path.abspath(folder)): os.path.abspath(folder) for folder in given.folders}
     load = f"load {os.getloadavg()[0]:.1f} at the start"
     title = f"{processor()}; {load}; {datetime.date.today()}; least of {given.rounds} rounds"
     print(title)
-    print("seconds of processor time and elapsed, MiB of memory; a ratio is ours to that of the installed program")
+    print("seconds of processor time and elapsed, MiB of memory; a ratio is ours to that of the other program or library")
     print("  ".join(f"{name:>{width(name)}}" for name in COLUMNS), flush=True)
     lines = []
     with tempfile.TemporaryDirectory(prefix="pikhsen-bench-") as folder:
+        libraries = {name: compiled(name, folder) for name in LIBRARIES if any(row.library == name for row in rows)}
         make_files(rows, os.path.join(next(iter(levels.values())), "scrypt"), folder)
         for row in rows:
             programs = {level: os.path.join(place, row.program) for level, place in levels.items()}
             installed = shutil.which(row.program, path="/usr/bin:/usr/local/bin")
+            if row.library:
+                installed = libraries[row.library]
+                if not installed:
+                    continue
             if installed:
                 programs["installed"] = installed
             best = measure(row, programs, given.rounds, folder)

@@ -6,7 +6,7 @@ use Rattle.std.proofs.lemmas.Nat.{xor_lt}
 use Rattle.std.proofs.lemmas.Nat.Bits.{same_from_bits_below}
 use Rattle.std.proofs.lemmas.Simd.{Each1-get_or, Each1-zip2, Each2-of, length-zip2}
 use Rattle.aes_ctr.specs.Aes.{add_round_key, byte_at, mix_columns, product, shift_rows, state_of, sub_byte, sub_bytes}
-use Rattle.aes_ctr.specs.Planes.{IsBlock, bits, round_key}
+use Rattle.aes_ctr.specs.Planes.{AreBytes, IsBlock, bits, round_key}
 use Rattle.aes_ctr.specs.Inside.PlaneSteps.{rows_below}
 use Rattle.aes_ctr.proofs.Bytes.{product_two-lt, sub_byte-lt}
 use Rattle.aes_ctr.proofs.Doubles.{mix_columns-pairs, pairs}
@@ -30,29 +30,29 @@ Each1-map : (f : ℕ → ℕ) → ((a : ℕ) → a < 256 → f a < 256) → (x :
 Each1-map f e [] h = tt
 Each1-map f e (a ∷ x) h = (e a h.0, Each1-map f e x h.1)
 
-pub IsBlock-map : (f : ℕ → ℕ) → ((a : ℕ) → a < 256 → f a < 256) → (x : List ℕ) → IsBlock x → IsBlock (map f x)
-IsBlock-map f e x ok = (length-map x f ∙ ok.0, Each1-map f e x ok.1)
+pub AreBytes-map : {n : ℕ} (f : ℕ → ℕ) → ((a : ℕ) → a < 256 → f a < 256) → (x : List ℕ) → AreBytes n x → AreBytes n (map f x)
+AreBytes-map f e x ok = (length-map x f ∙ ok.0, Each1-map f e x ok.1)
 
 pub IsBlock-sub_bytes : (x : List ℕ) → IsBlock x → IsBlock (sub_bytes x)
-IsBlock-sub_bytes x ok = rw (← map-sub_byte x ok.0) (IsBlock-map sub_byte sub_byte-lt x ok)
+IsBlock-sub_bytes x ok = rw (← map-sub_byte x ok.0) (AreBytes-map sub_byte sub_byte-lt x ok)
 
-pub IsBlock-xor : (x y : List ℕ) → IsBlock x → IsBlock y → IsBlock (zip2 bit_xor x y)
-IsBlock-xor x y ok also = (
+pub AreBytes-xor : {n : ℕ} (x y : List ℕ) → AreBytes n x → AreBytes n y → AreBytes n (zip2 bit_xor x y)
+AreBytes-xor x y ok also = (
   length-zip2 bit_xor x y (ok.0 ∙ sym also.0) ∙ ok.0,
   Each1-zip2 bit_xor (λ a. a < 256) x y (Each2-of (λ a. a < 256) (λ a. a < 256) (λ a b. bit_xor a b < 256) (λ a b h i. xor_lt 8 a b h i) x y ok.1 also.1),
 )
 
 pub IsBlock-mix_columns : (x : List ℕ) → IsBlock x → IsBlock (mix_columns x)
 IsBlock-mix_columns x ok =
-    let sums : IsBlock (pairs x) = IsBlock-xor x (rows_below 1 x) ok (IsBlock-rows_below 1 x ok) in
+    let sums : IsBlock (pairs x) = AreBytes-xor x (rows_below 1 x) ok (IsBlock-rows_below 1 x ok) in
     rw (← mix_columns-pairs x ok)
-    (IsBlock-xor (map (product 2) (pairs x)) (zip2 bit_xor (rows_below 1 x) (rows_below 2 (pairs x))) (IsBlock-map (product 2) product_two-lt (pairs x) sums)
-    (IsBlock-xor (rows_below 1 x) (rows_below 2 (pairs x)) (IsBlock-rows_below 1 x ok) (IsBlock-rows_below 2 (pairs x) sums)))
+    (AreBytes-xor (map (product 2) (pairs x)) (zip2 bit_xor (rows_below 1 x) (rows_below 2 (pairs x))) (AreBytes-map (product 2) product_two-lt (pairs x) sums)
+    (AreBytes-xor (rows_below 1 x) (rows_below 2 (pairs x)) (IsBlock-rows_below 1 x ok) (IsBlock-rows_below 2 (pairs x) sums)))
 
 pub IsBlock-add_round_key : (words : List (List ℕ)) (round : ℕ) → IsBlock (round_key words round) → (x : List ℕ) → IsBlock x → IsBlock (add_round_key words round x)
-IsBlock-add_round_key words round key x ok = rw (← xor-round_key words round x ok.0) (IsBlock-xor x (round_key words round) ok key)
+IsBlock-add_round_key words round key x ok = rw (← xor-round_key words round x ok.0) (AreBytes-xor x (round_key words round) ok key)
 
--- ---- blocks with the same bits
+-- ---- bytes with the same bits
 
 bits-same : (x y : List ℕ) → length x ≡ length y → Each1 (λ a. a < 256) x → Each1 (λ a. a < 256) y → ((k : ℕ) → k < 8 → bits k x ≡ bits k y) → x ≡ y
 bits-same [] [] long h i e = refl
@@ -63,5 +63,5 @@ bits-same (a ∷ x) (b ∷ y) long h i e =
     let tail : x ≡ y = bits-same x y (omega arith) h.1 i.1 (λ k small. ap (drop 1) (e k small)) in
     rw (head, tail) refl
 
-pub IsBlock-same : (x y : List ℕ) → IsBlock x → IsBlock y → ((k : ℕ) → k < 8 → bits k x ≡ bits k y) → x ≡ y
-IsBlock-same x y ok also = bits-same x y (ok.0 ∙ sym also.0) ok.1 also.1
+pub AreBytes-same : {n : ℕ} (x y : List ℕ) → AreBytes n x → AreBytes n y → ((k : ℕ) → k < 8 → bits k x ≡ bits k y) → x ≡ y
+AreBytes-same x y ok also = bits-same x y (ok.0 ∙ sym also.0) ok.1 also.1

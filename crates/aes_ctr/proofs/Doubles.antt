@@ -8,7 +8,7 @@ use Rattle.std.proofs.lemmas.Nat.Bits.{same_from_bits_below}
 use Rattle.std.proofs.lemmas.Simd.{Each1-weaker, map-map, zip2_of_maps}
 use Rattle.aes_ctr.specs.Aes.{mix_columns, polynomial_product, product, remainder}
 use Rattle.aes_ctr.specs.Planes.{IsBlock, IsHeld, bits, plane}
-use Rattle.aes_ctr.specs.Inside.PlaneSteps.{rows_below}
+use Rattle.aes_ctr.specs.Inside.PlaneSteps.{IsPair, rows_below}
 use Rattle.aes_ctr.proofs.Bytes.{by_table, product_two-lt}
 use Rattle.aes_ctr.proofs.Columns.{by_columns, by_columns-agreeing, doubles_column, doubles_column-is, matrix_column}
 use Rattle.aes_ctr.proofs.Held.{below_eight, bit_at-bit_xor, bits-zip2}
@@ -91,12 +91,12 @@ product_two-xor a b h i =
     (sum_bit 6 (moved 5) double_bit_6 (moved-sum 5) a b h i)
     (sum_bit 7 (moved 6) double_bit_7 (moved-sum 6) a b h i))
 
--- ---- the doubles of a block
+-- ---- the doubles of a pair
 
-pub IsHeld-double : (b : ℕ) (planes : List (List ℕ)) (block : List ℕ) → IsBlock block → IsHeld b planes block
-    → IsHeld b (plane planes 7 ∷ zip2 bit_xor (plane planes 0) (plane planes 7) ∷ plane planes 1 ∷ zip2 bit_xor (plane planes 2) (plane planes 7) ∷ zip2 bit_xor (plane planes 3) (plane planes 7) ∷ plane planes 4 ∷ plane planes 5 ∷ plane planes 6 ∷ []) (map (product 2) block)
-IsHeld-double b planes block ok held =
-    below_eight (λ k. bits b (plane (plane planes 7 ∷ zip2 bit_xor (plane planes 0) (plane planes 7) ∷ plane planes 1 ∷ zip2 bit_xor (plane planes 2) (plane planes 7) ∷ zip2 bit_xor (plane planes 3) (plane planes 7) ∷ plane planes 4 ∷ plane planes 5 ∷ plane planes 6 ∷ []) k) ≡ bits k (map (product 2) block))
+pub IsHeld-double : (b : ℕ) (planes : List (List ℕ)) (both : List ℕ) → IsPair both → IsHeld b planes both
+    → IsHeld b (plane planes 7 ∷ zip2 bit_xor (plane planes 0) (plane planes 7) ∷ plane planes 1 ∷ zip2 bit_xor (plane planes 2) (plane planes 7) ∷ zip2 bit_xor (plane planes 3) (plane planes 7) ∷ plane planes 4 ∷ plane planes 5 ∷ plane planes 6 ∷ []) (map (product 2) both)
+IsHeld-double b planes both ok held =
+    below_eight (λ k. bits b (plane (plane planes 7 ∷ zip2 bit_xor (plane planes 0) (plane planes 7) ∷ plane planes 1 ∷ zip2 bit_xor (plane planes 2) (plane planes 7) ∷ zip2 bit_xor (plane planes 3) (plane planes 7) ∷ plane planes 4 ∷ plane planes 5 ∷ plane planes 6 ∷ []) k) ≡ bits k (map (product 2) both))
     (made 0 (moved 7) double_bit_0 (plane planes 7) (held 7 (omega arith)))
     (made 1 (carried 0) double_bit_1 (zip2 bit_xor (plane planes 0) (plane planes 7)) (pair 0 (omega arith)))
     (made 2 (moved 1) double_bit_2 (plane planes 1) (held 1 (omega arith)))
@@ -106,15 +106,15 @@ IsHeld-double b planes block ok held =
     (made 6 (moved 5) double_bit_6 (plane planes 5) (held 5 (omega arith)))
     (made 7 (moved 6) double_bit_7 (plane planes 6) (held 6 (omega arith)))
   where
-    made : (k : ℕ) (bit : ℕ → ℕ) → IsDoubleBit k bit → (p : List ℕ) → bits b p ≡ map bit block → bits b p ≡ bits k (map (product 2) block)
+    made : (k : ℕ) (bit : ℕ → ℕ) → IsDoubleBit k bit → (p : List ℕ) → bits b p ≡ map bit both → bits b p ≡ bits k (map (product 2) both)
     made k bit e p same =
-        same ∙ map-agreeing bit (λ a. bit_at (product 2 a) k) e block (Each1-weaker (λ a. a < 256) (Fits w8) (λ a h. record { fits = h }) block ok.1)
-        ∙ sym (map-map (λ a. bit_at a k) (product 2) block)
+        same ∙ map-agreeing bit (λ a. bit_at (product 2 a) k) e both (Each1-weaker (λ a. a < 256) (Fits w8) (λ a h. record { fits = h }) both ok.1)
+        ∙ sym (map-map (λ a. bit_at a k) (product 2) both)
 
-    pair : (j : ℕ) → j < 8 → bits b (zip2 bit_xor (plane planes j) (plane planes 7)) ≡ map (carried j) block
+    pair : (j : ℕ) → j < 8 → bits b (zip2 bit_xor (plane planes j) (plane planes 7)) ≡ map (carried j) both
     pair j h =
         bits-zip2 bit_xor bit_at-bit_xor b (plane planes j) (plane planes 7)
-        ∙ zip2_of_maps bit_xor (λ a. bit_at a j) (λ a. bit_at a 7) block (held j h) (held 7 (omega arith))
+        ∙ zip2_of_maps bit_xor (λ a. bit_at a j) (λ a. bit_at a 7) both (held j h) (held 7 (omega arith))
 
 -- ---- MixColumns
 

@@ -1,12 +1,13 @@
 -- Blocks that are held in planes.
-use Rattle.std.proofs.Common.{◌≡◌, ℕ, zero, suc, ◌+◌, ◌%◌, ◌<◌, List, [], ◌∷◌, add-zero, ap, arith, bit_and, bit_xor, drop, length, min, refl, sym, ◌∙◌}
+use Rattle.std.proofs.Common.{◌≡◌, ℕ, zero, suc, ◌+◌, ◌%◌, ◌<◌, List, [], ◌∷◌, ◌++◌, add-zero, ap, arith, bit_and, bit_xor, drop, length, min, refl, sym, ◌∙◌}
 use lib.Lanes.{zip2}
 use Rattle.std.specs.Int.{bit_at}
-use Rattle.std.proofs.lemmas.List.{get_or-drop, length-map}
+use Rattle.std.proofs.lemmas.List.{get_or-drop, length-map, map-append}
 use Rattle.std.proofs.lemmas.Nat.Bits.{bit_at-lt, bit_at_and, bit_at_xor}
 use Rattle.aes_ctr.specs.Aes.{shift_rows}
-use Rattle.aes_ctr.specs.Planes.{IsHeld, bits, plane}
-use Rattle.aes_ctr.specs.Inside.PlaneSteps.{rows_below}
+use Rattle.aes_ctr.specs.Planes.{IsBlock, IsHeld, bits, plane}
+use Rattle.aes_ctr.specs.Inside.PlaneSteps.{in_both, rows_below}
+use Rattle.aes_ctr.proofs.Pairs.{IsPair-append, bits-in_both, in_both-append}
 use Rattle.aes_ctr.proofs.Sixteen.{sixteen_lanes}
 
 -- ---- one bit
@@ -58,32 +59,45 @@ below_eight P p0 p1 p2 p3 p4 p5 p6 p7 (suc (suc (suc (suc (suc (suc zero)))))) h
 below_eight P p0 p1 p2 p3 p4 p5 p6 p7 (suc (suc (suc (suc (suc (suc (suc zero))))))) h = p7
 below_eight P p0 p1 p2 p3 p4 p5 p6 p7 (suc (suc (suc (suc (suc (suc (suc (suc k)))))))) h = absurd (omega arith)
 
--- eight planes from plane n on
-pub IsHeld-dropped : (b n : ℕ) (planes : List (List ℕ)) (block : List ℕ) → IsHeld b (drop n planes) block → IsHeld b (plane planes n ∷ plane planes (n + 1) ∷ plane planes (n + 2) ∷ plane planes (n + 3) ∷ plane planes (n + 4) ∷ plane planes (n + 5) ∷ plane planes (n + 6) ∷ plane planes (n + 7) ∷ []) block
-IsHeld-dropped b n planes block held =
-    below_eight (λ k. bits b (plane (plane planes n ∷ plane planes (n + 1) ∷ plane planes (n + 2) ∷ plane planes (n + 3) ∷ plane planes (n + 4) ∷ plane planes (n + 5) ∷ plane planes (n + 6) ∷ plane planes (n + 7) ∷ []) k) ≡ bits k block)
-    (ap (λ m. bits b (plane planes m)) (sym (add-zero n)) ∙ at 0 (omega arith)) (at 1 (omega arith)) (at 2 (omega arith)) (at 3 (omega arith)) (at 4 (omega arith)) (at 5 (omega arith)) (at 6 (omega arith)) (at 7 (omega arith))
+-- eight planes from plane n on, for both blocks of a pair
+pub IsHeld-dropped : (b n : ℕ) (planes : List (List ℕ)) (block : List ℕ) → {m0 m1 m2 m3 m4 m5 m6 m7 : List ℕ}
+    → m0 ≡ plane planes n ++ plane planes n → m1 ≡ plane planes (n + 1) ++ plane planes (n + 1) → m2 ≡ plane planes (n + 2) ++ plane planes (n + 2) → m3 ≡ plane planes (n + 3) ++ plane planes (n + 3)
+    → m4 ≡ plane planes (n + 4) ++ plane planes (n + 4) → m5 ≡ plane planes (n + 5) ++ plane planes (n + 5) → m6 ≡ plane planes (n + 6) ++ plane planes (n + 6) → m7 ≡ plane planes (n + 7) ++ plane planes (n + 7)
+    → IsHeld b (drop n planes) block → IsHeld b (m0 ∷ m1 ∷ m2 ∷ m3 ∷ m4 ∷ m5 ∷ m6 ∷ m7 ∷ []) (block ++ block)
+IsHeld-dropped b n planes block {m0 = m0} {m1 = m1} {m2 = m2} {m3 = m3} {m4 = m4} {m5 = m5} {m6 = m6} {m7 = m7} e0 e1 e2 e3 e4 e5 e6 e7 held =
+    below_eight (λ k. bits b (plane (m0 ∷ m1 ∷ m2 ∷ m3 ∷ m4 ∷ m5 ∷ m6 ∷ m7 ∷ []) k) ≡ bits k (block ++ block))
+    (at 0 (omega arith) m0 (rw (add-zero n) e0)) (at 1 (omega arith) m1 e1) (at 2 (omega arith) m2 e2) (at 3 (omega arith) m3 e3) (at 4 (omega arith) m4 e4) (at 5 (omega arith) m5 e5) (at 6 (omega arith) m6 e6) (at 7 (omega arith) m7 e7)
   where
-    at : (k : ℕ) → k < 8 → bits b (plane planes (n + k)) ≡ bits k block
-    at k h = ap (bits b) (sym (get_or-drop n planes k [])) ∙ held k h
+    one : (k : ℕ) → k < 8 → bits b (plane planes (n + k)) ≡ bits k block
+    one k h = ap (bits b) (sym (get_or-drop n planes k [])) ∙ held k h
+
+    at : (k : ℕ) → k < 8 → (m : List ℕ) → m ≡ plane planes (n + k) ++ plane planes (n + k) → bits b m ≡ bits k (block ++ block)
+    at k h m same =
+        ap (bits b) same ∙ map-append (λ a. bit_at a b) (plane planes (n + k)) (plane planes (n + k))
+        ∙ ap (λ l. l ++ l) (one k h) ∙ sym (map-append (λ a. bit_at a k) block block)
 
 -- a plane whose bits are those of a block is as long
 pub length-held : (b k : ℕ) (p block : List ℕ) → bits b p ≡ bits k block → length p ≡ length block
 length-held b k p block e = sym (length-map p (λ a. bit_at a b)) ∙ rw e (length-map block (λ a. bit_at a k))
 
--- a step that takes bytes to other places, on planes
+-- a step that takes the bytes of a block to other places, on planes
 pub IsHeld-moved : (f : List ℕ → List ℕ) → ((i : ℕ) (x : List ℕ) → length x ≡ 16 → bits i (f x) ≡ f (bits i x))
-    → (b : ℕ) (planes : List (List ℕ)) (block : List ℕ) → {m0 m1 m2 m3 m4 m5 m6 m7 : List ℕ}
-    → m0 ≡ f (plane planes 0) → m1 ≡ f (plane planes 1) → m2 ≡ f (plane planes 2) → m3 ≡ f (plane planes 3)
-    → m4 ≡ f (plane planes 4) → m5 ≡ f (plane planes 5) → m6 ≡ f (plane planes 6) → m7 ≡ f (plane planes 7)
-    → length block ≡ 16 → IsHeld b planes block → IsHeld b (m0 ∷ m1 ∷ m2 ∷ m3 ∷ m4 ∷ m5 ∷ m6 ∷ m7 ∷ []) (f block)
-IsHeld-moved f e b planes block {m0 = m0} {m1 = m1} {m2 = m2} {m3 = m3} {m4 = m4} {m5 = m5} {m6 = m6} {m7 = m7} e0 e1 e2 e3 e4 e5 e6 e7 long held =
-    below_eight (λ k. bits b (plane (m0 ∷ m1 ∷ m2 ∷ m3 ∷ m4 ∷ m5 ∷ m6 ∷ m7 ∷ []) k) ≡ bits k (f block))
+    → (b : ℕ) (planes : List (List ℕ)) (first second : List ℕ) → {m0 m1 m2 m3 m4 m5 m6 m7 : List ℕ}
+    → m0 ≡ in_both f (plane planes 0) → m1 ≡ in_both f (plane planes 1) → m2 ≡ in_both f (plane planes 2) → m3 ≡ in_both f (plane planes 3)
+    → m4 ≡ in_both f (plane planes 4) → m5 ≡ in_both f (plane planes 5) → m6 ≡ in_both f (plane planes 6) → m7 ≡ in_both f (plane planes 7)
+    → IsBlock first → IsBlock second → IsHeld b planes (first ++ second) → IsHeld b (m0 ∷ m1 ∷ m2 ∷ m3 ∷ m4 ∷ m5 ∷ m6 ∷ m7 ∷ []) (f first ++ f second)
+IsHeld-moved f e b planes first second {m0 = m0} {m1 = m1} {m2 = m2} {m3 = m3} {m4 = m4} {m5 = m5} {m6 = m6} {m7 = m7} e0 e1 e2 e3 e4 e5 e6 e7 ok also held =
+    below_eight (λ k. bits b (plane (m0 ∷ m1 ∷ m2 ∷ m3 ∷ m4 ∷ m5 ∷ m6 ∷ m7 ∷ []) k) ≡ bits k (f first ++ f second))
     (moved 0 (omega arith) m0 e0) (moved 1 (omega arith) m1 e1) (moved 2 (omega arith) m2 e2) (moved 3 (omega arith) m3 e3) (moved 4 (omega arith) m4 e4) (moved 5 (omega arith) m5 e5) (moved 6 (omega arith) m6 e6) (moved 7 (omega arith) m7 e7)
   where
-    moved : (k : ℕ) → k < 8 → (m : List ℕ) → m ≡ f (plane planes k) → bits b m ≡ bits k (f block)
+    long : length (first ++ second) ≡ 32
+    long = (IsPair-append first second ok also).0
+
+    moved : (k : ℕ) → k < 8 → (m : List ℕ) → m ≡ in_both f (plane planes k) → bits b m ≡ bits k (f first ++ f second)
     moved k h m same =
-        rw (same, e b (plane planes k) (length-held b k (plane planes k) block (held k h) ∙ long), held k h) (sym (e k block long))
+        ap (bits b) same ∙ bits-in_both f e b (plane planes k) (length-held b k (plane planes k) (first ++ second) (held k h) ∙ long)
+        ∙ ap (in_both f) (held k h) ∙ sym (bits-in_both f e k (first ++ second) long)
+        ∙ ap (bits k) (in_both-append f first second ok.0)
 
 pub IsHeld-xor : (b : ℕ) (left right : List (List ℕ)) (first second : List ℕ) → IsHeld b left first → IsHeld b right second
     → IsHeld b (zip2 bit_xor (plane left 0) (plane right 0) ∷ zip2 bit_xor (plane left 1) (plane right 1) ∷ zip2 bit_xor (plane left 2) (plane right 2) ∷ zip2 bit_xor (plane left 3) (plane right 3) ∷ zip2 bit_xor (plane left 4) (plane right 4) ∷ zip2 bit_xor (plane left 5) (plane right 5) ∷ zip2 bit_xor (plane left 6) (plane right 6) ∷ zip2 bit_xor (plane left 7) (plane right 7) ∷ []) (zip2 bit_xor first second)

@@ -8,6 +8,7 @@ use Rattle.std.proofs.lemmas.Simd.{get_or-zip2, length-zip2}
 use borrow.Rule.Slice.PartMut.{put_mid}
 use Rattle.std.proofs.lemmas.Slice.{drop-put_mid, take-put_mid}
 use Rattle.aes_ctr.proofs.Keys.{take_on}
+use Rattle.aes_ctr.proofs.Pairs.{two_blocks, zip2-append}
 use Rattle.aes_ctr.specs.Aes.{add_round_key, aes256, cipher}
 use Rattle.aes_ctr.specs.CounterMode.{counter_mode_from, key_stream, key_stream_block}
 
@@ -72,6 +73,17 @@ zip2-key_stream_block key n text long =
     let low : (16 * n + i) % 16 ≡ i = omega arith in
     let block : (16 * n + i) / 16 ≡ n = omega arith in
     rw (low, block) (get_or-zip2 bit_xor text (key_stream_block key n) i 0 0 0 h (omega arith)))
+
+-- a text of two blocks
+pub zip2-key_stream_blocks : (key : List ℕ) (n : ℕ) (text : List ℕ) → length text ≡ 32
+    → zip2 bit_xor text (key_stream_block key n ++ key_stream_block key (n + 1)) ≡ counter_mode_from key (16 * n) text
+zip2-key_stream_blocks key n =
+    two_blocks (λ text. zip2 bit_xor text (key_stream_block key n ++ key_stream_block key (n + 1)) ≡ counter_mode_from key (16 * n) text)
+    (λ first second one two.
+    let next : 16 * n + length first ≡ 16 * (n + 1) = omega (arith, one) in
+    zip2-append bit_xor first second (key_stream_block key n) (key_stream_block key (n + 1)) (one ∙ sym (length-key_stream_block key n))
+    ∙ rw (zip2-key_stream_block key n first one, zip2-key_stream_block key (n + 1) second two)
+    (rw (counter_mode_from-append key (16 * n) first second, next) refl))
 
 -- the text in two pieces that were xored on their own
 pub append-counter_mode_from : (key : List ℕ) (place next cut : ℕ) (text head tail : List ℕ) → cut ≤ length text → next ≡ place + cut

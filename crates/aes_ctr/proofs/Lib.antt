@@ -7,6 +7,7 @@ pub mod Held
 pub mod Keys
 pub mod KeyStream
 pub mod Lookup
+pub mod Pairs
 pub mod Sixteen
 pub mod Swapped
 pub mod Wires

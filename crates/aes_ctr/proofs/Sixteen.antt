@@ -42,3 +42,7 @@ map-sub_byte = sixteen_lanes (λ x. map sub_byte x ≡ sub_bytes x) (λ x0 x1 x2
 pub xor-round_key : (words : List (List ℕ)) (round : ℕ) (x : List ℕ) → length x ≡ 16 → zip2 bit_xor x (round_key words round) ≡ add_round_key words round x
 unfolding add_round_key round_key
 xor-round_key words round = sixteen_lanes (λ x. zip2 bit_xor x (round_key words round) ≡ add_round_key words round x) (λ x0 x1 x2 x3 x4 x5 x6 x7 x8 x9 x10 x11 x12 x13 x14 x15. refl)
+
+pub length-round_key : (words : List (List ℕ)) (round : ℕ) → length (round_key words round) ≡ 16
+unfolding round_key
+length-round_key words round = refl

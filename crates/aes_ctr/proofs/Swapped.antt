@@ -10,9 +10,9 @@ use Rattle.std.proofs.lemmas.List.FromFn.{get_or-map-range_with_len}
 use Rattle.std.proofs.lemmas.Simd.{below_from_Fits, map-map, zip2_splat}
 use Rattle.std.proofs.lemmas.Nat.Bits.{bit_at-zero, bit_at_ones}
 use Rattle.aes_ctr.specs.Inside.TableParts.{choice}
-use Rattle.aes_ctr.specs.Planes.{IsBlock, bits, plane}
-use Rattle.aes_ctr.specs.Inside.PlaneSteps.{AreParts, AreSwapped, with_digit}
-use Rattle.aes_ctr.proofs.Blocks.{IsBlock-map, IsBlock-xor}
+use Rattle.aes_ctr.specs.Planes.{bits, plane}
+use Rattle.aes_ctr.specs.Inside.PlaneSteps.{AreParts, AreSwapped, IsPair, with_digit}
+use Rattle.aes_ctr.proofs.Blocks.{AreBytes-map, AreBytes-xor}
 use Rattle.aes_ctr.proofs.Held.{bit_at-bit_xor, bits-zip2}
 use Rattle.aes_ctr.proofs.Sixteen.{map-agreeing}
 
@@ -50,32 +50,32 @@ xor-right (a ∷ x) (b ∷ y) h = rw (xor_comm 0 b, xor_zero_r b, xor-right x y 
 
 -- ---- the lanes
 
-lower_lanes : (d low : ℕ) (x y : List ℕ) → length x ≡ 16 → length y ≡ 16
-    → zip2 bit_xor (zip2 bit_and x (replicate 16 low)) (zip2 (λ a n. a * 2 ^ n % 256) (zip2 bit_and y (replicate 16 low)) (replicate 16 d))
+lower_lanes : (d low : ℕ) (x y : List ℕ) → length x ≡ 32 → length y ≡ 32
+    → zip2 bit_xor (zip2 bit_and x (replicate 32 low)) (zip2 (λ a n. a * 2 ^ n % 256) (zip2 bit_and y (replicate 32 low)) (replicate 32 d))
     ≡ zip2 bit_xor (map (λ a. bit_and a low) x) (map (λ a. bit_and a low * 2 ^ d % 256) y)
 lower_lanes d low x y h i =
     rw (
-      zip2_splat bit_and x 16 low h,
-      zip2_splat bit_and y 16 low i,
-      zip2_splat (λ a n. a * 2 ^ n % 256) (map (λ a. bit_and a low) y) 16 d (length-map y (λ a. bit_and a low) ∙ i),
+      zip2_splat bit_and x 32 low h,
+      zip2_splat bit_and y 32 low i,
+      zip2_splat (λ a n. a * 2 ^ n % 256) (map (λ a. bit_and a low) y) 32 d (length-map y (λ a. bit_and a low) ∙ i),
       map-map (λ a. a * 2 ^ d % 256) (λ a. bit_and a low) y,
     ) refl
 
-upper_lanes : (d low : ℕ) (x y : List ℕ) → length x ≡ 16 → length y ≡ 16
-    → zip2 bit_xor (zip2 bit_and (zip2 (λ a n. a / 2 ^ n) x (replicate 16 d)) (replicate 16 low)) (zip2 bit_and y (replicate 16 (255 - low)))
+upper_lanes : (d low : ℕ) (x y : List ℕ) → length x ≡ 32 → length y ≡ 32
+    → zip2 bit_xor (zip2 bit_and (zip2 (λ a n. a / 2 ^ n) x (replicate 32 d)) (replicate 32 low)) (zip2 bit_and y (replicate 32 (255 - low)))
     ≡ zip2 bit_xor (map (λ a. bit_and (a / 2 ^ d) low) x) (map (λ a. bit_and a (255 - low)) y)
 upper_lanes d low x y h i =
     rw (
-      zip2_splat (λ a n. a / 2 ^ n) x 16 d h,
-      zip2_splat bit_and (map (λ a. a / 2 ^ d) x) 16 low (length-map x (λ a. a / 2 ^ d) ∙ h),
+      zip2_splat (λ a n. a / 2 ^ n) x 32 d h,
+      zip2_splat bit_and (map (λ a. a / 2 ^ d) x) 32 low (length-map x (λ a. a / 2 ^ d) ∙ h),
       map-map (λ a. bit_and a low) (λ a. a / 2 ^ d) x,
-      zip2_splat bit_and y 16 (255 - low) i,
+      zip2_splat bit_and y 32 (255 - low) i,
     ) refl
 
 -- ---- the bits
 
 pub chosen : (f g : ℕ → ℕ) (t : Bool) (b i j : ℕ) → AreParts f g t b i j
-    → (x y : List ℕ) → (length x ≡ 16) × Each1 (Fits w8) x → (length y ≡ 16) × Each1 (Fits w8) y
+    → (x y : List ℕ) → (length x ≡ 32) × Each1 (Fits w8) x → (length y ≡ 32) × Each1 (Fits w8) y
     → bits b (zip2 bit_xor (map f x) (map g y)) ≡ cond t (bits i x) (bits j y)
 chosen f g true b i j e x y ok also =
     rw (
@@ -107,45 +107,45 @@ pub from_planes : (d : ℕ) (f g i j : ℕ → ℕ) → Parts d f g i j → (m n
 from_planes d f g i j parts m n planes made e b h =
     e (is_low d b) b (i b) (j b) (λ a small. (parts.low a b small h, parts.high a b small h)) ∙ one_of_planes (is_low d b) (i b) (j b) m n planes
 
-pub lower_bits-chosen : (d low : ℕ) (x y : List ℕ) → (length x ≡ 16) × Each1 (Fits w8) x → (length y ≡ 16) × Each1 (Fits w8) y → (t : Bool) (b i j : ℕ)
+pub lower_bits-chosen : (d low : ℕ) (x y : List ℕ) → (length x ≡ 32) × Each1 (Fits w8) x → (length y ≡ 32) × Each1 (Fits w8) y → (t : Bool) (b i j : ℕ)
     → AreParts (λ a. bit_and a low) (λ a. bit_and a low * 2 ^ d % 256) t b i j
-    → bits b (zip2 bit_xor (zip2 bit_and x (replicate 16 low)) (zip2 (λ a n. a * 2 ^ n % 256) (zip2 bit_and y (replicate 16 low)) (replicate 16 d)))
+    → bits b (zip2 bit_xor (zip2 bit_and x (replicate 32 low)) (zip2 (λ a n. a * 2 ^ n % 256) (zip2 bit_and y (replicate 32 low)) (replicate 32 d)))
     ≡ cond t (bits i x) (bits j y)
 lower_bits-chosen d low x y ok also t b i j e =
     rw (lower_lanes d low x y ok.0 also.0) (chosen (λ a. bit_and a low) (λ a. bit_and a low * 2 ^ d % 256) t b i j e x y ok also)
 
-pub upper_bits-chosen : (d low : ℕ) (x y : List ℕ) → (length x ≡ 16) × Each1 (Fits w8) x → (length y ≡ 16) × Each1 (Fits w8) y → (t : Bool) (b i j : ℕ)
+pub upper_bits-chosen : (d low : ℕ) (x y : List ℕ) → (length x ≡ 32) × Each1 (Fits w8) x → (length y ≡ 32) × Each1 (Fits w8) y → (t : Bool) (b i j : ℕ)
     → AreParts (λ a. bit_and (a / 2 ^ d) low) (λ a. bit_and a (255 - low)) t b i j
-    → bits b (zip2 bit_xor (zip2 bit_and (zip2 (λ a n. a / 2 ^ n) x (replicate 16 d)) (replicate 16 low)) (zip2 bit_and y (replicate 16 (255 - low))))
+    → bits b (zip2 bit_xor (zip2 bit_and (zip2 (λ a n. a / 2 ^ n) x (replicate 32 d)) (replicate 32 low)) (zip2 bit_and y (replicate 32 (255 - low))))
     ≡ cond t (bits i x) (bits j y)
 upper_bits-chosen d low x y ok also t b i j e =
     rw (upper_lanes d low x y ok.0 also.0) (chosen (λ a. bit_and (a / 2 ^ d) low) (λ a. bit_and a (255 - low)) t b i j e x y ok also)
 
-lanes_below : (x : List ℕ) → (length x ≡ 16) × Each1 (Fits w8) x → IsBlock x
+lanes_below : (x : List ℕ) → (length x ≡ 32) × Each1 (Fits w8) x → IsPair x
 lanes_below x ok = (ok.0, below_from_Fits w8 x ok.1)
 
-pub lower_bits-bytes : (d low : ℕ) → low < 256 → (x y : List ℕ) → (length x ≡ 16) × Each1 (Fits w8) x → (length y ≡ 16) × Each1 (Fits w8) y
-    → IsBlock x × IsBlock y
-    × IsBlock (zip2 bit_xor (zip2 bit_and x (replicate 16 low)) (zip2 (λ a n. a * 2 ^ n % 256) (zip2 bit_and y (replicate 16 low)) (replicate 16 d)))
+pub lower_bits-bytes : (d low : ℕ) → low < 256 → (x y : List ℕ) → (length x ≡ 32) × Each1 (Fits w8) x → (length y ≡ 32) × Each1 (Fits w8) y
+    → IsPair x × IsPair y
+    × IsPair (zip2 bit_xor (zip2 bit_and x (replicate 32 low)) (zip2 (λ a n. a * 2 ^ n % 256) (zip2 bit_and y (replicate 32 low)) (replicate 32 d)))
 lower_bits-bytes d low small x y ok also = (
   lanes_below x ok,
   lanes_below y also,
   rw (lower_lanes d low x y ok.0 also.0)
-      (IsBlock-xor (map (λ a. bit_and a low) x) (map (λ a. bit_and a low * 2 ^ d % 256) y)
-      (IsBlock-map (λ a. bit_and a low) (λ a h. omega (arith, and_le_r a low)) x (lanes_below x ok))
-      (IsBlock-map (λ a. bit_and a low * 2 ^ d % 256) (λ a h. omega arith) y (lanes_below y also))),
+      (AreBytes-xor (map (λ a. bit_and a low) x) (map (λ a. bit_and a low * 2 ^ d % 256) y)
+      (AreBytes-map (λ a. bit_and a low) (λ a h. omega (arith, and_le_r a low)) x (lanes_below x ok))
+      (AreBytes-map (λ a. bit_and a low * 2 ^ d % 256) (λ a h. omega arith) y (lanes_below y also))),
 )
 
-pub upper_bits-bytes : (d low : ℕ) → low < 256 → (x y : List ℕ) → (length x ≡ 16) × Each1 (Fits w8) x → (length y ≡ 16) × Each1 (Fits w8) y
-    → IsBlock x × IsBlock y
-    × IsBlock (zip2 bit_xor (zip2 bit_and (zip2 (λ a n. a / 2 ^ n) x (replicate 16 d)) (replicate 16 low)) (zip2 bit_and y (replicate 16 (255 - low))))
+pub upper_bits-bytes : (d low : ℕ) → low < 256 → (x y : List ℕ) → (length x ≡ 32) × Each1 (Fits w8) x → (length y ≡ 32) × Each1 (Fits w8) y
+    → IsPair x × IsPair y
+    × IsPair (zip2 bit_xor (zip2 bit_and (zip2 (λ a n. a / 2 ^ n) x (replicate 32 d)) (replicate 32 low)) (zip2 bit_and y (replicate 32 (255 - low))))
 upper_bits-bytes d low small x y ok also = (
   lanes_below x ok,
   lanes_below y also,
   rw (upper_lanes d low x y ok.0 also.0)
-      (IsBlock-xor (map (λ a. bit_and (a / 2 ^ d) low) x) (map (λ a. bit_and a (255 - low)) y)
-      (IsBlock-map (λ a. bit_and (a / 2 ^ d) low) (λ a h. omega (arith, and_le_r (a / 2 ^ d) low)) x (lanes_below x ok))
-      (IsBlock-map (λ a. bit_and a (255 - low)) (λ a h. omega (arith, and_le_r a (255 - low))) y (lanes_below y also))),
+      (AreBytes-xor (map (λ a. bit_and (a / 2 ^ d) low) x) (map (λ a. bit_and a (255 - low)) y)
+      (AreBytes-map (λ a. bit_and (a / 2 ^ d) low) (λ a h. omega (arith, and_le_r (a / 2 ^ d) low)) x (lanes_below x ok))
+      (AreBytes-map (λ a. bit_and a (255 - low)) (λ a h. omega (arith, and_le_r a (255 - low))) y (lanes_below y also))),
 )
 
 -- ---- the three exchanges

@@ -1,15 +1,18 @@
 -- The circuit of the S-box: what a plane carries, and the bits of one byte.
-use Rattle.std.proofs.Common.{◌≡◌, ℕ, zero, suc, ◌+◌, ◌-◌, ◌<◌, List, [], ◌∷◌, ap, arith, bit_and, bit_xor, get_or, length, map, refl, replicate, slice_index, slice_index_or, sym, ◌∙◌, w8, Fits}
+use Rattle.std.proofs.Common.{◌≡◌, ℕ, zero, suc, ◌+◌, ◌-◌, ◌<◌, List, [], ◌∷◌, ◌++◌, ap, arith, bit_and, bit_xor, get_or, length, map, refl, replicate, slice_index, slice_index_or, sym, ◌∙◌, w8, Fits}
 use lib.Lanes.{zip2}
 use Rattle.std.specs.Int.{bit_at}
 use Rattle.std.specs.List.{range_with_len}
+use Rattle.std.proofs.lemmas.List.{map-append}
 use Rattle.std.proofs.lemmas.List.FromFn.{get_or-map-range_with_len}
 use Rattle.std.proofs.lemmas.Nat.Bits.{bit_at_ones}
 use Rattle.std.proofs.lemmas.Simd.{Each1-weaker, map-map, splat_is_map, zip2_of_maps}
 use Rattle.aes_ctr.specs.Aes.{affine_bits, inverse, polynomial_product, power, product, remainder, sub_byte, sub_bytes}
 use Rattle.aes_ctr.specs.Inside.Circuit.{input_sums, inverse_of_norm, norm, output_wires, products}
 use Rattle.aes_ctr.specs.Planes.{IsBlock, IsHeld, bits, plane}
+use Rattle.aes_ctr.specs.Inside.PlaneSteps.{IsPair}
 use Rattle.aes_ctr.proofs.Held.{IsBitwise, below_eight, bit_at-bit_and, bit_at-bit_xor, bits-zip2}
+use Rattle.aes_ctr.proofs.Pairs.{IsPair-append}
 use Rattle.aes_ctr.proofs.Sixteen.{map-agreeing, map-sub_byte}
 
 -- bit b of each lane of a plane, as a function of the bytes of a block
@@ -31,11 +34,11 @@ xor_gate = gate bit_xor bit_at-bit_xor
 abbrev and_gate : {b : ℕ} {block : List ℕ} → Wire b block → Wire b block → Wire b block
 and_gate = gate bit_and bit_at-bit_and
 
-abbrev one_wire : (b : ℕ) (block : List ℕ) → b < 8 → length block ≡ 16 → Wire b block
+abbrev one_wire : (b : ℕ) (block : List ℕ) → b < 8 → length block ≡ 32 → Wire b block
 one_wire b block h long = record {
-  lanes = replicate 16 255;
+  lanes = replicate 32 255;
   of = λ _. 1;
-  same = rw (bit_at_ones 8 b h) (splat_is_map block 16 1 long);
+  same = rw (bit_at_ones 8 b h) (splat_is_map block 32 1 long);
 }
 
 -- the first n of these planes are functions of the bytes
@@ -60,25 +63,25 @@ all_wires b block (w ∷ made) (suc k) h = all_wires b block made k (omega arith
 abbrev nth : {A : Type 0} → A → List A → ℕ → A
 nth end made k = slice_index_or made k end
 
-pub input_sums-wires : (b : ℕ) (block : List ℕ) → b < 8 → length block ≡ 16 → (lanes : ℕ → List ℕ) (of : ℕ → ℕ → ℕ) → AreWires b block 8 lanes of
+pub input_sums-wires : (b : ℕ) (block : List ℕ) → b < 8 → length block ≡ 32 → (lanes : ℕ → List ℕ) (of : ℕ → ℕ → ℕ) → AreWires b block 8 lanes of
     → AreWires b block 22 (plane (input_sums (zip2 bit_xor) lanes)) (λ k a. slice_index (input_sums bit_xor (λ j. of j a)) k)
 unfolding input_sums
 input_sums-wires b block small long lanes of same =
     all_wires b block (input_sums xor_gate (nth (one_wire b block small long) (wires b block 8 lanes of same)))
 
-pub norm-wires : (b : ℕ) (block : List ℕ) → b < 8 → length block ≡ 16 → (lanes : ℕ → List ℕ) (of : ℕ → ℕ → ℕ) → AreWires b block 22 lanes of
+pub norm-wires : (b : ℕ) (block : List ℕ) → b < 8 → length block ≡ 32 → (lanes : ℕ → List ℕ) (of : ℕ → ℕ → ℕ) → AreWires b block 22 lanes of
     → AreWires b block 4 (plane (norm (zip2 bit_xor) (zip2 bit_and) lanes)) (λ k a. slice_index (norm bit_xor bit_and (λ j. of j a)) k)
 unfolding norm
 norm-wires b block small long lanes of same =
     all_wires b block (norm xor_gate and_gate (nth (one_wire b block small long) (wires b block 22 lanes of same)))
 
-pub inverse_of_norm-wires : (b : ℕ) (block : List ℕ) → b < 8 → length block ≡ 16 → (lanes : ℕ → List ℕ) (of : ℕ → ℕ → ℕ) → AreWires b block 4 lanes of
+pub inverse_of_norm-wires : (b : ℕ) (block : List ℕ) → b < 8 → length block ≡ 32 → (lanes : ℕ → List ℕ) (of : ℕ → ℕ → ℕ) → AreWires b block 4 lanes of
     → AreWires b block 4 (plane (inverse_of_norm (zip2 bit_xor) (zip2 bit_and) lanes)) (λ k a. slice_index (inverse_of_norm bit_xor bit_and (λ j. of j a)) k)
 unfolding inverse_of_norm
 inverse_of_norm-wires b block small long lanes of same =
     all_wires b block (inverse_of_norm xor_gate and_gate (nth (one_wire b block small long) (wires b block 4 lanes of same)))
 
-pub products-wires : (b : ℕ) (block : List ℕ) → b < 8 → length block ≡ 16 → (sums inverses : ℕ → List ℕ) (of to : ℕ → ℕ → ℕ)
+pub products-wires : (b : ℕ) (block : List ℕ) → b < 8 → length block ≡ 32 → (sums inverses : ℕ → List ℕ) (of to : ℕ → ℕ → ℕ)
     → AreWires b block 22 sums of → AreWires b block 4 inverses to
     → AreWires b block 18 (plane (products (zip2 bit_xor) (zip2 bit_and) sums inverses)) (λ k a. slice_index (products bit_xor bit_and (λ j. of j a) (λ j. to j a)) k)
 unfolding products
@@ -86,8 +89,8 @@ products-wires b block small long sums inverses of to same also =
     all_wires b block (products xor_gate and_gate
     (nth (one_wire b block small long) (wires b block 22 sums of same)) (nth (one_wire b block small long) (wires b block 4 inverses to also)))
 
-pub output_wires-wires : (b : ℕ) (block : List ℕ) → b < 8 → length block ≡ 16 → (lanes : ℕ → List ℕ) (of : ℕ → ℕ → ℕ) → AreWires b block 18 lanes of
-    → AreWires b block 8 (plane (output_wires (zip2 bit_xor) (replicate 16 255) lanes)) (λ k a. slice_index (output_wires bit_xor 1 (λ j. of j a)) k)
+pub output_wires-wires : (b : ℕ) (block : List ℕ) → b < 8 → length block ≡ 32 → (lanes : ℕ → List ℕ) (of : ℕ → ℕ → ℕ) → AreWires b block 18 lanes of
+    → AreWires b block 8 (plane (output_wires (zip2 bit_xor) (replicate 32 255) lanes)) (λ k a. slice_index (output_wires bit_xor 1 (λ j. of j a)) k)
 unfolding output_wires
 output_wires-wires b block small long lanes of same =
     all_wires b block (output_wires xor_gate (one_wire b block small long) (nth (one_wire b block small long) (wires b block 18 lanes of same)))
@@ -123,15 +126,17 @@ map-byte_bits block =
     (same 0) (same 1) (same 2) (same 3) (same 4) (same 5) (same 6) (same 7)
 
 -- the whole circuit
-pub IsHeld-sub_bytes : (b : ℕ) (block : List ℕ) → b < 8 → IsBlock block → (planes sums norms inverses terms made : List (List ℕ))
+pub IsHeld-sub_bytes : (b : ℕ) (first second : List ℕ) → b < 8 → IsBlock first → IsBlock second → (planes sums norms inverses terms made : List (List ℕ))
     → sums ≡ input_sums (zip2 bit_xor) (λ wire. plane planes (7 - wire))
     → norms ≡ norm (zip2 bit_xor) (zip2 bit_and) (plane sums)
     → inverses ≡ inverse_of_norm (zip2 bit_xor) (zip2 bit_and) (plane norms)
     → terms ≡ products (zip2 bit_xor) (zip2 bit_and) (plane sums) (plane inverses)
-    → made ≡ output_wires (zip2 bit_xor) (replicate 16 255) (plane terms)
-    → IsHeld b planes block → IsHeld b made (sub_bytes block)
-IsHeld-sub_bytes b block small ok planes sums norms inverses terms made s n i t m held k h =
-    let long : length block ≡ 16 = ok.0 in
+    → made ≡ output_wires (zip2 bit_xor) (replicate 32 255) (plane terms)
+    → IsHeld b planes (first ++ second) → IsHeld b made (sub_bytes first ++ sub_bytes second)
+IsHeld-sub_bytes b first second small ok also planes sums norms inverses terms made s n i t m held k h =
+    let block : List ℕ = first ++ second in
+    let pair : IsPair block = IsPair-append first second ok also in
+    let long : length block ≡ 32 = pair.0 in
     let input : ℕ → ℕ → ℕ = λ wire a. bit_at a (7 - wire) in
     let f : ℕ → ℕ → ℕ = λ k a. slice_index (sums_of a) k in
     let g : ℕ → ℕ → ℕ = λ k a. slice_index (norm bit_xor bit_and (slice_index (sums_of a))) k in
@@ -144,6 +149,6 @@ IsHeld-sub_bytes b block small ok planes sums norms inverses terms made s n i t 
     let made_wires : AreWires b block 8 (plane made) (λ k a. slice_index (outputs_of (sums_of a)) k) = rw m (output_wires-wires b block small long (plane terms) p product_wires) in
     made_wires k h
     ∙ map-agreeing (λ a. slice_index (outputs_of (sums_of a)) k) (λ a. slice_index (byte_bits (sub_byte a)) k)
-    (λ a h. ap (λ l. slice_index l k) (outputs_of-byte a h)) block (Each1-weaker (λ a. a < 256) (Fits w8) (λ a h. record { fits = h }) block ok.1)
+    (λ a h. ap (λ l. slice_index l k) (outputs_of-byte a h)) block (Each1-weaker (λ a. a < 256) (Fits w8) (λ a h. record { fits = h }) block pair.1)
     ∙ map-byte_bits block k h
-    ∙ ap (bits k) (map-sub_byte block long)
+    ∙ ap (bits k) (map-append sub_byte first second ∙ rw (map-sub_byte first ok.0, map-sub_byte second also.0) refl)

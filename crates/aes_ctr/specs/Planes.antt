@@ -1,4 +1,4 @@
--- Blocks of sixteen bytes side by side, in eight planes. Only private functions cite this.
+-- Bytes side by side in eight planes. Only private functions cite this.
 use Rattle.std.specs.Prelude.{◌≡◌, ℕ, ◌+◌, ◌*◌, ◌<◌, List, [], drop, length, map, slice_index, slice_index_or}
 use Rattle.std.specs.Int.{bit_at}
 use Rattle.std.specs.Simd.Lanes.{Each1}
@@ -12,13 +12,16 @@ bits i bytes = map (λ byte. bit_at byte i) bytes
 abbrev pub plane : List (List ℕ) → ℕ → List ℕ
 plane planes k = slice_index_or planes k []
 
--- the planes hold that block at bit b: bit k of each byte of the block is bit b of the lane of plane k in its place
+-- the planes hold those bytes at bit b: bit k of each byte is bit b of the lane of plane k in its place
 abbrev pub IsHeld : ℕ → List (List ℕ) → List ℕ → Type 0
-IsHeld b planes block = (k : ℕ) → k < 8 → bits b (plane planes k) ≡ bits k block
+IsHeld b planes bytes = (k : ℕ) → k < 8 → bits b (plane planes k) ≡ bits k bytes
 
--- sixteen bytes
+-- so many bytes
+abbrev pub AreBytes : ℕ → List ℕ → Type 0
+AreBytes n bytes = (length bytes ≡ n) × Each1 (λ byte. byte < 256) bytes
+
 abbrev pub IsBlock : List ℕ → Type 0
-IsBlock block = (length block ≡ 16) × Each1 (λ byte. byte < 256) block
+IsBlock block = AreBytes 16 block
 
 -- the bytes of a round key (FIPS 197, 5.1.4)
 unfoldable pub round_key : List (List ℕ) → ℕ → List ℕ

@@ -25,7 +25,7 @@ fn refresh(aes: &Aes256, position: u64, stream: &mut [u8; 16])
 #[derive(Drop)]
 pub struct Ctr {
     aes: Aes256,
-    // The key schedule of `aes`, for eight blocks at once.
+    // The key schedule of `aes`, for sixteen blocks at once.
     planes: KeyPlanes,
     position: u64,
     // The block of key stream that holds the position, where the position isn't at its start.

@@ -1,11 +1,11 @@
-//! The key schedule in planes, for eight blocks that take the same key.
-ghost use Rattle.std.specs.Prelude.{◌≡◌, ◌*◌, ◌<◌, ℕ, List, drop, length};
+//! The key schedule in planes, for blocks that take the same key.
+ghost use Rattle.std.specs.Prelude.{◌≡◌, ◌*◌, ◌<◌, ◌++◌, ℕ, List, drop};
 ghost use Rattle.aes_ctr.specs.Aes.{add_round_key};
 ghost use Rattle.aes_ctr.specs.Planes.{AreKeyPlanes, IsBlock, IsHeld, bits, round_key};
 
 use crate::add_round_key::round_key;
 use crate::key_expansion::KeySchedule;
-use crate::planes::{Planes, xor_planes};
+use crate::planes::{Planes, joined, xor_planes};
 use crate::sub_bytes::by_bit;
 use std::simd::prelude::*;
 
@@ -32,23 +32,32 @@ pub(crate) fn key_planes(words: &KeySchedule) -> KeyPlanes
     planes
 }
 
+// The plane for both blocks of a pair.
+#[inline(always)]
+fn for_both(plane: [u8; 16]) -> u8x32
+    ensures twice { result ≡ plane ++ plane }
+{
+    let plane = u8x16::from_array(plane);
+    joined(plane, plane)
+}
+
 // AddRoundKey (FIPS 197, 5.1.4) on planes.
 #[inline(always)]
 pub(crate) fn add_planes(keys: &KeyPlanes, round: usize, state: Planes) -> Planes
     requires round { round < 15 }
-    ensures held { (words : List (List ℕ)) (b : ℕ) (block : List ℕ) → length block ≡ 16
-        → IsHeld b (drop (8 * round) keys.now) (round_key words round) → IsHeld b state block
-        → IsHeld b result (add_round_key words round block) }
+    ensures held { (words : List (List ℕ)) (b : ℕ) (first second : List ℕ) → IsBlock first → IsBlock second
+        → IsHeld b (drop (8 * round) keys.now) (round_key words round) → IsHeld b state (first ++ second)
+        → IsHeld b result (add_round_key words round first ++ add_round_key words round second) }
 {
     let key = [
-        u8x16::from_array(keys[8 * round]),
-        u8x16::from_array(keys[8 * round + 1]),
-        u8x16::from_array(keys[8 * round + 2]),
-        u8x16::from_array(keys[8 * round + 3]),
-        u8x16::from_array(keys[8 * round + 4]),
-        u8x16::from_array(keys[8 * round + 5]),
-        u8x16::from_array(keys[8 * round + 6]),
-        u8x16::from_array(keys[8 * round + 7]),
+        for_both(keys[8 * round]),
+        for_both(keys[8 * round + 1]),
+        for_both(keys[8 * round + 2]),
+        for_both(keys[8 * round + 3]),
+        for_both(keys[8 * round + 4]),
+        for_both(keys[8 * round + 5]),
+        for_both(keys[8 * round + 6]),
+        for_both(keys[8 * round + 7]),
     ];
     xor_planes(state, key)
 }

@@ -1,13 +1,14 @@
 //! Whole blocks xored with the key stream (NIST SP 800-38A, 6.5).
-ghost use Rattle.std.specs.Prelude.{◌≡◌, ◌+◌, ◌*◌, ◌%◌, ◌<◌, ◌≤◌, ◌^◌, ℕ, List, bit_xor, length};
+ghost use Rattle.std.specs.Prelude.{◌≡◌, ◌+◌, ◌*◌, ◌%◌, ◌<◌, ◌≤◌, ◌^◌, ◌++◌, ℕ, List, bit_xor, length};
 ghost use Rattle.std.specs.Simd.Lanes.{zip2};
 ghost use Rattle.aes_ctr.specs.Aes.{key_schedule};
 ghost use Rattle.aes_ctr.specs.CounterMode.{counter_block, counter_mode_from, key_stream_block};
 ghost use Rattle.aes_ctr.specs.Planes.{AreKeyPlanes, plane};
 
 use crate::block_cipher::Aes256;
-use crate::cipher_eight::cipher_eight;
+use crate::cipher_sixteen::cipher_sixteen;
 use crate::key_planes::KeyPlanes;
+use crate::planes::joined;
 use std::simd::prelude::*;
 
 // The nonce 0 and the number, both big-endian.
@@ -37,50 +38,65 @@ fn xor_block(aes: &Aes256, number: u64, bytes: &mut [u8])
     xor_into(bytes, u8x16::from_array(key_stream_block(aes, number)));
 }
 
-// Eight blocks of the key stream.
-fn eight_blocks(planes: &KeyPlanes, number: u64) -> [u8x16; 8]
-    requires room { number + 8 ≤ 2 ^ 64 }
-    ensures stream { (key : List ℕ) → AreKeyPlanes (key_schedule key) planes.now
-        → (b : ℕ) → b < 8 → plane result b ≡ key_stream_block key (number + b) }
+// The counter blocks of that number and the next.
+fn counter_blocks(number: u64) -> u8x32
+    requires room { number + 1 < 2 ^ 64 }
+    ensures blocks { result ≡ counter_block number ++ counter_block (number + 1) }
 {
-    cipher_eight(
+    joined(counter_block(number), counter_block(number + 1))
+}
+
+// Sixteen blocks of the key stream, in pairs.
+fn sixteen_blocks(planes: &KeyPlanes, number: u64) -> [u8x32; 8]
+    requires room { number + 16 ≤ 2 ^ 64 }
+    ensures stream { (key : List ℕ) → AreKeyPlanes (key_schedule key) planes.now
+        → (b : ℕ) → b < 8 → plane result b ≡ key_stream_block key (number + 2 * b) ++ key_stream_block key (number + 2 * b + 1) }
+{
+    cipher_sixteen(
         planes,
         [
-            counter_block(number),
-            counter_block(number + 1),
-            counter_block(number + 2),
-            counter_block(number + 3),
-            counter_block(number + 4),
-            counter_block(number + 5),
-            counter_block(number + 6),
-            counter_block(number + 7),
+            counter_blocks(number),
+            counter_blocks(number + 2),
+            counter_blocks(number + 4),
+            counter_blocks(number + 6),
+            counter_blocks(number + 8),
+            counter_blocks(number + 10),
+            counter_blocks(number + 12),
+            counter_blocks(number + 14),
         ],
     )
 }
 
-fn xor_eight_blocks(planes: &KeyPlanes, number: u64, bytes: &mut [u8])
-    requires eight_blocks { length bytes.old ≡ 128 }
-    requires room { number + 8 ≤ 2 ^ 64 }
+fn xor_into_pair(bytes: &mut [u8], stream: u8x32)
+    requires two_blocks { length bytes.old ≡ 32 }
+    ensures xored { bytes.new ≡ zip2 bit_xor bytes.old stream }
+{
+    (u8x32::from_slice(bytes) ^ stream).copy_to_slice(bytes);
+}
+
+fn xor_sixteen_blocks(planes: &KeyPlanes, number: u64, bytes: &mut [u8])
+    requires sixteen_blocks { length bytes.old ≡ 256 }
+    requires room { number + 16 ≤ 2 ^ 64 }
     ensures xored { (key : List ℕ) → AreKeyPlanes (key_schedule key) planes.now
         → bytes.new ≡ counter_mode_from key (16 * number) bytes.old }
 {
-    let stream = eight_blocks(planes, number);
+    let stream = sixteen_blocks(planes, number);
     for i in 0..8 {
-        xor_into(&mut bytes[16 * i..16 * i + 16], stream[i]);
+        xor_into_pair(&mut bytes[32 * i..32 * i + 32], stream[i]);
     }
 }
 
-fn xor_groups_of_eight(planes: &KeyPlanes, number: u64, bytes: &mut [u8])
-    requires whole_groups { length bytes.old % 128 ≡ 0 }
+fn xor_groups_of_sixteen(planes: &KeyPlanes, number: u64, bytes: &mut [u8])
+    requires whole_groups { length bytes.old % 256 ≡ 0 }
     requires room { 16 * number + length bytes.old < 2 ^ 64 }
     ensures xored { (key : List ℕ) → AreKeyPlanes (key_schedule key) planes.now
         → bytes.new ≡ counter_mode_from key (16 * number) bytes.old }
 {
-    for i in 0..bytes.len() / 128 {
-        xor_eight_blocks(
+    for i in 0..bytes.len() / 256 {
+        xor_sixteen_blocks(
             planes,
-            number + 8 * i as u64,
-            &mut bytes[128 * i..128 * i + 128],
+            number + 16 * i as u64,
+            &mut bytes[256 * i..256 * i + 256],
         );
     }
 }
@@ -102,8 +118,8 @@ pub(crate) fn xor_blocks(aes: &Aes256, planes: &KeyPlanes, number: u64, bytes: &
     requires room { 16 * number + length bytes.old < 2 ^ 64 }
     ensures xored { bytes.new ≡ counter_mode_from aes.now (16 * number) bytes.old }
 {
-    let grouped = bytes.len() / 128 * 128;
+    let grouped = bytes.len() / 256 * 256;
     let (groups, singles) = bytes.split_at_mut(grouped);
-    xor_groups_of_eight(planes, number, groups);
+    xor_groups_of_sixteen(planes, number, groups);
     xor_single_blocks(aes, number + (grouped / 16) as u64, singles);
 }

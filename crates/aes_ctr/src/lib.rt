@@ -24,7 +24,7 @@
 mod add_round_key;
 mod block_cipher;
 mod cipher;
-mod cipher_eight;
+mod cipher_sixteen;
 mod counter_mode;
 mod key_expansion;
 mod key_planes;

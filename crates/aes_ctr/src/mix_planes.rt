@@ -1,32 +1,39 @@
 //! MixColumns (FIPS 197, 5.1.3) on planes.
-ghost use Rattle.std.specs.Prelude.{◌≡◌, ℕ, List, length, map};
+ghost use Rattle.std.specs.Prelude.{◌≡◌, ◌++◌, ℕ, List, map};
 ghost use Rattle.aes_ctr.specs.Aes.{mix_columns, product};
 ghost use Rattle.aes_ctr.specs.Planes.{IsBlock, IsHeld};
-ghost use Rattle.aes_ctr.specs.Inside.PlaneSteps.{rows_below};
+ghost use Rattle.aes_ctr.specs.Inside.PlaneSteps.{IsPair, in_both, rows_below};
 
 use crate::planes::{Planes, xor_planes};
 use std::simd::prelude::*;
 
 // The byte of the next row, in the place of each byte of a column.
 #[inline(always)]
-fn row_below(plane: u8x16) -> u8x16
-    ensures rows { result ≡ rows_below 1 plane }
+fn row_below(plane: u8x32) -> u8x32
+    ensures rows { result ≡ in_both (rows_below 1) plane }
 {
-    plane.swizzle::<16>([1, 2, 3, 0, 5, 6, 7, 4, 9, 10, 11, 8, 13, 14, 15, 12])
+    plane.swizzle::<32>([
+        1, 2, 3, 0, 5, 6, 7, 4, 9, 10, 11, 8, 13, 14, 15, 12, 17, 18, 19, 16, 21, 22, 23, 20, 25,
+        26, 27, 24, 29, 30, 31, 28,
+    ])
 }
 
 // The byte two rows on.
 #[inline(always)]
-fn second_row_below(plane: u8x16) -> u8x16
-    ensures rows { result ≡ rows_below 2 plane }
+fn second_row_below(plane: u8x32) -> u8x32
+    ensures rows { result ≡ in_both (rows_below 2) plane }
 {
-    plane.swizzle::<16>([2, 3, 0, 1, 6, 7, 4, 5, 10, 11, 8, 9, 14, 15, 12, 13])
+    plane.swizzle::<32>([
+        2, 3, 0, 1, 6, 7, 4, 5, 10, 11, 8, 9, 14, 15, 12, 13, 18, 19, 16, 17, 22, 23, 20, 21, 26,
+        27, 24, 25, 30, 31, 28, 29,
+    ])
 }
 
-// The next rows of all eight blocks.
+// The next rows of all blocks.
 #[inline(always)]
 fn row_below_planes(planes: Planes) -> Planes
-    ensures held { (b : ℕ) (block : List ℕ) → length block ≡ 16 → IsHeld b planes block → IsHeld b result (rows_below 1 block) }
+    ensures held { (b : ℕ) (first second : List ℕ) → IsBlock first → IsBlock second → IsHeld b planes (first ++ second)
+        → IsHeld b result (rows_below 1 first ++ rows_below 1 second) }
 {
     let [a, b, c, d, e, f, g, h] = planes;
     [
@@ -41,10 +48,11 @@ fn row_below_planes(planes: Planes) -> Planes
     ]
 }
 
-// The rows two on of all eight blocks.
+// The rows two on of all blocks.
 #[inline(always)]
 fn second_row_below_planes(planes: Planes) -> Planes
-    ensures held { (b : ℕ) (block : List ℕ) → length block ≡ 16 → IsHeld b planes block → IsHeld b result (rows_below 2 block) }
+    ensures held { (b : ℕ) (first second : List ℕ) → IsBlock first → IsBlock second → IsHeld b planes (first ++ second)
+        → IsHeld b result (rows_below 2 first ++ rows_below 2 second) }
 {
     let [a, b, c, d, e, f, g, h] = planes;
     [
@@ -62,7 +70,7 @@ fn second_row_below_planes(planes: Planes) -> Planes
 // xtime of each byte (4.2.1): each bit goes one plane up, and the highest makes the bits of 0x1b.
 #[inline(always)]
 fn double_planes(planes: Planes) -> Planes
-    ensures held { (b : ℕ) (block : List ℕ) → IsBlock block → IsHeld b planes block → IsHeld b result (map (product 2) block) }
+    ensures held { (b : ℕ) (pair : List ℕ) → IsPair pair → IsHeld b planes pair → IsHeld b result (map (product 2) pair) }
 {
     let [a, b, c, d, e, f, g, h] = planes;
     [h, a ^ h, b, c ^ h, d ^ h, e, f, g]
@@ -71,7 +79,8 @@ fn double_planes(planes: Planes) -> Planes
 // Two times the sum of a byte and the next one of its column, that next one, and the last two.
 #[inline(always)]
 pub(crate) fn mix_planes(planes: Planes) -> Planes
-    ensures held { (b : ℕ) (block : List ℕ) → IsBlock block → IsHeld b planes block → IsHeld b result (mix_columns block) }
+    ensures held { (b : ℕ) (first second : List ℕ) → IsBlock first → IsBlock second → IsHeld b planes (first ++ second)
+        → IsHeld b result (mix_columns first ++ mix_columns second) }
 {
     let next = row_below_planes(planes);
     let pairs = xor_planes(planes, next);

@@ -1,11 +1,25 @@
-//! Eight blocks side by side: bit b of lane j of plane k is bit k of byte j of block b.
-ghost use Rattle.std.specs.Prelude.{ℕ, List, bit_xor};
+//! Eight pairs of blocks side by side: bit b of lane j of plane k is bit k of byte j of pair b.
+ghost use Rattle.std.specs.Prelude.{◌≡◌, ◌++◌, ℕ, List, bit_xor};
 ghost use Rattle.std.specs.Simd.Lanes.{zip2};
 ghost use Rattle.aes_ctr.specs.Planes.{IsHeld};
 
 use std::simd::prelude::*;
 
-pub(crate) type Planes = [u8x16; 8];
+pub(crate) type Planes = [u8x32; 8];
+
+// Two blocks as a pair.
+#[inline(always)]
+pub(crate) fn joined(first: u8x16, second: u8x16) -> u8x32
+    ensures pair { result ≡ first ++ second }
+{
+    first.shuffle::<32>(
+        second,
+        [
+            0, 1, 2, 3, 4, 5, 6, 7, 8, 9, 10, 11, 12, 13, 14, 15, 16, 17, 18, 19, 20, 21, 22, 23,
+            24, 25, 26, 27, 28, 29, 30, 31,
+        ],
+    )
+}
 
 #[inline(always)]
 pub(crate) fn xor_planes(left: Planes, right: Planes) -> Planes

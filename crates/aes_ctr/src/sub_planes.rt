@@ -1,7 +1,7 @@
 //! SubBytes (FIPS 197, 5.1.1) on planes: the circuit of 115 gates of Boyar and Peralta ("A new combinational logic
 //! minimization technique with applications to cryptology", IACR ePrint 2009/191), whose numbers of wires stand here. A wire
 //! carries a plane.
-ghost use Rattle.std.specs.Prelude.{◌≡◌, ◌-◌, ◌<◌, ℕ, List, bit_and, bit_xor, replicate};
+ghost use Rattle.std.specs.Prelude.{◌≡◌, ◌-◌, ◌<◌, ◌++◌, ℕ, List, bit_and, bit_xor, replicate};
 ghost use Rattle.std.specs.Simd.Lanes.{zip2};
 ghost use Rattle.aes_ctr.specs.Aes.{sub_bytes};
 ghost use Rattle.aes_ctr.specs.Inside.Circuit.{input_sums, inverse_of_norm, norm, output_wires, products};
@@ -12,7 +12,7 @@ use std::simd::prelude::*;
 
 // The sums of input wires that the rest of the circuit takes: the last input wire, and wires y1 to y21.
 #[inline(always)]
-fn input_sums(planes: Planes) -> [u8x16; 22]
+fn input_sums(planes: Planes) -> [u8x32; 22]
     ensures wires { result ≡ input_sums (zip2 bit_xor) (λ wire. plane planes (7 - wire)) }
 {
     let [x7, x6, x5, x4, x3, x2, x1, x0] = planes;
@@ -47,7 +47,7 @@ fn input_sums(planes: Planes) -> [u8x16; 22]
 
 // An element of a field of sixteen.
 #[inline(always)]
-fn norm(sums: [u8x16; 22]) -> [u8x16; 4]
+fn norm(sums: [u8x32; 22]) -> [u8x32; 4]
     ensures wires { result ≡ norm (zip2 bit_xor) (zip2 bit_and) (plane sums) }
 {
     let [
@@ -102,7 +102,7 @@ fn norm(sums: [u8x16; 22]) -> [u8x16; 4]
 
 // The inverse of that element.
 #[inline(always)]
-fn inverse_of_norm(norm: [u8x16; 4]) -> [u8x16; 4]
+fn inverse_of_norm(norm: [u8x32; 4]) -> [u8x32; 4]
     ensures wires { result ≡ inverse_of_norm (zip2 bit_xor) (zip2 bit_and) (plane norm) }
 {
     let [t21, t22, t23, t24] = norm;
@@ -127,7 +127,7 @@ fn inverse_of_norm(norm: [u8x16; 4]) -> [u8x16; 4]
 
 // The products of that inverse and the sums.
 #[inline(always)]
-fn products(sums: [u8x16; 22], inverse: [u8x16; 4]) -> [u8x16; 18]
+fn products(sums: [u8x32; 22], inverse: [u8x32; 4]) -> [u8x32; 18]
     ensures wires { result ≡ products (zip2 bit_xor) (zip2 bit_and) (plane sums) (plane inverse) }
 {
     let [
@@ -185,8 +185,8 @@ fn products(sums: [u8x16; 22], inverse: [u8x16; 4]) -> [u8x16; 18]
 
 // The output wires from the last to the first, with the bits of 0x63.
 #[inline(always)]
-fn output_wires(products: [u8x16; 18]) -> Planes
-    ensures wires { result ≡ output_wires (zip2 bit_xor) (replicate 16 255) (plane products) }
+fn output_wires(products: [u8x32; 18]) -> Planes
+    ensures wires { result ≡ output_wires (zip2 bit_xor) (replicate 32 255) (plane products) }
 {
     let [
         z0,
@@ -238,14 +238,15 @@ fn output_wires(products: [u8x16; 18]) -> Planes
     let s5 = t47 ^ t65;
     let s1 = t64 ^ s3;
     let s2 = t55 ^ t67;
-    let ones = u8x16::splat(255);
+    let ones = u8x32::splat(255);
     [s7 ^ ones, s6 ^ ones, s5, s4, s3, s2 ^ ones, s1 ^ ones, s0]
 }
 
 // SubBytes of the blocks that the planes hold.
 #[inline(always)]
 pub(crate) fn sub_planes(planes: Planes) -> Planes
-    ensures held { (b : ℕ) (block : List ℕ) → b < 8 → IsBlock block → IsHeld b planes block → IsHeld b result (sub_bytes block) }
+    ensures held { (b : ℕ) (first second : List ℕ) → b < 8 → IsBlock first → IsBlock second → IsHeld b planes (first ++ second)
+        → IsHeld b result (sub_bytes first ++ sub_bytes second) }
 {
     let sums = input_sums(planes);
     output_wires(products(sums, inverse_of_norm(norm(sums))))

@@ -1,44 +1,44 @@
-//! From eight blocks to their planes, and back. Eight vectors hold bits numbered k (vector) and b (place in a byte);
+//! From eight pairs of blocks to their planes, and back. Eight vectors hold bits numbered k (vector) and b (place in a byte);
 //! what is wanted is bit k of vector b in place of bit b of vector k. The three binary digits of k and b change
 //! places one after the other, each by exchanging bits of two vectors that are 1, 2 or 4 apart.
 ghost use Rattle.std.specs.Prelude.{◌≡◌, ◌-◌, ◌*◌, ◌/◌, ◌%◌, ◌^◌, ◌<◌, ℕ, Bool, bit_and, if◌then◌else◌};
-ghost use Rattle.aes_ctr.specs.Planes.{IsBlock, bits, plane};
-ghost use Rattle.aes_ctr.specs.Inside.PlaneSteps.{AreParts, AreSwapped};
+ghost use Rattle.aes_ctr.specs.Planes.{bits, plane};
+ghost use Rattle.aes_ctr.specs.Inside.PlaneSteps.{AreParts, AreSwapped, IsPair};
 
 use crate::planes::Planes;
 use std::simd::prelude::*;
 
 // The bits in `low` of both, those of `second` moved up.
 #[inline(always)]
-fn lower_bits(distance: u8, low: u8, first: u8x16, second: u8x16) -> u8x16
+fn lower_bits(distance: u8, low: u8, first: u8x32, second: u8x32) -> u8x32
     requires distance { distance < 8 }
     ensures bits { (from_first : Bool) (b i j : ℕ)
         → AreParts (λ byte. bit_and byte low) (λ byte. bit_and byte low * 2 ^ distance % 256) from_first b i j
         → bits b result ≡ (if from_first then bits i first else bits j second) }
-    ensures bytes { IsBlock first × IsBlock second × IsBlock result }
+    ensures bytes { IsPair first × IsPair second × IsPair result }
 {
-    let low = u8x16::splat(low);
-    (first & low) ^ ((second & low) << u8x16::splat(distance))
+    let low = u8x32::splat(low);
+    (first & low) ^ ((second & low) << u8x32::splat(distance))
 }
 
 // The bits beside `low` of both, those of `first` moved down.
 #[inline(always)]
-fn upper_bits(distance: u8, low: u8, first: u8x16, second: u8x16) -> u8x16
+fn upper_bits(distance: u8, low: u8, first: u8x32, second: u8x32) -> u8x32
     requires distance { distance < 8 }
     ensures bits { (from_first : Bool) (b i j : ℕ)
         → AreParts (λ byte. bit_and (byte / 2 ^ distance) low) (λ byte. bit_and byte (255 - low)) from_first b i j
         → bits b result ≡ (if from_first then bits i first else bits j second) }
-    ensures bytes { IsBlock first × IsBlock second × IsBlock result }
+    ensures bytes { IsPair first × IsPair second × IsPair result }
 {
-    let low = u8x16::splat(low);
-    ((first >> u8x16::splat(distance)) & low) ^ (second & !low)
+    let low = u8x32::splat(low);
+    ((first >> u8x32::splat(distance)) & low) ^ (second & !low)
 }
 
 // The lowest digits change places: bits 1, 3, 5, 7 of a vector with bits 0, 2, 4, 6 of the next.
 #[inline(always)]
 fn swapped_by_one(planes: Planes) -> Planes
     ensures swapped { AreSwapped 1 planes result }
-    ensures bytes { (k : ℕ) → k < 8 → IsBlock (plane planes k) × IsBlock (plane result k) }
+    ensures bytes { (k : ℕ) → k < 8 → IsPair (plane planes k) × IsPair (plane result k) }
 {
     let [a, b, c, d, e, f, g, h] = planes;
     [
@@ -57,7 +57,7 @@ fn swapped_by_one(planes: Planes) -> Planes
 #[inline(always)]
 fn swapped_by_two(planes: Planes) -> Planes
     ensures swapped { AreSwapped 2 planes result }
-    ensures bytes { (k : ℕ) → k < 8 → IsBlock (plane planes k) × IsBlock (plane result k) }
+    ensures bytes { (k : ℕ) → k < 8 → IsPair (plane planes k) × IsPair (plane result k) }
 {
     let [a, b, c, d, e, f, g, h] = planes;
     [
@@ -76,7 +76,7 @@ fn swapped_by_two(planes: Planes) -> Planes
 #[inline(always)]
 fn swapped_by_four(planes: Planes) -> Planes
     ensures swapped { AreSwapped 4 planes result }
-    ensures bytes { (k : ℕ) → k < 8 → IsBlock (plane planes k) × IsBlock (plane result k) }
+    ensures bytes { (k : ℕ) → k < 8 → IsPair (plane planes k) × IsPair (plane result k) }
 {
     let [a, b, c, d, e, f, g, h] = planes;
     [
@@ -91,11 +91,11 @@ fn swapped_by_four(planes: Planes) -> Planes
     ]
 }
 
-// Eight blocks as planes, or planes as blocks: it is its own inverse.
+// Eight pairs as planes, or planes as pairs: it is its own inverse.
 #[inline(always)]
 pub(crate) fn transposed(planes: Planes) -> Planes
     ensures transposed { (b k : ℕ) → b < 8 → k < 8 → bits b (plane result k) ≡ bits k (plane planes b) }
-    ensures bytes { (k : ℕ) → k < 8 → IsBlock (plane planes k) × IsBlock (plane result k) }
+    ensures bytes { (k : ℕ) → k < 8 → IsPair (plane planes k) × IsPair (plane result k) }
 {
     swapped_by_four(swapped_by_two(swapped_by_one(planes)))
 }

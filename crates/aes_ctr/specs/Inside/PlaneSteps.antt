@@ -1,8 +1,16 @@
--- What the steps of transposing and of ShiftRows do to planes.
-use Rattle.std.specs.Prelude.{◌≡◌, ℕ, ◌+◌, ◌-◌, ◌/◌, ◌%◌, ◌==◌, ◌<◌, Bool, List, if◌then◌else◌}
+-- What the steps of transposing and of ShiftRows do to planes, which hold a pair of blocks at each bit.
+use Rattle.std.specs.Prelude.{◌≡◌, ℕ, ◌+◌, ◌-◌, ◌/◌, ◌%◌, ◌==◌, ◌<◌, ◌++◌, Bool, List, drop, if◌then◌else◌, take}
 use Rattle.std.specs.Int.{bit_at}
-use Rattle.aes_ctr.specs.Planes.{bits, plane}
+use Rattle.aes_ctr.specs.Planes.{AreBytes, bits, plane}
 use Rattle.aes_ctr.specs.Aes.{byte_at, state_of}
+
+-- two blocks, one after the other
+abbrev pub IsPair : List ℕ → Type 0
+IsPair pair = AreBytes 32 pair
+
+-- what f makes of the first block of a pair, and of the second
+abbrev pub in_both : (List ℕ → List ℕ) → List ℕ → List ℕ
+in_both f pair = f (take 16 pair) ++ f (drop 16 pair)
 
 -- bit b of what f and g make of a byte: bit i through f, if it is `first`, else bit j through g
 abbrev pub AreParts : (ℕ → ℕ) → (ℕ → ℕ) → Bool → ℕ → ℕ → ℕ → Type 0

@@ -1,14 +1,18 @@
-use Rattle.std.proofs.Common.{◌*◌}
+use Rattle.std.proofs.Common.{◌*◌, ◌++◌, ℕ, List, bit_xor, sym, ◌∙◌}
 use Rattle.aes_ctr.specs.Planes.{round_key}
 use Rattle.aes_ctr.proofs.Held.{IsHeld-dropped}
-use Rattle.aes_ctr.proofs.Sixteen.{xor-round_key}
+use Rattle.aes_ctr.proofs.Pairs.{zip2-append}
+use Rattle.aes_ctr.proofs.Sixteen.{length-round_key, xor-round_key}
 use Rattle.aes_ctr.proofs.key_planes.add_planes.Goals as goal
 
 pub returns : goal.returns
 returns c = record {
   held =
-      λ words b block long key state.
-      rw (← xor-round_key words c.args.round block long)
-      (c.xor_planes.ensures.held b block (round_key words c.args.round) state
-      (IsHeld-dropped b (8 * c.args.round) c.args.keys.now (round_key words c.args.round) key));
+      λ words b first second ok also key state.
+      let added : List ℕ = round_key words c.args.round in
+      rw (zip2-append bit_xor first second added added (ok.0 ∙ sym (length-round_key words c.args.round)), xor-round_key words c.args.round first ok.0, xor-round_key words c.args.round second also.0)
+      at (c.xor_planes.ensures.held b (first ++ second) (added ++ added) state
+      (IsHeld-dropped b (8 * c.args.round) c.args.keys.now added
+      c.for_both.ensures.twice c.for_both-2.ensures.twice c.for_both-3.ensures.twice c.for_both-4.ensures.twice
+      c.for_both-5.ensures.twice c.for_both-6.ensures.twice c.for_both-7.ensures.twice c.for_both-8.ensures.twice key));
 }

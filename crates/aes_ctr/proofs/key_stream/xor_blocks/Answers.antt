@@ -9,6 +9,6 @@ returns c =
     record {
       xored =
           append-counter_mode_from c.args.aes.now (16 * n) _ _ c.args.bytes.now _ _ (omega arith) (omega arith)
-          (rw parts.front at (c.xor_groups_of_eight.ensures.xored c.args.aes.now c.requires.planes))
+          (rw parts.front at (c.xor_groups_of_sixteen.ensures.xored c.args.aes.now c.requires.planes))
           (rw parts.back at c.xor_single_blocks.ensures.xored);
     }

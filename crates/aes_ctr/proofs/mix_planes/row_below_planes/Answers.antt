@@ -5,7 +5,7 @@ use Rattle.aes_ctr.proofs.mix_planes.row_below_planes.Goals as goal
 pub returns : goal.returns
 returns c = record {
   held =
-      λ b block. IsHeld-moved (rows_below 1) bits-rows_below_1 b c.args.planes block
+      λ b first second. IsHeld-moved (rows_below 1) bits-rows_below_1 b c.args.planes first second
       c.row_below.ensures.rows c.row_below-2.ensures.rows c.row_below-3.ensures.rows c.row_below-4.ensures.rows
       c.row_below-5.ensures.rows c.row_below-6.ensures.rows c.row_below-7.ensures.rows c.row_below-8.ensures.rows;
 }

@@ -1,13 +1,13 @@
 use Rattle.std.proofs.Common.{◌≡◌, refl, ◌++◌, ◌∷◌, []}
 use lib.Lanes.{pick_l}
-use Rattle.aes_ctr.specs.Inside.PlaneSteps.{rows_below}
-use Rattle.aes_ctr.proofs.Sixteen.{sixteen_lanes}
+use Rattle.aes_ctr.specs.Inside.PlaneSteps.{in_both, rows_below}
+use Rattle.aes_ctr.proofs.Pairs.{thirty_two_lanes}
 use Rattle.aes_ctr.proofs.mix_planes.second_row_below.Goals as goal
 
 pub returns : goal.returns
 unfolding rows_below
 returns c = record {
   rows =
-      sixteen_lanes (λ x. pick_l 0 (x ++ x) (2 ∷ 3 ∷ 0 ∷ 1 ∷ 6 ∷ 7 ∷ 4 ∷ 5 ∷ 10 ∷ 11 ∷ 8 ∷ 9 ∷ 14 ∷ 15 ∷ 12 ∷ 13 ∷ []) ≡ rows_below 2 x)
-      (λ x0 x1 x2 x3 x4 x5 x6 x7 x8 x9 x10 x11 x12 x13 x14 x15. refl) c.args.plane c.fits-plane.0;
+      thirty_two_lanes (λ x. pick_l 0 (x ++ x) (2 ∷ 3 ∷ 0 ∷ 1 ∷ 6 ∷ 7 ∷ 4 ∷ 5 ∷ 10 ∷ 11 ∷ 8 ∷ 9 ∷ 14 ∷ 15 ∷ 12 ∷ 13 ∷ 18 ∷ 19 ∷ 16 ∷ 17 ∷ 22 ∷ 23 ∷ 20 ∷ 21 ∷ 26 ∷ 27 ∷ 24 ∷ 25 ∷ 30 ∷ 31 ∷ 28 ∷ 29 ∷ []) ≡ in_both (rows_below 2) x)
+      (λ x0 x1 x2 x3 x4 x5 x6 x7 x8 x9 x10 x11 x12 x13 x14 x15 x16 x17 x18 x19 x20 x21 x22 x23 x24 x25 x26 x27 x28 x29 x30 x31. refl) c.args.plane c.fits-plane.0;
 }

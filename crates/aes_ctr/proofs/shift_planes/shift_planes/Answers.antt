@@ -5,7 +5,7 @@ use Rattle.aes_ctr.proofs.shift_planes.shift_planes.Goals as goal
 pub returns : goal.returns
 returns c = record {
   held =
-      λ b block. IsHeld-moved shift_rows bits-shift_rows b c.args.planes block
-      c.shift_rows.ensures.state c.shift_rows-2.ensures.state c.shift_rows-3.ensures.state c.shift_rows-4.ensures.state
-      c.shift_rows-5.ensures.state c.shift_rows-6.ensures.state c.shift_rows-7.ensures.state c.shift_rows-8.ensures.state;
+      λ b first second. IsHeld-moved shift_rows bits-shift_rows b c.args.planes first second
+      c.shifted_rows.ensures.rows c.shifted_rows-2.ensures.rows c.shifted_rows-3.ensures.rows c.shifted_rows-4.ensures.rows
+      c.shifted_rows-5.ensures.rows c.shifted_rows-6.ensures.rows c.shifted_rows-7.ensures.rows c.shifted_rows-8.ensures.rows;
 }

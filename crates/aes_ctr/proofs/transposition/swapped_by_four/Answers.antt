@@ -1,6 +1,6 @@
 use Rattle.std.proofs.Common.{◌≡◌, ℕ, ◌+◌, ◌-◌, ◌*◌, ◌/◌, ◌%◌, ◌^◌, ◌<◌, List, [], ◌∷◌, bit_and}
-use Rattle.aes_ctr.specs.Planes.{IsBlock, bits, plane}
-use Rattle.aes_ctr.specs.Inside.PlaneSteps.{with_digit}
+use Rattle.aes_ctr.specs.Planes.{bits, plane}
+use Rattle.aes_ctr.specs.Inside.PlaneSteps.{IsPair, with_digit}
 use Rattle.aes_ctr.proofs.Held.{below_eight}
 use Rattle.aes_ctr.proofs.Swapped.{from_planes, lower_4, upper_4}
 use Rattle.aes_ctr.proofs.transposition.swapped_by_four.Goals as goal
@@ -23,7 +23,7 @@ returns c =
           (upper_from 3 7 planes c.upper_bits-4.result c.upper_bits-4.ensures.bits)
           k hk b hb;
       bytes =
-          below_eight (λ k. IsBlock (plane planes k) × IsBlock (plane (c.lower_bits.result ∷ c.lower_bits-2.result ∷ c.lower_bits-3.result ∷ c.lower_bits-4.result ∷ c.upper_bits.result ∷ c.upper_bits-2.result ∷ c.upper_bits-3.result ∷ c.upper_bits-4.result ∷ []) k))
+          below_eight (λ k. IsPair (plane planes k) × IsPair (plane (c.lower_bits.result ∷ c.lower_bits-2.result ∷ c.lower_bits-3.result ∷ c.lower_bits-4.result ∷ c.upper_bits.result ∷ c.upper_bits-2.result ∷ c.upper_bits-3.result ∷ c.upper_bits-4.result ∷ []) k))
           (c.lower_bits.ensures.bytes.0, c.lower_bits.ensures.bytes.2)
           (c.lower_bits-2.ensures.bytes.0, c.lower_bits-2.ensures.bytes.2)
           (c.lower_bits-3.ensures.bytes.0, c.lower_bits-3.ensures.bytes.2)

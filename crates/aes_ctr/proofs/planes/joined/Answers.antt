@@ -1,0 +1,9 @@
+use Rattle.std.proofs.Common.{◌++◌, arith, length-append}
+use Rattle.std.proofs.lemmas.Simd.{pick_l_whole}
+use Rattle.aes_ctr.proofs.planes.joined.Goals as goal
+
+pub returns : goal.returns
+returns c = record {
+  pair =
+      pick_l_whole 0 (c.args.first ++ c.args.second) 32 (omega (arith, length-append c.args.first c.args.second, c.fits-first.0, c.fits-second.0));
+}
