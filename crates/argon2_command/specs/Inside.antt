@@ -1,2 +1,3 @@
 -- Definitions that private contracts and proofs cite; no public contract reaches them.
+pub mod RunAsking
 pub mod Work

@@ -6,6 +6,7 @@ pub mod Request
 pub mod RequestView
 pub mod Refusal
 pub mod Output
+pub mod Asking
 pub mod Run
 pub mod Laws
 pub mod Inside

@@ -1,6 +1,7 @@
 //! What a run writes: the hash, as an encoded text or in hexadecimal.
-ghost use Rattle.std.specs.Prelude.{◌≡◌, ◌+◌, IfOk, IfErr, Ok, length};
+ghost use Rattle.std.specs.Prelude.{◌≡◌, ◌+◌, IfOk, IfErr, OnOk, OnErr, Ok, length};
 ghost use Rattle.argon.specs.Counts.{work};
+ghost use Rattle.argon2_command.specs.Asking.{LacksOne, asking, with_all};
 ghost use Rattle.argon2_command.specs.Output.{admitted_parameters, output_line, parameters_of, tag_line};
 ghost use Rattle.argon2_command.specs.Refusal.{IsEarly};
 ghost use Rattle.argon2_command.specs.RequestView.{request_of};
@@ -72,6 +73,11 @@ pub fn output<R: Room>(
     requires parameters { params.now ≡ parameters_of (request_of request.now) password.now }
     ensures line { IfOk result (λ line.
         line.items ≡ output_line (request_of request.now) password.now params.now) }
+    // Memory is asked for the tag, the line and one matrix, up to the first that is refused.
+    ensures memory_granted { OnOk result (room.new ≡ with_all (asking R.after_zeros R.after_line R.after_matrix)
+        (request_of request.now) params.now room.old) }
+    ensures memory_refused { OnErr result (LacksOne (asking R.after_zeros R.after_line R.after_matrix)
+        (request_of request.now) params.now room.old room.new) }
     // No hash begins before every refusal is ruled out, that of memory too.
     ensures idle { IfErr result (λ _. ticks.new ≡ ticks.old) }
     ensures count { IfOk result (λ _. ticks.new ≡ ticks.old + work params.now) }

@@ -1,6 +1,7 @@
 //! The password: the whole standard input.
-ghost use Rattle.std.specs.Prelude.{◌≡◌, ◌<◌, ◌^◌, ◌⊎◌, ℕ, List, None, Some, Ok, Err, take, length, MatchResult, IfOk, IfErr, IsTrue};
+ghost use Rattle.std.specs.Prelude.{◌≡◌, ◌<◌, ◌^◌, ◌⊎◌, ℕ, List, true, Some, Ok, Err, take, length, MatchResult, IfOk, IfErr, IsTrue};
 ghost use Rattle.host.specs.Faults.{AreBelow};
+ghost use Rattle.host.specs.Grants.{with_secret_asked};
 ghost use Rattle.host.specs.Seen.{after_ask, stdin_once};
 ghost use Rattle.argon2_command.specs.Output.{RefusesInput, password_in};
 ghost use Rattle.argon2_command.specs.Refusal.{IsEarly, counted_by};
@@ -40,13 +41,14 @@ impl Password {
 /// Reads the password. No source was asked before.
 pub fn read_password<H: Host>(host: &mut H) -> Result<Password, Argon2Refusal>
     requires room { AreBelow (2 ^ 63) (H.faults host.old) }
-    requires unasked { IsTrue H.tells → (H.seen host.old).asked ≡ None }
+    requires unasked { (H.grants host.old).secret ≡ true }
     ensures counts { MatchResult result (λ _. H.faults host.new ≡ H.faults host.old)
         (λ r. H.faults host.new ≡ counted_by r (H.faults host.old)) }
     ensures early { IfErr result IsEarly }
     // of every host, also one that tells nothing
     ensures valid { IfOk result (λ p. password_in (Some p) ≡ Ok p) }
     ensures some_input { IfErr result RefusesInput }
+    ensures granted { H.grants host.new ≡ with_secret_asked (H.grants host.old) }
     ensures asks { IsTrue H.tells → H.seen host.new ≡ after_ask stdin_once (H.seen host.old) }
     ensures read { IsTrue H.tells → IfOk result (λ p. password_in (H.seen host.old).stdin ≡ Ok p) }
     ensures refused { IsTrue H.tells →

@@ -1,8 +1,10 @@
 //! Where the memory of a run comes from: the heap, or what a test puts in its place to refuse it.
-ghost use Rattle.std.specs.Prelude.{◌≡◌, Ok, IfOk, length, true};
+ghost use Rattle.std.specs.Prelude.{◌≡◌, ℕ, Bool, Ok, IfOk, is_ok, length, true};
+ghost use Rattle.argon.specs.Argon2.{Parameters};
 ghost use Rattle.argon.specs.Range.{admission};
 ghost use Rattle.argon_text.specs.Value.{is_in_range};
 ghost use Rattle.argon2_command.specs.Output.{tag_line, value_with};
+ghost use Rattle.argon2_command.specs.Request.{Request};
 ghost use Rattle.argon2_command.specs.RequestView.{request_of};
 
 use crate::line::line_of;
@@ -11,25 +13,45 @@ use crate::settings::Settings;
 use argon::{Matrix, Params};
 use std::alloc::{AllocError, Global};
 
-/// The requests for memory of a run. All of them are made before the hash.
+/// The requests for memory of a run, which has no other source. All of them are made before the hash.
+/// Contracts see how many there are, of what, and which of them are granted.
 pub trait Room {
+    // What a request for so many bytes leaves of the source, granted or refused.
+    ghost after_zeros: { Self → ℕ → Bool → Self };
+
+    // The same of the line of a tag of so many bytes.
+    ghost after_line: { Self → Request → ℕ → Bool → Self };
+
+    // The same of the matrix of a hash with these parameters.
+    ghost after_matrix: { Self → Parameters → Bool → Self };
+
     /// So many bytes of zero.
     fn zeros(&mut self, count: usize) -> Result<Vec<u8>, AllocError>
-        ensures size { IfOk result (λ bytes. length bytes.items ≡ count) };
+        ensures size { IfOk result (λ bytes. length bytes.items ≡ count) }
+        ensures asked { self.new ≡ after_zeros self.old count (is_ok result) };
 
     /// The line of a tag.
     fn line(&mut self, request: &Request<'_>, tag: &[u8]) -> Result<Vec<u8>, AllocError>
         requires in_range { is_in_range (value_with (request_of request.now) tag.now) ≡ true }
-        ensures line { IfOk result (λ line. line.items ≡ tag_line (request_of request.now) tag.now) };
+        ensures line { IfOk result (λ line. line.items ≡ tag_line (request_of request.now) tag.now) }
+        ensures asked { self.new
+            ≡ after_line self.old (request_of request.now) (length tag.now) (is_ok result) };
 
     /// The matrix of a hash with these parameters, which the settings' limits admit: so none is asked
     /// for before the limits are tested.
     fn matrix(&mut self, params: &Params, settings: &Settings) -> Result<Matrix, AllocError>
         requires admitted { admission params.now settings.now.max_memory_kib settings.now.max_ops ≡ Ok tt }
-        ensures parameters { IfOk result (λ matrix. matrix.parameters ≡ params.now) };
+        ensures parameters { IfOk result (λ matrix. matrix.parameters ≡ params.now) }
+        ensures asked { self.new ≡ after_matrix self.old params.now (is_ok result) };
 }
 
 impl Room for Global {
+    ghost after_zeros = { λ room _ _. room };
+
+    ghost after_line = { λ room _ _ _. room };
+
+    ghost after_matrix = { λ room _ _. room };
+
     fn zeros(&mut self, count: usize) -> Result<Vec<u8>, AllocError> {
         vec![in *self; 0; count]
     }

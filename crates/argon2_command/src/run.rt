@@ -1,8 +1,11 @@
 //! A whole run of `argon2`.
-ghost use Rattle.std.specs.Prelude.{◌≡◌, ◌≢◌, ◌≤◌, ◌+◌, ◌^◌, Ok, Err, None, MatchResult, IfOk, IfErr, IsErrOf, IsOk, OnOk, IsTrue, map, string_bytes};
+ghost use Rattle.std.specs.Prelude.{◌≡◌, ◌≢◌, ◌≤◌, ◌+◌, ◌^◌, Ok, Err, true, MatchResult, IfOk, IfErr, IsErrOf, IsOk, OnOk, IsTrue, map, string_bytes};
 ghost use Rattle.host.specs.Faults.{AreBelow};
+ghost use Rattle.host.specs.Grants.{GrantsAll, with_secret_asked};
 ghost use Rattle.host.specs.Lines.{SaysOneLine};
 ghost use Rattle.host.specs.Seen.{IsFresh};
+ghost use Rattle.argon2_command.specs.Asking.{asking};
+ghost use Rattle.argon2_command.specs.Inside.RunAsking.{RunGranted, RunRefused};
 ghost use Rattle.argon2_command.specs.Output.{argon2_output};
 ghost use Rattle.argon2_command.specs.Inside.Work.{request_work};
 ghost use Rattle.argon2_command.specs.Refusal.{IsEarly, counted_by, line_of};
@@ -27,9 +30,10 @@ fn prepare<R: Room, H: Host>(
     ticks: &mut Ticks,
 ) -> Result<Vec<u8>, Argon2Refusal>
     requires room { AreBelow (2 ^ 63) (H.faults host.old) }
-    requires unasked { IsTrue H.tells → (H.seen host.old).asked ≡ None }
+    requires unasked { (H.grants host.old).secret ≡ true }
     ensures counts { MatchResult result (λ _. H.faults host.new ≡ H.faults host.old)
         (λ r. H.faults host.new ≡ counted_by r (H.faults host.old)) }
+    ensures granted { OnOk result (H.grants host.new ≡ with_secret_asked (H.grants host.old)) }
     ensures asks { IsTrue H.tells →
         H.seen host.new ≡ password_asked (map string_bytes words.now) (H.seen host.old) }
     ensures words { IfOk result (λ _. IsOk (argon2_request (map string_bytes words.now))) }
@@ -43,6 +47,11 @@ fn prepare<R: Room, H: Host>(
         IsRefused r (map string_bytes words.now) (H.seen host.old) (H.seen host.new)) }
     // Nothing is asked of the source of memory before every other refusal is ruled out.
     ensures unasked_for_memory { IfErr result (λ r. r ≢ Argon2Refusal.OutOfMemory → room.new ≡ room.old) }
+    // Memory is asked for the tag, the line and one matrix, with parameters that the limits admit.
+    ensures memory_granted { OnOk result (RunGranted
+        (asking R.after_zeros R.after_line R.after_matrix) (map string_bytes words.now) room.old room.new) }
+    ensures memory_refused { IfErr result (λ r. r ≡ Argon2Refusal.OutOfMemory → RunRefused
+        (asking R.after_zeros R.after_line R.after_matrix) (map string_bytes words.now) room.old room.new) }
     // No hash begins before every refusal is ruled out, that of memory too.
     ensures idle { IfErr result (λ _. ticks.new ≡ ticks.old) }
     ensures count { IfOk result (λ _. IfOk (argon2_request (map string_bytes words.now))
@@ -65,6 +74,7 @@ pub(super) fn attempt<R: Room, H: Host>(
 ) -> Result<(), Argon2Refusal>
     requires room { AreBelow (2 ^ 63) (H.faults host.old) }
     requires fresh { IsTrue H.tells → IsFresh (H.seen host.old) }
+    requires granted { GrantsAll (H.grants host.old) }
     ensures counts { OnOk result (H.faults host.new ≡ H.faults host.old) }
     ensures counted { IfErr result (λ r. H.faults host.new ≡ counted_by r (H.faults host.old)) }
     ensures words { OnOk result (IsOk (argon2_request (map string_bytes words.now))) }
@@ -78,6 +88,13 @@ pub(super) fn attempt<R: Room, H: Host>(
         IsRefused r (map string_bytes words.now) (H.seen host.old) (H.seen host.new)) }
     // Nothing is asked of the source of memory before every other refusal but the output's is ruled out.
     ensures unasked_for_memory { IfErr result (λ r. IsEarly r → room.new ≡ room.old) }
+    // Memory is asked for the tag, the line and one matrix, with parameters that the limits admit.
+    ensures memory_granted { OnOk result (RunGranted
+        (asking R.after_zeros R.after_line R.after_matrix) (map string_bytes words.now) room.old room.new) }
+    ensures memory_refused { IfErr result (λ r. r ≡ Argon2Refusal.OutOfMemory → RunRefused
+        (asking R.after_zeros R.after_line R.after_matrix) (map string_bytes words.now) room.old room.new) }
+    ensures memory_granted_for_output { IfErr result (λ r. r ≡ Argon2Refusal.OutputFault → RunGranted
+        (asking R.after_zeros R.after_line R.after_matrix) (map string_bytes words.now) room.old room.new) }
     // The output's refusal is the one that comes after the hash, of which nothing is left to be done.
     ensures idle { IfErr result (λ r. r ≢ Argon2Refusal.OutputFault → ticks.new ≡ ticks.old) }
     ensures count { OnOk result (IfOk (argon2_request (map string_bytes words.now))
@@ -87,7 +104,10 @@ pub(super) fn attempt<R: Room, H: Host>(
         (λ request. ticks.new ≡ ticks.old + request_work request)) }
 {
     let line = prepare(room, words, host, ticks)?;
-    write_output(host, &line).map_err(|_| Argon2Refusal::OutputFault)
+    let Ok(()) = write_output(host, &line) else {
+        return Err(Argon2Refusal::OutputFault);
+    };
+    Ok(())
 }
 
 /// Runs `argon2`: hashes the whole standard input under the salt that the first word gives, and
@@ -103,6 +123,7 @@ pub(super) fn attempt<R: Room, H: Host>(
 pub fn argon2<H: Host>(alloc: Global, words: &[String], host: &mut H) -> u8
     requires room { AreBelow (2 ^ 63) (H.faults host.old) }
     requires fresh { IsTrue H.tells → IsFresh (H.seen host.old) }
+    requires granted { GrantsAll (H.grants host.old) }
     ensures status { result ≤ 1 }
     ensures counts { result ≡ 0 → H.faults host.new ≡ H.faults host.old }
     // of every host, also one that tells nothing

@@ -7,9 +7,12 @@ ghost use Rattle.argon_text.specs.Vectors.{known_text, known_value};
 ghost use Rattle.argon2_command.specs.Output.{argon2_output, output_for};
 ghost use Rattle.argon2_command.specs.Request.{argon2_request};
 ghost use Rattle.argon2_command.specs.Settings.{defaults};
-ghost use Rattle.host.specs.Seen.{nothing_seen};
+ghost use Rattle.argon2_command.specs.Refusal.{counted_by, line_of};
+ghost use Rattle.argon2_command.specs.Run.{password_asked};
+ghost use Rattle.host.specs.Faults.{no_faults};
+ghost use Rattle.host.specs.Seen.{nothing_seen, stdin_once};
 ghost use Rattle.argon2_command.specs.declared.items.Form.TheVariants.{Encoded, Hex};
-ghost use Rattle.argon2_command.specs.declared.refusal.Argon2Refusal.TheVariants.{BadNumber, EmptyPassword, LongPassword, MemoryLimit, MissingValue, OneForm, Passes, PasswordFault, SaltLength, UnknownWord, Usage, WorkLimit};
+ghost use Rattle.argon2_command.specs.declared.refusal.Argon2Refusal.TheVariants.{BadNumber, EmptyPassword, Lanes, LongPassword, Memory, MemoryLimit, MissingValue, OneForm, OutOfMemory, OutputFault, Passes, PasswordFault, SaltLength, TagLength, UnknownWord, Usage, WorkLimit};
 ghost use Rattle.argon2_command.specs.declared.settings.Version.TheVariants.{V10, V13};
 
 fn settings_of_two_passes()
@@ -132,4 +135,38 @@ fn first_refusal_of_a_run()
     ensures passes_first { output_for (codes "s" ∷ codes "-t" ∷ codes "0" ∷ codes "-e" ∷ []) (Some (codes "p")) ≡ Err Passes }
     ensures memory_limit { output_for (codes "somesalt" ∷ codes "--maxmem" ∷ codes "4095" ∷ codes "--maxops" ∷ codes "1" ∷ codes "-e" ∷ []) (Some (codes "p")) ≡ Err MemoryLimit }
     ensures work_limit { output_for (codes "somesalt" ∷ codes "--maxmem" ∷ codes "4096" ∷ codes "--maxops" ∷ codes "1" ∷ codes "-e" ∷ []) (Some (codes "p")) ≡ Err WorkLimit }
+{}
+
+// docs/REFUSALS.md, the table of argon2: the line of each.
+fn lines_of_refusals()
+    ensures usage { line_of Usage ≡ codes "argon2: usage: argon2 salt [-i|-d|-id] [-t N] [-m N | -k N] [-p N] [-l N] [-v VERSION] [--maxmem KIB] [--maxops N] (-e|-r)" }
+    ensures unknown_word { line_of UnknownWord ≡ codes "argon2: unknown word" }
+    ensures missing_value { line_of MissingValue ≡ codes "argon2: missing value" }
+    ensures bad_number { line_of BadNumber ≡ codes "argon2: bad number" }
+    ensures one_form { line_of OneForm ≡ codes "argon2: exactly one of -e and -r is needed" }
+    ensures password_fault { line_of PasswordFault ≡ codes "argon2: password cannot be read" }
+    ensures empty_password { line_of EmptyPassword ≡ codes "argon2: password is empty" }
+    ensures long_password { line_of LongPassword ≡ codes "argon2: password is longer than 127 bytes" }
+    ensures passes { line_of Passes ≡ codes "argon2: passes out of range" }
+    ensures lanes { line_of Lanes ≡ codes "argon2: lanes out of range" }
+    ensures memory { line_of Memory ≡ codes "argon2: memory out of range" }
+    ensures tag_length { line_of TagLength ≡ codes "argon2: tag length out of range" }
+    ensures salt_length { line_of SaltLength ≡ codes "argon2: salt length out of range" }
+    ensures memory_limit { line_of MemoryLimit ≡ codes "argon2: more memory needed than --maxmem allows" }
+    ensures work_limit { line_of WorkLimit ≡ codes "argon2: more work needed than --maxops allows" }
+    ensures out_of_memory { line_of OutOfMemory ≡ codes "argon2: out of memory" }
+    ensures output_fault { line_of OutputFault ≡ codes "argon2: output cannot be written" }
+{}
+
+// A failing call of the host raises its own count, and no other refusal raises one.
+fn counts_of_refusals()
+    ensures password { counted_by PasswordFault no_faults ≡ record { input = 0; output = 0; secrets = 1; salt = 0; lines = 0 } }
+    ensures output { counted_by OutputFault no_faults ≡ record { input = 0; output = 1; secrets = 0; salt = 0; lines = 0 } }
+    ensures memory { counted_by OutOfMemory no_faults ≡ no_faults }
+{}
+
+// Standard input is asked for the password where the words are taken, and nothing is where they are refused.
+fn password_by_words()
+    ensures taken { (password_asked (codes "somesalt" ∷ codes "-e" ∷ []) nothing_seen).asked ≡ Some stdin_once }
+    ensures refused { (password_asked (codes "somesalt" ∷ []) nothing_seen).asked ≡ None }
 {}

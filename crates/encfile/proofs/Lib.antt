@@ -3,3 +3,4 @@ pub mod Fronts
 pub mod Headers
 pub mod Pieces
 pub mod Reading
+pub mod KnownFile

@@ -1,12 +1,12 @@
 //! Vectors that the checker computes by the definitions alone.
-ghost use Rattle.std.specs.Prelude.{◌≡◌, ◌^◌, [], ◌∷◌, codes, slice_set, take, Some, None};
+ghost use Rattle.std.specs.Prelude.{◌≡◌, ◌++◌, ◌^◌, [], ◌∷◌, codes, slice_set, take, Some, None};
 ghost use Rattle.std.specs.List.{range_with_len};
-ghost use Rattle.encfile.specs.EncryptedFile.{encrypted_file};
+ghost use Rattle.encfile.specs.EncryptedFile.{encrypted_file, released_text};
 ghost use Rattle.encfile.specs.Front.{format_refusal, front_refusal, limits_refusal};
 ghost use Rattle.encfile.specs.Front.FrontRefusal.{KeepAboveN, NotScryptData, WrongPassphrase, UnsupportedVersion, TooMuchMemory, TooMuchWork};
 ghost use Rattle.encfile.specs.Header.{costs_of, header, salt_of};
 ghost use Rattle.encfile.specs.HeaderFaults.{header_fault};
-ghost use Rattle.encfile.specs.Vectors.{allowance, front_of_costs, front_of_hello};
+ghost use Rattle.encfile.specs.Vectors.{allowance, front_of_costs, front_of_hello, rest_of_hello};
 ghost use Rattle.encfile.specs.declared.fault.HeaderFault.TheVariants.{Checksum, CostsOutOfRange, Magic, Version};
 
 // The file of `hello` with log2 N 4, r 1, p 1, the passphrase `pw` and the salt 00 01 .. 1f, as
@@ -65,6 +65,12 @@ fn passphrases_of_hello()
     ensures own { front_refusal front_of_hello (allowance 1 2048 64) (codes "pw") ≡ None }
     ensures other { front_refusal front_of_hello (allowance 1 2048 64) (codes "pv") ≡ Some WrongPassphrase }
     ensures limits_first { front_refusal front_of_hello (allowance 1 2047 64) (codes "pv") ≡ Some TooMuchMemory }
+{}
+
+// The text of the same file, and of its first 96 bytes alone.
+fn text_of_hello()
+    ensures text { released_text (front_of_hello ++ rest_of_hello) (codes "pw") ≡ codes "hello" }
+    ensures cut_off { released_text front_of_hello (codes "pw") ≡ [] }
 {}
 
 // A header whose numbers have different bytes, as Python's struct and hashlib give it, and what it says.

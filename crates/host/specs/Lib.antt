@@ -2,8 +2,10 @@
 pub mod Seen
 pub mod Asked
 pub mod Faults
+pub mod Grants
 pub mod Secret
 pub mod Lines
 pub mod Output
 pub mod Memory
+pub mod Vectors
 pub mod Inside

@@ -1,8 +1,9 @@
 -- What contracts see of a host in memory.
-use Rattle.std.specs.Prelude.{Bool, false, ℕ, ◌-◌, ◌^◌, List, [], ◌∷◌, Option, Some, None, option_map, bytes_eq}
+use Rattle.std.specs.Prelude.{Bool, false, not, ℕ, ◌-◌, ◌^◌, List, [], ◌∷◌, Option, Some, None, is_none, is_some, option_map, bytes_eq}
 use Rattle.std.specs.List.{find}
 use Rattle.host.specs.Seen.{SecretSource, Seen, Text}
 use Rattle.host.specs.Faults.{Faults, no_faults}
+use Rattle.host.specs.Grants.{Grants}
 
 -- a secret under a name
 pub record Entry : Type 0 where
@@ -13,7 +14,7 @@ pub record Entry : Type 0 where
 abbrev pub lookup : List Entry → Text → Option (List ℕ)
 lookup entries name = option_map (λ e. e.bytes) (find (λ e. bytes_eq e.name name) entries)
 
--- a host in memory: what it tells, its counts of failures, the greatest sizes of a pull and of a push in bytes, the
+-- a host in memory: what it tells, whether its input may be pulled from, its counts of failures, the greatest sizes of a pull and of a push in bytes, the
 -- number of the call that is to fail (0: none), and how many calls there were
 pub record Memory : Type 0 where
   pub input : List ℕ
@@ -23,6 +24,7 @@ pub record Memory : Type 0 where
   pub output_asked : Option (Option Text)
   pub asked : Option SecretSource
   pub salted : Bool
+  pub readable : Bool
   pub said : List Text
   pub stdin : List ℕ
   pub variables : List Entry
@@ -44,6 +46,7 @@ new_memory input stdin salt = record {
   output_asked = None;
   asked = None;
   salted = false;
+  readable = false;
   said = [];
   stdin = stdin;
   variables = [];
@@ -71,6 +74,17 @@ memory_seen m = record {
   variables = lookup m.variables;
   files = lookup m.files;
   salt = m.salt;
+}
+
+-- the calls that it grants
+abbrev pub memory_grants : Memory → Grants
+memory_grants m = record {
+  input = is_none m.input_opened;
+  readable = m.readable;
+  output = is_none m.output_asked;
+  writable = is_some m.output_opened;
+  secret = is_none m.asked;
+  salt = not m.salted;
 }
 
 -- its counts of failures

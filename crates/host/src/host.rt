@@ -1,6 +1,7 @@
 //! What a command asks of the world.
-ghost use Rattle.std.specs.Prelude.{◌≡◌, ◌-◌, ◌<◌, ◌≤◌, ◌^◌, Bool, false, [], None, take, length, option_map, IfOk, OnOk, OnErr, IsTrue};
+ghost use Rattle.std.specs.Prelude.{◌≡◌, ◌-◌, ◌<◌, ◌≤◌, ◌^◌, Bool, true, [], take, length, option_map, IfOk, OnOk, OnErr, IsTrue};
 ghost use Rattle.host.specs.Faults.{Faults, AreBelow, input_failed, output_failed, secret_failed, salt_failed, line_failed};
+ghost use Rattle.host.specs.Grants.{Grants, with_input_opened, with_output_asked, with_output_opened, with_salt_asked, with_secret_asked};
 ghost use Rattle.host.specs.Secret.{secret_of, source_of, IsBeginning};
 ghost use Rattle.host.specs.Seen.{Seen, after_ask, after_pull, after_push, after_salt, after_say, after_ask_output, after_open_input, after_open_output};
 
@@ -25,16 +26,18 @@ pub enum Source<'a> {
 
 /// The world outside, as a command sees it.
 ///
-/// Contracts see whether the host tells its bytes (`tells`), its bytes, names and lines (`seen`), and
-/// how often its calls have failed (`faults`). A call that answers `Ok` changes no count, and of
-/// `seen` only what its clauses say; a call that answers `Err` raises its count by one and changes
-/// nothing else, but that an output, a secret source or a salt was asked for. What is said of bytes,
-/// names and lines holds of a host that tells them; the counts and the bounds on lengths hold of every
-/// host.
+/// Contracts see whether the host tells its bytes (`tells`), its bytes, names and lines (`seen`),
+/// how often its calls have failed (`faults`), and which calls it grants (`grants`). A call that answers
+/// `Ok` changes no count, and of `seen` only what its clauses say; a call that answers `Err` raises its
+/// count by one and changes nothing else, but that an output, a secret source or a salt was asked for.
+/// What is said of bytes, names and lines holds of a host that tells them; the counts, the bounds on
+/// lengths and what is granted hold of every host.
 ///
 /// An input is opened once: opened again, a file would be read from its beginning, and contracts would
-/// not see it. One output is asked for, once: a file that is made or emptied stays so, also where it is
-/// not taken, so contracts see its name whatever the answer. One secret source is asked,
+/// not see it. It is pulled from only once it is opened, and not after a pull that gave no byte: past its
+/// end a terminal, a pipe or a file that grows may give more. One output is asked for, once: a file that is
+/// made or emptied stays so, also where it is not taken, so contracts see its name whatever the answer. It
+/// is pushed to only once it is opened, and not after a push that failed. One secret source is asked,
 /// once: asked again, standard input would be at its end, or wait for more. A salt is asked for once:
 /// asked for again, another would come, and a command could take the one that it likes.
 pub trait Host {
@@ -47,32 +50,40 @@ pub trait Host {
     // How often each kind of call has failed.
     ghost faults: { Self → Faults };
 
+    // The calls that are granted.
+    ghost grants: { Self → Grants };
+
     /// Opens the input under this name, once; `None` is standard input.
     fn open_input(&mut self, name: Option<&str>) -> Result<(), HostFault>
         requires room { AreBelow (2 ^ 64 - 1) (faults self.old) }
-        requires unopened { IsTrue tells → (seen self.old).input_opened ≡ None }
+        requires unopened { (grants self.old).input ≡ true }
         ensures counts { OnOk result (faults self.new ≡ faults self.old) }
         ensures counted { OnErr result (faults self.new ≡ input_failed (faults self.old)) }
         ensures kept { IsTrue tells → OnErr result (seen self.new ≡ seen self.old) }
         ensures opened { IsTrue tells → OnOk result
-            (seen self.new ≡ after_open_input (option_map (λ n. n.now) name.entry) (seen self.old)) };
+            (seen self.new ≡ after_open_input (option_map (λ n. n.now) name.entry) (seen self.old)) }
+        ensures granted { OnOk result (grants self.new ≡ with_input_opened (grants self.old)) }
+        ensures granted_as_before { OnErr result (grants self.new ≡ grants self.old) };
 
     /// Opens the output under this name; `None` is standard output. No output was asked for before;
     /// this one is asked for, whatever the answer.
     fn open_output(&mut self, name: Option<&str>) -> Result<(), HostFault>
         requires room { AreBelow (2 ^ 64 - 1) (faults self.old) }
-        requires unasked { IsTrue tells → (seen self.old).output_asked ≡ None }
+        requires unasked { (grants self.old).output ≡ true }
         ensures counts { OnOk result (faults self.new ≡ faults self.old) }
         ensures counted { OnErr result (faults self.new ≡ output_failed (faults self.old)) }
         ensures asks { IsTrue tells → OnErr result
             (seen self.new ≡ after_ask_output (option_map (λ n. n.now) name.entry) (seen self.old)) }
         ensures opened { IsTrue tells → OnOk result
-            (seen self.new ≡ after_open_output (option_map (λ n. n.now) name.entry) (seen self.old)) };
+            (seen self.new ≡ after_open_output (option_map (λ n. n.now) name.entry) (seen self.old)) }
+        ensures granted { OnOk result (grants self.new ≡ with_output_opened (grants self.old)) }
+        ensures granted_no_other { OnErr result (grants self.new ≡ with_output_asked (grants self.old)) };
 
     /// Puts the next bytes of the input into the buffer, and says how many: 0 only at the end of the
-    /// input, or into a buffer without room.
+    /// input, or into a buffer without room. The input is opened, and each pull before gave a byte.
     fn pull(&mut self, buf: &mut [u8]) -> Result<usize, HostFault>
         requires room { AreBelow (2 ^ 64 - 1) (faults self.old) }
+        requires readable { (grants self.old).readable ≡ true }
         ensures bound { IfOk result (λ n. n ≤ length buf.old) }
         ensures counts { OnOk result (faults self.new ≡ faults self.old) }
         ensures counted { OnErr result (faults self.new ≡ input_failed (faults self.old)) }
@@ -83,41 +94,48 @@ pub trait Host {
         ensures taken { IsTrue tells →
             IfOk result (λ n. seen self.new ≡ after_pull n (seen self.old)) }
         ensures some { IsTrue tells → IfOk result (λ n.
-            0 < length buf.old → n ≡ 0 → (seen self.old).input ≡ []) };
+            0 < length buf.old → n ≡ 0 → (seen self.old).input ≡ []) }
+        ensures granted { IfOk result (λ n. 0 < n → grants self.new ≡ grants self.old) }
+        ensures still_writable { OnOk result ((grants self.new).writable ≡ (grants self.old).writable) };
 
-    /// Writes a beginning of the bytes, of at least one where there is one, and says how many.
+    /// Writes a beginning of the bytes, of at least one where there is one, and says how many. The output
+    /// is opened, and no push before has failed.
     fn push(&mut self, bytes: &[u8]) -> Result<usize, HostFault>
         requires room { AreBelow (2 ^ 64 - 1) (faults self.old) }
+        requires writable { (grants self.old).writable ≡ true }
         ensures bound { IfOk result (λ n. n ≤ length bytes.now) }
         ensures some { IfOk result (λ n. 0 < length bytes.now → 0 < n) }
         ensures counts { OnOk result (faults self.new ≡ faults self.old) }
         ensures counted { OnErr result (faults self.new ≡ output_failed (faults self.old)) }
         ensures kept { IsTrue tells → OnErr result (seen self.new ≡ seen self.old) }
         ensures put { IsTrue tells →
-            IfOk result (λ n. seen self.new ≡ after_push (take n bytes.now) (seen self.old)) };
+            IfOk result (λ n. seen self.new ≡ after_push (take n bytes.now) (seen self.old)) }
+        ensures granted { OnOk result (grants self.new ≡ grants self.old) };
 
     /// Puts the first bytes of a secret source into the buffer, as many as there are and as fit, and
     /// says how many. No source was asked before; this one is asked, whatever the answer.
     fn secret(&mut self, source: Source<'_>, buf: &mut [u8]) -> Result<usize, HostFault>
         requires room { AreBelow (2 ^ 64 - 1) (faults self.old) }
-        requires unasked { IsTrue tells → (seen self.old).asked ≡ None }
+        requires unasked { (grants self.old).secret ≡ true }
         ensures bound { IfOk result (λ n. n ≤ length buf.old) }
         ensures counts { OnOk result (faults self.new ≡ faults self.old) }
         ensures counted { OnErr result (faults self.new ≡ secret_failed (faults self.old)) }
         ensures asks { IsTrue tells →
             seen self.new ≡ after_ask (source_of source.entry) (seen self.old) }
         ensures bytes { IsTrue tells →
-            IfOk result (λ n. IsBeginning (secret_of source.entry (seen self.old)) n buf.new) };
+            IfOk result (λ n. IsBeginning (secret_of source.entry (seen self.old)) n buf.new) }
+        ensures granted { grants self.new ≡ with_secret_asked (grants self.old) };
 
     /// Fills the buffer with the salt of a new file. No salt was asked for before; now one was,
     /// whatever the answer.
     fn salt(&mut self, out: &mut [u8; 32]) -> Result<(), HostFault>
         requires room { AreBelow (2 ^ 64 - 1) (faults self.old) }
-        requires unsalted { IsTrue tells → (seen self.old).salted ≡ false }
+        requires unsalted { (grants self.old).salt ≡ true }
         ensures counts { OnOk result (faults self.new ≡ faults self.old) }
         ensures counted { OnErr result (faults self.new ≡ salt_failed (faults self.old)) }
         ensures salts { IsTrue tells → seen self.new ≡ after_salt (seen self.old) }
-        ensures bytes { IsTrue tells → OnOk result (out.new ≡ (seen self.old).salt) };
+        ensures bytes { IsTrue tells → OnOk result (out.new ≡ (seen self.old).salt) }
+        ensures granted { grants self.new ≡ with_salt_asked (grants self.old) };
 
     /// Says a line, which comes without a line feed.
     fn say(&mut self, line: &str) -> Result<(), HostFault>
@@ -126,5 +144,6 @@ pub trait Host {
         ensures counted { OnErr result (faults self.new ≡ line_failed (faults self.old)) }
         ensures kept { IsTrue tells → OnErr result (seen self.new ≡ seen self.old) }
         ensures said { IsTrue tells →
-            OnOk result (seen self.new ≡ after_say line.now (seen self.old)) };
+            OnOk result (seen self.new ≡ after_say line.now (seen self.old)) }
+        ensures granted { grants self.new ≡ grants self.old };
 }

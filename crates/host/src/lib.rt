@@ -20,6 +20,8 @@ mod growth;
 mod host;
 mod memory;
 mod named_secret;
+#[cfg(test)]
+mod vectors;
 mod writing;
 
 pub use asked::{Asked, Name};

@@ -2,7 +2,8 @@
 ghost use Rattle.std.specs.Prelude.{◌≡◌, ◌-◌, ◌+◌, ◌^◌, ◌<◌, ◌≤◌, ◌==◌, ℕ, true, None, List, take, drop, length, min, map, option_map, Some, IfOk, OnOk, OnErr, string_bytes, bytes_eq, if◌then◌else◌};
 ghost use Rattle.host.specs.Asked.{asked_source, name_bytes};
 ghost use Rattle.host.specs.Faults.{AreBelow, input_failed, line_failed, output_failed};
-ghost use Rattle.host.specs.Memory.{Memory, lookup, memory_seen, memory_faults, new_memory, with_variable, with_file};
+ghost use Rattle.host.specs.Grants.{with_input_opened, with_output_asked, with_output_opened};
+ghost use Rattle.host.specs.Memory.{Memory, lookup, memory_seen, memory_faults, memory_grants, new_memory, with_variable, with_file};
 ghost use Rattle.host.specs.Inside.Calls.{next_call};
 ghost use Rattle.host.specs.Secret.{secret_of};
 ghost use Rattle.host.specs.Seen.{after_ask_output, after_open_input, after_open_output, after_push, after_say};
@@ -31,6 +32,7 @@ pub struct MemoryHost {
     output_asked: Option<Option<Name>>,
     asked: Option<Asked>,
     salted: bool,
+    readable: bool,
     lines: Vec<String>,
     stdin: Vec<u8>,
     variables: Vec<NamedSecret>,
@@ -58,6 +60,7 @@ impl Model for MemoryHost {
       output_asked = option_map (option_map name_bytes) h.output_asked;
       asked = option_map asked_source h.asked;
       salted = h.salted;
+      readable = h.readable;
       said = map string_bytes h.lines.items;
       stdin = h.stdin.items;
       variables = h.variables.items;
@@ -97,6 +100,7 @@ impl MemoryHost {
             output_asked: None,
             asked: None,
             salted: false,
+            readable: false,
             lines: Vec::new(alloc),
             stdin,
             variables: Vec::new(alloc),
@@ -219,11 +223,14 @@ impl MemoryHost {
         ensures kept { OnErr result (memory_seen self.new ≡ memory_seen self.old) }
         ensures opened { OnOk result (memory_seen self.new
             ≡ after_open_input (option_map (λ n. n.now) name.entry) (memory_seen self.old)) }
+        ensures granted { OnOk result (memory_grants self.new ≡ with_input_opened (memory_grants self.old)) }
+        ensures granted_as_before { OnErr result (memory_grants self.new ≡ memory_grants self.old) }
     {
         if !self.is_failing()
             && let Ok(kept) = keep_name(growth, name)
         {
             self.input_name = Some(kept);
+            self.readable = true;
             return Ok(());
         }
         self.input_faults += 1;
@@ -243,6 +250,8 @@ impl MemoryHost {
             ≡ after_ask_output (option_map (λ n. n.now) name.entry) (memory_seen self.old)) }
         ensures opened { OnOk result (memory_seen self.new
             ≡ after_open_output (option_map (λ n. n.now) name.entry) (memory_seen self.old)) }
+        ensures granted { OnOk result (memory_grants self.new ≡ with_output_opened (memory_grants self.old)) }
+        ensures granted_no_other { OnErr result (memory_grants self.new ≡ with_output_asked (memory_grants self.old)) }
     {
         self.output_asked = Some(name_asked(name));
         if !self.is_failing()
@@ -265,6 +274,7 @@ impl MemoryHost {
         ensures kept { OnErr result (memory_seen self.new ≡ memory_seen self.old) }
         ensures put { IfOk result (λ n. memory_seen self.new
             ≡ after_push (take n bytes.now) (memory_seen self.old)) }
+        ensures granted { memory_grants self.new ≡ memory_grants self.old }
     {
         let n = bytes.len().min(self.push_size);
         if self.is_failing() || growth.append(&mut self.output, &bytes[..n]).is_err() {
@@ -281,6 +291,7 @@ impl MemoryHost {
         ensures counted { OnErr result (memory_faults self.new ≡ line_failed (memory_faults self.old)) }
         ensures kept { OnErr result (memory_seen self.new ≡ memory_seen self.old) }
         ensures said { OnOk result (memory_seen self.new ≡ after_say line.now (memory_seen self.old)) }
+        ensures granted { memory_grants self.new ≡ memory_grants self.old }
     {
         if !self.is_failing()
             && let Ok(kept) = growth.copy_of(line)
@@ -344,6 +355,8 @@ impl Host for MemoryHost {
 
     ghost faults = { memory_faults };
 
+    ghost grants = { memory_grants };
+
     fn open_input(&mut self, name: Option<&str>) -> Result<(), HostFault> {
         let mut growth = self.alloc;
         self.open_input_with(&mut growth, name)
@@ -357,11 +370,13 @@ impl Host for MemoryHost {
     fn pull(&mut self, buf: &mut [u8]) -> Result<usize, HostFault> {
         if self.is_failing() {
             self.input_faults += 1;
+            self.readable = false;
             return Err(HostFault);
         }
         let most = buf.len().min(self.pull_size);
         let n = fill(&self.input[self.taken..], &mut buf[..most]);
         self.taken += n;
+        self.readable = n > 0;
         Ok(n)
     }
 
@@ -486,25 +501,32 @@ mod tests {
         Ok(())
     }
 
-    // What a pull of at most so many bytes puts into a buffer.
+    // How many bytes a pull of at most so many puts into a buffer, where it is some.
     fn pulled(host: &mut MemoryHost, most: usize, buf: &mut [u8; 4]) -> Result<usize, HostFault>
         requires some { 0 < most }
         requires room { AreBelow (2 ^ 63) (memory_faults host.old) }
+        requires readable { host.old.readable ≡ true }
         ensures faults { OnOk result (memory_faults host.new ≡ memory_faults host.old) }
+        ensures readable { OnOk result (host.new.readable ≡ true) }
     {
         host.set_sizes(most, 1);
-        host.pull(buf)
+        let n = host.pull(buf)?;
+        if n == 0 {
+            return Err(HostFault);
+        }
+        Ok(n)
     }
 
-    // What four pulls give, and the buffer after each.
+    // What four pulls give, of which the first three give some bytes, and the buffer after each.
     fn pulls(alloc: Global) -> Result<[(usize, [u8; 4]); 4], Fail> {
         let input = b"the input".to_vec(alloc)?;
         let mut host = MemoryHost::new(alloc, input, Vec::new(alloc), [7; 32]);
+        host.open_input(None)?;
         let mut buf = [0u8; 4];
         let first = (pulled(&mut host, 3, &mut buf)?, buf);
         let second = (pulled(&mut host, 9, &mut buf)?, buf);
         let third = (pulled(&mut host, 9, &mut buf)?, buf);
-        let last = (pulled(&mut host, 9, &mut buf)?, buf);
+        let last = (host.pull(&mut buf)?, buf);
         Ok([first, second, third, last])
     }
 
@@ -538,17 +560,17 @@ mod tests {
         host.open_input(Some("in")).is_err() && host.input_name().is_none()
     }
 
-    // Whether an input of two bytes has its name, and is given after a pull that fails.
-    fn is_given_later(host: &mut MemoryHost) -> bool
+    // Whether an input has its name, and is all left after a pull that fails.
+    fn is_left_whole(host: &mut MemoryHost) -> bool
         requires room { AreBelow (2 ^ 63 + 1) (memory_faults host.old) }
+        requires readable { host.old.readable ≡ true }
     {
         let mut buf = [0u8; 4];
         host.fail_at(3);
         host.input_name() == Some(Some("in"))
             && host.pull(&mut buf) == Err(HostFault)
-            && host.pull(&mut buf) == Ok(2)
-            && buf == *b"in\0\0"
-            && host.pull(&mut buf) == Ok(0)
+            && buf == [0; 4]
+            && host.taken == 0
     }
 
     #[test]
@@ -557,29 +579,24 @@ mod tests {
         let mut host = MemoryHost::new(alloc, b"in".to_vec(alloc)?, Vec::new(alloc), [7; 32]);
         assert!(rt; is_refused(&mut host));
         host.open_input(Some("in"))?;
-        assert!(rt; is_given_later(&mut host));
+        assert!(rt; is_left_whole(&mut host));
         Ok(())
     }
 
-    // What four calls answer.
-    type Answers = (
-        Result<(), HostFault>,
-        Result<usize, HostFault>,
-        Result<usize, HostFault>,
-        Result<(), HostFault>,
-    );
+    // What two pushes and a line answer.
+    type Answers = (usize, Result<usize, HostFault>, Result<(), HostFault>);
 
     // Calls of a host, of which the third fails.
-    fn answers(host: &mut MemoryHost) -> Answers
+    fn answers(host: &mut MemoryHost) -> Result<Answers, HostFault>
         requires room { AreBelow (2 ^ 63) (memory_faults host.old) }
         requires unasked { host.old.output_asked ≡ None }
     {
         host.set_sizes(1, 2);
         host.fail_at(3);
-        let opened = host.open_output(Some("out"));
-        let first = host.push(b"abc");
+        host.open_output(Some("out"))?;
+        let first = host.push(b"abc")?;
         let second = host.push(b"c");
-        (opened, first, second, host.say("told"))
+        Ok((first, second, host.say("told")))
     }
 
     // Whether a host has what they leave.
@@ -594,7 +611,7 @@ mod tests {
     fn fails_at_the_call_named(rt: HostRuntime) -> Result<(), Fail> {
         let alloc = rt.alloc();
         let mut host = MemoryHost::new(alloc, Vec::new(alloc), Vec::new(alloc), [7; 32]);
-        assert_eq!(rt; answers(&mut host), (Ok(()), Ok(2), Err(HostFault), Ok(())));
+        assert_eq!(rt; answers(&mut host), Ok((2, Err(HostFault), Ok(()))));
         assert!(rt; is_left(&host));
         Ok(())
     }

@@ -1,5 +1,5 @@
 //! Bytes and lines to a host.
-ghost use Rattle.std.specs.Prelude.{◌≡◌, ◌-◌, ◌<◌, ◌^◌, ◌⊎◌, ℕ, None, take, length, OnOk, OnErr, IsTrue};
+ghost use Rattle.std.specs.Prelude.{◌≡◌, ◌-◌, ◌<◌, ◌^◌, ◌⊎◌, ℕ, true, None, take, length, OnOk, OnErr, IsTrue};
 ghost use Rattle.host.specs.Faults.{AreBelow, output_failed};
 ghost use Rattle.host.specs.Lines.{SaysOneLine};
 ghost use Rattle.host.specs.Output.{IsCutShort, after_writing};
@@ -10,8 +10,10 @@ use crate::host::{Host, HostFault};
 /// Writes all of the bytes. After a fault a beginning of them has been written, not the whole.
 pub fn push_all<H: Host>(host: &mut H, bytes: &[u8]) -> Result<(), HostFault>
     requires room { AreBelow (2 ^ 64 - 1) (H.faults host.old) }
+    requires writable { (H.grants host.old).writable ≡ true }
     ensures counts { OnOk result (H.faults host.new ≡ H.faults host.old) }
     ensures counted { OnErr result (H.faults host.new ≡ output_failed (H.faults host.old)) }
+    ensures granted { OnOk result (H.grants host.new ≡ H.grants host.old) }
     ensures put { IsTrue H.tells →
         OnOk result (H.seen host.new ≡ after_push bytes.now (H.seen host.old)) }
     ensures begun { IsTrue H.tells → OnErr result ((n : ℕ) × (n < length bytes.now)
@@ -28,7 +30,7 @@ pub fn push_all<H: Host>(host: &mut H, bytes: &[u8]) -> Result<(), HostFault>
 /// of them has been written, not the whole.
 pub fn write_output<H: Host>(host: &mut H, bytes: &[u8]) -> Result<(), HostFault>
     requires room { AreBelow (2 ^ 64 - 1) (H.faults host.old) }
-    requires unasked { IsTrue H.tells → (H.seen host.old).output_asked ≡ None }
+    requires unasked { (H.grants host.old).output ≡ true }
     ensures counts { OnOk result (H.faults host.new ≡ H.faults host.old) }
     ensures counted { OnErr result (H.faults host.new ≡ output_failed (H.faults host.old)) }
     ensures written { IsTrue H.tells →

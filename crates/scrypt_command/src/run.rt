@@ -1,6 +1,7 @@
 //! A whole run of `scrypt`.
 ghost use Rattle.std.specs.Prelude.{◌≡◌, ◌≤◌, ◌+◌, ◌^◌, false, Err, MatchResult, IfOk, IfErr, IsOk, OnOk, IsTrue, map, string_bytes};
 ghost use Rattle.host.specs.Faults.{AreBelow};
+ghost use Rattle.host.specs.Grants.{GrantsAll};
 ghost use Rattle.host.specs.Seen.{IsFresh};
 ghost use Rattle.scrypt_run.specs.Refusal.{counted_by, may_follow_work};
 ghost use Rattle.scrypt_run.specs.Run.{most_cores};
@@ -24,6 +25,7 @@ fn attempt<H: Host>(
 ) -> Result<(), ScryptRefusal>
     requires room { AreBelow (2 ^ 63) (H.faults host.old) }
     requires fresh { IsTrue H.tells → IsFresh (H.seen host.old) }
+    requires granted { GrantsAll (H.grants host.old) }
     ensures counts { MatchResult result (λ _. H.faults host.new ≡ H.faults host.old)
         (λ r. H.faults host.new ≡ counted_by r (H.faults host.old)) }
     ensures words { OnOk result (IsOk (scrypt_request (map string_bytes words.now))) }
@@ -48,8 +50,9 @@ fn attempt<H: Host>(
     ensures unworked { IsTrue H.tells → IfErr result (λ r.
         (EndsAfterWork r (H.seen host.new) → ⊥) → ticks.new ≡ ticks.old) }
 {
+    let mut room = alloc;
     match read_request(alloc, words) {
-        Ok(request) => run(alloc, host, &request, ticks),
+        Ok(request) => run(&mut room, host, &request, ticks),
         Err(refusal) => Err(refusal),
     }
 }
@@ -65,6 +68,7 @@ fn attempt<H: Host>(
 pub fn scrypt<H: Host>(alloc: Global, words: &[String], host: &mut H) -> u8
     requires room { AreBelow (2 ^ 63) (H.faults host.old) }
     requires fresh { IsTrue H.tells → IsFresh (H.seen host.old) }
+    requires granted { GrantsAll (H.grants host.old) }
     ensures status { result ≤ 1 }
     ensures counts { result ≡ 0 → H.faults host.new ≡ H.faults host.old }
     // of every host, also one that tells nothing

@@ -1,4 +1,3 @@
 -- Definitions that private contracts and proofs cite; no public contract reaches them.
-pub mod Admission
 pub mod Decrypting
 pub mod Encrypting

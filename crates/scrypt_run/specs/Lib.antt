@@ -1,6 +1,7 @@
 -- What a run of scrypt comes to.
 pub mod Refusal
 pub mod Request
+pub mod Admission
 pub mod Steps
 pub mod Front
 pub mod Passphrase
@@ -9,6 +10,8 @@ pub mod Encrypting
 pub mod Decrypting
 pub mod Inspecting
 pub mod Work
+pub mod Asking
 pub mod Run
 pub mod Laws
+pub mod Vectors
 pub mod Inside

@@ -36,6 +36,11 @@ follows_work refusal.OutputFault = true
 follows_work refusal.TooLong = true
 follows_work r = false
 
+-- whether the refusal tells want of memory
+abbrev pub is_want : ScryptRefusal → Bool
+is_want refusal.OutOfMemory = true
+is_want r = false
+
 -- the refusal of a file's first 96 bytes
 abbrev pub refusal_of : FrontRefusal → ScryptRefusal
 refusal_of NotScryptData = refusal.NotScryptData

@@ -1,15 +1,14 @@
-//! The costs of a derivation, held against what a run allows, and the memory that they take.
-ghost use Rattle.std.specs.Prelude.{◌≡◌, ◌≤◌, ◌^◌, Some, None, true, false, option_map, IfOk, IfErr, OnOk};
-ghost use Rattle.romix.specs.SparseCosts.{cores_bound, is_keep};
+//! The costs of a derivation, held against what a run allows.
+ghost use Rattle.std.specs.Prelude.{◌≡◌, Some, None, true, false, option_map, IfOk, IfErr, OnOk};
+ghost use Rattle.romix.specs.SparseCosts.{is_keep};
 ghost use Rattle.encfile.specs.Front.{costs_refusal};
-ghost use Rattle.scrypt_run.specs.Refusal.{RaisesNoCount, follows_work, refusal_of};
+ghost use Rattle.scrypt_run.specs.Refusal.{RaisesNoCount, follows_work, is_want, refusal_of};
 ghost use Rattle.scrypt_run.specs.Request.{allowance_of, task_seen};
-ghost use Rattle.scrypt_run.specs.Inside.Admission.{IsAdmitted};
+ghost use Rattle.scrypt_run.specs.Admission.{IsAdmitted};
 
 use crate::refusal::ScryptRefusal;
 use crate::request::Task;
-use romix::{CostFault, Costs, Limits, Sparse, Workspace};
-use std::alloc::{AllocError, Global};
+use romix::{CostFault, Costs, Sparse};
 
 /// The costs over a table of which every S-th row is kept, if S is at most N and the limits admit
 /// them; or the first refusal that holds.
@@ -24,6 +23,7 @@ pub(crate) fn admit(costs: &Costs, task: &Task<'_>) -> Result<Sparse, ScryptRefu
         (costs_refusal costs.now (allowance_of (task_seen task.now))) ≡ Some r) }
     ensures uncounted { IfErr result (λ r. RaisesNoCount r) }
     ensures early { IfErr result (λ r. follows_work r ≡ false) }
+    ensures no_want { IfErr result (λ r. is_want r ≡ false) }
 {
     let sparse = match Sparse::new(costs, task.keep) {
         Ok(sparse) => sparse,
@@ -36,19 +36,4 @@ pub(crate) fn admit(costs: &Costs, task: &Task<'_>) -> Result<Sparse, ScryptRefu
         Err(CostFault::Work) => Err(ScryptRefusal::WorkLimit),
         Err(_) => unreachable!(),
     }
-}
-
-/// Takes the memory of a derivation of costs that the limits of the request admit: here and nowhere
-/// else, so never before the limits were tested.
-pub(crate) fn reserve(
-    alloc: Global,
-    sparse: &Sparse,
-    limits: &Limits,
-) -> Result<Workspace, AllocError>
-    requires allowed { limits.now.max_bytes ≤ 2 ^ 40 }
-    requires admitted { IsAdmitted sparse.now limits.now }
-    ensures same { IfOk result (λ w. w.sparse ≡ sparse.now) }
-    ensures work { IfOk result (λ w. cores_bound w.sparse ≤ limits.now.max_ops) }
-{
-    Workspace::reserve(alloc, sparse)
 }

@@ -1,5 +1,5 @@
 //! `scrypt dec`: the text of an encrypted file.
-ghost use Rattle.std.specs.Prelude.{◌≡◌, ◌+◌, ◌≤◌, ◌^◌, true, false, ℕ, List, ◌++◌, None, take, length, MatchResult, IfOk, IfErr, OnOk, IsTrue};
+ghost use Rattle.std.specs.Prelude.{◌≡◌, ◌+◌, ◌≤◌, ◌^◌, true, false, ℕ, List, ◌++◌, take, length, MatchResult, IfOk, IfErr, OnOk, IsTrue};
 ghost use Rattle.romix.specs.Allowance.{with_keep_of};
 ghost use Rattle.romix.specs.Costs.{cores};
 ghost use Rattle.encfile.specs.Decrypting.{HasRead};
@@ -7,32 +7,33 @@ ghost use Rattle.encfile.specs.Inside.Lengths.{length_read};
 ghost use Rattle.encfile.specs.EncryptedFile.{HasRightHeaderCode};
 ghost use Rattle.encfile.specs.Header.{IsHeaderOf, costs_of};
 ghost use Rattle.host.specs.Faults.{AreBelow};
+ghost use Rattle.host.specs.Grants.{GrantsAll, with_secret_asked};
 ghost use Rattle.host.specs.Secret.{source_of};
 ghost use Rattle.host.specs.Seen.{IsFresh, after_ask};
+ghost use Rattle.scrypt_run.specs.Asking.{EndsAsking, EndsAskingFor, WasGranted, asks_workspace};
 ghost use Rattle.scrypt_run.specs.Decrypting.{DecryptRefused, DecryptSucceeds, Decrypted, text_after};
 ghost use Rattle.scrypt_run.specs.Passphrase.{HasPassphrase, first_line_at};
 ghost use Rattle.scrypt_run.specs.Refusal.{counted_by, follows_work, may_follow_work};
 ghost use Rattle.scrypt_run.specs.Request.{HasAllowedLimits, allowance_of, task_seen, text_of};
-ghost use Rattle.scrypt_run.specs.Inside.Admission.{IsAdmitted};
+ghost use Rattle.scrypt_run.specs.Admission.{IsAdmitted};
 ghost use Rattle.scrypt_run.specs.Inside.Decrypting.{OpenRefused, ReleaseRefused};
 ghost use Rattle.scrypt_run.specs.Steps.{after_passing};
 ghost use Rattle.scrypt_run.specs.Text.{EndsText};
 ghost use Rattle.scrypt_run.specs.Work.{DecryptWorks, DerivesOnce, EndsAfterWork};
 
-use crate::admission::reserve;
 use crate::front::open_admitted_front;
 use crate::passphrase::read_passphrase;
 use crate::refusal::ScryptRefusal;
 use crate::request::Task;
+use crate::room::Room;
 use encfile::{Dec, Header};
 use host::{Host, push_all};
 use romix::{Sparse, Ticks};
-use std::alloc::Global;
 
 // Reads the passphrase, takes the memory of the derivation, and tests the passphrase against the
 // code of the header. The memory is there when the work begins.
-fn open<H: Host>(
-    alloc: Global,
+fn open<R: Room, H: Host>(
+    room: &mut R,
     host: &mut H,
     task: &Task<'_>,
     front: &[u8; 96],
@@ -41,7 +42,7 @@ fn open<H: Host>(
     ticks: &mut Ticks,
 ) -> Result<Dec, ScryptRefusal>
     requires room { AreBelow (2 ^ 63) (H.faults host.old) }
-    requires unasked { IsTrue H.tells → (H.seen host.old).asked ≡ None }
+    requires unasked { (H.grants host.old).secret ≡ true }
     requires header { IsHeaderOf (take 64 front.now) header }
     requires allowed { HasAllowedLimits (task_seen task.now) }
     requires costs { sparse.now.costs ≡ header.costs }
@@ -49,6 +50,7 @@ fn open<H: Host>(
     requires admitted { IsAdmitted sparse.now task.now.limits }
     ensures counts { MatchResult result (λ _. H.faults host.new ≡ H.faults host.old)
         (λ r. H.faults host.new ≡ counted_by r (H.faults host.old)) }
+    ensures granted { H.grants host.new ≡ with_secret_asked (H.grants host.old) }
     ensures asks { IsTrue H.tells →
         H.seen host.new ≡ after_ask (source_of task.now.source) (H.seen host.old) }
     ensures read { IfOk result (λ dec. (passphrase : List ℕ) × HasRead dec passphrase front.now) }
@@ -69,9 +71,13 @@ fn open<H: Host>(
         OnOk result (ticks.new ≡ ticks.old + cores header.costs) }
     ensures work_bound { ticks.new ≤ ticks.old + task.now.limits.max_ops }
     ensures idle { IfErr result (λ r. may_follow_work r ≡ false → ticks.new ≡ ticks.old) }
+    ensures memory_granted { OnOk result (room.new ≡ asks_workspace R.after_workspace room.old
+        (task_seen task.now) header.costs true) }
+    ensures memory_asked { IfErr result (λ r. EndsAsking (asks_workspace R.after_workspace room.old
+        (task_seen task.now) header.costs) r room.old room.new) }
 {
     let passphrase = read_passphrase(host, task.source)?;
-    let Ok(mut workspace) = reserve(alloc, sparse, &task.limits) else {
+    let Ok(mut workspace) = room.workspace(sparse, &task.limits) else {
         return Err(ScryptRefusal::OutOfMemory);
     };
     match Dec::open(front, header, passphrase.as_slice(), &mut workspace, ticks) {
@@ -84,6 +90,8 @@ fn open<H: Host>(
 // written before the next is pulled.
 fn release<H: Host>(host: &mut H, dec: &mut Dec) -> Result<(), ScryptRefusal>
     requires room { AreBelow (2 ^ 63) (H.faults host.old) }
+    requires readable { (H.grants host.old).readable ≡ true }
+    requires writable { (H.grants host.old).writable ≡ true }
     requires new { length_read dec.old ≡ 0 }
     requires read { (passphrase front : List ℕ) × HasRead dec.old passphrase front }
     ensures counts { MatchResult result (λ _. H.faults host.new ≡ H.faults host.old)
@@ -122,7 +130,8 @@ fn release<H: Host>(host: &mut H, dec: &mut Dec) -> Result<(), ScryptRefusal>
 // Opens the output, writes the text, and tests the final code.
 fn finish<H: Host>(host: &mut H, outfile: Option<&str>, dec: Dec) -> Result<(), ScryptRefusal>
     requires room { AreBelow (2 ^ 63) (H.faults host.old) }
-    requires unasked { IsTrue H.tells → (H.seen host.old).output_asked ≡ None }
+    requires unasked { (H.grants host.old).output ≡ true }
+    requires readable { (H.grants host.old).readable ≡ true }
     requires new { length_read dec ≡ 0 }
     requires read { (passphrase front : List ℕ) × HasRead dec passphrase front }
     ensures counts { MatchResult result (λ _. H.faults host.new ≡ H.faults host.old)
@@ -154,14 +163,15 @@ fn finish<H: Host>(host: &mut H, outfile: Option<&str>, dec: Dec) -> Result<(), 
 /// The output is opened once the passphrase is found right, and no refusal after that takes back
 /// what was written. The text can be trusted only after `Ok`, since the final code is tested when
 /// all of it is written.
-pub(crate) fn decrypt<H: Host>(
-    alloc: Global,
+pub(crate) fn decrypt<R: Room, H: Host>(
+    room: &mut R,
     host: &mut H,
     task: &Task<'_>,
     ticks: &mut Ticks,
 ) -> Result<(), ScryptRefusal>
     requires room { AreBelow (2 ^ 63) (H.faults host.old) }
     requires fresh { IsTrue H.tells → IsFresh (H.seen host.old) }
+    requires granted { GrantsAll (H.grants host.old) }
     requires limits { HasAllowedLimits (task_seen task.now) }
     ensures counts { MatchResult result (λ _. H.faults host.new ≡ H.faults host.old)
         (λ r. H.faults host.new ≡ counted_by r (H.faults host.old)) }
@@ -179,8 +189,13 @@ pub(crate) fn decrypt<H: Host>(
         (ticks.new ≡ ticks.old + cores (costs_of (H.seen host.old).input)) }
     ensures work_bound { ticks.new ≤ ticks.old + task.now.limits.max_ops }
     ensures idle { IfErr result (λ r. may_follow_work r ≡ false → ticks.new ≡ ticks.old) }
+    // Memory is asked for once, for the derivation of the header's costs, and only once the limits have passed.
+    ensures memory_granted { OnOk result (WasGranted H.tells (H.seen host.old).input
+        (asks_workspace R.after_workspace room.old (task_seen task.now)) room.new) }
+    ensures memory_asked { IfErr result (λ r. EndsAskingFor H.tells (H.seen host.old).input
+        (asks_workspace R.after_workspace room.old (task_seen task.now)) r room.old room.new) }
 {
     let (front, header, sparse) = open_admitted_front(host, task)?;
-    let dec = open(alloc, host, task, &front, header, &sparse, ticks)?;
+    let dec = open(room, host, task, &front, header, &sparse, ticks)?;
     finish(host, task.outfile, dec)
 }

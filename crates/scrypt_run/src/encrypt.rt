@@ -4,35 +4,38 @@ ghost use Rattle.romix.specs.Costs.{Parameters, cores};
 ghost use Rattle.encfile.specs.EncryptedFile.{body};
 ghost use Rattle.encfile.specs.Encrypting.{HasEncrypted};
 ghost use Rattle.host.specs.Faults.{AreBelow};
+ghost use Rattle.host.specs.Grants.{GrantsAll, with_input_opened};
 ghost use Rattle.host.specs.Secret.{source_of};
 ghost use Rattle.host.specs.Seen.{IsFresh, after_ask, after_open_input};
+ghost use Rattle.scrypt_run.specs.Asking.{EndsAsking, asks_workspace};
 ghost use Rattle.scrypt_run.specs.Encrypting.{EncryptRefused, EncryptSucceeds, IsEncrypted, after_salting, costs_refusal_of, salt_used};
 ghost use Rattle.scrypt_run.specs.Passphrase.{HasPassphrase, first_line_at};
-ghost use Rattle.scrypt_run.specs.Refusal.{counted_by, follows_work, may_follow_work};
+ghost use Rattle.scrypt_run.specs.Refusal.{counted_by, follows_work, is_want, may_follow_work};
 ghost use Rattle.scrypt_run.specs.Request.{HasAllowedLimits, encryption_seen, task_seen, text_of};
-ghost use Rattle.scrypt_run.specs.Inside.Admission.{IsAdmitted};
+ghost use Rattle.scrypt_run.specs.Admission.{IsAdmitted};
 ghost use Rattle.scrypt_run.specs.Inside.Encrypting.{StartRefused, TextNotOpened, WriteRefused};
 ghost use Rattle.scrypt_run.specs.Steps.{after_passing};
 ghost use Rattle.scrypt_run.specs.Text.{EndsText};
 ghost use Rattle.scrypt_run.specs.Work.{EncryptWorks, EndsAfterWork};
 ghost use Rattle.scrypt_run.specs.declared.refusal.ScryptRefusal.TheVariants.{SaltFault};
 
-use crate::admission::{admit, reserve};
+use crate::admission::admit;
 use crate::passphrase::read_passphrase;
 use crate::refusal::ScryptRefusal;
 use crate::request::Encryption;
+use crate::room::Room;
 use encfile::Enc;
 use host::{Host, push_all};
 use romix::{Sparse, Ticks};
-use std::alloc::Global;
 
 // Holds the costs against the limits, and opens the input.
 fn open_text<H: Host>(host: &mut H, asked: &Encryption<'_>) -> Result<Sparse, ScryptRefusal>
     requires room { AreBelow (2 ^ 63) (H.faults host.old) }
-    requires unopened { IsTrue H.tells → (H.seen host.old).input_opened ≡ None }
+    requires unopened { (H.grants host.old).input ≡ true }
     requires allowed { HasAllowedLimits (task_seen asked.now.task) }
     ensures counts { MatchResult result (λ _. H.faults host.new ≡ H.faults host.old)
         (λ r. H.faults host.new ≡ counted_by r (H.faults host.old)) }
+    ensures granted { OnOk result (H.grants host.new ≡ with_input_opened (H.grants host.old)) }
     ensures passes { OnOk result (costs_refusal_of (encryption_seen asked.now) ≡ None) }
     ensures costs { IfOk result (λ sparse. sparse.costs ≡ asked.now.costs) }
     ensures keep { IfOk result (λ sparse. sparse.keep ≡ asked.now.task.keep) }
@@ -42,6 +45,7 @@ fn open_text<H: Host>(host: &mut H, asked: &Encryption<'_>) -> Result<Sparse, Sc
     ensures refused { IsTrue H.tells → IfErr result (λ r.
         TextNotOpened r (encryption_seen asked.now) (H.seen host.old) (H.seen host.new)) }
     ensures early { IfErr result (λ r. follows_work r ≡ false) }
+    ensures no_want { IfErr result (λ r. is_want r ≡ false) }
 {
     let sparse = admit(&asked.costs, &asked.task)?;
     host.open_input(asked.task.infile)
@@ -52,9 +56,11 @@ fn open_text<H: Host>(host: &mut H, asked: &Encryption<'_>) -> Result<Sparse, Sc
 // The salt that was asked for, or the host's.
 fn read_salt<H: Host>(host: &mut H, salt: Option<[u8; 32]>) -> Result<[u8; 32], ScryptRefusal>
     requires room { AreBelow (2 ^ 63) (H.faults host.old) }
-    requires unsalted { IsTrue H.tells → (H.seen host.old).salted ≡ false }
+    requires unsalted { (H.grants host.old).salt ≡ true }
     ensures counts { MatchResult result (λ _. H.faults host.new ≡ H.faults host.old)
         (λ r. H.faults host.new ≡ counted_by r (H.faults host.old)) }
+    ensures still_readable { OnOk result ((H.grants host.new).readable ≡ (H.grants host.old).readable) }
+    ensures still_unasked { OnOk result ((H.grants host.new).output ≡ (H.grants host.old).output) }
     ensures salts { IsTrue H.tells →
         H.seen host.new ≡ after_salting salt (H.seen host.old) }
     ensures salt { IsTrue H.tells →
@@ -72,22 +78,24 @@ fn read_salt<H: Host>(host: &mut H, salt: Option<[u8; 32]>) -> Result<[u8; 32], 
 
 // Reads the passphrase and the salt, takes the memory of the derivation, and derives the keys. Here nothing
 // is refused any more once the work begins.
-fn start<H: Host>(
-    alloc: Global,
+fn start<R: Room, H: Host>(
+    room: &mut R,
     host: &mut H,
     asked: &Encryption<'_>,
     sparse: &Sparse,
     ticks: &mut Ticks,
 ) -> Result<Enc, ScryptRefusal>
     requires room { AreBelow (2 ^ 63) (H.faults host.old) }
-    requires unasked { IsTrue H.tells → (H.seen host.old).asked ≡ None }
-    requires unsalted { IsTrue H.tells → (H.seen host.old).salted ≡ false }
+    requires unasked { (H.grants host.old).secret ≡ true }
+    requires unsalted { (H.grants host.old).salt ≡ true }
     requires allowed { HasAllowedLimits (task_seen asked.now.task) }
     requires costs { sparse.now.costs ≡ asked.now.costs }
     requires keep { sparse.now.keep ≡ asked.now.task.keep }
     requires admitted { IsAdmitted sparse.now asked.now.task.limits }
     ensures counts { MatchResult result (λ _. H.faults host.new ≡ H.faults host.old)
         (λ r. H.faults host.new ≡ counted_by r (H.faults host.old)) }
+    ensures still_readable { OnOk result ((H.grants host.new).readable ≡ (H.grants host.old).readable) }
+    ensures still_unasked { OnOk result ((H.grants host.new).output ≡ (H.grants host.old).output) }
     ensures asks { IsTrue H.tells → OnOk result (H.seen host.new ≡ after_salting asked.now.salt
         (after_ask (source_of asked.now.task.source) (H.seen host.old))) }
     ensures begun { IfOk result (λ enc. (passphrase salt : List ℕ)
@@ -105,10 +113,14 @@ fn start<H: Host>(
         OnOk result (ticks.new ≡ ticks.old + cores asked.now.costs) }
     ensures work_bound { ticks.new ≤ ticks.old + asked.now.task.limits.max_ops }
     ensures idle { OnErr result (ticks.new ≡ ticks.old) }
+    ensures memory_granted { OnOk result (room.new ≡ asks_workspace R.after_workspace room.old
+        (task_seen asked.now.task) asked.now.costs true) }
+    ensures memory_asked { IfErr result (λ r. EndsAsking (asks_workspace R.after_workspace room.old
+        (task_seen asked.now.task) asked.now.costs) r room.old room.new) }
 {
     let passphrase = read_passphrase(host, asked.task.source)?;
     let salt = read_salt(host, asked.salt)?;
-    let Ok(mut workspace) = reserve(alloc, sparse, &asked.task.limits) else {
+    let Ok(mut workspace) = room.workspace(sparse, &asked.task.limits) else {
         return Err(ScryptRefusal::OutOfMemory);
     };
     Ok(Enc::start(
@@ -123,10 +135,13 @@ fn start<H: Host>(
 // Writes the first 96 bytes of the file, and the input's text as it is encrypted.
 fn write_body<H: Host>(host: &mut H, enc: &mut Enc) -> Result<(), ScryptRefusal>
     requires room { AreBelow (2 ^ 63) (H.faults host.old) }
+    requires readable { (H.grants host.old).readable ≡ true }
+    requires writable { (H.grants host.old).writable ≡ true }
     requires begun { (passphrase salt : List ℕ) × (costs : Parameters)
         × HasEncrypted enc.old passphrase salt costs [] }
     ensures counts { MatchResult result (λ _. H.faults host.new ≡ H.faults host.old)
         (λ r. H.faults host.new ≡ counted_by r (H.faults host.old)) }
+    ensures still_writable { OnOk result ((H.grants host.new).writable ≡ true) }
     ensures encrypted { IsTrue H.tells → (passphrase salt : List ℕ) (costs : Parameters)
         → HasEncrypted enc.old passphrase salt costs []
         → OnOk result (HasEncrypted enc.new passphrase salt costs (H.seen host.old).input) }
@@ -164,7 +179,8 @@ fn write_body<H: Host>(host: &mut H, enc: &mut Enc) -> Result<(), ScryptRefusal>
 // Opens the output, and writes the file of the input's text.
 fn write_file<H: Host>(host: &mut H, outfile: Option<&str>, enc: Enc) -> Result<(), ScryptRefusal>
     requires room { AreBelow (2 ^ 63) (H.faults host.old) }
-    requires unasked { IsTrue H.tells → (H.seen host.old).output_asked ≡ None }
+    requires unasked { (H.grants host.old).output ≡ true }
+    requires readable { (H.grants host.old).readable ≡ true }
     requires begun { (passphrase salt : List ℕ) × (costs : Parameters)
         × HasEncrypted enc passphrase salt costs [] }
     ensures counts { MatchResult result (λ _. H.faults host.new ≡ H.faults host.old)
@@ -198,14 +214,15 @@ fn write_file<H: Host>(host: &mut H, outfile: Option<&str>, enc: Enc) -> Result<
 /// output can't be opened. Then, as the file is written, S12, S13 and S14. What was written stays.
 /// The work is one derivation with the request's costs, salt and S. It begins when S15 can come no
 /// more, and it is done before the output is opened.
-pub(crate) fn encrypt<H: Host>(
-    alloc: Global,
+pub(crate) fn encrypt<R: Room, H: Host>(
+    room: &mut R,
     host: &mut H,
     asked: &Encryption<'_>,
     ticks: &mut Ticks,
 ) -> Result<(), ScryptRefusal>
     requires room { AreBelow (2 ^ 63) (H.faults host.old) }
     requires fresh { IsTrue H.tells → IsFresh (H.seen host.old) }
+    requires granted { GrantsAll (H.grants host.old) }
     requires limits { HasAllowedLimits (task_seen asked.now.task) }
     ensures counts { MatchResult result (λ _. H.faults host.new ≡ H.faults host.old)
         (λ r. H.faults host.new ≡ counted_by r (H.faults host.old)) }
@@ -223,9 +240,14 @@ pub(crate) fn encrypt<H: Host>(
         OnOk result (ticks.new ≡ ticks.old + cores asked.now.costs) }
     ensures work_bound { ticks.new ≤ ticks.old + asked.now.task.limits.max_ops }
     ensures idle { IfErr result (λ r. may_follow_work r ≡ false → ticks.new ≡ ticks.old) }
+    // Memory is asked for once, for the derivation, and only once the limits have passed.
+    ensures memory_granted { OnOk result (room.new ≡ asks_workspace R.after_workspace room.old
+        (task_seen asked.now.task) asked.now.costs true) }
+    ensures memory_asked { IfErr result (λ r. EndsAsking (asks_workspace R.after_workspace room.old
+        (task_seen asked.now.task) asked.now.costs) r room.old room.new) }
 {
     let sparse = open_text(host, asked)?;
-    let enc = start(alloc, host, asked, &sparse, ticks)?;
+    let enc = start(room, host, asked, &sparse, ticks)?;
     write_file(host, asked.task.outfile, enc)
 }
 

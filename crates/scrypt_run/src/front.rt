@@ -1,13 +1,14 @@
 //! The first 96 bytes of a file, and the checks that need no passphrase.
-ghost use Rattle.std.specs.Prelude.{◌≡◌, ◌<◌, ◌≤◌, ◌^◌, false, ℕ, Some, None, take, length, option_map, MatchResult, IfOk, IfErr, OnOk, OnErr, IsTrue};
+ghost use Rattle.std.specs.Prelude.{◌≡◌, ◌<◌, ◌≤◌, ◌^◌, true, false, ℕ, Some, None, take, length, option_map, MatchResult, IfOk, IfErr, OnOk, OnErr, IsTrue};
 ghost use Rattle.encfile.specs.Front.{format_refusal, limits_refusal};
 ghost use Rattle.encfile.specs.Header.{IsHeaderOf, costs_of, salt_of};
 ghost use Rattle.host.specs.Faults.{AreBelow, input_failed};
+ghost use Rattle.host.specs.Grants.{with_input_opened};
 ghost use Rattle.host.specs.Seen.{after_pull};
 ghost use Rattle.scrypt_run.specs.Front.{FrontRefused};
-ghost use Rattle.scrypt_run.specs.Refusal.{counted_by, follows_work, refusal_of};
+ghost use Rattle.scrypt_run.specs.Refusal.{counted_by, follows_work, is_want, refusal_of};
 ghost use Rattle.scrypt_run.specs.Request.{HasAllowedLimits, allowance_of, task_seen, text_of};
-ghost use Rattle.scrypt_run.specs.Inside.Admission.{IsAdmitted};
+ghost use Rattle.scrypt_run.specs.Admission.{IsAdmitted};
 ghost use Rattle.scrypt_run.specs.Steps.{after_reading};
 
 use crate::admission::admit;
@@ -20,7 +21,9 @@ use romix::Sparse;
 // Pulls 96 bytes, or all where there are fewer, and says how many.
 fn pull_front<H: Host>(host: &mut H, front: &mut [u8; 96]) -> Result<usize, HostFault>
     requires room { AreBelow (2 ^ 63) (H.faults host.old) }
+    requires readable { (H.grants host.old).readable ≡ true }
     ensures bound { IfOk result (λ n. n ≤ 96) }
+    ensures granted { IfOk result (λ n. 96 ≤ n → H.grants host.new ≡ H.grants host.old) }
     ensures counts { OnOk result (H.faults host.new ≡ H.faults host.old) }
     ensures counted { OnErr result (H.faults host.new ≡ input_failed (H.faults host.old)) }
     ensures bytes { IsTrue H.tells →
@@ -48,9 +51,10 @@ fn pull_front<H: Host>(host: &mut H, front: &mut [u8; 96]) -> Result<usize, Host
 // Opens the input and reads its first 96 bytes.
 fn read_front<H: Host>(host: &mut H, infile: Option<&str>) -> Result<[u8; 96], ScryptRefusal>
     requires room { AreBelow (2 ^ 63) (H.faults host.old) }
-    requires unopened { IsTrue H.tells → (H.seen host.old).input_opened ≡ None }
+    requires unopened { (H.grants host.old).input ≡ true }
     ensures counts { MatchResult result (λ _. H.faults host.new ≡ H.faults host.old)
         (λ r. H.faults host.new ≡ counted_by r (H.faults host.old)) }
+    ensures granted { OnOk result (H.grants host.new ≡ with_input_opened (H.grants host.old)) }
     ensures long { IsTrue H.tells → OnOk result (96 ≤ length (H.seen host.old).input) }
     ensures front { IsTrue H.tells →
         IfOk result (λ front. front ≡ take 96 (H.seen host.old).input) }
@@ -60,6 +64,7 @@ fn read_front<H: Host>(host: &mut H, infile: Option<&str>) -> Result<[u8; 96], S
         FrontRefused r (format_refusal (H.seen host.old).input) (text_of infile.entry)
         (H.seen host.old) (H.seen host.new)) }
     ensures early { IfErr result (λ r. follows_work r ≡ false) }
+    ensures no_want { IfErr result (λ r. is_want r ≡ false) }
 {
     let Ok(()) = host.open_input(infile) else {
         return Err(ScryptRefusal::InputFault);
@@ -81,6 +86,7 @@ fn read_header(front: &[u8; 96]) -> Result<Header, ScryptRefusal>
     ensures costs { IfOk result (λ header. header.costs ≡ costs_of front.now) }
     ensures salt { IfOk result (λ header. header.salt ≡ salt_of front.now) }
     ensures early { IfErr result (λ r. follows_work r ≡ false) }
+    ensures no_want { IfErr result (λ r. is_want r ≡ false) }
 {
     Header::of_front(front).map_err(header_refusal)
 }
@@ -97,6 +103,7 @@ fn test_limits(front: &[u8; 96], header: &Header, task: &Task<'_>) -> Result<Spa
     ensures refused { IfErr result (λ r. option_map refusal_of
         (limits_refusal front.now (allowance_of (task_seen task.now))) ≡ Some r) }
     ensures early { IfErr result (λ r. follows_work r ≡ false) }
+    ensures no_want { IfErr result (λ r. is_want r ≡ false) }
 {
     admit(header.costs(), task)
 }
@@ -107,9 +114,10 @@ pub(crate) fn open_front<H: Host>(
     infile: Option<&str>,
 ) -> Result<([u8; 96], Header), ScryptRefusal>
     requires room { AreBelow (2 ^ 63) (H.faults host.old) }
-    requires unopened { IsTrue H.tells → (H.seen host.old).input_opened ≡ None }
+    requires unopened { (H.grants host.old).input ≡ true }
     ensures counts { MatchResult result (λ _. H.faults host.new ≡ H.faults host.old)
         (λ r. H.faults host.new ≡ counted_by r (H.faults host.old)) }
+    ensures granted { OnOk result (H.grants host.new ≡ with_input_opened (H.grants host.old)) }
     ensures long { IsTrue H.tells → OnOk result (96 ≤ length (H.seen host.old).input) }
     ensures front { IsTrue H.tells →
         IfOk result (λ read. read.0 ≡ take 96 (H.seen host.old).input) }
@@ -128,6 +136,7 @@ pub(crate) fn open_front<H: Host>(
         FrontRefused r (format_refusal (H.seen host.old).input) (text_of infile.entry)
         (H.seen host.old) (H.seen host.new)) }
     ensures early { IfErr result (λ r. follows_work r ≡ false) }
+    ensures no_want { IfErr result (λ r. is_want r ≡ false) }
 {
     let front = read_front(host, infile)?;
     let header = read_header(&front)?;
@@ -141,10 +150,11 @@ pub(crate) fn open_admitted_front<H: Host>(
     task: &Task<'_>,
 ) -> Result<([u8; 96], Header, Sparse), ScryptRefusal>
     requires room { AreBelow (2 ^ 63) (H.faults host.old) }
-    requires unopened { IsTrue H.tells → (H.seen host.old).input_opened ≡ None }
+    requires unopened { (H.grants host.old).input ≡ true }
     requires allowed { HasAllowedLimits (task_seen task.now) }
     ensures counts { MatchResult result (λ _. H.faults host.new ≡ H.faults host.old)
         (λ r. H.faults host.new ≡ counted_by r (H.faults host.old)) }
+    ensures granted { OnOk result (H.grants host.new ≡ with_input_opened (H.grants host.old)) }
     ensures long { IsTrue H.tells → OnOk result (96 ≤ length (H.seen host.old).input) }
     ensures front { IsTrue H.tells →
         IfOk result (λ read. read.0 ≡ take 96 (H.seen host.old).input) }
@@ -164,6 +174,7 @@ pub(crate) fn open_admitted_front<H: Host>(
         (limits_refusal (H.seen host.old).input (allowance_of (task_seen task.now)))
         (text_of task.now.infile) (H.seen host.old) (H.seen host.new)) }
     ensures early { IfErr result (λ r. follows_work r ≡ false) }
+    ensures no_want { IfErr result (λ r. is_want r ≡ false) }
 {
     let (front, header) = open_front(host, task.infile)?;
     let sparse = test_limits(&front, &header, task)?;

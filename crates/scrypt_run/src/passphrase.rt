@@ -1,10 +1,11 @@
 //! The passphrase of a run: the first line of its source.
-ghost use Rattle.std.specs.Prelude.{◌≡◌, ◌<◌, ◌≤◌, ◌^◌, false, ℕ, List, None, take, length, MatchResult, IfOk, IfErr, IsTrue};
+ghost use Rattle.std.specs.Prelude.{◌≡◌, ◌<◌, ◌≤◌, ◌^◌, true, false, ℕ, List, take, length, MatchResult, IfOk, IfErr, IsTrue};
 ghost use Rattle.host.specs.Faults.{AreBelow};
+ghost use Rattle.host.specs.Grants.{with_secret_asked};
 ghost use Rattle.host.specs.Secret.{source_of};
 ghost use Rattle.host.specs.Seen.{after_ask};
 ghost use Rattle.scrypt_run.specs.Passphrase.{HasPassphrase, PassphraseRefused, first_line, first_line_at, is_line_end};
-ghost use Rattle.scrypt_run.specs.Refusal.{counted_by, follows_work};
+ghost use Rattle.scrypt_run.specs.Refusal.{counted_by, follows_work, is_want};
 
 use crate::refusal::ScryptRefusal;
 use host::{Host, Source};
@@ -59,9 +60,10 @@ pub(crate) fn read_passphrase<H: Host>(
     source: Source<'_>,
 ) -> Result<Passphrase, ScryptRefusal>
     requires room { AreBelow (2 ^ 63) (H.faults host.old) }
-    requires unasked { IsTrue H.tells → (H.seen host.old).asked ≡ None }
+    requires unasked { (H.grants host.old).secret ≡ true }
     ensures counts { MatchResult result (λ _. H.faults host.new ≡ H.faults host.old)
         (λ r. H.faults host.new ≡ counted_by r (H.faults host.old)) }
+    ensures granted { H.grants host.new ≡ with_secret_asked (H.grants host.old) }
     ensures asks { IsTrue H.tells →
         H.seen host.new ≡ after_ask (source_of source.entry) (H.seen host.old) }
     ensures read { IsTrue H.tells → IfOk result
@@ -69,6 +71,7 @@ pub(crate) fn read_passphrase<H: Host>(
     ensures refused { IsTrue H.tells → IfErr result (λ r.
         PassphraseRefused r (first_line_at (source_of source.entry) (H.seen host.old))) }
     ensures early { IfErr result (λ r. follows_work r ≡ false) }
+    ensures no_want { IfErr result (λ r. is_want r ≡ false) }
 {
     let mut room = [0u8; 2049];
     let n = host

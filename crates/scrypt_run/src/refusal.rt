@@ -1,7 +1,7 @@
 //! The refusals of `scrypt`, and the line that tells each.
 ghost use Rattle.std.specs.Prelude.{◌≡◌, false};
 ghost use Rattle.encfile.specs.Front.{header_refusal};
-ghost use Rattle.scrypt_run.specs.Refusal.{follows_work, line_of, refusal_of};
+ghost use Rattle.scrypt_run.specs.Refusal.{follows_work, is_want, line_of, refusal_of};
 
 use encfile::HeaderFault;
 
@@ -112,6 +112,7 @@ impl ScryptRefusal {
 pub(crate) fn header_refusal(fault: HeaderFault) -> ScryptRefusal
     ensures refusal { result ≡ refusal_of (header_refusal fault) }
     ensures early { follows_work result ≡ false }
+    ensures no_want { is_want result ≡ false }
 {
     match fault {
         HeaderFault::Version => ScryptRefusal::UnsupportedVersion,

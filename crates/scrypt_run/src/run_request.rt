@@ -1,7 +1,9 @@
 //! A run for a request.
 ghost use Rattle.std.specs.Prelude.{◌≡◌, ◌+◌, ◌≤◌, ◌^◌, false, MatchResult, IfErr, OnOk, IsTrue};
 ghost use Rattle.host.specs.Faults.{AreBelow};
+ghost use Rattle.host.specs.Grants.{GrantsAll};
 ghost use Rattle.host.specs.Seen.{IsFresh};
+ghost use Rattle.scrypt_run.specs.Asking.{RequestAsked, RequestGranted};
 ghost use Rattle.scrypt_run.specs.Refusal.{counted_by, may_follow_work};
 ghost use Rattle.scrypt_run.specs.Request.{IsAllowed, request_seen};
 ghost use Rattle.scrypt_run.specs.Run.{KeepsAll, RequestRefused, RequestSucceeds, cores_asked, most_cores};
@@ -12,9 +14,9 @@ use crate::encrypt::encrypt;
 use crate::inspect::inspect;
 use crate::refusal::ScryptRefusal;
 use crate::request::Request;
+use crate::room::Room;
 use host::Host;
 use romix::Ticks;
-use std::alloc::Global;
 
 /// Does what a request asks for: all of a run but its words and the line of a refusal. Nothing is
 /// opened yet, and the limit `-M` is at most 2^40 bytes.
@@ -23,18 +25,23 @@ use std::alloc::Global;
 /// before a fault stays written, and no output is asked for before every check up to the header's
 /// code has passed; `OutOfMemory` is never told after an output was asked for.
 ///
+/// All memory comes from `room`, which is asked once, or not at all where a refusal comes before: by
+/// `enc` and `dec` for that of one derivation with the request's S, once the limits admit it, and by
+/// `info` for its line. `OutOfMemory` is told where that request was refused, and there alone.
+///
 /// `ticks` counts the Salsa20/8 cores: none where the words, the limits, the header, the passphrase,
 /// the salt or want of memory refuse, and never more than the limit on work. A run that ends well, or
 /// is refused by S10, S11, S13 or S14, or by S12 with its output opened, has counted exactly one
 /// derivation, with the request's S; `info` none.
-pub fn run<H: Host>(
-    alloc: Global,
+pub fn run<R: Room, H: Host>(
+    room: &mut R,
     host: &mut H,
     request: &Request<'_>,
     ticks: &mut Ticks,
 ) -> Result<(), ScryptRefusal>
     requires room { AreBelow (2 ^ 63) (H.faults host.old) }
     requires fresh { IsTrue H.tells → IsFresh (H.seen host.old) }
+    requires granted { GrantsAll (H.grants host.old) }
     requires allowed { IsAllowed (request_seen request.now) }
     ensures counts { MatchResult result (λ _. H.faults host.new ≡ H.faults host.old)
         (λ r. H.faults host.new ≡ counted_by r (H.faults host.old)) }
@@ -52,10 +59,14 @@ pub fn run<H: Host>(
         ≡ ticks.old + cores_asked (request_seen request.now) (H.seen host.old)) }
     ensures work_bound { ticks.new ≤ ticks.old + most_cores (request_seen request.now) }
     ensures idle { IfErr result (λ r. may_follow_work r ≡ false → ticks.new ≡ ticks.old) }
+    ensures memory_granted { OnOk result (RequestGranted R.after_workspace R.after_line H.tells
+        (H.seen host.old).input (request_seen request.now) room.old room.new) }
+    ensures memory_asked { IfErr result (λ r. RequestAsked R.after_workspace R.after_line H.tells
+        (H.seen host.old).input (request_seen request.now) r room.old room.new) }
 {
     match request {
-        Request::Encrypt(asked) => encrypt(alloc, host, asked, ticks),
-        Request::Decrypt(task) => decrypt(alloc, host, task, ticks),
-        Request::Inspect(infile) => inspect(alloc, host, *infile),
+        Request::Encrypt(asked) => encrypt(room, host, asked, ticks),
+        Request::Decrypt(task) => decrypt(room, host, task, ticks),
+        Request::Inspect(infile) => inspect(room, host, *infile),
     }
 }

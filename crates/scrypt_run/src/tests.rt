@@ -29,12 +29,18 @@ fn example(rt: HostRuntime) -> Result<(), Fail> {
         b"pw".to_vec(alloc)?,
         [7; 32],
     );
-    run(alloc, &mut host, &Request::Encrypt(encryption), &mut ticks)?;
+    let mut room = alloc;
+    run(
+        &mut room,
+        &mut host,
+        &Request::Encrypt(encryption),
+        &mut ticks,
+    )?;
     let file = host.output().to_vec(alloc)?;
     assert_eq!(rt; file.len(), 133);
 
     let mut host = MemoryHost::new(alloc, file, b"pw".to_vec(alloc)?, [7; 32]);
-    run(alloc, &mut host, &Request::Decrypt(task), &mut ticks)?;
+    run(&mut room, &mut host, &Request::Decrypt(task), &mut ticks)?;
     assert_eq!(rt; host.output(), b"hello".as_slice());
     Ok(())
 }

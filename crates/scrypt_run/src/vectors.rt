@@ -1,7 +1,21 @@
 //! Vectors that the checker computes by the definitions alone.
-ghost use Rattle.std.specs.Prelude.{◌≡◌, [], ◌∷◌, codes};
-ghost use Rattle.scrypt_run.specs.Inspecting.{costs_line};
-ghost use Rattle.scrypt_run.specs.Passphrase.{first_line};
+ghost use Rattle.std.specs.Prelude.{◌≡◌, ◌++◌, [], ◌∷◌, Some, None, codes, false, replicate, true};
+ghost use Rattle.encfile.specs.Front.FrontRefusal.{KeepAboveN, NotScryptData, TooMuchMemory, TooMuchWork, UnsupportedVersion, WrongPassphrase};
+ghost use Rattle.host.specs.Faults.{no_faults};
+ghost use Rattle.host.specs.Seen.{env, file, stdin_once};
+ghost use Rattle.host.specs.Vectors.{host_shown};
+ghost use Rattle.scrypt_run.specs.Asking.{asks_workspace};
+ghost use Rattle.scrypt_run.specs.Decrypting.{limits_refusal_of};
+ghost use Rattle.scrypt_run.specs.Encrypting.{after_salting, costs_refusal_of, salt_asked, salt_used};
+ghost use Rattle.scrypt_run.specs.Front.{after_front};
+ghost use Rattle.scrypt_run.specs.Inspecting.{costs_line, line_due};
+ghost use Rattle.scrypt_run.specs.Passphrase.{first_line, first_line_at};
+ghost use Rattle.scrypt_run.specs.Refusal.{counted_by, follows_work, is_want, line_of, may_follow_work, refusal_of};
+ghost use Rattle.scrypt_run.specs.Request.{allowance_of, decrypt, encrypt, inspect};
+ghost use Rattle.scrypt_run.specs.Run.{cores_asked, most_cores};
+ghost use Rattle.scrypt_run.specs.Steps.{after_passing, after_reading, passphrase_asked};
+ghost use Rattle.scrypt_run.specs.Vectors.{costs_shown, encryption_shown, task_shown};
+ghost use Rattle.scrypt_run.specs.declared.refusal.ScryptRefusal.{ScryptRefusal};
 
 // The line of log2 N 4, r 1 and p 1: 128 * 16 bytes, and 4 * 16 cores.
 fn line_of_small_costs()
@@ -22,4 +36,139 @@ fn first_lines()
     ensures no_end { first_line (codes "p w") ≡ codes "p w" }
     ensures empty { first_line (codes "\npw") ≡ [] }
     ensures nothing { first_line [] ≡ [] }
+{}
+
+// docs/REFUSALS.md, the table of scrypt: the line of each.
+fn lines_of_refusals()
+    ensures usage { line_of ScryptRefusal.Usage ≡ codes "scrypt: usage: scrypt enc|dec|info [options] infile [outfile]" }
+    ensures some_costs { line_of ScryptRefusal.SomeCosts ≡ codes "scrypt: --logN, -r and -p are given together or not at all" }
+    ensures costs_out_of_range { line_of ScryptRefusal.CostsOutOfRange ≡ codes "scrypt: costs out of range" }
+    ensures standard_input_twice { line_of ScryptRefusal.StandardInputTwice ≡ codes "scrypt: passphrase and input cannot both come from standard input" }
+    ensures same_name { line_of ScryptRefusal.SameName ≡ codes "scrypt: infile and outfile have the same name" }
+    ensures passphrase_source { line_of ScryptRefusal.PassphraseSource ≡ codes "scrypt: one passphrase source is needed: -P, dev:stdin-once, env:NAME or file:NAME" }
+    ensures passphrase_fault { line_of ScryptRefusal.PassphraseFault ≡ codes "scrypt: passphrase cannot be read" }
+    ensures long_passphrase { line_of ScryptRefusal.LongPassphrase ≡ codes "scrypt: passphrase is longer than 2048 bytes" }
+    ensures salt_digits { line_of ScryptRefusal.SaltDigits ≡ codes "scrypt: --salt takes 64 hexadecimal digits" }
+    ensures salt_fault { line_of ScryptRefusal.SaltFault ≡ codes "scrypt: no salt can be read" }
+    ensures not_scrypt_data { line_of ScryptRefusal.NotScryptData ≡ codes "scrypt: not valid scrypt data" }
+    ensures unsupported_version { line_of ScryptRefusal.UnsupportedVersion ≡ codes "scrypt: unsupported format version" }
+    ensures memory_limit { line_of ScryptRefusal.MemoryLimit ≡ codes "scrypt: more memory needed than -M allows" }
+    ensures work_limit { line_of ScryptRefusal.WorkLimit ≡ codes "scrypt: more work needed than --maxops allows" }
+    ensures wrong_passphrase { line_of ScryptRefusal.WrongPassphrase ≡ codes "scrypt: wrong passphrase" }
+    ensures damaged { line_of ScryptRefusal.Damaged ≡ codes "scrypt: input is damaged or cut short" }
+    ensures input_fault { line_of ScryptRefusal.InputFault ≡ codes "scrypt: input cannot be opened or read" }
+    ensures output_fault { line_of ScryptRefusal.OutputFault ≡ codes "scrypt: output cannot be opened or written" }
+    ensures too_long { line_of ScryptRefusal.TooLong ≡ codes "scrypt: input is too long" }
+    ensures out_of_memory { line_of ScryptRefusal.OutOfMemory ≡ codes "scrypt: out of memory" }
+    ensures keep_out_of_range { line_of ScryptRefusal.KeepOutOfRange ≡ codes "scrypt: --keep takes a power of two from 1 to 1024" }
+    ensures keep_above_n { line_of ScryptRefusal.KeepAboveN ≡ codes "scrypt: --keep is larger than N" }
+{}
+
+// A failing call of the host raises its own count, and no other refusal raises one.
+fn counts_of_refusals()
+    ensures input { counted_by ScryptRefusal.InputFault no_faults ≡ record { input = 1; output = 0; secrets = 0; salt = 0; lines = 0 } }
+    ensures output { counted_by ScryptRefusal.OutputFault no_faults ≡ record { input = 0; output = 1; secrets = 0; salt = 0; lines = 0 } }
+    ensures passphrase { counted_by ScryptRefusal.PassphraseFault no_faults ≡ record { input = 0; output = 0; secrets = 1; salt = 0; lines = 0 } }
+    ensures salt { counted_by ScryptRefusal.SaltFault no_faults ≡ record { input = 0; output = 0; secrets = 0; salt = 1; lines = 0 } }
+    ensures damaged { counted_by ScryptRefusal.Damaged no_faults ≡ no_faults }
+    ensures memory { counted_by ScryptRefusal.OutOfMemory no_faults ≡ no_faults }
+{}
+
+// docs/REFUSALS.md, the order of scrypt: S10, S11, S13 and S14 come after the derivation, S12 before and after it, and S15 and
+// what is told of the first 96 bytes before it.
+fn refusals_after_work()
+    ensures passphrase { follows_work ScryptRefusal.WrongPassphrase ≡ true }
+    ensures damaged { follows_work ScryptRefusal.Damaged ≡ true }
+    ensures output { follows_work ScryptRefusal.OutputFault ≡ true }
+    ensures long { follows_work ScryptRefusal.TooLong ≡ true }
+    ensures input { follows_work ScryptRefusal.InputFault ≡ false }
+    ensures input_may { may_follow_work ScryptRefusal.InputFault ≡ true }
+    ensures damaged_may { may_follow_work ScryptRefusal.Damaged ≡ true }
+    ensures memory { may_follow_work ScryptRefusal.OutOfMemory ≡ false }
+    ensures memory_limit { may_follow_work ScryptRefusal.MemoryLimit ≡ false }
+    ensures salt { may_follow_work ScryptRefusal.SaltFault ≡ false }
+{}
+
+// Want of memory is S15 alone: S8 is a limit.
+fn wants_of_memory()
+    ensures refused { is_want ScryptRefusal.OutOfMemory ≡ true }
+    ensures limit { is_want ScryptRefusal.MemoryLimit ≡ false }
+{}
+
+// The memory of a derivation is that of the costs, with the S of the task.
+fn memory_of_a_derivation()
+    ensures keep { asks_workspace (λ before sparse granted. sparse.keep) 0 (task_shown 4 3 2) (record { log_n = 5; r = 6; p = 7 }) true ≡ 4 }
+    ensures costs { asks_workspace (λ before sparse granted. sparse.costs.r) 0 (task_shown 4 3 2) (record { log_n = 5; r = 6; p = 7 }) true ≡ 6 }
+{}
+
+// S6 to S10 and S16b are told of a file.
+fn refusals_of_files()
+    ensures none { refusal_of NotScryptData ≡ ScryptRefusal.NotScryptData }
+    ensures version { refusal_of UnsupportedVersion ≡ ScryptRefusal.UnsupportedVersion }
+    ensures keep { refusal_of KeepAboveN ≡ ScryptRefusal.KeepAboveN }
+    ensures memory { refusal_of TooMuchMemory ≡ ScryptRefusal.MemoryLimit }
+    ensures work { refusal_of TooMuchWork ≡ ScryptRefusal.WorkLimit }
+    ensures passphrase { refusal_of WrongPassphrase ≡ ScryptRefusal.WrongPassphrase }
+{}
+
+// Of a new file S16b, S8 and S9 are tested by its costs: 2,048 bytes and 64 cores.
+fn refusals_before_the_input()
+    ensures keep { costs_refusal_of (encryption_shown None (task_shown 32 1 1)) ≡ Some KeepAboveN }
+    ensures memory { costs_refusal_of (encryption_shown None (task_shown 1 2047 63)) ≡ Some TooMuchMemory }
+    ensures work { costs_refusal_of (encryption_shown None (task_shown 1 2048 63)) ≡ Some TooMuchWork }
+    ensures none { costs_refusal_of (encryption_shown None (task_shown 1 2048 64)) ≡ None }
+    ensures allowed_keep { (allowance_of (task_shown 4 3 2)).keep ≡ 4 }
+    ensures allowed_bytes { (allowance_of (task_shown 4 3 2)).limits.max_bytes ≡ 3 }
+    ensures allowed_cores { (allowance_of (task_shown 4 3 2)).limits.max_ops ≡ 2 }
+{}
+
+// A salt that is given is used, and the host is asked for one where none is.
+fn salts_of_files()
+    ensures given { salt_used (Some (codes "given")) host_shown ≡ codes "given" }
+    ensures not_given { salt_used None host_shown ≡ codes "salt" }
+    ensures not_asked { (after_salting (Some (codes "given")) host_shown).salted ≡ false }
+    ensures asked { (after_salting None host_shown).salted ≡ true }
+    ensures asked_last { (salt_asked (encryption_shown None (task_shown 1 1 1)) host_shown).salted ≡ true }
+    ensures passphrase_asked_first { (salt_asked (encryption_shown None (task_shown 1 1 1)) host_shown).asked ≡ Some (env (codes "PW")) }
+    ensures nothing_pulled { (salt_asked (encryption_shown None (task_shown 1 1 1)) host_shown).input ≡ codes "abcd" }
+{}
+
+// The input is opened under its name; so many bytes of it are pulled; the passphrase's source is asked; what the bytes give is
+// written.
+fn steps_of_a_run()
+    ensures opened { (after_reading (Some (codes "in")) 1 host_shown).input_opened ≡ Some (Some (codes "in")) }
+    ensures pulled { (after_reading (Some (codes "in")) 1 host_shown).input ≡ codes "bcd" }
+    ensures asked { (passphrase_asked (task_shown 1 1 1) 3 host_shown).asked ≡ Some (env (codes "PW")) }
+    ensures input_before { (passphrase_asked (task_shown 1 1 1) 3 host_shown).input ≡ codes "d" }
+    ensures front { (after_front None (record host_shown { input = replicate 97 7 })).input ≡ 7 ∷ [] }
+    ensures front_opened { (after_front None host_shown).input_opened ≡ Some None }
+    ensures passed { (after_passing (λ bytes. bytes ++ codes "!") 3 host_shown).output ≡ codes "oabc!" }
+    ensures rest { (after_passing (λ bytes. bytes ++ codes "!") 3 host_shown).input ≡ codes "d" }
+{}
+
+// The first line of what the source gives, if it gives anything.
+fn first_lines_of_sources()
+    ensures stdin { first_line_at stdin_once host_shown ≡ Some (codes "typed") }
+    ensures variable { first_line_at (env (codes "PW")) host_shown ≡ Some (codes "set") }
+    ensures no_file { first_line_at (file (codes "PW")) host_shown ≡ None }
+{}
+
+// A file that is read is tested by its own bytes.
+fn refusal_of_a_short_input()
+    ensures short { limits_refusal_of (task_shown 1 2048 64) host_shown ≡ Some NotScryptData }
+{}
+
+// The line of a file is that of its header: log2 N 5, r 1 and p 2 are 4,096 bytes and 256 cores.
+fn line_of_an_input()
+    ensures line { line_due (record host_shown { input = costs_shown }) ≡ codes "N = 32; r = 1; p = 2; memory = 4096; cores = 256\n" }
+{}
+
+// The cores of a file are those of its header, a new file's those that are asked for, and `info` has none.
+fn costs_of_runs()
+    ensures of_file { cores_asked (decrypt (task_shown 1 3 2)) (record host_shown { input = costs_shown }) ≡ 256 }
+    ensures of_new_file { cores_asked (encrypt (encryption_shown None (task_shown 1 3 2))) host_shown ≡ 64 }
+    ensures of_info { cores_asked (inspect None) host_shown ≡ 0 }
+    ensures most_of_file { most_cores (decrypt (task_shown 1 3 2)) ≡ 2 }
+    ensures most_of_new_file { most_cores (encrypt (encryption_shown None (task_shown 1 3 2))) ≡ 2 }
+    ensures most_of_info { most_cores (inspect None) ≡ 0 }
 {}

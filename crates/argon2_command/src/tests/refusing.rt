@@ -1,4 +1,7 @@
 //! A source of memory that refuses one request.
+ghost use Rattle.std.specs.Prelude.{◌≡◌, ◌-◌, Some};
+ghost use Rattle.argon2_command.specs.declared.tests.refusing.Asked.TheVariants as asked;
+
 use crate::request::Request;
 use crate::room::Room;
 use crate::settings::Settings;
@@ -23,7 +26,9 @@ pub struct Refusing {
 
 impl Refusing {
     // Whether a request is granted.
-    fn grants(&mut self, asked: Asked) -> bool {
+    fn grants(&mut self, asked: Asked) -> bool
+        ensures asked { self.new ≡ record self.old { left = self.old.left - 1; last = Some asked } }
+    {
         self.last = Some(asked);
         if self.left == 0 {
             return false;
@@ -34,6 +39,12 @@ impl Refusing {
 }
 
 impl Room for Refusing {
+    ghost after_zeros = { λ room _ _. record room { left = room.left - 1; last = Some asked.Zeros } };
+
+    ghost after_line = { λ room _ _ _. record room { left = room.left - 1; last = Some asked.Line } };
+
+    ghost after_matrix = { λ room _ _. record room { left = room.left - 1; last = Some asked.Matrix } };
+
     fn zeros(&mut self, count: usize) -> Result<Vec<u8>, AllocError> {
         if !self.grants(Asked::Zeros) {
             return Err(AllocError);

@@ -3,30 +3,12 @@ use Rattle.std.proofs.Common.{◌≡◌, List, ℕ, [], ◌∷◌, ◌++◌, tak
 use Rattle.std.specs.List.{range_with_len}
 use Rattle.sha2.specs.Sha256.{compress, digest_bytes, first_words, hash_after, rounds, schedule, sha256}
 use Rattle.macs.specs.HmacSha256.{hmac_sha256, key_block}
-use Rattle.macs.specs.Pbkdf2.{joined_blocks, pbkdf2}
-use Rattle.romix.specs.BlockMix.{block_mix, chain_block, every_second_output}
 use Rattle.romix.specs.Costs.{Parameters}
-use Rattle.romix.specs.Romix.{integerify, romix, row_after, table_row}
-use Rattle.romix.specs.Salsa20.{double_rounds, quarter_round, quarter_round_at, quarter_rounds, salsa20_8}
-use Rattle.romix.specs.Scrypt.{mixed_parts, scrypt, words_of}
-use Rattle.aes_ctr.specs.Aes.{add_round_key, aes256, affine_bits, cipher, inverse, key_words, mix_columns, polynomial_product, power, product, remainder, schedule_words, shift_rows, state_after, sub_byte, sub_bytes}
-use Rattle.aes_ctr.specs.CounterMode.{counter_mode, counter_mode_from, key_stream_block}
+use Rattle.aes_ctr.specs.CounterMode.{counter_mode, counter_mode_from}
 use Rattle.encfile.specs.Header.{header}
 use Rattle.encfile.specs.EncryptedFile.{body, derived_key, encrypted_file, head}
+use Rattle.encfile.proofs.KnownFile.{block_is, cipher_bytes, code_bytes, costs, keys_are}
 use Rattle.encfile.proofs.vectors.file_of_hello.Goals as goal
-
-abbrev costs : Parameters
-costs = record { log_n = 4; r = 1; p = 1 }
-
-abbrev cipher_bytes : List ℕ
-cipher_bytes =
-    0x86 ∷ 0xFF ∷ 0xDA ∷ 0x64 ∷ 0xED ∷ 0x88 ∷ 0x50 ∷ 0xB7 ∷ 0x2D ∷ 0xCF ∷ 0x81 ∷ 0xD6 ∷ 0x13 ∷ 0x42 ∷ 0xA2 ∷ 0x18 ∷
-    0x71 ∷ 0x3B ∷ 0x1B ∷ 0xAD ∷ 0xCB ∷ 0x10 ∷ 0xCB ∷ 0xAF ∷ 0xD6 ∷ 0xA2 ∷ 0xFA ∷ 0x5C ∷ 0x38 ∷ 0x56 ∷ 0x17 ∷ 0xEC ∷ []
-
-abbrev code_bytes : List ℕ
-code_bytes =
-    0x86 ∷ 0x22 ∷ 0x6E ∷ 0xB7 ∷ 0x99 ∷ 0xB5 ∷ 0x2F ∷ 0x85 ∷ 0xC6 ∷ 0xDF ∷ 0xB2 ∷ 0x48 ∷ 0x3F ∷ 0x8C ∷ 0xA0 ∷ 0xF2 ∷
-    0xC5 ∷ 0x9E ∷ 0x20 ∷ 0x63 ∷ 0xDE ∷ 0xC8 ∷ 0x82 ∷ 0x5E ∷ 0x63 ∷ 0x36 ∷ 0x00 ∷ 0x80 ∷ 0x95 ∷ 0x2B ∷ 0xD3 ∷ 0x9C ∷ []
 
 abbrev header_bytes : List ℕ
 header_bytes =
@@ -49,10 +31,6 @@ final_code_bytes =
     0xFA ∷ 0xF6 ∷ 0x91 ∷ 0x95 ∷ 0x12 ∷ 0x96 ∷ 0xA9 ∷ 0x92 ∷ 0x5E ∷ 0x75 ∷ 0x4D ∷ 0x1B ∷ 0x00 ∷ 0xD8 ∷ 0xF6 ∷ 0xAC ∷
     0xAA ∷ 0x79 ∷ 0x86 ∷ 0x8E ∷ 0x22 ∷ 0x1C ∷ 0xD3 ∷ 0xC4 ∷ 0x0E ∷ 0xFB ∷ 0x4B ∷ 0xDD ∷ 0x9F ∷ 0xFB ∷ 0x35 ∷ 0xB8 ∷ []
 
-keys_are : derived_key (codes "pw") (range_with_len 0 32) costs ≡ cipher_bytes ++ code_bytes
-unfolding first_words schedule rounds compress hash_after digest_bytes sha256 key_block hmac_sha256 joined_blocks pbkdf2 quarter_round quarter_round_at quarter_rounds double_rounds salsa20_8 chain_block every_second_output block_mix integerify table_row row_after romix words_of mixed_parts scrypt derived_key
-keys_are = refl
-
 header_is : header costs (range_with_len 0 32) ≡ header_bytes
 unfolding first_words schedule rounds compress hash_after digest_bytes sha256 header
 header_is = refl
@@ -60,11 +38,6 @@ header_is = refl
 header_code_is : hmac_sha256 code_bytes header_bytes ≡ header_code_bytes
 unfolding first_words schedule rounds compress hash_after digest_bytes sha256 key_block hmac_sha256
 header_code_is = refl
-
-block_is : key_stream_block cipher_bytes 0 ≡
-    0xCB ∷ 0xAF ∷ 0x37 ∷ 0x34 ∷ 0x69 ∷ 0xF3 ∷ 0x82 ∷ 0x55 ∷ 0xE3 ∷ 0xB3 ∷ 0x5C ∷ 0x68 ∷ 0x91 ∷ 0x86 ∷ 0xA5 ∷ 0xE9 ∷ []
-unfolding key_stream_block aes256 cipher state_after add_round_key mix_columns shift_rows sub_bytes schedule_words key_words sub_byte affine_bits inverse power product polynomial_product remainder
-block_is = refl
 
 text_is : counter_mode cipher_bytes (codes "hello") ≡ text_bytes
 unfolding counter_mode_from

@@ -6,6 +6,7 @@ abbrev pub invariant-loop-at : goal.invariant-loop-at
 invariant-loop-at g l = record {
   within : l.at ≤ length l.bytes;
   same : g.H.Host.faults l.host ≡ g.H.Host.faults l.fn.host;
+  grants : g.H.Host.grants l.host ≡ g.H.Host.grants l.fn.host;
   put : IsTrue g.H.Host.tells → g.H.Host.seen l.host ≡ after_push (take l.at l.bytes) (g.H.Host.seen l.fn.host);
 }
 

@@ -1,11 +1,13 @@
-use Rattle.std.proofs.Common.{rules, ◌≡◌, ◌∙◌, None, ap, subst, sym, inr, take}
+use Rattle.std.proofs.Common.{rules, ◌≡◌, ◌∙◌, None, ap, subst, sym, refl, inl, inr, take}
 use Rattle.encfile.specs.Decrypting.{HasRead}
 use Rattle.encfile.specs.EncryptedFile.{HasRightHeaderCode}
+use Rattle.encfile.specs.Header.{costs_of}
 use Rattle.encfile.proofs.Fronts.{front_refusal-right}
 use Rattle.host.specs.Seen.{Seen, after_ask}
 use Rattle.scrypt_run.specs.Decrypting.{DecryptRefused, Decrypted}
 use Rattle.scrypt_run.specs.Inside.Decrypting.{OpenRefused, ReleaseRefused}
 use Rattle.scrypt_run.specs.Passphrase.{HasPassphrase, first_line_at}
+use Rattle.scrypt_run.specs.Refusal.{is_want}
 use Rattle.scrypt_run.specs.Request.{allowance_of, task_seen}
 use Rattle.scrypt_run.specs.Work.{DecryptWorks, EndsAfterWork}
 use Rattle.scrypt_run.proofs.Decrypting.{length_read-first, opening_ends}
@@ -133,3 +135,12 @@ returns-in_err-front-clause-worked g c = λ t.
     let unasked : after.output_asked ≡ None = front_unasked r _ _ s after (c.in_err-front.ensures.refused t) ∙ (c.requires.fresh t).output in
     handed_on c.from_residual.result c.from_residual.ensures.1 (λ e same.
     subst (λ x. EndsAfterWork x after → DecryptWorks task s c.args.ticks.now c.args.ticks.now) (sym same) (λ late. absurd (not_after r after c.in_err-front.ensures.early unasked late)))
+
+pub returns-in_err-front-clause-memory_asked : goal.returns-in_err-front-clause-memory_asked
+returns-in_err-front-clause-memory_asked g c =
+    let s = g.H.Host.seen c.args.host.now in
+    handed_on c.from_residual.result c.from_residual.ensures.1 (λ e same. record {
+      costs = costs_of s.input;
+      of_header = λ _. refl;
+      asked = inr (inl (ap is_want same ∙ c.in_err-front.ensures.no_want, refl));
+    })

@@ -1,4 +1,4 @@
-use Rattle.std.proofs.Common.{rules, arith, ◌≡◌, ◌+◌, ◌++◌, ◌≤◌, ◌^◌, ap, sym, length, take, drop, append_assoc, subst, refl, inl, inr}
+use Rattle.std.proofs.Common.{rules, arith, ◌≡◌, ◌+◌, ◌++◌, ◌∙◌, ◌≤◌, ◌^◌, ap, sym, length, take, drop, append_assoc, subst, refl, inl, inr}
 use Rattle.std.proofs.lemmas.Grind.{common_steps}
 use Rattle.std.proofs.lemmas.List.{append-nil, take_all}
 use Rattle.encfile.specs.Decrypting.{HasRead}
@@ -19,6 +19,7 @@ loop-n-init g c =
       buf_long = search rules;
       out_long = search rules;
       read = c.requires.read;
+      grants = refl;
       same = search rules;
       below = omega (arith, c.requires.new);
       within = λ t. omega (arith, c.requires.new);
@@ -92,6 +93,7 @@ loop-n-preserved g c =
       buf_long = search rules;
       out_long = search rules;
       read = (r.0, _, next);
+      grants = c.in-Ok-push_all.ensures.granted ∙ c.in-Ok.ensures.granted (omega (arith, c.if-n-eq0.false)) ∙ i.grants;
       same = search rules;
       below = length_read-below dec r.0 _ next;
       within = λ t. subst (λ k. k ≤ length s.input) fed (fits_on j n s before (i.left t) (i.within t) (c.in-Ok.ensures.within t));

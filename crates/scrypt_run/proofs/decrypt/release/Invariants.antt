@@ -12,6 +12,7 @@ invariant-loop-n g l =
       buf_long : length l.buf ≡ 4096;
       out_long : length l.out ≡ 4128;
       read : (passphrase file : List ℕ) × HasRead l.dec passphrase file;
+      grants : g.H.Host.grants l.host ≡ g.H.Host.grants l.fn.host;
       same : g.H.Host.faults l.host ≡ g.H.Host.faults l.fn.host;
       below : j < 2 ^ 60 + 32;
       within : IsTrue g.H.Host.tells → j ≤ length before.input;

@@ -84,3 +84,10 @@ returns-clause-unworked g c = λ t.
     let started = c.in_ok-enc.ensures.started t in
     if_err c.write_file.result (λ r refused early. absurd (early (write_after r started.0 _ asked.costs asked.task.outfile before after refused)))
     (c.write_file.ensures.refused t started.0 _ asked.costs started.2)
+
+pub returns-clause-memory_granted : goal.returns-clause-memory_granted
+returns-clause-memory_granted g c = always_ok c.write_file.result c.in_ok-enc.ensures.memory_granted
+
+pub returns-clause-memory_asked : goal.returns-clause-memory_asked
+returns-clause-memory_asked g c =
+    if_err c.write_file.result (λ r late. inr (inr (late, c.in_ok-enc.ensures.memory_granted))) c.write_file.ensures.late

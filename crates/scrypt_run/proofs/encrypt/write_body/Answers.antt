@@ -25,6 +25,7 @@ loop-n-init g c =
     let b = c.requires.begun in
     let none : 0 ≡ length_encrypted c.args.enc.now = length_encrypted-is c.args.enc.now b.0 b.1 b.2 [] b.3 in record {
       buf_long = refl;
+      grants = c.in-Ok.ensures.granted;
       same = search rules;
       begun = (b.0, b.1, b.2, [], b.3);
       below = length_encrypted-below c.args.enc.now b.0 b.1 b.2 [] b.3;
@@ -60,6 +61,7 @@ loop-n-preserved g c =
     length_encrypted-more c.loop-n.enc c.feed.new.self b.0 b.1 b.2 b.3 _ n b.4 fed (grind (arith, common_steps, c.in-Ok-pull.ensures.bound, c.pull.auto.buf, i.buf_long)) in record {
       buf_long = put_length n c.pull.new.buf c.feed.new.bytes 4096 (grind (arith, c.pull.auto.buf, i.buf_long)) (grind (arith, c.in-Ok-pull.ensures.bound, i.buf_long))
           (grind (arith, common_steps, c.feed.auto.bytes, c.in-Ok-pull.ensures.bound, c.pull.auto.buf, i.buf_long));
+      grants = c.in-Ok-push_all.ensures.granted ∙ c.in-Ok-pull.ensures.granted (omega (arith, c.if-n-eq0.false)) ∙ i.grants;
       same = search rules;
       begun = (b.0, b.1, b.2, _, fed);
       below = length_encrypted-below c.feed.new.self b.0 b.1 b.2 _ fed;

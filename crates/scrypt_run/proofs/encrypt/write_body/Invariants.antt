@@ -11,6 +11,7 @@ invariant-loop-n g l =
     let before = g.H.Host.seen l.fn.host in
     let j = length_encrypted l.enc in record {
       buf_long : length l.buf ≡ 4096;
+      grants : g.H.Host.grants l.host ≡ g.H.Host.grants l.fn.host;
       same : g.H.Host.faults l.host ≡ g.H.Host.faults l.fn.host;
       begun : (passphrase salt : List ℕ) × (costs : Parameters) × (text : List ℕ) × HasEncrypted l.enc passphrase salt costs text;
       below : j < 2 ^ 60;

@@ -14,6 +14,7 @@ loop-at-preserved g c =
     let n = c.in_ok-n.n in record {
       long = same_len_mid at (96 - at) c.loop-at.front c.pull.new.buf (c.pull.auto.buf) ∙ i.long;
       bound = grind (arith, common_steps, c.in_ok-n.ensures.bound, i.long, i.bound);
+      grants = c.in_ok-n.ensures.granted (omega (arith, c.if-n-eq0.false)) ∙ i.grants;
       same = c.in_ok-n.ensures.counts ∙ i.same;
       within = λ t. fits_on at n s (g.H.Host.seen c.loop-at.host) (ap (λ (w : Seen). w.input) (i.taken t)) (i.within t) (c.in_ok-n.ensures.within t);
       bytes = λ t. put_on at (96 - at) n c.loop-at.front c.pull.new.buf s.input (grind (arith, i.long, i.bound)) (grind (arith, common_steps, c.in_ok-n.ensures.bound, c.pull.auto.buf)) (i.bytes t)

@@ -7,6 +7,7 @@ invariant-loop-at g l =
     let before = g.H.Host.seen l.fn.host in record {
       long : length l.front ≡ 96;
       bound : l.at ≤ 96;
+      grants : g.H.Host.grants l.host ≡ g.H.Host.grants l.fn.host;
       same : g.H.Host.faults l.host ≡ g.H.Host.faults l.fn.host;
       within : IsTrue g.H.Host.tells → l.at ≤ length before.input;
       bytes : IsTrue g.H.Host.tells → take l.at l.front ≡ take l.at before.input;

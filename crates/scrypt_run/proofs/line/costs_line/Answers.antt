@@ -2,7 +2,7 @@ use Rattle.std.proofs.Common.{◌≡◌, ◌∙◌, ◌++◌, codes, string_byte
 use Rattle.std.specs.Fmt.{decimal}
 use Rattle.scrypt_run.proofs.Ends.{if_ok}
 use Rattle.scrypt_run.proofs.Fronts.{costs_line-is}
-use Rattle.scrypt_run.proofs.inspect.costs_line.Goals as goal
+use Rattle.scrypt_run.proofs.line.costs_line.Goals as goal
 
 pub returns : goal.returns
 returns c =

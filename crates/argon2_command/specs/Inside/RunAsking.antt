@@ -1,0 +1,26 @@
+-- What a run asks of its source of memory. The parameters are those that the words and some password ask for, and the
+-- words' limits admit them.
+use Rattle.std.specs.Prelude.{◌≡◌, ℕ, List, Ok}
+use Rattle.argon.specs.Argon2.{Parameters}
+use Rattle.host.specs.Seen.{Text}
+use Rattle.argon2_command.specs.Asking.{Asking, LacksOne, with_all}
+use Rattle.argon2_command.specs.Output.{admitted_parameters}
+use Rattle.argon2_command.specs.Request.{Request, argon2_request}
+
+-- all three were granted
+pub record RunGranted {Source : Type 0} (ask : Asking Source) (words : List Text) (before after : Source) : Type 0 where
+  pub request : Request
+  pub password : List ℕ
+  pub parameters : Parameters
+  pub of_words : argon2_request words ≡ Ok request
+  pub admitted : admitted_parameters request password ≡ Ok parameters
+  pub asked : after ≡ with_all ask request parameters before
+
+-- one of them was refused
+pub record RunRefused {Source : Type 0} (ask : Asking Source) (words : List Text) (before after : Source) : Type 0 where
+  pub request : Request
+  pub password : List ℕ
+  pub parameters : Parameters
+  pub of_words : argon2_request words ≡ Ok request
+  pub admitted : admitted_parameters request password ≡ Ok parameters
+  pub asked : LacksOne ask request parameters before after

@@ -1,0 +1,66 @@
+//! What the checker computes of the definitions in specs/: what each call leaves of a host, and what is counted.
+ghost use Rattle.std.specs.Prelude.{◌≡◌, [], ◌∷◌, Some, None, codes, false, true};
+ghost use Rattle.host.specs.Faults.{input_failed, line_failed, no_faults, output_failed, salt_failed, secret_failed};
+ghost use Rattle.host.specs.Grants.{nothing_asked, with_input_opened, with_output_asked, with_output_opened, with_salt_asked, with_secret_asked};
+ghost use Rattle.host.specs.Lines.{after_line, faults_after_line};
+ghost use Rattle.host.specs.Memory.{lookup};
+ghost use Rattle.host.specs.Output.{after_writing};
+ghost use Rattle.host.specs.Secret.{secret_at};
+ghost use Rattle.host.specs.Seen.{after_ask, after_ask_output, after_open_input, after_open_output, after_pull, after_push, after_salt, after_say, env, file, stdin_once};
+ghost use Rattle.host.specs.Vectors.{host_shown};
+
+// The next bytes of the input are gone; those that are written, and the lines that are said, come after those before them.
+fn streams_after_calls()
+    ensures pull { (after_pull 3 host_shown).input ≡ codes "d" }
+    ensures pull_at_the_end { (after_pull 5 host_shown).input ≡ [] }
+    ensures push { (after_push (codes "ut") host_shown).output ≡ codes "out" }
+    ensures lines { (after_say (codes "two") (after_say (codes "one") host_shown)).said ≡ codes "one" ∷ codes "two" ∷ [] }
+    ensures line_said { (after_line true (codes "one") host_shown).said ≡ codes "one" ∷ [] }
+    ensures line_unsaid { (after_line false (codes "one") host_shown).said ≡ [] }
+    ensures written { (after_writing None (codes "ut") host_shown).output ≡ codes "out" }
+{}
+
+// What is opened and what is asked for is under its name; an output that cannot be opened was asked for, too.
+fn names_after_calls()
+    ensures input { (after_open_input (Some (codes "in")) host_shown).input_opened ≡ Some (Some (codes "in")) }
+    ensures standard_input { (after_open_input None host_shown).input_opened ≡ Some None }
+    ensures output { (after_open_output (Some (codes "out")) host_shown).output_opened ≡ Some (Some (codes "out")) }
+    ensures output_asked { (after_open_output None host_shown).output_asked ≡ Some None }
+    ensures only_asked { (after_ask_output None host_shown).output_asked ≡ Some None }
+    ensures not_opened { (after_ask_output None host_shown).output_opened ≡ None }
+    ensures written { (after_writing None (codes "ut") host_shown).output_opened ≡ Some None }
+    ensures secret { (after_ask (env (codes "PW")) host_shown).asked ≡ Some (env (codes "PW")) }
+    ensures salt { (after_salt host_shown).salted ≡ true }
+{}
+
+// A failure raises its own count by one.
+fn counts_after_failures()
+    ensures input { input_failed no_faults ≡ record { input = 1; output = 0; secrets = 0; salt = 0; lines = 0 } }
+    ensures output { output_failed no_faults ≡ record { input = 0; output = 1; secrets = 0; salt = 0; lines = 0 } }
+    ensures secret { secret_failed no_faults ≡ record { input = 0; output = 0; secrets = 1; salt = 0; lines = 0 } }
+    ensures salt { salt_failed no_faults ≡ record { input = 0; output = 0; secrets = 0; salt = 1; lines = 0 } }
+    ensures line { line_failed no_faults ≡ record { input = 0; output = 0; secrets = 0; salt = 0; lines = 1 } }
+    ensures line_said { faults_after_line true no_faults ≡ no_faults }
+    ensures line_unsaid { (faults_after_line false no_faults).lines ≡ 1 }
+{}
+
+// A source gives what stands in its own place, if anything does.
+fn secrets_by_source()
+    ensures stdin { secret_at stdin_once host_shown ≡ Some (codes "typed\nmore") }
+    ensures variable { secret_at (env (codes "PW")) host_shown ≡ Some (codes "set") }
+    ensures no_variable { secret_at (env (codes "pw")) host_shown ≡ None }
+    ensures file { secret_at (file (codes "pw")) host_shown ≡ Some (codes "kept") }
+    ensures no_file { secret_at (file (codes "PW")) host_shown ≡ None }
+    ensures first_of_two { lookup (record { name = codes "a"; bytes = codes "1" } ∷ record { name = codes "b"; bytes = codes "2" }
+        ∷ record { name = codes "b"; bytes = codes "3" } ∷ []) (codes "b") ≡ Some (codes "2") }
+{}
+
+// What was opened may be pulled from, or pushed to; what was asked for is not granted once more.
+fn grants_after_calls()
+    ensures first { nothing_asked ≡ record { input = true; readable = false; output = true; writable = false; secret = true; salt = true } }
+    ensures input { with_input_opened nothing_asked ≡ record { input = false; readable = true; output = true; writable = false; secret = true; salt = true } }
+    ensures output_asked { with_output_asked nothing_asked ≡ record { input = true; readable = false; output = false; writable = false; secret = true; salt = true } }
+    ensures output { with_output_opened nothing_asked ≡ record { input = true; readable = false; output = false; writable = true; secret = true; salt = true } }
+    ensures secret { with_secret_asked nothing_asked ≡ record { input = true; readable = false; output = true; writable = false; secret = false; salt = true } }
+    ensures salt { with_salt_asked nothing_asked ≡ record { input = true; readable = false; output = true; writable = false; secret = true; salt = false } }
+{}

@@ -1,0 +1,60 @@
+-- What a run asks of its source of memory: at most one request, of a size that its request or its input tells.
+use Rattle.std.specs.Prelude.{◌≡◌, ◌⊎◌, Bool, true, false, ℕ, List, IsTrue}
+use Rattle.romix.specs.Allowance.{with_keep_of}
+use Rattle.romix.specs.Costs.{Parameters}
+use Rattle.romix.specs.SparseCosts.{SparseParameters}
+use Rattle.encfile.specs.Header.{costs_of}
+use Rattle.scrypt_run.specs.Refusal.{is_want, may_follow_work}
+use Rattle.scrypt_run.specs.Request.{Request, Task, allowance_of, decrypt, encrypt, inspect}
+use Rattle.scrypt_run.specs.declared.refusal.ScryptRefusal.{ScryptRefusal}
+
+-- ---- one request. `ask granted` is what it leaves of the source, granted or refused
+
+-- a run that ended with this refusal: it tells want of memory where the request was refused, and there alone; another
+-- comes before the request, or, where it may follow work, after one that was granted
+abbrev pub EndsAsking : {Source : Type 0} → (Bool → Source) → ScryptRefusal → Source → Source → Type 0
+EndsAsking ask r before after =
+    ((is_want r ≡ true) × (after ≡ ask false))
+    ⊎ ((is_want r ≡ false) × (after ≡ before))
+    ⊎ ((may_follow_work r ≡ true) × (after ≡ ask true))
+
+-- ---- the same of a request by the costs of a header, which are those of the input where the host tells it
+
+-- the request was granted
+pub record WasGranted {Source : Type 0} (tells : Bool) (input : List ℕ) (ask : Parameters → Bool → Source) (after : Source) : Type 0 where
+  pub costs : Parameters
+  pub of_header : IsTrue tells → costs ≡ costs_of input
+  pub asked : after ≡ ask costs true
+
+-- the run ended with this refusal
+pub record EndsAskingFor {Source : Type 0} (tells : Bool) (input : List ℕ) (ask : Parameters → Bool → Source) (r : ScryptRefusal) (before after : Source) : Type 0 where
+  pub costs : Parameters
+  pub of_header : IsTrue tells → costs ≡ costs_of input
+  pub asked : EndsAsking (ask costs) r before after
+
+-- ---- a run. `after_workspace` and `after_line` are what a request for the memory of a derivation and for the line of
+-- costs leave of the source
+
+-- what `enc` and `dec` ask for: the memory of one derivation of these costs with the S of the task
+abbrev pub asks_workspace : {Source : Type 0} → (Source → SparseParameters → Bool → Source) → Source → Task → Parameters → Bool → Source
+asks_workspace after_workspace before task costs granted = after_workspace before (with_keep_of (allowance_of task) costs) granted
+
+-- a run that ended well
+abbrev pub RequestGranted : {Source : Type 0} → (Source → SparseParameters → Bool → Source) → (Source → Parameters → Bool → Source)
+    → Bool → List ℕ → Request → Source → Source → Type 0
+RequestGranted after_workspace after_line tells input (encrypt asked) before after =
+    after ≡ asks_workspace after_workspace before asked.task asked.costs true
+RequestGranted after_workspace after_line tells input (decrypt task) before after =
+    WasGranted tells input (asks_workspace after_workspace before task) after
+RequestGranted after_workspace after_line tells input (inspect infile) before after =
+    WasGranted tells input (after_line before) after
+
+-- a run that ended with this refusal
+abbrev pub RequestAsked : {Source : Type 0} → (Source → SparseParameters → Bool → Source) → (Source → Parameters → Bool → Source)
+    → Bool → List ℕ → Request → ScryptRefusal → Source → Source → Type 0
+RequestAsked after_workspace after_line tells input (encrypt asked) r before after =
+    EndsAsking (asks_workspace after_workspace before asked.task asked.costs) r before after
+RequestAsked after_workspace after_line tells input (decrypt task) r before after =
+    EndsAskingFor tells input (asks_workspace after_workspace before task) r before after
+RequestAsked after_workspace after_line tells input (inspect infile) r before after =
+    EndsAskingFor tells input (after_line before) r before after
