@@ -5,21 +5,23 @@
  *
  * What holds of every function:
  *
- *  - The answer of each but pikhsen_version is a number of enum pikhsen_status: PIKHSEN_OK where the function did what
- *    it says. After any other answer what it writes is as it was before the call, but for what stands at the function.
- *    0 is yes: compare an answer with PIKHSEN_OK.
- *  - Bytes are a pointer and a length. A length may be 0; the pointer is then never read, but must not be null: "" will
- *    do. A length is below 2^63. text_len and costs are not null, and aligned as their types are.
- *  - Memory that a function writes overlaps nothing else that is passed to it, and no other thread touches it during
- *    the call. What it writes need not be set before. Memory that it reads is not written during the call.
+ *  - The answer of each but pikhsen_version is a number of enum pikhsen_status: PIKHSEN_OK where the function did
+ *    what it says. After any other answer what it writes is as it was before the call, but for what stands at the
+ *    function. 0 is yes: compare an answer with PIKHSEN_OK.
+ *  - Bytes are a pointer and a length. A length may be 0; the pointer is then never read, and may be null. That null
+ *    will do is seen, and not proved: tests/c_face.c calls each function so, as a slice of Go or an empty Buffer of
+ *    Node passes it. A length is below 2^63. Other pointers are not null, and aligned as their types are.
+ *  - MEMORY THAT A FUNCTION WRITES OVERLAPS NOTHING ELSE THAT IS PASSED TO IT, and no other thread touches it during
+ *    the call. The library cannot see an overlap: it answers PIKHSEN_OK all the same, and what it wrote is wrong.
+ *    What it writes need not be set before. Memory that it reads is not written during the call.
  *  - There is no state between calls: any number of threads may call at a time.
  *  - Memory is taken by malloc and realloc alone, and all of it is freed, by free, before the function returns; the
  *    three must be of one allocator. A call needs a stack of 64 KiB. It writes no file, reads no clock, starts no
  *    thread, sets no errno but by a malloc that refuses, and never ends the process.
  *  - Before a function that derives or hashes answers, it puts zeros over 32 KiB of the stack below its own frame,
  *    where its work stood, and over the memory of the hash or the derivation before it is freed; this is tested, and
- *    not proved. Salt, tag and text of a hash are freed as they are. Registers may hold a piece of a key, which a later
- *    call of a function whose name is not bound yet may store: link with -z now.
+ *    not proved. Salt, tag and text of a hash are freed as they are. Registers may hold a piece of a key, which a
+ *    later call of a function whose name is not bound yet may store: link with -z now.
  *  - Not to be called from a signal handler, nor in the forked child of a process with threads.
  */
 #ifndef PIKHSEN_H
@@ -34,11 +36,13 @@ extern "C" {
 /* The version of this header, as pikhsen_version() tells that of the library. */
 #define PIKHSEN_VERSION 100u
 
-/* Stands at each function whose answer must be looked at, and whose pointers must not be null. */
+/* At each function whose answer must be looked at; and where its n-th parameter has no length and is not null. */
 #ifdef __GNUC__
-#define PIKHSEN_MUST_CHECK __attribute__((__warn_unused_result__, __nonnull__))
+#define PIKHSEN_MUST_CHECK __attribute__((__warn_unused_result__))
+#define PIKHSEN_NOT_NULL(n) __attribute__((__nonnull__(n)))
 #else
 #define PIKHSEN_MUST_CHECK
+#define PIKHSEN_NOT_NULL(n)
 #endif
 
 /* A number of 64 bits. */
@@ -47,38 +51,55 @@ typedef char pikhsen_needs_lp64[sizeof(pikhsen_u64) == 8 && sizeof(unsigned int)
 
 /* What came of a call. Of several reasons to refuse, the first in the order of the function's tests is told. */
 enum pikhsen_status {
-	PIKHSEN_OK = 0,                /* the call did what it says */
+	PIKHSEN_OK = 0,                /* the call did its work */
 	PIKHSEN_PASSES = 1,            /* Argon2: passes are not 1 to 2^32-1 */
 	PIKHSEN_LANES = 2,             /* Argon2: lanes are not 1 to 2^24-1 */
 	PIKHSEN_MEMORY = 3,            /* Argon2: memory is not 8 * lanes to 2^32-1 KiB */
-	PIKHSEN_TAG_LENGTH = 4,        /* Argon2: the tag has not 4 to 4096 bytes */
-	PIKHSEN_SALT_LENGTH = 5,       /* Argon2: the salt has not 8 to 255 bytes */
-	PIKHSEN_PASSWORD_LENGTH = 6,   /* Argon2: the password has not 1 to 127 bytes */
+	PIKHSEN_TAG_LENGTH = 4,        /* Argon2: the tag is not 4 to 4096 bytes long */
+	PIKHSEN_SALT_LENGTH = 5,       /* Argon2: the salt is not 8 to 255 bytes long */
+	PIKHSEN_PASSWORD_LENGTH = 6,   /* Argon2: the password is not 1 to 127 bytes long */
 	PIKHSEN_MEMORY_LIMIT = 7,      /* more memory is needed than the limit allows */
 	PIKHSEN_WORK_LIMIT = 8,        /* more work is needed than the limit allows */
-	PIKHSEN_OUT_OF_MEMORY = 9,     /* malloc refused */
+	PIKHSEN_OUT_OF_MEMORY = 9,     /* memory was refused */
 	PIKHSEN_KIND = 10,             /* Argon2: the kind is not 0, 1 or 2 */
 	PIKHSEN_ARGON2_VERSION = 11,   /* Argon2: the version is not 0x10 or 0x13 */
-	PIKHSEN_INPUT_LENGTH = 12,     /* Argon2: secret or data have 2^32 bytes or more */
-	PIKHSEN_BUFFER = 13,           /* out has not the length that the function needs */
-	PIKHSEN_NOT_ENCODED = 14,      /* the text is no encoded text */
-	PIKHSEN_OUT_OF_RANGE = 15,     /* the text is an encoded text with a value out of range */
+	PIKHSEN_INPUT_LENGTH = 12,     /* Argon2: the secret or the data is 2^32 bytes or longer */
+	PIKHSEN_BUFFER = 13,           /* out is not as long as the function needs */
+	PIKHSEN_NOT_ENCODED = 14,      /* the text is not an encoded hash */
+	PIKHSEN_OUT_OF_RANGE = 15,     /* the text is an encoded hash with a value out of range */
 	PIKHSEN_MISMATCH = 16,         /* the password is not that of the text */
 	PIKHSEN_LOG_N = 17,            /* scrypt: log2 N is not 1 to 63 */
 	PIKHSEN_ZERO = 18,             /* scrypt: r or p is below 1 */
 	PIKHSEN_PRODUCT = 19,          /* scrypt: r * p is 2^30 or more */
-	PIKHSEN_KEEP = 20,             /* scrypt: keep is no power of two from 1 to 1024 */
+	PIKHSEN_KEEP = 20,             /* scrypt: keep is not a power of two from 1 to 1024 */
 	PIKHSEN_KEEP_ABOVE_N = 21,     /* scrypt: keep is above N */
 	PIKHSEN_MAGIC = 22,            /* file: it does not begin with "scrypt" */
 	PIKHSEN_FORMAT_VERSION = 23,   /* file: the version of its format is not 0 */
 	PIKHSEN_CHECKSUM = 24,         /* file: the checksum of its header is wrong */
 	PIKHSEN_FILE_COSTS = 25,       /* file: its costs are out of range */
-	PIKHSEN_TOO_SHORT = 26,        /* file: it has not 96 bytes, or not 64 for its costs alone */
+	PIKHSEN_TOO_SHORT = 26,        /* file: it is shorter than 96 bytes, or than 64 to read its costs alone */
 	PIKHSEN_WRONG_PASSPHRASE = 27, /* file: the passphrase is not the file's */
 	PIKHSEN_DAMAGED = 28,          /* file: it is damaged, or cut short, after its first 96 bytes */
-	PIKHSEN_TOO_LONG = 29,         /* file: the text has 2^60 bytes or more */
-	PIKHSEN_FILE_SALT = 30         /* file: the salt has not 32 bytes */
+	PIKHSEN_TOO_LONG = 29,         /* file: the text is 2^60 bytes or longer */
+	PIKHSEN_FILE_SALT = 30,        /* file: the salt is not 32 bytes long */
+	PIKHSEN_TEXT_VERSION = 31,     /* text: its version is not 16 or 19 */
+	PIKHSEN_TEXT_PASSES = 32,      /* text: its passes are not 1 to 2^32-1 */
+	PIKHSEN_TEXT_LANES = 33,       /* text: its lanes are not 1 to 2^24-1 */
+	PIKHSEN_TEXT_MEMORY = 34,      /* text: its memory is not 8 * lanes to 2^32-1 KiB */
+	PIKHSEN_TEXT_TAG_LENGTH = 35,  /* text: its tag is not 4 to 4096 bytes long */
+	PIKHSEN_TEXT_SALT_LENGTH = 36  /* text: its salt is not 8 to 255 bytes long */
 };
+
+/* Bytes in which every sentence of pikhsen_message, and the byte 0 after it, find room. */
+#define PIKHSEN_MESSAGE_ROOM 80
+
+/*
+ * Writes what a number says, in the words above, and a byte 0 after it; its length, without that byte, goes to
+ * *text_len, which is 0 after any answer but PIKHSEN_OK. Any number may be asked for: of one that this library does
+ * not know it says that. Where out is too small, the answer is PIKHSEN_BUFFER.
+ */
+PIKHSEN_MUST_CHECK PIKHSEN_NOT_NULL(4)
+unsigned int pikhsen_message(unsigned int status, unsigned char *out, size_t out_len, size_t *text_len);
 
 enum pikhsen_kind { PIKHSEN_ARGON2D = 0, PIKHSEN_ARGON2I = 1, PIKHSEN_ARGON2ID = 2 };
 
@@ -88,10 +109,10 @@ unsigned int pikhsen_version(void);
 /*
  * Writes the tag of a password, as many bytes as out has, 4 to 4096. version is 0x13, or 0x10 for old hashes. It is
  * refused, before memory is asked for, where it needs more than max_kib blocks of 1 KiB or max_ops block functions.
- * The blocks B are memory_kib, rounded down to a multiple of 4 * lanes. The block functions are passes * B - 2 * lanes,
- * and two more for every 128 blocks, or part of them, of each segment (B / (4 * lanes) blocks) whose accesses do not
- * depend on the password: there are 4 * lanes * passes of these for Argon2i, 2 * lanes for Argon2id, none for Argon2d.
- * So 2 * passes * memory_kib block functions are always enough, multiplied as pikhsen_u64.
+ * The blocks B are memory_kib, rounded down to a multiple of 4 * lanes. The block functions are passes * B - 2 *
+ * lanes, and two more for every 128 blocks, or part of them, of each segment (B / (4 * lanes) blocks) whose accesses
+ * do not depend on the password: there are 4 * lanes * passes of these for Argon2i, 2 * lanes for Argon2id, none for
+ * Argon2d. So 2 * passes * memory_kib block functions are always enough, multiplied as pikhsen_u64.
  */
 PIKHSEN_MUST_CHECK
 unsigned int pikhsen_argon2_hash(unsigned int kind, unsigned int version, unsigned int passes, unsigned int memory_kib,
@@ -108,7 +129,7 @@ unsigned int pikhsen_argon2_hash(unsigned int kind, unsigned int version, unsign
  * goes to *text_len, which is 0 after any answer but PIKHSEN_OK. Limits as above. The salt must be new and random each
  * time.
  */
-PIKHSEN_MUST_CHECK
+PIKHSEN_MUST_CHECK PIKHSEN_NOT_NULL(15)
 unsigned int pikhsen_argon2_encoded(unsigned int kind, unsigned int version, unsigned int passes,
     unsigned int memory_kib, unsigned int lanes, const unsigned char *password, size_t password_len,
     const unsigned char *salt, size_t salt_len, size_t tag_len, unsigned int max_kib, pikhsen_u64 max_ops,
@@ -125,6 +146,32 @@ unsigned int pikhsen_argon2_encoded(unsigned int kind, unsigned int version, uns
 PIKHSEN_MUST_CHECK
 unsigned int pikhsen_argon2_verify(const unsigned char *text, size_t text_len, const unsigned char *password,
     size_t password_len, unsigned int max_kib, pikhsen_u64 max_ops);
+
+/* What an encoded text says of its hash, but for the bytes of its salt and its tag, of which it has the lengths. */
+struct pikhsen_argon2_settings {
+	unsigned int kind, version, passes, memory_kib, lanes;
+	size_t salt_len, tag_len;
+};
+
+/*
+ * Reads the settings of an encoded text. Nothing is hashed, so there is no limit; memory for the text's salt and tag,
+ * together less than text_len bytes, is asked for. Of a text with a value out of range, which is PIKHSEN_OUT_OF_RANGE
+ * for pikhsen_argon2_verify, it tells which one, the first in the order of PIKHSEN_TEXT_VERSION to
+ * PIKHSEN_TEXT_SALT_LENGTH.
+ */
+PIKHSEN_MUST_CHECK PIKHSEN_NOT_NULL(3)
+unsigned int pikhsen_argon2_settings(const unsigned char *text, size_t text_len,
+    struct pikhsen_argon2_settings *settings);
+
+/*
+ * Whether the hash of an encoded text is to be made anew, since its settings are not those that are wanted now,
+ * weaker or stronger: *needs is then 1, and 0 where they are just these. LOOK AT *needs, AND NOT AT THE ANSWER ALONE:
+ * PIKHSEN_OK says that the text was read. After any other answer, which is one of pikhsen_argon2_settings, *needs is
+ * as it was. A new hash takes the password: make it after a good login.
+ */
+PIKHSEN_MUST_CHECK PIKHSEN_NOT_NULL(3) PIKHSEN_NOT_NULL(4)
+unsigned int pikhsen_argon2_needs_rehash(const unsigned char *text, size_t text_len,
+    const struct pikhsen_argon2_settings *wanted, unsigned int *needs);
 
 /*
  * Writes the key of a password, as many bytes as out has, at most 32 * (2^32-1). N is 2^log_n. With keep 1 the whole
@@ -151,14 +198,15 @@ struct pikhsen_scrypt_costs {
  * Reads the costs in the first 64 bytes of a file; bytes after these are not looked at, and fewer are
  * PIKHSEN_TOO_SHORT. Anyone can make such a header: it tells what opening the file would take, and not who wrote it.
  */
-PIKHSEN_MUST_CHECK
+PIKHSEN_MUST_CHECK PIKHSEN_NOT_NULL(3)
 unsigned int pikhsen_scrypt_info(const unsigned char *file, size_t file_len, struct pikhsen_scrypt_costs *costs);
 
 /*
  * Writes the encrypted file of a text. out_len is text_len + PIKHSEN_FILE_OVERHEAD. The salt has 32 bytes, AND MUST BE
  * NEW AND RANDOM FOR EACH FILE: two files of one passphrase, salt and costs are encrypted with one key stream, and who
  * has both learns of their texts. AN EMPTY PASSPHRASE IS ACCEPTED, and anybody can open such a file. Costs, keep and
- * limits as above; the file does not depend on keep.
+ * limits as above; the file does not depend on keep. TEXT AND OUT MUST NOT OVERLAP: where they do, text == out among
+ * others, THE TEXT IS LOST and the answer may be PIKHSEN_OK. pikhsen_scrypt_encrypt_in_place is for that.
  */
 PIKHSEN_MUST_CHECK
 unsigned int pikhsen_scrypt_encrypt(const unsigned char *passphrase, size_t passphrase_len, const unsigned char *salt,
@@ -166,13 +214,24 @@ unsigned int pikhsen_scrypt_encrypt(const unsigned char *passphrase, size_t pass
     pikhsen_u64 max_ops, const unsigned char *text, size_t text_len, unsigned char *out, size_t out_len);
 
 /*
- * Writes the text of a file to the front of out, zeros after it, and its length to *text_len. out has at least file_len
- * bytes. PIKHSEN_OK: the whole file is an encryption of that text under the passphrase, its final code included. After
- * any other answer *text_len is 0 and out holds nothing of the text: after PIKHSEN_DAMAGED and PIKHSEN_TOO_LONG all its
- * bytes are 0, after others it is as it was. During the call out holds text that is not yet tested: give it memory that
- * nobody else reads. Fewer than 96 bytes are PIKHSEN_TOO_SHORT. keep and limits as above.
+ * Encrypts in place: the text is all of out but its last PIKHSEN_FILE_OVERHEAD bytes, which need not be set, and the
+ * file takes its place, all of out. The text is gone after PIKHSEN_OK; after any other answer out is as it was. Fewer
+ * bytes than PIKHSEN_FILE_OVERHEAD are PIKHSEN_BUFFER. All else is as above: a new and random salt of 32 bytes for
+ * each file.
  */
 PIKHSEN_MUST_CHECK
+unsigned int pikhsen_scrypt_encrypt_in_place(const unsigned char *passphrase, size_t passphrase_len,
+    const unsigned char *salt, size_t salt_len, unsigned int log_n, unsigned int r, unsigned int p, unsigned int keep,
+    pikhsen_u64 max_bytes, pikhsen_u64 max_ops, unsigned char *out, size_t out_len);
+
+/*
+ * Writes the text of a file to the front of out, zeros after it, and its length to *text_len. out has at least
+ * file_len bytes. PIKHSEN_OK: the whole file is an encryption of that text under the passphrase, its final code
+ * included. After any other answer *text_len is 0 and out holds nothing of the text: after PIKHSEN_DAMAGED and
+ * PIKHSEN_TOO_LONG all its bytes are 0, after others it is as it was. During the call out holds text that is not yet
+ * tested: give it memory that nobody else reads. Fewer than 96 bytes are PIKHSEN_TOO_SHORT. keep and limits as above.
+ */
+PIKHSEN_MUST_CHECK PIKHSEN_NOT_NULL(10)
 unsigned int pikhsen_scrypt_decrypt(const unsigned char *passphrase, size_t passphrase_len, unsigned int keep,
     pikhsen_u64 max_bytes, pikhsen_u64 max_ops, const unsigned char *file, size_t file_len, unsigned char *out,
     size_t out_len, size_t *text_len);

@@ -34,8 +34,9 @@ from ctypes import POINTER, byref, c_char_p, c_size_t, c_uint, c_ulong
 from typing import TYPE_CHECKING, Callable, Dict, List, NamedTuple, Optional, Type, Union
 
 __all__ = [
-    "BytesLike", "Costs", "Damaged", "Invalid", "Kind", "LimitExceeded", "NotAFile", "OutOfMemory", "Refused", "Status",
-    "WrongPassphrase", "decrypt", "encode", "encrypt", "hash", "info", "scrypt", "verify", "version",
+    "BytesLike", "Costs", "Damaged", "Invalid", "Kind", "LimitExceeded", "NotAFile", "OutOfMemory", "Refused",
+    "Settings", "Status", "WrongPassphrase", "decrypt", "encode", "encrypt", "encrypt_in_place", "hash", "info", "message",
+    "needs_rehash", "scrypt", "settings", "verify", "version",
 ]
 
 # What is taken for bytes: all that a memoryview can be made of, so no str. In Python 3.9 only checkers of types have a
@@ -88,42 +89,54 @@ class Status(enum.IntEnum):
     DAMAGED = 28
     TOO_LONG = 29
     FILE_SALT = 30
+    TEXT_VERSION = 31
+    TEXT_PASSES = 32
+    TEXT_LANES = 33
+    TEXT_MEMORY = 34
+    TEXT_TAG_LENGTH = 35
+    TEXT_SALT_LENGTH = 36
 
 
 # What the statuses say, as pikhsen.h and man 3 pikhsen do, but for BUFFER: a program in Python gives no buffer, and
 # nothing but the length of a key by scrypt is refused so.
 _SENTENCES: Dict[int, str] = {
-    Status.OK: "the call did what it says",
+    Status.OK: "the call did its work",
     Status.PASSES: "Argon2: passes are not 1 to 2^32-1",
     Status.LANES: "Argon2: lanes are not 1 to 2^24-1",
     Status.MEMORY: "Argon2: memory is not 8 * lanes to 2^32-1 KiB",
-    Status.TAG_LENGTH: "Argon2: the tag has not 4 to 4096 bytes",
-    Status.SALT_LENGTH: "Argon2: the salt has not 8 to 255 bytes",
-    Status.PASSWORD_LENGTH: "Argon2: the password has not 1 to 127 bytes",
+    Status.TAG_LENGTH: "Argon2: the tag is not 4 to 4096 bytes long",
+    Status.SALT_LENGTH: "Argon2: the salt is not 8 to 255 bytes long",
+    Status.PASSWORD_LENGTH: "Argon2: the password is not 1 to 127 bytes long",
     Status.MEMORY_LIMIT: "more memory is needed than the limit allows",
     Status.WORK_LIMIT: "more work is needed than the limit allows",
-    Status.OUT_OF_MEMORY: "malloc refused",
+    Status.OUT_OF_MEMORY: "memory was refused",
     Status.KIND: "Argon2: the kind is not 0, 1 or 2",
     Status.ARGON2_VERSION: "Argon2: the version is not 0x10 or 0x13",
-    Status.INPUT_LENGTH: "Argon2: secret or data have 2^32 bytes or more",
+    Status.INPUT_LENGTH: "Argon2: the secret or the data is 2^32 bytes or longer",
     Status.BUFFER: "scrypt: the length is not 0 to 32 * (2^32-1)",
-    Status.NOT_ENCODED: "the text is no encoded text",
-    Status.OUT_OF_RANGE: "the text is an encoded text with a value out of range",
+    Status.NOT_ENCODED: "the text is not an encoded hash",
+    Status.OUT_OF_RANGE: "the text is an encoded hash with a value out of range",
     Status.MISMATCH: "the password is not that of the text",
     Status.LOG_N: "scrypt: log2 N is not 1 to 63",
     Status.ZERO: "scrypt: r or p is below 1",
     Status.PRODUCT: "scrypt: r * p is 2^30 or more",
-    Status.KEEP: "scrypt: keep is no power of two from 1 to 1024",
+    Status.KEEP: "scrypt: keep is not a power of two from 1 to 1024",
     Status.KEEP_ABOVE_N: "scrypt: keep is above N",
     Status.MAGIC: 'file: it does not begin with "scrypt"',
     Status.FORMAT_VERSION: "file: the version of its format is not 0",
     Status.CHECKSUM: "file: the checksum of its header is wrong",
     Status.FILE_COSTS: "file: its costs are out of range",
-    Status.TOO_SHORT: "file: it has not 96 bytes, or not 64 for its costs alone",
+    Status.TOO_SHORT: "file: it is shorter than 96 bytes, or than 64 to read its costs alone",
     Status.WRONG_PASSPHRASE: "file: the passphrase is not the file's",
     Status.DAMAGED: "file: it is damaged, or cut short, after its first 96 bytes",
-    Status.TOO_LONG: "file: the text has 2^60 bytes or more",
-    Status.FILE_SALT: "file: the salt has not 32 bytes",
+    Status.TOO_LONG: "file: the text is 2^60 bytes or longer",
+    Status.FILE_SALT: "file: the salt is not 32 bytes long",
+    Status.TEXT_VERSION: "text: its version is not 16 or 19",
+    Status.TEXT_PASSES: "text: its passes are not 1 to 2^32-1",
+    Status.TEXT_LANES: "text: its lanes are not 1 to 2^24-1",
+    Status.TEXT_MEMORY: "text: its memory is not 8 * lanes to 2^32-1 KiB",
+    Status.TEXT_TAG_LENGTH: "text: its tag is not 4 to 4096 bytes long",
+    Status.TEXT_SALT_LENGTH: "text: its salt is not 8 to 255 bytes long",
 }
 
 
@@ -195,8 +208,27 @@ class Costs(NamedTuple):
     p: int
 
 
+class Settings(NamedTuple):
+    """What an encoded text says of its hash: how it was made, and the lengths of its salt and its tag, in bytes."""
+
+    kind: Kind
+    version: int
+    passes: int
+    memory_kib: int
+    lanes: int
+    salt_len: int
+    length: int
+
+
 class _Costs(ctypes.Structure):
     _fields_ = [("log_n", c_uint), ("r", c_uint), ("p", c_uint)]
+
+
+class _Settings(ctypes.Structure):
+    _fields_ = [
+        ("kind", c_uint), ("version", c_uint), ("passes", c_uint), ("memory_kib", c_uint), ("lanes", c_uint),
+        ("salt_len", c_size_t), ("tag_len", c_size_t),
+    ]
 
 
 # The first number of the version of the library that this module is made for.
@@ -206,14 +238,18 @@ _BYTES = [c_char_p, c_size_t]
 _LIMITS = [c_ulong, c_ulong]
 _PARAMETERS = {
     "pikhsen_version": [],
+    "pikhsen_message": [c_uint] + _BYTES + [POINTER(c_size_t)],
     "pikhsen_argon2_hash": [c_uint] * 5 + 4 * _BYTES + [c_uint, c_ulong] + _BYTES,
     "pikhsen_argon2_encoded": (
         [c_uint] * 5 + 2 * _BYTES + [c_size_t, c_uint, c_ulong] + _BYTES + [POINTER(c_size_t)]
     ),
     "pikhsen_argon2_verify": 2 * _BYTES + [c_uint, c_ulong],
+    "pikhsen_argon2_settings": _BYTES + [POINTER(_Settings)],
+    "pikhsen_argon2_needs_rehash": _BYTES + [POINTER(_Settings), POINTER(c_uint)],
     "pikhsen_scrypt": 2 * _BYTES + [c_uint] * 4 + _LIMITS + _BYTES,
     "pikhsen_scrypt_info": _BYTES + [POINTER(_Costs)],
     "pikhsen_scrypt_encrypt": 2 * _BYTES + [c_uint] * 4 + _LIMITS + 2 * _BYTES,
+    "pikhsen_scrypt_encrypt_in_place": 2 * _BYTES + [c_uint] * 4 + _LIMITS + _BYTES,
     "pikhsen_scrypt_decrypt": _BYTES + [c_uint] + _LIMITS + 2 * _BYTES + [POINTER(c_size_t)],
 }
 
@@ -263,6 +299,11 @@ def _bytes(given: BytesLike) -> bytes:
     return given if type(given) is bytes else memoryview(given).tobytes()
 
 
+def _ascii(text: Union[str, BytesLike]) -> bytes:
+    """The bytes of an encoded text. A question mark, which stands for what is not ASCII, is in none."""
+    return str.encode(text, "ascii", "replace") if isinstance(text, str) else _bytes(text)
+
+
 def _beginning(given: BytesLike, length: int) -> bytes:
     """The first bytes, so many if there are as many. No more items than that are copied."""
     view = memoryview(given)
@@ -303,6 +344,10 @@ def _tag_length(length: int) -> int:
     return length if 0 <= length <= 4096 else 0
 
 
+def _file_salt(salt: Optional[BytesLike]) -> bytes:
+    return os.urandom(32) if salt is None else _bytes(salt)
+
+
 def _buffer(length: int) -> "ctypes.Array[ctypes.c_char]":
     return (ctypes.c_char * length)()
 
@@ -315,6 +360,13 @@ def _front(buffer: "ctypes.Array[ctypes.c_char]", length: int) -> bytes:
 def version() -> str:
     """The version of the library, as "0.1.0"."""
     return _dotted(_lib.pikhsen_version())
+
+
+def message(status: int) -> str:
+    """What a number of the library says, as pikhsen.h has it. A newer library knows more numbers than this module."""
+    out, text_len = _buffer(80), c_size_t()
+    _call(_lib.pikhsen_message, _u32(status, _TOP), out, byref(text_len))
+    return _front(out, text_len.value).decode()
 
 
 def hash(
@@ -367,15 +419,41 @@ def verify(
     is taken, where it needs more than `max_kib` KiB (1 GiB if not given) or `max_ops` block functions, about passes *
     memory. Invalid is raised where it is no encoded text, or the password has not 1 to 127 bytes.
     """
-    # a question mark, which stands for what is not ASCII, is in no encoded text
-    text = str.encode(text, "ascii", "replace") if isinstance(text, str) else _bytes(text)
     try:
-        _call(_lib.pikhsen_argon2_verify, text, _bytes(password), *_argon2_limits(max_kib, max_ops))
+        _call(_lib.pikhsen_argon2_verify, _ascii(text), _bytes(password), *_argon2_limits(max_kib, max_ops))
     except Refused as refused:
         if refused.status is not Status.MISMATCH:
             raise
         return False
     return True
+
+
+def settings(text: Union[str, BytesLike]) -> Settings:
+    """The settings that an encoded text says, a str or bytes. Nothing is hashed, and no password is tested.
+
+    Raises Invalid where it is no encoded text; where a value of it is out of range, `status` tells which one, by a
+    number from TEXT_VERSION to TEXT_SALT_LENGTH.
+    """
+    told = _Settings()
+    _call(_lib.pikhsen_argon2_settings, _ascii(text), byref(told))
+    costs = told.passes, told.memory_kib, told.lanes
+    return Settings(Kind(told.kind), told.version, *costs, told.salt_len, told.tag_len)
+
+
+def needs_rehash(
+    text: Union[str, BytesLike], *, passes: int = 3, memory_kib: int = 65536, lanes: int = 4, length: int = 32,
+    kind: int = Kind.ID, version: int = 0x13, salt_len: int = 16,
+) -> bool:
+    """Whether an encoded text was made with other settings than these, which are those of `encode` if none are given.
+
+    Ask after a good login, while the password is there, and if it is True encode the password anew and store that.
+    Weaker and stronger settings count alike. Raises what `settings` raises.
+    """
+    numbers = _argon2_settings(kind, version, passes, memory_kib, lanes)
+    lengths = (_clamped(it, (1 << 64) - 1) for it in (salt_len, length))
+    needs = c_uint()
+    _call(_lib.pikhsen_argon2_needs_rehash, _ascii(text), byref(_Settings(*numbers, *lengths)), byref(needs))
+    return needs.value != 0
 
 
 def scrypt(
@@ -423,13 +501,29 @@ def encrypt(
     The salt is new, 32 bytes, if none is given. Two files with one passphrase, salt and costs betray their texts.
     Costs and limits are those of `scrypt`; `decrypt` allows less if nothing else is said.
     """
-    text, salt = _bytes(text), os.urandom(32) if salt is None else _bytes(salt)
+    text, salt = _bytes(text), _file_salt(salt)
     out = _buffer(len(text) + 128)
     _call(
         _lib.pikhsen_scrypt_encrypt, _bytes(passphrase), salt, *_scrypt_settings(log_n, r, p, keep),
         *_limits(max_bytes, max_ops), text, out,
     )
     return out.raw
+
+
+def encrypt_in_place(
+    buffer: Union[bytearray, memoryview], passphrase: BytesLike, *, log_n: int = 17, r: int = 8, p: int = 1,
+    keep: int = 1, max_bytes: int = 1 << 32, max_ops: int = 1 << 33, salt: Optional[BytesLike] = None,
+) -> None:
+    """Encrypts the text in a buffer that can be written: all of it but its last 128 bytes. The file takes its place.
+
+    So no second buffer is needed, and the text is gone. Where it raises, the buffer is as it was. All else is as
+    `encrypt` has it, A NEW SALT FOR EACH FILE and the EMPTY PASSPHRASE THAT IS ACCEPTED among others.
+    """
+    out = (ctypes.c_char * memoryview(buffer).nbytes).from_buffer(buffer)
+    _call(
+        _lib.pikhsen_scrypt_encrypt_in_place, _bytes(passphrase), _file_salt(salt), *_scrypt_settings(log_n, r, p, keep),
+        *_limits(max_bytes, max_ops), out,
+    )
 
 
 def decrypt(

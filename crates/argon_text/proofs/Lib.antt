@@ -7,3 +7,5 @@ pub mod Symbols
 pub mod Readings
 pub mod Answering
 pub mod PuttingTags
+pub mod DecodedLength
+pub mod RangeFaults

@@ -6,5 +6,6 @@ pub mod Base64
 pub mod Grammar
 pub mod View
 pub mod Verifying
+pub mod Settings
 pub mod Vectors
 pub mod Inside

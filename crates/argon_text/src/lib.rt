@@ -24,8 +24,12 @@ mod claim;
 mod encoded;
 mod fault;
 mod fields;
+#[cfg(test)]
+mod laws;
+mod range;
 mod read;
 mod room;
+mod settings;
 #[cfg(test)]
 mod tests;
 mod text_room;
@@ -35,4 +39,6 @@ mod verify_password;
 
 pub use encoded::{Encoded, put_tag};
 pub use fault::{ReadFault, VerifyFault};
+pub use range::{RangeFault, range_fault};
+pub use settings::Settings;
 pub use verify_password::verify;

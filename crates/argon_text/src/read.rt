@@ -109,8 +109,8 @@ fn encoded_of(fields: &Fields<'_>, salt: Vec<u8>, tag: Vec<u8>) -> Option<Encode
     }
 }
 
-// The number that digits write, where it is below 2^32. No digit is read past that.
-fn number_value(digits: &[u8]) -> Option<u32>
+/// The number that digits write, where it is below 2^32. No digit is read past that.
+pub(crate) fn number_value(digits: &[u8]) -> Option<u32>
     requires form { is_number digits.now ≡ true }
     ensures value { MatchOption result (2 ^ 32 ≤ number_value digits.now)
         (λ number. number ≡ number_value digits.now) }

@@ -1,12 +1,15 @@
-//! The definitions, run on what the reference program and RFC 4648 give, and laws of them.
-ghost use Rattle.std.specs.Prelude.{◌≡◌, ◌≢◌, [], List, None, Some, ℕ, codes, true, false, replicate};
+//! The definitions, run on what the reference program and RFC 4648 give.
+ghost use Rattle.std.specs.Prelude.{◌≡◌, [], None, Some, codes, true, false, replicate};
+ghost use Rattle.argon.specs.Argon2.{argon2_tag};
 ghost use Rattle.argon_text.specs.Base64.{base64_bytes, is_base64};
-ghost use Rattle.argon_text.specs.EncodedText.{IsTextOf, encoded_text, short_text};
-ghost use Rattle.argon_text.specs.Grammar.{Fields, HasFields, IsTextInRange, fields_of_value, value_of_fields};
-ghost use Rattle.argon_text.specs.Value.{IsValue, Value, is_in_range};
-ghost use Rattle.argon_text.specs.Verifying.{verify_fault};
+ghost use Rattle.argon_text.specs.EncodedText.{encoded_text, short_text};
+ghost use Rattle.argon_text.specs.Grammar.{HasFields, value_of_fields};
+ghost use Rattle.argon_text.specs.Settings.{first_out, range_fault, settings_of};
+ghost use Rattle.argon_text.specs.Verifying.{tag_of_password, verify_fault};
 ghost use Rattle.argon_text.specs.Vectors.{known_fields, known_text, known_value, old_short_fields, old_short_text, old_text, old_value};
+ghost use Rattle.argon.specs.declared.kind.Kind.TheVariants.{D};
 ghost use Rattle.argon_text.specs.declared.fault.VerifyFault.TheVariants.{MemoryLimit, PasswordLength, WorkLimit};
+ghost use Rattle.argon_text.specs.declared.range.RangeFault.TheVariants.{Lanes, Memory, Passes, SaltLength, TagLength, Version};
 
 fn text_of_known_value()
     ensures text { encoded_text known_value ≡ known_text }
@@ -49,20 +52,54 @@ fn faults_of_tests()
     ensures work { verify_fault known_value (codes "p") 8 5 ≡ Some WorkLimit }
 {}
 
-// A text has one reading: its fields are the only ones.
-fn one_reading()
-    ensures one { (s : List ℕ) (p q : Fields) → HasFields s p → HasFields s q → p ≡ q }
+// The tag of the known value is that of its own password, as the reference program gives it (argon's vectors compute it).
+fn tag_of_the_known_password()
+    ensures tag { argon2_tag
+        (record {
+          kind = 0;
+          version = 0x13;
+          passes = 1;
+          lanes = 1;
+          memory_kib = 8;
+          tag_len = 32;
+          salt_len = 8;
+          password_len = 8;
+        })
+        (record {
+          password = codes "password";
+          salt = codes "somesalt";
+          secret = [];
+          associated = [];
+        }) ≡ known_value.tag → tag_of_password known_value (codes "password") ≡ known_value.tag }
 {}
 
-// A text of a value is told by the grammar and in range, says that value and no other, and is whole
-// or short and not both. A text in range is a text of what it says.
-fn one_value()
-    ensures told { (v : Value) (s : List ℕ) → IsValue v → IsTextOf v s → IsTextInRange s }
-    ensures one { (v w : Value) (s : List ℕ) → IsValue v → IsValue w → IsTextOf v s → IsTextOf w s → v ≡ w }
-    ensures fields { (v : Value) → IsValue v → HasFields (encoded_text v) (fields_of_value v) }
-    ensures says { (v : Value) (s : List ℕ) (fields : Fields) → IsValue v → IsTextOf v s
-        → HasFields s fields → value_of_fields fields ≡ v }
-    ensures said { (s : List ℕ) (fields : Fields) → HasFields s fields
-        → is_in_range (value_of_fields fields) ≡ true → IsTextOf (value_of_fields fields) s }
-    ensures form { (v w : Value) → IsValue v → IsValue w → short_text v ≢ encoded_text w }
+// What is out of range, the first of several (RFC 9106, 3.1: each of these numbers is the first beyond an end of its range).
+fn first_of_faults()
+    ensures none { first_out 0x13 1 1 8 4 8 ≡ None }
+    ensures none_too { first_out 0x10 0xFFFF_FFFF 0xFF_FFFF 0xFFFF_FFFF 4096 255 ≡ None }
+    ensures version { first_out 0x12 0 0 0 0 0 ≡ Some Version }
+    ensures passes { first_out 0x13 0 0 0 0 0 ≡ Some Passes }
+    ensures lanes { first_out 0x13 1 0x100_0000 0 0 0 ≡ Some Lanes }
+    ensures memory { first_out 0x13 1 2 15 0 0 ≡ Some Memory }
+    ensures tag { first_out 0x13 1 2 16 4097 0 ≡ Some TagLength }
+    ensures salt { first_out 0x13 1 2 16 4096 256 ≡ Some SaltLength }
+{}
+
+// The known value is in range, and with one KiB less than 8 for its lane it is not.
+fn fault_of_known_value()
+    ensures none { range_fault known_value ≡ None }
+    ensures memory { range_fault (record known_value { memory = 7 }) ≡ Some Memory }
+{}
+
+// What the known text says of its settings.
+fn settings_of_known_value()
+    ensures settings { settings_of known_value ≡ record {
+      kind = D;
+      version = 19;
+      memory = 8;
+      passes = 1;
+      lanes = 1;
+      salt_len = 8;
+      tag_len = 32;
+    } }
 {}

@@ -1,2 +1,3 @@
 pub mod FirstTold
 pub mod FrontStatus
+pub mod MovedText

@@ -1,6 +1,8 @@
 -- What a program in C gives and is told: the numbers of answers, and for each call when it answers which.
 pub mod Status
+pub mod Message
 pub mod Argon2
 pub mod Scrypt
 pub mod File
+pub mod Settings
 pub mod Inside

@@ -4,6 +4,8 @@ use Rattle.argon.specs.declared.fault.ParamFault.{ParamFault}
 use Rattle.argon.specs.declared.fault.ParamFault.TheVariants as params
 use Rattle.romix.specs.declared.fault.CostFault.{CostFault}
 use Rattle.romix.specs.declared.fault.CostFault.TheVariants as costs
+use Rattle.argon_text.specs.declared.range.RangeFault.{RangeFault}
+use Rattle.argon_text.specs.declared.range.RangeFault.TheVariants as range
 use Rattle.encfile.specs.declared.fault.HeaderFault.{HeaderFault}
 use Rattle.encfile.specs.declared.fault.HeaderFault.TheVariants as header
 
@@ -86,6 +88,15 @@ long_text = 29
 -- a salt for a file that has not 32 bytes
 abbrev pub wrong_salt : ℕ
 wrong_salt = 30
+
+-- 31 to 36: which part of an encoded text is out of range
+abbrev pub range_number : RangeFault → ℕ
+range_number range.Version = 31
+range_number range.Passes = 32
+range_number range.Lanes = 33
+range_number range.Memory = 34
+range_number range.TagLength = 35
+range_number range.SaltLength = 36
 
 -- the first of two numbers, if it tells a fault, or else the second
 abbrev pub first_told : ℕ → ℕ → ℕ

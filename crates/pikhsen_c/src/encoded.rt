@@ -45,8 +45,8 @@ fn hash_into(
     put_tag(text, tag);
 }
 
-// Copies a text to the front, and a byte 0 after it.
-fn copy_text(text: &[u8], out: &mut [u8])
+/// Copies a text to the front, and a byte 0 after it.
+pub(crate) fn copy_text(text: &[u8], out: &mut [u8])
     requires room { length text.now < length out.old }
     ensures text { take (length text.now) out.new ≡ text.now }
     ensures end { take (length text.now + 1) out.new ≡ text.now ++ 0 ∷ [] }

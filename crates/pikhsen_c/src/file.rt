@@ -72,25 +72,69 @@ pub extern "C" fn pikhsen_scrypt_info(file: &[u8], costs: &mut PikhsenScryptCost
 }
 
 // Whether salt, text and file have lengths that fit, or the number of the first fault.
-fn tested_lengths(salt: &[u8], text: &[u8], out: &[u8]) -> Result<(), u32>
-    ensures passed { OnOk result (lengths_status (length salt.now) (length text.now) (length out.now) ≡ 0) }
+fn tested_lengths(salt: &[u8], text_len: usize, out_len: usize) -> Result<(), u32>
+    ensures passed { OnOk result (lengths_status (length salt.now) text_len out_len ≡ 0) }
     ensures salt { OnOk result (length salt.now ≡ 32) }
-    ensures text { OnOk result (length text.now < 2 ^ 60) }
-    ensures room { OnOk result (length out.now ≡ length text.now + 128) }
-    ensures told { IfErr result (λ status.
-        lengths_status (length salt.now) (length text.now) (length out.now) ≡ status) }
+    ensures text { OnOk result (text_len < 2 ^ 60) }
+    ensures room { OnOk result (out_len ≡ text_len + 128) }
+    ensures told { IfErr result (λ status. lengths_status (length salt.now) text_len out_len ≡ status) }
     ensures some { IfErr result (λ status. 13 ≤ status) }
 {
     if salt.len() != 32 {
         return Err(status::FILE_SALT);
     }
-    if text.len() as u64 >= 1 << 60 {
+    if text_len as u64 >= 1 << 60 {
         return Err(status::TOO_LONG);
     }
-    if out.len() != text.len() + 128 {
+    if out_len != text_len + 128 {
         return Err(status::BUFFER);
     }
     Ok(())
+}
+
+/// The encryption of a text of this length, of which nothing is fed yet, with memory from `source`: one request. Or the
+/// number of what it is refused for.
+pub(crate) fn begun<S: Source>(
+    source: &mut S,
+    passphrase: &[u8],
+    salt: &[u8],
+    log_n: u32,
+    r: u32,
+    p: u32,
+    keep: u32,
+    max_bytes: u64,
+    max_ops: u64,
+    text_len: usize,
+    out_len: usize,
+    ticks: &mut Ticks,
+) -> Result<Enc, u32>
+    ensures begun { IfOk result (λ enc. HasEncrypted enc passphrase.now salt.now (costs_given log_n r p) []) }
+    ensures text { OnOk result (text_len < 2 ^ 60) }
+    ensures room { OnOk result (out_len ≡ text_len + 128) }
+    ensures passed { OnOk result (encrypt_status (costs_given log_n r p) keep max_bytes max_ops
+        (length salt.now) text_len out_len ≡ 0) }
+    ensures told { IfErr result (λ status. status ≢ out_of_memory → encrypt_status (costs_given log_n r p) keep
+        max_bytes max_ops (length salt.now) text_len out_len ≡ status) }
+    ensures memory { IfErr result (λ status. status ≡ out_of_memory → encrypt_status (costs_given log_n r p) keep
+        max_bytes max_ops (length salt.now) text_len out_len ≡ 0) }
+    ensures some { IfErr result (λ status. 1 ≤ status) }
+    // Nothing is asked of the source before every other refusal is ruled out, and then it is asked once.
+    ensures unasked { IfErr result (λ status. status ≢ out_of_memory → source.new ≡ source.old) }
+    ensures asked { OnOk result (source.new
+        ≡ S.after_workspace source.old (sparse_given (costs_given log_n r p) keep) max_bytes max_ops true) }
+    ensures refused { IfErr result (λ status. status ≡ out_of_memory → source.new
+        ≡ S.after_workspace source.old (sparse_given (costs_given log_n r p) keep) max_bytes max_ops false) }
+    // No derivation begins before every refusal is ruled out, and then one.
+    ensures idle { IfErr result (λ _. ticks.new ≡ ticks.old) }
+    ensures count { OnOk result (ticks.new
+        ≡ ticks.old + sparse_cores passphrase.now salt.now (sparse_given (costs_given log_n r p) keep)) }
+{
+    let costs = costs_of(log_n, r, p)?;
+    tested_lengths(salt, text_len, out_len)?;
+    let mut whole_salt = [0u8; 32];
+    whole_salt.copy_from_slice(salt);
+    let mut workspace = workspace(source, &costs, keep, max_bytes, max_ops)?;
+    Ok(Enc::start(&costs, &whole_salt, passphrase, &mut workspace, ticks))
 }
 
 // The file of the text, by an encryption of nothing yet. It is never too long.
@@ -146,23 +190,24 @@ fn encrypt_in<S: Source>(
     ensures count { result ≡ 0 → ticks.new
         ≡ ticks.old + sparse_cores passphrase.now salt.now (sparse_given (costs_given log_n r p) keep) }
 {
-    let costs = match costs_of(log_n, r, p) {
-        Ok(costs) => costs,
-        Err(status) => return status,
-    };
-    if let Err(status) = tested_lengths(salt, text, out) {
-        return status;
-    }
-    let mut whole_salt = [0u8; 32];
-    whole_salt.copy_from_slice(salt);
-    match workspace(source, &costs, keep, max_bytes, max_ops) {
-        Ok(mut workspace) => {
-            let enc = Enc::start(&costs, &whole_salt, passphrase, &mut workspace, ticks);
-            match put_file(enc, text, out) {
-                Ok(()) => status::OK,
-                Err(_) => status::TOO_LONG,
-            }
-        }
+    match begun(
+        source,
+        passphrase,
+        salt,
+        log_n,
+        r,
+        p,
+        keep,
+        max_bytes,
+        max_ops,
+        text.len(),
+        out.len(),
+        ticks,
+    ) {
+        Ok(enc) => match put_file(enc, text, out) {
+            Ok(()) => status::OK,
+            Err(_) => status::TOO_LONG,
+        },
         Err(status) => status,
     }
 }

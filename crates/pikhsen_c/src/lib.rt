@@ -9,9 +9,14 @@ mod argon2;
 mod burning;
 mod encoded;
 mod file;
+mod in_place;
+mod message;
 mod scrypt;
+mod settings;
 mod source;
 mod status;
+#[cfg(test)]
+mod vectors;
 mod verifying;
 mod version;
 
@@ -20,6 +25,9 @@ pub use encoded::pikhsen_argon2_encoded;
 pub use file::{
     PikhsenScryptCosts, pikhsen_scrypt_decrypt, pikhsen_scrypt_encrypt, pikhsen_scrypt_info,
 };
+pub use in_place::pikhsen_scrypt_encrypt_in_place;
+pub use message::pikhsen_message;
 pub use scrypt::pikhsen_scrypt;
+pub use settings::{PikhsenArgon2Settings, pikhsen_argon2_needs_rehash, pikhsen_argon2_settings};
 pub use verifying::pikhsen_argon2_verify;
 pub use version::pikhsen_version;

@@ -1,11 +1,11 @@
 //! The numbers that tell a program in C what came of a call. No number changes its meaning, ever.
 ghost use Rattle.std.specs.Prelude.{◌≡◌, ◌≢◌, ◌≤◌, ◌<◌};
-ghost use Rattle.pikhsen_c.specs.Status.{costs_number, header_number, params_number};
+ghost use Rattle.pikhsen_c.specs.Status.{costs_number, header_number, params_number, range_number};
 ghost use Rattle.pikhsen_c.specs.Inside.Numbers.{read_number, verify_number};
 ghost use Rattle.pikhsen_c.specs.Inside.Requests.{had_memory, had_memory_to_read, had_memory_to_test};
 
 use argon::ParamFault;
-use argon_text::{ReadFault, VerifyFault};
+use argon_text::{RangeFault, ReadFault, VerifyFault};
 use encfile::HeaderFault;
 use romix::CostFault;
 
@@ -131,5 +131,21 @@ pub(crate) fn of_header(fault: HeaderFault) -> u32
         HeaderFault::Version => 23,
         HeaderFault::Checksum => 24,
         HeaderFault::CostsOutOfRange => 25,
+    }
+}
+
+/// The number of which part of an encoded text is out of range: 31 to 36.
+pub(crate) fn of_range(fault: RangeFault) -> u32
+    ensures number { result ≡ range_number fault }
+    ensures some { 31 ≤ result }
+    ensures below { result ≤ 36 }
+{
+    match fault {
+        RangeFault::Version => 31,
+        RangeFault::Passes => 32,
+        RangeFault::Lanes => 33,
+        RangeFault::Memory => 34,
+        RangeFault::TagLength => 35,
+        RangeFault::SaltLength => 36,
     }
 }

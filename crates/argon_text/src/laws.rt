@@ -1,0 +1,29 @@
+//! Laws of the definitions: each function has no body, and its clauses are the law.
+ghost use Rattle.std.specs.Prelude.{◌≡◌, ◌≢◌, List, None, ℕ, true};
+ghost use Rattle.argon_text.specs.EncodedText.{IsTextOf, encoded_text, short_text};
+ghost use Rattle.argon_text.specs.Grammar.{Fields, HasFields, IsTextInRange, fields_of_value, value_of_fields};
+ghost use Rattle.argon_text.specs.Settings.{range_fault};
+ghost use Rattle.argon_text.specs.Value.{IsValue, Value, is_in_range};
+
+// A text has one reading: its fields are the only ones.
+fn one_reading()
+    ensures one { (s : List ℕ) (p q : Fields) → HasFields s p → HasFields s q → p ≡ q }
+{}
+
+// A text of a value is told by the grammar and in range, says that value and no other, and is whole
+// or short and not both. A text in range is a text of what it says.
+fn one_value()
+    ensures told { (v : Value) (s : List ℕ) → IsValue v → IsTextOf v s → IsTextInRange s }
+    ensures one { (v w : Value) (s : List ℕ) → IsValue v → IsValue w → IsTextOf v s → IsTextOf w s → v ≡ w }
+    ensures fields { (v : Value) → IsValue v → HasFields (encoded_text v) (fields_of_value v) }
+    ensures says { (v : Value) (s : List ℕ) (fields : Fields) → IsValue v → IsTextOf v s
+        → HasFields s fields → value_of_fields fields ≡ v }
+    ensures said { (s : List ℕ) (fields : Fields) → HasFields s fields
+        → is_in_range (value_of_fields fields) ≡ true → IsTextOf (value_of_fields fields) s }
+    ensures form { (v w : Value) → IsValue v → IsValue w → short_text v ≢ encoded_text w }
+{}
+
+// A value is in range where no part of it is out of range.
+fn in_range_of_no_fault()
+    ensures none { (v : Value) → range_fault v ≡ None → is_in_range v ≡ true }
+{}

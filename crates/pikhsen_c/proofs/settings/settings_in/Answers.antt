@@ -1,0 +1,10 @@
+use Rattle.argon_text.specs.View.{value_of}
+use Rattle.pikhsen_c.proofs.settings.settings_in.Goals as goal
+
+pub returns-in-Ok-clause-found : goal.returns-in-Ok-clause-found
+returns-in-Ok-clause-found g c = λ told. record {
+  value = value_of c.in-Ok.encoded;
+  valid = c.in-Ok.ensures.value;
+  written = c.in-Ok.ensures.found;
+  told = c.told_of.ensures.told;
+}

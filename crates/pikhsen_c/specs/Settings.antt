@@ -1,0 +1,47 @@
+-- What an encoded text says of its hash's settings.
+use Rattle.std.specs.Prelude.{◌≡◌, ◌≤◌, ℕ, List, length, Option, Some, None}
+use Rattle.argon.specs.Kind.{type_number}
+use Rattle.argon_text.specs.EncodedText.{IsTextOf}
+use Rattle.argon_text.specs.Grammar.{Fields, HasFields, value_of_fields}
+use Rattle.argon_text.specs.Settings.{range_fault}
+use Rattle.argon_text.specs.Value.{IsValue, Value}
+use Rattle.argon_text.specs.declared.range.RangeFault.{RangeFault}
+use Rattle.pikhsen_c.specs.Status.{range_number}
+use Rattle.pikhsen_c.specs.declared.settings.PikhsenArgon2Settings.{PikhsenArgon2Settings}
+
+-- the settings of a value, as they are told
+abbrev pub settings_told : Value → PikhsenArgon2Settings
+settings_told value = record {
+  kind = type_number value.kind;
+  version = value.version;
+  passes = value.passes;
+  memory_kib = value.memory;
+  lanes = value.lanes;
+  salt_len = length value.salt;
+  tag_len = length value.tag;
+}
+
+-- the text is that of a value with these settings
+pub record HasSettings (text : List ℕ) (settings : PikhsenArgon2Settings) : Type 0 where
+  pub value : Value
+  pub valid : IsValue value
+  pub written : IsTextOf value text
+  pub told : settings ≡ settings_told value
+
+-- the text is that of a value with the settings that are wanted where the answer is 0, and with others where it is 1
+pub record IsCompared (text : List ℕ) (wanted : PikhsenArgon2Settings) (needs : ℕ) : Type 0 where
+  pub value : Value
+  pub valid : IsValue value
+  pub written : IsTextOf value text
+  pub same : needs ≡ 0 → settings_told value ≡ wanted
+  pub other : needs ≡ 1 → settings_told value ≡ wanted → ⊥
+  pub high : needs ≤ 1
+
+-- the number of a fault, if there is one
+abbrev pub number_of : Option RangeFault → ℕ
+number_of None = 0
+number_of (Some fault) = range_number fault
+
+-- the number is that of the first part of the text that is out of range
+abbrev pub IsOutOfRange : List ℕ → ℕ → Type 0
+IsOutOfRange text status = (fields : Fields) × HasFields text fields × (status ≡ number_of (range_fault (value_of_fields fields)))
