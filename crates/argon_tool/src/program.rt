@@ -5,7 +5,7 @@ ghost use Rattle.argon_tool.specs.Program.{ProgramRefuses};
 ghost use Rattle.tools.specs.Held.{host_over};
 ghost use Rattle.tools.specs.World.{IsUnused};
 
-use command::{Argon2Refusal, argon2};
+use argon2_command::{Argon2Refusal, argon2};
 use host::{Host, refuse};
 use std::alloc::Global;
 use tools::{System, SystemHost, WordsFault, words};
@@ -41,3 +41,6 @@ pub fn run<S: System>(alloc: Global, system: S) -> (u8, SystemHost<S>)
         }
     }
 }
+
+#[cfg(test)]
+mod tests;

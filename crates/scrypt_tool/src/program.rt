@@ -5,8 +5,8 @@ ghost use Rattle.scrypt_tool.specs.Program.{ProgramRefuses};
 ghost use Rattle.tools.specs.Held.{host_over};
 ghost use Rattle.tools.specs.World.{IsUnused};
 
-use command::{ScryptRefusal, scrypt};
 use host::{Host, refuse};
+use scrypt_command::{ScryptRefusal, scrypt};
 use std::alloc::Global;
 use tools::{System, SystemHost, WordsFault, words};
 
@@ -41,3 +41,6 @@ pub fn run<S: System>(alloc: Global, system: S) -> (u8, SystemHost<S>)
         }
     }
 }
+
+#[cfg(test)]
+mod tests;

@@ -5,13 +5,13 @@ use std::fs;
 use std::test::Fail;
 use tools::{Real, SystemHost};
 
-const FILE_OF_HELLO: &[u8] = b"scrypt\x00\x04\x00\x00\x00\x01\x00\x00\x00\x01\
+pub const FILE_OF_HELLO: &[u8] = b"scrypt\x00\x04\x00\x00\x00\x01\x00\x00\x00\x01\
 \x00\x01\x02\x03\x04\x05\x06\x07\x08\x09\x0a\x0b\x0c\x0d\x0e\x0f\x10\x11\x12\x13\x14\x15\x16\x17\x18\x19\x1a\x1b\x1c\x1d\x1e\x1f\
 \x1d\x82\xfc\x58\xa2\x9c\x85\x33\x12\xa1\xe6\xa4\x8f\xe9\x8f\x8b\x05\x1b\x8b\x64\x44\x07\x9b\xef\x98\x6b\x3d\x3c\x6d\x1d\xf8\x6c\
 \xf5\xc6\x17\x35\xc7\x3c\xcf\x3a\x91\xc0\x0c\x40\x42\xfa\xc3\x8a\xa3\xca\x5b\x58\x06\xfa\xf6\x91\x95\x12\x96\xa9\x92\x5e\x75\x4d\
 \x1b\x00\xd8\xf6\xac\xaa\x79\x86\x8e\x22\x1c\xd3\xc4\x0e\xfb\x4b\xdd\x9f\xfb\x35\xb8";
 
-const SALT: &str = "000102030405060708090a0b0c0d0e0f101112131415161718191a1b1c1d1e1f";
+pub const SALT: &str = "000102030405060708090a0b0c0d0e0f101112131415161718191a1b1c1d1e1f";
 
 // The status of a run with the words of this line, which spaces part.
 fn status(rt: HostRuntime, line: &str) -> Result<u8, Fail> {
@@ -20,7 +20,7 @@ fn status(rt: HostRuntime, line: &str) -> Result<u8, Fail> {
     for word in line.split_whitespace() {
         words.push(String::from_str(alloc, word)?)?;
     }
-    Ok(command::scrypt(alloc, &words, &mut SystemHost::new(Real::new(rt))))
+    Ok(scrypt_command::scrypt(alloc, &words, &mut SystemHost::new(Real::new(rt))))
 }
 
 // A backup is made, shown and opened.

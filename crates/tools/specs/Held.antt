@@ -1,5 +1,6 @@
 -- What contracts see of a system's host: the host that is made of a system and of how far a run has come.
-use Rattle.std.specs.Prelude.{◌≡◌, Bool, true, false, ℕ, List, [], codes, take, Option, None, Some, if◌then◌else◌}
+use Rattle.std.specs.Prelude.{◌≡◌, Bool, true, false, not, ℕ, List, [], codes, take, Option, None, Some, is_none, if◌then◌else◌}
+use Rattle.host.specs.Grants.{Grants, nothing_asked}
 use Rattle.host.specs.Memory.{lookup}
 use Rattle.host.specs.Seen.{SecretSource, Seen, env, file, stdin_once}
 use Rattle.tools.specs.World.{Files, IsApart, World}
@@ -8,19 +9,48 @@ use Rattle.tools.specs.declared.run.InputStage.TheVariants as input
 use Rattle.tools.specs.declared.run.OutputStage.{OutputStage}
 use Rattle.tools.specs.declared.run.OutputStage.TheVariants as output
 
--- the system; whether its output is in use; the secret source that was asked, and whether a salt was asked for, whatever
+-- the system; the calls that are granted; the secret source that was asked, and whether a salt was asked for, whatever
 -- came of it
 pub record Held : Type 0 where
   pub world : World
-  pub in_use : Bool
+  pub grants : Grants
   pub asked : Option SecretSource
   pub salted : Bool
+
+-- the input is not opened yet
+abbrev pub is_unopened : InputStage → Bool
+is_unopened input.Unopened = true
+is_unopened input.Opened = false
+is_unopened input.Ended = false
+
+-- the input is opened, and its end was not found
+abbrev pub is_going : InputStage → Bool
+is_going input.Unopened = false
+is_going input.Opened = true
+is_going input.Ended = false
+
+-- no output was asked for
+abbrev pub is_unasked : OutputStage → Bool
+is_unasked output.Unasked = true
+is_unasked output.Refused = false
+is_unasked output.Opened = false
 
 -- the output is in use
 abbrev pub is_in_use : OutputStage → Bool
 is_in_use output.Unasked = false
 is_in_use output.Refused = false
 is_in_use output.Opened = true
+
+-- the calls that are granted once a run has come so far
+abbrev pub grants_at : InputStage → OutputStage → Option SecretSource → Bool → Grants
+grants_at input_stage output_stage asked salted = record {
+  input = is_unopened input_stage;
+  readable = is_going input_stage;
+  output = is_unasked output_stage;
+  writable = is_in_use output_stage;
+  secret = is_none asked;
+  salt = not salted;
+}
 
 -- the first 32 bytes, if there are any
 abbrev pub salt_in : Option (List ℕ) → List ℕ
@@ -43,7 +73,7 @@ host_seen h = record {
   input = h.world.input.left;
   output = h.world.output;
   input_opened = h.world.input.opened;
-  output_opened = if h.in_use then h.world.output_asked else None;
+  output_opened = if h.grants.writable then h.world.output_asked else None;
   output_asked = h.world.output_asked;
   asked = h.asked;
   salted = h.salted;
@@ -56,15 +86,15 @@ host_seen h = record {
 
 -- the host over a system that was not used yet
 abbrev pub host_over : World → Seen
-host_over w = host_seen (record { world = w; in_use = false; asked = None; salted = false })
+host_over w = host_seen (record { world = w; grants = nothing_asked; asked = None; salted = false })
 
 -- a run has come as far as its stages say
-pub record IsAt (input_stage : InputStage) (output_stage : OutputStage) (asked : Option SecretSource) (salted : Bool) (w : World)
-    (f : Files) : Type 0 where
+pub record IsAt (input_stage : InputStage) (output_stage : OutputStage) (grants : Grants) (w : World) (f : Files) : Type 0 where
+  pub unopened : grants.input ≡ true → w.input.opened ≡ None
   pub going : input_stage ≡ input.Opened → w.input.is_ended ≡ false
   pub ended : input_stage ≡ input.Ended → w.input.left ≡ []
-  pub unasked : asked ≡ None → w.secret.opened ≡ None
-  pub unsalted : salted ≡ false → w.random.opened ≡ None
-  pub early : output_stage ≡ output.Unasked → w.output_asked ≡ None
+  pub unasked : grants.secret ≡ true → w.secret.opened ≡ None
+  pub unsalted : grants.salt ≡ true → w.random.opened ≡ None
+  pub early : grants.output ≡ true → w.output_asked ≡ None
   pub new : output_stage ≡ output.Opened → w.is_new ≡ true
   pub apart : output_stage ≡ output.Opened → IsApart f

@@ -63,3 +63,6 @@ pub fn read_salt<S: System>(system: &mut S, out: &mut [u8; 32]) -> Result<(), Ho
         Err(HostFault)
     }
 }
+
+#[cfg(test)]
+mod tests;

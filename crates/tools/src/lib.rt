@@ -4,6 +4,8 @@
 
 mod arguments;
 mod contents;
+#[cfg(test)]
+mod fixtures;
 mod identity;
 mod inputs;
 mod memory_source;

@@ -440,3 +440,6 @@ impl System for MemorySystem {
         self.lines.push(kept).map_err(|_| HostFault)
     }
 }
+
+#[cfg(test)]
+mod tests;

@@ -35,3 +35,6 @@ pub fn open_apart<S: System>(system: &mut S, name: Option<&str>) -> Result<(), H
     }
     system.empty()
 }
+
+#[cfg(test)]
+mod tests;

@@ -1,6 +1,7 @@
 //! A run over a system: the system, and how far the run has come.
-ghost use Rattle.std.specs.Prelude.{◌≡◌, ◌<◌, ◌≤◌, None, [], length, option_map, take, IfOk, OnOk, OnErr, IsTrue, false};
+ghost use Rattle.std.specs.Prelude.{◌≡◌, ◌<◌, ◌≤◌, None, [], length, option_map, take, IfOk, OnOk, OnErr, IsTrue, true, false};
 ghost use Rattle.host.specs.Asked.{asked_source};
+ghost use Rattle.host.specs.Grants.{nothing_asked, with_input_opened, with_output_asked, with_output_opened, with_salt_asked, with_secret_asked};
 ghost use Rattle.host.specs.Secret.{IsBeginning, secret_of, source_of};
 ghost use Rattle.host.specs.Seen.{after_ask, after_ask_output, after_open_input, after_open_output, after_pull, after_push, after_salt, after_say};
 ghost use Rattle.tools.specs.Held.{host_seen};
@@ -51,26 +52,27 @@ pub struct Run<S: System> {
 impl<S: System> Model for Run<S> {
     ghost use Rattle.std.specs.Prelude.{option_map, IsTrue};
     ghost use Rattle.host.specs.Asked.{asked_source};
-    ghost use Rattle.tools.specs.Held.{Held, IsAt, is_in_use};
+    ghost use Rattle.tools.specs.Held.{Held, IsAt, grants_at};
 
     ghost Value = { Held };
 
     ghost view = { λ r. record {
       world = S.world r.system;
-      in_use = is_in_use r.output;
+      grants = grants_at r.input r.output (option_map asked_source r.asked) r.salted;
       asked = option_map asked_source r.asked;
       salted = r.salted;
     } };
 
     ghost invariant = { λ r. IsTrue S.tells → IsAt r.input r.output
-        (option_map asked_source r.asked) r.salted (S.world r.system) (S.files r.system) };
+        (grants_at r.input r.output (option_map asked_source r.asked) r.salted)
+        (S.world r.system) (S.files r.system) };
 }
 
 impl<S: System> Run<S> {
     /// A run that is to begin, over a system of which nothing was used.
     pub fn new(system: S) -> Run<S>
         requires unused { IsTrue S.tells → IsUnused (S.world system) }
-        ensures seen { result ≡ record { world = S.world system; in_use = false; asked = None; salted = false } }
+        ensures seen { result ≡ record { world = S.world system; grants = nothing_asked; asked = None; salted = false } }
     {
         Run {
             system,
@@ -90,10 +92,12 @@ impl<S: System> Run<S> {
 
     /// Opens the input, if no output was asked for.
     pub fn open_input(&mut self, name: Option<&str>) -> Result<(), HostFault>
-        requires unopened { IsTrue S.tells → self.old.world.input.opened ≡ None }
+        requires unopened { self.old.grants.input ≡ true }
         ensures kept { IsTrue S.tells → OnErr result (host_seen self.new ≡ host_seen self.old) }
         ensures opened { IsTrue S.tells → OnOk result (host_seen self.new
             ≡ after_open_input (option_map (λ n. n.now) name.entry) (host_seen self.old)) }
+        ensures granted { OnOk result (self.new.grants ≡ with_input_opened self.old.grants) }
+        ensures granted_as_before { OnErr result (self.new.grants ≡ self.old.grants) }
     {
         if self.output != OutputStage::Unasked {
             return Err(HostFault);
@@ -105,11 +109,13 @@ impl<S: System> Run<S> {
 
     /// Opens an output that is no regular file that is read, and empties it where it is a regular file.
     pub fn open_output(&mut self, name: Option<&str>) -> Result<(), HostFault>
-        requires unasked { IsTrue S.tells → self.old.world.output_asked ≡ None }
+        requires unasked { self.old.grants.output ≡ true }
         ensures asks { IsTrue S.tells → OnErr result (host_seen self.new
             ≡ after_ask_output (option_map (λ n. n.now) name.entry) (host_seen self.old)) }
         ensures opened { IsTrue S.tells → OnOk result (host_seen self.new
             ≡ after_open_output (option_map (λ n. n.now) name.entry) (host_seen self.old)) }
+        ensures granted { OnOk result (self.new.grants ≡ with_output_opened self.old.grants) }
+        ensures granted_no_other { OnErr result (self.new.grants ≡ with_output_asked self.old.grants) }
     {
         self.output = OutputStage::Refused;
         open_apart(&mut self.system, name)?;
@@ -128,6 +134,8 @@ impl<S: System> Run<S> {
             IfOk result (λ n. host_seen self.new ≡ after_pull n (host_seen self.old)) }
         ensures some { IsTrue S.tells → IfOk result (λ n.
             0 < length buf.old → n ≡ 0 → self.old.world.input.left ≡ []) }
+        ensures granted { IfOk result (λ n. 0 < n → self.new.grants ≡ self.old.grants) }
+        ensures still_writable { OnOk result (self.new.grants.writable ≡ self.old.grants.writable) }
     {
         if self.input == InputStage::Unopened {
             return Err(HostFault);
@@ -149,6 +157,7 @@ impl<S: System> Run<S> {
         ensures kept { IsTrue S.tells → OnErr result (host_seen self.new ≡ host_seen self.old) }
         ensures put { IsTrue S.tells → IfOk result (λ n.
             host_seen self.new ≡ after_push (take n bytes.now) (host_seen self.old)) }
+        ensures granted { self.new.grants ≡ self.old.grants }
     {
         if self.output != OutputStage::Opened {
             return Err(HostFault);
@@ -158,12 +167,13 @@ impl<S: System> Run<S> {
 
     /// The first bytes of a secret source, if no output was asked for.
     pub fn secret(&mut self, source: Source<'_>, buf: &mut [u8]) -> Result<usize, HostFault>
-        requires unasked { IsTrue S.tells → self.old.asked ≡ None }
+        requires unasked { self.old.grants.secret ≡ true }
         ensures bound { IfOk result (λ n. n ≤ length buf.old) }
         ensures asks { IsTrue S.tells →
             host_seen self.new ≡ after_ask (source_of source.entry) (host_seen self.old) }
         ensures bytes { IsTrue S.tells → IfOk result (λ n.
             IsBeginning (secret_of source.entry (host_seen self.old)) n buf.new) }
+        ensures granted { self.new.grants ≡ with_secret_asked self.old.grants }
     {
         self.asked = Some(Asked::of(&source));
         if self.output != OutputStage::Unasked {
@@ -174,9 +184,10 @@ impl<S: System> Run<S> {
 
     /// A salt, if no output was asked for.
     pub fn salt(&mut self, out: &mut [u8; 32]) -> Result<(), HostFault>
-        requires unsalted { IsTrue S.tells → self.old.salted ≡ false }
+        requires unsalted { self.old.grants.salt ≡ true }
         ensures salts { IsTrue S.tells → host_seen self.new ≡ after_salt (host_seen self.old) }
         ensures bytes { IsTrue S.tells → OnOk result (out.new ≡ (host_seen self.old).salt) }
+        ensures granted { self.new.grants ≡ with_salt_asked self.old.grants }
     {
         self.salted = true;
         if self.output != OutputStage::Unasked {
@@ -190,7 +201,11 @@ impl<S: System> Run<S> {
         ensures kept { IsTrue S.tells → OnErr result (host_seen self.new ≡ host_seen self.old) }
         ensures said { IsTrue S.tells →
             OnOk result (host_seen self.new ≡ after_say line.now (host_seen self.old)) }
+        ensures granted { self.new.grants ≡ self.old.grants }
     {
         self.system.line(line)
     }
 }
+
+#[cfg(test)]
+mod tests;

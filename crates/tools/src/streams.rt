@@ -86,3 +86,6 @@ pub fn write_some<S: System>(system: &mut S, bytes: &[u8]) -> Result<usize, Host
     }
     Err(HostFault)
 }
+
+#[cfg(test)]
+mod tests;

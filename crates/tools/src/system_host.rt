@@ -1,6 +1,7 @@
 //! The system as a host.
 ghost use Rattle.std.specs.Prelude.{◌≡◌, ◌+◌, ◌-◌, ◌<◌, ◌^◌, OnOk, OnErr, IsTrue};
 ghost use Rattle.host.specs.Faults.{no_faults};
+ghost use Rattle.host.specs.Grants.{nothing_asked};
 ghost use Rattle.tools.specs.Held.{host_over, host_seen};
 ghost use Rattle.tools.specs.World.{IsUnused};
 
@@ -17,7 +18,7 @@ use host::{Host, HostFault, Source};
 /// before the output is asked for, and is a fault afterwards.
 ///
 /// It tells its bytes where the system does. Of every system contracts see how often each kind of call
-/// has failed.
+/// has failed, and which calls are granted.
 #[derive(Drop)]
 pub struct SystemHost<S: System> {
     run: Run<S>,
@@ -34,6 +35,7 @@ impl<S: System> SystemHost<S> {
         requires unused { IsTrue S.tells → IsUnused (S.world system) }
         ensures counts { ⟦<SystemHost<S> as Host>⟧.faults result ≡ no_faults }
         ensures seen { ⟦<SystemHost<S> as Host>⟧.seen result ≡ host_over (S.world system) }
+        ensures granted { ⟦<SystemHost<S> as Host>⟧.grants result ≡ nothing_asked }
     {
         SystemHost {
             run: Run::new(system),
@@ -70,6 +72,8 @@ impl<S: System> Host for SystemHost<S> {
     ghost tells = { S.tells };
 
     ghost seen = { λ h. host_seen h.run };
+
+    ghost grants = { λ h. h.run.grants };
 
     ghost faults = { λ h. record {
       input = h.input_faults;
@@ -114,3 +118,6 @@ impl<S: System> Host for SystemHost<S> {
         counted(&mut self.line_faults, said)
     }
 }
+
+#[cfg(test)]
+mod tests;

@@ -1,0 +1,232 @@
+//! Whole runs over a system in memory.
+mod real;
+
+ghost use Rattle.std.specs.Prelude.{IfOk};
+ghost use Rattle.tools.specs.World.{IsUnused};
+
+use super::*;
+use crate::contents::Identities;
+use crate::fixtures::{put, with_standard};
+use crate::memory_system::MemorySystem;
+use std::alloc::Global;
+
+// A system of which nothing was used, with five bytes of standard input, which are the input, and random bytes.
+fn five_bytes(alloc: Global) -> Result<MemorySystem, HostFault>
+    ensures unused { IfOk result (λ s. IsUnused s.world) }
+{
+    let mut system = with_standard(alloc, b"hello", Identities::NONE, Identities::NONE)?;
+    put(
+        alloc,
+        &mut system,
+        "/dev/urandom",
+        &[7; 40],
+        Identities::NONE,
+    )?;
+    system.set_input(None)?;
+    Ok(system)
+}
+
+// A run over that, of whose calls this one fails.
+fn begun(alloc: Global, failing: u64) -> Result<Run<MemorySystem>, HostFault> {
+    let mut system = five_bytes(alloc)?;
+    system.fail_at(failing);
+    Ok(Run::new(system))
+}
+
+// Opens the input, if it was not opened.
+fn open_input<S: System>(run: &mut Run<S>, name: Option<&str>) -> Result<(), HostFault> {
+    if run.input != InputStage::Unopened {
+        return Err(HostFault);
+    }
+    run.open_input(name)
+}
+
+// Opens an output, if none was asked for.
+fn open_output<S: System>(run: &mut Run<S>, name: Option<&str>) -> Result<(), HostFault> {
+    if run.output != OutputStage::Unasked {
+        return Err(HostFault);
+    }
+    run.open_output(name)
+}
+
+// Pulls at most so many bytes, up to four, if the input was opened.
+fn pull(run: &mut Run<MemorySystem>, most: usize) -> Result<usize, HostFault> {
+    if run.input == InputStage::Unopened {
+        return Err(HostFault);
+    }
+    run.pull(&mut [0; 4][..most.min(4)])
+}
+
+// Pushes bytes, if an output was opened.
+fn push(run: &mut Run<MemorySystem>, bytes: &[u8]) -> Result<usize, HostFault> {
+    if run.output != OutputStage::Opened {
+        return Err(HostFault);
+    }
+    run.push(bytes)
+}
+
+// Reads a secret, if none was asked for.
+fn secret<S: System>(run: &mut Run<S>, source: Source<'_>) -> Result<usize, HostFault> {
+    if run.asked.is_some() {
+        return Err(HostFault);
+    }
+    run.secret(source, &mut [0; 4])
+}
+
+// Takes a salt, if none was asked for.
+fn salt<S: System>(run: &mut Run<S>, out: &mut [u8; 32]) -> Result<(), HostFault> {
+    if run.salted {
+        return Err(HostFault);
+    }
+    run.salt(out)
+}
+
+// A dot for what is done, and else an F.
+fn done(outcome: Result<(), HostFault>) -> u8 {
+    if outcome.is_ok() { b'.' } else { b'F' }
+}
+
+// The number of bytes as a digit, and else an F.
+fn count(outcome: Result<usize, HostFault>) -> u8 {
+    match outcome {
+        Ok(n) => b"0123456789"[n.min(9)],
+        Err(_) => b'F',
+    }
+}
+
+// What nine calls answer, none of which waits for another's answer.
+fn answers(run: &mut Run<MemorySystem>) -> [u8; 9] {
+    [
+        done(open_input(run, None)),
+        count(pull(run, 4)),
+        count(pull(run, 4)),
+        count(pull(run, 4)),
+        count(secret(run, Source::StdinOnce)),
+        done(salt(run, &mut [0; 32])),
+        done(open_output(run, Some("out"))),
+        count(push(run, b"text")),
+        done(run.say("line")),
+    ]
+}
+
+// Whether they answer this, with this call of the system failing; and whether the output was emptied then, and a line
+// was said.
+fn is_row(alloc: Global, (failing, marks, is_emptied, lines): (u64, [u8; 9], bool, usize)) -> bool {
+    let Ok(mut run) = begun(alloc, failing) else {
+        return false;
+    };
+    answers(&mut run) == marks
+        && run.system.is_emptied() == is_emptied
+        && run.system.lines().len() == lines
+}
+
+// The call of the system that fails, and what the calls of the run answer. Nothing else is lost but what rests on it:
+// the pulls where the input is not opened, and the push where the output is not.
+static FAILING: [(u64, [u8; 9], bool, usize); 17] = [
+    (0, *b".4104..4.", true, 1),
+    // opened
+    (1, *b"FFFF4..4.", true, 1),
+    // four bytes, one, and the end
+    (2, *b".F414..4.", true, 1),
+    (3, *b".4F14..4.", true, 1),
+    (4, *b".41F4..4.", true, 1),
+    // a secret opened, and four bytes
+    (5, *b".410F..4.", true, 1),
+    (6, *b".410F..4.", true, 1),
+    // random bytes opened, and 32 of them
+    (7, *b".4104F.4.", true, 1),
+    (8, *b".4104F.4.", true, 1),
+    // an output opened, found to be no file that is read, and emptied
+    (9, *b".4104.FF.", false, 1),
+    (10, *b".4104.FF.", false, 1),
+    (11, *b".4104.FF.", false, 1),
+    (12, *b".4104.FF.", false, 1),
+    (13, *b".4104.FF.", false, 1),
+    // written
+    (14, *b".4104..F.", true, 1),
+    // said
+    (15, *b".4104..4F", true, 0),
+    (16, *b".4104..4.", true, 1),
+];
+
+#[test]
+fn each_call_fails(rt: HostRuntime) {
+    for row in &FAILING {
+        assert!(rt; is_row(rt.alloc(), *row), "{}", row.0);
+    }
+}
+
+// What pulls answer, the first of which has no room.
+fn pulls(run: &mut Run<MemorySystem>) -> [u8; 6] {
+    [
+        done(open_input(run, None)),
+        count(pull(run, 0)),
+        count(pull(run, 4)),
+        count(pull(run, 4)),
+        count(pull(run, 4)),
+        count(pull(run, 4)),
+    ]
+}
+
+// Whether the system was asked no more once the end was found.
+fn ends_once(alloc: Global) -> bool {
+    match begun(alloc, 0) {
+        Ok(mut run) => pulls(&mut run) == *b".04100" && run.system.tries() == 3,
+        Err(_) => false,
+    }
+}
+
+#[test]
+fn reads_nothing_after_the_end(rt: HostRuntime) {
+    assert!(rt; ends_once(rt.alloc()));
+}
+
+// What is answered to an output, and then to the input, a secret and a salt.
+fn late(run: &mut Run<MemorySystem>) -> [u8; 4] {
+    [
+        done(open_output(run, None)),
+        done(open_input(run, None)),
+        count(secret(run, Source::StdinOnce)),
+        done(salt(run, &mut [0; 32])),
+    ]
+}
+
+// Whether these are the answers where this call of the system fails, and how often it was called.
+fn is_late(alloc: Global, failing: u64, marks: [u8; 4], calls: u64) -> bool {
+    match begun(alloc, failing) {
+        Ok(mut run) => late(&mut run) == marks && run.system.calls() == calls,
+        Err(_) => false,
+    }
+}
+
+// Also where the output could not be opened. Standard output that is no regular file takes two calls.
+#[test]
+fn opens_nothing_once_an_output_was_asked_for(rt: HostRuntime) {
+    assert!(rt; is_late(rt.alloc(), 0, *b".FFF", 2));
+    assert!(rt; is_late(rt.alloc(), 1, *b"FFFF", 1));
+    assert!(rt; is_late(rt.alloc(), 2, *b"FFFF", 2));
+}
+
+// What is pulled and pushed once an output is opened.
+fn going_on(run: &mut Run<MemorySystem>) -> [u8; 5] {
+    [
+        done(open_input(run, None)),
+        done(open_output(run, None)),
+        count(pull(run, 4)),
+        count(push(run, b"text")),
+        count(push(run, b"")),
+    ]
+}
+
+// Whether what was opened is read and written on.
+fn goes_on(alloc: Global) -> bool {
+    match begun(alloc, 0) {
+        Ok(mut run) => going_on(&mut run) == *b"..440",
+        Err(_) => false,
+    }
+}
+
+#[test]
+fn reads_on_what_was_opened(rt: HostRuntime) {
+    assert!(rt; goes_on(rt.alloc()));
+}

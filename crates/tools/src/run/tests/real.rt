@@ -1,0 +1,82 @@
+//! Runs over the system's own files and its random bytes.
+
+use super::{open_input, open_output, salt, secret};
+use crate::real::Real;
+use crate::run::Run;
+use host::Source;
+use std::fs;
+use std::os::unix::fs::symlink;
+
+// A run over the system.
+fn real(rt: HostRuntime) -> Run<Real> {
+    Run::new(Real::new(rt))
+}
+
+// Whether a file holds these bytes.
+fn holds(rt: HostRuntime, name: &str, bytes: &[u8]) -> bool {
+    match fs::read(&rt, name) {
+        Ok(held) => held.as_slice() == bytes,
+        Err(_) => false,
+    }
+}
+
+// Whether the file `one` is made, with two further names.
+fn is_made(rt: HostRuntime) -> bool {
+    fs::write(&rt, "one", "kept").is_ok()
+        && fs::hard_link(&rt, "one", "hard-link").is_ok()
+        && symlink(&rt, "one", "symbolic-link").is_ok()
+}
+
+// Whether that file is opened as input, and then this name is refused as output.
+fn stays_as_input(rt: HostRuntime, name: &str) -> bool {
+    let mut run = real(rt);
+    open_input(&mut run, Some("one")).is_ok() && open_output(&mut run, Some(name)).is_err()
+}
+
+// The same where that file is the secret's.
+fn stays_as_secret(rt: HostRuntime, name: &str) -> bool {
+    let mut run = real(rt);
+    secret(&mut run, Source::File("one")).is_ok() && open_output(&mut run, Some(name)).is_err()
+}
+
+#[test]
+fn files_that_are_read_stay_under_each_name(rt: HostRuntime) {
+    assert!(rt; is_made(rt));
+    for name in ["one", "./one", "hard-link", "symbolic-link"] {
+        assert!(rt;
+            stays_as_input(rt, name) && stays_as_secret(rt, name),
+            "{name}"
+        );
+    }
+    assert!(rt; holds(rt, "one", b"kept"));
+}
+
+// Whether a file that is not read is opened as output and emptied, and holds what is pushed.
+fn is_written(rt: HostRuntime) -> bool {
+    let mut run = real(rt);
+    fs::write(&rt, "written", "lost").is_ok()
+        && open_output(&mut run, Some("written")).is_ok()
+        && holds(rt, "written", b"")
+        && run.push(b"hello") == Ok(5)
+        && holds(rt, "written", b"hello")
+}
+
+#[test]
+fn writes_another_file(rt: HostRuntime) {
+    assert!(rt; is_written(rt));
+}
+
+// A salt of the system.
+fn salt_of(rt: HostRuntime) -> [u8; 32] {
+    let (mut run, mut bytes) = (real(rt), [0; 32]);
+    let _ = salt(&mut run, &mut bytes);
+    bytes
+}
+
+// That half of two random salts is the same has a chance of 2^-127.
+#[test]
+fn salts_are_random(rt: HostRuntime) {
+    let (first, second) = (salt_of(rt), salt_of(rt));
+    assert!(rt; first[..16] != second[..16]);
+    assert!(rt; first[16..] != second[16..]);
+}
