@@ -11,7 +11,7 @@ CPU ?= $(lastword $(LEVELS))
 
 .DELETE_ON_ERROR:
 .NOTPARALLEL:
-.PHONY: help run lib check test audit map install uninstall deb bench clean
+.PHONY: help run lib check test audit map doc reading install uninstall deb bench clean
 
 help: ## prints these lines
 	@sed -n 's/^\([a-z]*\):.*## /make \1\t/p' Makefile | expand -t 16
@@ -53,6 +53,7 @@ test: $(filter bin/x86-64-v3/%,$(wildcard $(LEVELS:%=bin/%/scrypt))) ## the gate
 	@tests/step.sh tests/wrong_definitions.py $(SINCE:%=--since %)
 	@for level in $(LEVELS); do test ! -x bin/$$level/scrypt || tests/step.sh tests/outside.sh bin/$$level || exit 1; done
 	@tests/step.sh tests/c_face.py
+	@tests/step.sh tests/builds.py --check
 	@tests/step.sh tests/outside_plants.py
 	@echo 'seconds, those of the processors, and step:' && cat bin/gate.tsv
 
@@ -63,6 +64,12 @@ audit: ## tries each wrong body, wrong definition and wrong line outside the pro
 
 map: ## draws docs/proof-map.svg and docs/proof-map-small.svg anew: which promise stands on what
 	tests/proof_map.py docs/proof-map.svg docs/proof-map-small.svg
+
+doc: ## writes bin/doc/index.html: the public items of each crate, with their comments and clauses
+	packaging/doc.py
+
+reading: ## makes bin/reading/: what a reader has to find right to believe a call, to be printed and signed (CALL=command::scrypt; both commands)
+	tests/reading_page.py $(CALL)
 
 install: | bin/argon2 bin/scrypt ## puts what was built, with pages, completions and documents, below PREFIX
 	@PIKHSEN_SAY=1 PREFIX='$(PREFIX)' packaging/install.sh install '$(DESTDIR)$(PREFIX)' bin $(patsubst %/libpikhsen.a,%,$(wildcard bin/lib/libpikhsen.a)) >&2

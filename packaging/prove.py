@@ -7,8 +7,9 @@ With a LEVEL, as x86-64-v2, a program among them is built for it, crates/CRATE/o
 crates/CRATE/out/libCRATE.a; without one they are only proved. An older one is taken away before.
 
 A crate starts once all below it are proved; of several first the one with the longest chain of others above it. As many
-run side by side as there are processors, or as JOBS says, with 3 GB of free memory for each. A crate that starts where
-few others can run shares its work among several processes. What stands on a crate that is not proved is left out.
+run side by side as there are processors, or as JOBS says, with 3 GB of free memory for each. The crate that holds up
+most others shares its work among several processes, and the others let it go first (nice); so does a crate that starts
+where few others can run. What stands on a crate that is not proved is left out.
 
 The toolchain lets one run at a time work in a crate and in what it stands on. So each crate is proved in a folder of
 its own below bin/rooms, with links to its files and to the libraries below it; what it makes goes to the crate's out/.
@@ -29,6 +30,8 @@ TOP = pathlib.Path(__file__).resolve().parent.parent
 CRATES, ROOMS, LOGS = TOP / "crates", TOP / "bin/rooms", TOP / "bin/logs"
 MEMORY = 3 << 20  # KiB for a check: few take more
 MOST = 4  # processes that share the work of one crate: more gain little
+BESIDE = 10  # how nice a crate is to the one that holds up most others
+SMALL = 52  # seconds of the processor below which a check mostly loads libraries, which each process would do again
 
 # Seconds of the processor for a check from nothing. Only the order of the crates rests on them.
 SECONDS = {
@@ -47,11 +50,12 @@ class Step:
         self.weight = SECONDS.get(crate, 60) * (3 if "test" in words else 1)
         self.room, self.log = ROOMS / name, LOGS / name
 
-    def command(self, jobs):
+    def command(self, jobs, leads):
         at = self.words.index("--") if "--" in self.words else len(self.words)
-        return ["rt", *self.words[:at], "--jobs", str(jobs), *self.words[at:]]
+        nice = [] if leads else ["nice", "-n", str(BESIDE)]
+        return [*nice, "rt", *self.words[:at], "--jobs", str(jobs), *self.words[at:]]
 
-    def start(self, uses, jobs):
+    def start(self, uses, jobs, leads):
         """Starts the run, in a room of its own."""
         if self.makes:
             (CRATES / self.crate / self.makes).unlink(missing_ok=True)
@@ -59,7 +63,7 @@ class Step:
         with open(self.log, "wb") as log:
             folder = self.room / "crates" / self.crate
             streams = {"stdin": subprocess.DEVNULL, "stdout": log, "stderr": log}
-            self.running = subprocess.Popen(self.command(jobs), cwd=folder, **streams)
+            self.running = subprocess.Popen(self.command(jobs, leads), cwd=folder, **streams)
         self.began, self.jobs = time.monotonic(), jobs
         return self.running.pid
 
@@ -220,10 +224,11 @@ def chains(steps):
     return longest
 
 
-def jobs_for(others):
-    """How many processes prove a crate beside so many others that run or could: alone it has all, and always half as
-    many as there are processors, since no check keeps its processes busy to its end."""
-    return max(1, min(MOST, max(processors() // (others + 1), processors() // 2)))
+def jobs_for(weight, others, leads):
+    """How many processes prove a crate of this weight beside so many others that run or could: the one that leads has
+    all, and any half as many as there are processors, since no check keeps its processes busy to its end."""
+    most = MOST if weight > SMALL else 1
+    return max(1, min(most, processors() if leads else max(processors() // (others + 1), processors() // 2)))
 
 
 def prove(steps):
@@ -252,7 +257,9 @@ def prove(steps):
             while ready and len(running) < most and not told:
                 step = ready.pop(0)
                 left.remove(step)
-                running[step.start(uses, jobs_for(len(running) + len(ready)))] = step
+                leads = all(longest[step.name] >= longest[it.name] for it in [*left, *running.values()])
+                jobs = jobs_for(step.weight, len(running) + len(ready), leads)
+                running[step.start(uses, jobs, leads)] = step
             if told:
                 stop()  # also what was just being started
             elif came:

@@ -6,11 +6,13 @@
 Expected hashes are those of Debian's argon2 (package argon2, version 0~20171227) and of RFC 9106's reference values.
 """
 import os
+import re
 import shutil
 import subprocess
 import sys
 import tempfile
 
+import pages
 from checking import Checks
 
 USAGE = (
@@ -85,6 +87,17 @@ COMPARED = [
         for lanes in (1, 2, 3, 4)
     ],
 ]
+
+
+def examples(checks):
+    """The rows of docs/EXAMPLES.md that are one command with one line of output."""
+    rows = [row for group in ("argon2", "version 0x10") for row in pages.rows("examples.tsv", group)]
+    found = [(number, re.fullmatch(r"`argon2 ([^`]*)`", command), re.fullmatch(r"`([^` ]*)`(?:, status 0|: the first run)?", said))
+             for number, command, said, _ in rows]
+    run = [(number, command[1], said[1]) for number, command, said in found if command and said]
+    checks.that("examples that are one command", [number for number, *_ in run], ["1", "2", "3", "12", "40"])
+    for number, words, said in run:
+        checks.that(f"example {number}", checks.run(words.split(), b"password"), hashed(said.encode() + b"\n"))
 
 
 def standard_streams(checks):
@@ -198,6 +211,7 @@ def main():
     checks = Checks(sys.argv[1])
     for name, words, given, expected in TABLE:
         checks.that(name, checks.run(words.split(), given), expected)
+    examples(checks)
     standard_streams(checks)
     closed_pipe(checks)
     slow_input(checks)
@@ -209,4 +223,5 @@ def main():
     checks.end()
 
 
-main()
+if __name__ == "__main__":
+    main()

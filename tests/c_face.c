@@ -78,6 +78,11 @@ void free(void *at)
 
 static const unsigned char password[] = "password", somesalt[] = "somesalt", none[] = "";
 
+/* printf password | argon2 somesalt -d -t 1 -k 8 -e, by the reference program */
+static const unsigned char known[] =
+    "$argon2d$v=19$m=8,t=1,p=1$c29tZXNhbHQ$xRnmA6xgPsGutbcexEpheePzl1sUwMl+ORTHnmNj4Xg";
+#define KNOWN_LEN (sizeof known - 1)
+
 static unsigned int hash(unsigned char *out)
 {
 	return pikhsen_argon2_hash(PIKHSEN_ARGON2D, 0x13, 1, 8, 1, password, 8, somesalt, 8, none, 0, none, 0, 8, 100, out,
@@ -97,13 +102,16 @@ static void *hashes(void *out)
 #error "there is too little room for a text"
 #endif
 
-static unsigned char file[128 + 5], text[128 + 5], encoded[PIKHSEN_ENCODED_ROOM(8, 32)];
+static unsigned char file[128 + 5], text[128 + 5], place[128 + 5], encoded[PIKHSEN_ENCODED_ROOM(8, 32)];
 static struct pikhsen_scrypt_costs costs;
+static struct pikhsen_argon2_settings settings;
+static unsigned int needs;
 static size_t len;
 
 static unsigned int one(int call, unsigned char *tag)
 {
 	static const unsigned char salt[32] = { 0 };
+	unsigned int told;
 	switch (call) {
 	case 0:
 		return hash(tag);
@@ -119,6 +127,16 @@ static unsigned int one(int call, unsigned char *tag)
 		    sizeof file);
 	case 5:
 		return pikhsen_scrypt_info(file, sizeof file, &costs);
+	case 7:
+		memcpy(place, somesalt, 5);
+		told = pikhsen_scrypt_encrypt_in_place(password, 8, salt, 32, 4, 3, 2, 1, 1 << 20, 1 << 20, place,
+		    sizeof place);
+		WANT(told == PIKHSEN_OK || memcmp(place, somesalt, 5) == 0);
+		return told;
+	case 8:
+		return pikhsen_argon2_settings(known, KNOWN_LEN, &settings);
+	case 9:
+		return pikhsen_argon2_needs_rehash(known, KNOWN_LEN, &settings, &needs);
 	default:
 		return pikhsen_scrypt_decrypt(password, 8, 1, 1 << 20, 1 << 20, file, sizeof file, text, sizeof text, &len);
 	}
@@ -158,6 +176,7 @@ static void *calls_refused(void *given)
 		WANT(call->told == PIKHSEN_OK || (call->number != 1 && call->number != 6) || len == 0);
 	}
 #ifdef REFUSE
+	/* the costs of a file take no memory */
 	WANT(call->number == 5 || requests > 1);
 #endif
 	return NULL;
@@ -226,10 +245,153 @@ static void refused_by_limits(void)
 	WANT(asked == 0);
 }
 
+/* Null with length 0, for all bytes that a function takes: it is refused, or not, as "" is. */
+static void null_with_length_0(void)
+{
+	static const unsigned char salt[32] = { 0 };
+	unsigned char tag[32], other[32], empty[128], made[128];
+	size_t made_len = 7;
+
+	WANT(hash(tag) == PIKHSEN_OK);
+	WANT(pikhsen_argon2_hash(0, 0x13, 1, 8, 1, password, 8, somesalt, 8, NULL, 0, NULL, 0, 8, 100, other, 32)
+	    == PIKHSEN_OK);
+	WANT(memcmp(tag, other, 32) == 0);
+	WANT(pikhsen_argon2_hash(0, 0x13, 1, 8, 1, NULL, 0, somesalt, 8, NULL, 0, NULL, 0, 8, 100, other, 32)
+	    == PIKHSEN_PASSWORD_LENGTH);
+	WANT(pikhsen_argon2_hash(0, 0x13, 1, 8, 1, password, 8, NULL, 0, NULL, 0, NULL, 0, 8, 100, other, 32)
+	    == PIKHSEN_SALT_LENGTH);
+	WANT(pikhsen_argon2_hash(0, 0x13, 1, 8, 1, password, 8, somesalt, 8, NULL, 0, NULL, 0, 8, 100, NULL, 0)
+	    == PIKHSEN_TAG_LENGTH);
+	WANT(pikhsen_argon2_encoded(0, 0x13, 1, 8, 1, NULL, 0, somesalt, 8, 32, 8, 100, encoded, sizeof encoded, &len)
+	    == PIKHSEN_PASSWORD_LENGTH);
+	WANT(pikhsen_argon2_encoded(0, 0x13, 1, 8, 1, password, 8, NULL, 0, 32, 8, 100, encoded, sizeof encoded, &len)
+	    == PIKHSEN_SALT_LENGTH);
+	WANT(pikhsen_argon2_encoded(0, 0x13, 1, 8, 1, password, 8, somesalt, 8, 32, 8, 100, NULL, 0, &len)
+	    == PIKHSEN_BUFFER);
+	WANT(pikhsen_argon2_verify(NULL, 0, password, 8, 8, 100) == PIKHSEN_NOT_ENCODED);
+	WANT(pikhsen_argon2_verify(known, KNOWN_LEN, NULL, 0, 8, 100) == PIKHSEN_PASSWORD_LENGTH);
+	WANT(pikhsen_argon2_settings(NULL, 0, &settings) == PIKHSEN_NOT_ENCODED);
+	WANT(pikhsen_argon2_needs_rehash(NULL, 0, &settings, &needs) == PIKHSEN_NOT_ENCODED);
+	WANT(pikhsen_message(0, NULL, 0, &made_len) == PIKHSEN_BUFFER && made_len == 0);
+
+	WANT(pikhsen_scrypt(none, 0, none, 0, 4, 1, 1, 1, 1 << 20, 1 << 20, tag, 32) == PIKHSEN_OK);
+	WANT(pikhsen_scrypt(NULL, 0, NULL, 0, 4, 1, 1, 1, 1 << 20, 1 << 20, other, 32) == PIKHSEN_OK);
+	WANT(memcmp(tag, other, 32) == 0);
+	WANT(pikhsen_scrypt(NULL, 0, NULL, 0, 4, 1, 1, 1, 1 << 20, 1 << 20, NULL, 0) == PIKHSEN_OK);
+	WANT(pikhsen_scrypt_info(NULL, 0, &costs) == PIKHSEN_TOO_SHORT);
+	WANT(pikhsen_scrypt_encrypt(none, 0, salt, 32, 4, 1, 1, 1, 1 << 20, 1 << 20, none, 0, empty, 128) == PIKHSEN_OK);
+	WANT(pikhsen_scrypt_encrypt(NULL, 0, salt, 32, 4, 1, 1, 1, 1 << 20, 1 << 20, NULL, 0, made, 128) == PIKHSEN_OK);
+	WANT(memcmp(empty, made, 128) == 0);
+	WANT(pikhsen_scrypt_encrypt_in_place(NULL, 0, salt, 32, 4, 1, 1, 1, 1 << 20, 1 << 20, made, 128) == PIKHSEN_OK);
+	WANT(memcmp(empty, made, 128) == 0);
+	WANT(pikhsen_scrypt_encrypt(NULL, 0, NULL, 0, 4, 1, 1, 1, 1 << 20, 1 << 20, NULL, 0, made, 128)
+	    == PIKHSEN_FILE_SALT);
+	WANT(pikhsen_scrypt_encrypt(NULL, 0, salt, 32, 4, 1, 1, 1, 1 << 20, 1 << 20, NULL, 0, NULL, 0) == PIKHSEN_BUFFER);
+	WANT(pikhsen_scrypt_encrypt_in_place(NULL, 0, salt, 32, 4, 1, 1, 1, 1 << 20, 1 << 20, NULL, 0) == PIKHSEN_BUFFER);
+	WANT(pikhsen_scrypt_decrypt(NULL, 0, 1, 1 << 20, 1 << 20, empty, 128, made, 128, &made_len) == PIKHSEN_OK);
+	WANT(made_len == 0);
+	WANT(pikhsen_scrypt_decrypt(NULL, 0, 1, 1 << 20, 1 << 20, NULL, 0, NULL, 0, &made_len) == PIKHSEN_TOO_SHORT);
+	WANT(pikhsen_scrypt_decrypt(NULL, 0, 1, 1 << 20, 1 << 20, empty, 128, NULL, 0, &made_len) == PIKHSEN_BUFFER);
+}
+
+/* In place: the same file, or the text as it was. */
+static void in_place(void)
+{
+	static const unsigned char salt[32] = { 0 };
+
+	WANT(memcmp(place, file, sizeof file) == 0);
+	memcpy(place, somesalt, 8);
+	WANT(pikhsen_scrypt_encrypt_in_place(password, 8, salt, 31, 4, 3, 2, 1, 1 << 20, 1 << 20, place, sizeof place)
+	    == PIKHSEN_FILE_SALT);
+	WANT(pikhsen_scrypt_encrypt_in_place(password, 8, salt, 32, 4, 3, 2, 1, 1 << 20, 1 << 20, place, 127)
+	    == PIKHSEN_BUFFER);
+	/* 6,144 bytes and 384 cores are needed */
+	WANT(pikhsen_scrypt_encrypt_in_place(password, 8, salt, 32, 4, 3, 2, 1, 6143, 384, place, sizeof place)
+	    == PIKHSEN_MEMORY_LIMIT);
+	WANT(pikhsen_scrypt_encrypt_in_place(password, 8, salt, 32, 4, 3, 2, 1, 6144, 383, place, sizeof place)
+	    == PIKHSEN_WORK_LIMIT);
+	WANT(memcmp(place, somesalt, 8) == 0);
+}
+
+/* A text with a value out of range, by the number of the first; verify has one number for all of them. */
+struct outside {
+	const char *text;
+	unsigned int told;
+};
+
+static void settings_of_texts(void)
+{
+	static const struct outside texts[] = {
+		{ "$argon2d$v=18$m=8,t=0,p=1$c29tZXNhbHQ$xRnmA6xg", PIKHSEN_TEXT_VERSION },
+		{ "$argon2d$v=19$m=8,t=0,p=0$c29tZXNhbHQ$xRnmA6xg", PIKHSEN_TEXT_PASSES },
+		{ "$argon2d$v=19$m=8,t=4294967296,p=1$c29tZXNhbHQ$xRnmA6xg", PIKHSEN_TEXT_PASSES },
+		{ "$argon2d$v=19$m=7,t=4294967295,p=0$c29tZXNhbHQ$xRnmA6xg", PIKHSEN_TEXT_LANES },
+		{ "$argon2d$v=19$m=4294967295,t=1,p=16777216$c29tZXNhbHQ$xRnmA6xg", PIKHSEN_TEXT_LANES },
+		{ "$argon2d$v=19$m=7,t=1,p=1$c29tZXNhbHQ$xRnm", PIKHSEN_TEXT_MEMORY },
+		{ "$argon2d$m=4294967296,t=1,p=1$c29tZXNhbHQ$xRnmA6xg", PIKHSEN_TEXT_MEMORY },
+		{ "$argon2d$v=19$m=8,t=1,p=1$c29tZXNhbA$xRnm", PIKHSEN_TEXT_TAG_LENGTH },
+		{ "$argon2d$v=19$m=8,t=1,p=1$c29tZXNhbA$xRnmA6xg", PIKHSEN_TEXT_SALT_LENGTH },
+		{ "$argon2d$v=19$m=8,t=1,p=1$c29tZXNhbHQ$xRnmA6xg\n", PIKHSEN_NOT_ENCODED },
+		{ "$argon2d$v=18$m=8,t=0,p=1$c29tZXNhbHQ$xRnmA6x", PIKHSEN_NOT_ENCODED },
+	};
+	struct pikhsen_argon2_settings wanted, before;
+	size_t i;
+
+	WANT(settings.kind == PIKHSEN_ARGON2D && settings.version == 0x13 && settings.passes == 1);
+	WANT(settings.memory_kib == 8 && settings.lanes == 1 && settings.salt_len == 8 && settings.tag_len == 32);
+	WANT(needs == 0);
+	for (i = 0; i < 7; ++i) {
+		wanted = settings;
+		wanted.kind += i == 0;
+		wanted.version -= i == 1;
+		wanted.passes += i == 2;
+		wanted.memory_kib -= i == 3;
+		wanted.lanes += i == 4;
+		wanted.salt_len += i == 5;
+		wanted.tag_len -= i == 6;
+		needs = 7;
+		WANT(pikhsen_argon2_needs_rehash(known, KNOWN_LEN, &wanted, &needs) == PIKHSEN_OK && needs == 1);
+	}
+	before = settings;
+	needs = 7;
+	for (i = 0; i < sizeof texts / sizeof *texts; ++i) {
+		const unsigned char *outside = (const unsigned char *)texts[i].text;
+		const size_t outside_len = strlen(texts[i].text);
+		const int is_text = texts[i].told != PIKHSEN_NOT_ENCODED;
+		WANT(pikhsen_argon2_settings(outside, outside_len, &settings) == texts[i].told);
+		WANT(pikhsen_argon2_needs_rehash(outside, outside_len, &wanted, &needs) == texts[i].told);
+		WANT(memcmp(&before, &settings, sizeof before) == 0 && needs == 7);
+		WANT(pikhsen_argon2_verify(outside, outside_len, password, 8, 8, 100)
+		    == (is_text ? (unsigned int)PIKHSEN_OUT_OF_RANGE : (unsigned int)PIKHSEN_NOT_ENCODED));
+	}
+}
+
+/* Every number has a sentence, and one that is not known another one than each. */
+static void messages(void)
+{
+	unsigned char unknown[PIKHSEN_MESSAGE_ROOM], said[PIKHSEN_MESSAGE_ROOM];
+	size_t said_len;
+	unsigned int status;
+
+	WANT(pikhsen_message(4000000000u, unknown, sizeof unknown, &said_len) == PIKHSEN_OK);
+	WANT(said_len == strlen((char *)unknown) && said_len > 0);
+	for (status = 0; status <= PIKHSEN_TEXT_SALT_LENGTH; ++status) {
+		size_t room;
+		memset(said, 1, sizeof said);
+		WANT(pikhsen_message(status, said, sizeof said, &said_len) == PIKHSEN_OK);
+		WANT(said_len == strlen((char *)said) && strcmp((char *)said, (char *)unknown) != 0);
+		room = said_len;
+		memset(said, 1, sizeof said);
+		WANT(pikhsen_message(status, said, room, &said_len) == PIKHSEN_BUFFER && said_len == 0 && said[0] == 1);
+		WANT(pikhsen_message(status, said, room + 1, &said_len) == PIKHSEN_OK && said[room] == 0);
+		WANT(room + 1 == sizeof said || said[room + 1] == 1);
+	}
+	WANT(pikhsen_message(status, said, sizeof said, &said_len) == PIKHSEN_OK);
+	WANT(strcmp((char *)said, (char *)unknown) == 0);
+}
+
 int main(void)
 {
-	/* printf password | argon2 somesalt -d -t 1 -k 8 -e, by the reference program */
-	static const char known[] = "$argon2d$v=19$m=8,t=1,p=1$c29tZXNhbHQ$xRnmA6xgPsGutbcexEpheePzl1sUwMl+ORTHnmNj4Xg";
 	unsigned char tags[4][32], tag[32];
 	pthread_t threads[4];
 	int i;
@@ -244,15 +406,17 @@ int main(void)
 
 	memset(tag, 1, sizeof tag);
 	memset(text, 1, sizeof text);
+	for (i = 7; i < 10; ++i)
+		WANT(on_small_stack(calls_refused, i, tag) == PIKHSEN_OK);
 	for (i = 0; i < 7; ++i)
 		WANT(on_small_stack(calls_refused, i, tag) == PIKHSEN_OK);
 	/* RFC 7914, section 12, the first vector's last derivation has these first bytes; keep is 4 */
 	WANT(tag[0] == 0x77 && tag[1] == 0xd6 && tag[2] == 0x57 && tag[3] == 0x62);
-	WANT(strcmp((char *)encoded, known) == 0);
-	WANT(pikhsen_argon2_verify(encoded, strlen(known), password, 7, 8, 100) == PIKHSEN_MISMATCH);
-	WANT(pikhsen_argon2_verify(encoded, strlen(known), password, 8, 7, 100) == PIKHSEN_MEMORY_LIMIT);
-	WANT(pikhsen_argon2_verify(encoded, strlen(known), password, 8, 8, 1) == PIKHSEN_WORK_LIMIT);
-	WANT(pikhsen_argon2_verify(encoded, strlen(known) + 1, password, 8, 8, 100) == PIKHSEN_NOT_ENCODED);
+	WANT(strcmp((char *)encoded, (const char *)known) == 0);
+	WANT(pikhsen_argon2_verify(encoded, KNOWN_LEN, password, 7, 8, 100) == PIKHSEN_MISMATCH);
+	WANT(pikhsen_argon2_verify(encoded, KNOWN_LEN, password, 8, 7, 100) == PIKHSEN_MEMORY_LIMIT);
+	WANT(pikhsen_argon2_verify(encoded, KNOWN_LEN, password, 8, 8, 1) == PIKHSEN_WORK_LIMIT);
+	WANT(pikhsen_argon2_verify(encoded, KNOWN_LEN + 1, password, 8, 8, 100) == PIKHSEN_NOT_ENCODED);
 
 	WANT(len == 5 && memcmp(text, somesalt, 5) == 0);
 	for (i = 5; i < (int)sizeof text; ++i)
@@ -262,11 +426,15 @@ int main(void)
 	WANT(pikhsen_scrypt_info(file, 64, &costs) == PIKHSEN_OK);
 	WANT(costs.log_n == 4 && costs.r == 3 && costs.p == 2);
 	WANT(pikhsen_scrypt_info(file, 63, &costs) == PIKHSEN_TOO_SHORT);
+	in_place();
+	settings_of_texts();
+	messages();
 	refused_by_limits();
 	file[100] ^= 1;
 	memset(text, 1, sizeof text);
 	WANT(on_small_stack(calls, 6, tag) == PIKHSEN_DAMAGED && len == 0);
 	for (i = 0; i < (int)sizeof text; ++i)
 		WANT(text[i] == 0);
+	null_with_length_0();
 	return 0;
 }

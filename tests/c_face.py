@@ -7,6 +7,7 @@ tests/python_module.py and, of what is installed and packaged, of tests/packages
     tests/c_face.py --prove      proves the crates and builds that static library before
     tests/c_face.py --header FOLDER      calls the library in this folder from C and C++ alone, under no other program
 """
+import functools
 import hashlib
 import os
 import pathlib
@@ -17,6 +18,7 @@ import tempfile
 import time
 
 import binaries
+import comparisons
 import packages
 import python_module
 import record
@@ -70,6 +72,17 @@ def warned_of(checks, folder, name, body, warning):
     checks.that(f"warned of: {name}", (ran.returncode, found), (1, [warning]))
 
 
+def passes(checks, folder, name, body):
+    """The compiler warns of nothing in the body of a function, and keeps its own tests of a pointer."""
+    source = pathlib.Path(folder, "passes.c")
+    head = '#include "pikhsen.h"\nunsigned int f(const unsigned char *file, struct pikhsen_scrypt_costs *costs)\n'
+    source.write_text(f"{head}{{\n    {body}\n}}\n", encoding="utf-8")
+    words = ["gcc", *STRICT, "-O2", "-Wno-unused-parameter", *INCLUDE, "-S", source, "-o", f"{folder}/passes.s"]
+    ran = subprocess.run(words, stderr=subprocess.PIPE, text=True)
+    kept = ran.returncode == 0 and "$77" in pathlib.Path(folder, "passes.s").read_text(encoding="utf-8")
+    checks.that(f"not warned of: {name}", (ran.returncode, ran.stderr, kept), (0, "", True))
+
+
 def from_c(checks, folder, lib, is_watched=True):
     has_cpp = is_there("g++", "the header is not compiled as C++, and nothing is called from it")
     has_valgrind = is_watched and is_there("valgrind", "nothing runs under it")
@@ -80,10 +93,13 @@ def from_c(checks, folder, lib, is_watched=True):
         checks.that(f"header under {words[0]}", (ran.returncode, ran.stderr), (0, ""))
     for name, body, warning in (
         ("an answer that is ignored", "pikhsen_scrypt_info(file, 64, costs); return 0;", "unused-result"),
-        ("a null pointer with length 0", "return pikhsen_scrypt_info(0, 0, costs);", "nonnull"),
         ("a null pointer without a length", "return pikhsen_scrypt_info(file, 64, 0);", "nonnull"),
     ):
         warned_of(checks, folder, name, body, warning)
+    # an attribute "nonnull" would let the compiler drop the caller's test after the call
+    is_null = "unsigned int told = pikhsen_scrypt_info(file, 0, costs); return file ? told : 77;"
+    passes(checks, folder, "null with length 0", is_null)
+    passes(checks, folder, "null itself", "return pikhsen_scrypt_info(0, 0, costs) + 77;")
     for static in (True, False):
         if has_cpp:
             from_cpp(checks, folder, lib, static)
@@ -196,12 +212,35 @@ def secrets_from_c(checks, folder, lib, pikhsen):
         checks.that(f"stack after: {what}", found, f"told {told}, not wiped 0, touched deeper 0\n")
         found = said(program, "freed", what, check=False)
         checks.that(f"freed by: {what}", found, f"told {told}, freed {freed}, not zero 0\n")
+        if told == 0:
+            found = said(without_zeros(folder, lib), "painted", what, check=False)
+            checks.that(f"stack after, without the zeros: {what}", " not wiped 0," in found, False)
     found = said(program, "freed", "seven", check=False)
     checks.that("freed, and not wiped before", found, "told 0, freed 1024, not zero 1024\n")
     try:
         searches_from_c(checks, program, pikhsen)
     except PermissionError as why:
         print(f"the memory of a process may not be read here ({why}): keys are not looked for")
+
+
+@functools.lru_cache(maxsize=1)
+def without_zeros(folder, lib):
+    """secrets.c over a library whose function that puts zeros over the stack answers at once: so the look at the stack
+    is seen to find what stays."""
+    code = said("objdump", "-d", f"{lib}/libpikhsen.so.0")
+    at = int(re.search(r"^([0-9a-f]+) <[^>]*burning::burn[^>]*>:$", code, re.MULTILINE)[1], 16)
+    text = re.search(r" \.text +PROGBITS +([0-9a-f]+) ([0-9a-f]+) ", said("readelf", "-SW", f"{lib}/libpikhsen.so.0"))
+    spoiled = bytearray(pathlib.Path(lib, "libpikhsen.so.0").read_bytes())
+    place = at - int(text[1], 16) + int(text[2], 16)
+    spoiled[place:place + 3] = b"\x89\xf8\xc3"  # mov %edi,%eax; ret
+    other = pathlib.Path(folder, "without-zeros")
+    other.mkdir()
+    (other / "libpikhsen.so.0").write_bytes(spoiled)
+    os.symlink("libpikhsen.so.0", other / "libpikhsen.so")
+    program = f"{folder}/secrets-without-zeros"
+    flags = ["-Wl,-z,now", "-Wl,--wrap=malloc,--wrap=realloc,--wrap=free"]
+    compile_c(TOP / "tests/secrets.c", str(other), program, False, *STRICT, *flags)
+    return program
 
 
 def searches_from_c(checks, program, pikhsen):
@@ -268,6 +307,7 @@ def main():
         from_c(checks, folder, lib)
         pikhsen = python_module.calls(checks, folder, lib)
         secrets_from_c(checks, folder, lib, pikhsen)
+        comparisons.tags_of_texts(checks, lib, folder)
         library_runs(checks, folder, lib)
         page_runs(checks, folder, lib)
         packages.all_of(checks, folder, lib)

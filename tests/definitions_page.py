@@ -1,10 +1,20 @@
-"""The tables of wrong definitions at the end of docs/DEFINITIONS.md: where one is wrong, which equation falls."""
+#!/usr/bin/env python3
+"""Writes the tables of docs/DEFINITIONS.md: how much has to be read for a call; the definitions of each crate, of
+docs/definitions.tsv, with the files of specs/ in which they stand; and the wrong definitions, each with the equation that
+refuses it.
+
+    tests/definitions_page.py      writes them anew, as each run of tests/wrong_definitions.py does
+"""
+import re
+
+import pages
+import reading
+import reading_kit
 import record
 from definitions import Definitions, WrongDefinition
 from edits import TOP
 
 PAGE = TOP / "docs" / "DEFINITIONS.md"
-HEADING = "\n## Wrong definitions\n"
 ABOUT = """
 A wrong definition is an edit of `specs/` that a hasty reader of the standard might have written
 (`crates/*/wrong-definitions/`). With each the checker proves that the two sides of an equation of `src/vectors.rt`
@@ -13,6 +23,45 @@ rules; tests/wrong_definitions.py makes these tables, and in the gate it tries t
 others.
 
 """
+
+
+def is_definition(name, text):
+    """Whether the definition, or the field of a record, stands in the text."""
+    return re.search(rf"^(?:  )?(?:[a-z]+ )*{re.escape(name)}(?: :|\s*\(|\s*\{{|$)", text, re.MULTILINE) is not None
+
+
+def files_of(crate, names):
+    """The files of a crate's specs/ that have these definitions, in their order. Where several files have one of a name, it
+    is that of the file with the others."""
+    base = TOP / "crates" / crate / "specs"
+    texts = {str(it.relative_to(base).with_suffix("")): it.read_text(encoding="utf-8")
+             for it in sorted(base.rglob("*.antt")) if it.stem != "Lib"}
+    places = [[file for file, text in texts.items() if is_definition(name, text)] for name in names]
+    sure = {file for found in places if len(found) == 1 for file in found}
+    meant = [[it for it in found if it in sure] or found for found in places]
+    return [*dict.fromkeys(it for found in meant for it in found)]
+
+
+def calls():
+    """What has to be read for each call: this repository's definitions, and those of the toolchain's libraries."""
+    files, kit, lines = reading.all_files(), reading_kit.sizes(), []
+    for call in reading.CALLS:
+        sizes = (*reading.sizes(reading.reached_by(call, files), files), *kit.get(call, (0, 0)))
+        lines.append([f"`{call}`", *map(str, sizes)])
+    return pages.table(["call", "definitions", "files", "lines", "the toolchain's", "lines of these"], lines)
+
+
+def definitions():
+    """The table of each crate's definitions, under its name."""
+    tables = []
+    for crate in record.below():
+        lines = []
+        for names, meaning, source, vector in pages.rows("definitions.tsv", crate):
+            files = ", ".join(f"`{it}`" for it in files_of(crate, re.findall(r"`([^`]+)`", names)))
+            lines.append([names, meaning, files, source, vector])
+        if lines:
+            tables.append(f"## {crate}\n\n" + pages.table(["definition", "what it is", "file", "source", "vector"], lines))
+    return "\n".join(tables)
 
 
 def rows(crate):
@@ -24,9 +73,9 @@ def rows(crate):
         yield ", ".join(f"`{it}`" for it in names), path.stem, refused.get(path.stem, ("", ""))[1]
 
 
-def page():
-    """docs/DEFINITIONS.md with these tables as the records have them."""
-    made, tables, tried, changed = PAGE.read_text(encoding="utf-8").partition(HEADING)[0] + HEADING, "", [], set()
+def wrong_definitions():
+    """The tables of wrong definitions, as the records have them."""
+    tables, tried, changed = "", [], set()
     for crate in record.below():
         if found := sorted(rows(crate)):
             tables += f"\n### Of {crate}\n\n| wrong | how | falls |\n|---|---|---|\n"
@@ -34,7 +83,15 @@ def page():
             tried += [bool(by) for _, _, by in found]
             changed |= {(crate, what) for what, _, _ in found}
     share = f"Of {len(tried)} wrong definitions, of {len(changed)} definitions, {sum(tried)} are refused.\n"
-    return made + ABOUT + share + tables
+    return ABOUT.lstrip("\n") + share + tables
+
+
+def page():
+    """docs/DEFINITIONS.md with its tables as they are now."""
+    parts = {"calls": calls, "definitions": definitions, "wrong definitions": wrong_definitions}
+    return pages.page(PAGE.read_text(encoding="utf-8"), "tests/definitions_page.py", parts)
 
 
 ALL = Definitions()
+if __name__ == "__main__":
+    PAGE.write_text(page(), encoding="utf-8")

@@ -1,10 +1,11 @@
 #!/usr/bin/env python3
 """Whether what the documents name is there: files, links, definitions, tests, clauses and calls; whether the pictures in
-docs/ are drawn from them as they are, and the tables of docs/WRONG_BODIES.md, docs/GATE.md and docs/DEFINITIONS.md are what
-the scripts make; whether the figures of speed on the pages are those of docs/benchmarks.tsv; and whether all of them tell
-one version. What they say of options, messages and numbers is compared by tests/values.py.
+docs/ are drawn from them as they are, and the tables that scripts make of records and data are what they make now;
+whether README's first screen, its words, and all lines that are written by hand are few enough; whether the figures of
+speed on the pages are those of docs/benchmarks.tsv; and whether all of them name one version. What they say of options,
+messages and numbers is compared by tests/values.py.
 
-Reads README.md and the other pages, docs/ and man/ against crates/, says each name that it does not find, and fails
+Reads README.md and the other pages, docs/ and man/ against crates/, prints each name that it does not find, and fails
 where there is one.
 """
 import pathlib
@@ -13,12 +14,16 @@ import shutil
 import subprocess
 import sys
 
-sys.path.insert(0, str(pathlib.Path(__file__).resolve().parent.parent / "bench"))
+for folder in ("bench", "packaging"):
+    sys.path.insert(0, str(pathlib.Path(__file__).resolve().parent.parent / folder))
 import definitions_page
+import doc
 import gate_page
+import pages
 import ratios
 import record
 from definitions import WrongDefinition
+from definitions_page import is_definition
 from edits import Edit
 from proof_map import drawn, small
 
@@ -54,11 +59,6 @@ SPECS = {crate: "\n".join(texts(crate, "specs", ".antt").values()) for crate in 
 
 def is_function(name, crate):
     return re.search(rf"\bfn {re.escape(name)}\b", SOURCES[crate]) is not None
-
-
-def is_definition(name, text):
-    """Whether the definition, or the field of a record, stands in the text."""
-    return re.search(rf"^(?:  )?(?:[a-z]+ )*{re.escape(name)}(?: :|\s*\(|\s*\{{|$)", text, re.MULTILINE) is not None
 
 
 def tables(document):
@@ -194,6 +194,20 @@ expect(tables_made, "DEFINITIONS.md", "the tables that the records make (each ru
 tables_made = gate_page.page() == gate_page.PAGE.read_text(encoding="utf-8")
 expect(tables_made, "GATE.md", "the tables that tests/gate_page.py makes (each run of it writes them)")
 
+# Tables that are made of data, and how much is written by hand.
+for document in pages.PAGES:
+    text = document.read_text(encoding="utf-8")
+    expect(pages.page(text) == text, document, "the tables that tests/pages.py makes (each run of it writes them)")
+made = [name for it in pages.PAGES for _, name, _ in pages.MADE.findall(it.read_text(encoding="utf-8"))]
+for name in sorted({*pages.PARTS}):
+    expect(made.count(name) == 1, "docs", f"the table '{name}', which tests/pages.py makes, once")
+README = (TOP / "README.md").read_text(encoding="utf-8")
+expect(len(README.split()) < 1900, "README.md", f"fewer than 1,900 words: there are {len(README.split())}")
+screen = README.partition("\n# Using the programs\n")[0].count("\n")
+expect(screen < 45, "README.md", f"a first screen of fewer than 45 lines: there are {screen}")
+lines_by_hand = sum(pages.counted().values())
+expect(lines_by_hand <= pages.MOST_BY_HAND, "pages", f"at most {pages.MOST_BY_HAND} lines by hand: there are {lines_by_hand}")
+
 # Calls and clauses that carry a promise, and the picture of what they stand on; the definitions of each run.
 bars = ratios.drawn(TOP / "docs/benchmarks.tsv"), []
 for name, (picture, wrong), by in (
@@ -209,6 +223,9 @@ for heading, cells in tables("PROMISES.md"):
             found = any(is_definition(name, SPECS[crate]) for crate in ("scrypt_run", "scrypt_command", "encfile"))
             expect(found, "PROMISES.md", name)
 
+
+# Public items, each with a comment.
+missing += [f"a comment of {name} (make doc shows them)" for name in doc.without_comment()]
 
 # The type of the manual pages.
 for manual in MANUALS:
@@ -229,6 +246,7 @@ for document in [*PAGES, *sorted((TOP / "docs").glob("*.md"))]:
         is_row = document not in PAGES and line.startswith("|")
         expect(len(line) <= 120 or is_row, document, f"line {number} has {len(line)} columns")
 
+print(f"pages: {lines_by_hand} lines by hand, of {pages.MOST_BY_HAND} at most")
 for line in missing:
     print(f"not there: {line}", file=sys.stderr)
 sys.exit(1 if missing else 0)

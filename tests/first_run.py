@@ -27,7 +27,8 @@ import prove  # noqa: E402
 LINE = re.compile(r" ?(\d+) of (\d+) ([\w-]+), (\d+ s|as it was proved before)(?:; under way: (.*))?")
 LEVEL = "x86-64-v2"
 PROGRAMS = ("bin/argon2", "bin/scrypt", f"bin/{LEVEL}/argon2", f"bin/{LEVEL}/scrypt")
-SCRYPT = ["scrypt_run", "scrypt_command", "command", "argon_tool", "scrypt_tool"]
+NO_PROGRAM = ["pikhsen_c", "command"]  # what no program stands on
+SCRYPT = ["scrypt_run", "scrypt_command", "argon_tool", "scrypt_tool"]
 # Says that a crate is proved whose text has not the word "broken", after a minute where it has the word "slow". Like rt
 # it lets no other run work in the crate and in what it stands on, keeps a library, and then says nothing.
 STAND_IN = f"#!{sys.executable} -IS" + r'''
@@ -149,14 +150,19 @@ def look_at_lines(checks, name, said, total, kept=0):
 
 
 def shares(checks):
-    """A crate gets more processes the fewer others run or could."""
+    """A crate gets more processes the fewer others run or could, and the one that leads gets all, and goes first."""
     for processors, found in (("1", [1, 1, 1, 1]), ("2", [2, 1, 1, 1]), ("4", [4, 2, 2, 2]), ("64", [4, 4, 4, 4])):
         os.environ["JOBS"] = processors
-        checks.that(f"processes, of {processors}", [prove.jobs_for(others) for others in range(4)], found)
+        checks.that(f"processes, of {processors}", [prove.jobs_for(100, others, False) for others in range(4)], found)
+        checks.that(f"processes that lead, of {processors}", prove.jobs_for(100, 3, True), min(4, int(processors)))
+    checks.that("a small crate", prove.jobs_for(19, 0, True), 1)
+    step = prove.Step("romix", "romix", ["lib"], [])
+    checks.that("the one that leads", step.command(4, True), ["rt", "lib", "--jobs", "4"])
+    checks.that("one beside it", step.command(2, False), ["nice", "-n", "10", "rt", "lib", "--jobs", "2"])
 
 
 def succeeds(checks, tree):
-    crates = [it for it in prove.listed() if it != "pikhsen_c"]
+    crates = [it for it in prove.listed() if it not in NO_PROGRAM]
     status, said = tree.make("run", f"CPU={LEVEL}", "JOBS=2")
     checks.that("make run", (status, tree.there(PROGRAMS)), (0, list(PROGRAMS)))
     checks.that("make run: its end", said[-1].split()[0], "argon_tool")
@@ -175,7 +181,7 @@ def proves_what_changed(checks, tree):
     status, said = tree.make("run", f"CPU={LEVEL}", "JOBS=3")
     checks.that("a change", status, 0)
     look_at_order(checks, "a change", tree, SCRYPT, 3)
-    look_at_lines(checks, "a change", said, 19, kept=19 - len(SCRYPT))
+    look_at_lines(checks, "a change", said, 18, kept=18 - len(SCRYPT))
 
 
 def fails(checks, tree):
@@ -187,11 +193,11 @@ def fails(checks, tree):
     tree.write("tools", "other\n")
     status, said = tree.make("run", f"CPU={LEVEL}")
     checks.that("a failure", (status != 0, tree.there([*older, "bin/level"])), (True, []))
-    checks.that("a failure: begun", tree.begun(), ["scrypt_run", "tools"])
+    checks.that("a failure: begun", tree.begun(), ["argon_tool", "scrypt_run", "tools"])
     checks.that("a failure: why", "| scrypt_run::there: no proof" in said and "| line 99" in said, True)
     checks.that("a failure: no more than its end", "| line 10" in said, False)
     checks.that("a failure: the log", "scrypt_run FAILED. The end of bin/logs/scrypt_run:" in said, True)
-    left = "Left out, since they stand on it: scrypt_command, command, scrypt_tool, argon_tool."
+    left = "Left out, since they stand on it: scrypt_command, scrypt_tool."
     checks.that("a failure: the last line", any(it.startswith(f"Failed: scrypt_run. {left}") for it in said), True)
     status, said = tree.make("install", f"CPU={LEVEL}", f"PREFIX={tree.top}/to")
     checks.that("a failure: nothing is installed", (status != 0, tree.there(["to"])), (True, []))
@@ -243,12 +249,12 @@ def checks_what_changed(checks, tree):
         subprocess.run([*git, *words], cwd=tree.top, env=tree.environment, check=True)
     tree.write("argon_text", "changed\n")
     status, said = tree.make("check")
-    touched = ["argon_text", "argon2_command", "command", "argon_tool", "scrypt_tool", "pikhsen_c"]
+    touched = ["argon_text", "argon2_command", "command", "argon_tool", "pikhsen_c"]
     checks.that("make check", status, 0)
     checks.that("make check: how many", any(it.startswith(f"{len(touched)} crates to prove") for it in said), True)
     checks.that("make check: begun", tree.begun(), sorted([*touched, "argon_text"]))
     checks.that("make check: tests", [it[1] for it in tree.noted("begin") if "test" in it[2]], ["argon_text"])
-    checks.that("make check: the lines", len([it for it in said if LINE.fullmatch(it)]), 21)
+    checks.that("make check: the lines", len([it for it in said if LINE.fullmatch(it)]), 20)
     tree.write("argon_text", "broken\n")
     status, said = tree.make("check")
     checks.that("make check fails", (status != 0, tree.begun()), (True, ["argon_text"]))

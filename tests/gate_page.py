@@ -26,6 +26,7 @@ import re
 import sys
 import textwrap
 
+import pages
 import record
 from edits import TOP
 from keys import Source
@@ -33,34 +34,42 @@ from reading import TESTS
 
 PAGE, STEPS, CRATES = TOP / "docs" / "GATE.md", TOP / "docs" / "gate.tsv", TOP / "docs" / "crates.tsv"
 COLUMNS = ("check", "tests", "bodies")
+# How the page calls each column of seconds, and what it says of it.
+HEADS = {
+    "check": ("check", "of the processor, for the proof of the crate from nothing"),
+    "tests": ("with tests", "of the processor, for the second proof of a crate that has tests"),
+    "bodies": ("wrong bodies", "by the clock, for all its edits, where checks that run side by side are added up"),
+}
 # What each step does, by its words in the Makefile.
 DOES = {
     "tests/sources.sh": "proofs by hand are those listed below; a counter ticks, memory is reserved, wiped and freed, "
-    "and a hash begins in the places that the script lists alone; a table that a script made is what it makes",
-    "tests/documents.py": "what the pages name is there: files, definitions, tests, clauses, a row for each wrong "
-    "body; pictures and tables are what scripts make",
+    "and a hash begins only in the places that the script lists; files that call the system are those that were read",
+    "tests/documents.py": "what the pages name exists: files, definitions, tests, clauses, a row for each wrong body; "
+    "pictures and tables are what scripts make of the sources and the data; the pages are short enough",
     "tests/values.py": "options, ranges, defaults, messages and numbers are those of docs/values.tsv in the sources, the "
-    "manual pages, the completions, header, module and pages; header, sources, module and page of `libpikhsen` have the "
-    "same functions and fields",
-    "tests/reading.py --check": "docs/DEFINITIONS.md says how much a reader of a call has to read; `specs/Inside/` "
-    "has what no public contract reaches, and nothing else",
-    "tests/record_test.py": "which change of a text gives which wrong bodies another key, and that turns cost about "
-    "the same",
+    "manual pages, the completions, header, module and pages; the functions and fields of `libpikhsen` are the same in "
+    "header, sources, module and page",
+    "tests/reading.py --check": "docs/reading/ and docs/VECTORS.md are what scripts make of the sources; each definition "
+    "that a public contract reaches has an equation or a reason; `specs/Inside/` has what none reaches, and nothing else",
+    "tests/record_test.py": "a change of a text gives the right wrong bodies a new key, and turns cost about the same",
     "tests/first_run.py": "`make run`, `make lib` and `make check` over a stand-in for `rt`: their order, their "
-    "lines, and what they leave when a proof fails or they are stopped",
+    "lines, and what they leave behind if a proof fails or they are stopped",
     "tests/build_scripts.py": "packaging/build.sh, chosen.sh, lib.sh and deb.sh over stand-ins: what they make, and that "
-    "one that fails or is stopped leaves no older program, library or package",
+    "they leave no older program, library or package if they fail or are stopped",
     "rt ci": "proves every crate and its tests from nothing, tries the edits of `must-fail/`, and runs each test, and "
-    "the programs as two compilers make them",
-    "tests/wrong_bodies.py": "tries the edits of `wrong-bodies/` that are new, and a tenth of the others; builds what "
-    "`libpikhsen` is made of",
+    "the programs as built by two compilers",
+    "tests/wrong_bodies.py": "tries the edits of `wrong-bodies/` that are new, and a tenth of the others; builds the "
+    "parts of `libpikhsen`",
     "tests/wrong_definitions.py": "tries the edits of `wrong-definitions/` that are new, and a tenth of the others",
-    "tests/outside.sh": "the built programs: words, files and streams, each form of a damaged file, memory and calls "
-    "refused in turn, memory that is freed, the story of README.md and the manual pages' examples",
-    "tests/c_face.py": "makes `libpikhsen` and calls it from C, C++ and Python; the module's salts, defaults and "
+    "tests/outside.sh": "the built programs: arguments, files and streams, each form of a damaged file, memory and calls "
+    "refused in turn, memory that is freed, a stack of 64 KiB, comparisons that go on to their end, the story of README.md and "
+    "the manual pages' examples",
+    "tests/c_face.py": "builds `libpikhsen` and calls it from C, C++ and Python; the module's salts, defaults and "
     "buffers; what is installed; the packages for Debian, file by file; how programs and library are linked",
-    "tests/outside_plants.py": "puts wrong lines into copies of module, header, pages, completions and packaging, those "
-    "that are new and a tenth of the others; the test that each names fails",
+    "tests/builds.py --check": "programs, library and packages are the bytes that docs/builds.tsv has, if the sources are "
+    "those of which it was made",
+    "tests/outside_plants.py": "puts wrong lines into copies of what stands outside the proofs, those that are new and a "
+    "tenth of the others; the test that each names must fail",
 }
 
 
@@ -136,40 +145,31 @@ def table_of_steps():
     """What a run of the gate does, with the run and its seconds."""
     found = seconds_of_steps(STEPS)
     rows = [[f"`{it}`", DOES[it], *found.get(it, ["", ""])] for it in steps()]
-    text = f"The steps in their order, with seconds by the clock and of all processors, in {runs_of(STEPS)['run']}."
+    text = f"The steps, with seconds by the clock and of all processors, in {runs_of(STEPS)['run']}."
     return said(text) + table(["step", "what it does or looks at", "clock", "processors"], rows)
 
 
 def table_of_crates():
     """What each crate has, and how long its proofs and its wrong bodies take, with the runs."""
     seconds, runs, rows = seconds_of_crates(), runs_of(CRATES), []
+    taken = [it for it in COLUMNS if any(row.get(it) for row in seconds.values())]
     for crate in record.below():
         edits = [len(record.edits_of(crate, folder)) for folder in (*record.FOLDERS, record.DEFINITIONS)]
-        cells = [seconds.get(crate, {}).get(column, "") for column in COLUMNS]
+        cells = [seconds.get(crate, {}).get(column, "") for column in taken]
         rows.append([f"`{crate}`", functions(crate), tests(crate), *edits, *cells])
-    text = (
-        "Functions are counted with laws, without tests, vectors and what macros write; edits, which are wrong "
-        "bodies and wrong definitions, by their folder. The last three columns have seconds. Check: of the processor, for the proof of the "
-        f"crate from nothing, in {runs['check']}. With tests: of the processor, for the second proof that a crate "
-        f"with tests gets, in {runs['tests']}. Wrong bodies: by the clock, for all its edits, with checks that go side by "
-        f"side added up, in {runs['bodies']}.")
+    text = ["Functions include laws, but not tests, vectors and what macros write. Edits are counted by their folder. The last "
+            "columns have seconds."]
+    for column in taken:
+        head, what = HEADS[column]
+        text.append(f"{head[0].upper()}{head[1:]}: {what}, in {runs[column]}.")
     folders = [f"`{it}/`" for it in (*record.FOLDERS, record.DEFINITIONS)]
-    return said(text) + table(["crate", "functions", "tests", *folders, "check", "with tests", "wrong bodies"], rows)
-
-
-def placed(text, heading, made):
-    """The page with this in the place of what it has below a heading, down to the end of its first table."""
-    before, head, after = text.partition(f"\n## {heading}\n\n")
-    found = re.search(r"(?:^\|.*\n)+", after, re.MULTILINE)
-    if not found:
-        sys.exit(f"{PAGE.relative_to(TOP)} has no table below {heading}")
-    return before + head + made + after[found.end():]
+    return said(" ".join(text)) + table(["crate", "functions", "tests", *folders, *(HEADS[it][0] for it in taken)], rows)
 
 
 def page():
     """docs/GATE.md with its tables as they are made now."""
-    text = placed(PAGE.read_text(encoding="utf-8"), "What runs", table_of_steps())
-    return placed(text, "Times", table_of_crates())
+    parts = {"steps": table_of_steps, "crates": table_of_crates}
+    return pages.page(PAGE.read_text(encoding="utf-8"), "tests/gate_page.py", parts)
 
 
 def commit_of(path):

@@ -5,7 +5,8 @@ And looks at the memory of a hash or a key when it is freed: it holds zeros.
 
     tests/hostile.py ARGON2 SCRYPT
 
-hostile_system.c, which stands between a program and the system, is compiled here. Expected hashes are those of Debian's argon2
+hostile_system.c, which stands between a program and the system, is compiled here. Without a C compiler only the memory
+of the whole process is limited, and its calls are looked at. Expected hashes are those of Debian's argon2
 (package argon2, version 0~20171227) and of RFC 9106's reference program; scrypt_files.py says where its files come from.
 """
 import concurrent.futures
@@ -20,10 +21,10 @@ import tempfile
 import threading
 from dataclasses import dataclass
 
+import argon2
+import scrypt
 from checking import Checks
-from scrypt_files import COSTS, F0, F5, FILES, FIXED, FROM_PW, HEADER, LINES, SALT, header_of
-
-ENVIRONMENT = {"PW": "pw"}
+from scrypt_files import COSTS, ENVIRONMENT, F0, F5, FILES, FIXED, FROM_PW, HEADER, LINES, SALT, header_of
 
 
 @dataclass
@@ -132,7 +133,8 @@ RUNS = [
         ),
     ),
     Run("scrypt", f"enc {FIXED} {FROM_PW} hello out", b"", F5, ENC_HELLO_OUT, to_file=True),
-    Run("scrypt", f"enc {FIXED} --keep 4 {FROM_PW} hello out", b"", F5, ENC_HELLO_OUT, to_file=True),
+    *(Run("scrypt", f"enc {FIXED} --keep {keep} {FROM_PW} hello out", b"", F5, ENC_HELLO_OUT, to_file=True)
+      for keep in (2, 4)),
     Run(
         "scrypt", f"enc {FIXED} -P hello", b"pw", F5,
         calls(
@@ -140,7 +142,7 @@ RUNS = [
         ),
     ),
     Run("scrypt", f"dec {FROM_PW} F5", b"", b"hello", DEC_F5),
-    Run("scrypt", f"dec --keep 16 {FROM_PW} F5", b"", b"hello", DEC_F5),
+    *(Run("scrypt", f"dec --keep {keep} {FROM_PW} F5", b"", b"hello", DEC_F5) for keep in (2, 16)),
     Run(
         "scrypt", "dec -P F5 out", b"pw\n", b"hello",
         calls(
@@ -176,16 +178,17 @@ RUNS = [
 
 
 class System:
-    """Both programs, over a system that may be hostile, each thread in a folder of its own."""
+    """Both programs, over a system that may be hostile, each thread in a folder of its own below this one."""
 
-    def __init__(self, programs, library):
+    def __init__(self, programs, below, library):
         self.programs = programs
+        self.below = below
         self.library = library
         self.threads = threading.local()
 
     def folder(self):
         if not hasattr(self.threads, "folder"):
-            self.threads.folder = tempfile.mkdtemp(dir=os.path.dirname(self.library))
+            self.threads.folder = tempfile.mkdtemp(dir=self.below)
             for name, content in FILES.items():
                 with open(os.path.join(self.threads.folder, name), "wb") as file:
                     file.write(content)
@@ -219,14 +222,14 @@ class System:
         return done, called, int(memory.split()[1])
 
 
-def memory(system, run):
+def memory(system, run, from_there_on=True):
     """Each request for memory is refused, alone and from there on: how many did no harm, and what was found where it is not the
     line of want of memory."""
     _, _, requests = system.logged(run)
     refused = run.after("A10" if run.program == "argon2" else "S15", None)
     harmless, wrong = 0, []
     for number in range(1, requests + 1):
-        for last in (number, 1 << 40):
+        for last in (number, 1 << 40) if from_there_on else (number,):
             found = system.run(run, {"HOSTILE_MEMORY": f"{number}-{last}"})
             if last == number and found == run.plain():
                 harmless += 1
@@ -236,6 +239,18 @@ def memory(system, run):
     if past != run.plain():
         wrong.append(("past the last", past))
     return requests > 0, harmless, wrong
+
+
+def worked_rows(checks, system, threads):
+    """The same of each row of tests/argon2.py and tests/scrypt.py that ends well."""
+    def refused(run):
+        return [each for each in memory(system, run, False)[1:] if each]
+
+    rows = [Run(program, words, given, expected[1], calls(*WRITTEN))
+            for program, table in (("argon2", argon2.TABLE), ("scrypt", scrypt.TABLE))
+            for _, words, given, expected in table if expected[0] == 0]
+    for run, found in [(run, threads.submit(refused, run)) for run in rows]:
+        checks.that(f"memory refused, request by request: {run.program} {run.words}", found.result(), [])
 
 
 def file_of_no_text(log_n):
@@ -398,29 +413,37 @@ def no_other_calls(checks, system):
         checks.that(f"no other calls: {run.program} {run.words}", found, expected)
 
 
+def over_the_library(checks, system, threads):
+    """All that is refused by hostile_system.c."""
+    tables = [(run, *(threads.submit(test, system, run) for test in (failing_calls, memory))) for run in RUNS]
+    for run, called, requested in tables:
+        name = f"{run.program} {run.words}"
+        checks.that(f"a call refused: {name}", called.result(), [])
+        checks.that(f"memory refused: {name}", requested.result(), (True, 0, []))
+    worked_rows(checks, system, threads)
+    largest_requests(checks, system)
+    freed_blocks(checks, system)
+    salts(checks, system)
+    lines(checks, system)
+
+
 def main():
     if len(sys.argv) != 3:
         raise SystemExit(__doc__)
     compiler = shutil.which("cc")
-    if compiler is None:
-        print("skipped: refused memory and failing calls, for which a C compiler is needed")
-        return
     checks = Checks(sys.argv[1])
+    programs = dict(zip(("argon2", "scrypt"), map(os.path.abspath, sys.argv[1:])))
     with tempfile.TemporaryDirectory() as folder, concurrent.futures.ThreadPoolExecutor(os.cpu_count()) as threads:
         library = os.path.join(folder, "hostile_system.so")
-        source = os.path.join(os.path.dirname(os.path.abspath(__file__)), "hostile_system.c")
-        subprocess.run([compiler, "-O1", "-shared", "-fPIC", "-o", library, source], check=True)
-        system = System({"argon2": os.path.abspath(sys.argv[1]), "scrypt": os.path.abspath(sys.argv[2])}, library)
-        tables = [(run, *(threads.submit(test, system, run) for test in (failing_calls, memory, limits))) for run in RUNS]
-        for run, called, requested, limited in tables:
-            name = f"{run.program} {run.words}"
-            checks.that(f"a call refused: {name}", called.result(), [])
-            checks.that(f"memory refused: {name}", requested.result(), (True, 0, []))
-            checks.that(f"memory limited: {name}", limited.result(), (["plain"], []))
-        largest_requests(checks, system)
-        freed_blocks(checks, system)
-        salts(checks, system)
-        lines(checks, system)
+        system = System(programs, folder, library)
+        if compiler is None:
+            print("skipped: requests for memory and calls that are refused one by one, for which a C compiler is needed")
+        else:
+            source = os.path.join(os.path.dirname(os.path.abspath(__file__)), "hostile_system.c")
+            subprocess.run([compiler, "-O1", "-shared", "-fPIC", "-o", library, source], check=True)
+            over_the_library(checks, system, threads)
+        for run, limited in [(run, threads.submit(limits, system, run)) for run in RUNS]:
+            checks.that(f"memory limited: {run.program} {run.words}", limited.result(), (["plain"], []))
         no_other_calls(checks, system)
     checks.end()
 

@@ -18,7 +18,8 @@ MODULE = (TOP / "python/pikhsen.py").read_text(encoding="utf-8")
 PAGE = (TOP / "man/pikhsen.3").read_text(encoding="utf-8")
 SOURCES = {it.stem: it.read_text(encoding="utf-8") for it in sorted((TOP / "crates/pikhsen_c/src").glob("*.rt"))}
 # The exports that have nothing to wipe: they derive and hash nothing.
-NOTHING_TO_WIPE = ["pikhsen_scrypt_info", "pikhsen_version"]
+NOTHING_TO_WIPE = ["pikhsen_argon2_needs_rehash", "pikhsen_argon2_settings", "pikhsen_message", "pikhsen_scrypt_info",
+                   "pikhsen_version"]
 # The body of any other export: it takes the heap, gathers parameters, calls what does the work, and wipes the stack.
 HANDS_ON = (
     r"\{\n    let mut source = alloc;\n"
@@ -35,7 +36,10 @@ IN_C = {
     "&[u8]": ("const unsigned char *NAME", "size_t NAME_len"),
     "&mut [u8]": ("unsigned char *NAME", "size_t NAME_len"),
     "&mut usize": ("size_t *NAME",),
+    "&mut u32": ("unsigned int *NAME",),
     "&mut PikhsenScryptCosts": ("struct pikhsen_scrypt_costs *NAME",),
+    "&PikhsenArgon2Settings": ("const struct pikhsen_argon2_settings *NAME",),
+    "&mut PikhsenArgon2Settings": ("struct pikhsen_argon2_settings *NAME",),
 }
 # The faults whose numbers have names of their own in the header.
 RENAMED = {
@@ -44,6 +48,12 @@ RENAMED = {
     "HeaderFault::Version": "FORMAT_VERSION",
     "HeaderFault::CostsOutOfRange": "FILE_COSTS",
     "ReadFault::NotInGrammar": "NOT_ENCODED",
+    "RangeFault::Version": "TEXT_VERSION",
+    "RangeFault::Passes": "TEXT_PASSES",
+    "RangeFault::Lanes": "TEXT_LANES",
+    "RangeFault::Memory": "TEXT_MEMORY",
+    "RangeFault::TagLength": "TEXT_TAG_LENGTH",
+    "RangeFault::SaltLength": "TEXT_SALT_LENGTH",
 }
 
 
@@ -66,11 +76,18 @@ def bodies():
 
 def prototypes(text):
     """The functions that a text in C declares, in the same form."""
-    bare = re.sub(r"/\*.*?\*/|^PIKHSEN_MUST_CHECK\s", "", text, flags=re.DOTALL | re.MULTILINE)
+    attributes = r"^PIKHSEN_MUST_CHECK(?: PIKHSEN_NOT_NULL\(\d+\))*\n"
+    bare = re.sub(rf"/\*.*?\*/|{attributes}", "", text, flags=re.DOTALL | re.MULTILINE)
     found = {}
     for result, name, parameters in re.findall(r"^(unsigned int) (\w+)\(([^)]*)\);", bare, re.MULTILINE):
         found[name] = (result, [" ".join(it.split()) for it in parameters.split(",")])
     return found
+
+
+def never_null(parameters):
+    """The places of pointers without a length, counted from 1: only these may not be null."""
+    plain = [it.removeprefix("const ") for it in parameters]
+    return [at for at, it in enumerate(plain, 1) if "*" in it and not it.startswith("unsigned char *")]
 
 
 def numbers_of_sources():
@@ -114,20 +131,48 @@ def kinds():
     )]
 
 
-def fields():
-    """The fields of what a header says, in their order: of the sources, the header and the module."""
-    sources = SOURCES["file"].split("#[repr(C)]\n#[derive(Drop)]\npub struct PikhsenScryptCosts {")[1].split("}")[0]
-    header = re.search(r"struct pikhsen_scrypt_costs \{\n\tunsigned int (.*);\n\};", HEADER)[1]
-    module = re.search(r"class _Costs\(ctypes.Structure\):\n    _fields_ = \[(.*)\]\n", MODULE)[1]
-    return [re.findall(r"pub (\w+): (\w+),", sources), [(it, "u32") for it in header.split(", ")],
-            [(it, {"c_uint": "u32"}.get(kind)) for it, kind in re.findall(r'\("(\w+)", (\w+)\)', module)]]
+def sentences():
+    """What each number says: in the sources, and in the definitions that their contracts cite; and what others say."""
+    defined = (TOP / "crates/pikhsen_c/specs/Message.antt").read_text(encoding="utf-8")
+    found = []
+    for form, other, text in ((r'^        (\d+) => "(.*)",$', r'^        _ => "(.*)",$', SOURCES["message"]),
+                              (r'if status == (\d+) then codes "(.*)"$', r'^    else codes "(.*)"$', defined)):
+        table = {int(number): says.replace('\\"', '"') for number, says in re.findall(form, text, re.MULTILINE)}
+        found.append((table, re.findall(other, text, re.MULTILINE)))
+    return found
+
+
+def fields(file, rust, c, python):
+    """The fields of what is told, in their order: of the sources, the header and the module."""
+    sources = re.search(rf"\npub struct {rust} \{{\n(.*?)\n\}}", SOURCES[file], re.DOTALL)[1]
+    header = re.search(rf"struct {c} \{{\n(.*?)\n\}};", HEADER, re.DOTALL)[1]
+    lines = re.findall(r"\t(\w[\w ]*?) (\w+(?:, \w+)*);", header)
+    module = re.search(rf"class {python}\(ctypes.Structure\):\n    _fields_ = \[(.*?)\]\n", MODULE, re.DOTALL)[1]
+    in_c, in_python = {"unsigned int": "u32", "size_t": "usize"}, {"c_uint": "u32", "c_size_t": "usize"}
+    return [re.findall(r"pub (\w+): (\w+),", sources),
+            [(it, in_c.get(kind)) for kind, names in lines for it in names.split(", ")],
+            [(it, in_python.get(kind)) for it, kind in re.findall(r'\("(\w+)", (\w+)\)', module)]]
 
 
 def compare_texts(checks):
-    checks.that("fields of the costs", fields(), [[("log_n", "u32"), ("r", "u32"), ("p", "u32")]] * 3)
-    must_check = re.findall(r"^PIKHSEN_MUST_CHECK\nunsigned int (\w+)", HEADER, re.MULTILINE)
+    of_costs = fields("file", "PikhsenScryptCosts", "pikhsen_scrypt_costs", "_Costs")
+    checks.that("fields of the costs", of_costs, [[("log_n", "u32"), ("r", "u32"), ("p", "u32")]] * 3)
+    of_settings = fields("settings", "PikhsenArgon2Settings", "pikhsen_argon2_settings", "_Settings")
+    numbers = [(it, "u32") for it in ("kind", "version", "passes", "memory_kib", "lanes")]
+    checks.that("fields of settings", of_settings, [[*numbers, ("salt_len", "usize"), ("tag_len", "usize")]] * 3)
+    of_header = dict(numbers_of_header().values())
+    others = ["unknown number"]
+    checks.that("sentences of the sources and of their contracts", sentences(), [(of_header, others)] * 2)
+    room = int(re.search(r"\n#define PIKHSEN_MESSAGE_ROOM (\d+)\n", HEADER)[1])
+    short = f"    ensures room {{ {room} ≤ length out.old → result ≡ 0 }}\n"
+    checks.that("room of a sentence, of the header and the contract", short in SOURCES["message"], True)
+    form = r"^PIKHSEN_MUST_CHECK((?: PIKHSEN_NOT_NULL\(\d+\))*)\nunsigned int (\w+)"
+    found = re.findall(form, HEADER, re.MULTILINE)
+    must_check = {name: [int(place) for place in re.findall(r"\d+", attributes)] for attributes, name in found}
     checks.that("answers that must be looked at", sorted([*must_check, "pikhsen_version"]), sorted(exports()))
     declared = prototypes(HEADER)
+    for name, places in must_check.items():
+        checks.that(f"header: what may not be null of {name}", places, never_null(declared[name][1]))
     checks.that("names of header and exports", sorted(declared), sorted(exports()))
     for name, form in exports().items():
         checks.that(f"header: {name}", declared.get(name), form)

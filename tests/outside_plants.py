@@ -1,15 +1,16 @@
 #!/usr/bin/env python3
-"""Puts wrong lines into what stands outside the proofs, in copies: module, header, manual pages, completions and
-packaging. A test must find each.
+"""Puts wrong lines into what stands outside the proofs, in copies: module, header, manual pages, completions,
+packaging, and sources where no contract sees what they do. A test must find each.
 
     tests/outside_plants.py           those whose row of the record has another key, and by turns a tenth of the others
     tests/outside_plants.py --audit   all of them
     tests/outside_plants.py NAME..    these
 
 A plant is a file of tests/outside-plants/: what it puts in the place of what, in which file, as a wrong body does, and
-the test that must fail for it. The record has a row for each that was found: its name, its key, and what the test
-said. A key is a sum of the plant, of the file that it changes as it stands, and of the test with all that it reads of
-tests/. Rows are written by a trial alone. A test that fails over an unchanged copy finds nothing.
+the test that must fail for it. A line `and: TEXT` is the next line of the text above it. The record has a row for each
+that was found: its name, its key, and what the test said. A key is a sum of the plant, of the file that it changes as
+it stands, and of the test with all that it reads of tests/. Rows are written by a trial alone. A test that fails over
+an unchanged copy finds nothing.
 """
 import argparse
 import concurrent.futures
@@ -30,12 +31,14 @@ FOLDER = TOP / "tests/outside-plants"
 RECORD = FOLDER / "record"
 # What a copy has of its own, and what it shares with this tree, since no plant changes it.
 COPIED = ("completions", "docs", "include", "man", "packaging", "python", "tests")
-SHARED = ("bench", "crates", "bin/x86-64-v2")
+SHARED = ("bench", "bin/x86-64-v2")
+# Tests of the sources: of the crates, which the others share, these have what they read in a copy.
+OF_SOURCES = ("tests/sources.sh",)
 # The words after each test that a plant may name (LIB is a folder with a built library), and how long it takes.
 TESTS = {
     "tests/values.py": ([], 1), "tests/documents.py": ([], 5), "tests/first_run.py": ([], 8),
     "tests/build_scripts.py": ([], 20), "tests/python_module.py": (["LIB"], 6), "tests/packages.py": (["LIB"], 9),
-    "tests/c_face.py": (["--header", "LIB"], 6),
+    "tests/c_face.py": (["--header", "LIB"], 6), "tests/sources.sh": ([], 2),
 }
 # What a test needs beside Python: without it, it finds nothing.
 NEEDS = {"tests/build_scripts.py": ["gcc", "dpkg-deb"], "tests/python_module.py": ["gcc"],
@@ -43,6 +46,8 @@ NEEDS = {"tests/build_scripts.py": ["gcc", "dpkg-deb"], "tests/python_module.py"
          "tests/values.py": ["bash"]}
 # What a test says of what it finds: a comparison that fails, a name that is not there, or how it ended.
 SAID = re.compile(r"^(?:FAILED|not there:) (.*)$|^(\w*(?:Error|Exception)\b.*)$", re.MULTILINE)
+# A test of the sources: each line but those of the sources themselves, which it shows with their numbers.
+SAID_OF_SOURCES = re.compile(r"^(?!(?:crates/\S+:)?\d+:)(.+)$()", re.MULTILINE)
 
 
 class Plant:
@@ -50,11 +55,17 @@ class Plant:
 
     def __init__(self, path):
         self.name, self.text = path.stem, path.read_text(encoding="utf-8")
-        self.pairs, said = [], {}
+        self.pairs, said, last = [], {}, None
         for word, _, rest in (line.partition(":") for line in self.text.split("\n")):
-            said[word] = rest.removeprefix(" ")
+            rest = rest.removeprefix(" ")
+            if word == "and":
+                said[last] += f"\n{rest}"
+            else:
+                said[word], last = rest, word
             if word == "new":
-                self.pairs.append((said["file"].strip(), said["old"], said["new"]))
+                self.pairs.append([said["file"].strip(), said["old"], ""])
+            if last == "new":
+                self.pairs[-1][2] = said["new"]
         self.test = said.get("test", "").strip()
 
     def put(self, top):
@@ -74,14 +85,15 @@ class Plant:
 
 
 def read_by(test):
-    """The files of tests/ that a test is made of, and the table of values where it reads that."""
+    """The files of tests/ that a test is made of, or runs, and the table of values where it reads that."""
     found, left = [], [test]
     while left:
         name = left.pop()
         if name not in found and (TOP / name).is_file():
             found.append(name)
             text = (TOP / name).read_text(encoding="utf-8")
-            left += [f"tests/{it}.py" for it in re.findall(r"^(?:import|from) (\w+)", text, re.MULTILINE)]
+            made_of = re.findall(r"^(?:import |from |tests/(?=\w+\.py\b))(\w+)", text, re.MULTILINE)
+            left += [f"tests/{it}.py" for it in made_of]
     return sorted(found) + (["docs/values.tsv"] if "tests/values_table.py" in found else [])
 
 
@@ -90,15 +102,26 @@ def rows_of_record():
     return {name: (key, said) for name, key, said in (line.split("\t") for line in lines)}
 
 
-def copy_of(folder):
-    """A copy of what plants change, with links to the rest."""
+def sources():
+    """What tests of the sources read of the crates: the code, and where a proof is written by hand."""
+    for folder, folders, files in os.walk(TOP / "crates"):
+        folders[:] = [it for it in folders if it != "out"]
+        yield from (pathlib.Path(folder, it) for it in files if it.endswith(".rt") or it == "Proof.antt")
+
+
+def copy_of(folder, test):
+    """A copy of what plants of this test change, with links to the rest."""
     top = pathlib.Path(folder)
     for name in COPIED:
         shutil.copytree(TOP / name, top / name, ignore=shutil.ignore_patterns("__pycache__", "outside-plants"))
     for file in TOP.iterdir():
         if file.is_file():
             shutil.copy(file, top)
-    for name in SHARED:
+    for path in sources() if test in OF_SOURCES else ():
+        to = top / path.relative_to(TOP)
+        to.parent.mkdir(parents=True, exist_ok=True)
+        shutil.copyfile(path, to)
+    for name in SHARED if test in OF_SOURCES else (*SHARED, "crates"):
         (top / name).parent.mkdir(parents=True, exist_ok=True)
         if (TOP / name).exists():
             os.symlink(TOP / name, top / name)
@@ -108,7 +131,7 @@ def copy_of(folder):
 def said_by(test, lib, plant=None):
     """The first that a test finds wrong in a copy with a plant, or without one; None where it finds nothing."""
     with tempfile.TemporaryDirectory(prefix="pikhsen-plant-") as folder:
-        top = copy_of(folder)
+        top = copy_of(folder, test)
         if plant and not plant.put(top):
             return None
         words = [str(lib) if it == "LIB" else it for it in TESTS[test][0]]
@@ -117,7 +140,8 @@ def said_by(test, lib, plant=None):
                              stderr=subprocess.STDOUT, text=True)
         if ran.returncode == 0:
             return None
-        found = [failed or ended for failed, ended in SAID.findall(ran.stdout)]
+        said = SAID_OF_SOURCES if test in OF_SOURCES else SAID
+        found = [failed or ended for failed, ended in said.findall(ran.stdout)]
         first = (found or [f"status {ran.returncode}"])[0].replace("\t", " ").replace(str(top), "..")
         return f"{test}: {first[:120]}"
 

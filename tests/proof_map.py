@@ -47,8 +47,8 @@ FROM_BELOW = {("pikhsen_c", "encfile"): 410, ("pikhsen_c", "argon_text"): 818}
 SMALL = [
     [{"argon_tool": "the program argon2"}, {"pikhsen_c": "the functions for C"}, {"scrypt_tool": "the program scrypt"}],
     [{}, {"command": "both commands", "tools": "the system's host"}, {}],
-    [{"argon2_command": "words and run of argon2"}, {}, {"scrypt_command": "words of scrypt"}],
-    [{}, {"command_words": "words of both"}, {"scrypt_run": "enc, dec and info"}],
+    [{"argon2_command": "arguments and run of argon2"}, {}, {"scrypt_command": "arguments of scrypt"}],
+    [{}, {"command_words": "arguments of both"}, {"scrypt_run": "enc, dec and info"}],
     [{"argon_text": "texts of stored hashes"}, {"host": "what commands see"}, {"encfile": "encrypted files"}],
     [{"argon": "Argon2, RFC 9106"}, {}, {"romix": "scrypt, RFC 7914"}],
     [{"blake": "BLAKE2b, RFC 7693"}, {"comparison": "of codes", "counter": "of work", "four_words": "lemmas"},
@@ -275,7 +275,7 @@ def small():
     note = "A crate stands on crates below it: on those of its column and of the middle; a crate of the middle, on any."
     y = picture.text(20, y + 12, [note], "soft") + 2
     end = picture.box("Trusted", "What no proof shows", 20, y, SMALL_WIDTH - 40, "",
-                      [(each, []) for each in trusted()], kind="trusted", columns=3)
+                      [(each, []) for each in trusted()], kind="trusted", columns=2)
     return picture.svg(end + 12), misplaced()
 
 

@@ -1,7 +1,7 @@
 #!/usr/bin/env python3
-"""Calls the module for Python over a built library: RFC vectors, hashlib, each byte of a file changed, each cut, salts
-of its own, buffers that it wipes, all forms of bytes, limits, exceptions, threads, processes, and libraries that it
-must refuse.
+"""Calls the module for Python over a built library: RFC vectors, hashlib, each byte of a file changed, each cut, files
+in place, settings of texts, salts of its own, buffers that it wipes, all forms of bytes, limits, exceptions, threads,
+processes, and libraries that it must refuse.
 
     tests/python_module.py FOLDER      the folder in which libpikhsen.so.0 lies
 """
@@ -149,6 +149,63 @@ def files_from_python(checks, pikhsen):
         checks.that(f"the first reason: {name}", (refusal(pikhsen.decrypt, given, b"PW", **named) or "")[:9], why[:9])
     checks.that("no passphrase, and no file", refusal(pikhsen.decrypt, bytes(96), "PW")[:9], "TypeError")
     checks.that("a header and no file", refusal(pikhsen.info, bytes(64)), "MAGIC")
+
+
+def in_place_from_python(checks, pikhsen):
+    """The same file as `encrypt` makes, in the buffer of its text; or the text as it was."""
+    salt, cheap = b"s" * 32, {"log_n": 4, "r": 1, "p": 1}
+    for text in (b"", b"Dear Ada", bytes(range(256)) * 300):
+        file = pikhsen.encrypt(text, b"pw", salt=salt, **cheap)
+        for form in (bytearray, lambda it: memoryview(bytearray(it)), mapped):
+            buffer = form(text + b"x" * 128)
+            pikhsen.encrypt_in_place(buffer, b"pw", salt=salt, keep=4, **cheap)
+            checks.that(f"in place, {len(text)} bytes", bytes(memoryview(buffer)), file)
+    buffer = bytearray(b"Dear Ada" + bytes(128))
+    before = bytes(buffer)
+    for named, why in (
+        ({"salt": b"s" * 31}, "FILE_SALT"), ({"log_n": 0}, "LOG_N"), ({"keep": 3}, "KEEP"),
+        ({"max_bytes": 2047}, "MEMORY_LIMIT"), ({"max_ops": 63}, "WORK_LIMIT"),
+    ):
+        checks.that(f"in place, {why}", refusal(pikhsen.encrypt_in_place, buffer, b"pw", **{**cheap, **named}), why)
+    checks.that("in place, 127 bytes", refusal(pikhsen.encrypt_in_place, bytearray(127), b"pw", **cheap), "BUFFER")
+    checks.that("in place, refused", bytes(buffer), before)
+    read_only = refusal(pikhsen.encrypt_in_place, before, b"pw", **cheap) or ""
+    checks.that("in place of what is not written", read_only[:9], "TypeError")
+    others = [bytearray(before) for _ in range(2)]
+    for other in others:
+        pikhsen.encrypt_in_place(other, b"pw", **cheap)
+    checks.that("in place, each with its own salt", others[0][16:48] == others[1][16:48], False)
+
+
+def settings_from_python(checks, pikhsen):
+    """What a text says of its settings, and whether its hash is to be made anew."""
+    # the README of the reference implementation
+    text = "$argon2i$v=19$m=65536,t=2,p=4$c29tZXNhbHQ$RdescudvJCsgt3ub+b+dWRWJTmaaJObG"
+    told = pikhsen.settings(text)
+    checks.that("settings", told, (pikhsen.Kind.I, 0x13, 2, 65536, 4, 8, 24))
+    checks.that("settings of bytes", pikhsen.settings(text.encode()), told)
+    checks.that("settings without a version", pikhsen.settings(text.replace("v=19$", "")).version, 0x10)
+    same = told._asdict()
+    checks.that("just these settings", pikhsen.needs_rehash(text, **same), False)
+    for name, value in same.items():
+        for other in (value - 1, value + 1, -1, 1 << 70):
+            found = pikhsen.needs_rehash(text, **{**same, name: other})
+            checks.that(f"other settings: {name} {other}", found, True)
+    cheap = {"passes": 1, "memory_kib": 8, "lanes": 1}
+    checks.that("settings of encode", pikhsen.needs_rehash(pikhsen.encode(b"password")), False)
+    stored = pikhsen.encode(b"password", **cheap)
+    checks.that("a cheap text", pikhsen.needs_rehash(stored), True)
+    checks.that("a cheap text that is wanted", pikhsen.needs_rehash(stored, **cheap), False)
+    for why, outside in (
+        ("TEXT_VERSION", text.replace("v=19", "v=17")), ("TEXT_PASSES", text.replace("t=2", "t=0")),
+        ("TEXT_LANES", text.replace("p=4", "p=16777216")), ("TEXT_MEMORY", text.replace("m=65536", "m=31")),
+        ("TEXT_TAG_LENGTH", text[:-28]), ("TEXT_SALT_LENGTH", text.replace("c29tZXNhbHQ", "c29tZXNhbA")),
+        ("NOT_ENCODED", text + "\0"), ("NOT_ENCODED", "\ud800"),
+    ):
+        checks.that(f"settings: {why}", refusal(pikhsen.settings, outside), why)
+        checks.that(f"needs_rehash: {why}", refusal(pikhsen.needs_rehash, outside), why)
+        verified = "NOT_ENCODED" if why == "NOT_ENCODED" else "OUT_OF_RANGE"
+        checks.that(f"verify, where settings tell {why}", refusal(pikhsen.verify, outside, b"x"), verified)
 
 
 NO_FILE = """import mmap, pikhsen, resource, sys
@@ -396,6 +453,9 @@ def exceptions_from_python(checks, pikhsen):
         found = isinstance(made, ValueError), isinstance(made, MemoryError)
         checks.that(f"family of {made!r}", found, (is_value, not is_value))
         checks.that(f"sentence of {status!r}", str(made), other or says)
+        checks.that(f"sentence of {status!r}, by the library", pikhsen.message(status), says)
+    for number in (len(pikhsen.Status), 1 << 31, (1 << 32) - 1, 1 << 32, -1):
+        checks.that(f"sentence of {number}", pikhsen.message(number), "unknown number")
     checks.that("memory", pikhsen.OutOfMemory.__mro__[1:3], (MemoryError, pikhsen.Refused))
 
 
@@ -406,6 +466,10 @@ unsigned int pikhsen_argon2_verify(void) { return 77; }
 unsigned int pikhsen_scrypt(void) { return 77; }
 unsigned int pikhsen_scrypt_info(void) { return 9; }
 unsigned int pikhsen_scrypt_encrypt(void) { return 77; }
+unsigned int pikhsen_scrypt_encrypt_in_place(void) { return 77; }
+unsigned int pikhsen_argon2_settings(void) { return 77; }
+unsigned int pikhsen_argon2_needs_rehash(void) { return 77; }
+unsigned int pikhsen_message(void) { return 77; }
 """
 LAST = "unsigned int pikhsen_scrypt_decrypt(void) { return 77; }\n"
 STRANGE = """import pikhsen
@@ -470,8 +534,9 @@ def calls(checks, folder, lib):
     """All that is tested of the module: over the library in one folder, with files of its own in another."""
     pikhsen = loaded(lib)
     for part in (
-        from_python, keys_from_python, files_from_python, salts_from_python, buffers_from_python, threads_from_python,
-        arguments_from_python, limits_from_python, defaults_from_python, exceptions_from_python,
+        from_python, keys_from_python, files_from_python, in_place_from_python, settings_from_python, salts_from_python,
+        buffers_from_python, threads_from_python, arguments_from_python, limits_from_python, defaults_from_python,
+        exceptions_from_python,
     ):
         part(checks, pikhsen)
     large_from_python(checks, folder, lib)

@@ -18,11 +18,37 @@ for proof in $(grep -o 'crates/[A-Za-z0-9_/]*/Proof\.antt' docs/GATE.md | sort -
     test -f "$proof" || fail "docs/GATE.md lists $proof, which is not there"
 done
 
-# The lines of the sources below a folder, without comments and without tests, that have this text.
-places() {
-    grep -rnHF --include='*.rt' --exclude-dir=out --exclude-dir=tests --exclude=tests.rt --exclude=vectors.rt \
-        -- "$2" "$1" | grep -vE '^[^:]*:[0-9]+: *//' | cut -d: -f1 | sort
+# The code of the crates, without comments, tests and vectors, and in one form: white space between words alone, no
+# comma before a bracket that closes, `f(` for `f::<T>(`, and `T::f` for `<T>::f`. So neither layout nor a type hides a
+# call.
+export LC_ALL=C
+code=$(mktemp -d)
+trap 'rm -rf "$code"' EXIT
+in_one_form() {
+    sed -E 's/  +/ /g; s/ ?([^A-Za-z0-9_ ]) ?/\1/g; s/,([])}])/\1/g
+        :types; s/::<([^<>()]|<[^<>()]*>)*>//; ttypes; :paths; s/<([A-Za-z0-9_:]+)>::/\1::/; tpaths'
 }
+find crates -name out -prune -o -name tests -prune -o -name '*.rt' ! -name tests.rt ! -name vectors.rt -print |
+    while read -r file; do
+        mkdir -p "$code/${file%/*}"
+        sed '/^ *\/\//d' "$file" | tr '\n' ' ' | in_one_form >"$code/$file"
+    done
+# The files of this code below a folder that have this text, each as often as it has it.
+places() {
+    (cd "$code" && grep -roHF -- "$(printf %s "$2" | in_one_form)" "$1" | cut -d: -f1 | sort)
+}
+# refuse PATTERN REASON: no code has what this pattern says.
+refuse() {
+    ! found=$(cd "$code" && grep -roHE -- "$1" crates) || fail "$2: $found"
+}
+begins='(^|[];{}])(pub |pub\([a-z]+\))?'
+refuse "${begins}use [^;]* as [A-Za-z]" "a name is another's: calls by it are not counted"
+counted='Ticks|Count|Matrix|Workspace|Lanes|Encoded|Enc|Dec|Vec|String|Box|Global'
+refuse "${begins}type [A-Z][A-Za-z]*(<[^=;]*>)?=[^;]*\\b($counted)\\b" \
+    "a type's name is another's: calls by it are not counted"
+refuse "\\b($counted)::[a-z_]+[];,)}]" "a function that is counted stands as a value"
+refuse '[=(,](verify|verify_in|read_from|reserve|reserve_from|attempt|are_same)[;,)]' \
+    "a function that is counted stands as a value"
 # expect_below FOLDER TEXT REASON FILE..: below the folder the text stands once in each of these files, twice where it
 # is named twice, and nowhere else.
 expect_below() {
@@ -40,7 +66,8 @@ expect '.tick()' "the counters tick in the one block function and the one core" 
 expect 'Ticks::new()' "a counter is made by the test of a password, the functions for C and the commands, once each" \
     crates/argon_text/src/verify_password.rt crates/argon2_command/src/run.rt \
     crates/scrypt_command/src/run.rt crates/pikhsen_c/src/argon2.rt crates/pikhsen_c/src/encoded.rt \
-    crates/pikhsen_c/src/file.rt crates/pikhsen_c/src/file.rt crates/pikhsen_c/src/scrypt.rt
+    crates/pikhsen_c/src/file.rt crates/pikhsen_c/src/file.rt crates/pikhsen_c/src/in_place.rt \
+    crates/pikhsen_c/src/scrypt.rt
 for text in 'Count::new()' '.plus_one()'; do
     expect "$text" "argon and romix count, each in its own counter" crates/argon/src/ticks.rt crates/romix/src/ticks.rt
 done
@@ -48,15 +75,13 @@ done
 # Memory is reserved, and work begun, in one place for each way to it, where contracts say what was tested before.
 expect '::reserve(' "only a source of memory reserves, on the condition that limits admit the work" \
     crates/argon_text/src/room.rt crates/argon2_command/src/room.rt crates/pikhsen_c/src/source.rt \
-    crates/pikhsen_c/src/source.rt crates/scrypt_run/src/admission.rt
-expect_below crates/scrypt_run 'reserve(alloc,' "a run reserves one workspace, and info none" \
-    crates/scrypt_run/src/admission.rt crates/scrypt_run/src/decrypt.rt crates/scrypt_run/src/encrypt.rt
-expect 'reserve(alloc, sparse, &task.limits)' "the workspace is that of the request, under its limits" \
-    crates/scrypt_run/src/decrypt.rt
-expect 'reserve(alloc, sparse, &asked.task.limits)' "the workspace is that of the request, under its limits" \
-    crates/scrypt_run/src/encrypt.rt
+    crates/pikhsen_c/src/source.rt crates/scrypt_run/src/room.rt
+# A run of scrypt has no heap but through its source of memory, whose requests its contract counts.
+expect_below crates/scrypt_run 'Global' "a run has its memory from its source alone" crates/scrypt_run/src/line.rt \
+    crates/scrypt_run/src/line.rt crates/scrypt_run/src/line.rt crates/scrypt_run/src/room.rt \
+    crates/scrypt_run/src/room.rt
 # Of what only hands on the heap, or a counter that it makes, no contract sees that a step is done twice.
-expect 'run(alloc' "a run is made once" crates/scrypt_command/src/run.rt
+expect 'run(&mut room' "a run is made once" crates/scrypt_command/src/run.rt
 expect 'attempt(' "a run is made once" crates/argon2_command/src/run.rt crates/scrypt_command/src/run.rt
 expect 'verify_in(' "a password is tested once" crates/argon_text/src/verify_password.rt \
     crates/pikhsen_c/src/verifying.rt
@@ -80,14 +105,17 @@ for text in '.to_vec(' 'Vec::new(' '.write(' 'Encoded::read(' 'Encoded::read(*se
     expect_below crates/pikhsen_c "$text" "memory is asked for by the sources of memory alone" \
         crates/pikhsen_c/src/source.rt
 done
-grows='append|clone\w*|extend\w*|from_elem|insert\w*|push\w*|(try_)?reserve\w*|(try_)?resize\w*|sort\w*|Box::new'
-if grep -nHE "(\.|::)($grows)\(" crates/pikhsen_c/src/*.rt |
+grows='append|clone\w*|extend\w*|from_elem|insert\w*|push\w*|(try_)?reserve\w*|(try_)?resize\w*|sort\w*'
+if grep -nHE "(\.|::)($grows)\(|\bBox::new\(" crates/pikhsen_c/src/*.rt |
     grep -vE ': *//|: +(Matrix|Workspace)::reserve\(\*self,'; then
     fail "memory is asked for by a function for C that is not a source of memory"
 fi
 expect 'burn(told)' "zeros are put over the stack before an answer" crates/pikhsen_c/src/argon2.rt \
     crates/pikhsen_c/src/encoded.rt crates/pikhsen_c/src/file.rt crates/pikhsen_c/src/file.rt \
-    crates/pikhsen_c/src/scrypt.rt crates/pikhsen_c/src/verifying.rt
+    crates/pikhsen_c/src/in_place.rt crates/pikhsen_c/src/scrypt.rt crates/pikhsen_c/src/verifying.rt
+! found=$(sed 's/extern"C"fn/\n/g' "$code"/crates/pikhsen_c/src/*.rt | sed -nE 's/.*let mut source=alloc;(.*)/\1/p' |
+    sed 's/burn(told)}.*//' | grep -E '\breturn\b|\?|\bbreak\b') ||
+    fail "a function for C answers before zeros are put over the stack: $found"
 for text in 'forget(' 'ManuallyDrop' 'leak(' 'into_raw('; do
     expect "$text" "all memory that is taken is freed"
 done
@@ -118,7 +146,7 @@ expect_below crates/argon 'Vec<' "a list of blocks is not wiped" crates/argon/sr
     crates/argon/src/lanes.rt crates/argon/src/room.rt crates/argon/src/room.rt crates/argon/src/room.rt \
     crates/argon/src/room.rt crates/argon/src/weave.rt
 # An exported function makes a source of the heap, and hands that on: no other line speaks of the heap.
-if grep -nH alloc crates/pikhsen_c/src/*.rt | grep -vE '/source\.rt:|: *//' |
+if grep -nHE '(^|[^m])alloc' crates/pikhsen_c/src/*.rt | grep -vE '/source\.rt:|: *//' |
     grep -vE ': *(alloc: Global,|let mut source = alloc;|use std::alloc::Global;)$'; then
     fail "the heap is used by a function for C that is not a source of memory"
 fi
@@ -129,7 +157,9 @@ expect 'Dec::open(' "a derivation for a file that is read is begun by dec and it
 
 # Of the system no contract knows a byte. So the files that call it, and what hands the system to the programs, are
 # compared whole, without comments and white space, by their sums: who changes one reads it again, and puts its new sum here.
+compared=
 compare() {
+    compared="$compared $2"
     sum=$(grep -vE '^ *//' "$2" | tr -d ' \n' | sha256sum | cut -c1-64)
     test "$sum" = "$1" || fail "$2 is not what was read when its sum was put here; its sum is $sum"
 }
@@ -146,6 +176,8 @@ expect 'are_same(tag, claim.tag)' "tags are compared over all their bytes" crate
 expect '!are_same(&front[64..], ' "the code of a header is compared over all its bytes" crates/encfile/src/dec.rt
 expect 'are_same(&self.bytes, code)' "the final code is compared over all its bytes" crates/encfile/src/held.rt
 expect 'difference |= left[i] ^ right[i];' "the comparison looks at every byte" crates/comparison/src/lib.rt
+compare fb4363fe3d8f4754cafa6a15c5c1d3a150f77cd070cfa0065e07306138c5f572 crates/comparison/src/lib.rt
+compare 2cec3806482fe9dca3c6d842639b41e6b728b0f898496e1bfd965812b49d2426 crates/pikhsen_c/src/burning.rt
 expect 'source.test(' "a password is tested for C in one place" crates/pikhsen_c/src/verifying.rt
 for text in '==' '!=' '.eq(' '.ne(' '.cmp(' '.starts_with(' '.position(' 'are_same('; do
     for file in verifying source; do
@@ -154,5 +186,7 @@ for text in '==' '!=' '.eq(' '.ne(' '.cmp(' '.starts_with(' '.position(' 'are_sa
 done
 
 tests/encoded_texts.py crates/argon_text/src/tests/near_misses.rt || status=1
+
+test $status != 0 || echo "compared whole:$compared"
 
 exit $status

@@ -21,12 +21,14 @@ class Option(NamedTuple):
 
 
 class Message(NamedTuple):
-    """A line that ends a run: of which program, its number in docs/REFUSALS.md, its name in the sources."""
+    """A line that ends a run: of which program, its number in docs/REFUSALS.md, its name in the sources, the line, and
+    when it is said."""
 
     program: str
     number: str
     name: str
     line: str
+    when: str
 
 
 def rows(kind):
@@ -46,7 +48,7 @@ def messages(program):
 
 def lines():
     """Of each message what a program writes, by its number."""
-    return {number: line.encode() + b"\n" for _, number, _, line in rows("message")}
+    return {number: line.encode() + b"\n" for _, number, _, line, _ in rows("message")}
 
 
 KINDS = {"option", "message", "order", "status", "kind", "default", "range", "number", "phrase", "figures"}

@@ -1,0 +1,168 @@
+#!/usr/bin/env python3
+"""Compares what was built with docs/builds.tsv, which has the SHA-256 of programs, library and packages: the same
+sources give the same bytes, wherever they are built.
+
+    tests/builds.py               writes the table of what is built here
+    tests/builds.py --check       compares it, row by row
+
+The programs are those in bin/LEVEL, the library is linked anew of crates/pikhsen_c/out, that for x86-64-v3 is the one
+in bin/lib, and the packages are made anew with that, with the time that the table has. The package `pikhsen` has the
+table itself in it, and so no row.
+
+The table also has what all this is made of: the toolchain, the linker and the like, and a sum of the sources of each.
+Where one of these is another, or what is built is older than the sources or not there, nothing can be compared: that is
+said, and is no failure.
+"""
+import hashlib
+import os
+import pathlib
+import shutil
+import subprocess
+import sys
+import tempfile
+
+import keys
+import record
+from checking import Checks
+from edits import TOP
+
+TABLE = TOP / "docs/builds.tsv"
+HEAD = """# What the sources of this version build, written by tests/builds.py: which toolchain and tools made it, the time of
+# the packages, sums of the sources, and the SHA-256 of each file, after its level of processors.
+"""
+LEVELS = ("x86-64-v2", "x86-64-v3")
+PROGRAMS = {"argon2": "argon_tool", "scrypt": "scrypt_tool"}
+LIBRARY, ARCHIVE = "pikhsen_c", TOP / "crates/pikhsen_c/out/libpikhsen_c.a"
+HIGHER = TOP / "bin/lib/glibc-hwcaps/x86-64-v3/libpikhsen.so.0"
+PACKAGES = ("libpikhsen0", "libpikhsen-dev", "python3-pikhsen")
+# What is in the packages beside programs and library.
+PACKED = ("include", "man", "packaging", "python", "VERSION", "CHANGELOG.md")
+# By what they show of themselves: what makes the library, and what the packages.
+TOOLS = {"ld": "library", "cc": "library", "objcopy": "library", "dpkg-deb": "packages", "gzip": "packages"}
+
+
+def sha256(path):
+    return hashlib.sha256(pathlib.Path(path).read_bytes()).hexdigest()
+
+
+def crates_of(crate):
+    return [*record.below()[crate], crate]
+
+
+def sum_of_crates(crate):
+    """A sum of the sources of a crate and of all below it."""
+    sums = [(it, keys.sum_of(TOP / "crates" / it)) for it in crates_of(crate)]
+    return hashlib.sha256(repr(sums).encode()).hexdigest()[:32]
+
+
+def sum_of_packed():
+    """A sum of what is in the packages beside programs and library."""
+    files = [it for name in PACKED for it in [TOP / name, *sorted((TOP / name).rglob("*"))]]
+    texts = [(str(it.relative_to(TOP)), it.read_bytes()) for it in files if it.is_file() and it.suffix != ".pyc"]
+    return hashlib.sha256(repr(texts).encode()).hexdigest()[:32]
+
+
+def first_line(*words):
+    found = shutil.which(words[0])
+    ran = subprocess.run([found, *words[1:]], stdout=subprocess.PIPE, text=True, check=False) if found else None
+    return ran.stdout.partition("\n")[0] if ran else "not there"
+
+
+def made_of(epoch):
+    """What decides over the bytes: by the words of a row of the table its last cell."""
+    version = (TOP / "VERSION").read_text(encoding="utf-8").strip()
+    made = {("version",): version, ("kit",): first_line("rt", "version"), ("time",): epoch}
+    made.update({("tool", it): first_line(it, "--version") for it in TOOLS})
+    made.update({("sources", name): sum_of_crates(crate) for name, crate in [*PROGRAMS.items(), ("library", LIBRARY)]})
+    made["sources", "packages"] = sum_of_packed()
+    return made
+
+
+def is_new(file, crate):
+    """Whether what was built is there, and newer than all that it is proved from."""
+    folders = [TOP / "crates" / it / part for it in crates_of(crate) for part in ("src", "specs", "proofs")]
+    newest = max(it.stat().st_mtime for folder in folders for it in folder.rglob("*") if it.is_file())
+    return file.is_file() and file.stat().st_mtime > newest
+
+
+def built(folder, epoch):
+    """The SHA-256 of each file that is built here, by level and name."""
+    found = {}
+    for level in LEVELS:
+        for name, crate in PROGRAMS.items():
+            file = TOP / "bin" / level / name
+            if is_new(file, crate):
+                found[level, name] = sha256(file)
+    if is_new(ARCHIVE, LIBRARY) and shutil.which("cc"):
+        subprocess.run([TOP / "packaging/lib.sh", folder], check=True)
+        for name in ("libpikhsen.a", "libpikhsen.so.0"):
+            found["x86-64-v2", name] = sha256(f"{folder}/{name}")
+        if is_new(HIGHER, LIBRARY):
+            found["x86-64-v3", HIGHER.name] = sha256(HIGHER)
+            found.update(packages(folder, epoch))
+    return found
+
+
+def packages(folder, epoch):
+    """The same of packages, with the libraries in this folder and that for x86-64-v3, and the programs."""
+    if not shutil.which("dpkg-deb") or not is_new(TOP / "bin/x86-64-v2/scrypt", "scrypt_tool"):
+        return {}
+    below = pathlib.Path(folder, *HIGHER.parts[-3:-1])
+    below.mkdir(parents=True)
+    shutil.copy(HIGHER, below)
+    made = pathlib.Path(folder, "packages")
+    made.mkdir()
+    words = [TOP / "packaging/deb.sh", folder, made]
+    subprocess.run(words, env={**os.environ, "SOURCE_DATE_EPOCH": epoch}, stdout=subprocess.DEVNULL, check=True)
+    return {("packages", it.name): sha256(it) for it in sorted(made.glob("*.deb")) if it.name.split("_")[0] in PACKAGES}
+
+
+def rows_of_table():
+    lines = TABLE.read_text(encoding="utf-8").splitlines() if TABLE.is_file() else []
+    return {tuple(it[:-1]): it[-1] for it in (line.split("\t") for line in lines if not line.startswith("#"))}
+
+
+def reasons(level, name, table, made):
+    """Why a file cannot be compared: what it is made of that is another than the table has."""
+    whole = "packages" if level == "packages" else PROGRAMS.get(name, "library")
+    wanted = [("kit",)]
+    if whole in PROGRAMS.values():
+        wanted.append(("sources", name))
+    else:
+        of = ("library",) if whole == "library" else ("library", "packages")
+        wanted += [("tool", tool) for tool, it in TOOLS.items() if it in of]
+        wanted += [("sources", it) for it in of]
+    return [" ".join(it) for it in wanted if table.get(it) != made[it]]
+
+
+def compare(checks, table, made, found):
+    for row, expected in table.items():
+        if row[0] not in (*LEVELS, "packages"):
+            continue
+        others = reasons(*row, table, made)
+        if others:
+            print(f"{' '.join(row)}: not comparable, of other {', '.join(others)}")
+        elif row not in found:
+            print(f"{' '.join(row)}: not built here of these sources")
+        else:
+            checks.that(f"{' '.join(row)}: its SHA-256", found[row], expected)
+
+
+def main():
+    if sys.argv[1:] not in ([], ["--check"]):
+        raise SystemExit(__doc__)
+    table = rows_of_table()
+    epoch = table.get(("time",)) if sys.argv[1:] else record.git("log", "-1", "--format=%ct")
+    with tempfile.TemporaryDirectory() as folder:
+        found = built(folder, epoch or "0")
+    made = made_of(epoch)
+    if sys.argv[1:]:
+        checks = Checks("none")
+        compare(checks, table, made, found)
+        checks.end()
+    lines = ["\t".join([*row, cell]) + "\n" for row, cell in {**made, **found}.items()]
+    TABLE.write_text(HEAD + "".join(lines), encoding="utf-8")
+
+
+if __name__ == "__main__":
+    main()
