@@ -151,7 +151,7 @@ impl Params {
     /// The passes t, 1 to 2^32-1.
     pub fn passes(&self) -> u32
         ensures value { result ≡ self.now.passes }
-        ensures some { 1 ≤ result }
+        ensures at_least_1 { 1 ≤ result }
     {
         self.passes
     }
@@ -159,8 +159,8 @@ impl Params {
     /// The lanes p, 1 to 2^24-1.
     pub fn lanes(&self) -> u32
         ensures value { result ≡ self.now.lanes }
-        ensures some { 1 ≤ result }
-        ensures few { result < 2 ^ 24 }
+        ensures at_least_1 { 1 ≤ result }
+        ensures below_2_24 { result < 2 ^ 24 }
     {
         self.lanes
     }
@@ -175,7 +175,7 @@ impl Params {
     /// The length of the tag T in bytes, 4 to 4,096.
     pub fn tag_len(&self) -> usize
         ensures value { result ≡ self.now.tag_len }
-        ensures some { 4 ≤ result }
+        ensures at_least_4 { 4 ≤ result }
         ensures short { result ≤ 4096 }
     {
         self.tag_len

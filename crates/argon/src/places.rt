@@ -15,7 +15,7 @@ pub struct Place {
 
 // The place in a set of so many columns that J 1 names.
 fn relative_place(len: u32, j1: u32) -> u32
-    requires some { 0 < len }
+    requires at_least_1 { 0 < len }
     ensures value { result ≡ relative_place len j1 }
     ensures within { result < len }
 {

@@ -122,7 +122,7 @@ pub(crate) fn first_index(pass: u32, slice: u32) -> u32
 
 /// The index up to which a segment is made after so many parts of 128 columns.
 pub(crate) fn end_of_parts(at: &Segment, parts: u32) -> u32
-    requires few { 128 * parts < 2 ^ 32 }
+    requires in_32_bits { 128 * parts < 2 ^ 32 }
     ensures value { result ≡ index_after_parts at.now parts }
 {
     first_index(at.pass, at.slice).max((128 * parts).min(at.len))

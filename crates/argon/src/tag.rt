@@ -21,7 +21,7 @@ fn xor_into(into: &mut Block, other: &Block)
 
 /// C, the xor of the last column's blocks (step 7).
 pub(crate) fn xor_last_column(blocks: &[Block], lanes: u32, lane_len: u32) -> Block
-    requires some { 1 ≤ lane_len }
+    requires at_least_1 { 1 ≤ lane_len }
     requires small { lanes * lane_len < 2 ^ 32 }
     requires size { length blocks.now ≡ lanes * lane_len }
     ensures value { result ≡ xor_of_blocks
@@ -40,7 +40,7 @@ pub(crate) fn xor_last_column(blocks: &[Block], lanes: u32, lane_len: u32) -> Bl
 
 /// Writes the tag: H' of C (step 8).
 pub(crate) fn write_tag(last: &Block, out: &mut [u8])
-    requires some { 1 ≤ length out.old }
+    requires at_least_1 { 1 ≤ length out.old }
     requires short { length out.old ≤ 4096 }
     ensures value { out.new ≡ long_hash (length out.old) (bytes_of_words last.now) }
 {

@@ -79,7 +79,7 @@ pub fn output<R: Room>(
     ensures memory_refused { OnErr result (LacksOne (asking R.after_zeros R.after_line R.after_matrix)
         (request_of request.now) params.now room.old room.new) }
     // No hash begins before every refusal is ruled out, that of memory too.
-    ensures idle { IfErr result (λ _. ticks.new ≡ ticks.old) }
+    ensures no_work { IfErr result (λ _. ticks.new ≡ ticks.old) }
     ensures count { IfOk result (λ _. ticks.new ≡ ticks.old + work params.now) }
 {
     let mut tag = room.zeros(params.tag_len())?;

@@ -31,7 +31,7 @@ impl Password {
     /// Its bytes.
     pub fn as_slice(&self) -> &[u8]
         ensures bytes { result.now ≡ self.now }
-        ensures some { 0 < length self.now }
+        ensures not_empty { 0 < length self.now }
         ensures short { length self.now < 128 }
     {
         &self.room[..self.len]

@@ -53,7 +53,7 @@ fn prepare<R: Room, H: Host>(
     ensures memory_refused { IfErr result (λ r. r ≡ Argon2Refusal.OutOfMemory → RunRefused
         (asking R.after_zeros R.after_line R.after_matrix) (map string_bytes words.now) room.old room.new) }
     // No hash begins before every refusal is ruled out, that of memory too.
-    ensures idle { IfErr result (λ _. ticks.new ≡ ticks.old) }
+    ensures no_work { IfErr result (λ _. ticks.new ≡ ticks.old) }
     ensures count { IfOk result (λ _. IfOk (argon2_request (map string_bytes words.now))
         (λ request. ticks.new ≡ ticks.old + request_work request)) }
     ensures before_output { IfErr result (λ r. r ≢ Argon2Refusal.OutputFault) }
@@ -96,7 +96,7 @@ pub(super) fn attempt<R: Room, H: Host>(
     ensures memory_granted_for_output { IfErr result (λ r. r ≡ Argon2Refusal.OutputFault → RunGranted
         (asking R.after_zeros R.after_line R.after_matrix) (map string_bytes words.now) room.old room.new) }
     // The output's refusal is the one that comes after the hash, of which nothing is left to be done.
-    ensures idle { IfErr result (λ r. r ≢ Argon2Refusal.OutputFault → ticks.new ≡ ticks.old) }
+    ensures no_work { IfErr result (λ r. r ≢ Argon2Refusal.OutputFault → ticks.new ≡ ticks.old) }
     ensures count { OnOk result (IfOk (argon2_request (map string_bytes words.now))
         (λ request. ticks.new ≡ ticks.old + request_work request)) }
     ensures count_of_output { IfErr result (λ r. r ≡ Argon2Refusal.OutputFault

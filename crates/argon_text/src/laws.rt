@@ -7,14 +7,14 @@ ghost use Rattle.argon_text.specs.Value.{IsValue, Value, is_in_range};
 
 // A text has one reading: its fields are the only ones.
 fn one_reading()
-    ensures one { (s : List ℕ) (p q : Fields) → HasFields s p → HasFields s q → p ≡ q }
+    ensures unique { (s : List ℕ) (p q : Fields) → HasFields s p → HasFields s q → p ≡ q }
 {}
 
 // A text of a value is told by the grammar and in range, says that value and no other, and is whole
 // or short and not both. A text in range is a text of what it says.
 fn one_value()
-    ensures told { (v : Value) (s : List ℕ) → IsValue v → IsTextOf v s → IsTextInRange s }
-    ensures one { (v w : Value) (s : List ℕ) → IsValue v → IsValue w → IsTextOf v s → IsTextOf w s → v ≡ w }
+    ensures in_range { (v : Value) (s : List ℕ) → IsValue v → IsTextOf v s → IsTextInRange s }
+    ensures unique { (v w : Value) (s : List ℕ) → IsValue v → IsValue w → IsTextOf v s → IsTextOf w s → v ≡ w }
     ensures fields { (v : Value) → IsValue v → HasFields (encoded_text v) (fields_of_value v) }
     ensures says { (v : Value) (s : List ℕ) (fields : Fields) → IsValue v → IsTextOf v s
         → HasFields s fields → value_of_fields fields ≡ v }

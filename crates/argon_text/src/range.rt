@@ -40,7 +40,7 @@ pub enum RangeFault {
 pub fn range_fault(text: &[u8]) -> Option<RangeFault>
     ensures first { IsFirstFault text.now result }
     // So one is told of each text for which `Encoded::read` says that a value is out of range.
-    ensures some { IsText text.now → (IsTextInRange text.now → ⊥) → IsSome result }
+    ensures found { IsText text.now → (IsTextInRange text.now → ⊥) → IsSome result }
 {
     let fields = fields_in(text)?;
     fault_of(&fields)

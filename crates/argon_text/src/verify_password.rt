@@ -68,7 +68,7 @@ pub(crate) fn verify_in<R: Room>(
     ensures refused { IfErr result (λ fault. fault ≡ VerifyFault.OutOfMemory
         → room.new ≡ R.after_matrix room.old (parameters_with (value_claimed claim.now) password.now)) }
     // No hash begins before every refusal is ruled out, that of memory too.
-    ensures idle { IfErr result (λ _. ticks.new ≡ ticks.old) }
+    ensures no_work { IfErr result (λ _. ticks.new ≡ ticks.old) }
     ensures count { IfOk result (λ _. ticks.new ≡ ticks.old + work (parameters_with (value_claimed claim.now) password.now)) }
 {
     let params = params_of(claim, password)?;
@@ -124,7 +124,7 @@ fn write_tag<R: Room>(
     requires size { length out.old ≡ length claim.now.tag.now }
     ensures tag { OnOk result (out.new ≡ tag_of_password (value_claimed claim.now) password.now) }
     ensures asked { room.new ≡ R.after_matrix room.old params.now }
-    ensures idle { IfErr result (λ _. ticks.new ≡ ticks.old) }
+    ensures no_work { IfErr result (λ _. ticks.new ≡ ticks.old) }
     ensures count { IfOk result (λ _. ticks.new ≡ ticks.old + work params.now) }
 {
     let mut matrix = room.matrix(params, max_kib, max_ops)?;

@@ -47,7 +47,7 @@ impl Blake2b {
 
     /// A hash of `out_len` bytes, 1 to 64, that was handed nothing so far (RFC 7693, 2.1 and 2.5).
     pub fn new(out_len: usize) -> Self
-        requires some { 1 ≤ out_len }
+        requires at_least_1 { 1 ≤ out_len }
         requires at_most_64 { out_len ≤ 64 }
         ensures output_len { output_len result ≡ out_len }
         ensures message_len { message_len result ≡ 0 }
@@ -66,9 +66,9 @@ impl Blake2b {
 
     // Takes in as many bytes as fit the block at hand, and gives how many these are.
     fn take_some(&mut self, bytes: &[u8]) -> usize
-        requires some { 0 < length bytes.now }
+        requires not_empty { 0 < length bytes.now }
         requires fits { message_len self.old + length bytes.now < 2 ^ 64 }
-        ensures some { 0 < result }
+        ensures at_least_1 { 0 < result }
         ensures within { result ≤ length bytes.now }
         ensures output_len { output_len self.new ≡ output_len self.old }
         ensures message_len { message_len self.new ≡ message_len self.old + result }

@@ -17,7 +17,7 @@ fn message() -> [u8; MESSAGE_LEN] {
 // Hands in the message in pieces of `size` bytes, the last of them shorter.
 fn hash_in_pieces(message: &[u8], size: usize, out: &mut [u8])
     requires size { 1 ≤ size }
-    requires some { 1 ≤ length out.old }
+    requires at_least_1 { 1 ≤ length out.old }
     requires at_most_64 { length out.old ≤ 64 }
     requires fits { length message.now + size < 2 ^ 64 }
 {

@@ -9,7 +9,7 @@ use byteorder::{ByteOrder, LittleEndian};
 
 // BLAKE2b of bytes that are there in one piece.
 fn write_hash(bytes: &[u8], out: &mut [u8])
-    requires some { 1 ≤ length out.old }
+    requires at_least_1 { 1 ≤ length out.old }
     requires at_most_64 { length out.old ≤ 64 }
     requires fits { length bytes.now < 2 ^ 64 }
     ensures hash { out.new ≡ blake2b (length out.old) bytes.now }
@@ -21,7 +21,7 @@ fn write_hash(bytes: &[u8], out: &mut [u8])
 
 // BLAKE2b of `number` in four bytes and of the parts after it.
 fn write_hash_of_parts(number: u32, parts: &[&[u8]], out: &mut [u8])
-    requires some { 1 ≤ length out.old }
+    requires at_least_1 { 1 ≤ length out.old }
     requires at_most_64 { length out.old ≤ 64 }
     requires fits { 4 + length (joined parts.now) < 2 ^ 64 }
     ensures hash { out.new
@@ -56,7 +56,7 @@ fn write_front(out: &mut [u8], at: usize, v: &[u8; 64])
 
 // Writes the last V, the hash of v, from the place `at` to the end.
 fn write_last(out: &mut [u8], at: usize, v: &[u8; 64])
-    requires some { at < length out.old }
+    requires at_within { at < length out.old }
     requires at_most_64 { length out.old ≤ at + 64 }
     ensures last { out.new ≡ take at out.old ++ blake2b (length out.old - at) v.now }
 {
@@ -85,7 +85,7 @@ fn write_links(first: &[u8; 64], out: &mut [u8])
 /// The hash puts the length of `out` before the message, in four bytes; with them there are fewer
 /// than 2^64 bytes in all.
 pub fn long_hash(parts: &[&[u8]], out: &mut [u8])
-    requires some { 1 ≤ length out.old }
+    requires at_least_1 { 1 ≤ length out.old }
     requires at_most_4096 { length out.old ≤ 4096 }
     requires fits { 4 + length (joined parts.now) < 2 ^ 64 }
     ensures hash { out.new ≡ long_hash (length out.old) (joined parts.now) }

@@ -38,7 +38,7 @@ impl Held {
     // How many there are.
     pub(crate) fn len(&self) -> usize
         ensures len { result ≡ length self.now }
-        ensures few { result ≤ 32 }
+        ensures at_most_32 { result ≤ 32 }
     {
         self.len
     }
@@ -48,7 +48,7 @@ impl Held {
     pub(crate) fn take_in(&mut self, piece: &[u8], out: &mut [u8]) -> usize
         requires room { length piece.now + 32 ≤ length out.old }
         ensures moved { result ≡ length self.old + length piece.now - 32 }
-        ensures few { length self.new ≤ 32 }
+        ensures at_most_32 { length self.new ≤ 32 }
         ensures joined { take result out.new ++ self.new ≡ self.old ++ piece.now }
         ensures rest { drop (length self.old + length piece.now) out.new ≡ drop (length self.old + length piece.now) out.old }
     {

@@ -93,7 +93,7 @@ pub trait Host {
             IfOk result (λ n. take n buf.new ≡ take n (seen self.old).input) }
         ensures taken { IsTrue tells →
             IfOk result (λ n. seen self.new ≡ after_pull n (seen self.old)) }
-        ensures some { IsTrue tells → IfOk result (λ n.
+        ensures progress { IsTrue tells → IfOk result (λ n.
             0 < length buf.old → n ≡ 0 → (seen self.old).input ≡ []) }
         ensures granted { IfOk result (λ n. 0 < n → grants self.new ≡ grants self.old) }
         ensures still_writable { OnOk result ((grants self.new).writable ≡ (grants self.old).writable) };
@@ -104,7 +104,7 @@ pub trait Host {
         requires room { AreBelow (2 ^ 64 - 1) (faults self.old) }
         requires writable { (grants self.old).writable ≡ true }
         ensures bound { IfOk result (λ n. n ≤ length bytes.now) }
-        ensures some { IfOk result (λ n. 0 < length bytes.now → 0 < n) }
+        ensures progress { IfOk result (λ n. 0 < length bytes.now → 0 < n) }
         ensures counts { OnOk result (faults self.new ≡ faults self.old) }
         ensures counted { OnErr result (faults self.new ≡ output_failed (faults self.old)) }
         ensures kept { IsTrue tells → OnErr result (seen self.new ≡ seen self.old) }

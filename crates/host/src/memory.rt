@@ -268,7 +268,7 @@ impl MemoryHost {
     fn push_with<G: Growth>(&mut self, growth: &mut G, bytes: &[u8]) -> Result<usize, HostFault>
         requires room { AreBelow (2 ^ 64 - 1) (memory_faults self.old) }
         ensures bound { IfOk result (λ n. n ≤ length bytes.now) }
-        ensures some { IfOk result (λ n. 0 < length bytes.now → 0 < n) }
+        ensures progress { IfOk result (λ n. 0 < length bytes.now → 0 < n) }
         ensures counts { OnOk result (memory_faults self.new ≡ memory_faults self.old) }
         ensures counted { OnErr result (memory_faults self.new ≡ output_failed (memory_faults self.old)) }
         ensures kept { OnErr result (memory_seen self.new ≡ memory_seen self.old) }
@@ -503,7 +503,7 @@ mod tests {
 
     // How many bytes a pull of at most so many puts into a buffer, where it is some.
     fn pulled(host: &mut MemoryHost, most: usize, buf: &mut [u8; 4]) -> Result<usize, HostFault>
-        requires some { 0 < most }
+        requires at_least_1 { 0 < most }
         requires room { AreBelow (2 ^ 63) (memory_faults host.old) }
         requires readable { host.old.readable ≡ true }
         ensures faults { OnOk result (memory_faults host.new ≡ memory_faults host.old) }

@@ -52,9 +52,9 @@ pub(crate) fn params_of(
     ensures parameters { IfOk result (λ params. params ≡ parameters_of settings.now tag_len salt_len password_len) }
     ensures in_range { IfOk result IsInRange }
     ensures passed { OnOk result (params_status (parameters_of settings.now tag_len salt_len password_len) ≡ 0) }
-    ensures told { IfErr result (λ status. params_status
+    ensures status { IfErr result (λ status. params_status
         (parameters_of settings.now tag_len salt_len password_len) ≡ status) }
-    ensures some { IfErr result (λ status. 1 ≤ status) }
+    ensures at_least_1 { IfErr result (λ status. 1 ≤ status) }
     ensures other { IfErr result (λ status. status ≢ out_of_memory) }
 {
     let Some(kind) = kind_of(settings.kind) else {
@@ -82,9 +82,9 @@ pub(crate) fn params_of(
 pub(crate) fn admitted(params: &Params, settings: &Settings) -> Result<(), u32>
     ensures admitted { OnOk result (admission params.now settings.now.max_kib settings.now.max_ops ≡ Ok tt) }
     ensures passed { OnOk result (limits_status params.now settings.now.max_kib settings.now.max_ops ≡ 0) }
-    ensures told { IfErr result (λ status.
+    ensures status { IfErr result (λ status.
         limits_status params.now settings.now.max_kib settings.now.max_ops ≡ status) }
-    ensures some { IfErr result (λ status. 1 ≤ status) }
+    ensures at_least_1 { IfErr result (λ status. 1 ≤ status) }
     ensures other { IfErr result (λ status. status ≢ out_of_memory) }
 {
     match params.admitted(settings.max_kib, settings.max_ops) {
@@ -104,7 +104,7 @@ fn hash_in<S: Source>(
 ) -> u32
     ensures tag { result ≡ 0 → out.new ≡ argon2_tag (parameters_of settings.now
         (length out.old) (length inputs.now.salt.now) (length inputs.now.password.now)) (inputs_of inputs.now) }
-    ensures told { result ≢ out_of_memory → result ≡ hash_status (parameters_of settings.now
+    ensures status { result ≢ out_of_memory → result ≡ hash_status (parameters_of settings.now
         (length out.old) (length inputs.now.salt.now) (length inputs.now.password.now))
         (length inputs.now.secret.now) (length inputs.now.associated.now) settings.now.max_kib settings.now.max_ops }
     ensures memory { result ≡ out_of_memory → hash_status (parameters_of settings.now
@@ -121,7 +121,7 @@ fn hash_in<S: Source>(
         (length out.old) (length inputs.now.salt.now) (length inputs.now.password.now))
         settings.now.max_kib settings.now.max_ops false }
     // No hash begins before every refusal is ruled out, and then one.
-    ensures idle { result ≢ 0 → ticks.new ≡ ticks.old }
+    ensures no_work { result ≢ 0 → ticks.new ≡ ticks.old }
     ensures count { result ≡ 0 → ticks.new ≡ ticks.old + work (parameters_of settings.now
         (length out.old) (length inputs.now.salt.now) (length inputs.now.password.now)) }
 {
@@ -168,7 +168,7 @@ pub extern "C" fn pikhsen_argon2_hash(
     ensures tag { result ≡ 0 → out.new ≡ argon2_tag (parameters_given kind version passes lanes memory_kib
         (length out.old) (length salt.now) (length password.now))
         (inputs_given password.now salt.now secret.now associated.now) }
-    ensures told { result ≢ out_of_memory → result ≡ hash_status (parameters_given kind version passes lanes memory_kib
+    ensures status { result ≢ out_of_memory → result ≡ hash_status (parameters_given kind version passes lanes memory_kib
         (length out.old) (length salt.now) (length password.now))
         (length secret.now) (length associated.now) max_kib max_ops }
     // Memory is asked for, and refused, only where nothing else is.

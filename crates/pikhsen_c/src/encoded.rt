@@ -74,7 +74,7 @@ fn encode_in<S: Source>(
         ≡ encoded_hash (parameters_of settings.now tag_len (length salt.now) (length password.now)) password.now salt.now
         ++ 0 ∷ [] }
     ensures rest { result ≡ 0 → drop (text_len.new + 1) out.new ≡ drop (text_len.new + 1) out.old }
-    ensures told { result ≢ out_of_memory → result
+    ensures status { result ≢ out_of_memory → result
         ≡ encoded_status (parameters_of settings.now tag_len (length salt.now) (length password.now)) salt.now
         settings.now.max_kib settings.now.max_ops (length out.old) }
     ensures memory { result ≡ out_of_memory
@@ -101,7 +101,7 @@ fn encode_in<S: Source>(
         settings.now.max_kib settings.now.max_ops false) × (encoded_status
         (parameters_of settings.now tag_len (length salt.now) (length password.now)) salt.now
         settings.now.max_kib settings.now.max_ops (length out.old) ≡ 0)) }
-    ensures idle { result ≢ 0 → ticks.new ≡ ticks.old }
+    ensures no_work { result ≢ 0 → ticks.new ≡ ticks.old }
     ensures count { result ≡ 0 → ticks.new
         ≡ ticks.old + work (parameters_of settings.now tag_len (length salt.now) (length password.now)) }
 {
@@ -155,7 +155,7 @@ pub extern "C" fn pikhsen_argon2_encoded(
         memory_kib tag_len (length salt.now) (length password.now)) password.now salt.now ++ 0 ∷ [] }
     // What is after it stays.
     ensures rest { result ≡ 0 → drop (text_len.new + 1) out.new ≡ drop (text_len.new + 1) out.old }
-    ensures told { result ≢ out_of_memory → result ≡ encoded_status (parameters_given kind version passes lanes
+    ensures status { result ≢ out_of_memory → result ≡ encoded_status (parameters_given kind version passes lanes
         memory_kib tag_len (length salt.now) (length password.now)) salt.now max_kib max_ops (length out.old) }
     // Memory is asked for, and refused, only where the settings are not.
     ensures memory { result ≡ out_of_memory → settings_status (parameters_given kind version passes lanes

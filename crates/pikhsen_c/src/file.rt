@@ -35,8 +35,8 @@ fn header_of(file: &[u8]) -> Result<Header, u32>
     ensures costs { IfOk result (λ header. header.costs ≡ costs_of (take 64 file.now)) }
     ensures salt { IfOk result (λ header. header.salt ≡ salt_of (take 64 file.now)) }
     ensures passed { OnOk result (number_of (header_fault (take 64 file.now)) ≡ 0) }
-    ensures told { IfErr result (λ status. number_of (header_fault (take 64 file.now)) ≡ status) }
-    ensures some { IfErr result (λ status. 22 ≤ status) }
+    ensures status { IfErr result (λ status. number_of (header_fault (take 64 file.now)) ≡ status) }
+    ensures at_least_22 { IfErr result (λ status. 22 ≤ status) }
     ensures below { IfErr result (λ status. status ≤ 25) }
 {
     let mut front = [0u8; 64];
@@ -51,7 +51,7 @@ fn header_of(file: &[u8]) -> Result<Header, u32>
 #[unsafe(no_mangle)]
 pub extern "C" fn pikhsen_scrypt_info(file: &[u8], costs: &mut PikhsenScryptCosts) -> u32
     ensures costs { result ≡ 0 → costs_given costs.new.log_n costs.new.r costs.new.p ≡ costs_of (take 64 file.now) }
-    ensures told { result ≡ header_status file.now }
+    ensures status { result ≡ header_status file.now }
     ensures untouched { result ≢ 0 → costs.new ≡ costs.old }
 {
     if file.len() < 64 {
@@ -77,8 +77,8 @@ fn tested_lengths(salt: &[u8], text_len: usize, out_len: usize) -> Result<(), u3
     ensures salt { OnOk result (length salt.now ≡ 32) }
     ensures text { OnOk result (text_len < 2 ^ 60) }
     ensures room { OnOk result (out_len ≡ text_len + 128) }
-    ensures told { IfErr result (λ status. lengths_status (length salt.now) text_len out_len ≡ status) }
-    ensures some { IfErr result (λ status. 13 ≤ status) }
+    ensures status { IfErr result (λ status. lengths_status (length salt.now) text_len out_len ≡ status) }
+    ensures at_least_13 { IfErr result (λ status. 13 ≤ status) }
 {
     if salt.len() != 32 {
         return Err(status::FILE_SALT);
@@ -113,11 +113,11 @@ pub(crate) fn begun<S: Source>(
     ensures room { OnOk result (out_len ≡ text_len + 128) }
     ensures passed { OnOk result (encrypt_status (costs_given log_n r p) keep max_bytes max_ops
         (length salt.now) text_len out_len ≡ 0) }
-    ensures told { IfErr result (λ status. status ≢ out_of_memory → encrypt_status (costs_given log_n r p) keep
+    ensures status { IfErr result (λ status. status ≢ out_of_memory → encrypt_status (costs_given log_n r p) keep
         max_bytes max_ops (length salt.now) text_len out_len ≡ status) }
     ensures memory { IfErr result (λ status. status ≡ out_of_memory → encrypt_status (costs_given log_n r p) keep
         max_bytes max_ops (length salt.now) text_len out_len ≡ 0) }
-    ensures some { IfErr result (λ status. 1 ≤ status) }
+    ensures at_least_1 { IfErr result (λ status. 1 ≤ status) }
     // Nothing is asked of the source before every other refusal is ruled out, and then it is asked once.
     ensures unasked { IfErr result (λ status. status ≢ out_of_memory → source.new ≡ source.old) }
     ensures asked { OnOk result (source.new
@@ -125,7 +125,7 @@ pub(crate) fn begun<S: Source>(
     ensures refused { IfErr result (λ status. status ≡ out_of_memory → source.new
         ≡ S.after_workspace source.old (sparse_given (costs_given log_n r p) keep) max_bytes max_ops false) }
     // No derivation begins before every refusal is ruled out, and then one.
-    ensures idle { IfErr result (λ _. ticks.new ≡ ticks.old) }
+    ensures no_work { IfErr result (λ _. ticks.new ≡ ticks.old) }
     ensures count { OnOk result (ticks.new
         ≡ ticks.old + sparse_cores passphrase.now salt.now (sparse_given (costs_given log_n r p) keep)) }
 {
@@ -174,7 +174,7 @@ fn encrypt_in<S: Source>(
     ticks: &mut Ticks,
 ) -> u32
     ensures file { result ≡ 0 → out.new ≡ encrypted_file passphrase.now salt.now (costs_given log_n r p) text.now }
-    ensures told { result ≢ out_of_memory → result ≡ encrypt_status (costs_given log_n r p) keep max_bytes max_ops
+    ensures status { result ≢ out_of_memory → result ≡ encrypt_status (costs_given log_n r p) keep max_bytes max_ops
         (length salt.now) (length text.now) (length out.old) }
     ensures memory { result ≡ out_of_memory → encrypt_status (costs_given log_n r p) keep max_bytes max_ops
         (length salt.now) (length text.now) (length out.old) ≡ 0 }
@@ -186,7 +186,7 @@ fn encrypt_in<S: Source>(
     ensures refused { result ≡ out_of_memory → source.new
         ≡ S.after_workspace source.old (sparse_given (costs_given log_n r p) keep) max_bytes max_ops false }
     // No derivation begins before every refusal is ruled out, and then one.
-    ensures idle { result ≢ 0 → ticks.new ≡ ticks.old }
+    ensures no_work { result ≢ 0 → ticks.new ≡ ticks.old }
     ensures count { result ≡ 0 → ticks.new
         ≡ ticks.old + sparse_cores passphrase.now salt.now (sparse_given (costs_given log_n r p) keep) }
 {
@@ -228,7 +228,7 @@ pub extern "C" fn pikhsen_scrypt_encrypt(
     out: &mut [u8],
 ) -> u32
     ensures file { result ≡ 0 → out.new ≡ encrypted_file passphrase.now salt.now (costs_given log_n r p) text.now }
-    ensures told { result ≢ out_of_memory → result ≡ encrypt_status (costs_given log_n r p) keep max_bytes max_ops
+    ensures status { result ≢ out_of_memory → result ≡ encrypt_status (costs_given log_n r p) keep max_bytes max_ops
         (length salt.now) (length text.now) (length out.old) }
     // Memory is asked for, and refused, only where nothing else is.
     ensures memory { result ≡ out_of_memory → encrypt_status (costs_given log_n r p) keep max_bytes max_ops
@@ -278,7 +278,7 @@ fn opened<S: Source>(
     ensures nothing { OnOk result (released_text (take 96 file.now) passphrase.now ≡ []) }
     ensures right { OnOk result (HasRightHeaderCode (take 96 file.now) passphrase.now) }
     ensures passed { OnOk result (opening_status file.now keep max_bytes max_ops ≡ 0) }
-    ensures told { IfErr result (λ status. status ≢ out_of_memory → status ≢ wrong_passphrase
+    ensures status { IfErr result (λ status. status ≢ out_of_memory → status ≢ wrong_passphrase
         → opening_status file.now keep max_bytes max_ops ≡ status) }
     ensures memory { IfErr result (λ status. status ≡ out_of_memory
         → opening_status file.now keep max_bytes max_ops ≡ 0) }
@@ -286,22 +286,22 @@ fn opened<S: Source>(
         → opening_status file.now keep max_bytes max_ops ≡ 0) }
     ensures wrong { IfErr result (λ status. status ≡ wrong_passphrase
         → HasRightHeaderCode (take 96 file.now) passphrase.now → ⊥) }
-    ensures some { IfErr result (λ status. 1 ≤ status) }
+    ensures at_least_1 { IfErr result (λ status. 1 ≤ status) }
     ensures below { IfErr result (λ status. status ≤ 27) }
     // Nothing is asked of the source before the header and the caller's own limits are tested, and then it is asked once.
     ensures unasked { IfErr result (λ status. status ≢ out_of_memory → status ≢ wrong_passphrase
         → source.new ≡ source.old) }
     ensures asked { OnOk result (source.new
         ≡ S.after_workspace source.old (sparse_given (costs_of (take 64 file.now)) keep) max_bytes max_ops true) }
-    ensures asked_too { IfErr result (λ status. status ≡ wrong_passphrase → source.new
+    ensures asked_if_wrong { IfErr result (λ status. status ≡ wrong_passphrase → source.new
         ≡ S.after_workspace source.old (sparse_given (costs_of (take 64 file.now)) keep) max_bytes max_ops true) }
     ensures refused { IfErr result (λ status. status ≡ out_of_memory → source.new
         ≡ S.after_workspace source.old (sparse_given (costs_of (take 64 file.now)) keep) max_bytes max_ops false) }
     // There is one derivation, after which the passphrase alone is refused.
-    ensures idle { IfErr result (λ status. status ≢ wrong_passphrase → ticks.new ≡ ticks.old) }
+    ensures no_work { IfErr result (λ status. status ≢ wrong_passphrase → ticks.new ≡ ticks.old) }
     ensures count { OnOk result (ticks.new ≡ ticks.old
         + sparse_cores passphrase.now (salt_of (take 64 file.now)) (sparse_given (costs_of (take 64 file.now)) keep)) }
-    ensures count_too { IfErr result (λ status. status ≡ wrong_passphrase → ticks.new ≡ ticks.old
+    ensures count_if_wrong { IfErr result (λ status. status ≡ wrong_passphrase → ticks.new ≡ ticks.old
         + sparse_cores passphrase.now (salt_of (take 64 file.now)) (sparse_given (costs_of (take 64 file.now)) keep)) }
 {
     let header = match header_of(file) {
@@ -332,8 +332,8 @@ fn text_of(dec: Dec, file: &[u8], out: &mut [u8]) -> Result<usize, u32>
     ensures too_long { IfErr result (λ status. status ≡ long_text
         → (passphrase : List ℕ) → HasRead dec passphrase (take 96 file.now)
         → 2 ^ 60 + 128 ≤ length file.now) }
-    ensures some { IfErr result (λ status. 28 ≤ status) }
-    ensures few { IfErr result (λ status. status ≤ 29) }
+    ensures at_least_28 { IfErr result (λ status. 28 ≤ status) }
+    ensures at_most_29 { IfErr result (λ status. status ≤ 29) }
     ensures within { IfOk result (λ n. n ≤ length out.new) }
     ensures len { length out.new ≡ length out.old }
 {
@@ -372,7 +372,7 @@ fn decrypt_in<S: Source>(
     ensures whole { result ≡ 0 → IsEncryptionOf file.now passphrase.now (take text_len.new out.new) }
     ensures rest { result ≡ 0 → drop text_len.new out.new ≡ replicate (length out.old - text_len.new) 0 }
     ensures nothing { result ≢ 0 → text_len.new ≡ 0 }
-    ensures told { result ≢ 0 → result ≢ out_of_memory → result < wrong_passphrase
+    ensures status { result ≢ 0 → result ≢ out_of_memory → result < wrong_passphrase
         → result ≡ front_status file.now keep max_bytes max_ops (length out.old) }
     ensures admitted { result ≡ 0 → front_status file.now keep max_bytes max_ops (length out.old) ≡ 0 }
     ensures memory { result ≡ out_of_memory → front_status file.now keep max_bytes max_ops (length out.old) ≡ 0 }
@@ -390,15 +390,15 @@ fn decrypt_in<S: Source>(
     // And then it is asked once; want of memory is told where that was refused, and only there.
     ensures asked { result ≡ 0 → source.new
         ≡ S.after_workspace source.old (sparse_given (costs_of (take 64 file.now)) keep) max_bytes max_ops true }
-    ensures asked_too { wrong_passphrase ≤ result → source.new
+    ensures asked_if_wrong { wrong_passphrase ≤ result → source.new
         ≡ S.after_workspace source.old (sparse_given (costs_of (take 64 file.now)) keep) max_bytes max_ops true }
     ensures refused { result ≡ out_of_memory → source.new
         ≡ S.after_workspace source.old (sparse_given (costs_of (take 64 file.now)) keep) max_bytes max_ops false }
     // No derivation begins before these refusals are ruled out, and then one.
-    ensures idle { result ≢ 0 → result < wrong_passphrase → ticks.new ≡ ticks.old }
+    ensures no_work { result ≢ 0 → result < wrong_passphrase → ticks.new ≡ ticks.old }
     ensures count { result ≡ 0 → ticks.new ≡ ticks.old
         + sparse_cores passphrase.now (salt_of (take 64 file.now)) (sparse_given (costs_of (take 64 file.now)) keep) }
-    ensures count_too { wrong_passphrase ≤ result → ticks.new ≡ ticks.old
+    ensures count_if_wrong { wrong_passphrase ≤ result → ticks.new ≡ ticks.old
         + sparse_cores passphrase.now (salt_of (take 64 file.now)) (sparse_given (costs_of (take 64 file.now)) keep) }
 {
     *text_len = 0;
@@ -442,7 +442,7 @@ pub extern "C" fn pikhsen_scrypt_decrypt(
     ensures rest { result ≡ 0 → drop text_len.new out.new ≡ replicate (length out.old - text_len.new) 0 }
     ensures nothing { result ≢ 0 → text_len.new ≡ 0 }
     // What is refused whatever the passphrase is told by the first fault, and nothing else is then told.
-    ensures told { result ≢ 0 → result ≢ out_of_memory → result < wrong_passphrase
+    ensures status { result ≢ 0 → result ≢ out_of_memory → result < wrong_passphrase
         → result ≡ front_status file.now keep max_bytes max_ops (length out.old) }
     ensures admitted { result ≡ 0 → front_status file.now keep max_bytes max_ops (length out.old) ≡ 0 }
     ensures memory { result ≡ out_of_memory → front_status file.now keep max_bytes max_ops (length out.old) ≡ 0 }

@@ -55,7 +55,7 @@ fn encrypt_in_place_in<S: Source>(
 ) -> u32
     ensures file { result ≡ 0 → out.new ≡ encrypted_file passphrase.now salt.now (costs_given log_n r p)
         (take (length out.old - 128) out.old) }
-    ensures told { result ≢ out_of_memory → result ≡ encrypt_status (costs_given log_n r p) keep max_bytes max_ops
+    ensures status { result ≢ out_of_memory → result ≡ encrypt_status (costs_given log_n r p) keep max_bytes max_ops
         (length salt.now) (length out.old - 128) (length out.old) }
     ensures memory { result ≡ out_of_memory → encrypt_status (costs_given log_n r p) keep max_bytes max_ops
         (length salt.now) (length out.old - 128) (length out.old) ≡ 0 }
@@ -67,7 +67,7 @@ fn encrypt_in_place_in<S: Source>(
     ensures refused { result ≡ out_of_memory → source.new
         ≡ S.after_workspace source.old (sparse_given (costs_given log_n r p) keep) max_bytes max_ops false }
     // No derivation begins before every refusal is ruled out, and then one.
-    ensures idle { result ≢ 0 → ticks.new ≡ ticks.old }
+    ensures no_work { result ≢ 0 → ticks.new ≡ ticks.old }
     ensures count { result ≡ 0 → ticks.new
         ≡ ticks.old + sparse_cores passphrase.now salt.now (sparse_given (costs_given log_n r p) keep) }
 {
@@ -109,7 +109,7 @@ pub extern "C" fn pikhsen_scrypt_encrypt_in_place(
 ) -> u32
     ensures file { result ≡ 0 → out.new ≡ encrypted_file passphrase.now salt.now (costs_given log_n r p)
         (take (length out.old - 128) out.old) }
-    ensures told { result ≢ out_of_memory → result ≡ encrypt_status (costs_given log_n r p) keep max_bytes max_ops
+    ensures status { result ≢ out_of_memory → result ≡ encrypt_status (costs_given log_n r p) keep max_bytes max_ops
         (length salt.now) (length out.old - 128) (length out.old) }
     // Memory is asked for, and refused, only where nothing else is.
     ensures memory { result ≡ out_of_memory → encrypt_status (costs_given log_n r p) keep max_bytes max_ops

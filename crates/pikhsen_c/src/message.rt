@@ -60,7 +60,7 @@ pub extern "C" fn pikhsen_message(status: u32, out: &mut [u8], text_len: &mut us
     ensures end { result ≡ 0 → take (text_len.new + 1) out.new ≡ sentence_of status ++ 0 ∷ [] }
     // What is after it stays.
     ensures rest { result ≡ 0 → drop (text_len.new + 1) out.new ≡ drop (text_len.new + 1) out.old }
-    ensures told { result ≡ room_status (length (sentence_of status)) (length out.old) }
+    ensures status { result ≡ room_status (length (sentence_of status)) (length out.old) }
     ensures room { 80 ≤ length out.old → result ≡ 0 }
     ensures untouched { result ≢ 0 → out.new ≡ out.old }
     ensures nothing { result ≢ 0 → text_len.new ≡ 0 }

@@ -19,8 +19,8 @@ const MOST_BYTES: u64 = 1 << 40;
 pub(crate) fn costs_of(log_n: u32, r: u32, p: u32) -> Result<Costs, u32>
     ensures costs { IfOk result (λ costs. costs ≡ costs_given log_n r p) }
     ensures passed { OnOk result (costs_status (costs_given log_n r p) ≡ 0) }
-    ensures told { IfErr result (λ status. costs_status (costs_given log_n r p) ≡ status) }
-    ensures some { IfErr result (λ status. 1 ≤ status) }
+    ensures status { IfErr result (λ status. costs_status (costs_given log_n r p) ≡ status) }
+    ensures at_least_1 { IfErr result (λ status. 1 ≤ status) }
     ensures other { IfErr result (λ status. status ≢ out_of_memory) }
     ensures below { IfErr result (λ status. status ≤ 21) }
 {
@@ -39,8 +39,8 @@ fn admitted(costs: &Costs, keep: u32, max_bytes: u64, max_ops: u64) -> Result<Sp
     ensures sparse { IfOk result (λ sparse. sparse ≡ sparse_given costs.now keep) }
     ensures fits { IfOk result (λ sparse. SparseFitsMemory sparse (2 ^ 40)) }
     ensures passed { OnOk result (limits_status (sparse_given costs.now keep) max_bytes max_ops ≡ 0) }
-    ensures told { IfErr result (λ status. limits_status (sparse_given costs.now keep) max_bytes max_ops ≡ status) }
-    ensures some { IfErr result (λ status. 1 ≤ status) }
+    ensures status { IfErr result (λ status. limits_status (sparse_given costs.now keep) max_bytes max_ops ≡ status) }
+    ensures at_least_1 { IfErr result (λ status. 1 ≤ status) }
     ensures other { IfErr result (λ status. status ≢ out_of_memory) }
     ensures below { IfErr result (λ status. status ≤ 21) }
 {
@@ -69,11 +69,11 @@ pub(crate) fn workspace<S: Source>(
     ensures sparse { IfOk result (λ workspace. workspace.sparse ≡ sparse_given costs.now keep) }
     ensures costs { IfOk result (λ workspace. workspace.sparse.costs ≡ costs.now) }
     ensures passed { OnOk result (limits_status (sparse_given costs.now keep) max_bytes max_ops ≡ 0) }
-    ensures told { IfErr result (λ status. status ≢ out_of_memory
+    ensures status { IfErr result (λ status. status ≢ out_of_memory
         → limits_status (sparse_given costs.now keep) max_bytes max_ops ≡ status) }
     ensures memory { IfErr result (λ status. status ≡ out_of_memory
         → limits_status (sparse_given costs.now keep) max_bytes max_ops ≡ 0) }
-    ensures some { IfErr result (λ status. 1 ≤ status) }
+    ensures at_least_1 { IfErr result (λ status. 1 ≤ status) }
     ensures below { IfErr result (λ status. status ≤ 21) }
     // Nothing is asked of the source before `keep` and the caller's own limits are tested.
     ensures unasked { IfErr result (λ status. status ≢ out_of_memory → source.new ≡ source.old) }
@@ -106,7 +106,7 @@ fn derive_in<S: Source>(
     ticks: &mut Ticks,
 ) -> u32
     ensures key { result ≡ 0 → out.new ≡ scrypt password.now salt.now (2 ^ log_n) r p (length out.old) }
-    ensures told { result ≢ out_of_memory
+    ensures status { result ≢ out_of_memory
         → result ≡ scrypt_status (costs_given log_n r p) keep max_bytes max_ops (length out.old) }
     ensures memory { result ≡ out_of_memory
         → scrypt_status (costs_given log_n r p) keep max_bytes max_ops (length out.old) ≡ 0 }
@@ -117,7 +117,7 @@ fn derive_in<S: Source>(
     ensures refused { result ≡ out_of_memory → source.new
         ≡ S.after_workspace source.old (sparse_given (costs_given log_n r p) keep) max_bytes max_ops false }
     // No derivation begins before every refusal is ruled out, and then one.
-    ensures idle { result ≢ 0 → ticks.new ≡ ticks.old }
+    ensures no_work { result ≢ 0 → ticks.new ≡ ticks.old }
     ensures count { result ≡ 0 → ticks.new
         ≡ ticks.old + sparse_cores password.now salt.now (sparse_given (costs_given log_n r p) keep) }
 {
@@ -154,7 +154,7 @@ pub extern "C" fn pikhsen_scrypt(
     out: &mut [u8],
 ) -> u32
     ensures key { result ≡ 0 → out.new ≡ scrypt password.now salt.now (2 ^ log_n) r p (length out.old) }
-    ensures told { result ≢ out_of_memory
+    ensures status { result ≢ out_of_memory
         → result ≡ scrypt_status (costs_given log_n r p) keep max_bytes max_ops (length out.old) }
     // Memory is asked for, and refused, only where nothing else is.
     ensures memory { result ≡ out_of_memory

@@ -26,7 +26,7 @@ pub struct PikhsenArgon2Settings {
 
 // The settings of what was read.
 fn told_of(encoded: &Encoded) -> PikhsenArgon2Settings
-    ensures told { result ≡ settings_told (value_of encoded.now) }
+    ensures settings { result ≡ settings_told (value_of encoded.now) }
 {
     let settings = encoded.settings();
     PikhsenArgon2Settings {
@@ -72,7 +72,7 @@ fn why_not(text: &[u8], fault: ReadFault) -> u32
     ensures granted { had_memory_to_read fault ≡ had_memory result }
     ensures low { 9 ≤ result }
     ensures gap { 9 < result → 14 ≤ result }
-    ensures gap_too { 14 < result → 31 ≤ result }
+    ensures gap_after_14 { 14 < result → 31 ≤ result }
     ensures high { result ≤ 36 }
 {
     match fault {
@@ -90,7 +90,7 @@ fn settings_in<S: Source>(source: &mut S, text: &[u8], settings: &mut PikhsenArg
     ensures memory { result ≡ out_of_memory → HasNumbers text.now }
     ensures low { 0 < result → 9 ≤ result }
     ensures gap { 9 < result → 14 ≤ result }
-    ensures gap_too { 14 < result → 31 ≤ result }
+    ensures gap_after_14 { 14 < result → 31 ≤ result }
     ensures high { result ≤ 36 }
     ensures untouched { result ≢ 0 → settings.new ≡ settings.old }
     // Its reading is asked for, once; want of memory is told where that was refused, and only there.
@@ -120,7 +120,7 @@ pub extern "C" fn pikhsen_argon2_settings(
     // There is no other number.
     ensures low { 0 < result → 9 ≤ result }
     ensures gap { 9 < result → 14 ≤ result }
-    ensures gap_too { 14 < result → 31 ≤ result }
+    ensures gap_after_14 { 14 < result → 31 ≤ result }
     ensures high { result ≤ 36 }
     ensures untouched { result ≢ 0 → settings.new ≡ settings.old }
 {
@@ -141,7 +141,7 @@ fn needs_rehash_in<S: Source>(
     ensures memory { result ≡ out_of_memory → HasNumbers text.now }
     ensures low { 0 < result → 9 ≤ result }
     ensures gap { 9 < result → 14 ≤ result }
-    ensures gap_too { 14 < result → 31 ≤ result }
+    ensures gap_after_14 { 14 < result → 31 ≤ result }
     ensures high { result ≤ 36 }
     ensures untouched { result ≢ 0 → needs.new ≡ needs.old }
     // Its reading is asked for, once; want of memory is told where that was refused, and only there.
@@ -172,7 +172,7 @@ pub extern "C" fn pikhsen_argon2_needs_rehash(
     // There is no other number.
     ensures low { 0 < result → 9 ≤ result }
     ensures gap { 9 < result → 14 ≤ result }
-    ensures gap_too { 14 < result → 31 ≤ result }
+    ensures gap_after_14 { 14 < result → 31 ≤ result }
     ensures high { result ≤ 36 }
     ensures untouched { result ≢ 0 → needs.new ≡ needs.old }
 {

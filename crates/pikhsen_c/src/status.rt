@@ -54,7 +54,7 @@ pub(crate) const FILE_SALT: u32 = 30;
 /// The number of what Argon2's parameters are refused for: 1 to 8.
 pub(crate) fn of_params(fault: ParamFault) -> u32
     ensures number { result ≡ params_number fault }
-    ensures some { 1 ≤ result }
+    ensures at_least_1 { 1 ≤ result }
     ensures below { result ≤ 8 }
 {
     match fault {
@@ -73,7 +73,7 @@ pub(crate) fn of_params(fault: ParamFault) -> u32
 pub(crate) fn of_verify(fault: VerifyFault) -> u32
     ensures number { result ≡ verify_number fault }
     ensures memory { had_memory_to_test fault ≡ had_memory result }
-    ensures some { 6 ≤ result }
+    ensures at_least_6 { 6 ≤ result }
     ensures below { result ≤ 9 }
 {
     match fault {
@@ -91,7 +91,7 @@ pub(crate) fn of_read(fault: ReadFault) -> u32
     ensures not_in_grammar { result ≡ 14 → fault ≡ ReadFault.NotInGrammar }
     ensures out_of_range { result ≡ 15 → fault ≡ ReadFault.OutOfRange }
     ensures out_of_memory { result ≡ 9 → fault ≡ ReadFault.OutOfMemory }
-    ensures some { 9 ≤ result }
+    ensures at_least_9 { 9 ≤ result }
     ensures gap { 9 < result → 14 ≤ result }
     ensures below { result ≤ 15 }
 {
@@ -105,7 +105,7 @@ pub(crate) fn of_read(fault: ReadFault) -> u32
 /// The number of what scrypt's costs are refused for: 7, 8, or 17 to 21.
 pub(crate) fn of_costs(fault: CostFault) -> u32
     ensures number { result ≡ costs_number fault }
-    ensures some { 7 ≤ result }
+    ensures at_least_7 { 7 ≤ result }
     ensures gap { 8 < result → 17 ≤ result }
     ensures below { result ≤ 21 }
 {
@@ -123,7 +123,7 @@ pub(crate) fn of_costs(fault: CostFault) -> u32
 /// The number of what the header of a file is refused for: 22 to 25.
 pub(crate) fn of_header(fault: HeaderFault) -> u32
     ensures number { result ≡ header_number fault }
-    ensures some { 22 ≤ result }
+    ensures at_least_22 { 22 ≤ result }
     ensures below { result ≤ 25 }
 {
     match fault {
@@ -137,7 +137,7 @@ pub(crate) fn of_header(fault: HeaderFault) -> u32
 /// The number of which part of an encoded text is out of range: 31 to 36.
 pub(crate) fn of_range(fault: RangeFault) -> u32
     ensures number { result ≡ range_number fault }
-    ensures some { 31 ≤ result }
+    ensures at_least_31 { 31 ≤ result }
     ensures below { result ≤ 36 }
 {
     match fault {

@@ -25,7 +25,7 @@ fn answered<S: Source>(
 ) -> u32
     ensures admitted { result ≡ 0 → verify_fault (value_of encoded.now) password.now max_kib max_ops ≡ None }
     ensures right { result ≡ 0 → tag_of_password (value_of encoded.now) password.now ≡ encoded.now.tag.items }
-    ensures admitted_too { result ≡ 16 → verify_fault (value_of encoded.now) password.now max_kib max_ops ≡ None }
+    ensures admitted_if_wrong { result ≡ 16 → verify_fault (value_of encoded.now) password.now max_kib max_ops ≡ None }
     ensures wrong { result ≡ 16 → tag_of_password (value_of encoded.now) password.now ≡ encoded.now.tag.items → ⊥ }
     ensures refused { IsTold result (verify_fault (value_of encoded.now) password.now max_kib max_ops) }
     ensures low { 0 < result → 6 ≤ result }
@@ -64,7 +64,7 @@ fn verify_in<S: Source>(
     ensures high { result ≤ 16 }
     // Where the text is refused, its reading was asked for, once.
     ensures unread { result ≡ not_encoded → source.new ≡ S.after_reading source.old text.now true }
-    ensures unread_too { result ≡ out_of_range → source.new ≡ S.after_reading source.old text.now true }
+    ensures read_out_of_range { result ≡ out_of_range → source.new ≡ S.after_reading source.old text.now true }
     // Where it is read, a password is then tested, once.
     ensures asked { result ≢ not_encoded → result ≢ out_of_range → result ≢ out_of_memory
         → (value : Value) × IsTextOf value text.now × (source.new

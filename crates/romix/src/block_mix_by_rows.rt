@@ -11,7 +11,7 @@ use crate::ticks::Ticks;
 pub fn block_mix(input: &[u32], out: &mut [u32], ticks: &mut Ticks)
     requires same { length out.old ≡ length input.now }
     requires pairs { length input.now % 32 ≡ 0 }
-    requires some { 0 < length input.now }
+    requires not_empty { 0 < length input.now }
     ensures words { out.new ≡ block_mix input.now }
     ensures count { ticks.new ≡ ticks.old + block_count input.now }
 {

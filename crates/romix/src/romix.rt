@@ -18,7 +18,7 @@ use crate::ticks::Ticks;
 fn block_mix_by_diagonals(input: &[u32], out: &mut [u32], ticks: &mut Ticks)
     requires same { length out.old ≡ length input.now }
     requires pairs { length input.now % 32 ≡ 0 }
-    requires some { 0 < length input.now }
+    requires not_empty { 0 < length input.now }
     ensures words { natural_row out.new ≡ block_mix (natural_row input.now) }
     ensures count { ticks.new ≡ ticks.old + block_count input.now }
 {
@@ -86,7 +86,7 @@ fn turn_to_rows(row: &mut [u32])
 fn step_on(from: &[u32], steps: usize, out: &mut [u32], spare: &mut [u32], ticks: &mut Ticks)
     requires some_steps { 1 ≤ steps }
     requires pairs { length from.now % 32 ≡ 0 }
-    requires some { 0 < length from.now }
+    requires not_empty { 0 < length from.now }
     requires out { length out.old ≡ length from.now }
     requires spare { length spare.old ≡ length from.now }
     ensures words { natural_row out.new ≡ table_row (natural_row from.now) steps }
@@ -119,7 +119,7 @@ fn xor_table_row(
 )
     requires keep { 0 < keep }
     requires pairs { length row.old % 32 ≡ 0 }
-    requires some { 0 < length row.old }
+    requires not_empty { 0 < length row.old }
     requires room { length row.old * (j / keep + 1) ≤ length table.now }
     requires work { length work.old ≡ length row.old }
     requires spare { 1 < keep → length spare.old ≡ length row.old }
@@ -154,7 +154,7 @@ fn romix_by_diagonals(
     requires keep { 0 < keep }
     requires divides { 2 ^ log_n % keep ≡ 0 }
     requires pairs { length row.old % 32 ≡ 0 }
-    requires some { 0 < length row.old }
+    requires not_empty { 0 < length row.old }
     requires same { length other.old ≡ length row.old }
     requires spare { 1 < keep → length spare.old ≡ length row.old }
     requires table { length table.old ≡ length row.old * (2 ^ log_n / keep) }
@@ -194,7 +194,7 @@ pub(crate) fn romix(
     requires keep { 0 < keep }
     requires divides { 2 ^ log_n % keep ≡ 0 }
     requires pairs { length row.old % 32 ≡ 0 }
-    requires some { 0 < length row.old }
+    requires not_empty { 0 < length row.old }
     requires same { length other.old ≡ length row.old }
     requires spare { 1 < keep → length spare.old ≡ length row.old }
     requires table { length table.old ≡ length row.old * (2 ^ log_n / keep) }

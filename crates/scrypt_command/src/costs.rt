@@ -37,7 +37,7 @@ pub fn number_given(
 
 // Whether one or two of the costs are given.
 fn has_some_costs(matches: &ArgMatches<'_>) -> bool
-    ensures some { result ≡ has_some_costs (rows_in matches.now) }
+    ensures has_some { result ≡ has_some_costs (rows_in matches.now) }
 {
     let log_n = value_of(matches, "logN").is_some();
     let r = value_of(matches, "r").is_some();

@@ -40,7 +40,7 @@ fn attempt<H: Host>(
     // Words that are refused cost no core, and others no more than their limit.
     ensures work_bound { MatchResult (scrypt_request (map string_bytes words.now))
         (λ request. ticks.new ≤ ticks.old + most_cores request) (λ _. ticks.new ≡ ticks.old) }
-    ensures idle { IfErr result (λ r. may_follow_work r ≡ false → ticks.new ≡ ticks.old) }
+    ensures no_work { IfErr result (λ r. may_follow_work r ≡ false → ticks.new ≡ ticks.old) }
     // What ends well, or is refused after the derivation, counts exactly one.
     ensures count { IsTrue H.tells → OnOk result (IfOk (scrypt_request (map string_bytes words.now))
         (λ request. RequestWorks request (H.seen host.old) ticks.old ticks.new)) }

@@ -563,7 +563,7 @@ fn fails(
     call: u64,
     end: End<'_>,
 ) -> Result<bool, AllocError>
-    requires some { 0 < push }
+    requires at_least_1 { 0 < push }
 {
     let (line, input) = run;
     let mut host = host_with(alloc, input, b"pw\n")?;

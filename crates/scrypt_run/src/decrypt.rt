@@ -70,7 +70,7 @@ fn open<R: Room, H: Host>(
     ensures work { sparse.now.keep ≡ 1 →
         OnOk result (ticks.new ≡ ticks.old + cores header.costs) }
     ensures work_bound { ticks.new ≤ ticks.old + task.now.limits.max_ops }
-    ensures idle { IfErr result (λ r. may_follow_work r ≡ false → ticks.new ≡ ticks.old) }
+    ensures no_work { IfErr result (λ r. may_follow_work r ≡ false → ticks.new ≡ ticks.old) }
     ensures memory_granted { OnOk result (room.new ≡ asks_workspace R.after_workspace room.old
         (task_seen task.now) header.costs true) }
     ensures memory_asked { IfErr result (λ r. EndsAsking (asks_workspace R.after_workspace room.old
@@ -188,7 +188,7 @@ pub(crate) fn decrypt<R: Room, H: Host>(
     ensures work { IsTrue H.tells → task.now.keep ≡ 1 → OnOk result
         (ticks.new ≡ ticks.old + cores (costs_of (H.seen host.old).input)) }
     ensures work_bound { ticks.new ≤ ticks.old + task.now.limits.max_ops }
-    ensures idle { IfErr result (λ r. may_follow_work r ≡ false → ticks.new ≡ ticks.old) }
+    ensures no_work { IfErr result (λ r. may_follow_work r ≡ false → ticks.new ≡ ticks.old) }
     // Memory is asked for once, for the derivation of the header's costs, and only once the limits have passed.
     ensures memory_granted { OnOk result (WasGranted H.tells (H.seen host.old).input
         (asks_workspace R.after_workspace room.old (task_seen task.now)) room.new) }

@@ -112,7 +112,7 @@ fn start<R: Room, H: Host>(
     ensures work { sparse.now.keep ≡ 1 →
         OnOk result (ticks.new ≡ ticks.old + cores asked.now.costs) }
     ensures work_bound { ticks.new ≤ ticks.old + asked.now.task.limits.max_ops }
-    ensures idle { OnErr result (ticks.new ≡ ticks.old) }
+    ensures no_work { OnErr result (ticks.new ≡ ticks.old) }
     ensures memory_granted { OnOk result (room.new ≡ asks_workspace R.after_workspace room.old
         (task_seen asked.now.task) asked.now.costs true) }
     ensures memory_asked { IfErr result (λ r. EndsAsking (asks_workspace R.after_workspace room.old
@@ -239,7 +239,7 @@ pub(crate) fn encrypt<R: Room, H: Host>(
     ensures work { asked.now.task.keep ≡ 1 →
         OnOk result (ticks.new ≡ ticks.old + cores asked.now.costs) }
     ensures work_bound { ticks.new ≤ ticks.old + asked.now.task.limits.max_ops }
-    ensures idle { IfErr result (λ r. may_follow_work r ≡ false → ticks.new ≡ ticks.old) }
+    ensures no_work { IfErr result (λ r. may_follow_work r ≡ false → ticks.new ≡ ticks.old) }
     // Memory is asked for once, for the derivation, and only once the limits have passed.
     ensures memory_granted { OnOk result (room.new ≡ asks_workspace R.after_workspace room.old
         (task_seen asked.now.task) asked.now.costs true) }

@@ -58,7 +58,7 @@ pub fn run<R: Room, H: Host>(
     ensures work { IsTrue H.tells → KeepsAll (request_seen request.now) → OnOk result (ticks.new
         ≡ ticks.old + cores_asked (request_seen request.now) (H.seen host.old)) }
     ensures work_bound { ticks.new ≤ ticks.old + most_cores (request_seen request.now) }
-    ensures idle { IfErr result (λ r. may_follow_work r ≡ false → ticks.new ≡ ticks.old) }
+    ensures no_work { IfErr result (λ r. may_follow_work r ≡ false → ticks.new ≡ ticks.old) }
     ensures memory_granted { OnOk result (RequestGranted R.after_workspace R.after_line H.tells
         (H.seen host.old).input (request_seen request.now) room.old room.new) }
     ensures memory_asked { IfErr result (λ r. RequestAsked R.after_workspace R.after_line H.tells

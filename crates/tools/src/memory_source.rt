@@ -63,7 +63,7 @@ impl MemorySource {
         ensures within { IfOk result (λ n. n ≤ length self.old.left) }
         ensures bytes { IfOk result (λ n. take n buf.new ≡ take n self.old.left) }
         ensures taken { IfOk result (λ n. self.new ≡ after_reading n self.old) }
-        ensures some { IfOk result (λ n. 0 < length buf.old → 0 < most → n ≡ 0 → self.old.left ≡ []) }
+        ensures progress { IfOk result (λ n. 0 < length buf.old → 0 < most → n ≡ 0 → self.old.left ≡ []) }
     {
         if self.opened.is_none() {
             return Err(io::Error::from(ErrorKind::NotFound));

@@ -194,7 +194,7 @@ impl MemorySystem {
     /// Sets the greatest number of bytes of a read, at least 1, and of a write. With 0 a write takes
     /// nothing.
     pub fn set_sizes(&mut self, read: usize, write: usize)
-        requires some { 0 < read }
+        requires at_least_1 { 0 < read }
         ensures same { self.new ≡ self.old }
     {
         self.read_size = read;

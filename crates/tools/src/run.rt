@@ -132,7 +132,7 @@ impl<S: System> Run<S> {
             IfOk result (λ n. take n buf.new ≡ take n self.old.world.input.left) }
         ensures taken { IsTrue S.tells →
             IfOk result (λ n. host_seen self.new ≡ after_pull n (host_seen self.old)) }
-        ensures some { IsTrue S.tells → IfOk result (λ n.
+        ensures progress { IsTrue S.tells → IfOk result (λ n.
             0 < length buf.old → n ≡ 0 → self.old.world.input.left ≡ []) }
         ensures granted { IfOk result (λ n. 0 < n → self.new.grants ≡ self.old.grants) }
         ensures still_writable { OnOk result (self.new.grants.writable ≡ self.old.grants.writable) }
@@ -153,7 +153,7 @@ impl<S: System> Run<S> {
     /// Writes a beginning of the bytes to the output.
     pub fn push(&mut self, bytes: &[u8]) -> Result<usize, HostFault>
         ensures bound { IfOk result (λ n. n ≤ length bytes.now) }
-        ensures some { IfOk result (λ n. 0 < length bytes.now → 0 < n) }
+        ensures progress { IfOk result (λ n. 0 < length bytes.now → 0 < n) }
         ensures kept { IsTrue S.tells → OnErr result (host_seen self.new ≡ host_seen self.old) }
         ensures put { IsTrue S.tells → IfOk result (λ n.
             host_seen self.new ≡ after_push (take n bytes.now) (host_seen self.old)) }

@@ -16,7 +16,7 @@ pub fn read_some<S: System>(
     reading: Reading,
     buf: &mut [u8],
 ) -> Result<usize, HostFault>
-    requires some { 0 < length buf.old }
+    requires not_empty { 0 < length buf.old }
     requires going { IsTrue S.tells → (source_at reading (S.world system.old)).is_ended ≡ false }
     ensures bound { IfOk result (λ n. n ≤ length buf.old) }
     ensures kept { IsTrue S.tells → OnErr result (S.world system.new ≡ S.world system.old) }
@@ -66,7 +66,7 @@ pub fn write_some<S: System>(system: &mut S, bytes: &[u8]) -> Result<usize, Host
     requires apart { IsTrue S.tells → IsApart (S.files system.old) }
     requires new { IsTrue S.tells → (S.world system.old).is_new ≡ true }
     ensures bound { IfOk result (λ n. n ≤ length bytes.now) }
-    ensures some { IfOk result (λ n. 0 < length bytes.now → 0 < n) }
+    ensures progress { IfOk result (λ n. 0 < length bytes.now → 0 < n) }
     ensures kept { IsTrue S.tells → OnErr result (S.world system.new ≡ S.world system.old) }
     ensures put { IsTrue S.tells → IfOk result (λ n.
         S.world system.new ≡ after_write (take n bytes.now) (S.world system.old)) }

@@ -90,7 +90,7 @@ pub trait System {
 
     /// Reads the next bytes of an opened stream, and says how many. After an error nothing was read.
     fn read(&mut self, reading: Reading, buf: &mut [u8]) -> io::Result<usize>
-        requires some { 0 < length buf.old }
+        requires not_empty { 0 < length buf.old }
         requires going { IsTrue tells → (source_at reading (world self.old)).is_ended ≡ false }
         ensures bound { IfOk result (λ n. n ≤ length buf.old) }
         ensures kept { IsTrue tells → OnErr result (world self.new ≡ world self.old) }
@@ -124,7 +124,7 @@ pub trait System {
     /// Writes a beginning of the bytes, and says how many. The output is no regular file that is read,
     /// and is new. After an error nothing was written.
     fn write(&mut self, bytes: &[u8]) -> io::Result<usize>
-        requires some { 0 < length bytes.now }
+        requires not_empty { 0 < length bytes.now }
         requires apart { IsTrue tells → IsApart (files self.old) }
         requires new { IsTrue tells → (world self.old).is_new ≡ true }
         ensures bound { IfOk result (λ n. n ≤ length bytes.now) }

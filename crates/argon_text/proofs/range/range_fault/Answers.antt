@@ -12,8 +12,8 @@ use Rattle.argon_text.proofs.range.range_fault.Goals as goal
 pub returns-in_err-fields-clause-first : goal.returns-in_err-fields-clause-first
 returns-in_err-fields-clause-first c fields has = absurd (no_text c.args.text.now c.in_err-fields.ensures.fields (fields, has))
 
-pub returns-in_err-fields-clause-some : goal.returns-in_err-fields-clause-some
-returns-in_err-fields-clause-some c is _ = absurd (no_text c.args.text.now c.in_err-fields.ensures.fields is)
+pub returns-in_err-fields-clause-found : goal.returns-in_err-fields-clause-found
+returns-in_err-fields-clause-found c is _ = absurd (no_text c.args.text.now c.in_err-fields.ensures.fields is)
 
 pub fault_of-requires : goal.fault_of-requires
 fault_of-requires c = record { numbers = (fields_give c.args.text.now (fields_of c.in_ok-fields.fields) c.in_ok-fields.ensures.fields).1 }
@@ -24,8 +24,8 @@ returns-clause-first c fields has =
     same_Some fields (fields_of c.in_ok-fields.fields) (sym (fields_of_text c.args.text.now fields has) ∙ c.in_ok-fields.ensures.fields) in
     c.fault_of.ensures.first ∙ ap (λ (f : Fields). range_fault (value_of_fields f)) (sym same)
 
-pub returns-clause-some : goal.returns-clause-some
-returns-clause-some c is outside =
+pub returns-clause-found : goal.returns-clause-found
+returns-clause-found c is outside =
     let same : is.0 ≡ fields_of c.in_ok-fields.fields =
     same_Some is.0 (fields_of c.in_ok-fields.fields) (sym (fields_of_text c.args.text.now is.0 is.1) ∙ c.in_ok-fields.ensures.fields) in
     let told = c.fault_of.ensures.first ∙ ap (λ (f : Fields). range_fault (value_of_fields f)) (sym same) in

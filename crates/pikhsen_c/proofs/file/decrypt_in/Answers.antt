@@ -3,9 +3,9 @@ use Rattle.encfile.specs.EncryptedFile.{IsEncryptionOf}
 use Rattle.pikhsen_c.proofs.FrontStatus.{front_is}
 use Rattle.pikhsen_c.proofs.file.decrypt_in.Goals as goal
 
-pub returns-in-Err-clause-told : goal.returns-in-Err-clause-told
-returns-in-Err-clause-told g c = λ some memory below.
-    sym (c.in-Err.ensures.told memory (λ wrong. omega (arith, below, wrong)))
+pub returns-in-Err-clause-status : goal.returns-in-Err-clause-status
+returns-in-Err-clause-status g c = λ some memory below.
+    sym (c.in-Err.ensures.status memory (λ wrong. omega (arith, below, wrong)))
     ∙ sym (front_is c.args.file.now c.args.keep c.args.max_bytes c.args.max_ops (length c.args.out.now) (omega (arith, c.if-out-file.false)) (omega (arith, c.if-file-lt96.false)))
 
 pub returns-in-Err-clause-memory : goal.returns-in-Err-clause-memory

@@ -7,7 +7,7 @@ returns-in-Ok-clause-compared g c = λ told. record {
   value = value_of c.in-Ok.encoded;
   valid = c.in-Ok.ensures.value;
   written = c.in-Ok.ensures.found;
-  same = λ none. sym c.told_of.ensures.told ∙ c.differs.ensures.same none;
-  other = λ one same. c.differs.ensures.other one (c.told_of.ensures.told ∙ same);
+  same = λ none. sym c.told_of.ensures.settings ∙ c.differs.ensures.same none;
+  other = λ one same. c.differs.ensures.other one (c.told_of.ensures.settings ∙ same);
   high = c.differs.ensures.high;
 }

@@ -6,5 +6,5 @@ returns-in-Ok-clause-found g c = λ told. record {
   value = value_of c.in-Ok.encoded;
   valid = c.in-Ok.ensures.value;
   written = c.in-Ok.ensures.found;
-  told = c.told_of.ensures.told;
+  told = c.told_of.ensures.settings;
 }

@@ -36,7 +36,7 @@ returns-then-n-eq0-clause-read g c = λ t passphrase front h.
     let before = g.H.Host.seen c.loop-n.host in
     let i = c.loop-n.invariant in
     let j = length_read c.loop-n.dec in
-    let none = c.in-Ok.ensures.some t (omega (arith, i.buf_long)) c.if-n-eq0.true in
+    let none = c.in-Ok.ensures.progress t (omega (arith, i.buf_long)) c.if-n-eq0.true in
     let all : j ≡ length s.input = pass_all (text_after passphrase front) j s before (i.passes t passphrase front h) none (i.within t) in
     subst (λ xs. HasRead c.loop-n.dec passphrase (front ++ xs)) (take_all j s.input (omega (arith, all))) (i.holds t passphrase front h)
 

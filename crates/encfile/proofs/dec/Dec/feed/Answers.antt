@@ -45,7 +45,7 @@ returns-clause-read c passphrase file h =
         held = refl;
         code = subst (Holds c.update.new.self (code_key passphrase h.salt h.costs)) (append_assoc front h.done moved) code;
       };
-      split = IsSplit-more file passphrase h.salt h.costs h.done h.held piece moved c.take_in-released.new.self h.split joined count c.take_in-released.ensures.few;
+      split = IsSplit-more file passphrase h.salt h.costs h.done h.held piece moved c.take_in-released.new.self h.split joined count c.take_in-released.ensures.at_most_32;
       below_limit = omega (arith, fits, length-append file piece);
     }
 
@@ -60,7 +60,7 @@ returns-clause-released c passphrase file h =
     let long : length c.apply.new.bytes ≡ n = omega (arith, length-take n out, c.apply.auto.bytes, count, c.take_in-released.ensures.moved, ap length h.state.held) in
     ap (λ t. released_text file passphrase ++ t) (take_at c.apply.new.bytes (drop n out) n long)
     ∙ released_text-more file (file ++ piece) passphrase h.salt h.costs h.done h.held (take n out) c.take_in-released.new.self c.apply.new.bytes c.args.self.now.ctr h.split
-    (IsSplit-more file passphrase h.salt h.costs h.done h.held piece (take n out) c.take_in-released.new.self h.split joined count c.take_in-released.ensures.few)
+    (IsSplit-more file passphrase h.salt h.costs h.done h.held piece (take n out) c.take_in-released.new.self h.split joined count c.take_in-released.ensures.at_most_32)
     h.state.cipher c.apply.ensures.xored
 
 pub returns-clause-rest : goal.returns-clause-rest
@@ -70,7 +70,7 @@ returns-clause-rest c =
     let out : List ℕ = c.take_in-released.new.out in
     let before : ℕ = length c.args.self.now.held + length piece in
     let most : ℕ = length piece + 32 in
-    let few : length c.args.self.now.held ≤ 32 = omega (arith, c.len.ensures.len, c.len.ensures.few) in
+    let few : length c.args.self.now.held ≤ 32 = omega (arith, c.len.ensures.len, c.len.ensures.at_most_32) in
     let whole : before + (most - before) ≡ most = omega (arith, few) in
     let long : length c.apply.new.bytes ≡ n =
     omega (arith, length-take n out, c.apply.auto.bytes, c.take_in-released.ensures.moved, c.take_in-released.auto.out, c.requires.room, few) in
