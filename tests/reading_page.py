@@ -35,6 +35,7 @@ DECLARED = re.compile(r"use (Rattle\.(\w+)\.specs\.declared\.([a-z_0-9.]*)\.?([A
 STANDARD = re.compile(r"(?m)^ *(?:pub |ghost )?use (?:Rattle\.(?:std|core)\.specs)\.[\w.]*\{([^}]*)\}")
 ALIASES = re.compile(r"(?m)^ *(?:pub |ghost )?use Rattle\.([\w.]+?)\.\{([^}]* as [^}]*)\}")
 ALIASED = re.compile(r"(?m)^ *(?:pub |ghost )?use Rattle\.([\w.]+) as (\w+)")
+KIT = "Definitions of the toolchain's libraries"
 SIGNED = "read and found right by: ____________________________ date: ______________"
 
 NOTATION = [
@@ -44,28 +45,37 @@ NOTATION = [
     ("A × B", "a value of A and one of B, of which .0 and .1 are the parts; of statements: both hold. (x : A) × P is that some "
      "x of A has P"),
     ("Type 0", "the statements, and the types of values. A function into it is a relation: f x y is a statement on x and y"),
-    ("⊥", "the statement that never holds: A → ⊥ is that A does not hold"),
-    ("{A : Type 0}", "an argument that is not written, since the others tell it"),
-    ("abbrev, unfoldable, opaque, pub", "how a definition is taken by the prover, and who may cite it: of no matter for what it "
+    ("⊥, Unit {0}", "the statement that never holds, so that A → ⊥ is that A does not hold; the one that always holds"),
+    ("{A : Type 0}", "an argument that is not written, since it follows from the others"),
+    ("(a b : A)", "two arguments of the type A"),
+    ("abbrev, unfoldable, pub", "how a definition is taken by the prover, and who may cite it: of no matter for what it "
      "means"),
-    ("record R where f : A ..", "a value with these fields; where R is a statement, all of them are facts that hold. x.f is a "
-     "field of x; record { f = v; .. } is a value, and record x { f = v } is x with that field changed"),
+    ("record R (x : A) where f : B ..", "a value with these fields. Where R is a statement on x, each field that is a statement "
+     "holds, and a field that is a value says that there is one for which they hold. x.f is a field of x; record { f = v; .. } is "
+     "a value, and record x { f = v } is x with that field changed"),
     ("data D where c : A → D ..", "a value of one of these cases"),
     ("λ x. e", "the function that gives e of x; λ _. e does not look at it"),
-    ("let x = e in ..", "x stands for e"),
+    ("_ before =", "any argument: the line does not look at it"),
+    ("f x = .., where the type of f has more arguments", "both sides take the others too: f x y is what the right side gives of y"),
+    ("let x = e in .., let x : A = e in ..", "x stands for e"),
+    ("[], x ∷ xs", "the empty list, and the list of x and then the items of xs. (a, b, c) is a tuple with the parts .0, .1 and .2"),
+    ("f x ∷ a ++ b, j / 2 ^ 32 % n", "what belongs together first: a field, then a call, then ^, then * / %, then ∷, then + - ++, "
+     "then ≡ ≤ < and the like, then × and →. So the first is ((f x) ∷ a) ++ b, and the second (j / (2 ^ 32)) % n: of those that "
+     "stand alike the left one comes first, but for ^ ∷ × and →. 0x5C is 92"),
     ("do x ← e; .. on lines", "x is the value of e; where e is a refusal, that is the whole answer. So the first refusal in the "
      "order of the lines counts"),
-    ("use M.{a as b}, and names in capitals before a point, as refusal.Usage",
-     "a name of another file or of a type of the sources. In the text below most names are links to what they mean"),
+    ("refusal.Usage", "a case of a type of the sources, for which the name before the point stands. In the text below most names "
+     "are links to what they mean"),
     ("-- .. or // ..", "a comment"),
     ("pub fn f<H: Host>(x: T, y: &T, z: &mut T) -> R", "the head of a function of the program, in Rust: for every type H that has "
      "the trait Host it takes a value, one that is lent to be read, one that is lent to be changed, and gives back an R. u8, "
-     "u32, u64 and usize are numbers below 2^8, 2^32, 2^64 and 2^64; [u8] is a list of bytes, str and String are texts; () is "
-     "nothing. Contracts see a number as ℕ, and a text as its bytes"),
+     "u32, u64 and usize are numbers below 2^8, 2^32, 2^64 and 2^64; [u8] is a list of bytes, and [u8; 32] one of 32; str and "
+     "String are texts, Global is the heap, and Self the type that has the trait; () is nothing, and 'a and '_ only say how long "
+     "something is lent. Contracts see a number as ℕ, and a text as its bytes, which string_bytes gives of a String"),
     ("trait T, ghost NAME", "what each type that has the trait promises, call by call; what contracts see of it, which is not "
      "there when the program runs"),
-    ("requires NAME { P }", "what a caller has to see to: P holds when the call begins"),
-    ("ensures NAME { P }", "what is proved of each call that was begun so: P holds when it ends"),
+    ("requires NAME, and below it P", "what a caller has to see to: P holds when the call begins"),
+    ("ensures NAME, and below it P", "what is proved of each call that was begun so: P holds when it ends"),
     ("result, x.now, x.old, x.new, x.entry", "what the call gives back; a value that is lent to be read; one that is lent to be "
      "changed, as it was at the beginning and as it is at the end; an argument as it came"),
     ("H.tells, H.seen host.old", "what a host of the kind H lets contracts see: see the trait among the contracts"),
@@ -219,10 +229,11 @@ class Page:
         self.files = reading.all_files()
         self.reach = reading_kit.Reach(reading.all_files()) if whole else None
         self.texts = reading.texts_of(call)
-        self.items = reading.reached(self.texts, self.files)
+        self.items = reading.reached_by(call, self.files)
         self.laws = list(self.laws_of())
         known = {*self.items}
-        self.law_items = [it for it in reading.reached([law[1:3] for law in self.laws], self.files) if it not in known]
+        of_laws = reading.reached([law[1:3] for law in self.laws], self.files, by_field=False)
+        self.law_items = [it for it in of_laws if it not in known]
         self.places = {it: f"d{at}" for at, it in enumerate([*self.items, *self.law_items])}
         self.kit = self.reach.of_kit(self.texts) if whole and self.reach.kit else []
         self.places.update({it: f"k{at}" for at, it in enumerate(self.kit)})
@@ -264,7 +275,7 @@ class Page:
             for name in (word, f"◌{word}◌", f"{word}◌"):
                 at, given = names.get(name, (module, name))
                 file = (self.reach.whole if self.whole else self.files).get(at)
-                owner = file.owners.get(given, given) if file else given
+                owner = file.owners.get(given, given) if file and given not in file.fields else given
                 place = place or self.places.get((at, given)) or self.places.get((at, owner))
                 if name in standard and not place:
                     self.words.add(name)
@@ -387,7 +398,7 @@ class Page:
         for crate in crates:
             of = [row for row in rows if row[0].split(".")[0] == crate]
             said += f"<h3>{crate}: {sum(row[1] for row in of)} lines</h3>{''.join(kit_row(row) for row in of)}"
-        self.section("Definitions of the toolchain's libraries", said, said)
+        self.section(KIT, said, said)
 
     def words_section(self):
         """The words of the toolchain's standard library that stand here."""
@@ -447,10 +458,23 @@ class Page:
     def standards(self):
         """The standards that the definitions restate."""
         said = " ".join(filter(None, (self.sources.get(it) for it in self.items)))
-        found = sorted({*re.findall(r"RFC \d+|FIPS \d+|SP \d+-\w+|\bFORMAT\b", said)} )
+        found = sorted({*re.findall(r"RFC \d+|FIPS \d+|SP \d+-\w+|\bFORMAT\b|Salsa20 specification", said)})
         found = [it.replace("FORMAT", "FORMAT of Tarsnap's scrypt (version 0)") for it in found]
         found += ["FIPS 180-4 (SHA-256)"] if "sha256" in {*self.kit_words()} else []
         return ", ".join(found[:-1]) + f" and {found[-1]}" if len(found) > 1 else "".join(found) or "its own comments"
+
+    def own_pages(self):
+        """The pages of this repository that have the project's own rules, which no standard has."""
+        said = " ".join(filter(None, (self.sources.get(it) for it in self.items)))
+        found = sorted({*re.findall(r"docs/[A-Z]+\.md", said)})
+        return f"; where no standard has a rule, as for the order of refusals, they name a page of docs/: {', '.join(found)}" if found else ""
+
+    def left_out(self):
+        """What a reader has to read besides this page, if it has no text of the toolchain's."""
+        if self.whole or not any(title == KIT for title, _, _ in self.sections):
+            return ""
+        return f"<p>The section “{KIT}” names what the call reaches of these; <code>make reading CALL={self.call}</code> prints " \
+               "their text too.</p>"
 
     def whole_page(self, call):
         digest = hashlib.sha256("".join(text for _, _, text in self.sections).encode()).hexdigest()[:16]
@@ -462,7 +486,7 @@ class Page:
                 f"<code>{self.call}</code>: its contract, and the {len(self.items)} definitions in {len(modules)} files " \
                 f"({lines} lines) that the contract reaches, each after the first that cites it. That the program meets the " \
                 f"contract is proved by the toolchain, and needs no reader. Read it against {against}, whose sections stand in " \
-                "brackets.</p>" \
+                f"brackets{self.own_pages()}.</p>{self.left_out()}" \
                 f"<p class=s>Made by tests/reading_page.py. Sum of all sections: {digest}. A signature stands as long as the sum " \
                 "of its section does.</p>"
         listed_ones = "".join(f"<li><a href=#s{at}>{escape(name, False)}</a></li>\n"
