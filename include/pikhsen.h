@@ -147,6 +147,24 @@ PIKHSEN_MUST_CHECK
 unsigned int pikhsen_argon2_verify(const unsigned char *text, size_t text_len, const unsigned char *password,
     size_t password_len, unsigned int max_kib, pikhsen_u64 max_ops);
 
+/*
+ * The two functions above with a secret and associated data, which pikhsen_argon2_hash has too; either may be empty.
+ * THE TEXT HOLDS NEITHER, and does not say that they were given: the test takes the same two again, and with others, or
+ * without, a right password is PIKHSEN_MISMATCH. So a secret that is kept apart from the texts guards them, and where
+ * it is lost no password can be tested. All else is as above.
+ */
+PIKHSEN_MUST_CHECK PIKHSEN_NOT_NULL(19)
+unsigned int pikhsen_argon2_encoded_keyed(unsigned int kind, unsigned int version, unsigned int passes,
+    unsigned int memory_kib, unsigned int lanes, const unsigned char *password, size_t password_len,
+    const unsigned char *salt, size_t salt_len, const unsigned char *secret, size_t secret_len,
+    const unsigned char *associated, size_t associated_len, size_t tag_len, unsigned int max_kib, pikhsen_u64 max_ops,
+    unsigned char *out, size_t out_len, size_t *text_len);
+
+PIKHSEN_MUST_CHECK
+unsigned int pikhsen_argon2_verify_keyed(const unsigned char *text, size_t text_len, const unsigned char *password,
+    size_t password_len, const unsigned char *secret, size_t secret_len, const unsigned char *associated,
+    size_t associated_len, unsigned int max_kib, pikhsen_u64 max_ops);
+
 /* What an encoded text says of its hash, but for the bytes of its salt and its tag, of which it has the lengths. */
 struct pikhsen_argon2_settings {
 	unsigned int kind, version, passes, memory_kib, lanes;

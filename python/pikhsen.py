@@ -97,8 +97,8 @@ class Status(enum.IntEnum):
     TEXT_SALT_LENGTH = 36
 
 
-# What the statuses say, as pikhsen.h and man 3 pikhsen do, but for BUFFER: a program in Python gives no buffer, and
-# nothing but the length of a key by scrypt is refused so.
+# What the statuses say, as pikhsen.h and man 3 pikhsen do, but for BUFFER: of what a program in Python gives, the length of
+# a key by scrypt is refused so, and a buffer of fewer than 128 bytes for a file in place.
 _SENTENCES: Dict[int, str] = {
     Status.OK: "the call did its work",
     Status.PASSES: "Argon2: passes are not 1 to 2^32-1",
@@ -113,7 +113,7 @@ _SENTENCES: Dict[int, str] = {
     Status.KIND: "Argon2: the kind is not 0, 1 or 2",
     Status.ARGON2_VERSION: "Argon2: the version is not 0x10 or 0x13",
     Status.INPUT_LENGTH: "Argon2: the secret or the data is 2^32 bytes or longer",
-    Status.BUFFER: "scrypt: the length is not 0 to 32 * (2^32-1)",
+    Status.BUFFER: "scrypt: the key's length is not 0 to 32 * (2^32-1), or the buffer has fewer than 128 bytes",
     Status.NOT_ENCODED: "the text is not an encoded hash",
     Status.OUT_OF_RANGE: "the text is an encoded hash with a value out of range",
     Status.MISMATCH: "the password is not that of the text",
@@ -244,6 +244,10 @@ _PARAMETERS = {
         [c_uint] * 5 + 2 * _BYTES + [c_size_t, c_uint, c_ulong] + _BYTES + [POINTER(c_size_t)]
     ),
     "pikhsen_argon2_verify": 2 * _BYTES + [c_uint, c_ulong],
+    "pikhsen_argon2_encoded_keyed": (
+        [c_uint] * 5 + 4 * _BYTES + [c_size_t, c_uint, c_ulong] + _BYTES + [POINTER(c_size_t)]
+    ),
+    "pikhsen_argon2_verify_keyed": 4 * _BYTES + [c_uint, c_ulong],
     "pikhsen_argon2_settings": _BYTES + [POINTER(_Settings)],
     "pikhsen_argon2_needs_rehash": _BYTES + [POINTER(_Settings), POINTER(c_uint)],
     "pikhsen_scrypt": 2 * _BYTES + [c_uint] * 4 + _LIMITS + _BYTES,
@@ -259,9 +263,11 @@ def _loaded() -> ctypes.CDLL:
     named = "" if sys.flags.ignore_environment else os.environ.get("PIKHSEN_LIBRARY", "")
     # what `make install` put below the prefix of share/pikhsen/pikhsen/__init__.py
     prefix, is_installed, _ = os.path.abspath(__file__).rpartition("/share/pikhsen/pikhsen/__init__.py")
-    beside = f"{prefix}/lib/libpikhsen.so.0"
-    if not named and is_installed and os.path.exists(beside):
-        named = beside
+    # of a name without a folder the loader takes the library for the processor's level by itself
+    for level in ("glibc-hwcaps/x86-64-v3/",) * _has_v3() + ("",):
+        beside = f"{prefix}/lib/{level}libpikhsen.so.0"
+        if not named and is_installed and os.path.exists(beside):
+            named = beside
     try:
         library = ctypes.CDLL(named or "libpikhsen.so.0")
         for name, parameters in _PARAMETERS.items():
@@ -275,6 +281,16 @@ def _loaded() -> ctypes.CDLL:
     return library
 
 
+def _has_v3() -> bool:
+    """Whether the processor has the level x86-64-v3."""
+    try:
+        with open("/proc/cpuinfo", encoding="ascii", errors="replace") as about:
+            flags = next((line for line in about if line.startswith("flags")), "")
+    except OSError:
+        return False
+    return {"abm", "avx2", "bmi1", "bmi2", "f16c", "fma", "movbe"} <= set(flags.split())
+
+
 def _dotted(number: int) -> str:
     return f"{number // 10000}.{number // 100 % 100}.{number % 100}"
 
@@ -284,10 +300,19 @@ _lib = _loaded()
 
 def _call(function: Callable[..., int], *arguments: object) -> None:
     """Calls the function, with each bytes or buffer as a pointer and a length, and raises what it is refused for."""
+    _judge(_number(function, *arguments))
+
+
+def _number(function: Callable[..., int], *arguments: object) -> int:
+    """What the function answers, with each bytes or buffer as a pointer and a length."""
     flat: List[object] = []
     for given in arguments:
         flat += [given, len(given)] if isinstance(given, (bytes, ctypes.Array)) else [given]
-    number = function(*flat)
+    return function(*flat)
+
+
+def _judge(number: int) -> None:
+    """Raises what a call was refused for, if it was."""
     if number not in _SENTENCES:
         raise Refused(number)
     if number != Status.OK:
@@ -393,34 +418,44 @@ def hash(
 
 def encode(
     password: BytesLike, *, salt: Optional[BytesLike] = None, passes: int = 3, memory_kib: int = 65536, lanes: int = 4,
-    length: int = 32, kind: int = Kind.ID, version: int = 0x13, max_kib: int = 1 << 20, max_ops: int = 1 << 23,
+    length: int = 32, kind: int = Kind.ID, version: int = 0x13, secret: BytesLike = b"", associated: BytesLike = b"",
+    max_kib: int = 1 << 20, max_ops: int = 1 << 23,
 ) -> str:
     """The encoded text of a password's hash, "$argon2id$v=19$m=..", to be kept and given to `verify`.
 
-    The salt is new, 16 bytes, if none is given. Settings and limits are those of `hash`.
+    The salt is new, 16 bytes, if none is given. Settings and limits are those of `hash`. The text holds neither
+    `secret` nor `associated`: `verify` takes the same two again.
     """
     salt = os.urandom(16) if salt is None else _bytes(salt)
     length = _tag_length(length)
     # the room that PIKHSEN_ENCODED_ROOM tells, or more; a longer salt is refused
     out, text_len = _buffer(64 + 2 * min(len(salt), 255) + 2 * length), c_size_t()
     _call(
-        _lib.pikhsen_argon2_encoded, *_argon2_settings(kind, version, passes, memory_kib, lanes), _bytes(password),
-        salt, length, *_argon2_limits(max_kib, max_ops), out, byref(text_len),
+        _lib.pikhsen_argon2_encoded_keyed, *_argon2_settings(kind, version, passes, memory_kib, lanes),
+        _bytes(password), salt, _bytes(secret), _bytes(associated), length, *_argon2_limits(max_kib, max_ops), out,
+        byref(text_len),
     )
     return _front(out, text_len.value).decode()
 
 
 def verify(
-    text: Union[str, BytesLike], password: BytesLike, *, max_kib: int = 1 << 20, max_ops: int = 1 << 23
+    text: Union[str, BytesLike], password: BytesLike, *, secret: BytesLike = b"", associated: BytesLike = b"",
+    max_kib: int = 1 << 20, max_ops: int = 1 << 23,
 ) -> bool:
     """Whether the password is that of an encoded text, a str or bytes, with nothing after it, no line end either.
+
+    Where the text was made with `secret` or `associated`, these are given again, and with others, or without, it is
+    False for the right password.
 
     The text may come from a stranger and ask for 4 TiB and days, so LimitExceeded is raised, before memory for the hash
     is taken, where it needs more than `max_kib` KiB (1 GiB if not given) or `max_ops` block functions, about passes *
     memory. Invalid is raised where it is no encoded text, or the password has not 1 to 127 bytes.
     """
     try:
-        _call(_lib.pikhsen_argon2_verify, _ascii(text), _bytes(password), *_argon2_limits(max_kib, max_ops))
+        _call(
+            _lib.pikhsen_argon2_verify_keyed, _ascii(text), _bytes(password), _bytes(secret), _bytes(associated),
+            *_argon2_limits(max_kib, max_ops),
+        )
     except Refused as refused:
         if refused.status is not Status.MISMATCH:
             raise
@@ -520,10 +555,13 @@ def encrypt_in_place(
     `encrypt` has it, A NEW SALT FOR EACH FILE and the EMPTY PASSPHRASE THAT IS ACCEPTED among others.
     """
     out = (ctypes.c_char * memoryview(buffer).nbytes).from_buffer(buffer)
-    _call(
+    number = _number(
         _lib.pikhsen_scrypt_encrypt_in_place, _bytes(passphrase), _file_salt(salt), *_scrypt_settings(log_n, r, p, keep),
         *_limits(max_bytes, max_ops), out,
     )
+    # else what is raised would hold on to the buffer, and who catches it could not change its length
+    del out
+    _judge(number)
 
 
 def decrypt(

@@ -83,6 +83,11 @@ static const unsigned char known[] =
     "$argon2d$v=19$m=8,t=1,p=1$c29tZXNhbHQ$xRnmA6xgPsGutbcexEpheePzl1sUwMl+ORTHnmNj4Xg";
 #define KNOWN_LEN (sizeof known - 1)
 
+/* RFC 9106, 5.3, its salt and tag by base64(1): with a secret of 8 bytes 3, and data of 12 bytes 4 */
+static const unsigned char known_keyed[] =
+    "$argon2id$v=19$m=32,t=3,p=4$AgICAgICAgICAgICAgICAg$DWQN9Y14dmwIwDejSotTydAe8EUtdbZetSUg6WsB5lk";
+static unsigned char ones[32], twos[16], threes[8], fours[12];
+
 static unsigned int hash(unsigned char *out)
 {
 	return pikhsen_argon2_hash(PIKHSEN_ARGON2D, 0x13, 1, 8, 1, password, 8, somesalt, 8, none, 0, none, 0, 8, 100, out,
@@ -102,6 +107,7 @@ static void *hashes(void *out)
 #error "there is too little room for a text"
 #endif
 
+static unsigned char keyed[PIKHSEN_ENCODED_ROOM(16, 32)];
 static unsigned char file[128 + 5], text[128 + 5], place[128 + 5], encoded[PIKHSEN_ENCODED_ROOM(8, 32)];
 static struct pikhsen_scrypt_costs costs;
 static struct pikhsen_argon2_settings settings;
@@ -137,6 +143,11 @@ static unsigned int one(int call, unsigned char *tag)
 		return pikhsen_argon2_settings(known, KNOWN_LEN, &settings);
 	case 9:
 		return pikhsen_argon2_needs_rehash(known, KNOWN_LEN, &settings, &needs);
+	case 10:
+		return pikhsen_argon2_encoded_keyed(PIKHSEN_ARGON2ID, 0x13, 3, 32, 4, ones, 32, twos, 16, threes, 8, fours, 12,
+		    32, 32, 1000, keyed, sizeof keyed, &len);
+	case 11:
+		return pikhsen_argon2_verify_keyed(keyed, strlen((char *)keyed), ones, 32, threes, 8, fours, 12, 32, 1000);
 	default:
 		return pikhsen_scrypt_decrypt(password, 8, 1, 1 << 20, 1 << 20, file, sizeof file, text, sizeof text, &len);
 	}
@@ -173,7 +184,7 @@ static void *calls_refused(void *given)
 		granted = -1;
 		WANT(call->told == PIKHSEN_OK || call->told == PIKHSEN_OUT_OF_MEMORY);
 		WANT(call->told == PIKHSEN_OK || memcmp(before, call->tag, 32) == 0);
-		WANT(call->told == PIKHSEN_OK || (call->number != 1 && call->number != 6) || len == 0);
+		WANT(call->told == PIKHSEN_OK || (call->number != 1 && call->number != 6 && call->number != 10) || len == 0);
 	}
 #ifdef REFUSE
 	/* the costs of a file take no memory */
@@ -366,6 +377,46 @@ static void settings_of_texts(void)
 	}
 }
 
+/* With a secret and data: the text of the standard's tag, and no other two are right. */
+static void with_a_secret(void)
+{
+	const size_t keyed_len = strlen((char *)keyed);
+	unsigned char other[PIKHSEN_ENCODED_ROOM(16, 32)];
+
+	WANT(strcmp((char *)keyed, (const char *)known_keyed) == 0);
+	WANT(pikhsen_argon2_verify_keyed(keyed, keyed_len, ones, 32, fours, 12, threes, 8, 32, 1000) == PIKHSEN_MISMATCH);
+	WANT(pikhsen_argon2_verify_keyed(keyed, keyed_len, ones, 32, threes, 7, fours, 12, 32, 1000) == PIKHSEN_MISMATCH);
+	WANT(pikhsen_argon2_verify_keyed(keyed, keyed_len, ones, 32, threes, 8, NULL, 0, 32, 1000) == PIKHSEN_MISMATCH);
+	WANT(pikhsen_argon2_verify_keyed(keyed, keyed_len, ones, 31, threes, 8, fours, 12, 32, 1000) == PIKHSEN_MISMATCH);
+	WANT(pikhsen_argon2_verify(keyed, keyed_len, ones, 32, 32, 1000) == PIKHSEN_MISMATCH);
+	/* with neither, what the two functions without them give */
+	WANT(pikhsen_argon2_verify_keyed(known, KNOWN_LEN, password, 8, NULL, 0, NULL, 0, 8, 6) == PIKHSEN_OK);
+	WANT(pikhsen_argon2_encoded_keyed(PIKHSEN_ARGON2D, 0x13, 1, 8, 1, password, 8, somesalt, 8, NULL, 0, NULL, 0, 32, 8,
+	    6, other, sizeof other, &len) == PIKHSEN_OK);
+	WANT(len == KNOWN_LEN && strcmp((char *)other, (const char *)known) == 0);
+	/* 32 KiB and 104 block functions are needed; the lengths of secret and data are tested before, and no byte of these
+	 * is read */
+	WANT(pikhsen_argon2_encoded_keyed(PIKHSEN_ARGON2ID, 0x13, 3, 32, 4, ones, 32, twos, 16, threes, 1ul << 32, fours, 12,
+	    32, 31, 103, other, sizeof other, &len) == PIKHSEN_INPUT_LENGTH && len == 0);
+	WANT(pikhsen_argon2_encoded_keyed(PIKHSEN_ARGON2ID, 0x13, 3, 32, 4, ones, 32, twos, 16, threes, 8, fours, 1ul << 32,
+	    32, 31, 103, other, sizeof other, &len) == PIKHSEN_INPUT_LENGTH && len == 0);
+	WANT(pikhsen_argon2_verify_keyed(keyed, keyed_len, ones, 32, threes, 1ul << 32, fours, 12, 31, 103)
+	    == PIKHSEN_INPUT_LENGTH);
+	WANT(pikhsen_argon2_verify_keyed(keyed, keyed_len, ones, 32, threes, 8, fours, 1ul << 32, 31, 103)
+	    == PIKHSEN_INPUT_LENGTH);
+	WANT(pikhsen_argon2_encoded_keyed(PIKHSEN_ARGON2ID, 0x13, 3, 32, 4, ones, 32, twos, 16, threes, 8, fours, 12, 32, 31,
+	    103, other, sizeof other, &len) == PIKHSEN_MEMORY_LIMIT);
+	WANT(pikhsen_argon2_encoded_keyed(PIKHSEN_ARGON2ID, 0x13, 3, 32, 4, ones, 32, twos, 16, threes, 8, fours, 12, 32, 32,
+	    103, other, sizeof other, &len) == PIKHSEN_WORK_LIMIT);
+	WANT(pikhsen_argon2_verify_keyed(keyed, keyed_len, ones, 32, threes, 8, fours, 12, 31, 103) == PIKHSEN_MEMORY_LIMIT);
+	WANT(pikhsen_argon2_verify_keyed(keyed, keyed_len, ones, 32, threes, 8, fours, 12, 32, 103) == PIKHSEN_WORK_LIMIT);
+	WANT(pikhsen_argon2_verify_keyed(keyed, keyed_len, ones, 0, threes, 8, fours, 12, 32, 104) == PIKHSEN_PASSWORD_LENGTH);
+	WANT(pikhsen_argon2_verify_keyed(NULL, 0, ones, 32, threes, 8, fours, 12, 32, 104) == PIKHSEN_NOT_ENCODED);
+	WANT(pikhsen_argon2_encoded_keyed(PIKHSEN_ARGON2ID, 0x13, 3, 32, 4, ones, 32, twos, 16, threes, 8, fours, 12, 32, 32,
+	    104, NULL, 0, &len) == PIKHSEN_BUFFER && len == 0);
+	WANT(strcmp((char *)other, (const char *)known) == 0);
+}
+
 /* Every number has a sentence, and one that is not known another one than each. */
 static void messages(void)
 {
@@ -406,7 +457,11 @@ int main(void)
 
 	memset(tag, 1, sizeof tag);
 	memset(text, 1, sizeof text);
-	for (i = 7; i < 10; ++i)
+	memset(ones, 1, sizeof ones);
+	memset(twos, 2, sizeof twos);
+	memset(threes, 3, sizeof threes);
+	memset(fours, 4, sizeof fours);
+	for (i = 7; i < 12; ++i)
 		WANT(on_small_stack(calls_refused, i, tag) == PIKHSEN_OK);
 	for (i = 0; i < 7; ++i)
 		WANT(on_small_stack(calls_refused, i, tag) == PIKHSEN_OK);
@@ -427,6 +482,7 @@ int main(void)
 	WANT(costs.log_n == 4 && costs.r == 3 && costs.p == 2);
 	WANT(pikhsen_scrypt_info(file, 63, &costs) == PIKHSEN_TOO_SHORT);
 	in_place();
+	with_a_secret();
 	settings_of_texts();
 	messages();
 	refused_by_limits();

@@ -15,6 +15,8 @@ import mmap
 import os
 import pathlib
 import pickle
+import re
+import shutil
 import subprocess
 import sys
 import tempfile
@@ -34,14 +36,18 @@ def refusal(call, *arguments, **named):
     return None
 
 
+# RFC 9106, 5.1 to 5.3
+TAGS = {
+    "D": "512b391b6f1162975371d30919734294f868e3be3984f3c1a13a4db9fabe4acb",
+    "I": "c814d9d1dc7f37aa13f0d77f2494bda1c8de6b016dd388d29952a4c4672b6ce8",
+    "ID": "0d640df58d78766c08c037a34a8b53c9d01ef0452d75b65eb52520e96b01e659",
+}
+
+
 def from_python(checks, pikhsen):
     checks.that("version", pikhsen.version(), (TOP / "VERSION").read_text(encoding="utf-8").strip())
-    # RFC 9106, 5.1 to 5.3
-    for kind, tag in (
-        (pikhsen.Kind.D, "512b391b6f1162975371d30919734294f868e3be3984f3c1a13a4db9fabe4acb"),
-        (pikhsen.Kind.I, "c814d9d1dc7f37aa13f0d77f2494bda1c8de6b016dd388d29952a4c4672b6ce8"),
-        (pikhsen.Kind.ID, "0d640df58d78766c08c037a34a8b53c9d01ef0452d75b65eb52520e96b01e659"),
-    ):
+    for name, tag in TAGS.items():
+        kind = pikhsen.Kind[name]
         found = pikhsen.hash(
             b"\1" * 32, b"\2" * 16, passes=3, memory_kib=32, lanes=4, kind=kind, secret=b"\3" * 8,
             associated=b"\4" * 12
@@ -82,6 +88,33 @@ def from_python(checks, pikhsen):
         checks.that(f"encode, {why}", refusal(pikhsen.encode, b"x", **settings), why)
     longest = pikhsen.encode(b"x" * 127, passes=1, memory_kib=8, lanes=1, length=4096, salt=b"s" * 255)
     checks.that("longest text", pikhsen.verify(longest, b"x" * 127), True)
+
+
+def secrets_from_python(checks, pikhsen):
+    """Texts with a secret and associated data, which the text holds neither of: those of the standard's tags."""
+    given = {"secret": b"\3" * 8, "associated": bytearray(b"\4" * 12)}
+    for name, tag in TAGS.items():
+        kind = pikhsen.Kind[name]
+        symbols = [base64.b64encode(it).decode().rstrip("=") for it in (b"\2" * 16, bytes.fromhex(tag))]
+        text = f"$argon2{name.lower()}$v=19$m=32,t=3,p=4${'$'.join(symbols)}"
+        found = pikhsen.encode(b"\1" * 32, salt=b"\2" * 16, passes=3, memory_kib=32, lanes=4, kind=kind, **given)
+        checks.that(f"text of RFC 9106, {name}", found, text)
+        checks.that(f"right secret and data, {name}", pikhsen.verify(text, b"\1" * 32, **given), True)
+        for what, others in (
+            ("neither", {}), ("no secret", {**given, "secret": b""}), ("no data", {**given, "associated": b""}),
+            ("another secret", {**given, "secret": b"\3" * 7 + b"\2"}),
+            ("other data", {**given, "associated": b"\4" * 11}),
+            ("exchanged", {"secret": b"\4" * 12, "associated": b"\3" * 8}),
+        ):
+            checks.that(f"right password, {what}, {name}", pikhsen.verify(text, b"\1" * 32, **others), False)
+        checks.that(f"wrong password, {name}", pikhsen.verify(text, b"\1" * 31, **given), False)
+        for why, limits in (("MEMORY_LIMIT", {"max_kib": 31}), ("WORK_LIMIT", {"max_ops": 87})):
+            checks.that(f"verify, {why}, {name}", refusal(pikhsen.verify, text, b"\1" * 32, **given, **limits), why)
+    for what, value in (("a str", "pepper"), ("a number", 7), ("None", None)):
+        for each in given:
+            named = {each: value}
+            checks.that(f"{each}: {what}, encode", (refusal(pikhsen.encode, b"x", **named) or "")[:9], "TypeError")
+            checks.that(f"{each}: {what}, verify", (refusal(pikhsen.verify, "", b"x", **named) or "")[:9], "TypeError")
 
 
 def keys_from_python(checks, pikhsen):
@@ -169,6 +202,11 @@ def in_place_from_python(checks, pikhsen):
         checks.that(f"in place, {why}", refusal(pikhsen.encrypt_in_place, buffer, b"pw", **{**cheap, **named}), why)
     checks.that("in place, 127 bytes", refusal(pikhsen.encrypt_in_place, bytearray(127), b"pw", **cheap), "BUFFER")
     checks.that("in place, refused", bytes(buffer), before)
+    try:
+        pikhsen.encrypt_in_place(buffer, b"pw", **{**cheap, "log_n": 0})
+    except pikhsen.Refused:
+        buffer.append(0)
+    checks.that("in place, a buffer that grows after a refusal", len(buffer), len(before) + 1)
     read_only = refusal(pikhsen.encrypt_in_place, before, b"pw", **cheap) or ""
     checks.that("in place of what is not written", read_only[:9], "TypeError")
     others = [bytearray(before) for _ in range(2)]
@@ -463,6 +501,8 @@ STUB = """unsigned int pikhsen_version(void) { return VERSION; }
 unsigned int pikhsen_argon2_hash(void) { return 4000000000u; }
 unsigned int pikhsen_argon2_encoded(void) { return 77; }
 unsigned int pikhsen_argon2_verify(void) { return 77; }
+unsigned int pikhsen_argon2_encoded_keyed(void) { return 77; }
+unsigned int pikhsen_argon2_verify_keyed(void) { return 77; }
 unsigned int pikhsen_scrypt(void) { return 77; }
 unsigned int pikhsen_scrypt_info(void) { return 9; }
 unsigned int pikhsen_scrypt_encrypt(void) { return 77; }
@@ -492,6 +532,7 @@ def libraries_of_python(checks, folder, lib):
     for out, number, text in ((other, 10203, STUB + LAST), (newer, 199, STUB + LAST), (lacks, 100, STUB)):
         pathlib.Path(folder, "stub.c").write_text(text, encoding="utf-8")
         subprocess.run(["gcc", "-shared", "-fPIC", f"-DVERSION={number}", f"{folder}/stub.c", "-o", out], check=True)
+    installed_for_levels(checks, folder, lib, newer)
     module = f"import sys; sys.path.insert(0, {str(TOP / 'python')!r}); import pikhsen; print(pikhsen.version())"
     version = (TOP / "VERSION").read_text(encoding="utf-8").strip()
     for name, named, options, expected in (
@@ -520,6 +561,26 @@ def libraries_of_python(checks, folder, lib):
         checks.that(name, ran.stdout, expected)
 
 
+def installed_for_levels(checks, folder, lib, other):
+    """An installed module takes the library of its prefix for x86-64-v3 where the processor has that level, if it is there."""
+    prefix = pathlib.Path(folder, "a prefix")
+    module, higher = prefix / "share/pikhsen/pikhsen/__init__.py", prefix / "lib/glibc-hwcaps/x86-64-v3/libpikhsen.so.0"
+    for parent in (module.parent, higher.parent):
+        parent.mkdir(parents=True)
+    shutil.copy(TOP / "python/pikhsen.py", module)
+    shutil.copy(f"{lib}/libpikhsen.so.0", prefix / "lib/libpikhsen.so.0")
+    flags = re.search(r"(?m)^flags.*", pathlib.Path("/proc/cpuinfo").read_text(encoding="ascii", errors="replace"))
+    has_v3 = {"abm", "avx2", "bmi1", "bmi2", "f16c", "fma", "movbe"} <= {*flags[0].split()}
+    environment = {key: it for key, it in os.environ.items() if key != "PIKHSEN_LIBRARY"}
+    environment.update(PYTHONPATH=str(module.parent.parent), PYTHONDONTWRITEBYTECODE="1")
+    version = (TOP / "VERSION").read_text(encoding="utf-8").strip()
+    for name, expected in (("of the lower level", version), ("of the higher level", "0.1.99" if has_v3 else version)):
+        ran = subprocess.run([sys.executable, "-c", "import pikhsen; print(pikhsen.version())"], env=environment,
+                             stdout=subprocess.PIPE, stderr=subprocess.STDOUT, text=True)
+        checks.that(f"an installed module, over the library {name}", ran.stdout.splitlines()[-1:], [expected])
+        shutil.copy(other, higher)
+
+
 def loaded(lib):
     """The module, over the library in this folder."""
     os.environ["PIKHSEN_LIBRARY"] = f"{lib}/libpikhsen.so.0"
@@ -534,7 +595,7 @@ def calls(checks, folder, lib):
     """All that is tested of the module: over the library in one folder, with files of its own in another."""
     pikhsen = loaded(lib)
     for part in (
-        from_python, keys_from_python, files_from_python, in_place_from_python, settings_from_python, salts_from_python,
+        from_python, secrets_from_python, keys_from_python, files_from_python, in_place_from_python, settings_from_python, salts_from_python,
         buffers_from_python, threads_from_python, arguments_from_python, limits_from_python, defaults_from_python,
         exceptions_from_python,
     ):

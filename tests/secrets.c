@@ -1,7 +1,8 @@
 /*
- * What calls of libpikhsen leave in memory, for tests/c_face.py, in four ways. CALL is hash, encoded, verify, key,
- * sparse (a key over every fourth row of the table), encrypt, decrypt, wrong (decrypt with a wrong passphrase),
- * small-key (over rows of 128 bytes), or large-hash and large-key (over 8 MiB).
+ * What calls of libpikhsen leave in memory, for tests/c_face.py, in four ways. CALL is hash, encoded, verify,
+ * keyed-text and keyed-test (these two with a secret and data), key, sparse (a key over every fourth row of the table),
+ * encrypt, decrypt, wrong (decrypt with a wrong passphrase), small-key (over rows of 128 bytes), or large-hash and
+ * large-key (over 8 MiB).
  *
  * Makes one call, says "0" where it was told PIKHSEN_OK, and waits for the end of standard input, so that its memory
  * can be searched for the key, and for what the key was made of:
@@ -60,6 +61,17 @@ static unsigned int encode(void)
 static unsigned int verify(void)
 {
 	return pikhsen_argon2_verify(encoded, strlen((char *)encoded), passphrase, 2, 64, most);
+}
+
+static unsigned int encode_keyed(void)
+{
+	return pikhsen_argon2_encoded_keyed(PIKHSEN_ARGON2ID, 0x13, 1, 64, 2, passphrase, 2, salt, 32, passphrase, 2, salt, 8,
+	    32, 64, most, encoded, sizeof encoded, &len);
+}
+
+static unsigned int verify_keyed(void)
+{
+	return pikhsen_argon2_verify_keyed(encoded, strlen((char *)encoded), passphrase, 2, passphrase, 2, salt, 8, 64, most);
 }
 
 static unsigned int derive_to(unsigned char *out)
@@ -185,6 +197,8 @@ static const struct {
 	{"hash", hash, NULL},
 	{"encoded", encode, NULL},
 	{"verify", verify, encode},
+	{"keyed-text", encode_keyed, NULL},
+	{"keyed-test", verify_keyed, encode_keyed},
 	{"key", derive, NULL},
 	{"sparse", derive_sparse, NULL},
 	{"encrypt", encrypt, NULL},
@@ -334,7 +348,7 @@ int main(int count, char **words)
 	if (strcmp(words[1], "painted") == 0)
 		return painted(call);
 	if (strcmp(words[1], "freed") == 0) {
-		least = call == encode || call == verify ? 1024 : 1;
+		least = call == encode || call == verify || call == encode_keyed || call == verify_keyed ? 1024 : 1;
 		return look_at_freed(call);
 	}
 	return 2;

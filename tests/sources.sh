@@ -47,7 +47,7 @@ counted='Ticks|Count|Matrix|Workspace|Lanes|Encoded|Enc|Dec|Vec|String|Box|Globa
 refuse "${begins}type [A-Z][A-Za-z]*(<[^=;]*>)?=[^;]*\\b($counted)\\b" \
     "a type's name is another's: calls by it are not counted"
 refuse "\\b($counted)::[a-z_]+[];,)}]" "a function that is counted stands as a value"
-refuse '[=(,](verify|verify_in|read_from|reserve|reserve_from|attempt|are_same)[;,)]' \
+refuse '[=(,](verify|verify_in|verify_keyed|read_from|reserve|reserve_from|attempt|are_same)[;,)]' \
     "a function that is counted stands as a value"
 # expect_below FOLDER TEXT REASON FILE..: below the folder the text stands once in each of these files, twice where it
 # is named twice, and nowhere else.
@@ -67,7 +67,7 @@ expect 'Ticks::new()' "a counter is made by the test of a password, the function
     crates/argon_text/src/verify_password.rt crates/argon2_command/src/run.rt \
     crates/scrypt_command/src/run.rt crates/pikhsen_c/src/argon2.rt crates/pikhsen_c/src/encoded.rt \
     crates/pikhsen_c/src/file.rt crates/pikhsen_c/src/file.rt crates/pikhsen_c/src/in_place.rt \
-    crates/pikhsen_c/src/scrypt.rt
+    crates/pikhsen_c/src/keyed.rt crates/pikhsen_c/src/scrypt.rt
 for text in 'Count::new()' '.plus_one()'; do
     expect "$text" "argon and romix count, each in its own counter" crates/argon/src/ticks.rt crates/romix/src/ticks.rt
 done
@@ -84,7 +84,10 @@ expect_below crates/scrypt_run 'Global' "a run has its memory from its source al
 expect 'run(&mut room' "a run is made once" crates/scrypt_command/src/run.rt
 expect 'attempt(' "a run is made once" crates/argon2_command/src/run.rt crates/scrypt_command/src/run.rt
 expect 'verify_in(' "a password is tested once" crates/argon_text/src/verify_password.rt \
-    crates/pikhsen_c/src/verifying.rt
+    crates/pikhsen_c/src/keyed.rt crates/pikhsen_c/src/verifying.rt
+# where it is declared, and the export that ends so, among them
+expect 'verify_keyed(' "a password is tested once" crates/argon_text/src/verify_password.rt \
+    crates/argon_text/src/verify_password.rt crates/pikhsen_c/src/keyed.rt crates/pikhsen_c/src/source.rt
 expect 'read_from(&mut' "a text is read once" crates/argon_text/src/read.rt
 expect '.decode(' "a salt or a tag is decoded once" crates/argon_text/src/room.rt
 expect 'reserve_from(&mut' "memory is asked for once" crates/argon/src/lanes.rt crates/argon/src/matrix.rt \
@@ -101,7 +104,7 @@ expect '.hash(' "a hash is made by the test of a password, the functions for C a
 # The functions for C: one copy of a list is made, where memory comes from, no list grows, and each is freed.
 for text in '.to_vec(' 'Vec::new(' '.write(' 'Encoded::read(' 'Encoded::read(*self, text)' \
     'Matrix::reserve(*self, params)' 'Workspace::reserve(*self, sparse)' 'text_of_zeros(*self, kind, params, salt)' \
-    'verify(*self' 'verify(*self, encoded, password, max_kib, max_ops)'; do
+    'verify_keyed(*self' 'verify_keyed(*self, encoded, password, secret, associated, max_kib, max_ops)'; do
     expect_below crates/pikhsen_c "$text" "memory is asked for by the sources of memory alone" \
         crates/pikhsen_c/src/source.rt
 done
@@ -112,7 +115,8 @@ if grep -nHE "(\.|::)($grows)\(|\bBox::new\(" crates/pikhsen_c/src/*.rt |
 fi
 expect 'burn(told)' "zeros are put over the stack before an answer" crates/pikhsen_c/src/argon2.rt \
     crates/pikhsen_c/src/encoded.rt crates/pikhsen_c/src/file.rt crates/pikhsen_c/src/file.rt \
-    crates/pikhsen_c/src/in_place.rt crates/pikhsen_c/src/scrypt.rt crates/pikhsen_c/src/verifying.rt
+    crates/pikhsen_c/src/in_place.rt crates/pikhsen_c/src/keyed.rt crates/pikhsen_c/src/keyed.rt \
+    crates/pikhsen_c/src/scrypt.rt crates/pikhsen_c/src/verifying.rt
 ! found=$(sed 's/extern"C"fn/\n/g' "$code"/crates/pikhsen_c/src/*.rt | sed -nE 's/.*let mut source=alloc;(.*)/\1/p' |
     sed 's/burn(told)}.*//' | grep -E '\breturn\b|\?|\bbreak\b') ||
     fail "a function for C answers before zeros are put over the stack: $found"
@@ -180,7 +184,7 @@ compare fb4363fe3d8f4754cafa6a15c5c1d3a150f77cd070cfa0065e07306138c5f572 crates/
 compare 2cec3806482fe9dca3c6d842639b41e6b728b0f898496e1bfd965812b49d2426 crates/pikhsen_c/src/burning.rt
 expect 'source.test(' "a password is tested for C in one place" crates/pikhsen_c/src/verifying.rt
 for text in '==' '!=' '.eq(' '.ne(' '.cmp(' '.starts_with(' '.position(' 'are_same('; do
-    for file in verifying source; do
+    for file in keyed source verifying; do
         expect_below "crates/pikhsen_c/src/$file.rt" "$text" "what tests a password for C compares nothing itself"
     done
 done

@@ -1,12 +1,12 @@
 -- Whether a password gives the tag of a value, and why that isn't told.
-use Rattle.std.specs.Prelude.{◌≡◌, ℕ, not, nat_lt, List, [], length, if◌then◌else◌, Option, Some, None}
+use Rattle.std.specs.Prelude.{◌≡◌, ◌||◌, ℕ, not, nat_lt, List, [], length, if◌then◌else◌, Option, Some, None}
 use Rattle.argon.specs.Argon2.{Parameters, argon2_tag, block_count}
 use Rattle.argon.specs.Counts.{work}
 use Rattle.argon.specs.Kind.{type_number}
 use Rattle.argon.specs.Range.{is_between}
 use Rattle.argon_text.specs.Value.{Value}
 use Rattle.argon_text.specs.declared.fault.VerifyFault.{VerifyFault}
-use Rattle.argon_text.specs.declared.fault.VerifyFault.TheVariants.{PasswordLength, MemoryLimit, WorkLimit, OutOfMemory}
+use Rattle.argon_text.specs.declared.fault.VerifyFault.TheVariants.{PasswordLength, InputLength, MemoryLimit, WorkLimit, OutOfMemory}
 
 -- the parameters that a value and a password give (RFC 9106, 3.1)
 abbrev pub parameters_with : Value → List ℕ → Parameters
@@ -21,26 +21,37 @@ parameters_with v password = record {
   password_len = length password;
 }
 
--- the tag of the password under the value's parameters, with no secret and no associated data
-abbrev pub tag_of_password : Value → List ℕ → List ℕ
-tag_of_password v password = argon2_tag (parameters_with v password) (record {
+-- the tag of the password under the value's parameters, with a secret value and associated data (RFC 9106, 3.1: K and X)
+abbrev pub keyed_tag : Value → List ℕ → List ℕ → List ℕ → List ℕ
+keyed_tag v password secret associated = argon2_tag (parameters_with v password) (record {
   password = password;
   salt = v.salt;
-  secret = [];
-  associated = [];
+  secret = secret;
+  associated = associated;
 })
 
--- the first that holds: the length of the password, the limit on memory, the limit on work
-abbrev pub verify_fault : Value → List ℕ → ℕ → ℕ → Option VerifyFault
-verify_fault v password max_kib max_ops =
+-- the same with no secret and no associated data
+abbrev pub tag_of_password : Value → List ℕ → List ℕ
+tag_of_password v password = keyed_tag v password [] []
+
+-- the first that holds: the length of the password, those of the secret and the associated data, the limit on memory, the
+-- limit on work
+abbrev pub keyed_fault : Value → List ℕ → ℕ → ℕ → ℕ → ℕ → Option VerifyFault
+keyed_fault v password secret_len associated_len max_kib max_ops =
     if not (is_between 1 (length password) 127) then Some PasswordLength
+    else if nat_lt 0xFFFFFFFF secret_len || nat_lt 0xFFFFFFFF associated_len then Some InputLength
     else if nat_lt max_kib (block_count (parameters_with v password)) then Some MemoryLimit
     else if nat_lt max_ops (work (parameters_with v password)) then Some WorkLimit
     else None
 
+-- the same with no secret and no associated data
+abbrev pub verify_fault : Value → List ℕ → ℕ → ℕ → Option VerifyFault
+verify_fault v password = keyed_fault v password 0 0
+
 -- the fault that was told, against the first that holds; memory is refused only where none of those holds
 abbrev pub IsToldFault : Option VerifyFault → VerifyFault → Type 0
 IsToldFault first PasswordLength = first ≡ Some PasswordLength
+IsToldFault first InputLength = first ≡ Some InputLength
 IsToldFault first MemoryLimit = first ≡ Some MemoryLimit
 IsToldFault first WorkLimit = first ≡ Some WorkLimit
 IsToldFault first OutOfMemory = first ≡ None

@@ -15,13 +15,16 @@ pub enum ReadFault {
     OutOfMemory,
 }
 
-/// Why `verify` gives no answer: the first that holds, in this order. The numbers are those of
-/// `argon::ParamFault` and go on from there.
+/// Why `verify` and `verify_keyed` give no answer: the first that holds, in this order. The numbers are
+/// those of the library for C; 12 is of `verify_keyed` alone.
 #[derive(Clone, Copy, Debug, PartialEq, Eq, Error)]
 pub enum VerifyFault {
     /// 6: the length of the password, in bytes, is not 1 to 127.
     #[error("the password is not 1 to 127 bytes long")]
     PasswordLength,
+    /// 12: the secret, or the associated data, is 2^32 bytes or longer.
+    #[error("the secret or the associated data is 2^32 bytes or longer")]
+    InputLength,
     /// 7: the hash takes more blocks of 1 KiB than are allowed.
     #[error("the matrix would have more blocks of 1 KiB than the limit allows")]
     MemoryLimit,

@@ -41,4 +41,4 @@ pub use encoded::{Encoded, put_tag};
 pub use fault::{ReadFault, VerifyFault};
 pub use range::{RangeFault, range_fault};
 pub use settings::Settings;
-pub use verify_password::verify;
+pub use verify_password::{verify, verify_keyed};

@@ -1,14 +1,14 @@
 //! The definitions, run on what the reference program and RFC 4648 give.
-ghost use Rattle.std.specs.Prelude.{◌≡◌, [], None, Some, codes, true, false, replicate};
+ghost use Rattle.std.specs.Prelude.{◌≡◌, ◌-◌, ◌^◌, ℕ, List, [], None, Some, codes, true, false, replicate};
 ghost use Rattle.argon.specs.Argon2.{argon2_tag};
 ghost use Rattle.argon_text.specs.Base64.{base64_bytes, is_base64};
 ghost use Rattle.argon_text.specs.EncodedText.{encoded_text, short_text};
 ghost use Rattle.argon_text.specs.Grammar.{HasFields, value_of_fields};
 ghost use Rattle.argon_text.specs.Settings.{first_out, range_fault, settings_of};
-ghost use Rattle.argon_text.specs.Verifying.{tag_of_password, verify_fault};
+ghost use Rattle.argon_text.specs.Verifying.{keyed_fault, keyed_tag, tag_of_password, verify_fault};
 ghost use Rattle.argon_text.specs.Vectors.{known_fields, known_text, known_value, old_short_fields, old_short_text, old_text, old_value};
 ghost use Rattle.argon.specs.declared.kind.Kind.TheVariants.{D};
-ghost use Rattle.argon_text.specs.declared.fault.VerifyFault.TheVariants.{MemoryLimit, PasswordLength, WorkLimit};
+ghost use Rattle.argon_text.specs.declared.fault.VerifyFault.TheVariants.{InputLength, MemoryLimit, PasswordLength, WorkLimit};
 ghost use Rattle.argon_text.specs.declared.range.RangeFault.TheVariants.{Lanes, Memory, Passes, SaltLength, TagLength, Version};
 
 fn text_of_known_value()
@@ -52,6 +52,16 @@ fn faults_of_tests()
     ensures work { verify_fault known_value (codes "p") 8 5 ≡ Some WorkLimit }
 {}
 
+// The same with a secret and data of these lengths, tested after the password's. RFC 9106, 3.1, ends both at 2^32-1 bytes.
+fn faults_of_tests_with_a_secret()
+    ensures empty { keyed_fault known_value [] (2 ^ 32) (2 ^ 32) 7 5 ≡ Some PasswordLength }
+    ensures secret { keyed_fault known_value (codes "p") (2 ^ 32) 0 7 5 ≡ Some InputLength }
+    ensures associated { keyed_fault known_value (codes "p") 0 (2 ^ 32) 7 5 ≡ Some InputLength }
+    ensures longest { keyed_fault known_value (codes "p") (2 ^ 32 - 1) (2 ^ 32 - 1) 8 6 ≡ None }
+    ensures memory { keyed_fault known_value (codes "p") (2 ^ 32 - 1) (2 ^ 32 - 1) 7 5 ≡ Some MemoryLimit }
+    ensures work { keyed_fault known_value (codes "p") (2 ^ 32 - 1) (2 ^ 32 - 1) 8 5 ≡ Some WorkLimit }
+{}
+
 // The tag of the known value is that of its own password, as the reference program gives it (argon's vectors compute it).
 fn tag_of_the_known_password()
     ensures tag { argon2_tag
@@ -71,6 +81,27 @@ fn tag_of_the_known_password()
           secret = [];
           associated = [];
         }) ≡ known_value.tag → tag_of_password known_value (codes "password") ≡ known_value.tag }
+{}
+
+// Secret and associated data each go to their own place (RFC 9106, 3.1: K and X).
+fn tag_with_a_secret()
+    ensures tag { (tag : List ℕ) → argon2_tag
+        (record {
+          kind = 0;
+          version = 0x13;
+          passes = 1;
+          lanes = 1;
+          memory_kib = 8;
+          tag_len = 32;
+          salt_len = 8;
+          password_len = 8;
+        })
+        (record {
+          password = codes "password";
+          salt = codes "somesalt";
+          secret = codes "k";
+          associated = codes "x";
+        }) ≡ tag → keyed_tag known_value (codes "password") (codes "k") (codes "x") ≡ tag }
 {}
 
 // What is out of range, the first of several (RFC 9106, 3.1: each of these numbers is the first beyond an end of its range).

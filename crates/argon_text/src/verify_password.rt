@@ -1,9 +1,9 @@
 //! Whether a password gives the tag of a value.
-ghost use Rattle.std.specs.Prelude.{◌≡◌, ◌≢◌, ◌+◌, ◌↔◌, None, Ok, true, false, length, IfOk, IfErr, OnOk, IsTrue};
+ghost use Rattle.std.specs.Prelude.{◌≡◌, ◌≢◌, ◌+◌, ◌<◌, ◌^◌, ◌↔◌, None, Ok, true, false, length, IfOk, IfErr, OnOk, IsTrue};
 ghost use Rattle.argon.specs.Counts.{work};
 ghost use Rattle.argon.specs.Range.{admission, is_between};
 ghost use Rattle.argon_text.specs.Inside.Claim.{value_claimed};
-ghost use Rattle.argon_text.specs.Verifying.{IsToldFault, parameters_with, tag_of_password, verify_fault};
+ghost use Rattle.argon_text.specs.Verifying.{IsToldFault, keyed_fault, keyed_tag, parameters_with, tag_of_password, verify_fault};
 ghost use Rattle.argon_text.specs.View.{value_of};
 
 use crate::claim::Claim;
@@ -36,11 +36,37 @@ pub fn verify(
     // What is told is the first that holds, and memory was asked for where none does.
     ensures fault { IfErr result (IsToldFault (verify_fault (value_of encoded.now) password.now max_kib max_ops)) }
 {
+    verify_keyed(alloc, encoded, password, &[], &[], max_kib, max_ops)
+}
+
+/// Whether the password gives the tag of the value with this secret value and this associated data, as they
+/// were given when it was hashed (RFC 9106, 3.1: K and X); a text holds neither. All else is as for `verify`,
+/// and one fault more: 12 where the secret or the data is 2^32 bytes or longer, after 6 and before 7.
+pub fn verify_keyed(
+    alloc: Global,
+    encoded: &Encoded,
+    password: &[u8],
+    secret: &[u8],
+    associated: &[u8],
+    max_kib: u32,
+    max_ops: u64,
+) -> Result<bool, VerifyFault>
+    ensures answer { IfOk result (λ same. IsTrue same
+        ↔ keyed_tag (value_of encoded.now) password.now secret.now associated.now ≡ encoded.now.tag.items) }
+    // There is an answer only where the lengths and both limits are kept.
+    ensures admitted { IfOk result (λ _.
+        keyed_fault (value_of encoded.now) password.now (length secret.now) (length associated.now) max_kib max_ops ≡ None) }
+    // What is told is the first that holds, and memory was asked for where none does.
+    ensures fault { IfErr result (IsToldFault
+        (keyed_fault (value_of encoded.now) password.now (length secret.now) (length associated.now) max_kib max_ops)) }
+{
     let mut room = alloc;
     verify_in(
         &mut room,
         &Claim::of(encoded),
         password,
+        secret,
+        associated,
         max_kib,
         max_ops,
         &mut Ticks::new(),
@@ -52,14 +78,18 @@ pub(crate) fn verify_in<R: Room>(
     room: &mut R,
     claim: &Claim<'_>,
     password: &[u8],
+    secret: &[u8],
+    associated: &[u8],
     max_kib: u32,
     max_ops: u64,
     ticks: &mut Ticks,
 ) -> Result<bool, VerifyFault>
     ensures answer { IfOk result (λ same. IsTrue same
-        ↔ tag_of_password (value_claimed claim.now) password.now ≡ claim.now.tag.now) }
-    ensures admitted { IfOk result (λ _. verify_fault (value_claimed claim.now) password.now max_kib max_ops ≡ None) }
-    ensures fault { IfErr result (IsToldFault (verify_fault (value_claimed claim.now) password.now max_kib max_ops)) }
+        ↔ keyed_tag (value_claimed claim.now) password.now secret.now associated.now ≡ claim.now.tag.now) }
+    ensures admitted { IfOk result (λ _.
+        keyed_fault (value_claimed claim.now) password.now (length secret.now) (length associated.now) max_kib max_ops ≡ None) }
+    ensures fault { IfErr result (IsToldFault
+        (keyed_fault (value_claimed claim.now) password.now (length secret.now) (length associated.now) max_kib max_ops)) }
     // Nothing is asked of the source of memory before every other refusal is ruled out.
     ensures unasked { IfErr result (λ fault. fault ≢ VerifyFault.OutOfMemory → room.new ≡ room.old) }
     // And then the matrix alone.
@@ -72,6 +102,9 @@ pub(crate) fn verify_in<R: Room>(
     ensures count { IfOk result (λ _. ticks.new ≡ ticks.old + work (parameters_with (value_claimed claim.now) password.now)) }
 {
     let params = params_of(claim, password)?;
+    if secret.len() > 0xFFFF_FFFF || associated.len() > 0xFFFF_FFFF {
+        return Err(VerifyFault::InputLength);
+    }
     match params.admitted(max_kib, max_ops) {
         Ok(()) => {}
         Err(ParamFault::MemoryLimit) => return Err(VerifyFault::MemoryLimit),
@@ -80,7 +113,13 @@ pub(crate) fn verify_in<R: Room>(
     // the longest tag
     let mut room_for_tag = [0; 4096];
     let tag = &mut room_for_tag[..claim.tag.len()];
-    match write_tag(room, &params, claim, password, max_kib, max_ops, tag, ticks) {
+    let inputs = Inputs {
+        password,
+        salt: claim.salt,
+        secret,
+        associated,
+    };
+    match write_tag(room, &params, claim, &inputs, max_kib, max_ops, tag, ticks) {
         Ok(()) => Ok(are_same(tag, claim.tag)),
         Err(_) => Err(VerifyFault::OutOfMemory),
     }
@@ -108,32 +147,30 @@ fn params_of(claim: &Claim<'_>, password: &[u8]) -> Result<Params, VerifyFault>
     }
 }
 
-// Writes the tag of the password, under parameters that the limits admit.
+// Writes the tag of these inputs, under parameters that the limits admit.
 fn write_tag<R: Room>(
     room: &mut R,
     params: &Params,
     claim: &Claim<'_>,
-    password: &[u8],
+    inputs: &Inputs<'_>,
     max_kib: u32,
     max_ops: u64,
     out: &mut [u8],
     ticks: &mut Ticks,
 ) -> Result<(), AllocError>
     requires admitted { admission params.now max_kib max_ops ≡ Ok tt }
-    requires parameters { params.now ≡ parameters_with (value_claimed claim.now) password.now }
+    requires parameters { params.now ≡ parameters_with (value_claimed claim.now) inputs.now.password.now }
+    requires salt { inputs.now.salt.now ≡ claim.now.salt.now }
+    requires secret { length inputs.now.secret.now < 2 ^ 32 }
+    requires associated { length inputs.now.associated.now < 2 ^ 32 }
     requires size { length out.old ≡ length claim.now.tag.now }
-    ensures tag { OnOk result (out.new ≡ tag_of_password (value_claimed claim.now) password.now) }
+    ensures tag { OnOk result (out.new ≡ keyed_tag (value_claimed claim.now) inputs.now.password.now
+        inputs.now.secret.now inputs.now.associated.now) }
     ensures asked { room.new ≡ R.after_matrix room.old params.now }
     ensures no_work { IfErr result (λ _. ticks.new ≡ ticks.old) }
     ensures count { IfOk result (λ _. ticks.new ≡ ticks.old + work params.now) }
 {
     let mut matrix = room.matrix(params, max_kib, max_ops)?;
-    let inputs = Inputs {
-        password,
-        salt: claim.salt,
-        secret: &[],
-        associated: &[],
-    };
-    matrix.hash(&inputs, out, ticks);
+    matrix.hash(inputs, out, ticks);
     Ok(())
 }

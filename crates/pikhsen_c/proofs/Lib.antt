@@ -1,3 +1,4 @@
 pub mod FirstTold
 pub mod FrontStatus
 pub mod MovedText
+pub mod NoSecret

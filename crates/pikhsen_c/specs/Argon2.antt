@@ -9,9 +9,9 @@ use Rattle.argon.specs.declared.kind.Kind.TheVariants.{D, I, Id}
 use Rattle.argon_text.specs.EncodedText.{IsTextOf, encoded_text}
 use Rattle.argon_text.specs.Grammar.{HasNumbers}
 use Rattle.argon_text.specs.Value.{IsValue, Value}
-use Rattle.argon_text.specs.Verifying.{tag_of_password, verify_fault}
+use Rattle.argon_text.specs.Verifying.{keyed_fault, keyed_tag}
 use Rattle.argon_text.specs.declared.fault.VerifyFault.{VerifyFault}
-use Rattle.argon_text.specs.declared.fault.VerifyFault.TheVariants.{PasswordLength, MemoryLimit, WorkLimit}
+use Rattle.argon_text.specs.declared.fault.VerifyFault.TheVariants.{PasswordLength, InputLength, MemoryLimit, WorkLimit}
 use Rattle.pikhsen_c.specs.Status.{first_told, long_input, no_kind, no_version, params_number, wrong_buffer}
 
 -- the parameters of these numbers (RFC 9106, 3.1)
@@ -83,10 +83,14 @@ value_given parameters salt tag = record {
   tag = tag;
 }
 
--- the text of the password's hash, with no secret and no associated data
+-- the text of the password's hash, with a secret value and associated data (3.1: K and X)
+abbrev pub encoded_keyed_hash : Parameters → List ℕ → List ℕ → List ℕ → List ℕ → List ℕ
+encoded_keyed_hash parameters password salt secret associated =
+    encoded_text (value_given parameters salt (argon2_tag parameters (inputs_given password salt secret associated)))
+
+-- the same with no secret and no associated data
 abbrev pub encoded_hash : Parameters → List ℕ → List ℕ → List ℕ
-encoded_hash parameters password salt =
-    encoded_text (value_given parameters salt (argon2_tag parameters (inputs_given password salt [] [])))
+encoded_hash parameters password salt = encoded_keyed_hash parameters password salt [] []
 
 -- the text that has zeros for a tag, which is as long
 abbrev pub text_of_zeros : Parameters → List ℕ → List ℕ
@@ -106,38 +110,66 @@ abbrev pub encoded_status : Parameters → List ℕ → ℕ → ℕ → ℕ → 
 encoded_status parameters salt max_kib max_ops out_len =
     first_told (settings_status parameters max_kib max_ops) (room_status (length (text_of_zeros parameters salt)) out_len)
 
+-- the same with a secret and associated data of these lengths
+abbrev pub encoded_keyed_status : Parameters → List ℕ → ℕ → ℕ → ℕ → ℕ → ℕ → ℕ
+encoded_keyed_status parameters salt secret_len associated_len max_kib max_ops out_len =
+    first_told (hash_status parameters secret_len associated_len max_kib max_ops)
+    (room_status (length (text_of_zeros parameters salt)) out_len)
+
 -- ---- the test of a password
 
 -- the number, where it tells a fault before memory is asked for, tells the first that holds
 pub record IsTold (status : ℕ) (first : Option VerifyFault) : Type 0 where
   pub password_len : status ≡ 6 → first ≡ Some PasswordLength
+  pub input_len : status ≡ 12 → first ≡ Some InputLength
   pub memory_limit : status ≡ 7 → first ≡ Some MemoryLimit
   pub work_limit : status ≡ 8 → first ≡ Some WorkLimit
   pub memory : status ≡ 9 → first ≡ None
 
--- the text is that of a value within the limits, and the password gives the value's tag
-pub record HasPassword (text password : List ℕ) (max_kib max_ops : ℕ) : Type 0 where
+-- the text is that of a value within the limits, and the password gives the value's tag, with a secret value and associated data
+-- (3.1: K and X)
+pub record HasKeyedPassword (text password secret associated : List ℕ) (max_kib max_ops : ℕ) : Type 0 where
   pub value : Value
   pub valid : IsValue value
   pub written : IsTextOf value text
-  pub admitted : verify_fault value password max_kib max_ops ≡ None
-  pub same : tag_of_password value password ≡ value.tag
+  pub admitted : keyed_fault value password (length secret) (length associated) max_kib max_ops ≡ None
+  pub same : keyed_tag value password secret associated ≡ value.tag
 
--- the text is that of a value within the limits, and the password gives a tag that is not the value's
-pub record HasOtherPassword (text password : List ℕ) (max_kib max_ops : ℕ) : Type 0 where
-  pub value : Value
-  pub valid : IsValue value
-  pub written : IsTextOf value text
-  pub admitted : verify_fault value password max_kib max_ops ≡ None
-  pub other : tag_of_password value password ≡ value.tag → ⊥
+-- the same with no secret and no associated data
+abbrev pub HasPassword : List ℕ → List ℕ → ℕ → ℕ → Type 0
+HasPassword text password = HasKeyedPassword text password [] []
 
--- the text is that of a value for which this is the first fault of the password's length and the limits, or none
-pub record IsJudged (first : Option VerifyFault) (text password : List ℕ) (max_kib max_ops : ℕ) : Type 0 where
+-- the text is that of a value within the limits, and the password gives a tag that is not the value's, with a secret value and
+-- associated data
+pub record HasOtherKeyedPassword (text password secret associated : List ℕ) (max_kib max_ops : ℕ) : Type 0 where
   pub value : Value
   pub valid : IsValue value
   pub written : IsTextOf value text
-  pub refused : verify_fault value password max_kib max_ops ≡ first
+  pub admitted : keyed_fault value password (length secret) (length associated) max_kib max_ops ≡ None
+  pub other : keyed_tag value password secret associated ≡ value.tag → ⊥
+
+-- the same with no secret and no associated data
+abbrev pub HasOtherPassword : List ℕ → List ℕ → ℕ → ℕ → Type 0
+HasOtherPassword text password = HasOtherKeyedPassword text password [] []
+
+-- the text is that of a value for which this is the first fault of the lengths and the limits, or none; the secret and the
+-- associated data have these lengths
+pub record IsKeyedJudged (first : Option VerifyFault) (text password : List ℕ) (secret_len associated_len max_kib max_ops : ℕ)
+    : Type 0 where
+  pub value : Value
+  pub valid : IsValue value
+  pub written : IsTextOf value text
+  pub refused : keyed_fault value password secret_len associated_len max_kib max_ops ≡ first
+
+-- the same with no secret and no associated data
+abbrev pub IsJudged : Option VerifyFault → List ℕ → List ℕ → ℕ → ℕ → Type 0
+IsJudged first text password = IsKeyedJudged first text password 0 0
 
 -- memory is asked for where the numbers of the text are read, and for the hash where nothing else refuses it
+abbrev pub MayLackKeyedMemory : List ℕ → List ℕ → ℕ → ℕ → ℕ → ℕ → Type 0
+MayLackKeyedMemory text password secret_len associated_len max_kib max_ops =
+    HasNumbers text ⊎ IsKeyedJudged None text password secret_len associated_len max_kib max_ops
+
+-- the same with no secret and no associated data
 abbrev pub MayLackMemory : List ℕ → List ℕ → ℕ → ℕ → Type 0
-MayLackMemory text password max_kib max_ops = HasNumbers text ⊎ IsJudged None text password max_kib max_ops
+MayLackMemory text password = MayLackKeyedMemory text password 0 0

@@ -1,10 +1,10 @@
 //! Encoded texts of hashes by Argon2.
-ghost use Rattle.std.specs.Prelude.{◌≡◌, ◌≢◌, ◌+◌, ◌++◌, ◌<◌, ◌≤◌, ◌∷◌, ◌⊎◌, [], true, false, length, replicate, take, drop, IfOk, IfErr, Ok};
+ghost use Rattle.std.specs.Prelude.{◌≡◌, ◌≢◌, ◌+◌, ◌^◌, ◌++◌, ◌<◌, ◌≤◌, ◌∷◌, ◌⊎◌, [], true, false, length, replicate, take, drop, IfOk, IfErr, Ok};
 ghost use Rattle.argon.specs.Argon2.{argon2_tag};
 ghost use Rattle.argon.specs.Counts.{work};
 ghost use Rattle.argon.specs.Range.{IsInRange, admission};
 ghost use Rattle.argon_text.specs.EncodedText.{encoded_text};
-ghost use Rattle.pikhsen_c.specs.Argon2.{encoded_hash, encoded_status, inputs_given, kind_numbered, parameters_given, settings_status, text_of_zeros, value_given};
+ghost use Rattle.pikhsen_c.specs.Argon2.{encoded_hash, encoded_keyed_hash, encoded_keyed_status, encoded_status, hash_status, inputs_given, kind_numbered, parameters_given, settings_status, text_of_zeros, value_given};
 ghost use Rattle.pikhsen_c.specs.Inside.Settings.{parameters_of};
 ghost use Rattle.pikhsen_c.specs.Status.{out_of_memory, wrong_buffer};
 
@@ -22,6 +22,8 @@ fn hash_into(
     matrix: &mut Matrix,
     password: &[u8],
     salt: &[u8],
+    secret: &[u8],
+    associated: &[u8],
     tag_len: usize,
     ticks: &mut Ticks,
 )
@@ -29,8 +31,11 @@ fn hash_into(
     requires short { tag_len ≤ 4096 }
     requires password { length password.now ≡ matrix.old.parameters.password_len }
     requires salt { length salt.now ≡ matrix.old.parameters.salt_len }
+    requires secret { length secret.now < 2 ^ 32 }
+    requires associated { length associated.now < 2 ^ 32 }
     requires zeros { text.old ≡ text_of_zeros matrix.old.parameters salt.now }
-    ensures text { text.new ≡ encoded_hash matrix.old.parameters password.now salt.now }
+    ensures text { text.new
+        ≡ encoded_keyed_hash matrix.old.parameters password.now salt.now secret.now associated.now }
     ensures count { ticks.new ≡ ticks.old + work matrix.old.parameters }
 {
     let mut longest = [0u8; 4096];
@@ -38,8 +43,8 @@ fn hash_into(
     let inputs = Inputs {
         password,
         salt,
-        secret: &[],
-        associated: &[],
+        secret,
+        associated,
     };
     matrix.hash(&inputs, tag, ticks);
     put_tag(text, tag);
@@ -56,33 +61,36 @@ pub(crate) fn copy_text(text: &[u8], out: &mut [u8])
     out[text.len()] = 0;
 }
 
-// The encoded text of a password's hash, with memory from `source`: for the text, and then for the matrix.
+/// The encoded text of a password's hash, with memory from `source`: for the text, and then for the matrix.
 #[inline(never)]
-fn encode_in<S: Source>(
+pub(crate) fn encode_in<S: Source>(
     source: &mut S,
     settings: &Settings,
     password: &[u8],
     salt: &[u8],
+    secret: &[u8],
+    associated: &[u8],
     tag_len: usize,
     out: &mut [u8],
     text_len: &mut usize,
     ticks: &mut Ticks,
 ) -> u32
     ensures text { result ≡ 0 → take text_len.new out.new
-        ≡ encoded_hash (parameters_of settings.now tag_len (length salt.now) (length password.now)) password.now salt.now }
+        ≡ encoded_keyed_hash (parameters_of settings.now tag_len (length salt.now) (length password.now))
+        password.now salt.now secret.now associated.now }
     ensures end { result ≡ 0 → take (text_len.new + 1) out.new
-        ≡ encoded_hash (parameters_of settings.now tag_len (length salt.now) (length password.now)) password.now salt.now
-        ++ 0 ∷ [] }
+        ≡ encoded_keyed_hash (parameters_of settings.now tag_len (length salt.now) (length password.now))
+        password.now salt.now secret.now associated.now ++ 0 ∷ [] }
     ensures rest { result ≡ 0 → drop (text_len.new + 1) out.new ≡ drop (text_len.new + 1) out.old }
     ensures status { result ≢ out_of_memory → result
-        ≡ encoded_status (parameters_of settings.now tag_len (length salt.now) (length password.now)) salt.now
-        settings.now.max_kib settings.now.max_ops (length out.old) }
+        ≡ encoded_keyed_status (parameters_of settings.now tag_len (length salt.now) (length password.now)) salt.now
+        (length secret.now) (length associated.now) settings.now.max_kib settings.now.max_ops (length out.old) }
     ensures memory { result ≡ out_of_memory
-        → settings_status (parameters_of settings.now tag_len (length salt.now) (length password.now))
-        settings.now.max_kib settings.now.max_ops ≡ 0 }
+        → hash_status (parameters_of settings.now tag_len (length salt.now) (length password.now))
+        (length secret.now) (length associated.now) settings.now.max_kib settings.now.max_ops ≡ 0 }
     ensures untouched { result ≢ 0 → out.new ≡ out.old }
     ensures nothing { result ≢ 0 → text_len.new ≡ 0 }
-    // Nothing is asked of the source before settings and limits are tested.
+    // Nothing is asked of the source before settings, lengths and limits are tested.
     ensures unasked { result ≢ 0 → result ≢ out_of_memory → result ≢ wrong_buffer → source.new ≡ source.old }
     // That the buffer is too small is told after the text alone was asked for, and granted.
     ensures small { result ≡ wrong_buffer → source.new ≡ S.after_text source.old
@@ -98,9 +106,9 @@ fn encode_in<S: Source>(
         ⊎ ((source.new ≡ S.after_matrix (S.after_text source.old
         (parameters_of settings.now tag_len (length salt.now) (length password.now)) salt.now true)
         (parameters_of settings.now tag_len (length salt.now) (length password.now))
-        settings.now.max_kib settings.now.max_ops false) × (encoded_status
+        settings.now.max_kib settings.now.max_ops false) × (encoded_keyed_status
         (parameters_of settings.now tag_len (length salt.now) (length password.now)) salt.now
-        settings.now.max_kib settings.now.max_ops (length out.old) ≡ 0)) }
+        (length secret.now) (length associated.now) settings.now.max_kib settings.now.max_ops (length out.old) ≡ 0)) }
     ensures no_work { result ≢ 0 → ticks.new ≡ ticks.old }
     ensures count { result ≡ 0 → ticks.new
         ≡ ticks.old + work (parameters_of settings.now tag_len (length salt.now) (length password.now)) }
@@ -113,6 +121,9 @@ fn encode_in<S: Source>(
     let Some(kind) = kind_of(settings.kind) else {
         return status::KIND;
     };
+    if secret.len() > 0xFFFF_FFFF || associated.len() > 0xFFFF_FFFF {
+        return status::INPUT_LENGTH;
+    }
     if let Err(status) = admitted(&params, settings) {
         return status;
     }
@@ -125,7 +136,16 @@ fn encode_in<S: Source>(
     let Ok(mut matrix) = source.matrix(&params, settings.max_kib, settings.max_ops) else {
         return status::OUT_OF_MEMORY;
     };
-    hash_into(&mut text, &mut matrix, password, salt, tag_len, ticks);
+    hash_into(
+        &mut text,
+        &mut matrix,
+        password,
+        salt,
+        secret,
+        associated,
+        tag_len,
+        ticks,
+    );
     copy_text(&text, out);
     *text_len = text.len();
     status::OK
@@ -178,6 +198,8 @@ pub extern "C" fn pikhsen_argon2_encoded(
         &settings,
         password,
         salt,
+        &[],
+        &[],
         tag_len,
         out,
         text_len,

@@ -10,6 +10,7 @@ mod burning;
 mod encoded;
 mod file;
 mod in_place;
+mod keyed;
 mod message;
 mod scrypt;
 mod settings;
@@ -26,6 +27,7 @@ pub use file::{
     PikhsenScryptCosts, pikhsen_scrypt_decrypt, pikhsen_scrypt_encrypt, pikhsen_scrypt_info,
 };
 pub use in_place::pikhsen_scrypt_encrypt_in_place;
+pub use keyed::{pikhsen_argon2_encoded_keyed, pikhsen_argon2_verify_keyed};
 pub use message::pikhsen_message;
 pub use scrypt::pikhsen_scrypt;
 pub use settings::{PikhsenArgon2Settings, pikhsen_argon2_needs_rehash, pikhsen_argon2_settings};

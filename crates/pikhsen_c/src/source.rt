@@ -5,7 +5,7 @@ ghost use Rattle.argon.specs.Range.{IsInRange, admission};
 ghost use Rattle.argon_text.specs.EncodedText.{IsTextOf};
 ghost use Rattle.argon_text.specs.Grammar.{HasNumbers, IsText, IsTextInRange};
 ghost use Rattle.argon_text.specs.Value.{IsValue, Value};
-ghost use Rattle.argon_text.specs.Verifying.{IsToldFault, tag_of_password, verify_fault};
+ghost use Rattle.argon_text.specs.Verifying.{IsToldFault, keyed_fault, keyed_tag};
 ghost use Rattle.argon_text.specs.View.{value_of};
 ghost use Rattle.romix.specs.SparseCosts.{SparseFitsMemory, SparseParameters};
 ghost use Rattle.pikhsen_c.specs.Argon2.{kind_numbered, text_of_zeros};
@@ -13,7 +13,7 @@ ghost use Rattle.pikhsen_c.specs.Inside.Requests.{had_memory_to_read, had_memory
 ghost use Rattle.pikhsen_c.specs.Scrypt.{limits_status};
 
 use argon::{Kind, Matrix, Params};
-use argon_text::{Encoded, ReadFault, VerifyFault, verify};
+use argon_text::{Encoded, ReadFault, VerifyFault, verify_keyed};
 use romix::{Sparse, Workspace};
 use std::alloc::{AllocError, Global};
 
@@ -33,7 +33,7 @@ pub(crate) trait Source {
     ghost after_reading: { Self → List ℕ → Bool → Self };
 
     // The same for the test of a password.
-    ghost after_test: { Self → Value → List ℕ → ℕ → ℕ → Bool → Self };
+    ghost after_test: { Self → Value → List ℕ → List ℕ → List ℕ → ℕ → ℕ → Bool → Self };
 
     /// The matrix of a hash with these parameters, which the limits admit.
     fn matrix(&mut self, params: &Params, max_kib: u32, max_ops: u64) -> Result<Matrix, AllocError>
@@ -72,22 +72,27 @@ pub(crate) trait Source {
         ensures asked { OnOk result (self.new ≡ after_reading self.old text.now true) }
         ensures refused { IfErr result (λ fault. self.new ≡ after_reading self.old text.now (had_memory_to_read fault)) };
 
-    /// What `verify` of `argon_text` answers.
+    /// What `verify_keyed` of `argon_text` answers.
     fn test(
         &mut self,
         encoded: &Encoded,
         password: &[u8],
+        secret: &[u8],
+        associated: &[u8],
         max_kib: u32,
         max_ops: u64,
     ) -> Result<bool, VerifyFault>
         ensures answer { IfOk result (λ same. IsTrue same
-            ↔ tag_of_password (value_of encoded.now) password.now ≡ encoded.now.tag.items) }
-        ensures admitted { IfOk result (λ _. verify_fault (value_of encoded.now) password.now max_kib max_ops ≡ None) }
-        ensures fault { IfErr result (IsToldFault (verify_fault (value_of encoded.now) password.now max_kib max_ops)) }
+            ↔ keyed_tag (value_of encoded.now) password.now secret.now associated.now ≡ encoded.now.tag.items) }
+        ensures admitted { IfOk result (λ _. keyed_fault (value_of encoded.now) password.now
+            (length secret.now) (length associated.now) max_kib max_ops ≡ None) }
+        ensures fault { IfErr result (IsToldFault (keyed_fault (value_of encoded.now) password.now
+            (length secret.now) (length associated.now) max_kib max_ops)) }
         ensures asked { OnOk result (self.new
-            ≡ after_test self.old (value_of encoded.now) password.now max_kib max_ops true) }
+            ≡ after_test self.old (value_of encoded.now) password.now secret.now associated.now max_kib max_ops true) }
         ensures refused { IfErr result (λ fault. self.new
-            ≡ after_test self.old (value_of encoded.now) password.now max_kib max_ops (had_memory_to_test fault)) };
+            ≡ after_test self.old (value_of encoded.now) password.now secret.now associated.now
+            max_kib max_ops (had_memory_to_test fault)) };
 }
 
 impl Source for Global {
@@ -99,7 +104,7 @@ impl Source for Global {
 
     ghost after_reading = { λ source _ _. source };
 
-    ghost after_test = { λ source _ _ _ _ _. source };
+    ghost after_test = { λ source _ _ _ _ _ _ _. source };
 
     fn matrix(
         &mut self,
@@ -131,10 +136,14 @@ impl Source for Global {
         &mut self,
         encoded: &Encoded,
         password: &[u8],
+        secret: &[u8],
+        associated: &[u8],
         max_kib: u32,
         max_ops: u64,
     ) -> Result<bool, VerifyFault> {
-        verify(*self, encoded, password, max_kib, max_ops)
+        verify_keyed(
+            *self, encoded, password, secret, associated, max_kib, max_ops,
+        )
     }
 }
 

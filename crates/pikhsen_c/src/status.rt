@@ -69,15 +69,17 @@ pub(crate) fn of_params(fault: ParamFault) -> u32
     }
 }
 
-/// The number of why a password isn't tested: 6 to 9.
+/// The number of why a password isn't tested: 6 to 9, or 12.
 pub(crate) fn of_verify(fault: VerifyFault) -> u32
     ensures number { result ≡ verify_number fault }
     ensures memory { had_memory_to_test fault ≡ had_memory result }
     ensures at_least_6 { 6 ≤ result }
-    ensures below { result ≤ 9 }
+    ensures gap { 9 < result → 12 ≤ result }
+    ensures below { result ≤ 12 }
 {
     match fault {
         VerifyFault::PasswordLength => 6,
+        VerifyFault::InputLength => INPUT_LENGTH,
         VerifyFault::MemoryLimit => 7,
         VerifyFault::WorkLimit => 8,
         VerifyFault::OutOfMemory => OUT_OF_MEMORY,

@@ -8,7 +8,7 @@ ghost use Rattle.argon_text.specs.Vectors.{known_text, known_value};
 ghost use Rattle.argon_text.specs.declared.range.RangeFault.TheVariants as range;
 ghost use Rattle.encfile.specs.declared.fault.HeaderFault.TheVariants.{Checksum, CostsOutOfRange, Magic, Version};
 ghost use Rattle.romix.specs.declared.fault.CostFault.TheVariants as costs;
-ghost use Rattle.pikhsen_c.specs.Argon2.{encoded_hash, encoded_status, hash_status, inputs_given, kind_numbered, parameters_given, room_status, value_given};
+ghost use Rattle.pikhsen_c.specs.Argon2.{encoded_hash, encoded_keyed_hash, encoded_keyed_status, encoded_status, hash_status, inputs_given, kind_numbered, parameters_given, room_status, value_given};
 ghost use Rattle.pikhsen_c.specs.File.{encrypt_status, front_status, header_status, number_of as number_of_header};
 ghost use Rattle.pikhsen_c.specs.Message.{sentence_of};
 ghost use Rattle.pikhsen_c.specs.Scrypt.{costs_given, limits_given, number_of as number_of_costs, scrypt_status};
@@ -144,11 +144,30 @@ fn refusals_of_a_text()
     ensures room_for_zero { room_status 81 82 ≡ 0 }
 {}
 
+// The same with a secret and associated data: their lengths are tested after the parameters, before the limits.
+fn refusals_of_a_text_with_a_secret()
+    ensures password { encoded_keyed_status (parameters_given 0 0x13 1 1 8 32 8 0) (codes "somesalt") (2 ^ 32) 0 0 0 0 ≡ 6 }
+    ensures secret { encoded_keyed_status (parameters_given 0 0x13 1 1 8 32 8 8) (codes "somesalt") (2 ^ 32) 0 7 5 0 ≡ 12 }
+    ensures associated { encoded_keyed_status (parameters_given 0 0x13 1 1 8 32 8 8) (codes "somesalt") 0 (2 ^ 32) 7 5 0 ≡ 12 }
+    ensures memory_limit { encoded_keyed_status (parameters_given 0 0x13 1 1 8 32 8 8) (codes "somesalt")
+        (2 ^ 32 - 1) (2 ^ 32 - 1) 7 5 0 ≡ 7 }
+    ensures work_limit { encoded_keyed_status (parameters_given 0 0x13 1 1 8 32 8 8) (codes "somesalt")
+        (2 ^ 32 - 1) (2 ^ 32 - 1) 8 5 0 ≡ 8 }
+{}
+
 // The text of the reference program, by the tag that it gives for the same words (argon's vectors compute it).
 fn text_of_the_reference_program()
     ensures text { argon2_tag (parameters_given 0 0x13 1 1 8 32 8 8)
         (inputs_given (codes "password") (codes "somesalt") [] []) ≡ known_value.tag →
         encoded_hash (parameters_given 0 0x13 1 1 8 32 8 8) (codes "password") (codes "somesalt") ≡ known_text }
+{}
+
+// Secret and associated data go to the hash, and not into its text: the same text, where they give the tag.
+fn text_of_a_hash_with_a_secret()
+    ensures text { argon2_tag (parameters_given 0 0x13 1 1 8 32 8 8)
+        (inputs_given (codes "password") (codes "somesalt") (codes "k") (codes "x")) ≡ known_value.tag →
+        encoded_keyed_hash (parameters_given 0 0x13 1 1 8 32 8 8) (codes "password") (codes "somesalt")
+        (codes "k") (codes "x") ≡ known_text }
 {}
 
 // What the text of the reference program says.

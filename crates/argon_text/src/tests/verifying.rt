@@ -3,7 +3,7 @@ use super::reference_texts::{KNOWN, ROWS};
 use super::refusing::Refusing;
 use crate::claim::Claim;
 use crate::verify_password::verify_in;
-use crate::{Encoded, ReadFault, VerifyFault, verify};
+use crate::{Encoded, ReadFault, VerifyFault, verify, verify_keyed};
 use argon::Ticks;
 use std::alloc::Global;
 use std::test::Fail;
@@ -13,6 +13,7 @@ fn number_of(answer: Result<bool, VerifyFault>) -> u8 {
     match answer {
         Ok(same) => same as u8,
         Err(VerifyFault::PasswordLength) => 6,
+        Err(VerifyFault::InputLength) => 12,
         Err(VerifyFault::MemoryLimit) => 7,
         Err(VerifyFault::WorkLimit) => 8,
         Err(VerifyFault::OutOfMemory) => 9,
@@ -70,6 +71,49 @@ fn passwords_of_the_reference_program(rt: HostRuntime) -> Result<(), Fail> {
     Ok(())
 }
 
+// RFC 9106, 5.3, its salt and tag by base64(1): 32 bytes 1, 16 bytes 2, and a secret and data of 8 bytes 3 and 12 bytes 4.
+const KEYED: &[u8] =
+    b"$argon2id$v=19$m=32,t=3,p=4$AgICAgICAgICAgICAgICAg$DWQN9Y14dmwIwDejSotTydAe8EUtdbZetSUg6WsB5lk";
+
+// Secret, data, the limit on memory and answer.
+const SECRETS: [(&[u8], &[u8], u32, u8); 7] = [
+    (&[3; 8], &[4; 12], 32, 1),
+    (&[3; 8], &[], 32, 0),
+    (&[], &[4; 12], 32, 0),
+    (&[4; 12], &[3; 8], 32, 0),
+    (&[3; 9], &[4; 12], 32, 0),
+    (&[], &[], 32, 0),
+    (&[3; 8], &[4; 12], 31, 7),
+];
+
+// The number of the answer to the password of the text, with this secret and these data.
+fn answered_keyed(
+    alloc: Global,
+    secret: &[u8],
+    associated: &[u8],
+    max_kib: u32,
+) -> Result<u8, Fail> {
+    let encoded = Encoded::read(alloc, KEYED)?;
+    Ok(number_of(verify_keyed(
+        alloc,
+        &encoded,
+        &[1; 32],
+        secret,
+        associated,
+        max_kib,
+        1 << 10,
+    )))
+}
+
+#[test]
+fn answers_with_a_secret(rt: HostRuntime) -> Result<(), Fail> {
+    for (secret, associated, max_kib, expected) in SECRETS {
+        let found = answered_keyed(rt.alloc(), secret, associated, max_kib)?;
+        assert_eq!(rt; found, expected, "{} {}", secret.len(), associated.len());
+    }
+    Ok(())
+}
+
 // A tag with one byte changed is another tag, whichever byte it is.
 fn fits_changed(alloc: Global, place: usize) -> Result<bool, Fail> {
     let mut text = KNOWN.to_vec(alloc)?;
@@ -95,6 +139,8 @@ fn answered_with(alloc: Global, left: u32, max_ops: u64) -> Result<u8, Fail> {
         &mut room,
         &Claim::of(&encoded),
         b"password",
+        &[],
+        &[],
         256,
         max_ops,
         &mut Ticks::new(),

@@ -19,6 +19,7 @@ had_memory_to_read read.OutOfMemory = false
 -- as a fault of a test says
 abbrev pub had_memory_to_test : VerifyFault → Bool
 had_memory_to_test verify.PasswordLength = true
+had_memory_to_test verify.InputLength = true
 had_memory_to_test verify.MemoryLimit = true
 had_memory_to_test verify.WorkLimit = true
 had_memory_to_test verify.OutOfMemory = false

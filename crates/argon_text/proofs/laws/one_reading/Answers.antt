@@ -2,4 +2,4 @@ use Rattle.argon_text.proofs.Readings.{one_reading}
 use Rattle.argon_text.proofs.laws.one_reading.Goals as goal
 
 pub returns : goal.returns
-returns c = record { one = one_reading }
+returns c = record { unique = one_reading }

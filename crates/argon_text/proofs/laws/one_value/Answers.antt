@@ -3,8 +3,8 @@ use Rattle.argon_text.proofs.laws.one_value.Goals as goal
 
 pub returns : goal.returns
 returns c = record {
-  told = λ v s is text. text_in_range v is s text;
-  one = one_value;
+  in_range = λ v s is text. text_in_range v is s text;
+  unique = one_value;
   fields = fields_of_encoded;
   says = value_of_its_text;
   said = text_of_its_value;

@@ -5,7 +5,7 @@ use Rattle.pikhsen_c.proofs.FirstTold.{first_is}
 use Rattle.pikhsen_c.proofs.file.opened.Goals as goal
 
 pub returns-in-Err-clause-status : goal.returns-in-Err-clause-status
-returns-in-Err-clause-status g c = λ memory wrong. first_is _ _ _ c.in-Err.ensures.status (omega (arith, c.in-Err.ensures.at_least_1))
+returns-in-Err-clause-status g c = λ memory wrong. first_is _ _ _ c.in-Err.ensures.status (omega (arith, c.in-Err.ensures.at_least_22))
 
 pub open-requires-clause-header : goal.open-requires-clause-header
 open-requires-clause-header g c =
