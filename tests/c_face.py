@@ -3,7 +3,8 @@
 both ways to link, keys that a call leaves in memory, what docs/LIBRARY.md and the manual page show, all of
 tests/python_module.py and, of what is installed and packaged, of tests/packages.py.
 
-    tests/c_face.py              takes crates/pikhsen_c/out/libpikhsen_c.a as tests/wrong_bodies.py or make lib left it
+    tests/c_face.py              takes crates/pikhsen_c/out/libpikhsen_c.a as tests/wrong_bodies.py or make lib left it,
+                                 and the library for x86-64-v3 as make lib left it in bin/lib, if it is of these sources
     tests/c_face.py --prove      proves the crates and builds that static library before
     tests/c_face.py --header FOLDER      calls the library in this folder from C and C++ alone, under no other program
 """
@@ -12,6 +13,7 @@ import hashlib
 import os
 import pathlib
 import re
+import shutil
 import subprocess
 import sys
 import tempfile
@@ -42,11 +44,15 @@ def is_of_sources(archive):
 
 def build(checks, folder):
     """Both libraries, twice, and what they show of themselves."""
-    higher = [it for it in ("x86-64-v3",) if (TOP / "bin/lib/glibc-hwcaps" / it).is_dir()]
-    levels = [*higher, "x86-64-v2"] if "--prove" in sys.argv else []
+    has_higher = (TOP / "bin/lib" / packages.HIGHER).parent.is_dir()
+    levels = [*(["x86-64-v3"] if has_higher else []), "x86-64-v2"] if "--prove" in sys.argv else []
     if not levels and not is_of_sources(TOP / f"crates/{CRATE}/out/lib{CRATE}.a"):
         sys.exit(f"crates/{CRATE}/out has no static library of these sources: --prove makes it")
     subprocess.run([TOP / "packaging/lib.sh", f"{folder}/lib", *levels], check=True)
+    if not levels and is_of_sources(TOP / "bin/lib" / packages.HIGHER):
+        # as make lib left it
+        pathlib.Path(folder, "lib", packages.HIGHER).parent.mkdir(parents=True)
+        shutil.copy2(TOP / "bin/lib" / packages.HIGHER, pathlib.Path(folder, "lib", packages.HIGHER))
     subprocess.run([TOP / "packaging/lib.sh", f"{folder}/again"], check=True)
     for file in ("libpikhsen.a", "libpikhsen.so.0"):
         both = [pathlib.Path(folder, it, file).read_bytes() for it in ("lib", "again")]
@@ -204,8 +210,9 @@ def secrets_from_c(checks, folder, lib, pikhsen):
     # two; and such of 8 MiB
     told_wrong = numbers_of_header()["WRONG_PASSPHRASE"][0]
     for what, told, freed in (
-        ("hash", 0, 65536), ("encoded", 0, 65536), ("verify", 0, 65536), ("key", 0, 67584), ("sparse", 0, 19456),
-        ("encrypt", 0, 67584), ("decrypt", 0, 67584), ("wrong", told_wrong, 67584),
+        ("hash", 0, 65536), ("encoded", 0, 65536), ("verify", 0, 65536), ("keyed-text", 0, 65536),
+        ("keyed-test", 0, 65536), ("key", 0, 67584), ("sparse", 0, 19456), ("encrypt", 0, 67584),
+        ("decrypt", 0, 67584), ("wrong", told_wrong, 67584),
         ("small-key", 0, 768), ("large-hash", 0, 8388608), ("large-key", 0, 8390656),
     ):
         found = said(program, "painted", what, check=False)
