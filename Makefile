@@ -78,9 +78,11 @@ install: | bin/argon2 bin/scrypt ## puts what was built, with pages, completions
 uninstall: ## takes away what make install put below PREFIX
 	@packaging/install.sh uninstall '$(DESTDIR)$(PREFIX)'
 
-deb: bin/x86-64-v2/argon2 bin/x86-64-v2/scrypt bin/lib/libpikhsen.so.0 ## makes packages for Debian in bin/, for x86-64-v2
-	@packaging/deb.sh
-	@echo 'made, for x86-64-v2:' bin/*_$$(cat VERSION)_*.deb >&2
+# The level for which one more package of the programs is made: CPU, where it is given.
+HIGHER := $(if $(filter file,$(origin CPU)),,$(filter-out x86-64-v2,$(CPU)))
+deb: bin/x86-64-v2/argon2 bin/x86-64-v2/scrypt $(HIGHER:%=bin/%/argon2) $(HIGHER:%=bin/%/scrypt) bin/lib/libpikhsen.so.0 ## makes packages for Debian in bin/, for x86-64-v2 (CPU=x86-64-v3: also of the programs for that level)
+	@packaging/deb.sh bin/lib bin $(HIGHER)
+	@echo 'made:' bin/*pikhsen*_$$(cat VERSION)[_+]*.deb >&2
 
 bench: $(LEVELS:%=bin/%/argon2) $(LEVELS:%=bin/%/scrypt) ## times the programs beside those that are installed
 	bench/table.py $(LEVELS:%=bin/%) --out $(BENCH)

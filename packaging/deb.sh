@@ -1,8 +1,9 @@
 #!/bin/sh
 # Makes the packages for Debian, with the programs in bin/x86-64-v2.
 #
-#     packaging/deb.sh                     with the library in bin/lib, in bin/
-#     packaging/deb.sh LIBRARY FOLDER      with the library in LIBRARY, in FOLDER
+#     packaging/deb.sh                             with the library in bin/lib, in bin/
+#     packaging/deb.sh LIBRARY FOLDER              with the library in LIBRARY, in FOLDER
+#     packaging/deb.sh LIBRARY FOLDER x86-64-v3    and one more of the programs in bin/x86-64-v3, of the version ..+v3
 #
 #     pikhsen            the programs, their pages, completions and documents
 #     libpikhsen0        the shared library
@@ -14,14 +15,17 @@
 set -eu
 umask 022
 cd "$(dirname "$0")/.."
-library=${1:-bin/lib} out=${2:-bin} version=$(cat VERSION)
+library=${1:-bin/lib} out=${2:-bin} higher=${3:-} version=$(cat VERSION)
+told=$version
 maintainer='The authors of Pikhsen <pikhsen@localhost>'
 export SOURCE_DATE_EPOCH="${SOURCE_DATE_EPOCH:-$(git log -1 --format=%ct 2>/dev/null || date +%s)}"
 work=$(mktemp -d)
 # A run that does not end well leaves no package, older ones of these names neither.
-trap 'status=$?; rm -rf "$work"; test $status = 0 || rm -f "$out"/*pikhsen*_"$version"_*.deb' EXIT
+trap 'status=$?; rm -rf "$work"; test $status = 0 || rm -f "$out"/*pikhsen*_"$version"[_+]*.deb' EXIT
 trap 'exit 130' INT
 trap 'exit 143' HUP TERM
+# One that this run does not make would be of older sources.
+rm -f "$out/pikhsen_$version"+*.deb
 libraries=lib/x86_64-linux-gnu
 modules=lib/python3/dist-packages
 
@@ -63,18 +67,18 @@ build() {
     documents=$root/usr/share/doc/$1
     install -D -m 644 -t "$documents" CHANGELOG.md
     {
-        printf 'pikhsen (%s) unstable; urgency=medium\n\n' "$version"
+        printf 'pikhsen (%s) unstable; urgency=medium\n\n' "$told"
         printf '  * CHANGELOG.md says what changed.\n\n'
         printf ' -- %s  %s\n' "$maintainer" "$(LC_ALL=C date -Rud "@$SOURCE_DATE_EPOCH")"
     } | gzip -9n >"$documents/changelog.gz"
     {
-        printf 'Package: %s\nSource: pikhsen\nVersion: %s\nArchitecture: %s\n' "$1" "$version" "$2"
+        printf 'Package: %s\nSource: pikhsen\nVersion: %s\nArchitecture: %s\n' "$1" "$told" "$2"
         printf 'Maintainer: %s\nPriority: optional\n' "$maintainer"
         printf 'Installed-Size: %s\n' "$(size "$root/usr")"
         cat
     } >"$root/DEBIAN/control"
     (cd "$root" && find usr -type f | LC_ALL=C sort | xargs md5sum) >"$root/DEBIAN/md5sums"
-    dpkg-deb -Zxz --root-owner-group --build "$root" "$out/$1_${version}_$2.deb"
+    dpkg-deb -Zxz --root-owner-group --build "$root" "$out/$1_${told}_$2.deb"
 }
 
 contents pikhsen bin share/doc share/man/man1 share/bash-completion share/zsh
@@ -98,7 +102,9 @@ END
     (cd "$work/libpikhsen0" && find usr -name libpikhsen.so.0 -printf 'unstripped-binary-or-object [%p]\n' | LC_ALL=C sort)
 } | passed_over libpikhsen0
 
-build pikhsen amd64 <<END
+# programs LEVEL: makes the package of the programs, which are for processors of this level.
+programs() {
+    build pikhsen amd64 <<END
 Section: utils
 Depends: $(libc "$work"/pikhsen/usr/bin/*)
 Conflicts: argon2, scrypt
@@ -110,8 +116,10 @@ Description: scrypt and argon2, proved in Rattle
  .
  The programs have the names of those in Debian's packages scrypt and argon2,
  so that this package conflicts with both. It is built for processors of the
- level x86-64-v2 and above.
+ level $1 and above.
 END
+}
+programs x86-64-v2
 
 echo 'activate-noawait ldconfig' >"$work/libpikhsen0/DEBIAN/triggers"
 echo "libpikhsen 0 libpikhsen0 (>= $version)" >"$work/libpikhsen0/DEBIAN/shlibs"
@@ -159,3 +167,10 @@ Description: Argon2, scrypt and scrypt's encrypted files, from Python
  The module pikhsen, which calls libpikhsen: hashes of passwords, the test of a
  password, keys, and encrypted files in the format of Tarsnap's scrypt.
 END
+
+# That for a higher level is told by its version, which apt takes for a newer one.
+if test -n "$higher"; then
+    told=$version+${higher##*-}
+    install -m 755 -t "$work/pikhsen/usr/bin" "bin/$higher/argon2" "bin/$higher/scrypt"
+    programs "$higher"
+fi

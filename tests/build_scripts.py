@@ -241,6 +241,7 @@ def packages_fail(checks, room):
     version = (room.top / "VERSION").read_text(encoding="utf-8").strip()
     there = [f"bin/{name}_{version}_{on}.deb" for name, on in (
         ("pikhsen", "amd64"), ("libpikhsen0", "amd64"), ("libpikhsen-dev", "amd64"), ("python3-pikhsen", "all"))]
+    there.append(f"bin/pikhsen_{version}+v3_amd64.deb")
     for program in ("dpkg-deb", "objdump", "gzip"):
         room.older([*there, f"bin/{LEVEL}/argon2", f"bin/{LEVEL}/scrypt", *LIBRARIES])
         room.stand_in(program, "#!/bin/sh\nexit 1\n")

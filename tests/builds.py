@@ -11,7 +11,18 @@ table itself in it, and so no row.
 
 The table also has what all this is made of: the toolchain, the linker and the like, and a sum of the sources of each.
 Where one of these is another, or what is built is older than the sources or not there, nothing can be compared: that is
-said, and is no failure.
+said, and is no failure. Before the counts stands whether the table is stale: made of other sources, or without a row.
+
+To make the table anew, on a processor of the level x86-64-v3, with all else committed, whose time is the packages':
+
+    make run CPU=x86-64-v2
+    make run CPU=x86-64-v3
+    make lib
+    tests/builds.py
+    tests/builds.py --check
+
+and commit docs/builds.tsv, which is in no sum and in no file that has a row. A table that would lack a row is not
+written.
 """
 import hashlib
 import os
@@ -135,6 +146,21 @@ def reasons(level, name, table, made):
     return [" ".join(it) for it in wanted if table.get(it) != made[it]]
 
 
+def rows_wanted(version):
+    """Level and name of each file that the table has."""
+    programs = [(level, name) for level in LEVELS for name in PROGRAMS]
+    libraries = [(LEVELS[0], "libpikhsen.a"), *((level, HIGHER.name) for level in LEVELS)]
+    endings = {it: f"{version}_{'all' if it.startswith('python') else 'amd64'}.deb" for it in PACKAGES}
+    return [*programs, *libraries, *(("packages", f"{name}_{ending}") for name, ending in endings.items())]
+
+
+def what_is_stale(table, made):
+    """In what the table is behind the sources: what it was made of, and rows that it lacks."""
+    other = [" ".join(row) for row, cell in made.items() if row[0] in ("version", "sources") and table.get(row) != cell]
+    lacks = [" ".join(row) for row in rows_wanted(made["version",]) if row not in table]
+    return [f"it is of other {it}" for it in other] + [f"it has no row {it}" for it in lacks]
+
+
 def compare(checks, table, made, found):
     for row, expected in table.items():
         if row[0] not in (*LEVELS, "packages"):
@@ -159,7 +185,13 @@ def main():
     if sys.argv[1:]:
         checks = Checks("none")
         compare(checks, table, made, found)
+        stale = what_is_stale(table, made)
+        how = "docs/builds.tsv IS STALE, the head of tests/builds.py says how to make it anew: "
+        print(how + "; ".join(stale) if stale else "docs/builds.tsv is of these sources")
         checks.end()
+    lacks = [" ".join(it) for it in rows_wanted(made["version",]) if it not in found]
+    if lacks:
+        sys.exit(f"docs/builds.tsv is not written, since not all is built here of these sources: {'; '.join(lacks)}")
     lines = ["\t".join([*row, cell]) + "\n" for row, cell in {**made, **found}.items()]
     TABLE.write_text(HEAD + "".join(lines), encoding="utf-8")
 

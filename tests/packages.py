@@ -22,6 +22,8 @@ from shown import library_runs
 
 TOP = pathlib.Path(__file__).resolve().parent.parent
 PROGRAMS = TOP / "bin/x86-64-v2"
+# The level for which one more package of the programs is made: the higher one, where they are built for it.
+MORE = "x86-64-v3" if (TOP / "bin/x86-64-v3/scrypt").exists() else "x86-64-v2"
 VERSION = (TOP / "VERSION").read_text(encoding="utf-8").strip()
 LIBRARIES, MODULES = "usr/lib/x86_64-linux-gnu", "usr/lib/python3/dist-packages/pikhsen"
 # The time of all files of the packages: any will do.
@@ -254,26 +256,26 @@ def kib_of(folder):
     return sum(-(-it.stat().st_size // 1024) for it in plain) + len(paths_there) - len(plain)
 
 
-def fields(checks, package, root, control):
+def fields(checks, package, root, control, version=VERSION, level="x86-64-v2"):
     """What the package says of itself."""
     found = dict(re.findall(r"^([\w-]+): (.*)$", control, re.MULTILINE))
     files = [root / it for it in FILES[package] if "bin/" in it or it.endswith(".so.0")]
     wanted = dict(FIELDS[package])
     if "LIBC" in wanted.get("Depends", ""):
         wanted["Depends"] = wanted["Depends"].replace("LIBC", newest_libc(files))
-    wanted.update({"Package": package, "Source": "pikhsen", "Version": VERSION, "Priority": "optional",
+    wanted.update({"Package": package, "Source": "pikhsen", "Version": version, "Priority": "optional",
                    "Installed-Size": f"{kib_of(root / 'usr')}"})
     maintainer = found.pop("Maintainer", "")
     checks.that(f"{package}: its maintainer", maintainer, "The authors of Pikhsen <pikhsen@localhost>")
     checks.that(f"{package}: its description", len(found.pop("Description", "")) in range(10, 80), True)
     if "LIBC" in FIELDS[package].get("Depends", ""):
-        named = "level x86-64-v2 and above." in " ".join(control.split())
+        named = f"level {level} and above." in " ".join(control.split())
         checks.that(f"{package}: the level that its description names", named, True)
     checks.that(f"{package}: its fields", found, wanted)
     changes = gzip.decompress((root / f"usr/share/doc/{package}/changelog.gz").read_bytes()).decode()
     first, last = changes.splitlines()[0], changes.splitlines()[-1]
     checks.that(f"{package}: its changes", (first, last.partition("  ")[2]), (
-        f"pikhsen ({VERSION}) unstable; urgency=medium", DAY))
+        f"pikhsen ({version}) unstable; urgency=medium", DAY))
 
 
 def sums(checks, package, root):
@@ -305,13 +307,17 @@ def scripts(checks, root):
             checks.that(how, (status, calls.read_text()), (0, expected))
 
 
-def programs_run(checks, folder, root):
-    """The programs are those that were built for x86-64-v2, and run as they are unpacked."""
+def programs_built(checks, root, level):
+    """The programs are those that were built for this level."""
     for name in ("argon2", "scrypt"):
-        program = root / "usr/bin" / name
-        checks.that(f"{name} in the package", program.read_bytes() == (PROGRAMS / name).read_bytes(), True)
-        binaries.hardened(checks, f"{name} in the package", program, True)
-        binaries.level(checks, f"{name} in the package", program, False)
+        program, of = root / "usr/bin" / name, f"{name} in the package for {level}"
+        checks.that(of, program.read_bytes() == (TOP / "bin" / level / name).read_bytes(), True)
+        binaries.hardened(checks, of, program, True)
+        binaries.level(checks, of, program, level != "x86-64-v2")
+
+
+def programs_run(checks, folder, root):
+    """The programs run as they are unpacked."""
     work = pathlib.Path(folder, "unpacked")
     work.mkdir()
     argon2, scrypt = (Checks(root / "usr/bin" / it, work, {}) for it in ("argon2", "scrypt"))
@@ -350,7 +356,8 @@ def packages(checks, folder, lib):
         os.mkdir(out)
         os.umask(umask)
         environment = {**os.environ, "SOURCE_DATE_EPOCH": f"{EPOCH}"}
-        said_wrong = subprocess.run([TOP / "packaging/deb.sh", lib, out], stdout=subprocess.DEVNULL, check=True,
+        pathlib.Path(out, f"pikhsen_{VERSION}+v9_amd64.deb").write_text("older", encoding="utf-8")
+        said_wrong = subprocess.run([TOP / "packaging/deb.sh", lib, out, MORE], stdout=subprocess.DEVNULL, check=True,
                                     stderr=subprocess.PIPE, env=environment, text=True).stderr
         checks.that("what deb.sh says of what is wrong", said_wrong, "")
         os.umask(0o022)
@@ -358,17 +365,22 @@ def packages(checks, folder, lib):
     if pathlib.Path(lib, HIGHER).is_file():
         FILES["libpikhsen0"][f"{LIBRARIES}/{HIGHER}"] = "rw-r--r--"
     wanted = [f"{name}_{VERSION}_{FIELDS[name]['Architecture']}.deb" for name in FIELDS]
-    checks.that("packages", sorted(made[0]), sorted(wanted))
+    more = f"{VERSION}+{MORE.rpartition('-')[2]}"
+    checks.that("packages", sorted(made[0]), sorted([*wanted, f"pikhsen_{more}_amd64.deb"]))
     checks.that("packages, made twice, under two umasks", made[0] == made[1], True)
     whole = pathlib.Path(folder, "root")
     for name in made[0]:
         package, file = name.split("_")[0], f"{folder}/packages/{name}"
-        root = pathlib.Path(folder, "root-" + package)
+        of = (more, MORE) if f"_{more}_" in name else (VERSION, "x86-64-v2")
+        root = pathlib.Path(folder, f"root-{package}{of[0].removeprefix(VERSION)}")
         subprocess.run(["dpkg-deb", "-R", file, root], check=True)
         paths(checks, package, file)
-        fields(checks, package, root, (root / "DEBIAN/control").read_text(encoding="utf-8"))
+        fields(checks, package, root, (root / "DEBIAN/control").read_text(encoding="utf-8"), *of)
         sums(checks, package, root)
-        shutil.copytree(root / "usr", whole / "usr", symlinks=True, dirs_exist_ok=True)
+        if package == "pikhsen":
+            programs_built(checks, root, of[1])
+        if of[0] == VERSION:
+            shutil.copytree(root / "usr", whole / "usr", symlinks=True, dirs_exist_ok=True)
     programs_run(checks, folder, pathlib.Path(folder, "root-pikhsen"))
     scripts(checks, pathlib.Path(folder, "root-python3-pikhsen"))
     root = pathlib.Path(folder, "root-libpikhsen0")
