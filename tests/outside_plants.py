@@ -1,6 +1,6 @@
 #!/usr/bin/env python3
-"""Puts wrong lines into what stands outside the proofs, in copies: module, header, manual pages, completions,
-packaging, and sources where no contract sees what they do. A test must find each.
+"""Puts wrong lines into what stands outside the proofs, in copies: module, header, pages, completions, packaging, and
+sources where no contract sees what they do. A test must find each.
 
     tests/outside_plants.py           those whose row of the record has another key, and by turns a tenth of the others
     tests/outside_plants.py --audit   all of them
@@ -39,11 +39,12 @@ TESTS = {
     "tests/values.py": ([], 1), "tests/documents.py": ([], 5), "tests/first_run.py": ([], 8),
     "tests/build_scripts.py": ([], 20), "tests/python_module.py": (["LIB"], 6), "tests/packages.py": (["LIB"], 9),
     "tests/c_face.py": (["--header", "LIB"], 6), "tests/sources.sh": ([], 2),
+    "tests/story.py": (["--recipes", "bin/x86-64-v2"], 25),
 }
 # What a test needs beside Python: without it, it finds nothing.
 NEEDS = {"tests/build_scripts.py": ["gcc", "dpkg-deb"], "tests/python_module.py": ["gcc"],
          "tests/c_face.py": ["gcc", "g++"], "tests/packages.py": ["gcc", "dpkg-deb", TOP / "bin/x86-64-v2/scrypt"],
-         "tests/values.py": ["bash"]}
+         "tests/values.py": ["bash"], "tests/story.py": ["bash", "dash", TOP / "bin/x86-64-v2/scrypt"]}
 # What a test says of what it finds: a comparison that fails, a name that is not there, or how it ended.
 SAID = re.compile(r"^(?:FAILED|not there:) (.*)$|^(\w*(?:Error|Exception)\b.*)$", re.MULTILINE)
 # A test of the sources: each line but those of the sources themselves, which it shows with their numbers.
