@@ -90,18 +90,30 @@ def anchors(file):
         yield re.sub(r"[^\w\- ]", "", title.lower()).replace(" ", "-")
 
 
-# Links, to files and to headings. What is installed, README, CHANGELOG and docs/, links to what is installed alone.
+# Links, to files and to headings. What is installed, README, CHANGELOG and docs/, links to what is installed alone, and
+# README to manual pages, which are installed elsewhere.
 for document in [*PAGES, *sorted((TOP / "docs").glob("*.md"))]:
     for path, anchor in re.findall(r"\]\((?!https?:)([^)#\s]*)(?:#([^)\s]*))?\)", document.read_text(encoding="utf-8")):
         target = (document.parent / path).resolve() if path else document
         is_installed = target.parent == TOP / "docs" or target.name in ("README.md", "CHANGELOG.md")
+        is_installed = is_installed or document.name == "README.md" and target.parent == TOP / "man"
         is_there = target.exists() and (is_installed or document.name == "CONTRIBUTING.md")
         expect(is_there, document, f"the link to {path}")
         if is_there and anchor:
             expect(anchor in anchors(target), document, f"the link to {path}#{anchor}")
 
-# Figures of speed, each sentence as docs/benchmarks.tsv gives it.
+# Figures of speed, each sentence as docs/benchmarks.tsv gives it, and some as docs/measured.tsv does.
 MEASURED = ratios.read(TOP / "docs/benchmarks.tsv")[1]
+KEPT = {(log_n, keep): (float(peak), float(seconds)) for log_n, keep, peak, seconds in pages.rows("measured.tsv", "keep")}
+# What huge pages take off the time of a work, in percent, at the levels, the least first.
+LESS = {work: sorted(round(100 - 100 * float(with_huge) / float(plain)) for plain, with_huge in (times[:2], times[2:]))
+        for work, *times in pages.rows("measured.tsv", "pages")}
+PYTHON = [[work, float(ours) / float(other)] for work, _, ours, other in pages.rows("measured.tsv", "python")]
+
+
+def seconds(work, size, level="x86-64-v3", digits=1):
+    """What a work takes here, rounded."""
+    return f"{float(MEASURED[work, size, level]['ours']):.{digits}g}"
 
 
 def between(works, sizes, level="", column="ratio", beside="theirs"):
@@ -122,8 +134,29 @@ to_v2 = [between(*rows, "v3", beside="v2") for rows in (HASHES, KEYS, FILES)]
 lanes = between(tuple(f"argon2 -{kind} -t {passes} -p 4" for kind in ("d", "i", "id") for passes in (1, 3)),
                 ("12", "16", "18"), column="ratio_elapsed")
 lanes = [f"{1 / float(lanes[-1]):.2f}", f"{1 / float(lanes[0]):.2f}"]
+BENCHMARKS = " ".join((TOP / "docs/BENCHMARKS.md").read_text(encoding="utf-8").split())
+(slower,) = re.findall(r"ours, which cannot, took (\S+ to \S+) times as long", BENCHMARKS)
+LOGIN, KEY = ("argon2 -id -t 3 -p 4 -m", "16"), "key, -r 8 -p 1, --logN"
+keys_of = {log_n: seconds(KEY, log_n) for log_n in ("14", "17", "20")}
+less = [f"{float(row['theirs_MiB']) - float(row['ours_MiB']):.1f}" for row in MEASURED.values()]
+less.sort(key=float)
+python = {it: sorted(f"{ratio:.2f}" for work, ratio in PYTHON if work.startswith(it)) for it in ("Argon2", "scrypt")}
 SENTENCES = [
     ("README.md", f"hashes {hashes[0]} to {hashes[-1]}, keys {keys[0]} to {keys[-1]}, files {files[0]} to {files[-1]}"),
+    ("README.md", f"by the clock, `-p 4` (ours = 1) | {lanes[0]} to {lanes[1]}, by threads"),
+    ("README.md", f"SHA instructions | 1 | {slower} |"),
+    ("README.md", f"with `--keep 16`: {KEPT['20', '16'][0]:.0f} MiB, and "
+                  f"{KEPT['20', '16'][1] / KEPT['20', '1'][1]:.1f} times the time"),
+    ("README.md", f"takes 1 GiB and {keys_of['20']} seconds"),
+    ("README.md", f"takes 64 MiB and {seconds(*LOGIN)} to {seconds(*LOGIN, 'x86-64-v2')} seconds"),
+    *(("man/scrypt.1", f"{memory} and {keys_of[log_n]} seconds")
+      for log_n, memory in (("14", "16 MiB"), ("17", "128 MiB"), ("20", "1 GiB"))),
+    ("man/scrypt.1", "{} to {} percent off the processor time of a key of 128 MiB".format(
+        *LESS["a key of N = 2^17, r = 8, p = 1"])),
+    ("man/argon2.1", "{} to {} percent off the processor time of three passes over 64 MiB".format(
+        *LESS["`argon2 -id -t 3 -m 16`"])),
+    ("man/argon2.1", "{} to {} percent off that of one pass over 256 MiB".format(*LESS["`argon2 -id -t 1 -m 18`"])),
+    ("man/argon2.1", f"64 MiB, and {seconds(*LOGIN, digits=2)} to {seconds(*LOGIN, 'x86-64-v2', digits=2)} seconds"),
     ("man/argon2.1", f"took {to_v2[0][0]} to {to_v2[0][-2]} of the processor time of those for v2 in "
                      f"{len(to_v2[0]) - 1} of {len(to_v2[0])} settings, and {to_v2[0][-1]} in one"),
     ("man/scrypt.1", f"took {to_v2[1][0]} to {to_v2[1][-1]} of the processor time of those for v2 for a key, and "
@@ -134,6 +167,9 @@ SENTENCES = [
                            f"{levels['v3'][1][-1]} for x86-64-v3"),
     ("docs/BENCHMARKS.md", f"{' and '.join(levels['v2'][2])} for x86-64-v2, {' and '.join(levels['v3'][2])} for x86-64-v3"),
     ("docs/BENCHMARKS.md", f"has all {len(MEASURED)} rows"),
+    ("docs/BENCHMARKS.md", f"hashes took {python['Argon2'][0]} to {python['Argon2'][-1]} of the time of argon2-cffi, and keys "
+                           f"{python['scrypt'][0]} to {python['scrypt'][-1]} of that of `hashlib.scrypt`"),
+    ("docs/BENCHMARKS.md", f"**Memory**: {less[0]} to {less[-1]} MiB less"),
     ("docs/BENCHMARKS.md", f"with `-p 4` it took {lanes[0]} to {lanes[1]} of our time, from 4 MiB on"),
 ]
 for name, sentence in SENTENCES:
@@ -209,7 +245,7 @@ lines_by_hand = sum(pages.counted().values())
 expect(lines_by_hand <= pages.MOST_BY_HAND, "pages", f"at most {pages.MOST_BY_HAND} lines by hand: there are {lines_by_hand}")
 
 # Calls and clauses that carry a promise, and the picture of what they stand on; the definitions of each run.
-bars = ratios.drawn(TOP / "docs/benchmarks.tsv"), []
+bars = ratios.drawn(TOP / "docs/benchmarks.tsv"), [f"bars that are seen: {it}" for it in ratios.faint()]
 for name, (picture, wrong), by in (
     ("docs/proof-map.svg", drawn(), "make map"), ("docs/proof-map-small.svg", small(), "make map"),
     ("docs/benchmarks.svg", bars, "bench/ratios.py"),
@@ -239,6 +275,11 @@ for manual in MANUALS:
     expect(f'"Pikhsen {VERSION}"' in manual.read_text(encoding="utf-8").splitlines()[0], manual, f"version {VERSION}")
 expect(f"\n## {VERSION}" in (TOP / "CHANGELOG.md").read_text(encoding="utf-8"), "CHANGELOG.md", f"version {VERSION}")
 expect(f"pikhsen_{VERSION}_amd64.deb" in (TOP / "README.md").read_text(encoding="utf-8"), "README.md", f"version {VERSION}")
+
+# No mark that a merge left.
+for document in DOCUMENTS:
+    marks = re.findall(r"^(?:<{7}|={7}|>{7})(?: .*)?$", document.read_text(encoding="utf-8"), re.MULTILINE)
+    expect(not marks, document, f"the text that a merge decides on, in the place of {marks[:1]}")
 
 # Lines that fit a screen, but for tables in docs/, whose rows cannot be cut.
 for document in [*PAGES, *sorted((TOP / "docs").glob("*.md"))]:

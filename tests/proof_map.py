@@ -272,7 +272,7 @@ def small():
                 if max(width_of(crate, 12.5, bold=True), width_of(words, 10.5)) > wide - 6:
                     raise SystemExit(f"the small picture: the words of {crate} are wider than its box")
         y += 50
-    note = "A crate stands on crates below it: on those of its column and of the middle; a crate of the middle, on any."
+    note = "A crate uses only crates below it: of its own column or the middle one; a crate of the middle, of any."
     y = picture.text(20, y + 12, [note], "soft") + 2
     end = picture.box("Trusted", "What no proof shows", 20, y, SMALL_WIDTH - 40, "",
                       [(each, []) for each in trusted()], kind="trusted", columns=2)

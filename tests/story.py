@@ -4,8 +4,9 @@ docs/LIBRARY.md's Rust program is that of a test, and the text that it enrols is
 examples of both manual pages, in each shell that they are for, also where a command before a pipe fails, a password is
 wrong, and the stored text is empty; and what checks a stored text in Python, where the library is built.
 
-    tests/story.py FOLDER       in which the programs argon2 and scrypt lie
-    tests/story.py --prove      proves, builds and runs that Rust program over the crates (some minutes)
+    tests/story.py FOLDER               in which the programs argon2 and scrypt lie
+    tests/story.py --recipes FOLDER     the first screen, what is typed, and the examples of argon2's page, alone
+    tests/story.py --prove              proves, builds and runs that Rust program over the crates (some minutes)
 """
 import os
 import pathlib
@@ -79,6 +80,65 @@ class Shell:
         return ran.returncode, ran.stdout.decode()
 
 
+def typed_passphrases(expect, shell, encrypt, decrypt):
+    """What encrypts a text under a passphrase that is typed twice, and what decrypts the file. A file gets its name only
+    after its whole content was written, and the shell keeps no passphrase. The costs are those for such a passphrase;
+    what runs here has a smaller table."""
+    expect("the costs of what is typed", re.findall(r"--logN.*-p \d+", encrypt), costs_of_typed())
+    encrypt = encrypt.replace("--logN 20", "--logN 10")
+    (text, part), (of_file, text_part) = (re.search(r"-P ([\w.]+) ([\w.]+)", it).groups() for it in (encrypt, decrypt))
+    file, said = re.search(r"mv \S+ (\S+)", encrypt)[1], re.search(r"echo '(.*)' >&2", encrypt)[1]
+    once, twice, words = "Passphrase: \n", "Passphrase: \nThe same again: \n", b" wor\\ds of  ours \n"
+    shell.run(f"echo Dear >{text}; cp {text} kept; rm -f {file} {part}")
+    expect("the file that is made, and the one that is opened", of_file, file)
+    left = f's=$?; ls {file} {part} 2>/dev/null; echo "<$typed$again>"; exit $s'
+    for name, given in (("other words", b"words\nwords.\n"), ("the same and more", b"words\nwords \n"), ("an empty line", b"\n\n"),
+                        ("words and an empty line", b"words\n\n"), ("words once", b"words\n"), ("nothing", b"")):
+        expect(f"typed twice, {name}", shell.run(encrypt + left, given), (1, f"{twice}{said}\n<>\n"))
+    broken = f"scrypt() {{ echo begun >{part}; return 1; }}\n"
+    expect("typed twice, a run that breaks off", shell.run(broken + encrypt + left, words * 2), (1, f"{twice}{part}\n<>\n"))
+    expect("typed twice", shell.run(encrypt + left, words * 2), (0, f"{twice}{file}\n<>\n"))
+    status, said = shell.run(f"cp {file} made; rm {text}\n{encrypt}s=$?; cmp {file} made; exit $s", words * 2)
+    expect("typed twice, and no text: the file stays", (status, "cannot be opened" in said, "differ" in said), (1, True, False))
+    expect("typed to open it", shell.run(f"{decrypt}cmp {text} kept", words), (0, once))
+    for name, given in (("other words", b"words\n"), ("nothing", b"")):
+        found = shell.run(f"{decrypt}s=$?; cmp {text} kept; exit $s", given)
+        expect(f"typed to open it, {name}: the text stays", found, (1, f"{once}scrypt: wrong passphrase\n"))
+    found = shell.run(f"head -c 130 made >{file}\n{decrypt}s=$?; cmp {text} kept; exit $s", words)
+    expect("typed to open it, damaged: the text stays", found, (1, f"{once}scrypt: input is damaged or cut short\n"))
+    shell.run(f"mv made {file}; rm -f {part} {text_part} kept")
+
+
+def costs_of_typed():
+    """What README recommends for a passphrase that a person remembers."""
+    return re.findall(r"passphrase that you remember\*\*: `(.*?)`", README)
+
+
+def in_shells(checks, programs, names, page, run):
+    """Runs what is for these shells in each, in an empty folder."""
+    for name in names:
+        if shutil.which(name) is None:
+            print(f"skipped: the examples of {page} in {name}, which is not there")
+            continue
+        with tempfile.TemporaryDirectory() as room:
+            run(checks, Shell(name, programs, room))
+
+
+def typed_of_readme(checks, shell):
+    encrypt, decrypt = blocks_of_readme("Typing a passphrase")
+
+    def expect(name, found, expected):
+        checks.that(f"README in {shell.name}: {name}", found, expected)
+
+    typed_passphrases(expect, shell, encrypt, decrypt)
+
+
+def blocks_of_readme(heading):
+    """The blocks of code below a heading of README."""
+    part = README.split(f"\n## {heading}\n")[1].split("\n## ")[0]
+    return [re.sub(r"^    ", "", it, flags=re.MULTILINE) for it in re.findall(r"(?:^    .*\n)+", part, re.MULTILINE)]
+
+
 def scrypt_examples(checks, shell):
     backup, look, opened, whole, again, typed, typed_again, small, keep = examples("scrypt.1")
     guard_of_a_file, guard = examples("scrypt.1", "SECURITY")
@@ -87,19 +147,20 @@ def scrypt_examples(checks, shell):
     def expect(name, found, expected):
         checks.that(f"scrypt.1 in {shell.name}: {name}", found, expected)
 
-    status, said = shell.run("set -e; echo words of ours >key\n" + costs[0].replace("14 15 16 17 18 19 20", "4 5") + "rm key")
+    status, said = shell.run("set -e\n" + costs[0].replace("14 15 16 17 18 19 20", "4 5"))
     expect("costs are timed", (status, re.findall(r"^--logN \d+$", said, re.MULTILINE)), (0, ["--logN 4", "--logN 5"]))
     status, _ = shell.run(backup[0])
     expect("a backup of what is not there fails", status != 0, True)
     for name in ("head", "base64"):
         shell.run("rm -f letters.enc backup-key")
-        status, _ = shell.run(f"{name}() {{ return 1; }}; {backup[0]}ls letters.enc")
+        status, _ = shell.run(f"{name}() {{ return 1; }}; {backup[0]}")
         expect(f"a backup without a key, since {name} fails, is none", (status != 0, shell.run("ls letters.enc")[0] != 0), (True, True))
     shell.run("rm -f backup-key")
     shell.run("mkdir letters; echo 'Dear Ada' >letters/to-ada; head -c 32 /dev/urandom | base64 >new-key")
     expect("a backup", shell.run(backup[0]), (0, ""))
-    status, _ = shell.run(backup[0].replace("letters |", "letters nothere |"))
-    expect("a backup of which a part is not there fails", status != 0, True)
+    status, _ = shell.run("cp letters.enc saved\n" + backup[0].replace("letters |", "letters nothere |"))
+    kept = shell.run("cmp letters.enc saved; rm saved letters.new")
+    expect("a backup of which a part is not there fails, and the older one stays", (status != 0, kept), (True, (0, "")))
     status, said = shell.run(f"cp backup-key first; {backup[0]}cmp backup-key first && rm first")
     expect("a backup again keeps the key", (status, "backup-key" in said), (0, True))
     expect("look at it", shell.run(look[0]), (0, look[1]))
@@ -114,14 +175,9 @@ def scrypt_examples(checks, shell):
     expect("with it", shell.run(whole[0].replace("backup-key", "new-key")), (0, "whole\n"))
     expect("without it", shell.run(whole[0]), (1, "scrypt: wrong passphrase\n"))
     expect("no text was left", shell.run("ls")[1].split(), ["backup-key", "cut", "letters", "letters.enc", "letters.tar", "new-key"])
-    asked, last = "Passphrase: \nThe same again: \n", typed[0].splitlines(keepends=True)[0] + typed_again[0]
-    for name, given in (("other words", b"words\nwords.\n"), ("an empty line", b"\n\n"), ("nothing", b"")):
-        expect(f"typed twice, {name}", shell.run(typed[0] + "s=$?; ls typed.enc 2>&1; exit $s", given),
-               (1, asked + "ls: cannot access 'typed.enc': No such file or directory\n"))
-    expect("typed twice", shell.run(typed[0], b"words of ours\nwords of ours\n"), (0, asked))
-    expect("typed to open it", shell.run(last + "cmp letters.part letters.tar", b"words of ours\n"), (0, "Passphrase: \n"))
-    expect("typed to open it, other words", shell.run(last, b"words\n"), (1, "Passphrase: \nscrypt: wrong passphrase\n"))
-    expect("typed to open it, nothing", shell.run(last), (1, "Passphrase: \nscrypt: wrong passphrase\n"))
+    shell.run("cp letters.tar saved")
+    typed_passphrases(expect, shell, typed[0], typed_again[0])
+    shell.run("mv saved letters.tar")
     shell.run("echo Dear >in")
     for held in ("", r"\n", r"\nwords", r"\r\n", r"\rwords", r"\0", r"\0\0\n"):
         for name, of, given in (("a file", guard_of_a_file, f"printf '{held}' >key"), ("a command", guard, f"pass() {{ printf '{held}'; }}")):
@@ -149,70 +205,102 @@ def scrypt_examples(checks, shell):
 
 
 def argon2_examples(checks, shell):
-    enrol, ask, check, python, key = examples("argon2.1")
+    """A hash of a typed password, and its check; or, in a shell that cannot hide what is typed, without the line that asks,
+    and with the password in a variable, as the page says of scripts."""
+    enrol, check, python, key = (text for text, _ in examples("argon2.1"))
+    asks = r"^  printf '(.*: )' >&2; IFS= read -rs password; echo >&2\n"
+    prompts = [re.search(asks, it, re.MULTILINE)[1] + "\n" for it in (enrol, check)]
+    if shell.name == "dash":
+        enrol, check, prompts = *(re.sub(asks, "", it, flags=re.MULTILINE) for it in (enrol, check)), ["", ""]
+    new, asked = prompts
 
     def expect(name, found, expected):
         checks.that(f"argon2.1 in {shell.name}: {name}", found, expected)
 
-    right = {"password": "correct horse"}
-    expect("a hash to keep", shell.run(enrol[0], **right), (0, ""))
+    def enter(text, password):
+        if shell.name == "dash":
+            return shell.run(text, password=password)
+        return shell.run(text, password.encode() + b"\n")
+
+    right = "correct horse"
+    expect("a hash to keep", enter(enrol, right), (0, new))
     for password in ("", "x" * 128):
-        status, said = shell.run("cp stored before; " + enrol[0], password=password)
+        status, said = enter("cp stored before; " + enrol, password)
         kept = shell.run("cmp before stored")
         expect(f"a hash of {len(password)} bytes is refused, and what was stored stays", (status, kept), (1, (0, "")))
+    expect("the right password", enter(check, right), (0, f"{asked}welcome\n"))
+    for password in ("battery staple", "correct horse ", " correct horse", "correct\\\\horse"):
+        expect(f"the password '{password}'", enter(check, password), (1, f"{asked}not you\n"))
+    for password in ("", "x" * 200):
+        status, said = enter(check, password)
+        expect(f"the password '{password}'", (status, "argon2: password is" in said, said[-8:]), (1, True, "not you\n"))
     if shell.name != "dash":
-        expect("a typed password", shell.run(ask[0] + check[0], b"correct horse\n"), (0, "Password: \nwelcome\n"))
-    expect("the right password", shell.run(check[0], **right), (0, "welcome\n"))
-    for password in ("battery staple", "correct horse ", "", "x" * 200):
-        status, said = shell.run(check[0], password=password)
-        expect(f"the password '{password}'", (status != 0, "welcome" in said), (True, False))
+        left = 'echo "<$password$kind$v$m$t$p$salt$tag$again>"'
+        expect("nothing stays in the shell", enter(f"{enrol}{left}", right), (0, f"{new}<>\n"))
+        expect("nothing stays after a check", enter(f"{check}{left}", right), (0, f"{asked}welcome\n<>\n"))
+    # a text of any settings; and texts that somebody else wrote, which run nothing, with what argon2 says of them
+    for words in ("'s,l$t = \u00e4' -i -t 2 -k 100 -p 3 -l 30 -v 10", "'ends in a line\n\n' -d -t 1 -k 8 -l 64"):
+        found = enter(f"printf %s other | argon2 {words} -e >stored\n{check}", "other")
+        expect(f"a text of {words}", found, (0, f"{asked}welcome\n"))
+    commands = "path[`touch run`]"
+    for text, said in (
+        (f"$argon2id$v={commands}$m=8,t=1,p=1$c29tZXNhbHQ$AAAAAA", "bad number"),
+        (f"$argon2{commands}$v={commands}$m={commands},t={commands},p={commands}${commands}${commands}", "usage"),
+        ("$argon2id$v=19$m=1048580,t=1,p=1$c29tZXNhbHQ$AAAAAA", "more memory needed than --maxmem allows"),
+        ("$argon2id$v=19$m=1048576,t=9,p=1$c29tZXNhbHQ$AAAAAA", "more work needed than --maxops allows"),
+        ("$argon2id$m=8,t=1,p=1$c29tZXNhbHQ$AAAAAA", "bad number"),
+        ("$argon2id$v=19$m=8,t=1,p=1$8PHy8/T19vf4+fr7/P3+/w$AAAAAA", "usage"),
+    ):
+        (pathlib.Path(shell.room) / "stored").write_text(text + "\n", encoding="utf-8")
+        status, found = enter(check, right)
+        run = (pathlib.Path(shell.room) / "run").exists()
+        expect(f"the text {text}", (status != 0, f"argon2: {said}" in found, "welcome" in found, run), (True, True, False, False))
+    enter(enrol, right)
     if SHARED.exists():
-        (pathlib.Path(shell.room) / "check.py").write_text(python[0], encoding="utf-8")
+        (pathlib.Path(shell.room) / "check.py").write_text(python, encoding="utf-8")
         for password, said in ((b"correct horse", "welcome\n"), (b"battery staple", "not you\n")):
             found = shell.run("python3 check.py", password, PYTHONPATH=str(TOP / "python"), PIKHSEN_LIBRARY=str(SHARED))
             expect(f"the password {password} in Python", found, (0, said))
     for name, stored in (("empty", ": >stored"), ("of a line feed", "echo >stored"), ("that is missing", "rm stored")):
         shell.run(stored)
         for password in ("anything", "correct horse", ""):
-            status, said = shell.run(check[0], password=password)
+            status, said = enter(check, password)
             expect(f"a stored text {name}, and the password '{password}'", (status != 0, "welcome" in said), (True, False))
-    status, said = shell.run(key[0], **right)
+    status, said = shell.run(key, salt="a salt that is kept", password=right)
     expect("a key", (status, len(bytes.fromhex(said))), (0, 64))
+    expect("a key without a salt", shell.run(key, password=right), (1, "argon2: salt length out of range\n"))
 
 
-def compare_examples(checks, programs):
-    for page, run, names in (("scrypt.1", scrypt_examples, ("bash", "zsh")), ("argon2.1", argon2_examples, ("bash", "dash", "zsh"))):
-        for name in names:
-            if shutil.which(name) is None:
-                print(f"skipped: the examples of {page} in {name}, which is not there")
-                continue
-            with tempfile.TemporaryDirectory() as room:
-                run(checks, Shell(name, programs, room))
+def first_screen(checks, shell):
+    """The commands of README's first screen, pasted as they stand into an empty folder; once more, with the same key; and
+    with an empty key, under which nothing is encrypted."""
+    first = README.partition("\n[^speed]:")[0]
+    commands = re.findall(r"^    (.*)$", first, re.MULTILINE)
+    expected = r"Dear Ada\n\$argon2id\$v=19\$m=65536,t=3,p=4\$[\w+/]+\$[\w+/]{43}\n"
+    pasted = "\n".join(commands)
+    for name, given, begin in (("", pasted, ""), (", again", f"cp key kept\n{pasted}\ncmp key kept", r"[^\n]*\bkey\b[^\n]*\n")):
+        status, said = shell.run(given)
+        found = status, re.sub(f"^{begin}{expected}$", "a text and a hash", said)
+        checks.that(f"README in {shell.name}: the first screen{name}", found, (0, "a text and a hash"))
+    status, said = shell.run(f"rm letter.scrypt; : >key\n{pasted}\nls letter.scrypt")
+    checks.that(f"README in {shell.name}: nothing under an empty key", (status != 0, "Dear Ada" in said), (True, False))
+
+
+def compare_recipes(checks, programs):
+    in_shells(checks, programs, ("bash", "zsh"), "README.md", first_screen)
+    in_shells(checks, programs, ("bash", "zsh"), "README.md", typed_of_readme)
+    in_shells(checks, programs, ("bash", "dash", "zsh"), "argon2.1", argon2_examples)
 
 
 def compare_parts(checks, programs):
-    """The commands of the first screen; a passphrase that is typed; the loop that times costs, for small ones; and the
-    check of a stored text in Python. Each shell is bash or zsh, as README says."""
-    first, *_ = README.split("\n# Using the programs\n")
-    commands = re.findall(r"^    \$ (.*)$", first, re.MULTILINE)
-    typing, costs, stored = (
-        README.split(f"\n## {heading}\n")[1].split("\n## ")[0].split("\n# ")[0]
-        for heading in ("Typing a passphrase", "Which costs", "Checking a stored hash")
-    )
-    typed, loop = ("\n".join(re.findall(r"^    (.*)$", part, re.MULTILINE)) + "\n" for part in (typing, costs))
+    """The loop that times costs, for small ones, and the check of a stored text in Python. Each shell is bash or zsh, as
+    README says."""
+    (loop,) = blocks_of_readme("Which costs")
+    stored = README.split("\n## Checking a stored hash\n")[1].split("\n# ")[0]
     (python,) = re.findall(r"^```python\n(.*?)^```", stored, re.MULTILINE | re.DOTALL)
-    checks.that("README: the first screen has three commands", len(commands), 3)
     for name in filter(shutil.which, ("bash", "zsh")):
         with tempfile.TemporaryDirectory() as room:
             shell = Shell(name, programs, room)
-            shell.run("mkdir letters; echo 'Dear Ada' >letters/to-ada; echo words of ours >key")
-            for command in commands[:2]:
-                checks.that(f"README in {name}: {command}", shell.run(f"set -o pipefail; {command}"), (0, ""))
-            checks.that(f"README in {name}: what came back", shell.run("tar -tf letters.tar")[1], "letters/\nletters/to-ada\n")
-            found = shell.run(commands[2] + " >stored", password="correct horse")
-            checks.that(f"README in {name}: {commands[2]}", found, (0, ""))
-            found = shell.run(typed + "tar -tf letters.part", b"words of ours\n")
-            checks.that(f"README in {name}: a typed passphrase", found, (0, "letters/\nletters/to-ada\n"))
             status, said = shell.run("set -e\n" + loop.replace("14 15 16 17 18 19 20", "4 5"))
             checks.that(f"README in {name}: costs are timed", (status, re.findall(r"^--logN \d+$", said, re.MULTILINE)), (0, ["--logN 4", "--logN 5"]))
             if SHARED.exists():
@@ -282,6 +370,10 @@ def prove():
 
 
 def main():
+    if len(sys.argv) == 3 and sys.argv[1] == "--recipes":
+        checks = Checks(os.path.join(sys.argv[2], "scrypt"))
+        compare_recipes(checks, sys.argv[2])
+        return checks.end()
     if len(sys.argv) != 2:
         raise SystemExit(__doc__)
     if sys.argv[1] == "--prove":
@@ -296,7 +388,8 @@ def main():
         checks.that(f"README: {command}", answer, expected)
     compare_login(checks, sys.argv[1], typed)
     compare_parts(checks, sys.argv[1])
-    compare_examples(checks, sys.argv[1])
+    compare_recipes(checks, sys.argv[1])
+    in_shells(checks, sys.argv[1], ("bash", "zsh"), "scrypt.1", scrypt_examples)
     checks.end()
 
 
