@@ -96,13 +96,13 @@ class WrongDefinition(Edit):
     def goes_with(self, other):
         return not (self.changes & other.reach or other.changes & self.reach)
 
-    def key(self, definitions, tree, crates, kit):
-        """The key of an edit of the last of these crates, which stands on the others, under this toolchain."""
+    def key(self, definitions, tree, crates, logic):
+        """The key of an edit of the last of these crates, which stands on the others, in this logic."""
         texts = ["\n".join(definitions.files[at].items[item]) for at, item in self.items]
         texts += [text for crate in crates for text in declared(tree, crate)]
         rules = [without("#", tree.text("tests", it)) for it in RULES]
         said = self.path.read_text(encoding="utf-8")
-        whole = [kit, rules, said, self.equation, without("--", self.answer), crates, sorted(texts)]
+        whole = [logic, rules, said, self.equation, without("--", self.answer), crates, sorted(texts)]
         return hashlib.sha256(repr(whole).encode()).hexdigest()[:32]
 
 

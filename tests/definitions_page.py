@@ -70,7 +70,7 @@ def rows(crate):
     for path in record.edits_of(crate, record.DEFINITIONS):
         edit = WrongDefinition(path, ALL)
         names = dict.fromkeys(item for module, item in sorted(edit.changes, key=str) if item)
-        yield ", ".join(f"`{it}`" for it in names), path.stem, refused.get(path.stem, ("", ""))[1]
+        yield ", ".join(f"`{it}`" for it in names), path.stem, refused.get(path.stem, record.Row("", "")).by
 
 
 def wrong_definitions():

@@ -85,7 +85,7 @@ def refused():
             edit = WrongDefinition(path, ALL)
             if path.stem in rows:
                 for item in edit.changes:
-                    found.setdefault(item, {})[rows[path.stem][1]] = None
+                    found.setdefault(item, {})[rows[path.stem].by] = None
     return found
 
 

@@ -19,6 +19,7 @@ for folder in ("bench", "packaging"):
 import definitions_page
 import doc
 import gate_page
+import outside_plants
 import pages
 import ratios
 import record
@@ -133,6 +134,7 @@ levels = {level: [between(*rows, level) for rows in (HASHES, KEYS, BACKUPS)] for
 to_v2 = [between(*rows, "v3", beside="v2") for rows in (HASHES, KEYS, FILES)]
 lanes = between(tuple(f"argon2 -{kind} -t {passes} -p 4" for kind in ("d", "i", "id") for passes in (1, 3)),
                 ("12", "16", "18"), column="ratio_elapsed")
+of_threads = [f"{float(it):.1f}" for it in (lanes[0], lanes[-1])]
 lanes = [f"{1 / float(lanes[-1]):.2f}", f"{1 / float(lanes[0]):.2f}"]
 BENCHMARKS = " ".join((TOP / "docs/BENCHMARKS.md").read_text(encoding="utf-8").split())
 (slower,) = re.findall(r"ours, which cannot, took (\S+ to \S+) times as long", BENCHMARKS)
@@ -143,7 +145,7 @@ less.sort(key=float)
 python = {it: sorted(f"{ratio:.2f}" for work, ratio in PYTHON if work.startswith(it)) for it in ("Argon2", "scrypt")}
 SENTENCES = [
     ("README.md", f"hashes {hashes[0]} to {hashes[-1]}, keys {keys[0]} to {keys[-1]}, files {files[0]} to {files[-1]}"),
-    ("README.md", f"by the clock, `-p 4` (ours = 1) | {lanes[0]} to {lanes[1]}, by threads"),
+    ("README.md", f"by the clock, `-p 4` | 1, by threads | {of_threads[0]} to {of_threads[1]} |"),
     ("README.md", f"SHA instructions | 1 | {slower} |"),
     ("README.md", f"with `--keep 16`: {KEPT['20', '16'][0]:.0f} MiB, and "
                   f"{KEPT['20', '16'][1] / KEPT['20', '1'][1]:.1f} times the time"),
@@ -205,7 +207,7 @@ for crate in SOURCES:
     named = [path.stem for folder in record.FOLDERS for path in record.edits_of(crate, folder)]
     for name in sorted({*named} - {*rows}):
         expect(False, file, f"{name}: a row of its trial (tests/wrong_bodies.py {crate}/{name} writes it)")
-    for name, (_, goal) in rows.items():
+    for name, goal in ((name, row.by) for name, row in rows.items()):
         expect(named.count(name) == 1, file, f"{name}: one edit of this name")
         told = GOAL.fullmatch(goal)
         clause = told and re.search(r"-clause-(\w+)`", goal)
@@ -217,7 +219,8 @@ for crate in SOURCES:
         edit = WrongDefinition(path, definitions_page.ALL)
         expect(not edit.wrong, path.relative_to(TOP), edit.wrong)
         expect(path.stem in rows, file, f"{path.stem}: a row of its trial (tests/wrong_definitions.py {edit.name} writes it)")
-        expect(rows.pop(path.stem, ("", edit.row))[1] == edit.row, file, f"{path.stem}: the equation that its edit names")
+        row = rows.pop(path.stem, record.Row("", edit.row))
+        expect(row.by == edit.row, file, f"{path.stem}: the equation that its edit names")
     for name in rows:
         expect(False, file, f"{name}: an edit of this name")
 tables_made = record.page() == record.PAGE.read_text(encoding="utf-8")
@@ -225,6 +228,12 @@ expect(tables_made, "WRONG_BODIES.md", "the tables that the records make (each r
 
 tables_made = definitions_page.page() == definitions_page.PAGE.read_text(encoding="utf-8")
 expect(tables_made, "DEFINITIONS.md", "the tables that the records make (each run of tests/wrong_definitions.py writes them)")
+
+# Wrong lines outside the proofs: what each replaces stands there once, and each has a row.
+rows = outside_plants.rows_of_record()
+for file in sorted(outside_plants.FOLDER.glob("*.edit")):
+    expect(outside_plants.Plant(file).texts(TOP), file.relative_to(TOP), "the text that it replaces, once")
+    expect(file.stem in rows, outside_plants.RECORD.relative_to(TOP), f"{file.stem}: a row of its trial")
 
 # Counts and seconds of the gate.
 tables_made = gate_page.page() == gate_page.PAGE.read_text(encoding="utf-8")

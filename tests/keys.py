@@ -2,7 +2,7 @@
 
 A key is a sum of
 
-- the toolchain's name, the rules of the trial (tests/trial.py, tests/edits.py), and the text of the edit;
+- the toolchain's logic, the rules of the trial (tests/trial.py, tests/edits.py), and the text of the edit;
 - each function that the edit changes, with its clauses, the head of its block and its own files of proofs/;
 - the clauses of each function that these or the edit may call: of that name, in a block for a type that they reach;
 - each type, trait, constant and block for a trait that all of these reach, without the bodies of its functions;
@@ -163,10 +163,10 @@ class Tree:
         items = reached(texts, self.definitions)
         return [text for text, _ in texts] + ["\n".join(self.definitions[at].items[item]) for at, item in items]
 
-    def key(self, edit, crates, kit):
-        """The key of an edit of the last of these crates, which has the others below it, under a toolchain of this name."""
+    def key(self, edit, crates, logic):
+        """The key of an edit of the last of these crates, which has the others below it, in this logic."""
         texts = sorted({*self.counted(edit, crates)}) if edit.is_body else [self.sum_of(it) for it in crates]
-        whole = [kit, self.rules, edit.path.read_text(encoding="utf-8"), crates, texts]
+        whole = [logic, self.rules, edit.path.read_text(encoding="utf-8"), crates, texts]
         return hashlib.sha256(repr(whole).encode()).hexdigest()[:32]
 
 

@@ -69,15 +69,23 @@ class Plant:
                 self.pairs[-1][2] = said["new"]
         self.test = said.get("test", "").strip()
 
-    def put(self, top):
-        """Changes the files of a tree, and says whether what is replaced stands there once."""
+    def texts(self, top):
+        """The files of a tree as it changes them; none where what it replaces does not stand there once."""
+        made = {}
         for file, old, new in self.pairs:
             path = top / file
-            text = path.read_text(encoding="utf-8") if path.is_file() else ""
+            text = made.get(file) or (path.read_text(encoding="utf-8") if path.is_file() else "")
             if text.count(old) != 1 or old == new:
-                return False
-            path.write_text(text.replace(old, new), encoding="utf-8")
-        return bool(self.pairs)
+                return {}
+            made[file] = text.replace(old, new)
+        return made
+
+    def put(self, top):
+        """Changes the files of a tree, and says whether what is replaced stands there once."""
+        texts = self.texts(top)
+        for file, text in texts.items():
+            (top / file).write_text(text, encoding="utf-8")
+        return bool(texts)
 
     def key(self):
         files = sorted({file for file, _, _ in self.pairs})

@@ -1,18 +1,28 @@
 """The record of wrong bodies, and that of wrong definitions: under which key each was tried, and what refused it.
 
-crates/CRATE/wrong-bodies/record has a row for each edit that was tried: its name, its key (tests/keys.py) and the
-goal, with tabs between. The tables of docs/WRONG_BODIES.md are made from these files.
+crates/CRATE/wrong-bodies/record has a row for each edit that was tried: its name, its key (tests/keys.py), the goal,
+and the release of the toolchain that tried it, with tabs between. The tables of docs/WRONG_BODIES.md are made from these
+files.
 crates/CRATE/wrong-definitions/record has the same of wrong definitions, with a key by tests/definitions.py, and the
 equation; docs/DEFINITIONS.md has their tables.
 """
 import pathlib
 import subprocess
+import typing
 
 from edits import TOP
 
 PAGE = TOP / "docs" / "WRONG_BODIES.md"
 FOLDERS = {"must-fail": "**`{}`**", "wrong-bodies": "`{}`"}  # and how the page names an edit of each
 BODIES, DEFINITIONS = "wrong-bodies", "wrong-definitions"  # the folders that have a record
+
+
+class Row(typing.NamedTuple):
+    """What a trial left: what it was over, what refused the edit, and the release of the toolchain, where it is kept."""
+
+    key: str
+    by: str
+    release: str = ""
 
 
 def git(*words):
@@ -46,19 +56,19 @@ def file_of(crate, folder=BODIES):
 
 
 def rows_of(crate, commit=None, folder=BODIES):
-    """The rows of a crate's record, as it stands or stood at a commit: by the edit's name its key and what refused it."""
+    """The rows of a crate's record, as it stands or stood at a commit, by the edit's name."""
     if commit:
         text = git("show", f"{commit}:{file_of(crate, folder)}") or ""
     else:
         path = TOP / file_of(crate, folder)
         text = path.read_text(encoding="utf-8") if path.is_file() else ""
-    return {name: (key, goal) for name, key, goal in (line.split("\t") for line in text.splitlines())}
+    return {name: Row(*cells) for name, *cells in (line.split("\t") for line in text.splitlines())}
 
 
 def write(crate, rows, folder=BODIES):
     """Writes the rows of the edits that are there; a record without rows is taken away."""
     there = {path.stem for it in (FOLDERS if folder == BODIES else [folder]) for path in edits_of(crate, it)}
-    lines = [f"{name}\t{key}\t{goal}\n" for name, (key, goal) in sorted(rows.items()) if name in there]
+    lines = ["\t".join([name, *row]) + "\n" for name, row in sorted(rows.items()) if name in there]
     path = TOP / file_of(crate, folder)
     if lines:
         path.parent.mkdir(exist_ok=True)
@@ -73,7 +83,7 @@ def page():
     for crate in below():
         rows = rows_of(crate)
         named = [(form, it.stem) for folder, form in FOLDERS.items() for it in edits_of(crate, folder) if it.stem in rows]
-        lines = [f"| {form.format(name)} | {rows[name][1]} |\n" for form, name in named]
+        lines = [f"| {form.format(name)} | {rows[name].by} |\n" for form, name in named]
         if lines:
             made.append(f"\n## {crate}\n\n| wrong body | refused at |\n|---|---|\n" + "".join(lines))
     return "".join(made)

@@ -56,18 +56,18 @@ def tree_of(room):
     return room
 
 
-def keys(folder, kit="a kit"):
+def keys(folder, logic="a logic"):
     """The key of each of the crate's wrong bodies in this copy, by the edit's name."""
     tree = Tree(folder)
     edits = sorted((folder / "crates" / CRATE / record.BODIES).glob("*.edit"))
-    return {path.stem: tree.key(Edit(path), [CRATE], kit) for path in edits}
+    return {path.stem: tree.key(Edit(path), [CRATE], logic) for path in edits}
 
 
-def keys_of_definitions(folder, kit="a kit"):
+def keys_of_definitions(folder, logic="a logic"):
     """The same of its wrong definitions."""
     tree, found = Tree(folder), Definitions(folder)
     edits = sorted((folder / "crates" / CRATE / record.DEFINITIONS).glob("*.edit"))
-    return {path.stem: WrongDefinition(path, found).key(found, tree, [CRATE], kit) for path in edits}
+    return {path.stem: WrongDefinition(path, found).key(found, tree, [CRATE], logic) for path in edits}
 
 
 def other(folder, file, old, new, keys=keys):
@@ -85,7 +85,7 @@ def keys_change(checks, folder):
         checks.that(f"keys: {what}", other(folder, f"crates/{CRATE}/{file}", old, new), expected)
     checks.that("keys: a rule of the trial", other(folder, "tests/trial.py", "MOST = 9", "MOST = 8"), ALL)
     checks.that("keys: a comment on a rule", other(folder, "tests/edits.py", "\nclass ", "\n# That is:\nclass "), set())
-    checks.that("keys: the toolchain", {*keys(folder).items()} & {*keys(folder, "another").items()}, set())
+    checks.that("keys: the toolchain's logic", {*keys(folder).items()} & {*keys(folder, "another").items()}, set())
 
 
 def keys_of_definitions_change(checks, folder):

@@ -1,12 +1,21 @@
-"""What tests/wrong_bodies.py and tests/wrong_definitions.py share: their words, whose turn it is, the libraries."""
+"""What tests/wrong_bodies.py and tests/wrong_definitions.py share: their words, whose turn it is, the libraries, and
+what of the toolchain a record is of.
+
+A key has the toolchain's logic in it, which says what a proof is, and not the name of its release: a wrong body that one
+release of a logic refuses is as wrong under the next. A row says which release tried it.
+"""
 import argparse
 import copy
+import collections
 import os
+import pathlib
 import tempfile
 
 import record
 import turns
 from trial import rt
+
+RELEASE, LOGIC = pathlib.Path(rt.KIT, "KIT-ID").read_text(encoding="utf-8").splitlines()[0].split(" ", 1)
 
 
 def arguments():
@@ -28,7 +37,14 @@ def known(edits, keys, crate, folder, since):
     rows = record.rows_of(crate, folder=folder)
     before = record.rows_of(crate, since, folder) if since else rows
     rows = {name: row for name, row in rows.items() if before.get(name) == row}
-    return {it for it in edits if rows.get(it.path.stem, [None])[0] == keys[it]}
+    return {it for it in edits if it.path.stem in rows and rows[it.path.stem].key == keys[it]}
+
+
+def by_record(wanted):
+    """How many edits of these crates are not tried now, and by which releases they were, where that was not this one."""
+    taken = [it.rows[edit.path.stem].release for it in wanted for edit in it.edits if edit not in it.now]
+    others = sorted(collections.Counter(it or "a release that is not named" for it in taken if it != RELEASE).items())
+    return f"{len(taken)} by record" + "".join(f" ({number} of them tried by {release})" for release, number in others)
 
 
 def in_turn(units):

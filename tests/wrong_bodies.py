@@ -11,7 +11,8 @@ crates/CRATE/wrong-bodies/record and in docs/WRONG_BODIES.md.
 
 An edit is new where its row has another key than the tree gives (tests/keys.py), or there is none; with --since a row
 counts only if that commit has it, too. The others are taken by record, but for those in turn (tests/turns.py): a few
-groups of a crate at a time. One in turn that is refused at another goal than its row says has failed, and keeps its row.
+groups of a crate at a time. One in turn that is refused at another goal than its row says has failed, and keeps its row,
+unless another release of the toolchain wrote it: that may have searched in another order.
 
 Each crate of which an edit is tried is proved once more, into its out/incremental, since rt ci keeps no proof. It stands
 on the libraries that rt ci left; where there are none, they are built. In the gate the library for C is always among
@@ -48,7 +49,7 @@ class Wanted:
         folders = ["wrong-bodies"] if asked.is_gate else [*record.FOLDERS]
         edits = [Edit(path) for folder in folders for path in record.edits_of(crate.name, folder)]
         self.edits = [it for it in edits if asked.is_gate or asked.audit or {crate.name, it.name} & {*asked.asked}]
-        self.keys = {it: tree.key(it, self.below, KIT) for it in self.edits}
+        self.keys = {it: tree.key(it, self.below, trials.LOGIC) for it in self.edits}
         self.sums = {it: tree.sum_of(it) for it in self.below} if self.edits else {}
         self.now, self.seconds, self.proof = list(self.edits), 0, None
 
@@ -161,14 +162,14 @@ class Run:
     def judge(self, it, edit, goal, said):
         """Gives a refused edit its row, unless its trial differs from a row that should stand."""
         name = edit.path.stem
-        key, before = it.rows.get(name, (None, None))
-        is_other = self.asked.is_gate and key == it.keys[edit] and before != goal
+        row, before = record.Row(it.keys[edit], goal, trials.RELEASE), it.rows.get(name)
+        is_other = self.asked.is_gate and before and row == before._replace(by=goal) and goal != before.by
         if goal and not is_other:
-            it.rows[name] = it.keys[edit], goal
+            it.rows[name] = row
             self.passed += 1
         else:
             self.failed.append(edit.name)
-            said = f"refused at {goal}, and the record says {before}" if goal else said
+            said = f"refused at {goal}, and the record says {before.by}" if goal else said
             if not goal:
                 it.rows.pop(name, None)
         if self.asked.told or not goal or is_other:
@@ -223,12 +224,11 @@ def main():
         proofs = [it.proof for it in needed if it.proof]
         loaded, checked = (sum(it[at] for it in proofs) for at in (0, 1))
         print(f"{len(proofs)} crates proved once more: {loaded} modules loaded, {checked} checked")
-        by_record = sum(len(it.edits) - len(it.now) for it in wanted)
-        print(f"{run.all} tried, {by_record} by record, in {time.monotonic() - begun:.0f} s" + f"; {in_turn}" * bool(in_turn))
+        by_record = trials.by_record(wanted)
+        print(f"{run.all} tried, {by_record}, in {time.monotonic() - begun:.0f} s" + f"; {in_turn}" * bool(in_turn))
     print("".join(f"FAILED: {name}\n" for name in run.failed) + f"{run.passed} passed, {len(run.failed)} failed")
     return 1 if run.failed else 0
 
 
 os.chdir(TOP)
-KIT = pathlib.Path(rt.KIT, "KIT-ID").read_text(encoding="utf-8").strip()
 sys.exit(main())

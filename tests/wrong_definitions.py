@@ -43,7 +43,7 @@ class Wanted:
         self.below = [it.name for it in [*crate.below(), crate]]
         edits = [WrongDefinition(path, ALL) for path in record.edits_of(crate.name, record.DEFINITIONS)]
         self.edits = [it for it in edits if not asked.asked or {crate.name, it.name} & {*asked.asked}]
-        self.keys = {it: it.key(ALL, TREE, self.below, KIT) for it in self.edits}
+        self.keys = {it: it.key(ALL, TREE, self.below, trials.LOGIC) for it in self.edits}
         self.sums = {it: TREE.sum_of(it) for it in self.below} if self.edits else {}
         self.now = list(self.edits)
 
@@ -97,7 +97,7 @@ class Run:
     def judge(self, it, edit, row, said):
         """Gives a refused edit its row."""
         if row:
-            it.rows[edit.path.stem] = it.keys[edit], row
+            it.rows[edit.path.stem] = record.Row(it.keys[edit], row, trials.RELEASE)
             self.passed += 1
         else:
             it.rows.pop(edit.path.stem, None)
@@ -146,15 +146,14 @@ def main():
         for it, edit in ((it, edit) for it in wanted for edit in it.now if edit.wrong):
             run.judge(it, edit, None, edit.wrong)
         rt.in_lanes(run.tasks(crates))
-    by_record = sum(len(it.edits) - len(it.now) for it in wanted)
+    by_record = trials.by_record(wanted)
     used = sum(resource.getrusage(resource.RUSAGE_CHILDREN)[:2])
     seconds = f"{time.monotonic() - begun:.0f} s, {used:.0f} s of the processors"
-    print(f"{run.all} tried, {by_record} by record, in {seconds}" + f"; {in_turn}" * bool(in_turn))
+    print(f"{run.all} tried, {by_record}, in {seconds}" + f"; {in_turn}" * bool(in_turn))
     print("".join(f"FAILED: {name}\n" for name in run.failed) + f"{run.passed} passed, {len(run.failed)} failed")
     return 0 if run.passed == run.all else 1
 
 
 os.chdir(TOP)
-KIT = pathlib.Path(rt.KIT, "KIT-ID").read_text(encoding="utf-8").strip()
 ALL, TREE = Definitions(), Tree()
 sys.exit(main())
