@@ -33,10 +33,11 @@ PAGES = sorted(TOP.glob("*.md"))
 MANUALS = sorted((TOP / "man").glob("*.1"))
 DOCUMENTS = [*PAGES, *sorted((TOP / "docs").glob("*.md")), *MANUALS]
 IN_BACKTICKS = re.compile(r"`([^`]+)`")
-# How a goal is called: of a return, a call, a loop or a type; or it is a lemma's. That a number fits is no contract's.
+# How a goal is called: of a return, a call, a loop or a type; or it is a lemma's, or an error of the types. That a number
+# fits is no contract's.
 GOAL = re.compile(
     r"`(?:returns|\S+-requires|loop-\S+|\S+-(?:init|preserved|smaller)|invariant_of-)[^`]*`"
-    r"(?:, at its answer)?|the lemma \w+"
+    r"(?:, at its answer)?|the lemma \w+|the types: .+"
 )
 CLAUSES_OF_THE_LIBRARY = {"steps"}  # of Iterator::next
 missing = []

@@ -56,8 +56,10 @@ class Edit:
             said[word] = rest.removeprefix(" ")
             if word == "new":
                 self.pairs.append((said["file"].strip(), said["old"], said["new"]))
+        self.types = said.get("types", "").strip()  # the error of the types that refuses it, where it names one
         self.texts, self.places = self.put({}) or ({}, {None})
         self.is_body = all(self.places)
+        self.is_shared = self.is_body and not self.types  # whether it can be tried beside others
 
     def put(self, texts):
         """The texts with this edit, and what it changes; or none where what it replaces does not stand there once."""
@@ -73,12 +75,18 @@ class Edit:
         return made, places
 
 
+    def puts(self, file, line):
+        """Whether this line of a file, as the edit makes it, is one that it puts there."""
+        lines = self.texts.get(file, "").split("\n")
+        return line < len(lines) and any(it[0] == file and it[2].strip() in lines[line] for it in self.pairs)
+
+
 def in_groups(edits, most):
     """Pairs of edits and the texts that they make: no two edits of a group change one function."""
     groups = []
     for edit in edits:
-        for group in groups if edit.is_body else []:
-            made = edit.put(group[1]) if group[0][0].is_body and len(group[0]) < most else None
+        for group in groups if edit.is_shared else []:
+            made = edit.put(group[1]) if group[0][0].is_shared and len(group[0]) < most else None
             if made and not any(it.places & edit.places for it in group[0]):
                 group[:] = [*group[0], edit], made[0]
                 break

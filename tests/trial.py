@@ -6,6 +6,9 @@ be tried again. What is printed, and what is tried when, stands in tests/wrong_b
 Edits of different functions share a check of these functions, in each of which a goal must be left open. An edit that
 leaves none there is tried again without the others, and one that changes more than bodies by a check of the crate.
 
+An edit with a line `types:` is one that the types refuse: a check of the crate must say that error, and no other, of a
+line that the edit puts. So a body that wants a counter or memory that nothing hands it cannot be written at all.
+
 In a shared check each changed function also gets one answer that belongs to no goal. The prover refuses it, and then
 leaves out its second search, for answers to offer, which would take half of the time. That refusal counts for nothing:
 the right body of each function, with such an answer, must leave no goal open.
@@ -25,6 +28,7 @@ NO_GOAL = "\npub of-no-goal : of-no-goal\nof-no-goal c = c\n"  # refused for a n
 LEFT_OPEN = re.compile(r"note: (?:\./)?(src/\S+?):(\d+):\d+: it is not proved .*?\((`[^`]+`)\)")
 AT_ITS_ANSWER = re.compile(r"(?:\./)?proofs/(\S+)/(?:Answers|Invariants)\.antt:\d+:\d+: error: (`[^`]+`): .*")
 LEMMA = re.compile(r"(?:\./)?proofs/\S+:\d+:\d+: error: `(\w+)`: .*")
+ERROR = re.compile(r"(?:\./)?(\S+?):(\d+):\d+: error(?:\[[\w-]+\])?: (.*)")
 LOST_NAME = re.compile(r"has no field|is not in scope|has no `|was not admitted")  # says nothing of a contract
 
 
@@ -64,7 +68,7 @@ def goals(folder, texts, lines):
 
 def changed(edits):
     """The functions whose bodies these edits change."""
-    return sorted({place for edit in edits for place in edit.places if edit.is_body})
+    return sorted({place for edit in edits for place in edit.places if edit.is_shared})
 
 
 def shared(crate, texts, places, folder, kept):
@@ -90,10 +94,21 @@ def verdict(goal, otherwise="no goal is left open in what it changes"):
     return goal, "" if goal else otherwise
 
 
+def by_types(crate, edit, kept):
+    """The verdict on an edit that names the error of the types that refuses it."""
+    ran = rt.checked(crate, edit.texts, ALONE, kept)
+    found = [(file, int(line) - 1, said) for file, line, said in ERROR.findall(ran.stdout)]
+    expected = [it for it in found if it[2] == edit.types and edit.puts(*it[:2])]
+    is_refused = ran.returncode == 1 and len(found) == 1 and found == expected
+    return (f"the types: {edit.types}", "") if is_refused else (None, f"the types say other errors, or none: {found}")
+
+
 def whole(crate, edit, kept):
     """The verdict on an edit by a check of the whole crate."""
     if not edit.texts:
         return None, "what it replaces does not stand there once"
+    if edit.types:
+        return by_types(crate, edit, kept)
     ran = rt.checked(crate, edit.texts, ALONE, kept)
     lines = ran.stdout.rstrip("\n").split("\n")
     bad = next((it for it in lines if rt.unread(it, edit.texts) or rt.rtlib.STALE.search(it)), None)
@@ -106,7 +121,7 @@ def whole(crate, edit, kept):
 
 def tried(crate, edits, texts, folder, kept):
     """The verdict on each edit of a group."""
-    if not edits[0].is_body:
+    if not edits[0].is_shared:
         return [whole(crate, edit, kept) for edit in edits]
     found = shared(crate, texts, changed(edits), folder, kept)
     if found is None and len(edits) == 1:

@@ -12,7 +12,7 @@
 //!     associated: &[],
 //! };
 //! let mut tag = [0; 32];
-//! matrix.hash(&inputs, &mut tag, &mut Ticks::new());
+//! matrix.hash(&inputs, &mut tag, &mut Ticks::new(alloc));
 //! ```
 //!
 //! A hash goes in three steps: [`Params::new`] tests the parameters, [`Matrix::reserve`] takes the

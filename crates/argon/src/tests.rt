@@ -60,7 +60,7 @@ fn has_tag(
     )?;
     let mut matrix = Matrix::reserve(alloc, &params)?;
     let mut found = vec![in alloc; 0u8; tag_len]?;
-    matrix.hash(inputs, &mut found, &mut Ticks::new());
+    matrix.hash(inputs, &mut found, &mut Ticks::new(alloc));
     Ok(hex_text(alloc, &found)?.as_str() == tag)
 }
 
@@ -408,9 +408,9 @@ fn slices(alloc: Global) -> Result<([Option<(u32, u32)>; 7], bool), Fail> {
     let mut matrix = Matrix::reserve(alloc, &params)?;
     let reserved = matrix.next();
     let mut whole = [0u8; 32];
-    matrix.hash(&inputs, &mut whole, &mut Ticks::new());
+    matrix.hash(&inputs, &mut whole, &mut Ticks::new(alloc));
     let hashed = matrix.next();
-    let mut ticks = Ticks::new();
+    let mut ticks = Ticks::new(alloc);
     matrix.start(&inputs);
     let first = matrix.next();
     matrix.slice(&mut ticks);
@@ -537,7 +537,7 @@ fn lanes_and_plain_loops_agree_on_1000_blocks(rt: HostRuntime) {
     let mut expected = [0; 128];
     let mut out = [0; 128];
     let mut scratch = Scratch::new();
-    let mut ticks = Ticks::new();
+    let mut ticks = Ticks::new(rt.alloc());
     for _ in 0..1000u32 {
         plain::compression(&first, &second, &mut expected);
         compression(&first, &second, &mut scratch, &mut ticks);
@@ -622,7 +622,7 @@ fn tally_segment(
 {
     let len = params.segment_len();
     let mut plan = vec![in alloc; UNPLANNED; len as usize]?;
-    plan_segment(params, pass, lane, slice, &mut plan, &mut Ticks::new());
+    plan_segment(params, pass, lane, slice, &mut plan, &mut Ticks::new(alloc));
     let mut tally = Tally { along: 0, left: 0 };
     for (index, place) in plan.iter().enumerate() {
         let column = slice.wrapping_mul(len).wrapping_add(index as u32);
@@ -663,7 +663,7 @@ fn tally_matrix(alloc: Global, kind: Kind, password: &[u8; 8]) -> Result<Tally, 
             return Ok(all);
         };
         let before = matrix.blocks().to_vec(alloc)?;
-        matrix.slice(&mut Ticks::new());
+        matrix.slice(&mut Ticks::new(alloc));
         for lane in 0..params.lanes() {
             if pass < params.passes() && slice < 4 && params.is_independent(pass, slice) {
                 let tally = tally_segment(
@@ -728,7 +728,7 @@ fn is_planned(
         return Ok(false);
     }
     let mut plan = vec![in alloc; UNPLANNED; params.segment_len() as usize]?;
-    plan_segment(&params, 0, 0, slice, &mut plan, &mut Ticks::new());
+    plan_segment(&params, 0, 0, slice, &mut plan, &mut Ticks::new(alloc));
     let within = plan.iter().all(|place| place.lane == 0 && place.column < 2);
     Ok(
         params.segment_len() == memory_kib / 4

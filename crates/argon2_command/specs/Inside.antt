@@ -1,3 +1,4 @@
 -- Definitions that private contracts and proofs cite; no public contract reaches them.
+pub mod Bytes
 pub mod RunAsking
 pub mod Work

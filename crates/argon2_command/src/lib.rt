@@ -5,6 +5,7 @@
 //! what a run comes to, whatever the host is.
 #![tactic(auto)]
 
+mod bytes;
 mod items;
 #[cfg(test)]
 mod laws;

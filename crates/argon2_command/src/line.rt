@@ -5,6 +5,7 @@ ghost use Rattle.argon_text.specs.Value.{is_in_range};
 ghost use Rattle.argon2_command.specs.Output.{tag_line, tag_text, value_with};
 ghost use Rattle.argon2_command.specs.RequestView.{request_of};
 
+use crate::bytes::Bytes;
 use crate::items::Form;
 use crate::request::Request;
 use argon_text::Encoded;
@@ -34,16 +35,16 @@ fn encoded(alloc: Global, request: &Request<'_>, tag: &[u8]) -> Result<Vec<u8>, 
 }
 
 /// The line of a tag, in the form that is asked for.
-pub fn line_of(alloc: Global, request: &Request<'_>, tag: &[u8]) -> Result<Vec<u8>, AllocError>
+pub fn line_of(alloc: Global, request: &Request<'_>, tag: &[u8]) -> Result<Bytes, AllocError>
     requires in_range { is_in_range (value_with (request_of request.now) tag.now) ≡ true }
-    ensures line { IfOk result (λ line. line.items ≡ tag_line (request_of request.now) tag.now) }
+    ensures line { IfOk result (λ line. line.list.items ≡ tag_line (request_of request.now) tag.now) }
 {
     let mut line = match request.form {
         Form::Encoded => encoded(alloc, request, tag)?,
         Form::Hex => hex::encode(alloc, tag)?.into_bytes(),
     };
     line.push(b'\n')?;
-    Ok(line)
+    Ok(Bytes::new(line))
 }
 
 /// Writes a tag over that of a line, of the same length. It takes no memory: so the line is made

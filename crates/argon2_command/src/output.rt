@@ -6,6 +6,7 @@ ghost use Rattle.argon2_command.specs.Output.{admitted_parameters, output_line, 
 ghost use Rattle.argon2_command.specs.Refusal.{IsEarly};
 ghost use Rattle.argon2_command.specs.RequestView.{request_of};
 
+use crate::bytes::Bytes;
 use crate::line::put_tag;
 use crate::password::Password;
 use crate::refusal::Argon2Refusal;
@@ -68,11 +69,11 @@ pub fn output<R: Room>(
     password: &Password,
     params: &Params,
     ticks: &mut Ticks,
-) -> Result<Vec<u8>, AllocError>
+) -> Result<Bytes, AllocError>
     requires admitted { admitted_parameters (request_of request.now) password.now ≡ Ok params.now }
     requires parameters { params.now ≡ parameters_of (request_of request.now) password.now }
     ensures line { IfOk result (λ line.
-        line.items ≡ output_line (request_of request.now) password.now params.now) }
+        line.list.items ≡ output_line (request_of request.now) password.now params.now) }
     // Memory is asked for the tag, the line and one matrix, up to the first that is refused.
     ensures memory_granted { OnOk result (room.new ≡ with_all (asking R.after_zeros R.after_line R.after_matrix)
         (request_of request.now) params.now room.old) }
@@ -83,8 +84,15 @@ pub fn output<R: Room>(
     ensures count { IfOk result (λ _. ticks.new ≡ ticks.old + work params.now) }
 {
     let mut tag = room.zeros(params.tag_len())?;
-    let mut line = room.line(request, &tag)?;
+    let mut line = room.line(request, tag.as_slice())?;
     let mut matrix = room.matrix(params, &request.settings)?;
-    hash_into(&mut line, &mut tag, &mut matrix, request, password, ticks);
+    hash_into(
+        line.as_mut_slice(),
+        tag.as_mut_slice(),
+        &mut matrix,
+        request,
+        password,
+        ticks,
+    );
     Ok(line)
 }

@@ -7,6 +7,7 @@ ghost use Rattle.argon2_command.specs.Output.{tag_line, value_with};
 ghost use Rattle.argon2_command.specs.Request.{Request};
 ghost use Rattle.argon2_command.specs.RequestView.{request_of};
 
+use crate::bytes::Bytes;
 use crate::line::line_of;
 use crate::request::Request;
 use crate::settings::Settings;
@@ -14,7 +15,8 @@ use argon::{Matrix, Params};
 use std::alloc::{AllocError, Global};
 
 /// The requests for memory of a run, which has no other source. All of them are made before the hash.
-/// Contracts see how many there are, of what, and which of them are granted.
+/// Contracts see how many there are, of what, and which of them are granted. What is given cannot grow,
+/// and hands on no heap.
 pub trait Room {
     // What a request for so many bytes leaves of the source, granted or refused.
     ghost after_zeros: { Self → ℕ → Bool → Self };
@@ -26,14 +28,14 @@ pub trait Room {
     ghost after_matrix: { Self → Parameters → Bool → Self };
 
     /// So many bytes of zero.
-    fn zeros(&mut self, count: usize) -> Result<Vec<u8>, AllocError>
-        ensures size { IfOk result (λ bytes. length bytes.items ≡ count) }
+    fn zeros(&mut self, count: usize) -> Result<Bytes, AllocError>
+        ensures size { IfOk result (λ bytes. length bytes.list.items ≡ count) }
         ensures asked { self.new ≡ after_zeros self.old count (is_ok result) };
 
     /// The line of a tag.
-    fn line(&mut self, request: &Request<'_>, tag: &[u8]) -> Result<Vec<u8>, AllocError>
+    fn line(&mut self, request: &Request<'_>, tag: &[u8]) -> Result<Bytes, AllocError>
         requires in_range { is_in_range (value_with (request_of request.now) tag.now) ≡ true }
-        ensures line { IfOk result (λ line. line.items ≡ tag_line (request_of request.now) tag.now) }
+        ensures line { IfOk result (λ line. line.list.items ≡ tag_line (request_of request.now) tag.now) }
         ensures asked { self.new
             ≡ after_line self.old (request_of request.now) (length tag.now) (is_ok result) };
 
@@ -52,11 +54,11 @@ impl Room for Global {
 
     ghost after_matrix = { λ room _ _. room };
 
-    fn zeros(&mut self, count: usize) -> Result<Vec<u8>, AllocError> {
-        vec![in *self; 0; count]
+    fn zeros(&mut self, count: usize) -> Result<Bytes, AllocError> {
+        Bytes::zeros(*self, count)
     }
 
-    fn line(&mut self, request: &Request<'_>, tag: &[u8]) -> Result<Vec<u8>, AllocError> {
+    fn line(&mut self, request: &Request<'_>, tag: &[u8]) -> Result<Bytes, AllocError> {
         line_of(*self, request, tag)
     }
 

@@ -13,6 +13,7 @@ ghost use Rattle.argon2_command.specs.Request.{argon2_request};
 ghost use Rattle.argon2_command.specs.Run.{IsRefused, IsToldForSome, Refuses, Succeeds, SucceedsForSome, password_asked};
 ghost use Rattle.argon2_command.specs.declared.refusal.Argon2Refusal.{Argon2Refusal};
 
+use crate::bytes::Bytes;
 use crate::output::{output, parameters};
 use crate::password::read_password;
 use crate::refusal::Argon2Refusal;
@@ -28,7 +29,7 @@ fn prepare<R: Room, H: Host>(
     words: &[String],
     host: &mut H,
     ticks: &mut Ticks,
-) -> Result<Vec<u8>, Argon2Refusal>
+) -> Result<Bytes, Argon2Refusal>
     requires room { AreBelow (2 ^ 63) (H.faults host.old) }
     requires unasked { (H.grants host.old).secret ≡ true }
     ensures counts { MatchResult result (λ _. H.faults host.new ≡ H.faults host.old)
@@ -42,7 +43,7 @@ fn prepare<R: Room, H: Host>(
     ensures some_input { MatchResult result (λ _. SucceedsForSome (map string_bytes words.now))
         (IsToldForSome (map string_bytes words.now)) }
     ensures due { IsTrue H.tells → IfOk result (λ line.
-        argon2_output (map string_bytes words.now) (H.seen host.old) ≡ Ok line.items) }
+        argon2_output (map string_bytes words.now) (H.seen host.old) ≡ Ok line.list.items) }
     ensures refused { IsTrue H.tells → IfErr result (λ r.
         IsRefused r (map string_bytes words.now) (H.seen host.old) (H.seen host.new)) }
     // Nothing is asked of the source of memory before every other refusal is ruled out.
@@ -104,7 +105,7 @@ pub(super) fn attempt<R: Room, H: Host>(
         (λ request. ticks.new ≡ ticks.old + request_work request)) }
 {
     let line = prepare(room, words, host, ticks)?;
-    let Ok(()) = write_output(host, &line) else {
+    let Ok(()) = write_output(host, line.as_slice()) else {
         return Err(Argon2Refusal::OutputFault);
     };
     Ok(())
@@ -139,7 +140,7 @@ pub fn argon2<H: Host>(alloc: Global, words: &[String], host: &mut H) -> u8
         (H.seen host.old) (H.seen host.new) (H.faults host.old) (H.faults host.new) }
 {
     let mut room = alloc;
-    match attempt(&mut room, words, host, &mut Ticks::new()) {
+    match attempt(&mut room, words, host, &mut Ticks::new(alloc)) {
         Ok(()) => 0,
         Err(refusal) => refuse(host, refusal.line()),
     }

@@ -410,7 +410,7 @@ fn asked(
         last: None,
     };
     let mut host = host_with(alloc, b"password")?;
-    let answer = attempt(&mut room, &words, &mut host, &mut Ticks::new());
+    let answer = attempt(&mut room, &words, &mut host, &mut Ticks::new(alloc));
     Ok((answer.err(), room.last, host.output_name().is_some()))
 }
 

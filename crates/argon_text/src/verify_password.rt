@@ -69,7 +69,7 @@ pub fn verify_keyed(
         associated,
         max_kib,
         max_ops,
-        &mut Ticks::new(),
+        &mut Ticks::new(alloc),
     )
 }
 

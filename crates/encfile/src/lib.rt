@@ -26,7 +26,7 @@
 //! whole.admitted(&limits)?;
 //! let mut whole = Workspace::reserve(rt.alloc(), &whole)?;
 //! let salt = [7u8; 32];
-//! let mut ticks = Ticks::new();
+//! let mut ticks = Ticks::new(rt.alloc());
 //! let mut enc = Enc::start(&costs, &salt, b"pw", &mut whole, &mut ticks);
 //! let front = enc.header();
 //! let mut text = *b"hello";

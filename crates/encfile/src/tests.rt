@@ -159,7 +159,7 @@ fn encrypt_as(
         Err(_) => return Ok(file),
     };
     let mut workspace = Workspace::reserve(rt.alloc(), &sparse)?;
-    let mut ticks = Ticks::new();
+    let mut ticks = Ticks::new(rt.alloc());
     let mut enc = Enc::start(
         header.costs(),
         header.salt(),
@@ -192,7 +192,7 @@ fn opened(
         Err(outcome) => return Ok(Err(outcome)),
     };
     let mut workspace = Workspace::reserve(rt.alloc(), &sparse)?;
-    let mut ticks = Ticks::new();
+    let mut ticks = Ticks::new(rt.alloc());
     match Dec::open(front, header, passphrase, &mut workspace, &mut ticks) {
         Ok(dec) => Ok(Ok(dec)),
         Err(_) => Ok(Err(Outcome::WrongPassphrase)),
@@ -344,7 +344,7 @@ fn example(rt: HostRuntime) -> Result<(), Fail> {
     whole.admitted(&limits)?;
     let mut whole = Workspace::reserve(rt.alloc(), &whole)?;
     let salt = [7u8; 32];
-    let mut ticks = Ticks::new();
+    let mut ticks = Ticks::new(rt.alloc());
     let mut enc = Enc::start(&costs, &salt, b"pw", &mut whole, &mut ticks);
     let front = enc.header();
     let mut text = *b"hello";

@@ -193,6 +193,6 @@ pub extern "C" fn pikhsen_argon2_hash(
         secret,
         associated,
     };
-    let told = hash_in(&mut source, &settings, &inputs, out, &mut Ticks::new());
+    let told = hash_in(&mut source, &settings, &inputs, out, &mut Ticks::new(alloc));
     burn(told)
 }

@@ -203,7 +203,7 @@ pub extern "C" fn pikhsen_argon2_encoded(
         tag_len,
         out,
         text_len,
-        &mut Ticks::new(),
+        &mut Ticks::new(alloc),
     );
     burn(told)
 }

@@ -248,7 +248,7 @@ pub extern "C" fn pikhsen_scrypt_encrypt(
         max_ops,
         text,
         out,
-        &mut Ticks::new(),
+        &mut Ticks::new(alloc),
     );
     burn(told)
 }
@@ -467,7 +467,7 @@ pub extern "C" fn pikhsen_scrypt_decrypt(
         file,
         out,
         text_len,
-        &mut Ticks::new(),
+        &mut Ticks::new(alloc),
     );
     burn(told)
 }

@@ -129,7 +129,7 @@ pub extern "C" fn pikhsen_scrypt_encrypt_in_place(
         max_bytes,
         max_ops,
         out,
-        &mut Ticks::new(),
+        &mut Ticks::new(alloc),
     );
     burn(told)
 }

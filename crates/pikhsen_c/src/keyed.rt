@@ -71,7 +71,7 @@ pub extern "C" fn pikhsen_argon2_encoded_keyed(
         tag_len,
         out,
         text_len,
-        &mut Ticks::new(),
+        &mut Ticks::new(alloc),
     );
     burn(told)
 }

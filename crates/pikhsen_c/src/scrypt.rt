@@ -173,7 +173,7 @@ pub extern "C" fn pikhsen_scrypt(
         max_bytes,
         max_ops,
         out,
-        &mut Ticks::new(),
+        &mut Ticks::new(alloc),
     );
     burn(told)
 }

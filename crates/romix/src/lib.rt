@@ -17,7 +17,7 @@
 //! sparse.admitted(&limits)?;
 //! let mut workspace = Workspace::reserve(rt.alloc(), &sparse)?;
 //! let mut key = [0u8; 64];
-//! workspace.derive(b"pleaseletmein", b"SodiumChloride", &mut key, &mut Ticks::new());
+//! workspace.derive(b"pleaseletmein", b"SodiumChloride", &mut key, &mut Ticks::new(rt.alloc()));
 //! assert_eq!(rt; &key[..4], [0x70, 0x23, 0xbd, 0xcb].as_slice());
 //! ```
 //!

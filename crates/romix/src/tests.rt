@@ -366,14 +366,14 @@ fn sparse_workspace(alloc: Global, log_n: u8, r: u32, p: u32, keep: u64) -> Resu
 #[test]
 fn core_vector(rt: HostRuntime) {
     let mut words = CORE_INPUT;
-    salsa8(&mut words, &mut Ticks::new());
+    salsa8(&mut words, &mut Ticks::new(rt.alloc()));
     assert_eq!(rt; words, CORE_OUTPUT);
 }
 
 #[test]
 fn block_mix_vector(rt: HostRuntime) {
     let mut out = [0u32; 32];
-    block_mix(&ROW, &mut out, &mut Ticks::new());
+    block_mix(&ROW, &mut out, &mut Ticks::new(rt.alloc()));
     assert_eq!(rt; out, ROW_BLOCK_MIXED);
 }
 
@@ -390,7 +390,7 @@ fn romix_vector(rt: HostRuntime) {
         &mut table,
         4,
         1,
-        &mut Ticks::new(),
+        &mut Ticks::new(rt.alloc()),
     );
     assert_eq!(rt; row, ROW_ROMIXED);
 }
@@ -399,7 +399,7 @@ fn romix_vector(rt: HostRuntime) {
 fn both_forms_of_the_core_agree_on_1000_blocks(rt: HostRuntime) {
     let mut words = CORE_INPUT;
     let mut expected = CORE_INPUT;
-    let mut ticks = Ticks::new();
+    let mut ticks = Ticks::new(rt.alloc());
     for _ in 0..1000u32 {
         salsa8(&mut words, &mut ticks);
         plain::salsa8(&mut expected);
@@ -413,7 +413,7 @@ fn both_forms_of_block_mix_agree_on_1008_blocks(rt: HostRuntime) {
     row[..16].copy_from_slice(&CORE_INPUT);
     let mut out = [0u32; plain::ROW_LEN];
     let mut expected = [0u32; plain::ROW_LEN];
-    let mut ticks = Ticks::new();
+    let mut ticks = Ticks::new(rt.alloc());
     for _ in 0..63u32 {
         block_mix(&row, &mut out, &mut ticks);
         plain::block_mix(&row, &mut expected);
@@ -431,7 +431,7 @@ fn scrypt_cases(rt: HostRuntime) -> Result<(), Fail> {
             case.password.as_bytes(),
             case.salt.as_bytes(),
             &mut key,
-            &mut Ticks::new(),
+            &mut Ticks::new(rt.alloc()),
         );
         assert_eq!(rt; key, case.key, "of {:?}", case.password);
     }
@@ -443,14 +443,14 @@ fn scrypt_cases(rt: HostRuntime) -> Result<(), Fail> {
 fn key_of_100_bytes(rt: HostRuntime) -> Result<(), Fail> {
     let mut workspace = workspace(rt.alloc(), 4, 1, 1)?;
     let mut key = [0u8; 100];
-    workspace.derive(b"", b"", &mut key, &mut Ticks::new());
+    workspace.derive(b"", b"", &mut key, &mut Ticks::new(rt.alloc()));
     assert_eq!(rt; key, KEY_OF_NOTHING);
     assert_eq!(rt; SCRYPT_CASES[0].key.as_slice(), &KEY_OF_NOTHING[..64]);
     Ok(())
 }
 
 // Whether the key of so many bytes is the start of the long one.
-fn is_start_of_long_key(workspace: &mut Workspace, len: usize) -> bool {
+fn is_start_of_long_key(alloc: Global, workspace: &mut Workspace, len: usize) -> bool {
     let mut key = [0u8; 100];
     let (Some(found), Some(expected)) = (key.get_mut(..len), LONG_KEY.get(..len)) else {
         return false;
@@ -459,7 +459,7 @@ fn is_start_of_long_key(workspace: &mut Workspace, len: usize) -> bool {
         b"pleaseletmein",
         b"SodiumChloride",
         found,
-        &mut Ticks::new(),
+        &mut Ticks::new(alloc),
     );
     &*found == expected
 }
@@ -468,7 +468,10 @@ fn is_start_of_long_key(workspace: &mut Workspace, len: usize) -> bool {
 fn lengths(rt: HostRuntime) -> Result<(), Fail> {
     let mut workspace = workspace(rt.alloc(), 4, 1, 1)?;
     for len in [0usize, 1, 31, 32, 33, 64, 100] {
-        assert!(rt; is_start_of_long_key(&mut workspace, len), "{len} bytes");
+        assert!(rt;
+            is_start_of_long_key(rt.alloc(), &mut workspace, len),
+            "{len} bytes"
+        );
     }
     Ok(())
 }
@@ -481,7 +484,7 @@ fn small_key(alloc: Global, r: u32, p: u32) -> Result<[u8; 16], Fail> {
         b"pleaseletmein",
         b"SodiumChloride",
         &mut key,
-        &mut Ticks::new(),
+        &mut Ticks::new(alloc),
     );
     Ok(key)
 }

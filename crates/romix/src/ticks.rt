@@ -2,6 +2,7 @@
 ghost use Rattle.std.specs.Prelude.{◌≡◌, ℕ, ◌+◌};
 
 use counter::Count;
+use std::alloc::Global;
 use std::marker::Model;
 
 /// How many Salsa20/8 cores were done with it. Contracts see a whole number without a bound. At run
@@ -18,8 +19,9 @@ impl Model for Ticks {
 }
 
 impl Ticks {
-    /// A counter at 0.
-    pub fn new() -> Ticks
+    /// A counter at 0. The heap is wanted and not used: what has its memory from a caller's source
+    /// alone can make no counter of its own, so all its work is counted by the one that it is handed.
+    pub fn new(_alloc: Global) -> Ticks
         ensures zero { result ≡ 0 }
     {
         Ticks {

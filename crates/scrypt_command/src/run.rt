@@ -82,7 +82,7 @@ pub fn scrypt<H: Host>(alloc: Global, words: &[String], host: &mut H) -> u8
     ensures refuses { result ≡ 1 → Refuses H.tells (map string_bytes words.now)
         (H.seen host.old) (H.seen host.new) (H.faults host.old) (H.faults host.new) }
 {
-    match attempt(alloc, words, host, &mut Ticks::new()) {
+    match attempt(alloc, words, host, &mut Ticks::new(alloc)) {
         Ok(()) => 0,
         Err(refusal) => refuse(host, refusal.line()),
     }

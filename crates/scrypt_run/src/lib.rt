@@ -30,7 +30,7 @@
 //!     salt: None,
 //!     task,
 //! };
-//! let mut ticks = Ticks::new();
+//! let mut ticks = Ticks::new(alloc);
 //! let mut host = MemoryHost::new(alloc, b"hello".to_vec(alloc)?, b"pw".to_vec(alloc)?, [7; 32]);
 //! let mut room = alloc;
 //! run(&mut room, &mut host, &Request::Encrypt(encryption), &mut ticks)?;

@@ -22,7 +22,7 @@ fn example(rt: HostRuntime) -> Result<(), Fail> {
         salt: None,
         task,
     };
-    let mut ticks = Ticks::new();
+    let mut ticks = Ticks::new(alloc);
     let mut host = MemoryHost::new(
         alloc,
         b"hello".to_vec(alloc)?,

@@ -24,7 +24,7 @@ fn a_hash(rt: HostRuntime) -> Result<(), Fail> {
         associated: &[],
     };
     let mut tag = [0; 32];
-    matrix.hash(&inputs, &mut tag, &mut Ticks::new());
+    matrix.hash(&inputs, &mut tag, &mut Ticks::new(alloc));
 
     assert_eq!(rt;
         hex_text(alloc, &tag)?.as_str(),
@@ -91,7 +91,7 @@ fn two_lanes_in_turn(rt: HostRuntime) -> Result<(), Fail> {
         associated: &[],
     };
     let mut tag = [0; 32];
-    hash_in_turn(matrix, lanes, &inputs, &mut tag, &mut Ticks::new());
+    hash_in_turn(matrix, lanes, &inputs, &mut tag, &mut Ticks::new(alloc));
 
     assert_eq!(rt;
         hex_text(alloc, &tag)?.as_str(),

@@ -138,7 +138,7 @@ fn has_tag_by(
         inputs,
         order,
         &mut found,
-        &mut Ticks::new(),
+        &mut Ticks::new(alloc),
     );
     Ok(hex_text(alloc, &found)?.as_str() == tag)
 }

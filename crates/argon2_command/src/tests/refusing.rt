@@ -2,6 +2,7 @@
 ghost use Rattle.std.specs.Prelude.{◌≡◌, ◌-◌, Some};
 ghost use Rattle.argon2_command.specs.declared.tests.refusing.Asked.TheVariants as asked;
 
+use crate::bytes::Bytes;
 use crate::request::Request;
 use crate::room::Room;
 use crate::settings::Settings;
@@ -45,14 +46,14 @@ impl Room for Refusing {
 
     ghost after_matrix = { λ room _ _. record room { left = room.left - 1; last = Some asked.Matrix } };
 
-    fn zeros(&mut self, count: usize) -> Result<Vec<u8>, AllocError> {
+    fn zeros(&mut self, count: usize) -> Result<Bytes, AllocError> {
         if !self.grants(Asked::Zeros) {
             return Err(AllocError);
         }
         self.alloc.zeros(count)
     }
 
-    fn line(&mut self, request: &Request<'_>, tag: &[u8]) -> Result<Vec<u8>, AllocError> {
+    fn line(&mut self, request: &Request<'_>, tag: &[u8]) -> Result<Bytes, AllocError> {
         if !self.grants(Asked::Line) {
             return Err(AllocError);
         }

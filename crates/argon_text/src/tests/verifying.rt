@@ -143,7 +143,7 @@ fn answered_with(alloc: Global, left: u32, max_ops: u64) -> Result<u8, Fail> {
         &[],
         256,
         max_ops,
-        &mut Ticks::new(),
+        &mut Ticks::new(alloc),
     );
     Ok(number_of(found))
 }

@@ -18,7 +18,7 @@ fn example(rt: HostRuntime) -> Result<(), Fail> {
         b"pleaseletmein",
         b"SodiumChloride",
         &mut key,
-        &mut Ticks::new(),
+        &mut Ticks::new(rt.alloc()),
     );
     assert_eq!(rt; &key[..4], [0x70, 0x23, 0xbd, 0xcb].as_slice());
     Ok(())

@@ -27,7 +27,7 @@ fn one_key_with_each_sparse_table(rt: HostRuntime) -> Result<(), Fail> {
                 b"pleaseletmein",
                 b"SodiumChloride",
                 &mut key,
-                &mut Ticks::new(),
+                &mut Ticks::new(rt.alloc()),
             );
             assert_eq!(rt; key, KEY_OF_TWO_PARTS, "with {keep}");
         }
@@ -43,7 +43,12 @@ fn vectors_over_sparse_tables(rt: HostRuntime) -> Result<(), Fail> {
         let mut workspace = sparse_workspace(rt.alloc(), case.log_n, case.r, case.p, keep)?;
         let mut key = [0u8; 64];
         let password = case.password.as_bytes();
-        workspace.derive(password, case.salt.as_bytes(), &mut key, &mut Ticks::new());
+        workspace.derive(
+            password,
+            case.salt.as_bytes(),
+            &mut key,
+            &mut Ticks::new(rt.alloc()),
+        );
         assert_eq!(rt; key, case.key, "of {:?} with {keep}", case.password);
     }
     Ok(())
@@ -56,44 +61,49 @@ fn third_vector_over_the_sparsest_table(rt: HostRuntime) -> Result<(), Fail> {
     let mut workspace = sparse_workspace(rt.alloc(), case.log_n, case.r, case.p, 1024)?;
     let mut key = [0u8; 64];
     let password = case.password.as_bytes();
-    workspace.derive(password, case.salt.as_bytes(), &mut key, &mut Ticks::new());
+    workspace.derive(
+        password,
+        case.salt.as_bytes(),
+        &mut key,
+        &mut Ticks::new(rt.alloc()),
+    );
     assert_eq!(rt; key, case.key);
     Ok(())
 }
 
 // What a derivation counts is proved of it; the counts of RFC 7914, section 12's vectors follow.
-fn first_vector(workspace: &mut Workspace, key: &mut [u8; 64]) -> Ticks
+fn first_vector(alloc: Global, workspace: &mut Workspace, key: &mut [u8; 64]) -> Ticks
     requires costs { workspace.old.sparse ≡ record { costs = record { log_n = 4; r = 1; p = 1 }; keep = 1 } }
     ensures count { result ≡ 64 }
 {
-    let mut ticks = Ticks::new();
+    let mut ticks = Ticks::new(alloc);
     workspace.derive(b"", b"", key, &mut ticks);
     ticks
 }
 
-fn second_vector(workspace: &mut Workspace, key: &mut [u8; 64]) -> Ticks
+fn second_vector(alloc: Global, workspace: &mut Workspace, key: &mut [u8; 64]) -> Ticks
     requires costs { workspace.old.sparse ≡ record { costs = record { log_n = 10; r = 8; p = 16 }; keep = 1 } }
     ensures count { result ≡ 524288 }
 {
-    let mut ticks = Ticks::new();
+    let mut ticks = Ticks::new(alloc);
     workspace.derive(b"password", b"NaCl", key, &mut ticks);
     ticks
 }
 
-fn third_vector(workspace: &mut Workspace, key: &mut [u8; 64]) -> Ticks
+fn third_vector(alloc: Global, workspace: &mut Workspace, key: &mut [u8; 64]) -> Ticks
     requires costs { workspace.old.sparse ≡ record { costs = record { log_n = 14; r = 8; p = 1 }; keep = 1 } }
     ensures count { result ≡ 524288 }
 {
-    let mut ticks = Ticks::new();
+    let mut ticks = Ticks::new(alloc);
     workspace.derive(b"pleaseletmein", b"SodiumChloride", key, &mut ticks);
     ticks
 }
 
-fn third_vector_with_16(workspace: &mut Workspace, key: &mut [u8; 64]) -> Ticks
+fn third_vector_with_16(alloc: Global, workspace: &mut Workspace, key: &mut [u8; 64]) -> Ticks
     requires costs { workspace.old.sparse ≡ record { costs = record { log_n = 14; r = 8; p = 1 }; keep = 16 } }
     ensures bound { result ≤ 4456448 }
 {
-    let mut ticks = Ticks::new();
+    let mut ticks = Ticks::new(alloc);
     workspace.derive(b"pleaseletmein", b"SodiumChloride", key, &mut ticks);
     ticks
 }
@@ -101,13 +111,29 @@ fn third_vector_with_16(workspace: &mut Workspace, key: &mut [u8; 64]) -> Ticks
 #[test]
 fn vectors_whose_counts_are_proved(rt: HostRuntime) -> Result<(), Fail> {
     let mut key = [0u8; 64];
-    let _ticks = first_vector(&mut sparse_workspace(rt.alloc(), 4, 1, 1, 1)?, &mut key);
+    let _ticks = first_vector(
+        rt.alloc(),
+        &mut sparse_workspace(rt.alloc(), 4, 1, 1, 1)?,
+        &mut key,
+    );
     assert_eq!(rt; key, SCRYPT_CASES[0].key);
-    let _ticks = second_vector(&mut sparse_workspace(rt.alloc(), 10, 8, 16, 1)?, &mut key);
+    let _ticks = second_vector(
+        rt.alloc(),
+        &mut sparse_workspace(rt.alloc(), 10, 8, 16, 1)?,
+        &mut key,
+    );
     assert_eq!(rt; key, SCRYPT_CASES[1].key);
-    let _ticks = third_vector(&mut sparse_workspace(rt.alloc(), 14, 8, 1, 1)?, &mut key);
+    let _ticks = third_vector(
+        rt.alloc(),
+        &mut sparse_workspace(rt.alloc(), 14, 8, 1, 1)?,
+        &mut key,
+    );
     assert_eq!(rt; key, SCRYPT_CASES[2].key);
-    let _ticks = third_vector_with_16(&mut sparse_workspace(rt.alloc(), 14, 8, 1, 16)?, &mut key);
+    let _ticks = third_vector_with_16(
+        rt.alloc(),
+        &mut sparse_workspace(rt.alloc(), 14, 8, 1, 16)?,
+        &mut key,
+    );
     assert_eq!(rt; key, SCRYPT_CASES[2].key);
     Ok(())
 }

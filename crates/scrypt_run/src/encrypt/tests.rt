@@ -58,7 +58,7 @@ fn writes_the_file_of_hello(rt: HostRuntime) -> Result<(), Fail> {
             let mut host = MemoryHost::new(alloc, input, stdin, *of_host);
             host.set_sizes(*pull, *push);
             let mut room = alloc;
-            let mut ticks = Ticks::new();
+            let mut ticks = Ticks::new(alloc);
             assert_eq!(rt; encrypt(&mut room, &mut host, &asked, &mut ticks), Ok(()));
             assert_eq!(rt; host.output(), HELLO_FILE);
         }
