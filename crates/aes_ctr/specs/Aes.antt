@@ -35,7 +35,7 @@ affine_bit b i =
     (bit_at b i + bit_at b ((i + 4) % 8) + bit_at b ((i + 5) % 8) + bit_at b ((i + 6) % 8)
     + bit_at b ((i + 7) % 8) + bit_at 0x63 i) % 2
 
--- the number that the n lowest bits of that transformation make (5.1.1)
+-- the number that the n lowest bits of the affine transformation of b make (5.1.1)
 unfoldable pub affine_bits : ℕ → ℕ → ℕ
 affine_bits b zero = 0
 affine_bits b (suc n) = affine_bits b n + 2 ^ n * affine_bit b n
@@ -72,7 +72,8 @@ shift_rows state = state_of (λ row column. byte_at state row ((column + row) % 
 abbrev pub coefficient : ℕ → ℕ → ℕ
 coefficient row column = slice_index (2 ∷ 3 ∷ 1 ∷ 1 ∷ []) ((column + 4 - row) % 4)
 
--- the product of a row of that matrix and a column of the state (5.1.3)
+-- the byte of MixColumns in a row and a column: the product of that row of its matrix and that column of the state
+-- (5.1.3)
 abbrev pub mixed_byte : List ℕ → ℕ → ℕ → ℕ
 mixed_byte state row column =
     bit_xor
@@ -117,7 +118,7 @@ unfoldable pub key_words : List ℕ → ℕ → List (List ℕ)
 key_words key zero = []
 key_words key (suc n) = key_words key n ++ take 4 (drop (4 * n) key) ∷ []
 
--- the first 8 + n words of the key schedule (5.2)
+-- the first 8 + n words of the key schedule: word 8 + n is word n xor `temporary_word` of word 7 + n (5.2)
 unfoldable pub schedule_words : List ℕ → ℕ → List (List ℕ)
 schedule_words key zero = key_words key 8
 schedule_words key (suc n) = schedule_words key n
@@ -127,7 +128,7 @@ schedule_words key (suc n) = schedule_words key n
 abbrev pub key_schedule : List ℕ → List (List ℕ)
 key_schedule key = schedule_words key 52
 
--- the key, whose 8 words begin a key schedule (5.2)
+-- the key of 32 bytes of a key schedule, which begins with its 8 words (5.2)
 abbrev pub key_of : List (List ℕ) → List ℕ
 key_of words = concat (take 8 words)
 

@@ -1,18 +1,20 @@
--- The Counter mode (NIST SP 800-38A, 6.5) over AES-256, with the counter blocks of scrypt's encrypted files:
--- a 64-bit nonce, which is 0, and the 64-bit number of the block, both big-endian (Tarsnap's FORMAT of scrypt, version 0).
+-- The Counter mode (NIST SP 800-38A, 6.5) over AES-256, with the counter blocks of scrypt's encrypted files: the
+-- nonce is 0 (FORMAT of Tarsnap's scrypt, version 0), and nonce and number of the block have 64 bits each, the
+-- highest byte first (Tarsnap's code, crypto_aesctr.c; FORMAT does not say it).
 use Rattle.std.specs.Prelude.{ℕ, ◌+◌, ◌/◌, ◌%◌, List, [], ◌∷◌, ◌++◌, bit_xor, slice_index}
 use Rattle.std.specs.Int.{w64, to_be_bytes}
 use Rattle.aes_ctr.specs.Aes.{aes256}
 
--- T, the counter block with number n (SP 800-38A, 6.5; the layout is FORMAT's)
+-- T, the counter block with number n (SP 800-38A, 6.5): the nonce 0 (FORMAT), and n, of eight bytes each, the highest
+-- first (Tarsnap's crypto_aesctr.c)
 abbrev pub counter_block : ℕ → List ℕ
 counter_block n = to_be_bytes w64 0 ++ to_be_bytes w64 n
 
--- O, the output block with number n: block n of the key stream (SP 800-38A, 6.5)
+-- O, the output block with number n, counted from 0: block n of the key stream (SP 800-38A, 6.5)
 unfoldable pub key_stream_block : List ℕ → ℕ → List ℕ
 key_stream_block key n = aes256 key (counter_block n)
 
--- the byte of the key stream at place i (SP 800-38A, 6.5)
+-- the byte of the key stream at place i, counted from 0 (SP 800-38A, 6.5)
 abbrev pub key_stream : List ℕ → ℕ → ℕ
 key_stream key i = slice_index (key_stream_block key (i / 16)) (i % 16)
 

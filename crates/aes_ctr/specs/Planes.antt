@@ -4,11 +4,11 @@ use Rattle.std.specs.Int.{bit_at}
 use Rattle.std.specs.Simd.Lanes.{Each1}
 use Rattle.aes_ctr.specs.Aes.{state_of, word_at}
 
--- bit i of each byte
+-- bit i of each of some bytes
 abbrev pub bits : ℕ → List ℕ → List ℕ
 bits i bytes = map (λ byte. bit_at byte i) bytes
 
--- plane k
+-- plane k of some planes
 abbrev pub plane : List (List ℕ) → ℕ → List ℕ
 plane planes k = slice_index_or planes k []
 
@@ -16,10 +16,11 @@ plane planes k = slice_index_or planes k []
 abbrev pub IsHeld : ℕ → List (List ℕ) → List ℕ → Type 0
 IsHeld b planes bytes = (k : ℕ) → k < 8 → bits b (plane planes k) ≡ bits k bytes
 
--- so many bytes
+-- a list of n bytes
 abbrev pub AreBytes : ℕ → List ℕ → Type 0
 AreBytes n bytes = (length bytes ≡ n) × Each1 (λ byte. byte < 256) bytes
 
+-- a list of 16 bytes
 abbrev pub IsBlock : List ℕ → Type 0
 IsBlock block = AreBytes 16 block
 

@@ -4,7 +4,8 @@ use Rattle.std.specs.Prelude.{◌≡◌, ℕ, zero, suc, ◌+◌, ◌*◌, ◌%�
 use Rattle.argon.specs.Argon2.{matrix_block}
 use Rattle.argon.specs.Parameters.{Parameters, segment_len, lane_len}
 
--- the block at the place of a lane's column of a number
+-- the block at the place of a lane's column with a number: later passes overwrite, so the place goes by the number
+-- modulo q (3.2, steps 2 and 6)
 abbrev pub block_held : Parameters → List (List ℕ) → ℕ → ℕ → List ℕ
 block_held parameters blocks number lane =
     get_or blocks (lane * lane_len parameters + number % lane_len parameters) []
@@ -15,8 +16,8 @@ pub record HoldsNewest (parameters : Parameters) (h0 : List ℕ) (blocks : List 
   pub holds : (lane number : ℕ) → lane < parameters.lanes → number < next lane → next lane ≤ number + lane_len parameters
       → block_held parameters blocks number lane ≡ matrix_block parameters h0 number lane
 
--- the number of the column that each lane makes next after so many slices: two columns are there
--- from the start
+-- the number of the column that each lane makes next after so many slices: two columns are there from the start (3.2,
+-- steps 3 and 4)
 abbrev pub number_after_slices : Parameters → ℕ → ℕ
 number_after_slices parameters zero = 2
 number_after_slices parameters (suc count) = suc count * segment_len parameters

@@ -7,7 +7,7 @@ use Rattle.four_words.specs.Words.{xored_words}
 use Rattle.blake.specs.Words.{along}
 use Rattle.blake.specs.Blake2b.{mixing_places}
 
--- the sum that takes the place of BLAKE2b's in GB (3.6)
+-- (a + b + 2 * trunc(a) * trunc(b)) mod 2^64, which takes the place of the sums of BLAKE2b in GB (3.6)
 abbrev pub sum_with_product : ℕ → ℕ → ℕ
 sum_with_product a b = (a + b + 2 * (a % 2 ^ 32) * (b % 2 ^ 32)) % 2 ^ 64
 
@@ -24,7 +24,7 @@ half_mixed_words first second words =
 unfoldable pub mixed_words : List ℕ → List ℕ
 mixed_words words = half_mixed_words 16 63 (half_mixed_words 32 24 words)
 
--- sixteen words after the first so many of the eight GB of the permutation P (3.6)
+-- sixteen words after the first `count` of the eight GB of the permutation P (3.6)
 unfoldable pub words_after_mixings : List ℕ → ℕ → List ℕ
 words_after_mixings words zero = words
 words_after_mixings words (suc count) =
@@ -43,12 +43,12 @@ abbrev pub column_places : ℕ → List ℕ
 column_places column =
     flat_map (λ row. (2 * column + 16 * row) ∷ (2 * column + 16 * row + 1) ∷ []) (range_with_len 0 8)
 
--- a block with P applied to its first so many rows; to all eight, it is Q of R (3.5)
+-- a block with P applied to its first `count` rows, one after another; with all eight, it is Q of R (3.5)
 unfoldable pub block_after_rows : List ℕ → ℕ → List ℕ
 block_after_rows block zero = block
 block_after_rows block (suc count) = along permutation (block_after_rows block count) (row_places count)
 
--- a block with P applied to its first so many columns; to all eight, it is Z of Q (3.5)
+-- a block with P applied to its first `count` columns, one after another; with all eight, it is Z of Q (3.5)
 unfoldable pub block_after_columns : List ℕ → ℕ → List ℕ
 block_after_columns block zero = block
 block_after_columns block (suc count) = along permutation (block_after_columns block count) (column_places count)
@@ -61,6 +61,6 @@ compression_of_xor xored = xored_words (block_after_columns (block_after_rows xo
 unfoldable pub compression : List ℕ → List ℕ → List ℕ
 compression first second = compression_of_xor (xored_words first second)
 
--- the block of zeros
+-- the block of 128 words 0, ZERO(1024) (3.4.1.2)
 abbrev pub zero_block : List ℕ
 zero_block = replicate 128 0

@@ -8,7 +8,7 @@ use Rattle.argon.specs.Range.{IsInRange}
 pub record Filling : Type 0 where
   pub parameters : Parameters
   pub is_started : Bool
-  -- H 0, once started
+  -- H_0, once started
   pub first_hash : List ℕ
   -- how many slices of all passes are made
   pub slices_made : ℕ

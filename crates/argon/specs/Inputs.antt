@@ -3,7 +3,7 @@ use Rattle.std.specs.Prelude.{◌≡◌, ◌<◌, ◌^◌, length}
 use Rattle.argon.specs.Parameters.{Parameters, Inputs}
 use Rattle.argon.specs.declared.inputs.Inputs.{Inputs as Lent}
 
--- the texts that are lent
+-- the texts of the code's inputs, which are lent
 abbrev pub inputs_of : Lent → Inputs
 inputs_of lent = record {
   password = lent.password.now;
@@ -12,7 +12,8 @@ inputs_of lent = record {
   associated = lent.associated.now;
 }
 
--- the lengths are those that the parameters and the standard say (3.1)
+-- password and salt have the lengths that the parameters say, and secret and associated data fewer than 2^32 bytes
+-- (3.1)
 pub record AreInputsOf (parameters : Parameters) (inputs : Inputs) : Type 0 where
   pub password : length inputs.password ≡ parameters.password_len
   pub salt : length inputs.salt ≡ parameters.salt_len

@@ -13,11 +13,11 @@ pub record IsMadeByReference (c : Parameters) (pass lane slice index : ℕ) : Ty
   pub from : first_index pass slice ≤ index
   pub to : index < segment_len c
 
--- the weave where a lane went on, if it had some left
+-- the weave where a lane made its next block, if it had some left
 abbrev pub after_turn : Weaving → ℕ → Weaving
 after_turn weaving lane = if nat_lt 0 (slice_index weaving.left lane) then after_step weaving lane else weaving
 
--- the block functions that this took
+-- the block functions that a lane's turn takes: those of its next column, if it has blocks left
 abbrev pub turn_work : Weaving → ℕ → ℕ
 turn_work weaving lane =
     if nat_lt 0 (slice_index weaving.left lane)
@@ -29,7 +29,7 @@ abbrev pub after_turns : Weaving → List ℕ → Weaving
 after_turns weaving [] = weaving
 after_turns weaving (lane ∷ order) = after_turns (after_turn weaving lane) order
 
--- the block functions that these took
+-- the block functions that the turns of the lanes of a list take, one after another
 abbrev pub turns_work : Weaving → List ℕ → ℕ
 turns_work weaving [] = 0
 turns_work weaving (lane ∷ order) = turn_work weaving lane + turns_work (after_turn weaving lane) order

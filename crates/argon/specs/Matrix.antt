@@ -12,6 +12,6 @@ filling_of matrix = record {
   blocks = matrix.blocks.held.list.items;
 }
 
--- what holds of the fields
+-- what holds of the fields of each matrix
 abbrev pub IsMatrix : Inside → Type 0
 IsMatrix matrix = IsFilling (filling_of matrix)

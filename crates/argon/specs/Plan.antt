@@ -16,7 +16,7 @@ abbrev pub planned_word : Parameters → ℕ → ℕ → ℕ → ℕ → ℕ
 planned_word parameters pass lane slice index =
     slice_index (address_block parameters pass lane slice (index / 128 + 1)) (index % 128)
 
--- the place that the word names (3.4.2)
+-- the place that the planned word of a column names: its lane, and its column in the lane (3.4.2)
 abbrev pub planned_place : Parameters → ℕ → ℕ → ℕ → ℕ → Place
 planned_place parameters pass lane slice index =
     let j = planned_word parameters pass lane slice index in record {
@@ -24,7 +24,7 @@ planned_place parameters pass lane slice index =
       column = reference_number parameters pass lane slice index j % lane_len parameters;
     }
 
--- for this H 0, the block of a column is G of the previous block and of the one that the planned
+-- for this H_0, the block of a column is G of the previous block and of the one that the planned
 -- word names, with the old block xored in where `is_xored_in`: from the second pass on, and never in version 0x10
 abbrev pub IsMadeAsPlanned : Parameters → List ℕ → ℕ → ℕ → ℕ → ℕ → Type 0
 IsMadeAsPlanned parameters h0 pass lane slice index =
@@ -33,7 +33,7 @@ IsMadeAsPlanned parameters h0 pass lane slice index =
     ≡ block_by_words parameters (matrix_block parameters h0) number pass lane slice index
     (planned_word parameters pass lane slice index)
 
--- in every memory that holds the newest blocks of this H 0 while the lane stands at that column: its block is G of the
+-- in every memory that holds the newest blocks of this H_0 while the lane stands at that column: its block is G of the
 -- one before it and of the one that stands at the planned place, with the old block xored in where `is_xored_in`
 abbrev pub IsMadeAlongPlan : Parameters → List ℕ → List (List ℕ) → (ℕ → ℕ) → ℕ → ℕ → ℕ → ℕ → Type 0
 IsMadeAlongPlan parameters h0 blocks next pass lane slice index =

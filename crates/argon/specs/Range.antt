@@ -6,11 +6,12 @@ use Rattle.argon.specs.Parameters.{Parameters, block_count}
 use Rattle.argon.specs.declared.fault.ParamFault.{ParamFault}
 use Rattle.argon.specs.declared.fault.ParamFault.TheVariants as fault
 
--- a version that there is: 0x13 (3.1), and 0x10, which was before it
+-- whether there is a version of this number: 0x13 (3.1), and 0x10, which was before it
 abbrev pub is_version : ℕ → Bool
 is_version version = (version == 0x10) || (version == 0x13)
 
--- each parameter is in its range (3.1, but for the ends of lengths that are own)
+-- each parameter is in its range: in that of RFC 9106, 3.1, but for the greatest lengths of tag, salt and password
+-- and the least lengths of salt and password, which are this project's
 pub record IsInRange (parameters : Parameters) : Type 0 where
   pub kind : parameters.kind ≤ 2
   pub version : is_version parameters.version ≡ true
@@ -27,15 +28,16 @@ pub record IsInRange (parameters : Parameters) : Type 0 where
   pub password_len : 1 ≤ parameters.password_len
   pub password_len_end : parameters.password_len ≤ 127
 
--- a number is in a range, its ends included
+-- whether a number is in a range, its ends included
 abbrev pub is_between : ℕ → ℕ → ℕ → Bool
 is_between low number high = nat_le low number && nat_le number high
 
--- the rest where a test holds, and the fault where it fails
+-- `rest` where the test holds, and the fault where it fails
 abbrev pub rest_or_fault : {A : Type 0} → Bool → ParamFault → Result A ParamFault → Result A ParamFault
 rest_or_fault test refusal rest = if test then rest else Err refusal
 
--- the parameters, or the first fault (3.1)
+-- the parameters where each number is in its range (3.1, and this project's lengths), or the first fault in the order
+-- of the lines; kind and version are not tested here
 abbrev pub checked_parameters : Parameters → Result Parameters ParamFault
 checked_parameters parameters =
     rest_or_fault (is_between 1 parameters.passes 0xFFFFFFFF) fault.Passes
@@ -45,7 +47,8 @@ checked_parameters parameters =
     (rest_or_fault (is_between 8 parameters.salt_len 255) fault.SaltLength
     (rest_or_fault (is_between 1 parameters.password_len 127) fault.PasswordLength (Ok parameters))))))
 
--- whether limits on blocks and on block functions admit the parameters, or the first fault
+-- Ok where the blocks, each of 1 KiB, are no more than `max_kib` and the block functions no more than `max_ops`; or
+-- the first fault
 abbrev pub admission : Parameters → ℕ → ℕ → Result ⊤ ParamFault
 admission parameters max_kib max_ops =
     rest_or_fault (nat_le (block_count parameters) max_kib) fault.MemoryLimit

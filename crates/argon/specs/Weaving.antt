@@ -29,12 +29,12 @@ weaving_from filling = record {
 abbrev pub next_index : Weaving → ℕ → ℕ
 next_index weaving lane = segment_len weaving.matrix.parameters - slice_index weaving.left lane
 
--- that column
+-- the column that a lane makes next, counted from the first of the lane
 abbrev pub next_column : Weaving → ℕ → ℕ
 next_column weaving lane =
     weaving.matrix.slices_made % 4 * segment_len weaving.matrix.parameters + next_index weaving lane
 
--- its number
+-- the number of the column that a lane makes next: that of column c in pass r is r * q + c
 abbrev pub next_number : Weaving → ℕ → ℕ
 next_number weaving lane =
     weaving.matrix.slices_made / 4 * lane_len weaving.matrix.parameters + next_column weaving lane

@@ -18,7 +18,8 @@ abbrev pub is_made : Filling → List ℕ → ℕ → ℕ → Bool
 is_made matrix left lane column =
     nat_le (first_column matrix) column && nat_lt column (next_column (record { matrix = matrix; left = left }) lane)
 
--- the block of a lane's column: B's where the lane has made it in the slice, and elsewhere the one that was there before
+-- the block of a lane's column: B's where the lane has made it in the slice, and elsewhere the one that was there
+-- before
 abbrev pub block_where_left : Filling → List ℕ → ℕ → ℕ → List ℕ
 block_where_left matrix left lane column =
     if is_made matrix left lane column

@@ -3,31 +3,31 @@ use Rattle.std.specs.Prelude.{◌≡◌, ◌⊎◌, Bool, true, false, ℕ}
 use Rattle.argon.specs.Argon2.{Parameters}
 use Rattle.argon2_command.specs.Request.{Request}
 
--- what a request for so many bytes of zero, for the line of a tag of so many bytes, and for a matrix leave of a source,
--- granted or refused
+-- what a request for so many bytes of zero, for the line of a tag of so many bytes, and for a matrix leave of a
+-- source of memory, granted or refused
 pub record Asking (Source : Type 0) : Type 0 where
   pub after_zeros : Source → ℕ → Bool → Source
   pub after_line : Source → Request → ℕ → Bool → Source
   pub after_matrix : Source → Parameters → Bool → Source
 
--- the three together
+-- the three functions that say what requests leave of a source, as one value
 abbrev pub asking : {Source : Type 0} → (Source → ℕ → Bool → Source) → (Source → Request → ℕ → Bool → Source)
     → (Source → Parameters → Bool → Source) → Asking Source
 asking zeros line matrix = record { after_zeros = zeros; after_line = line; after_matrix = matrix }
 
--- the source once the tag was granted
+-- the source once the memory of the tag was granted
 abbrev pub with_tag : {Source : Type 0} → Asking Source → Parameters → Source → Source
 with_tag ask p before = ask.after_zeros before p.tag_len true
 
--- and the line
+-- the source once the memory of the tag and of its line was granted
 abbrev pub with_line : {Source : Type 0} → Asking Source → Request → Parameters → Source → Source
 with_line ask request p before = ask.after_line (with_tag ask p before) request p.tag_len true
 
--- and the matrix
+-- the source once the memory of the tag, of its line and of the matrix was granted
 abbrev pub with_all : {Source : Type 0} → Asking Source → Request → Parameters → Source → Source
 with_all ask request p before = ask.after_matrix (with_line ask request p before) p true
 
--- one of the three was refused, and none was asked for after it
+-- one of the three requests, for the tag, its line and the matrix, was refused, and none was made after it
 abbrev pub LacksOne : {Source : Type 0} → Asking Source → Request → Parameters → Source → Source → Type 0
 LacksOne ask request p before after =
     (after ≡ ask.after_zeros before p.tag_len false)

@@ -9,8 +9,8 @@ use Rattle.argon2_command.specs.declared.items.OptionName.TheVariants.{Passes, L
 use Rattle.argon2_command.specs.declared.items.Form.{Form}
 use Rattle.argon2_command.specs.declared.items.Form.TheVariants.{Encoded, Hex}
 
--- an item: a flag that sets the type or the form of the output, -h, a word that is no item, an option with its value,
--- or an option as the last word
+-- an item: a flag that sets the type, a flag that sets the form of the output, -h, a word that is neither a flag nor
+-- an option, an option with its value, or an option as the last word, which has no value
 pub data Item : Type 0 where
   kind : Kind → Item
   form : Form → Item
@@ -19,7 +19,7 @@ pub data Item : Type 0 where
   valued : OptionName → Text → Item
   missing_value : Item
 
--- the option of that name
+-- the option that a word names, if it names one
 abbrev pub option_of : Text → Option OptionName
 option_of word =
     if bytes_eq word (codes "-t") then Some Passes
@@ -32,7 +32,7 @@ option_of word =
     else if bytes_eq word (codes "--maxops") then Some MaxOps
     else None
 
--- the item of a word that is no option
+-- the item of a word that names no option
 abbrev pub flag_of : Text → Item
 flag_of word =
     if bytes_eq word (codes "-d") then kind D
@@ -43,18 +43,18 @@ flag_of word =
     else if bytes_eq word (codes "-h") then help
     else unknown_word
 
--- the item that a word makes by itself, where it is no option
+-- the item that a word makes by itself, where it names no option
 abbrev pub item_alone : Option OptionName → Text → List Item
 item_alone None word = flag_of word ∷ []
 item_alone (Some name) word = []
 
--- the items of the words, of which the first is the value of the option before them, if there is one
+-- the items of the words, where the first word is the value of an option that came before them, if one is given
 abbrev pub items_after : Option OptionName → List Text → List Item
 items_after None [] = []
 items_after (Some name) [] = missing_value ∷ []
 items_after None (word ∷ words) = item_alone (option_of word) word ++ items_after (option_of word) words
 items_after (Some name) (word ∷ words) = valued name word ∷ items_after None words
 
--- the items of the words, from the left
+-- the items of the words after the salt, from the left
 abbrev pub items : List Text → List Item
 items words = items_after None words

@@ -17,7 +17,7 @@ use Rattle.argon2_command.specs.declared.items.Form.TheVariants.{Encoded, Hex}
 use Rattle.argon2_command.specs.declared.refusal.Argon2Refusal.{Argon2Refusal}
 use Rattle.argon2_command.specs.declared.refusal.Argon2Refusal.TheVariants as refusal
 
--- the password, which is the whole standard input: 1 to 127 bytes
+-- the password, which is the whole standard input, 1 to 127 bytes, or its refusal (A8a, A8b, A8c)
 abbrev pub password_in : Option (List ℕ) → Result (List ℕ) Argon2Refusal
 password_in None = Err refusal.PasswordFault
 password_in (Some bytes) =
@@ -25,11 +25,11 @@ password_in (Some bytes) =
     else if nat_le 128 (length bytes) then Err refusal.LongPassword
     else Ok bytes
 
--- some standard input is refused so
+-- some standard input has this refusal
 abbrev pub RefusesInput : Argon2Refusal → Type 0
 RefusesInput r = (stdin : Option (List ℕ)) × (password_in stdin ≡ Err r)
 
--- the parameters of a request and a password (RFC 9106, 3.1)
+-- the parameters of a request and a password; their ranges are not tested yet (RFC 9106, 3.1)
 abbrev pub parameters_of : Request → List ℕ → Parameters
 parameters_of q password = record {
   kind = type_number q.settings.kind;
@@ -42,23 +42,24 @@ parameters_of q password = record {
   password_len = length password;
 }
 
--- what is found, or the refusal of a fault of parameters
+-- what was found, or the refusal of the command by the fault of parameters
 abbrev pub with_refusal : {A : Type 0} → Result A ParamFault → Result A Argon2Refusal
 with_refusal (Ok x) = Ok x
 with_refusal (Err fault) = Err (refusal_of fault)
 
--- the parameters in range that the limits admit
+-- the parameters of a request and a password, where they are in range and the limits of the request admit them, or
+-- the first refusal (A6.1 to A6.5, A7a, A7b)
 abbrev pub admitted_parameters : Request → List ℕ → Result Parameters Argon2Refusal
 admitted_parameters q password = do
   parameters ← with_refusal (checked_parameters (parameters_of q password))
   admitted ← with_refusal (admission parameters q.settings.max_memory_kib q.settings.max_ops)
   Ok parameters
 
--- the tag of a password and a salt, with no secret and no associated data (RFC 9106, 3.2)
+-- the tag of a password and a salt, with no secret and no associated data (RFC 9106, 3.2, steps 1 to 8)
 abbrev pub tag_of : Text → List ℕ → Parameters → List ℕ
 tag_of salt password p = argon2_tag p (record { password = password; salt = salt; secret = []; associated = [] })
 
--- what the encoded text of a tag says
+-- the value that the encoded text of a request's tag says
 abbrev pub value_with : Request → List ℕ → Value
 value_with q tag = record {
   kind = q.settings.kind;
@@ -70,21 +71,22 @@ value_with q tag = record {
   tag = tag;
 }
 
--- a tag in the form that was asked for: the encoded text, or lower hexadecimal
+-- a tag in the form that is asked for: the encoded text, or lower hexadecimal
 abbrev pub tag_text : Form → Request → List ℕ → List ℕ
 tag_text Encoded q tag = encoded_text (value_with q tag)
 tag_text Hex q tag = encode_lower tag
 
--- the line of a tag, in the form that was asked for
+-- a tag in the form that is asked for, and a line feed
 abbrev pub tag_line : Request → List ℕ → List ℕ
 tag_line q tag = tag_text q.form q tag ++ 10 ∷ []
 
--- the line that a request, a password and its parameters give
+-- the line that a request, a password and the parameters of both give
 abbrev pub output_line : Request → List ℕ → Parameters → List ℕ
 output_line q password p = tag_line q (tag_of q.salt password p)
 
--- what standard output gets where standard input gives this, no call of the host fails and memory is there, or the
--- refusal: first of the words, then of the password, then of the parameters, then of the limits
+-- what standard output gets if standard input gives `stdin` (None: it fails), no other call of the host fails and
+-- memory is there, or the refusal: first of the words, then of the password, then of the parameters, then of the
+-- limits
 abbrev pub output_for : List Text → Option (List ℕ) → Result (List ℕ) Argon2Refusal
 output_for words stdin = do
   request ← argon2_request words
@@ -92,6 +94,7 @@ output_for words stdin = do
   parameters ← admitted_parameters request password
   Ok (output_line request password parameters)
 
--- the same of a host
+-- what standard output gets of a run over this host, if no call of the host fails and memory is there, or the
+-- refusal: first of the words, then of the password, then of the parameters, then of the limits
 abbrev pub argon2_output : List Text → Seen → Result (List ℕ) Argon2Refusal
 argon2_output words seen = output_for words seen.stdin

@@ -7,7 +7,8 @@ use Rattle.host.specs.Faults.{Faults, output_failed, secret_failed}
 use Rattle.argon2_command.specs.declared.refusal.Argon2Refusal.{Argon2Refusal}
 use Rattle.argon2_command.specs.declared.refusal.Argon2Refusal.TheVariants as refusal
 
--- the refusal of parameters; a password's length is tested before them
+-- the refusal of the command, by the fault of parameters; the length of a password is tested before, so its row is
+-- never taken
 abbrev pub refusal_of : ParamFault → Argon2Refusal
 refusal_of fault.Passes = refusal.Passes
 refusal_of fault.Lanes = refusal.Lanes
@@ -18,29 +19,31 @@ refusal_of fault.PasswordLength = refusal.LongPassword
 refusal_of fault.MemoryLimit = refusal.MemoryLimit
 refusal_of fault.WorkLimit = refusal.WorkLimit
 
--- the counts after a refusal: one rises where a call of the host failed, and none otherwise
+-- the counts of failures after a refusal: where it names a call of the host that failed, the count of that kind is
+-- one more; every other refusal raises none
 abbrev pub counted_by : Argon2Refusal → Faults → Faults
 counted_by refusal.PasswordFault f = secret_failed f
 counted_by refusal.OutputFault f = output_failed f
 counted_by r f = f
 
--- the refusal is one of A1 to A8c, which are told before the output is opened and before memory is taken
+-- the refusal is one of A1 to A8c, that is, neither A9 (of the output) nor A10 (of memory), which a run meets only
+-- after these
 abbrev pub IsEarly : Argon2Refusal → Type 0
 IsEarly refusal.OutputFault = ⊥
 IsEarly refusal.OutOfMemory = ⊥
 IsEarly r = Unit {0}
 
--- the refusal is one that comes where no other is due: of memory, or of the output
+-- the refusal is A10, of memory, or A9, of the output, which come where no other is due
 abbrev pub IsLate : Argon2Refusal → Type 0
 IsLate refusal.OutOfMemory = Unit {0}
 IsLate refusal.OutputFault = Unit {0}
 IsLate r = ⊥
 
--- the refusal is none of a failing host call
+-- the refusal is none of a failing call of the host, and so raises no count
 abbrev pub RaisesNoCount : Argon2Refusal → Type 0
 RaisesNoCount r = (f : Faults) → counted_by r f ≡ f
 
--- the line of a refusal
+-- the line of a refusal, without a line feed
 abbrev pub line_of : Argon2Refusal → Text
 line_of refusal.Usage = codes "argon2: usage: argon2 salt [-i|-d|-id] [-t N] [-m N | -k N] [-p N] [-l N] [-v VERSION] [--maxmem KIB] [--maxops N] (-e|-r)"
 line_of refusal.UnknownWord = codes "argon2: unknown word"

@@ -10,8 +10,8 @@ use Rattle.argon2_command.specs.Output.{argon2_output, output_for}
 use Rattle.argon2_command.specs.declared.refusal.Argon2Refusal.{Argon2Refusal}
 use Rattle.argon2_command.specs.declared.refusal.Argon2Refusal.TheVariants as refusal
 
--- the host after the words were read: standard input was asked for the password where they are taken, and no source was
--- where they are refused
+-- the host after the words were read: where they are accepted, standard input was asked for the password, and where
+-- they are refused, no source was asked
 abbrev pub password_asked : List Text → Seen → Seen
 password_asked words before = if is_ok (argon2_request words) then after_ask stdin_once before else before
 
@@ -21,11 +21,12 @@ pub record Succeeds (words : List Text) (before after : Seen) : Type 0 where
   pub due : argon2_output words before ≡ Ok output
   pub written : after ≡ after_writing None output (password_asked words before)
 
--- the refusal is that of words, password, parameters or limits
+-- the refusal is the one that is due by the words, the password, the parameters or the limits, before memory is asked
+-- for
 abbrev pub IsDue : Argon2Refusal → List Text → Seen → Seen → Type 0
 IsDue r words before after = (argon2_output words before ≡ Err r) × IsEarly r × (after ≡ password_asked words before)
 
--- the words are taken, and the host failed to give the password
+-- the words are accepted, and the host failed to give the password
 abbrev pub FailsPassword : Argon2Refusal → List Text → Seen → Seen → Type 0
 FailsPassword r words before after = (r ≡ refusal.PasswordFault) × IsOk (argon2_request words) × (after ≡ password_asked words before)
 
@@ -41,7 +42,7 @@ pub record FailsOutput (r : Argon2Refusal) (words : List Text) (before after : S
   pub left : (after ≡ after_ask_output None (password_asked words before))
       ⊎ IsCutShort None output (password_asked words before) after
 
--- the run ended with this refusal, whose line isn't said yet
+-- the run ended with this refusal, before its line is said
 abbrev pub IsRefused : Argon2Refusal → List Text → Seen → Seen → Type 0
 IsRefused r words before after =
     IsDue r words before after
@@ -51,17 +52,19 @@ IsRefused r words before after =
 
 -- ---- of every host, also one that tells nothing
 
--- some standard input gives an output
+-- for these words some standard input gives an output
 abbrev pub SucceedsForSome : List Text → Type 0
 SucceedsForSome words = (stdin : Option (List ℕ)) × IsOk (output_for words stdin)
 
--- some standard input gives this refusal, or gives an output where memory or the host can still fail
+-- the refusal is one that can be reported for these words: some standard input gives it, or gives an output, where
+-- memory or the output can still fail
 abbrev pub IsToldForSome : List Text → Argon2Refusal → Type 0
 IsToldForSome words r = (stdin : Option (List ℕ)) × ((output_for words stdin ≡ Err r) ⊎ (IsLate r × IsOk (output_for words stdin)))
 
 -- ---- the end with a refusal
 
--- the run ended with a refusal: the count that it names rose and no other, and its one line was said
+-- the run ended with a refusal: of the counts only the one that it names rose, if it names one; then its line was
+-- said, or could not be said and `lines` rose. `told` is the refusal, and `unsaid` the host before the line
 pub record Refuses (tells : Bool) (words : List Text) (before after : Seen) (faults_before faults_after : Faults)
     : Type 0 where
   pub told : Argon2Refusal

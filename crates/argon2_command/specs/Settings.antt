@@ -1,4 +1,5 @@
--- What the items of argon2's words set: each setting has the value of its last item, and the first faulty item decides.
+-- What the items of argon2's words set: each setting has the value of its last item, and the first faulty item
+-- decides.
 use Rattle.std.specs.Prelude.{ℕ, ◌^◌, true, false, List, [], ◌∷◌, Option, Some, None, Result, Ok, Err, codes, ok_or, option_map, if◌then◌else◌}
 use Rattle.std.specs.Str.{bytes_eq}
 use Rattle.argon.specs.declared.kind.Kind.TheVariants.{I}
@@ -18,29 +19,31 @@ use Rattle.argon2_command.specs.declared.settings.Settings.{Settings}
 
 -- ---- values
 
--- the value of -t, -k, -p or -l
+-- the value of -t, -k, -p or -l: 0 to 2^32 - 1; the ranges of RFC 9106, 3.1 are tested later
 abbrev pub count_in : Text → Option ℕ
 count_in text = number_in 0 (2 ^ 32) text
 
--- the value of -m, as KiB
+-- the value of -m, as KiB: 2^n for a number word n from 1 to 31. The reference program (its run.c) takes 32 too, for
+-- 2^32 - 1 KiB, and reads the number by strtoul, which takes more than digits
 abbrev pub power_in : Text → Option ℕ
 power_in text = option_map (λ n. 2 ^ n) (number_in 1 32 text)
 
--- the value of -v
+-- the version that the value of -v names, in hexadecimal: 10 or 13
 abbrev pub version_named : Text → Option Version
 version_named text =
     if bytes_eq text (codes "10") then Some V10
     else if bytes_eq text (codes "13") then Some V13
     else None
 
--- the number of a version (RFC 9106, 3.1; 0x10 was before it)
+-- v, the number of a version: 0x13 (RFC 9106, 3.1), and 0x10, which was before it
 abbrev pub version_number : Version → ℕ
 version_number V10 = 0x10
 version_number V13 = 0x13
 
 -- ---- what an item sets
 
--- the settings after an option with its value, where the option takes it
+-- the settings after an option with its value, if the option takes that value; --maxmem takes 1 to 2^32 - 1, --maxops
+-- 1 to 2^63 - 1
 abbrev pub with_value : Settings → OptionName → Text → Option Settings
 with_value s option.Passes text = option_map (λ n. record s { passes = n }) (count_in text)
 with_value s option.LogMemory text = option_map (λ n. record s { memory_kib = n }) (power_in text)
@@ -51,7 +54,7 @@ with_value s option.Version text = option_map (λ v. record s { version = v }) (
 with_value s option.MaxMemory text = option_map (λ n. record s { max_memory_kib = n }) (number_in 1 (2 ^ 32) text)
 with_value s option.MaxOps text = option_map (λ n. record s { max_ops = n }) (number_in 1 (2 ^ 63) text)
 
--- the settings after an item, or its fault
+-- the settings after an item, or the refusal of a faulty one
 abbrev pub with_item : Settings → Item → Result Settings Argon2Refusal
 with_item s (item.kind k) = Ok (record s { kind = k })
 with_item s (item.form Encoded) = Ok (record s { encoded = true })
@@ -61,7 +64,7 @@ with_item s item.unknown_word = Err refusal.UnknownWord
 with_item s item.missing_value = Err refusal.MissingValue
 with_item s (item.valued name text) = ok_or (with_value s name text) refusal.BadNumber
 
--- the settings after items from the left: a later one outweighs an earlier one, and the first faulty one decides
+-- the settings after items from the left: each item sets its value anew, and the first faulty one decides
 abbrev pub settings_after : Settings → List Item → Result Settings Argon2Refusal
 settings_after s [] = Ok s
 settings_after s (x ∷ xs) = do

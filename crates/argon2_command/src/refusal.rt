@@ -6,7 +6,7 @@ use argon::ParamFault;
 use std::alloc::AllocError;
 
 /// Why a run of `argon2` ends with status 1, in the order in which the reasons are tested: the first
-/// that holds is told, and of A1 to A4 the first faulty item from the left decides. Each has its
+/// that holds is reported, and of A1 to A4 the first faulty item from the left decides. Each has its
 /// number, when it holds, and its line.
 #[derive(Clone, Copy, Debug, PartialEq, Eq)]
 pub enum Argon2Refusal {

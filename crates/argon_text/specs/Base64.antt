@@ -6,15 +6,16 @@ use Rattle.std.specs.List.{position_or_len}
 abbrev pub alphabet : List ℕ
 alphabet = codes "ABCDEFGHIJKLMNOPQRSTUVWXYZabcdefghijklmnopqrstuvwxyz0123456789+/"
 
--- the six bits that a symbol stands for: its place in the alphabet. 64 where a byte is no symbol
+-- the six bits that a symbol stands for: its place in the alphabet, or 64 where a byte is no symbol (4, table 1)
 unfoldable pub symbol_value : ℕ → ℕ
 symbol_value byte = position_or_len (λ symbol. symbol == byte) alphabet
 
--- whether a byte is a symbol
+-- whether a byte is a symbol of the alphabet (4, table 1)
 abbrev pub is_symbol : ℕ → Bool
 is_symbol byte = nat_lt (symbol_value byte) 64
 
--- groups of four symbols, and then none, or two or three with their unused last bits zero (3.5)
+-- whether bytes are groups of four symbols, and then none, or two or three with their unused last bits zero (3.2,
+-- 3.5, 4)
 unfoldable pub is_base64 : List ℕ → Bool
 is_base64 [] = true
 is_base64 (a ∷ []) = false

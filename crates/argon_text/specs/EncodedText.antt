@@ -7,7 +7,7 @@ use Rattle.argon.specs.declared.kind.Kind.{Kind}
 use Rattle.argon.specs.declared.kind.Kind.TheVariants.{D, I, Id}
 use Rattle.argon_text.specs.Value.{Value}
 
--- the name of a type
+-- the name of a type in an encoded text
 abbrev pub kind_name : Kind → List ℕ
 kind_name D = codes "d"
 kind_name I = codes "i"
@@ -17,11 +17,12 @@ kind_name Id = codes "id"
 unfoldable pub base64_text : List ℕ → List ℕ
 base64_text bytes = encode_of standard_no_pad bytes
 
--- the field of a version in decimal
+-- the field of a version, by its digits
 abbrev pub version_field : List ℕ → List ℕ
 version_field digits = codes "$v=" ++ digits
 
--- the fields, one after another, each after its label; the version's field is whole, or empty where a text has none
+-- the fields of a text, one after another, each after its label; the field of the version comes whole, or empty where
+-- a text has none
 unfoldable pub text_of_fields : List ℕ → List ℕ → List ℕ → List ℕ → List ℕ → List ℕ → List ℕ → List ℕ
 text_of_fields kind version memory passes lanes salt tag =
     codes "$argon2" ++ kind ++ version ++ codes "$m=" ++ memory ++ codes ",t=" ++ passes
@@ -33,14 +34,14 @@ text_with version v =
     text_of_fields (kind_name v.kind) version (decimal v.memory) (decimal v.passes) (decimal v.lanes)
     (base64_text v.salt) (base64_text v.tag)
 
--- the encoded text
+-- the encoded text of a value, with the field of its version
 abbrev pub encoded_text : Value → List ℕ
 encoded_text v = text_with (version_field (decimal v.version)) v
 
--- the text of a value of version 0x10 as it was written before texts had versions
+-- the text of a value without the field of the version, as one of version 0x10 was written before texts had versions
 abbrev pub short_text : Value → List ℕ
 short_text v = text_with [] v
 
--- s is a text of the value: the encoded text, or at version 0x10 the short one
+-- s is a text of the value: its encoded text, or, at version 0x10, the one without a version
 abbrev pub IsTextOf : Value → List ℕ → Type 0
 IsTextOf v s = (s ≡ encoded_text v) ⊎ ((v.version ≡ 0x10) × (s ≡ short_text v))

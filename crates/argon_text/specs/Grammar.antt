@@ -10,14 +10,14 @@ use Rattle.argon_text.specs.Base64.{base64_bytes, is_base64}
 use Rattle.argon_text.specs.EncodedText.{base64_text, kind_name, text_of_fields, version_field}
 use Rattle.argon_text.specs.Value.{Value, is_in_range}
 
--- the digit 0 alone, or a digit from 1 to 9 and any digits after it
+-- whether bytes are the digit 0 alone, or a digit from 1 to 9 and any digits after it
 abbrev pub is_number : List ℕ → Bool
 is_number [] = false
 is_number (first ∷ others) =
     ((first == 48) && (length others == 0))
     || (nat_le 49 first && nat_le first 57 && list_all is_ascii_digit others)
 
--- the number that digits write
+-- the number that digits write in decimal
 abbrev pub number_value : List ℕ → ℕ
 number_value digits = digits_value 10 digits
 
@@ -32,18 +32,18 @@ pub record Fields : Type 0 where
   pub salt : List ℕ
   pub tag : List ℕ
 
--- the field of a version, or nothing where there is none
+-- the field of the version of a text, by its digits, or nothing where it has none
 abbrev pub version_part : Option (List ℕ) → List ℕ
 version_part None = []
 version_part (Some digits) = version_field digits
 
--- the text of fields
+-- the text that fields make
 abbrev pub text_of : Fields → List ℕ
 text_of fields =
     text_of_fields (kind_name fields.kind) (version_part fields.version) fields.memory fields.passes fields.lanes
     fields.salt fields.tag
 
--- the numbers have the form of numbers
+-- the numbers of the fields have the form of numbers
 pub record AreNumbers (fields : Fields) : Type 0 where
   pub version : IfSome fields.version (λ digits. is_number digits ≡ true)
   pub memory : is_number fields.memory ≡ true
@@ -57,7 +57,7 @@ pub record HasFields (s : List ℕ) (fields : Fields) : Type 0 where
   pub salt : is_base64 fields.salt ≡ true
   pub tag : is_base64 fields.tag ≡ true
 
--- the grammar
+-- s is in the grammar of encoded texts: it is the text of some fields that have their form
 abbrev pub IsText : List ℕ → Type 0
 IsText s = (fields : Fields) × HasFields s fields
 
@@ -65,12 +65,12 @@ IsText s = (fields : Fields) × HasFields s fields
 abbrev pub HasNumbers : List ℕ → Type 0
 HasNumbers s = (fields : Fields) × (s ≡ text_of fields) × AreNumbers fields
 
--- the version that a text says: 0x10 where it has none
+-- the version that a text says, by its digits: 0x10 where it has none
 abbrev pub version_said : Option (List ℕ) → ℕ
 version_said None = 0x10
 version_said (Some digits) = number_value digits
 
--- what fields say, where salt and tag have these bytes
+-- the value that fields say, if salt and tag have these bytes
 abbrev pub value_with : Fields → List ℕ → List ℕ → Value
 value_with fields salt tag = record {
   kind = fields.kind;
@@ -82,11 +82,11 @@ value_with fields salt tag = record {
   tag = tag;
 }
 
--- what fields say
+-- the value that fields say
 abbrev pub value_of_fields : Fields → Value
 value_of_fields fields = value_with fields (base64_bytes fields.salt) (base64_bytes fields.tag)
 
--- s is a text, and what it says lies in the ranges
+-- s is in the grammar of encoded texts, and the value that it says lies in the ranges
 abbrev pub IsTextInRange : List ℕ → Type 0
 IsTextInRange s = (fields : Fields) × HasFields s fields × (is_in_range (value_of_fields fields) ≡ true)
 
@@ -102,6 +102,6 @@ fields_with version v = record {
   tag = base64_text v.tag;
 }
 
--- the fields that a value is written as
+-- the fields as which a value is written, with its version
 abbrev pub fields_of_value : Value → Fields
 fields_of_value v = fields_with (Some (decimal v.version)) v

@@ -1,5 +1,5 @@
--- Encoded texts: the value and its ranges, its text, the grammar that texts are told by, how one is read, and what
--- the test of a password answers.
+-- Encoded texts: the value and its ranges, its text, the grammar that all texts have, how one is read, and what the
+-- test of a password answers.
 pub mod Value
 pub mod EncodedText
 pub mod Base64

@@ -7,7 +7,7 @@ use Rattle.argon_text.specs.declared.range.RangeFault.{RangeFault}
 use Rattle.argon_text.specs.declared.range.RangeFault.TheVariants as fault
 use Rattle.argon_text.specs.declared.settings.Settings.{Settings}
 
--- all but the bytes of salt and tag
+-- all that a value says but the bytes of salt and tag, of which it keeps the lengths
 abbrev pub settings_of : Value → Settings
 settings_of v = record {
   kind = v.kind;
@@ -19,8 +19,8 @@ settings_of v = record {
   tag_len = length v.tag;
 }
 
--- the first of these that is out of its range: version, passes, lanes, memory, and the lengths of tag and salt; the ranges
--- are those of `are_in_range`
+-- the first of these that is out of its range: version, passes, lanes, memory, and the lengths of tag and salt; the
+-- ranges are those of `are_in_range`
 abbrev pub first_out : ℕ → ℕ → ℕ → ℕ → ℕ → ℕ → Option RangeFault
 first_out version passes lanes memory tag_len salt_len =
     if not (is_version version) then Some fault.Version
@@ -31,10 +31,10 @@ first_out version passes lanes memory tag_len salt_len =
     else if not (is_between 8 salt_len 255) then Some fault.SaltLength
     else None
 
--- the same of a value
+-- the first of the numbers and lengths of a value that is out of its range
 abbrev pub range_fault : Value → Option RangeFault
 range_fault v = first_out v.version v.passes v.lanes v.memory (length v.tag) (length v.salt)
 
--- of a text in the grammar this is told
+-- if the text is in the grammar, the answer is the first fault of the ranges of the value that the text says
 abbrev pub IsFirstFault : List ℕ → Option RangeFault → Type 0
 IsFirstFault text told = (fields : Fields) → HasFields text fields → told ≡ range_fault (value_of_fields fields)

@@ -4,7 +4,8 @@ use Rattle.base64.specs.GeneralPurpose.{IsBytes}
 use Rattle.argon.specs.Range.{is_between, is_version}
 use Rattle.argon.specs.declared.kind.Kind.{Kind}
 
--- the type y, the version v, memory m in KiB, passes t, lanes p, salt S and tag T (RFC 9106, 3.1)
+-- what an encoded text says: the type y, the version v, memory m in KiB, passes t, lanes p, salt S and tag T (RFC
+-- 9106, 3.1)
 pub record Value : Type 0 where
   pub kind : Kind
   pub version : ℕ
@@ -14,8 +15,8 @@ pub record Value : Type 0 where
   pub salt : List ℕ
   pub tag : List ℕ
 
--- version 0x10 or 0x13, and the ranges of RFC 9106, 3.1; the upper ends of salt and tag are own, and so is the least
--- length of a salt
+-- whether the version is 0x10 or 0x13, and the numbers and lengths are in the ranges of RFC 9106, 3.1, but for the
+-- greatest lengths of salt and tag and the least length of a salt, which are this project's
 abbrev pub are_in_range : ℕ → ℕ → ℕ → ℕ → ℕ → ℕ → Bool
 are_in_range version memory passes lanes salt_len tag_len =
     is_version version
@@ -25,7 +26,7 @@ are_in_range version memory passes lanes salt_len tag_len =
     && is_between 8 salt_len 255
     && is_between 4 tag_len 4096
 
--- the same of a value
+-- whether the numbers and lengths of a value are in their ranges (RFC 9106, 3.1, and this project's lengths)
 abbrev pub is_in_range : Value → Bool
 is_in_range v = are_in_range v.version v.memory v.passes v.lanes (length v.salt) (length v.tag)
 

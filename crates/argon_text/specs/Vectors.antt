@@ -51,7 +51,7 @@ old_value = record {
 abbrev pub old_text : List ℕ
 old_text = codes "$argon2i$v=16$m=256,t=2,p=1$c29tZXNhbHQ$/U3YPXYsSb3q9XxHvc0MLxur+GP960kN9j7emXX8zwY"
 
--- the same without its version
+-- the second text without its version
 abbrev pub old_short_text : List ℕ
 old_short_text = codes "$argon2i$m=256,t=2,p=1$c29tZXNhbHQ$/U3YPXYsSb3q9XxHvc0MLxur+GP960kN9j7emXX8zwY"
 

@@ -1,4 +1,4 @@
--- Whether a password gives the tag of a value, and why that isn't told.
+-- Whether a password gives the tag of a value, and why that is not answered.
 use Rattle.std.specs.Prelude.{◌≡◌, ◌||◌, ℕ, not, nat_lt, List, [], length, if◌then◌else◌, Option, Some, None}
 use Rattle.argon.specs.Argon2.{Parameters, argon2_tag, block_count}
 use Rattle.argon.specs.Counts.{work}
@@ -21,7 +21,8 @@ parameters_with v password = record {
   password_len = length password;
 }
 
--- the tag of the password under the value's parameters, with a secret value and associated data (RFC 9106, 3.1: K and X)
+-- the tag of the password under the value's parameters, with a secret value K and associated data X (RFC 9106, 3.1;
+-- 3.2, steps 1 to 8)
 abbrev pub keyed_tag : Value → List ℕ → List ℕ → List ℕ → List ℕ
 keyed_tag v password secret associated = argon2_tag (parameters_with v password) (record {
   password = password;
@@ -30,12 +31,13 @@ keyed_tag v password secret associated = argon2_tag (parameters_with v password)
   associated = associated;
 })
 
--- the same with no secret and no associated data
+-- the tag of the password under the value's parameters, with no secret and no associated data (RFC 9106, 3.2, steps 1
+-- to 8)
 abbrev pub tag_of_password : Value → List ℕ → List ℕ
 tag_of_password v password = keyed_tag v password [] []
 
--- the first that holds: the length of the password, those of the secret and the associated data, the limit on memory, the
--- limit on work
+-- why a password is not tested against a value, if it isn't, before memory is asked for: the first that holds of the
+-- length of the password, the lengths of the secret and the associated data, the limit on memory, the limit on work
 abbrev pub keyed_fault : Value → List ℕ → ℕ → ℕ → ℕ → ℕ → Option VerifyFault
 keyed_fault v password secret_len associated_len max_kib max_ops =
     if not (is_between 1 (length password) 127) then Some PasswordLength
@@ -44,11 +46,12 @@ keyed_fault v password secret_len associated_len max_kib max_ops =
     else if nat_lt max_ops (work (parameters_with v password)) then Some WorkLimit
     else None
 
--- the same with no secret and no associated data
+-- why a password is not tested against a value, if it isn't, with no secret and no associated data: the first that
+-- holds of the length of the password, the limit on memory, the limit on work
 abbrev pub verify_fault : Value → List ℕ → ℕ → ℕ → Option VerifyFault
 verify_fault v password = keyed_fault v password 0 0
 
--- the fault that was told, against the first that holds; memory is refused only where none of those holds
+-- the fault that is reported is the first that holds; that of memory comes only where none holds
 abbrev pub IsToldFault : Option VerifyFault → VerifyFault → Type 0
 IsToldFault first PasswordLength = first ≡ Some PasswordLength
 IsToldFault first InputLength = first ≡ Some InputLength

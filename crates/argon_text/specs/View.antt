@@ -2,7 +2,7 @@
 use Rattle.argon_text.specs.Value.{Value}
 use Rattle.argon_text.specs.declared.encoded.Encoded.{Encoded}
 
--- the value, without where its bytes lie in memory
+-- the value of an `Encoded`, without where its bytes lie in memory
 abbrev pub value_of : Encoded → Value
 value_of e = record {
   kind = e.kind;

@@ -9,8 +9,9 @@ use Rattle.argon2_command.specs.declared.refusal.Argon2Refusal.TheVariants as re
 use Rattle.tools.specs.Words.{LacksText}
 use Rattle.tools.specs.declared.arguments.WordsFault.TheVariants as words_fault
 
--- the program ended with a refusal: that of a run with the words after its name; or one of these is no text; or memory for
--- them was refused. `words` are those of the process, of which the first is its name
+-- the program ended with a refusal: that of a run with the words after its name; or one of these is no text; or
+-- memory for them was refused, which may come of any words. In each case its line was said, or could not be said and
+-- `lines` rose. `words` are those of the process, of which the first is its name
 abbrev pub ProgramRefuses : Bool → List Text → Seen → Seen → Faults → Type 0
 ProgramRefuses tells words before after faults =
     Refuses tells (drop 1 words) before after no_faults faults

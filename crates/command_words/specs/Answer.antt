@@ -2,12 +2,12 @@
 use Rattle.std.specs.Prelude.{Result, Ok, Err}
 
 infixl 10 ◌>>=◌
--- goes on with what was found
+-- the answer of a next step, which f makes of the value that was found; a refusal stays
 abbrev pub ◌>>=◌ : {A B R : Type 0} → Result A R → (A → Result B R) → Result B R
 (Ok x) >>= f = f x
 (Err r) >>= f = Err r
 
--- an answer, with what `f` makes of the value
+-- an answer with what `f` makes of its value; a refusal stays
 abbrev pub answered : {A B R : Type 0} → (A → B) → Result A R → Result B R
 answered f (Ok x) = Ok (f x)
 answered f (Err r) = Err r

@@ -8,39 +8,40 @@ use Rattle.encfile.specs.Header.{bytes_at, costs_of, header, salt_of}
 
 -- ---- the file of a text
 
--- the 64 bytes that the passphrase gives
+-- the 64 bytes of keys, which scrypt gives of the passphrase and the salt
 unfoldable pub derived_key : List ℕ → List ℕ → Parameters → List ℕ
 derived_key passphrase salt costs = scrypt passphrase salt (2 ^ costs.log_n) costs.r costs.p 64
 
--- the first 32 of them: the key of AES-256
+-- the first 32 of the 64 bytes of keys: the key of AES-256
 abbrev pub cipher_key : List ℕ → List ℕ → Parameters → List ℕ
 cipher_key passphrase salt costs = take 32 (derived_key passphrase salt costs)
 
--- the last 32 of them: the key of HMAC-SHA-256
+-- the last 32 of the 64 bytes of keys: the key of HMAC-SHA-256
 abbrev pub code_key : List ℕ → List ℕ → Parameters → List ℕ
 code_key passphrase salt costs = drop 32 (derived_key passphrase salt costs)
 
--- bytes 64 to 95: the HMAC of the header
+-- bytes 64 to 95: the HMAC of bytes 0 to 63
 abbrev pub header_code : List ℕ → List ℕ → Parameters → List ℕ
 header_code passphrase salt costs = hmac_sha256 (code_key passphrase salt costs) (header costs salt)
 
--- bytes 0 to 95
+-- bytes 0 to 95: the header of 64 bytes and its HMAC
 unfoldable pub head : List ℕ → List ℕ → Parameters → List ℕ
 head passphrase salt costs = header costs salt ++ header_code passphrase salt costs
 
--- everything before the last 32 bytes: from byte 96 on the encrypted text
+-- all but the last 32 bytes of the file: bytes 0 to 95, and from byte 96 on the encrypted text
 unfoldable pub body : List ℕ → List ℕ → Parameters → List ℕ → List ℕ
 body passphrase salt costs text = head passphrase salt costs ++ counter_mode (cipher_key passphrase salt costs) text
 
--- the last 32 bytes: the HMAC of everything before
+-- the last 32 bytes of the file: the HMAC of all bytes before them
 abbrev pub final_code : List ℕ → List ℕ → Parameters → List ℕ → List ℕ
 final_code passphrase salt costs text = hmac_sha256 (code_key passphrase salt costs) (body passphrase salt costs text)
 
--- the file of a text
+-- the whole file of a text under a passphrase, with this salt and these costs
 unfoldable pub encrypted_file : List ℕ → List ℕ → Parameters → List ℕ → List ℕ
 encrypted_file passphrase salt costs text = body passphrase salt costs text ++ final_code passphrase salt costs text
 
--- the file is that of the text under the passphrase, with some salt and some costs
+-- the file is that of the text under the passphrase, with some salt of 32 bytes and some costs in range, and the text
+-- has fewer than 2^60 bytes
 pub record IsEncryptionOf (file passphrase text : List ℕ) : Type 0 where
   pub salt : List ℕ
   pub costs : Parameters
@@ -51,18 +52,19 @@ pub record IsEncryptionOf (file passphrase text : List ℕ) : Type 0 where
 
 -- ---- what a file gives back, whether its codes are right or not
 
--- the text of the bytes between the first 96 and the last 32
+-- what a file gives back under a passphrase, whether its codes are right or not: the bytes between the first 96 and
+-- the last 32, decrypted by the costs and the salt of its header; nothing where it has fewer than 128 bytes
 unfoldable pub released_text : List ℕ → List ℕ → List ℕ
 released_text file passphrase =
     if nat_le 128 (length file)
     then counter_mode (cipher_key passphrase (salt_of file) (costs_of file)) (bytes_at file 96 (length file - 128))
     else []
 
--- what bytes 64 to 95 should be: the HMAC of bytes 0 to 63, under the key that the passphrase gives with the costs and
--- the salt that stand there
+-- what bytes 64 to 95 of a file should be: the HMAC of bytes 0 to 63, under the key that the passphrase gives with
+-- the costs and the salt that stand in bytes 7 to 47
 abbrev pub right_header_code : List ℕ → List ℕ → List ℕ
 right_header_code file passphrase = hmac_sha256 (code_key passphrase (salt_of file) (costs_of file)) (take 64 file)
 
--- they are
+-- bytes 64 to 95 of the file are the HMAC of bytes 0 to 63 under the passphrase
 abbrev pub HasRightHeaderCode : List ℕ → List ℕ → Type 0
 HasRightHeaderCode file passphrase = bytes_at file 64 32 ≡ right_header_code file passphrase

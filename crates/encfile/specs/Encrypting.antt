@@ -6,20 +6,20 @@ use Rattle.romix.specs.Costs.{IsInRange, Parameters}
 use Rattle.encfile.specs.EncryptedFile.{derived_key, head}
 use Rattle.encfile.specs.declared.enc.Enc.{Enc}
 
--- its first 96 bytes, its 64 bytes of keys, and the text that it has encrypted so far
+-- a running encryption with these first 96 bytes and these 64 bytes of keys, which has encrypted this text so far
 pub record Encrypts (enc : Enc) (front keys text : List ℕ) : Type 0 where
   pub header : enc.header ≡ front
   pub cipher : enc.ctr ≡ record { key = take 32 keys; position = length text }
   pub code : Holds enc.hmac (drop 32 keys) (front ++ counter_mode (take 32 keys) text)
 
--- it has encrypted this text, for the file of this passphrase, salt and costs
+-- a running encryption has encrypted this text so far, for the file of this passphrase, salt and costs
 pub record HasEncrypted (enc : Enc) (passphrase salt : List ℕ) (costs : Parameters) (text : List ℕ) : Type 0 where
   pub state : Encrypts enc (head passphrase salt costs) (derived_key passphrase salt costs) text
   pub salt_has_32_bytes : length salt ≡ 32
   pub in_range : IsInRange costs
   pub below_limit : length text < 2 ^ 60
 
--- SHA-256 inside HMAC takes the message after a block of 64 bytes; the length in bits, which it appends as a number of 64 bits,
--- doesn't wrap (FIPS 180-4, 5.1.1)
+-- SHA-256 inside HMAC takes the message after a block of 64 bytes; the length in bits, which it appends as a number
+-- of 64 bits, doesn't wrap (FIPS 180-4, 5.1.1)
 abbrev pub FitsSha256 : List ℕ → Type 0
 FitsSha256 message = 8 * (64 + length message) < 2 ^ 64

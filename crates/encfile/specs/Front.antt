@@ -11,7 +11,7 @@ use Rattle.encfile.specs.HeaderFaults.{header_fault}
 use Rattle.encfile.specs.declared.fault.HeaderFault.{HeaderFault}
 use Rattle.encfile.specs.declared.fault.HeaderFault.TheVariants.{Magic, Version, Checksum, CostsOutOfRange}
 
--- why a file is refused before its text is looked at
+-- the reasons for which a file is refused before its text is looked at
 pub data FrontRefusal : Type 0 where
   NotScryptData : FrontRefusal
   UnsupportedVersion : FrontRefusal
@@ -20,11 +20,11 @@ pub data FrontRefusal : Type 0 where
   TooMuchWork : FrontRefusal
   WrongPassphrase : FrontRefusal
 
--- bytes 64 to 95 are right under the passphrase
+-- whether bytes 64 to 95 are the HMAC of bytes 0 to 63 under the passphrase
 abbrev pub has_right_header_code : List ℕ → List ℕ → Bool
 has_right_header_code file passphrase = bytes_eq (bytes_at file 64 32) (right_header_code file passphrase)
 
--- what a fault of `Header::read` comes to
+-- why a file is refused, by the fault of its header
 unfoldable pub header_refusal : HeaderFault → FrontRefusal
 header_refusal Magic = NotScryptData
 header_refusal Version = UnsupportedVersion
@@ -33,7 +33,7 @@ header_refusal CostsOutOfRange = NotScryptData
 
 -- ---- the first reason that there is
 
--- why the file has no header, if it has none: it is too short, or what `Header::read` tells
+-- why a file has no valid header, if it has none: it has fewer than 96 bytes, or its first 64 bytes have a fault
 unfoldable pub format_refusal : List ℕ → Option FrontRefusal
 format_refusal file = if nat_lt (length file) 96 then Some NotScryptData else option_map header_refusal (header_fault file)
 
@@ -45,11 +45,12 @@ costs_refusal costs allowed = first_of (
     ∷ (exceeds_work (with_keep_of allowed costs) allowed.limits, TooMuchWork)
     ∷ [])
 
--- why the file is refused whatever the passphrase, if it is: it has no header, or its costs are not allowed
+-- why the file is refused whatever the passphrase, if it is: it has no valid header, or its costs are not allowed
 unfoldable pub limits_refusal : List ℕ → Allowance → Option FrontRefusal
 limits_refusal file allowed = option_or (format_refusal file) (costs_refusal (costs_of file) allowed)
 
--- why the file is refused under the passphrase, if it is: the above, or its bytes 64 to 95
+-- why the file is refused under the passphrase, if it is: by its header or its costs, whatever the passphrase, and
+-- else since bytes 64 to 95 are not right
 unfoldable pub front_refusal : List ℕ → Allowance → List ℕ → Option FrontRefusal
 front_refusal file allowed passphrase =
     option_or (limits_refusal file allowed) (if has_right_header_code file passphrase then None else Some WrongPassphrase)

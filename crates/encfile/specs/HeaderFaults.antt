@@ -7,11 +7,12 @@ use Rattle.encfile.specs.Header.{costs_of, has_magic, has_right_checksum}
 use Rattle.encfile.specs.declared.fault.HeaderFault.{HeaderFault}
 use Rattle.encfile.specs.declared.fault.HeaderFault.TheVariants.{Magic, Version, Checksum, CostsOutOfRange}
 
--- the numbers are no costs of a derivation
+-- whether the numbers that a header has are no costs of a derivation
 abbrev pub are_out_of_range : Parameters → Bool
 are_out_of_range costs = is_some (cost_fault costs.log_n costs.r costs.p)
 
--- why the bytes, of which the first 64 count, are no header, if they aren't
+-- why the bytes, of which the first 64 count, are no header, if they aren't: the first fault in the order of the
+-- lines
 abbrev pub header_fault : List ℕ → Option HeaderFault
 header_fault file = first_of (
     (not (has_magic file), Magic)

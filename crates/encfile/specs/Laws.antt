@@ -18,7 +18,8 @@ pub record GivesBack (passphrase salt : List ℕ) (costs : Parameters) (text : L
   pub released : released_text (encrypted_file passphrase salt costs text) passphrase ≡ text
   pub encryption : IsEncryptionOf (encrypted_file passphrase salt costs text) passphrase text
 
--- what refuses a file: what refuses its header, then costs that are not allowed, whatever the passphrase, then bytes 64 to 95
+-- what refuses a file, in this order: what refuses its header, then costs that are not allowed, whatever the
+-- passphrase, then bytes 64 to 95
 pub record IsDecidedInOrder (file : List ℕ) (allowed : Allowance) (passphrase : List ℕ) : Type 0 where
   pub format : (refusal : FrontRefusal) → format_refusal file ≡ Some refusal → limits_refusal file allowed ≡ Some refusal
   pub limits : (refusal : FrontRefusal) → limits_refusal file allowed ≡ Some refusal → front_refusal file allowed passphrase ≡ Some refusal
@@ -26,12 +27,14 @@ pub record IsDecidedInOrder (file : List ℕ) (allowed : Allowance) (passphrase 
       → front_refusal file allowed passphrase ≡ Some WrongPassphrase
   pub right : limits_refusal file allowed ≡ None → HasRightHeaderCode file passphrase → front_refusal file allowed passphrase ≡ None
 
--- the costs with S, which is a power of two from 1 to 1,024, that the header of a file and an allowance give
+-- the costs that the header of a file says, with the S of an allowance; S may be any number here, also no power of
+-- two
 abbrev pub sparse_of : List ℕ → Allowance → SparseParameters
 sparse_of header allowed = with_keep_of allowed (costs_of header)
 
--- what refuses a file of 96 bytes or more: on its first 96 bytes, what `Header::read`, `Sparse::new`, `Sparse::admitted` and
--- `Dec::open` tell, in this order
+-- what refuses a file of 96 bytes or more: on its first 96 bytes, what `Header::read`, `Sparse::new`,
+-- `Sparse::admitted` and `Dec::open` answer, in this order. Nothing is said of an S that is no power of two from 1 to
+-- 1,024, for which `Sparse::new` answers `Keep`
 pub record IsDecidedByCalls (file : List ℕ) (allowed : Allowance) (passphrase front : List ℕ) : Type 0 where
   pub header : (told : HeaderFault) → header_fault (take 64 front) ≡ Some told
       → front_refusal file allowed passphrase ≡ Some (header_refusal told)

@@ -11,8 +11,8 @@ front_of_costs log_n r p = header (record { log_n = log_n; r = r; p = p }) (rang
 abbrev pub allowance : ℕ → ℕ → ℕ → Allowance
 allowance keep max_bytes max_ops = record { limits = record { max_bytes = max_bytes; max_ops = max_ops }; keep = keep }
 
--- bytes 0 to 95 of the file of `hello` with log2 N 4, r 1, p 1, the passphrase `pw` and the salt 00 01 .. 1f, as Python's
--- `hashlib.scrypt` and `hmac` give them
+-- bytes 0 to 95 of the file of `hello` with log2 N 4, r 1, p 1, the passphrase `pw` and the salt 00 01 .. 1f, as
+-- Python's `hashlib.scrypt` and `hmac` give them
 abbrev pub front_of_hello : List ℕ
 front_of_hello =
     0x73 ∷ 0x63 ∷ 0x72 ∷ 0x79 ∷ 0x70 ∷ 0x74 ∷ 0x00 ∷ 0x04 ∷ 0x00 ∷ 0x00 ∷ 0x00 ∷ 0x01 ∷ 0x00 ∷ 0x00 ∷ 0x00 ∷ 0x01
@@ -22,7 +22,8 @@ front_of_hello =
     ∷ 0x05 ∷ 0x1B ∷ 0x8B ∷ 0x64 ∷ 0x44 ∷ 0x07 ∷ 0x9B ∷ 0xEF ∷ 0x98 ∷ 0x6B ∷ 0x3D ∷ 0x3C ∷ 0x6D ∷ 0x1D ∷ 0xF8 ∷ 0x6C
     ∷ 0xF5 ∷ 0xC6 ∷ 0x17 ∷ 0x35 ∷ 0xC7 ∷ 0x3C ∷ 0xCF ∷ 0x3A ∷ 0x91 ∷ 0xC0 ∷ 0x0C ∷ 0x40 ∷ 0x42 ∷ 0xFA ∷ 0xC3 ∷ 0x8A ∷ []
 
--- the bytes of the same file from 96 on: the cipher of `hello`, as `openssl enc -aes-256-ctr` gives it, and the final code
+-- the bytes of the same file from 96 on: the cipher of `hello`, as `openssl enc -aes-256-ctr` gives it, and the final
+-- code
 abbrev pub rest_of_hello : List ℕ
 rest_of_hello =
     0xA3 ∷ 0xCA ∷ 0x5B ∷ 0x58 ∷ 0x06 ∷ 0xFA ∷ 0xF6 ∷ 0x91 ∷ 0x95 ∷ 0x12 ∷ 0x96 ∷ 0xA9 ∷ 0x92 ∷ 0x5E ∷ 0x75 ∷ 0x4D

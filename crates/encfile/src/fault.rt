@@ -17,7 +17,7 @@ pub struct Damaged;
 #[error("wrong passphrase")]
 pub struct WrongPassphrase;
 
-/// Why 64 bytes are no header. The first that holds, in this order, is told.
+/// Why 64 bytes are no header. The first that holds, in this order, is answered.
 #[derive(Debug, Clone, Copy, PartialEq, Eq, Drop, Error)]
 pub enum HeaderFault {
     /// 1: bytes 0 to 5 are not the text `scrypt`.

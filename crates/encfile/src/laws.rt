@@ -21,7 +21,7 @@ fn length_of_file()
         → length (encrypted_file passphrase salt costs text) ≡ 128 + length text }
 {}
 
-// It isn't refused where its costs are admitted, whatever S is.
+// The file of a text isn't refused under its passphrase where its costs are admitted, whatever S is.
 fn file_is_not_refused()
     ensures none { (passphrase salt : List ℕ) (costs : Parameters) (text : List ℕ) (allowed : Allowance)
         → length salt ≡ 32 → IsInRange costs → Admits allowed costs
@@ -34,15 +34,16 @@ fn short_file_is_refused()
         → length file < 96 → front_refusal file allowed passphrase ≡ Some NotScryptData }
 {}
 
-// Any other is refused by what `Header::read`, `Sparse::new`, `Sparse::admitted` and `Dec::open`
-// tell of its first 96 bytes.
+// A file of 96 bytes or more is refused by what `Header::read`, `Sparse::new`, `Sparse::admitted` and
+// `Dec::open` answer of its first 96 bytes.
 fn front_is_decided_by_calls()
     ensures decided { (file : List ℕ) (allowed : Allowance) (passphrase front : List ℕ)
         → 96 ≤ length file → front ≡ take 96 file
         → IsDecidedByCalls file allowed passphrase front }
 {}
 
-// What is refused whatever the passphrase is refused under each, and the rest by its header's code.
+// A file that is refused whatever the passphrase is refused under each, and another by its header's
+// code.
 fn front_is_decided_in_order()
     ensures decided { (file : List ℕ) (allowed : Allowance) (passphrase : List ℕ)
         → IsDecidedInOrder file allowed passphrase }

@@ -5,12 +5,12 @@ use Rattle.host.specs.declared.asked.Name.{Name, End, Byte'}
 use Rattle.host.specs.declared.asked.Asked.{Asked}
 use Rattle.host.specs.declared.asked.Asked.TheVariants as asked
 
--- the bytes of a name; what is held after a byte has none of its own, and is the rest of the name
+-- the bytes of a name, which is a byte, what is held after it, and the rest of the name; what is held has no bytes
 abbrev pub name_bytes : Name → Text
 name_bytes End = []
 name_bytes (Byte' byte held rest) = byte ∷ name_bytes rest
 
--- the source
+-- the secret source that a host was asked for
 abbrev pub asked_source : Asked → SecretSource
 asked_source asked.StdinOnce = stdin_once
 asked_source (asked.Env name) = env (name_bytes name)

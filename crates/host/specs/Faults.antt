@@ -1,7 +1,7 @@
 -- How often the calls of a host have failed.
 use Rattle.std.specs.Prelude.{◌+◌, ◌<◌, ℕ}
 
--- how many calls of each kind failed: open_input and pull, open_output and push, secret, salt, say
+-- how many calls of each kind failed: `open_input` and `pull`, `open_output` and `push`, `secret`, `salt`, `say`
 pub record Faults : Type 0 where
   pub input : ℕ
   pub output : ℕ
@@ -9,27 +9,27 @@ pub record Faults : Type 0 where
   pub salt : ℕ
   pub lines : ℕ
 
--- one failure of the input more
+-- the counts with one failure of the input more
 abbrev pub input_failed : Faults → Faults
 input_failed f = record f { input = f.input + 1 }
 
--- one failure of the output more
+-- the counts with one failure of the output more
 abbrev pub output_failed : Faults → Faults
 output_failed f = record f { output = f.output + 1 }
 
--- one failure of a secret source more
+-- the counts with one failure of a secret source more
 abbrev pub secret_failed : Faults → Faults
 secret_failed f = record f { secrets = f.secrets + 1 }
 
--- one failure of the salt more
+-- the counts with one failure of the salt more
 abbrev pub salt_failed : Faults → Faults
 salt_failed f = record f { salt = f.salt + 1 }
 
--- one line more that could not be said
+-- the counts with one line more that could not be said
 abbrev pub line_failed : Faults → Faults
 line_failed f = record f { lines = f.lines + 1 }
 
--- each count is below n
+-- each of the five counts is below n
 pub record AreBelow (n : ℕ) (f : Faults) : Type 0 where
   pub input : f.input < n
   pub output : f.output < n

@@ -15,7 +15,7 @@ pub record Grants : Type 0 where
 abbrev pub nothing_asked : Grants
 nothing_asked = record { input = true; readable = false; output = true; writable = false; secret = true; salt = true }
 
--- each opening and each asking is granted
+-- a host grants each opening and each asking: of the input, of an output, of a secret source and of a salt
 pub record GrantsAll (g : Grants) : Type 0 where
   pub input : g.input ≡ true
   pub output : g.output ≡ true

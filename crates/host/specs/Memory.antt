@@ -14,8 +14,9 @@ pub record Entry : Type 0 where
 abbrev pub lookup : List Entry → Text → Option (List ℕ)
 lookup entries name = option_map (λ e. e.bytes) (find (λ e. bytes_eq e.name name) entries)
 
--- a host in memory: what it tells, whether its input may be pulled from, its counts of failures, the greatest sizes of a pull and of a push in bytes, the
--- number of the call that is to fail (0: none), and how many calls there were
+-- a host in memory: its bytes, names and lines, whether its input may be pulled from, its counts of failures, the
+-- greatest sizes of a pull and of a push in bytes, the number of the call that is to fail (0: none), and how many
+-- calls there were
 pub record Memory : Type 0 where
   pub input : List ℕ
   pub output : List ℕ
@@ -36,7 +37,8 @@ pub record Memory : Type 0 where
   pub failing : ℕ
   pub calls : ℕ
 
--- a new host: nothing is opened, asked, said or written, nothing failed, no call is to fail, and the sizes are not bounded
+-- a new host: nothing is opened, asked, said or written, nothing failed, no call is to fail, and the sizes are not
+-- bounded
 abbrev pub new_memory : List ℕ → List ℕ → List ℕ → Memory
 new_memory input stdin salt = record {
   input = input;
@@ -59,7 +61,7 @@ new_memory input stdin salt = record {
   calls = 0;
 }
 
--- its bytes, names and lines
+-- what contracts see of a host in memory: its bytes, names and lines
 abbrev pub memory_seen : Memory → Seen
 memory_seen m = record {
   input = m.input;
@@ -76,7 +78,7 @@ memory_seen m = record {
   salt = m.salt;
 }
 
--- the calls that it grants
+-- the calls that a host in memory grants
 abbrev pub memory_grants : Memory → Grants
 memory_grants m = record {
   input = is_none m.input_opened;
@@ -87,14 +89,14 @@ memory_grants m = record {
   salt = not m.salted;
 }
 
--- its counts of failures
+-- the counts of failures of a host in memory
 abbrev pub memory_faults : Memory → Faults
 memory_faults m = m.faults
 
--- the host with a variable more
+-- the host in memory with a variable more
 abbrev pub with_variable : Text → List ℕ → Memory → Memory
 with_variable name bytes m = record m { variables = record { name = name; bytes = bytes } ∷ m.variables }
 
--- the host with a secret file more
+-- the host in memory with a secret file more
 abbrev pub with_file : Text → List ℕ → Memory → Memory
 with_file name bytes m = record m { files = record { name = name; bytes = bytes } ∷ m.files }

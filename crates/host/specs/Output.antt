@@ -1,4 +1,4 @@
--- What it leaves to open an output and write to it.
+-- What is seen of a host once an output was opened and written to.
 use Rattle.std.specs.Prelude.{◌≡◌, ◌<◌, ℕ, List, Option, length, take}
 use Rattle.host.specs.Seen.{Seen, Text, after_open_output, after_push}
 

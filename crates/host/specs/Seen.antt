@@ -11,10 +11,10 @@ pub data SecretSource : Type 0 where
   env : Text → SecretSource
   file : Text → SecretSource
 
--- the input that is left, the output so far, the names under which they were opened (None: not opened; Some None:
--- the standard stream), the name under which an output was asked for, whether or not it could be opened (None: none was
--- asked for), the secret source that was asked (None: none was), whether a salt was asked for, the lines said so far, the
--- secret sources, and the salt
+-- the input that is left, the output so far, the names under which input and output were opened (None: not opened;
+-- Some None: the standard stream), the name under which an output was asked for, whether or not it could be opened
+-- (None: none was asked for), the secret source that was asked (None: none was), whether a salt was asked for, the
+-- lines said so far, the bytes of the secret sources (None: it is not there), and the salt
 pub record Seen : Type 0 where
   pub input : List ℕ
   pub output : List ℕ
@@ -36,39 +36,39 @@ pub record IsFresh (s : Seen) : Type 0 where
   pub asked : s.asked ≡ None
   pub unsalted : s.salted ≡ false
 
--- n bytes of the input are gone
+-- the host after a pull of n bytes: these are gone from the input
 abbrev pub after_pull : ℕ → Seen → Seen
 after_pull n s = record s { input = drop n s.input }
 
--- these bytes stand after the output
+-- the host after a push: these bytes stand after the output
 abbrev pub after_push : List ℕ → Seen → Seen
 after_push bytes s = record s { output = s.output ++ bytes }
 
--- a line more was said
+-- the host after a line more was said
 abbrev pub after_say : Text → Seen → Seen
 after_say line s = record s { said = s.said ++ (line ∷ []) }
 
--- the input was opened under this name
+-- the host after the input was opened under this name
 abbrev pub after_open_input : Option Text → Seen → Seen
 after_open_input name s = record s { input_opened = Some name }
 
--- an output was asked for under this name, and could not be opened
+-- the host after an output was asked for under this name, and could not be opened
 abbrev pub after_ask_output : Option Text → Seen → Seen
 after_ask_output name s = record s { output_asked = Some name }
 
--- the output was opened under this name
+-- the host after the output was opened under this name
 abbrev pub after_open_output : Option Text → Seen → Seen
 after_open_output name s = record s { output_opened = Some name; output_asked = Some name }
 
--- this secret source was asked
+-- the host after this secret source was asked, whatever came of it
 abbrev pub after_ask : SecretSource → Seen → Seen
 after_ask source s = record s { asked = Some source }
 
--- a salt was asked for
+-- the host after a salt was asked for, whatever came of it
 abbrev pub after_salt : Seen → Seen
 after_salt s = record s { salted = true }
 
--- stands where a host tells nothing
+-- stands for what is seen of a host that does not tell its bytes
 abbrev pub nothing_seen : Seen
 nothing_seen = record {
   input = [];

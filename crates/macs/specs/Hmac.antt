@@ -4,6 +4,6 @@ use Rattle.sha2.specs.Hashers.{Holds256}
 use Rattle.macs.specs.HmacSha256.{inner_key, outer_key}
 use Rattle.macs.specs.declared.hmac.Hmac.{Hmac}
 
--- the value mac has this key, and was handed the bytes of this message
+-- the running HMAC `mac` has this key, and was given the bytes of this message so far
 unfoldable pub Holds : Hmac → List ℕ → List ℕ → Type 0
 Holds mac key message = Holds256 mac.inner (inner_key key ++ message) × Holds256 mac.outer (outer_key key)

@@ -2,7 +2,7 @@
 use Rattle.std.specs.Prelude.{ℕ, ◌-◌, List, ◌++◌, length, map, replicate, bit_xor, nat_le, if◌then◌else◌}
 use Rattle.sha2.specs.Sha256.{sha256}
 
--- every byte of a list xored with one byte
+-- every byte of a list, xored with one byte (section 2, steps 2 and 5)
 abbrev pub xored_bytes : ℕ → List ℕ → List ℕ
 xored_bytes byte bytes = map (λ b. bit_xor b byte) bytes
 
@@ -22,6 +22,6 @@ inner_key key = xored_bytes 0x36 (key_block key)
 abbrev pub outer_key : List ℕ → List ℕ
 outer_key key = xored_bytes 0x5C (key_block key)
 
--- H(K xor opad, H(K xor ipad, text)) (section 2)
+-- the code: H(K xor opad, H(K xor ipad, text)) (section 2, steps 1 to 7)
 unfoldable pub hmac_sha256 : List ℕ → List ℕ → List ℕ
 hmac_sha256 key message = sha256 (outer_key key ++ sha256 (inner_key key ++ message))

@@ -3,6 +3,6 @@ use Rattle.std.specs.Prelude.{ℕ, List}
 use Rattle.macs.specs.Hmac.{Holds}
 use Rattle.macs.specs.declared.pbkdf2_pair.Pbkdf2Pair.{Pbkdf2Pair}
 
--- the value has this password, and was handed the bytes of this salt
+-- the running PBKDF2 `pair` has this password, and was given the bytes of this salt so far
 abbrev pub HoldsSalt : Pbkdf2Pair → List ℕ → List ℕ → Type 0
 HoldsSalt pair password salt = Holds pair.salted password salt

@@ -1,4 +1,4 @@
--- What a caller gives and is told of Argon2.
+-- What a caller gives to the functions for Argon2, and what they answer.
 use Rattle.std.specs.Prelude.{◌≡◌, ◌==◌, ◌||◌, ◌⊎◌, ℕ, not, nat_lt, nat_le, List, [], length, replicate, Result, Ok, Err, Option, Some, None, if◌then◌else◌}
 use Rattle.argon.specs.Argon2.{argon2_tag}
 use Rattle.argon.specs.Parameters.{Inputs, Parameters}
@@ -42,28 +42,28 @@ kind_numbered number = if number == 0 then D else if number == 1 then I else Id
 
 -- ---- what is refused before memory is asked for, by its number; or 0
 
--- the number of a fault, or the rest
+-- the number of a fault, or `rest` where there is none
 abbrev pub number_or : {A : Type 0} → Result A ParamFault → ℕ → ℕ
 number_or (Ok _) rest = rest
 number_or (Err fault) _ = params_number fault
 
--- the kind, the version and the ranges
+-- what the kind, the version and the ranges of the parameters are refused for, by its number; or 0
 abbrev pub params_status : Parameters → ℕ
 params_status parameters =
     if nat_lt 2 parameters.kind then no_kind
     else if not (is_version parameters.version) then no_version
     else number_or (checked_parameters parameters) 0
 
--- the lengths of the secret and of the associated data
+-- what the lengths of the secret and of the associated data are refused for, by its number; or 0
 abbrev pub inputs_status : ℕ → ℕ → ℕ
 inputs_status secret_len associated_len =
     if nat_lt 0xFFFFFFFF secret_len || nat_lt 0xFFFFFFFF associated_len then long_input else 0
 
--- the limits
+-- what the limits refuse the parameters for, by its number; or 0
 abbrev pub limits_status : Parameters → ℕ → ℕ → ℕ
 limits_status parameters max_kib max_ops = number_or (admission parameters max_kib max_ops) 0
 
--- a hash
+-- what a hash is refused for before memory is asked for, by its number; or 0
 abbrev pub hash_status : Parameters → ℕ → ℕ → ℕ → ℕ → ℕ
 hash_status parameters secret_len associated_len max_kib max_ops =
     first_told (params_status parameters)
@@ -83,16 +83,16 @@ value_given parameters salt tag = record {
   tag = tag;
 }
 
--- the text of the password's hash, with a secret value and associated data (3.1: K and X)
+-- the encoded text of the password's hash, with a secret value K and associated data X (3.1)
 abbrev pub encoded_keyed_hash : Parameters → List ℕ → List ℕ → List ℕ → List ℕ → List ℕ
 encoded_keyed_hash parameters password salt secret associated =
     encoded_text (value_given parameters salt (argon2_tag parameters (inputs_given password salt secret associated)))
 
--- the same with no secret and no associated data
+-- the encoded text of the password's hash, with no secret and no associated data
 abbrev pub encoded_hash : Parameters → List ℕ → List ℕ → List ℕ
 encoded_hash parameters password salt = encoded_keyed_hash parameters password salt [] []
 
--- the text that has zeros for a tag, which is as long
+-- the encoded text that has zeros for a tag, which is as long as the one of the hash
 abbrev pub text_of_zeros : Parameters → List ℕ → List ℕ
 text_of_zeros parameters salt = encoded_text (value_given parameters salt (replicate parameters.tag_len 0))
 
@@ -100,17 +100,19 @@ text_of_zeros parameters salt = encoded_text (value_given parameters salt (repli
 abbrev pub room_status : ℕ → ℕ → ℕ
 room_status text_len out_len = if nat_le out_len text_len then wrong_buffer else 0
 
--- what an encoded text is refused for, whether memory is there or not
+-- what an encoded text is refused for by its parameters and the limits, by its number; or 0
 abbrev pub settings_status : Parameters → ℕ → ℕ → ℕ
 settings_status parameters max_kib max_ops =
     first_told (params_status parameters) (limits_status parameters max_kib max_ops)
 
--- an encoded text
+-- what an encoded text with no secret and no associated data is refused for before memory is asked for, by its
+-- number; or 0
 abbrev pub encoded_status : Parameters → List ℕ → ℕ → ℕ → ℕ → ℕ
 encoded_status parameters salt max_kib max_ops out_len =
     first_told (settings_status parameters max_kib max_ops) (room_status (length (text_of_zeros parameters salt)) out_len)
 
--- the same with a secret and associated data of these lengths
+-- what an encoded text with a secret and associated data of these lengths is refused for before memory is asked for,
+-- by its number; or 0
 abbrev pub encoded_keyed_status : Parameters → List ℕ → ℕ → ℕ → ℕ → ℕ → ℕ → ℕ
 encoded_keyed_status parameters salt secret_len associated_len max_kib max_ops out_len =
     first_told (hash_status parameters secret_len associated_len max_kib max_ops)
@@ -118,7 +120,8 @@ encoded_keyed_status parameters salt secret_len associated_len max_kib max_ops o
 
 -- ---- the test of a password
 
--- the number, where it tells a fault before memory is asked for, tells the first that holds
+-- where the number is that of a fault which comes before memory is asked for, it is the first that holds; where it is
+-- that of refused memory, none of these holds
 pub record IsTold (status : ℕ) (first : Option VerifyFault) : Type 0 where
   pub password_len : status ≡ 6 → first ≡ Some PasswordLength
   pub input_len : status ≡ 12 → first ≡ Some InputLength
@@ -126,8 +129,8 @@ pub record IsTold (status : ℕ) (first : Option VerifyFault) : Type 0 where
   pub work_limit : status ≡ 8 → first ≡ Some WorkLimit
   pub memory : status ≡ 9 → first ≡ None
 
--- the text is that of a value within the limits, and the password gives the value's tag, with a secret value and associated data
--- (3.1: K and X)
+-- the text is that of a value within the limits, and the password gives the value's tag, with a secret value K and
+-- associated data X (3.1)
 pub record HasKeyedPassword (text password secret associated : List ℕ) (max_kib max_ops : ℕ) : Type 0 where
   pub value : Value
   pub valid : IsValue value
@@ -135,12 +138,13 @@ pub record HasKeyedPassword (text password secret associated : List ℕ) (max_ki
   pub admitted : keyed_fault value password (length secret) (length associated) max_kib max_ops ≡ None
   pub same : keyed_tag value password secret associated ≡ value.tag
 
--- the same with no secret and no associated data
+-- the text is that of a value within the limits, and the password gives the value's tag, with no secret and no
+-- associated data
 abbrev pub HasPassword : List ℕ → List ℕ → ℕ → ℕ → Type 0
 HasPassword text password = HasKeyedPassword text password [] []
 
--- the text is that of a value within the limits, and the password gives a tag that is not the value's, with a secret value and
--- associated data
+-- the text is that of a value within the limits, and the password gives a tag that is not the value's, with a secret
+-- value K and associated data X (3.1)
 pub record HasOtherKeyedPassword (text password secret associated : List ℕ) (max_kib max_ops : ℕ) : Type 0 where
   pub value : Value
   pub valid : IsValue value
@@ -148,12 +152,13 @@ pub record HasOtherKeyedPassword (text password secret associated : List ℕ) (m
   pub admitted : keyed_fault value password (length secret) (length associated) max_kib max_ops ≡ None
   pub other : keyed_tag value password secret associated ≡ value.tag → ⊥
 
--- the same with no secret and no associated data
+-- the text is that of a value within the limits, and the password gives a tag that is not the value's, with no secret
+-- and no associated data
 abbrev pub HasOtherPassword : List ℕ → List ℕ → ℕ → ℕ → Type 0
 HasOtherPassword text password = HasOtherKeyedPassword text password [] []
 
--- the text is that of a value for which this is the first fault of the lengths and the limits, or none; the secret and the
--- associated data have these lengths
+-- the text is that of a value for which this is the first fault of the lengths and the limits, or none; the secret
+-- and the associated data have these lengths
 pub record IsKeyedJudged (first : Option VerifyFault) (text password : List ℕ) (secret_len associated_len max_kib max_ops : ℕ)
     : Type 0 where
   pub value : Value
@@ -161,15 +166,18 @@ pub record IsKeyedJudged (first : Option VerifyFault) (text password : List ℕ)
   pub written : IsTextOf value text
   pub refused : keyed_fault value password secret_len associated_len max_kib max_ops ≡ first
 
--- the same with no secret and no associated data
+-- the text is that of a value for which this is the first fault of the password's length and the limits, or none;
+-- there is no secret and no associated data
 abbrev pub IsJudged : Option VerifyFault → List ℕ → List ℕ → ℕ → ℕ → Type 0
 IsJudged first text password = IsKeyedJudged first text password 0 0
 
--- memory is asked for where the numbers of the text are read, and for the hash where nothing else refuses it
+-- memory may be refused for this text: it is asked for where the numbers of the text are read, and for the hash where
+-- nothing else refuses it; the secret and the associated data have these lengths
 abbrev pub MayLackKeyedMemory : List ℕ → List ℕ → ℕ → ℕ → ℕ → ℕ → Type 0
 MayLackKeyedMemory text password secret_len associated_len max_kib max_ops =
     HasNumbers text ⊎ IsKeyedJudged None text password secret_len associated_len max_kib max_ops
 
--- the same with no secret and no associated data
+-- memory may be refused for this text, with no secret and no associated data: it is asked for where the numbers of
+-- the text are read, and for the hash where nothing else refuses it
 abbrev pub MayLackMemory : List ℕ → List ℕ → ℕ → ℕ → Type 0
 MayLackMemory text password = MayLackKeyedMemory text password 0 0

@@ -1,4 +1,4 @@
--- What a caller gives and is told of encrypted files.
+-- What a caller gives to the functions for encrypted files, and what they answer.
 use Rattle.std.specs.Prelude.{ℕ, ◌==◌, not, ◌+◌, ◌^◌, nat_lt, nat_le, List, length, take, Option, Some, None, if◌then◌else◌}
 use Rattle.encfile.specs.Header.{costs_of}
 use Rattle.encfile.specs.HeaderFaults.{header_fault}
@@ -25,22 +25,25 @@ encrypt_status costs keep max_bytes max_ops salt_len text_len out_len =
 
 -- ---- the header of a file
 
--- the number of a fault, if there is one
+-- the number of a fault of a header; 0 where there is none
 abbrev pub number_of : Option HeaderFault → ℕ
 number_of None = 0
 number_of (Some fault) = header_number fault
 
--- what the header of a file is refused for: it is too short, or the first 64 bytes are none
+-- what the header of a file is refused for, by its number; or 0: the file has fewer than 64 bytes, or these have a
+-- fault
 abbrev pub header_status : List ℕ → ℕ
 header_status file = if nat_lt (length file) 64 then short_file else number_of (header_fault (take 64 file))
 
--- what a file of at least 96 bytes is refused for, whatever the passphrase, before memory is asked for; by its number, or 0
+-- what a file of at least 96 bytes is refused for, whatever the passphrase, before memory is asked for, by its
+-- number; or 0
 abbrev pub opening_status : List ℕ → ℕ → ℕ → ℕ → ℕ
 opening_status file keep max_bytes max_ops =
     first_told (number_of (header_fault (take 64 file)))
     (limits_status (sparse_given (costs_of (take 64 file)) keep) max_bytes max_ops)
 
--- what any file is refused for, when its text is to go to so many bytes
+-- what any file is refused for before memory is asked for, when its text is to go to so many bytes, by its number; or
+-- 0
 abbrev pub front_status : List ℕ → ℕ → ℕ → ℕ → ℕ → ℕ
 front_status file keep max_bytes max_ops out_len =
     if nat_lt out_len (length file) then wrong_buffer

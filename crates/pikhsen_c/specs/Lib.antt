@@ -1,4 +1,4 @@
--- What a program in C gives and is told: the numbers of answers, and for each call when it answers which.
+-- What a program in C gives and what it is answered: the numbers of answers, and for each call when it answers which.
 pub mod Status
 pub mod Message
 pub mod Argon2

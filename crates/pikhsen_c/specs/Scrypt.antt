@@ -1,4 +1,4 @@
--- What a caller gives and is told of a derivation by scrypt.
+-- What a caller gives to the functions for scrypt, and what they answer.
 use Rattle.std.specs.Prelude.{ℕ, ◌*◌, ◌-◌, ◌^◌, nat_lt, nat_le, Option, Some, None, if◌then◌else◌}
 use Rattle.romix.specs.Costs.{Parameters}
 use Rattle.romix.specs.Faults.{cost_fault, keep_fault, sparse_limit_fault}
@@ -11,7 +11,7 @@ use Rattle.pikhsen_c.specs.Status.{costs_number, first_told, wrong_buffer}
 abbrev pub costs_given : ℕ → ℕ → ℕ → Parameters
 costs_given log_n r p = record { log_n = log_n; r = r; p = p }
 
--- the costs with the rows kept whose number `keep` divides
+-- the costs with the rows of V kept whose number `keep` divides
 abbrev pub sparse_given : Parameters → ℕ → SparseParameters
 sparse_given costs keep = record { costs = costs; keep = keep }
 
@@ -24,25 +24,25 @@ limits_given max_bytes max_ops = record {
 
 -- ---- what is refused before memory is asked for, by its number; or 0
 
--- the number of a fault, if there is one
+-- the number of a fault of costs; 0 where there is none
 abbrev pub number_of : Option CostFault → ℕ
 number_of None = 0
 number_of (Some fault) = costs_number fault
 
--- the ranges of the costs
+-- what the ranges of the costs are refused for, by its number; or 0
 abbrev pub costs_status : Parameters → ℕ
 costs_status costs = number_of (cost_fault costs.log_n costs.r costs.p)
 
--- which rows are kept, and then the limits
+-- what S is refused for, or then the limits refuse the costs for, by its number; or 0
 abbrev pub limits_status : SparseParameters → ℕ → ℕ → ℕ
 limits_status sparse max_bytes max_ops =
     first_told (number_of (keep_fault sparse)) (number_of (sparse_limit_fault sparse (limits_given max_bytes max_ops)))
 
--- the length of a key
+-- what the length of a key is refused for, by its number; or 0
 abbrev pub key_status : ℕ → ℕ
 key_status len = if nat_lt (32 * (2 ^ 32 - 1)) len then wrong_buffer else 0
 
--- a derivation
+-- what a derivation is refused for before memory is asked for, by its number; or 0
 abbrev pub scrypt_status : Parameters → ℕ → ℕ → ℕ → ℕ → ℕ
 scrypt_status costs keep max_bytes max_ops len =
     first_told (costs_status costs)

@@ -9,7 +9,7 @@ use Rattle.argon_text.specs.declared.range.RangeFault.{RangeFault}
 use Rattle.pikhsen_c.specs.Status.{range_number}
 use Rattle.pikhsen_c.specs.declared.settings.PikhsenArgon2Settings.{PikhsenArgon2Settings}
 
--- the settings of a value, as they are told
+-- the settings of a value, as the functions for C answer them
 abbrev pub settings_told : Value → PikhsenArgon2Settings
 settings_told value = record {
   kind = type_number value.kind;
@@ -37,11 +37,11 @@ pub record IsCompared (text : List ℕ) (wanted : PikhsenArgon2Settings) (needs 
   pub other : needs ≡ 1 → settings_told value ≡ wanted → ⊥
   pub high : needs ≤ 1
 
--- the number of a fault, if there is one
+-- the number of a fault of ranges; 0 where there is none
 abbrev pub number_of : Option RangeFault → ℕ
 number_of None = 0
 number_of (Some fault) = range_number fault
 
--- the number is that of the first part of the text that is out of range
+-- the number is that of the first part of what the text says that is out of range; 0 where none is
 abbrev pub IsOutOfRange : List ℕ → ℕ → Type 0
 IsOutOfRange text status = (fields : Fields) × HasFields text fields × (status ≡ number_of (range_fault (value_of_fields fields)))

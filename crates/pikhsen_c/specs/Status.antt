@@ -1,4 +1,4 @@
--- The numbers that tell a program in C what came of a call: one table, and 0 where the call did what it says.
+-- The numbers that say to a program in C what came of a call: one table, and 0 where the call did what it says.
 use Rattle.std.specs.Prelude.{ℕ, ◌==◌, if◌then◌else◌}
 use Rattle.argon.specs.declared.fault.ParamFault.{ParamFault}
 use Rattle.argon.specs.declared.fault.ParamFault.TheVariants as params
@@ -20,35 +20,35 @@ params_number params.PasswordLength = 6
 params_number params.MemoryLimit = 7
 params_number params.WorkLimit = 8
 
--- memory was refused
+-- the number where memory was refused
 abbrev pub out_of_memory : ℕ
 out_of_memory = 9
 
--- a kind that is not 0, 1 or 2
+-- the number of a kind that is not 0, 1 or 2
 abbrev pub no_kind : ℕ
 no_kind = 10
 
--- a version that is not 0x10 or 0x13
+-- the number of a version that is not 0x10 or 0x13
 abbrev pub no_version : ℕ
 no_version = 11
 
--- a secret, or associated data, of 2^32 bytes or more
+-- the number of a secret, or associated data, of 2^32 bytes or more
 abbrev pub long_input : ℕ
 long_input = 12
 
--- a buffer that has not the length that the call needs
+-- the number of a buffer that has not the length that the call needs
 abbrev pub wrong_buffer : ℕ
 wrong_buffer = 13
 
--- a text that is no encoded text
+-- the number of a text that is no encoded text
 abbrev pub not_encoded : ℕ
 not_encoded = 14
 
--- an encoded text with a value out of range
+-- the number of an encoded text with a value out of range
 abbrev pub out_of_range : ℕ
 out_of_range = 15
 
--- the password is not that of the text
+-- the number of a password that is not that of the text
 abbrev pub mismatch : ℕ
 mismatch = 16
 
@@ -69,23 +69,23 @@ header_number header.Version = 23
 header_number header.Checksum = 24
 header_number header.CostsOutOfRange = 25
 
--- a file without a whole header
+-- the number of a file without a whole header
 abbrev pub short_file : ℕ
 short_file = 26
 
--- a passphrase that is not the file's
+-- the number of a passphrase that is not the file's
 abbrev pub wrong_passphrase : ℕ
 wrong_passphrase = 27
 
--- a file that is damaged, or cut short, after its first 96 bytes
+-- the number of a file that is damaged, or cut short, after its first 96 bytes
 abbrev pub damaged : ℕ
 damaged = 28
 
--- a text of 2^60 bytes or more
+-- the number of a text of 2^60 bytes or more
 abbrev pub long_text : ℕ
 long_text = 29
 
--- a salt for a file that has not 32 bytes
+-- the number of a salt for a file that has not 32 bytes
 abbrev pub wrong_salt : ℕ
 wrong_salt = 30
 
@@ -98,6 +98,6 @@ range_number range.Memory = 34
 range_number range.TagLength = 35
 range_number range.SaltLength = 36
 
--- the first of two numbers, if it tells a fault, or else the second
+-- the first of two numbers, if it is not 0, or else the second
 abbrev pub first_told : ℕ → ℕ → ℕ
 first_told first second = if first == 0 then second else first

@@ -3,28 +3,29 @@ use Rattle.std.specs.Prelude.{ℕ, zero, suc, ◌+◌, ◌*◌, ◌-◌, ◌/◌
 use Rattle.four_words.specs.Words.{xored_words}
 use Rattle.romix.specs.Salsa20.{salsa20_8}
 
--- B[i], block i of a row
+-- B[i], block i of a row, as sixteen words
 abbrev pub block_at : List ℕ → ℕ → List ℕ
 block_at b i = take 16 (drop (16 * i) b)
 
--- 2 * r, the blocks of a row
+-- 2 * r, the number of blocks of a row
 abbrev pub block_count : List ℕ → ℕ
 block_count b = length b / 16
 
--- X before turn i: the last block at first (step 1), then Salsa20/8 of X xor B[i - 1] (step 2)
+-- X after i turns of step 2: before the first turn the last block, B[2 * r - 1] (step 1), and turn i, counted from 0,
+-- makes it Salsa20/8 of X xor B[i] (step 2)
 unfoldable pub chain_block : List ℕ → ℕ → List ℕ
 chain_block b zero = block_at b (block_count b - 1)
 chain_block b (suc i) = salsa20_8 (xored_words (chain_block b i) (block_at b i))
 
--- Y[i], which is X after turn i (step 2)
+-- Y[i], which is X after turn i of step 2, counted from 0
 abbrev pub output_block : List ℕ → ℕ → List ℕ
 output_block b i = chain_block b (suc i)
 
--- Y[s], Y[s + 2], .., n of them
+-- Y[s], Y[s + 2], .., n of them (step 3)
 unfoldable pub every_second_output : List ℕ → ℕ → ℕ → List ℕ
 every_second_output b s zero = []
 every_second_output b s (suc n) = every_second_output b s n ++ output_block b (s + 2 * n)
 
--- B': the Y of even number, and then those of odd number (step 3)
+-- B': Y[0], Y[2], .. and then Y[1], Y[3], .. (step 3)
 unfoldable pub block_mix : List ℕ → List ℕ
 block_mix b = every_second_output b 0 (block_count b / 2) ++ every_second_output b 1 (block_count b / 2)

@@ -8,7 +8,8 @@ pub record Parameters : Type 0 where
   pub p : ℕ
 
 -- N is a power of two above 1, r and p are not 0, and r * p is below 2^30 (sections 2 and 6). That N is at most 2^63
--- is the files' bound, not the RFC's; the RFC's own, N < 2^(128 * r / 8), is dropped, since scrypt's files haven't it.
+-- is FORMAT's bound for scrypt's files, not the RFC's; the RFC's bound N < 2^(128 * r / 8) is left out, since FORMAT
+-- has none
 pub record IsInRange (c : Parameters) : Type 0 where
   pub log_n_low : 1 ≤ c.log_n
   pub log_n_high : c.log_n ≤ 63
@@ -24,11 +25,12 @@ table_bytes c = 128 * 2 ^ c.log_n * c.r
 abbrev pub parts_bytes : Parameters → ℕ
 parts_bytes c = 128 * c.r * c.p
 
--- the Salsa20/8 cores: 2 * r a BlockMix (section 4), 2 * N of these a ROMix (section 5), p ROMixes (section 6)
+-- the Salsa20/8 cores where V is kept whole: 2 * r a BlockMix (section 4), 2 * N of these a ROMix (section 5), p
+-- ROMixes (section 6)
 abbrev pub cores : Parameters → ℕ
 cores c = 4 * 2 ^ c.log_n * c.r * c.p
 
--- neither V nor B has more than this number of bytes
+-- neither V (section 5) nor B (section 6) has more than this number of bytes
 pub record FitsMemory (c : Parameters) (max_bytes : ℕ) : Type 0 where
   pub table : table_bytes c ≤ max_bytes
   pub parts : parts_bytes c ≤ max_bytes

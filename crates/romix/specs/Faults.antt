@@ -7,7 +7,8 @@ use Rattle.romix.specs.declared.limits.Limits.{Limits}
 use Rattle.romix.specs.declared.fault.CostFault.{CostFault}
 use Rattle.romix.specs.declared.fault.CostFault.TheVariants.{LogN, Zero, Product, Memory, Work, Keep, KeepAboveN}
 
--- why these numbers are no costs (RFC 7914, 2 and 6), if they aren't
+-- why these numbers are no costs, if they aren't: the first that holds of log2 N (from 1, and up to FORMAT's 63), r
+-- or p of 0, and r * p (RFC 7914, 2 and 6)
 abbrev pub cost_fault : ℕ → ℕ → ℕ → Option CostFault
 cost_fault log_n r p = first_of (
     (not (nat_le 1 log_n && nat_le log_n 63), LogN)
@@ -15,7 +16,7 @@ cost_fault log_n r p = first_of (
     ∷ (nat_le (2 ^ 30) (r * p), Product)
     ∷ [])
 
--- why the limits don't admit the costs, if they don't
+-- why the limits don't admit the costs with V kept whole, if they don't
 abbrev pub limit_fault : Parameters → Limits → Option CostFault
 limit_fault c limits = first_of (
     (nat_lt limits.max_bytes (table_bytes c) || nat_lt limits.max_bytes (parts_bytes c), Memory)
@@ -24,22 +25,22 @@ limit_fault c limits = first_of (
 
 -- ---- over a sparse table
 
--- S is above N
+-- whether S is above N
 abbrev pub is_keep_above_n : SparseParameters → Bool
 is_keep_above_n s = nat_lt (2 ^ s.costs.log_n) s.keep
 
--- the rows of V that are kept, or B, have more bytes than the limit
+-- whether the rows of V that are kept, or B, have more bytes than the limit
 abbrev pub exceeds_memory : SparseParameters → Limits → Bool
 exceeds_memory s limits = nat_lt limits.max_bytes (sparse_table_bytes s) || nat_lt limits.max_bytes (parts_bytes s.costs)
 
--- there may be more Salsa20/8 cores than the limit
+-- whether the upper bound on the Salsa20/8 cores is above the limit
 abbrev pub exceeds_work : SparseParameters → Limits → Bool
 exceeds_work s limits = nat_lt limits.max_ops (cores_bound s)
 
--- why S doesn't go with the costs, if it doesn't
+-- why S doesn't go with the costs, if it doesn't: it is no power of two from 1 to 1,024, or it is above N
 abbrev pub keep_fault : SparseParameters → Option CostFault
 keep_fault s = first_of ((not (is_keep s.keep), Keep) ∷ (is_keep_above_n s, KeepAboveN) ∷ [])
 
--- why the limits don't admit the costs with S, if they don't
+-- why the limits don't admit the costs with S, if they don't: of memory, or of work
 abbrev pub sparse_limit_fault : SparseParameters → Limits → Option CostFault
 sparse_limit_fault s limits = first_of ((exceeds_memory s limits, Memory) ∷ (exceeds_work s limits, Work) ∷ [])

@@ -7,17 +7,17 @@ pub record SparseParameters : Type 0 where
   pub costs : Parameters
   pub keep : ℕ
 
--- every row is kept
+-- the costs with every row of V kept: S is 1
 abbrev pub whole : Parameters → SparseParameters
 whole c = record { costs = c; keep = 1 }
 
--- a power of two from 1 to 1,024
+-- whether s is a power of two from 1 to 1,024
 abbrev pub is_keep : ℕ → Bool
 is_keep s =
     nat_eq s 1 || nat_eq s 2 || nat_eq s 4 || nat_eq s 8 || nat_eq s 16 || nat_eq s 32 || nat_eq s 64 || nat_eq s 128
     || nat_eq s 256 || nat_eq s 512 || nat_eq s 1024
 
--- the costs are costs, and S is such a power of two and at most N
+-- the costs are in range, and S is a power of two from 1 to 1,024 and at most N
 pub record IsSparse (s : SparseParameters) : Type 0 where
   pub costs : IsInRange s.costs
   pub low : 1 ≤ s.keep
@@ -29,11 +29,12 @@ pub record IsSparse (s : SparseParameters) : Type 0 where
 abbrev pub sparse_table_bytes : SparseParameters → ℕ
 sparse_table_bytes s = 128 * s.costs.r * (2 ^ s.costs.log_n / s.keep)
 
--- the most Salsa20/8 cores
+-- an upper bound on the Salsa20/8 cores, with 2 * r a BlockMix: each of the p ROMixes has N BlockMixes that fill V, N
+-- of the turns (RFC 7914, 4 to 6), and before each turn at most S - 1 from a kept row to the row that it reads
 abbrev pub cores_bound : SparseParameters → ℕ
 cores_bound s = 2 * s.costs.r * s.costs.p * 2 ^ s.costs.log_n * (1 + s.keep)
 
--- neither the rows of V that are kept nor B have more than this number of bytes
+-- neither the N / S rows of V that are kept nor B have more than this number of bytes
 pub record SparseFitsMemory (s : SparseParameters) (max_bytes : ℕ) : Type 0 where
   pub table : sparse_table_bytes s ≤ max_bytes
   pub parts : parts_bytes s.costs ≤ max_bytes

@@ -2,7 +2,7 @@
 use Rattle.std.specs.Prelude.{◌≡◌, ℕ, ◌*◌, ◌/◌, ◌^◌, ◌<◌}
 use Rattle.romix.specs.SparseCosts.{SparseParameters}
 
--- its costs and S, and the lengths of what it holds, in words of four bytes
+-- the costs and S of a workspace, and the lengths of what it holds, in words of four bytes
 pub record Memory : Type 0 where
   pub sparse : SparseParameters
   pub table_words : ℕ

@@ -1,45 +1,48 @@
--- The words of scrypt as clap is told of them: three subcommands, options of one value, the flag -P, and the files.
+-- The command line of scrypt as it is given to clap: three subcommands, options of one value, the flag -P, and the
+-- files.
 use Rattle.std.specs.Prelude.{◌≡◌, ℕ, false, true, List, [], ◌∷◌, Some, codes, fold}
 use Rattle.clap.specs.Words.{App, Rule, Text, app_of, new_app, new_rule, with_rule, with_subcommand}
 use Rattle.clap.specs.declared.builder.action.ArgAction.TheVariants.{SetTrue}
 use Rattle.clap.specs.declared.builder.command.Command.{Command}
 use Rattle.clap.specs.declared.builder.command.Command.TheViews.{out-Command as fields_of}
 
--- `--name VALUE`
+-- an option `--name VALUE`
 abbrev pub long_option : Text → Rule
 long_option name = record (new_rule name) { long = Some name }
 
--- `-c VALUE`, under a name
+-- an option `-c VALUE`, under a name
 abbrev pub short_option : Text → ℕ → Rule
 short_option name c = record (new_rule name) { short = Some c }
 
--- `-P`, which takes no value
+-- the flag `-P`, which takes no value
 abbrev pub stdin_flag : Rule
 stdin_flag = record (new_rule (codes "P")) { short = Some 80; action = Some SetTrue }
 
--- what enc and dec both take; the last two are files
+-- the arguments that enc and dec both take; the last two are files
 abbrev pub common_rules : List Rule
 common_rules =
     short_option (codes "M") 77 ∷ long_option (codes "maxops") ∷ long_option (codes "keep") ∷ stdin_flag
     ∷ long_option (codes "passphrase") ∷ new_rule (codes "infile") ∷ new_rule (codes "outfile") ∷ []
 
--- enc takes costs and a salt besides
+-- the subcommand enc, which takes costs and a salt besides what dec takes
 abbrev pub enc_app : App
 enc_app = fold with_rule (new_app (codes "enc")) (
     long_option (codes "logN") ∷ short_option (codes "r") 114 ∷ short_option (codes "p") 112 ∷ long_option (codes "salt")
     ∷ common_rules)
 
+-- the subcommand dec
 abbrev pub dec_app : App
 dec_app = fold with_rule (new_app (codes "dec")) common_rules
 
+-- the subcommand info, which takes a file alone
 abbrev pub info_app : App
 info_app = with_rule (new_app (codes "info")) (new_rule (codes "infile"))
 
--- the three subcommands
+-- the command scrypt with its three subcommands
 abbrev pub named_app : App
 named_app = with_subcommand (with_subcommand (with_subcommand (new_app (codes "scrypt")) enc_app.top) dec_app.top) info_app.top
 
--- the words come without the program's name
+-- the command scrypt, whose words come without the program's name
 abbrev pub scrypt_app : App
 scrypt_app = record named_app { top = record (named_app.top) { no_binary_name = true } }
 

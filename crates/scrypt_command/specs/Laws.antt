@@ -7,12 +7,12 @@ use Rattle.scrypt_run.specs.declared.refusal.ScryptRefusal.{ScryptRefusal}
 use Rattle.scrypt_run.specs.declared.refusal.ScryptRefusal.TheVariants as refusal
 use Rattle.scrypt_command.specs.Request.{scrypt_request}
 
--- the words are taken, and the refusal of what they ask for is the host's or memory's
+-- the words are accepted, and the refusal of what they ask for is one of a failing host or of refused memory
 pub record RefusesTaken (words : List Text) (r : ScryptRefusal) : Type 0 where
   pub request : Request
   pub asked : scrypt_request words ≡ Ok request
   pub outside : RefusesFromOutside request r
 
--- a growth of memory was refused, or the host failed at what the words ask for
+-- the refusal is from outside: a growth of memory was refused, or the host failed at what the words ask for
 abbrev pub IsRefusedFromOutside : List Text → ScryptRefusal → Type 0
 IsRefusedFromOutside words r = (r ≡ refusal.OutOfMemory) ⊎ RefusesTaken words r

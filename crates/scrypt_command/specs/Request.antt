@@ -21,19 +21,20 @@ use Rattle.scrypt_run.specs.declared.refusal.ScryptRefusal.TheVariants as refusa
 
 -- ---- the file, the numbers and the limits: S1
 
--- infile has to be there
+-- the word for infile, which has to be there (S1)
 abbrev pub infile_asked : List Row → Result Text ScryptRefusal
 infile_asked rows = ok_or (value_of (codes "infile") rows) refusal.Usage
 
--- its name; `-` is standard input
+-- the name of the input by the word for infile; `-` is standard input
 abbrev pub infile_named : Text → Option Text
 infile_named word = if bytes_eq word (codes "-") then None else Some word
 
--- the number that an option gives, by how its value is read, or the number without the option
+-- the number that the option `name` gives, whose value `read` reads, or `default` without the option (S1)
 abbrev pub number_asked : Text → (Text → Option ℕ) → ℕ → List Row → Result ℕ ScryptRefusal
 number_asked name read default rows = ok_or (option_map_or read (value_of name rows) (Some default)) refusal.Usage
 
--- -M, in bytes, and --maxops, in cores
+-- the limits: -M in bytes, 1 to 2^40, and --maxops in Salsa20/8 cores, 1 to 2^63 - 1; 2^32 and 2^33 without the
+-- options (S1)
 abbrev pub limits_asked : List Row → Result Limits ScryptRefusal
 limits_asked rows = do
   max_bytes ← number_asked (codes "M") (number_in 1 (2 ^ 40 + 1)) (2 ^ 32) rows
@@ -42,13 +43,13 @@ limits_asked rows = do
 
 -- ---- the costs: S1, S2a, S2b
 
--- one or two of the costs are given
+-- whether one or two of the three costs are given
 abbrev pub has_some_costs : List Row → Bool
 has_some_costs rows =
     let given = count_by (λ name. is_some (value_of name rows)) (codes "logN" ∷ codes "r" ∷ codes "p" ∷ []) in
     nat_lt 0 given && nat_lt given 3
 
--- the costs, which are 17, 8 and 1 without the options
+-- the costs, log2 N, r and p, which are 17, 8 and 1 without the options (S1, S2a, S2b)
 abbrev pub costs_asked : List Row → Result Parameters ScryptRefusal
 costs_asked rows = do
   log_n ← number_asked (codes "logN") number_of 17 rows
@@ -60,11 +61,11 @@ costs_asked rows = do
 
 -- ---- the passphrase's source: S2c, S2d, S3
 
--- `prefix` and a name that is not empty
+-- whether a text is `prefix` and then a name that is not empty
 abbrev pub has_name : Text → Text → Bool
 has_name prefix text = starts_with nat_eq text prefix && nat_lt (length prefix) (length text)
 
--- the source that a word names
+-- the secret source that the value of --passphrase names, if it names one
 abbrev pub source_named : Text → Option SecretSource
 source_named text =
     if bytes_eq text (codes "dev:stdin-once") then Some stdin_once
@@ -72,18 +73,19 @@ source_named text =
     else if has_name (codes "file:") text then Some (file (drop 5 text))
     else None
 
--- the one source: -P, or what --passphrase names, and not both
+-- the one source of the passphrase: standard input by -P, or what --passphrase names, and not both
 abbrev pub one_source : Bool → Option Text → Option SecretSource
 one_source true None = Some stdin_once
 one_source false (Some text) = source_named text
 one_source _ _ = None
 
--- the passphrase is asked from standard input
+-- whether the passphrase is asked from standard input
 abbrev pub wants_stdin : List Row → Bool
 wants_stdin rows =
     is_set (codes "P") rows || option_eq bytes_eq (value_of (codes "passphrase") rows) (Some (codes "dev:stdin-once"))
 
--- standard input is asked for one thing alone, outfile has another name than infile, and there is one source
+-- the source of the passphrase: standard input is not asked for both the input and the passphrase (S2c), outfile has
+-- another name than infile (S2d), and there is one source (S3)
 abbrev pub source_asked : Text → List Row → Result SecretSource ScryptRefusal
 source_asked infile rows =
     if bytes_eq infile (codes "-") && wants_stdin rows then Err refusal.StandardInputTwice
@@ -92,24 +94,24 @@ source_asked infile rows =
 
 -- ---- the salt: S5a
 
--- the 32 bytes that 64 hexadecimal digits write, in either case
+-- the 32 bytes that a text of 64 hexadecimal digits writes, in either case; None of any other text
 abbrev pub salt_in : Text → Option (List ℕ)
 salt_in text = result_ok (decode_sized text 32)
 
--- the salt that --salt gives; None without it
+-- the salt that --salt gives; None without it (S5a)
 abbrev pub salt_asked : Option Text → Result (Option (List ℕ)) ScryptRefusal
 salt_asked None = Ok None
 salt_asked (Some text) = answered Some (ok_or (salt_in text) refusal.SaltDigits)
 
 -- ---- S: S16a
 
--- a power of two from 1 to 1,024
+-- S, the number of --keep, if it is a power of two from 1 to 1,024 (S16a)
 abbrev pub keep_asked : ℕ → Result ℕ ScryptRefusal
 keep_asked number = if is_keep number then Ok number else Err refusal.KeepOutOfRange
 
 -- ---- the request, step by step: the first refusal decides
 
--- what enc and dec both ask for
+-- the task that enc and dec both have, of what their words ask for
 abbrev pub task_of : Text → Limits → SecretSource → ℕ → List Row → Task
 task_of infile limits source keep rows = record {
   limits = limits;
@@ -119,7 +121,7 @@ task_of infile limits source keep rows = record {
   outfile = value_of (codes "outfile") rows;
 }
 
--- what the words of enc ask for
+-- what the words of enc ask for, or the first refusal in the order of the lines
 abbrev pub encryption_asked : List Row → Result Encryption ScryptRefusal
 encryption_asked rows = do
   infile ← infile_asked rows
@@ -131,7 +133,7 @@ encryption_asked rows = do
   keep ← keep_asked number
   Ok (record { costs = costs; salt = salt; task = task_of infile limits source keep rows })
 
--- what the words of dec ask for
+-- what the words of dec ask for, or the first refusal in the order of the lines
 abbrev pub decryption_asked : List Row → Result Task ScryptRefusal
 decryption_asked rows = do
   infile ← infile_asked rows
@@ -149,7 +151,8 @@ request_at name rows =
     else if bytes_eq name (codes "info") then answered (λ infile. inspect (infile_named infile)) (infile_asked rows)
     else Err refusal.Usage
 
--- what the words ask for
+-- what the words of scrypt ask for, or the first refusal: S1 where clap finds a fault in them, then that of the
+-- subcommand
 abbrev pub scrypt_request : List Text → Result Request ScryptRefusal
 scrypt_request words = do
   said ← ok_or (scrypt_words words) refusal.Usage

@@ -10,27 +10,29 @@ use Rattle.scrypt_run.specs.declared.refusal.ScryptRefusal.{ScryptRefusal}
 use Rattle.scrypt_run.specs.declared.refusal.ScryptRefusal.TheVariants as refusal
 use Rattle.scrypt_command.specs.Request.{scrypt_request}
 
--- the run ended with status 0: it did what the words ask for
+-- the run ended with status 0: it did what its words ask for
 pub record Succeeds (words : List Text) (before after : Seen) : Type 0 where
   pub request : Request
   pub asked : scrypt_request words ≡ Ok request
   pub succeeds : RequestSucceeds request before after
 
--- the words are refused, or a growth of memory while they were read
+-- the run ended while its words were read, and nothing changed at the host: the words are refused; or a growth of
+-- memory was refused, which may come of any words
 abbrev pub EndsReading : ScryptRefusal → List Text → Seen → Seen → Type 0
 EndsReading r words before after = ((scrypt_request words ≡ Err r) ⊎ (r ≡ refusal.OutOfMemory)) × (after ≡ before)
 
--- the words were taken, and what they ask for was refused
+-- the words were accepted, and the run of what they ask for ended with this refusal
 pub record RefusesRequest (r : ScryptRefusal) (words : List Text) (before after : Seen) : Type 0 where
   pub request : Request
   pub asked : scrypt_request words ≡ Ok request
   pub refused : RequestRefused r request before after
 
--- the run ended with this refusal, whose line isn't said yet
+-- the run ended with this refusal, before its line is said
 abbrev pub IsRefused : ScryptRefusal → List Text → Seen → Seen → Type 0
 IsRefused r words before after = EndsReading r words before after ⊎ RefusesRequest r words before after
 
--- the run ended with a refusal: the count that it names rose and no other, and its one line was said
+-- the run ended with a refusal: of the counts only the one that it names rose, if it names one; then its line was
+-- said, or could not be said and `lines` rose. `told` is the refusal, and `unsaid` the host before the line
 pub record Refuses (tells : Bool) (words : List Text) (before after : Seen) (faults_before faults_after : Faults)
     : Type 0 where
   pub told : ScryptRefusal
@@ -38,11 +40,13 @@ pub record Refuses (tells : Bool) (words : List Text) (before after : Seen) (fau
   pub says : SaysOneLine tells (line_of told) unsaid after (counted_by told faults_before) faults_after
   pub refused : IsTrue tells → IsRefused told words before unsaid
 
--- words whose refusal is due are told so, or want of memory is told, which may come while they are read
+-- the refusal of words that is reported, `told`: the one that is due, or that of memory, which may come of any words
+-- while they are read
 abbrev pub TellsWords : ScryptRefusal → ScryptRefusal → Type 0
 TellsWords told due = (told ≡ due) ⊎ (told ≡ refusal.OutOfMemory)
 
--- the run did nothing but say the line of the words' refusal, or that of want of memory
+-- the run did nothing but report the words' refusal, or that of memory: its line was said, or could not be said and
+-- `lines` rose; no other count rose. `told` is the refusal, and `due` that of the words
 pub record TellsOfWords (tells : Bool) (due : ScryptRefusal) (before after : Seen) (faults_before faults_after : Faults)
     : Type 0 where
   pub told : ScryptRefusal

@@ -1,4 +1,6 @@
--- What a run asks of its source of memory: at most one request, of a size that its request or its input tells.
+-- What a run asks of its source of memory: at most one request, of a size that follows from its request or its input.
+-- `ask granted` is what such a request leaves of the source, granted or refused; `after_workspace` and `after_line`
+-- are what a request for the memory of a derivation and one for the line of costs leave of it.
 use Rattle.std.specs.Prelude.{◌≡◌, ◌⊎◌, Bool, true, false, ℕ, List, IsTrue}
 use Rattle.romix.specs.Allowance.{with_keep_of}
 use Rattle.romix.specs.Costs.{Parameters}
@@ -10,23 +12,24 @@ use Rattle.scrypt_run.specs.declared.refusal.ScryptRefusal.{ScryptRefusal}
 
 -- ---- one request. `ask granted` is what it leaves of the source, granted or refused
 
--- a run that ended with this refusal: it tells want of memory where the request was refused, and there alone; another
--- comes before the request, or, where it may follow work, after one that was granted
+-- what a run that ended with this refusal asked for: the refusal is OutOfMemory where its request was refused, and
+-- only there; another comes before the request, or, where it may follow the derivation, after one that was granted
 abbrev pub EndsAsking : {Source : Type 0} → (Bool → Source) → ScryptRefusal → Source → Source → Type 0
 EndsAsking ask r before after =
     ((is_want r ≡ true) × (after ≡ ask false))
     ⊎ ((is_want r ≡ false) × (after ≡ before))
     ⊎ ((may_follow_work r ≡ true) × (after ≡ ask true))
 
--- ---- the same of a request by the costs of a header, which are those of the input where the host tells it
+-- ---- a request by the costs of a header, which are those of the input where the host tells its bytes
 
--- the request was granted
+-- a request by the costs of a header was granted; where the host tells its bytes, they are the costs of the input
 pub record WasGranted {Source : Type 0} (tells : Bool) (input : List ℕ) (ask : Parameters → Bool → Source) (after : Source) : Type 0 where
   pub costs : Parameters
   pub of_header : IsTrue tells → costs ≡ costs_of input
   pub asked : after ≡ ask costs true
 
--- the run ended with this refusal
+-- what a run that ended with this refusal asked for, by the costs of a header; where the host tells its bytes, they
+-- are the costs of the input
 pub record EndsAskingFor {Source : Type 0} (tells : Bool) (input : List ℕ) (ask : Parameters → Bool → Source) (r : ScryptRefusal) (before after : Source) : Type 0 where
   pub costs : Parameters
   pub of_header : IsTrue tells → costs ≡ costs_of input
@@ -39,7 +42,7 @@ pub record EndsAskingFor {Source : Type 0} (tells : Bool) (input : List ℕ) (as
 abbrev pub asks_workspace : {Source : Type 0} → (Source → SparseParameters → Bool → Source) → Source → Task → Parameters → Bool → Source
 asks_workspace after_workspace before task costs granted = after_workspace before (with_keep_of (allowance_of task) costs) granted
 
--- a run that ended well
+-- what a run that ended with status 0 asked for, and was granted
 abbrev pub RequestGranted : {Source : Type 0} → (Source → SparseParameters → Bool → Source) → (Source → Parameters → Bool → Source)
     → Bool → List ℕ → Request → Source → Source → Type 0
 RequestGranted after_workspace after_line tells input (encrypt asked) before after =
@@ -49,7 +52,7 @@ RequestGranted after_workspace after_line tells input (decrypt task) before afte
 RequestGranted after_workspace after_line tells input (inspect infile) before after =
     WasGranted tells input (after_line before) after
 
--- a run that ended with this refusal
+-- what a run that ended with this refusal asked for
 abbrev pub RequestAsked : {Source : Type 0} → (Source → SparseParameters → Bool → Source) → (Source → Parameters → Bool → Source)
     → Bool → List ℕ → Request → ScryptRefusal → Source → Source → Type 0
 RequestAsked after_workspace after_line tells input (encrypt asked) r before after =

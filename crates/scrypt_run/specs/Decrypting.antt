@@ -14,21 +14,25 @@ use Rattle.scrypt_run.specs.declared.refusal.ScryptRefusal.TheVariants as refusa
 
 -- ---- after the first 96 bytes: `front` are these, and the input of `before` are the bytes after them
 
--- the text that the first 96 bytes and the bytes after them release
+-- the text that a file releases under a passphrase, where `front` is its first 96 bytes and `more` the bytes after
+-- these
 abbrev pub text_after : List ℕ → List ℕ → List ℕ → List ℕ
 text_after passphrase front more = released_text (front ++ more) passphrase
 
--- the whole input was read, and the text that it releases was written under the output's name
+-- the whole input was read, and the text that it releases was written under the output's name; `front` is the first
+-- 96 bytes of the file, and the input of `before` the bytes after these
 abbrev pub AllReleased : List ℕ → List ℕ → Option Text → Seen → Seen → Type 0
 AllReleased passphrase front outfile before after =
     after ≡ after_passing (text_after passphrase front) (length before.input) (after_open_output outfile before)
 
--- the text of an encryption was written
+-- the whole input was released, and the file is an encryption of what was written; `front` is the first 96 bytes of
+-- the file, and the input of `before` the bytes after these
 pub record Decrypted (passphrase front : List ℕ) (outfile : Option Text) (before after : Seen) : Type 0 where
   pub released : AllReleased passphrase front outfile before after
   pub genuine : IsEncryptionOf (front ++ before.input) passphrase (released_text (front ++ before.input) passphrase)
 
--- the whole input, below the limit, was released, and is no encryption of what was written
+-- the whole input was released, the file is shorter than 2^60 + 128 bytes, and it is no encryption of what was
+-- written; `front` is the first 96 bytes of the file, and the input of `before` the bytes after these
 pub record IsDamaged (passphrase front : List ℕ) (outfile : Option Text) (before after : Seen) : Type 0 where
   pub below_limit : length (front ++ before.input) < 2 ^ 60 + 128
   pub released : AllReleased passphrase front outfile before after
@@ -36,24 +40,28 @@ pub record IsDamaged (passphrase front : List ℕ) (outfile : Option Text) (befo
 
 -- ---- the whole run
 
--- why the file is refused whatever the passphrase, if it is
+-- why the input is refused whatever the passphrase, if it is: by its header, or by its costs with the S and the
+-- limits of the task
 abbrev pub limits_refusal_of : Task → Seen → Option FrontRefusal
 limits_refusal_of task s = limits_refusal s.input (allowance_of task)
 
--- why the file is refused under the passphrase, if it is
+-- why the input is refused under the passphrase, if it is: by its header, by its costs with the S and the limits of
+-- the task, or by its bytes 64 to 95
 abbrev pub front_refusal_of : Task → Seen → List ℕ → Option FrontRefusal
 front_refusal_of task s passphrase = front_refusal s.input (allowance_of task) passphrase
 
--- the run ends with status 0
+-- `dec` ends with status 0: the passphrase was given, nothing refuses the first 96 bytes under it, and the text was
+-- written of which the input is an encryption
 pub record DecryptSucceeds (task : Task) (before after : Seen) : Type 0 where
   pub passphrase : List ℕ
   pub given : HasPassphrase (first_line_at task.source before) passphrase
   pub passes : front_refusal_of task before passphrase ≡ None
   pub decrypted : Decrypted passphrase (take 96 before.input) task.outfile (passphrase_asked task 96 before) after
 
--- the run ends with this refusal, one row after another: of the first 96 bytes and their costs; of the passphrase; no
--- memory; a wrong passphrase; no output; the text's passing ended early; all was released and is damaged. What stands
--- before a `× (` holds for all rows after it: the costs are admitted, there is a passphrase, and it is the right one
+-- `dec` ends with this refusal, by one of these rows: the first 96 bytes were not read, or their header or costs are
+-- refused; no passphrase; no memory; a wrong passphrase; no output; the passing of the text ended early, with no more
+-- than 4,128 bytes of what was decided missing; all was released and is damaged. What stands before a `× (` holds for
+-- all rows after it: header and costs are not refused, there is a passphrase, and it is the right one
 abbrev pub DecryptRefused : ScryptRefusal → Task → Seen → Seen → Type 0
 DecryptRefused r task before after =
     FrontRefused r (limits_refusal_of task before) task.infile before after

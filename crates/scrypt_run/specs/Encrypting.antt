@@ -12,25 +12,26 @@ use Rattle.scrypt_run.specs.Text.{EndsText}
 use Rattle.scrypt_run.specs.declared.refusal.ScryptRefusal.{ScryptRefusal}
 use Rattle.scrypt_run.specs.declared.refusal.ScryptRefusal.TheVariants as refusal
 
--- the salt that was asked for, or the host's
+-- the salt that the request gives, or the host's where it gives none
 abbrev pub salt_used : Option (List ℕ) → Seen → List ℕ
 salt_used salt s = unwrap_or salt s.salt
 
--- the host once there is a salt: where none is given, it was asked for one
+-- the host once there is a salt: it was asked for one where the request gives none
 abbrev pub after_salting : Option (List ℕ) → Seen → Seen
 after_salting salt s = record s { salted = is_none salt || s.salted }
 
--- why the costs are not allowed, if they aren't
+-- why the costs of the new file are not allowed, if they aren't: by the S and the limits of its task
 abbrev pub costs_refusal_of : Encryption → Option FrontRefusal
 costs_refusal_of asked = costs_refusal asked.costs (allowance_of asked.task)
 
--- what the bytes so far of a text of that size decide: the file up to their cipher, and with the last of them the final
--- code too
+-- what the bytes that were pulled so far of a text of `size` bytes decide of its file: bytes 0 to 95 of the file and
+-- the encryption of these bytes; and, where they are the whole text, the final code too, which makes the whole file
 abbrev pub decided : List ℕ → List ℕ → Parameters → ℕ → List ℕ → List ℕ
 decided passphrase salt costs size text =
     if length text == size then encrypted_file passphrase salt costs text else body passphrase salt costs text
 
--- the file of the whole input was written, and is an encryption of it under the passphrase
+-- the whole input was read, and its file, which is an encryption of it under the passphrase, was written under the
+-- output's name
 pub record IsEncrypted (passphrase salt : List ℕ) (costs : Parameters) (outfile : Option Text) (before after : Seen)
     : Type 0 where
   pub encryption : IsEncryptionOf (encrypted_file passphrase salt costs before.input) passphrase before.input
@@ -38,20 +39,22 @@ pub record IsEncrypted (passphrase salt : List ℕ) (costs : Parameters) (outfil
 
 -- ---- the whole run
 
--- the host after the input was opened, the passphrase's source asked, and a salt asked for, where none is given
+-- the host after the input was opened, the passphrase's source asked, and a salt asked for where the request gives
+-- none
 abbrev pub salt_asked : Encryption → Seen → Seen
 salt_asked asked before = after_salting asked.salt (passphrase_asked asked.task 0 before)
 
--- the run ends with status 0
+-- `enc` ends with status 0: the costs are allowed, the passphrase was given, and the file of the input was written
 pub record EncryptSucceeds (asked : Encryption) (before after : Seen) : Type 0 where
   pub admitted : costs_refusal_of asked ≡ None
   pub passphrase : List ℕ
   pub given : HasPassphrase (first_line_at asked.task.source before) passphrase
   pub encrypted : IsEncrypted passphrase (salt_used asked.salt before) asked.costs asked.task.outfile (salt_asked asked before) after
 
--- the run ends with this refusal, one row after another: of the costs; the input could not be opened; of the passphrase;
--- no salt; no memory; no output; the text's passing ended early. What stands before a `× (` holds for all rows after it:
--- the costs are admitted, and there is a passphrase
+-- `enc` ends with this refusal, by one of these rows: the costs are refused; the input could not be opened; no
+-- passphrase; no salt; no memory; no output; the passing of the text ended early, with no more than 4,128 bytes of
+-- what was decided missing. What stands before a `× (` holds for all rows after it: the costs are allowed, and there
+-- is a passphrase
 abbrev pub EncryptRefused : ScryptRefusal → Encryption → Seen → Seen → Type 0
 EncryptRefused r asked before after =
     ((option_map refusal_of (costs_refusal_of asked) ≡ Some r) × (after ≡ before))

@@ -14,15 +14,16 @@ pub record FrontCutOff (infile : Option Text) (before after : Seen) : Type 0 whe
   pub within : pulled ≤ length before.input
   pub reads : after ≡ after_reading infile pulled before
 
--- the input could not be opened, or failed before 96 bytes of it had come
+-- the input could not be opened, and nothing changed; or it was opened, and failed before 96 bytes of it had come
 abbrev pub FrontNotRead : Option Text → Seen → Seen → Type 0
 FrontNotRead infile before after = (after ≡ before) ⊎ FrontCutOff infile before after
 
--- the input was opened, and its first 96 bytes were pulled, or all where there are fewer
+-- the host after the input was opened and its first 96 bytes were pulled, or all where there are fewer
 abbrev pub after_front : Option Text → Seen → Seen
 after_front infile s = after_reading infile 96 s
 
--- the run ended at the first 96 bytes: the input failed, or they are refused by the first test that holds
+-- the run ended at the first 96 bytes of the input: the input failed; or these bytes were read, and `first` is the
+-- reason why they are refused
 abbrev pub FrontRefused : ScryptRefusal → Option FrontRefusal → Option Text → Seen → Seen → Type 0
 FrontRefused r first infile before after =
     ((r ≡ refusal.InputFault) × FrontNotRead infile before after)

@@ -10,7 +10,8 @@ use Rattle.scrypt_run.specs.Front.{FrontRefused, after_front}
 use Rattle.scrypt_run.specs.declared.refusal.ScryptRefusal.{ScryptRefusal}
 use Rattle.scrypt_run.specs.declared.refusal.ScryptRefusal.TheVariants as refusal
 
--- the line that tells costs: N, r, p, the bytes of the table and the cores of a derivation, and a line feed
+-- the line that shows costs: N, r, p, the bytes of V and the Salsa20/8 cores of a derivation that keeps V whole, and
+-- a line feed
 abbrev pub costs_line : Parameters → Text
 costs_line c =
     codes "N = " ++ decimal (2 ^ c.log_n)
@@ -20,17 +21,18 @@ costs_line c =
     ++ codes "; cores = " ++ decimal (cores c)
     ++ codes "\n"
 
--- the line of the input's costs
+-- the line that shows the costs of the input, which its bytes 7 to 15 say
 abbrev pub line_due : Seen → Text
 line_due before = costs_line (costs_of before.input)
 
--- the run ends with status 0: standard output got the line
+-- `info` ends with status 0: the input has a valid header, and standard output got the line of its costs
 pub record InspectSucceeds (infile : Option Text) (before after : Seen) : Type 0 where
   pub valid : format_refusal before.input ≡ None
   pub written : after ≡ after_writing None (line_due before) (after_front infile before)
 
--- the run ends with this refusal, one row after another: of the first 96 bytes; no memory for the line; the output could
--- not be opened; it failed. What stands before the `× (` holds for all rows after it: the first 96 bytes are valid
+-- `info` ends with this refusal, by one of these rows: the first 96 bytes were not read, or their header is refused;
+-- no memory for the line; the output could not be opened; the output failed before it had taken the whole line. What
+-- stands before the `× (` holds for all rows after it: the header is valid
 abbrev pub InspectRefused : ScryptRefusal → Option Text → Seen → Seen → Type 0
 InspectRefused r infile before after =
     FrontRefused r (format_refusal before.input) infile before after

@@ -47,21 +47,22 @@ source_of_request (inspect infile) = None
 abbrev pub AsksNoOther : Request → Seen → Seen → Type 0
 AsksNoOther request before after = (after.asked ≡ before.asked) ⊎ (after.asked ≡ source_of_request request)
 
--- the host failed, or a growth of memory was refused
+-- the refusal is of memory, or of a host that failed at the input, the output or the passphrase
 abbrev pub IsFromOutside : ScryptRefusal → Type 0
 IsFromOutside r = (r ≡ refusal.InputFault)
     ⊎ (r ≡ refusal.OutputFault)
     ⊎ (r ≡ refusal.PassphraseFault)
     ⊎ (r ≡ refusal.OutOfMemory)
 
--- and so it was, at this request; the host is asked for a salt by `enc` alone, where none is given
+-- the refusal of this request is from outside: of memory, or of a host that failed at the input, the output or the
+-- passphrase, or, for `enc` where no salt is given, at the salt
 abbrev pub IsRefusedFromOutside : Request → ScryptRefusal → Type 0
 IsRefusedFromOutside (encrypt asked) r = IsFromOutside r ⊎ ((r ≡ refusal.SaltFault) × (asked.salt ≡ None))
 IsRefusedFromOutside (decrypt task) r = IsFromOutside r
 IsRefusedFromOutside (inspect infile) r = IsFromOutside r
 
--- two refusals are one end: the same is told, and the same is left, but that an input which is too long may be pulled and
--- handed on by pieces of other sizes
+-- two refusals are one end: the same refusal, after which the host is the same; but an input that is too long may be
+-- pulled and passed on by pieces of other sizes
 pub record AreOneEnd (one other : ScryptRefusal) (after ended : Seen) : Type 0 where
   pub told : one ≡ other
   pub left : (after ≡ ended) ⊎ (one ≡ refusal.TooLong)
@@ -72,8 +73,8 @@ with_keep keep (encrypt asked) = let task : Task = record (asked.task) { keep = 
 with_keep keep (decrypt task) = decrypt (record task { keep = keep })
 with_keep keep (inspect infile) = inspect infile
 
--- S is at most N and the limits are not exceeded: by the costs of the new file, or by those of the file that is read, where
--- its header is not refused
+-- S is at most N and the limits are not exceeded: by the costs of the new file, or by those of the file that is read,
+-- where its header is not refused
 abbrev pub AdmitsCosts : Request → Seen → Type 0
 AdmitsCosts (encrypt asked) s = costs_refusal asked.costs (allowance_of asked.task) ≡ None
 AdmitsCosts (decrypt task) s = format_refusal s.input ≡ None → costs_refusal (costs_of s.input) (allowance_of task) ≡ None

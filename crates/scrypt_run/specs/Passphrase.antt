@@ -5,11 +5,11 @@ use Rattle.host.specs.Secret.{secret_at}
 use Rattle.scrypt_run.specs.declared.refusal.ScryptRefusal.{ScryptRefusal}
 use Rattle.scrypt_run.specs.declared.refusal.ScryptRefusal.TheVariants as refusal
 
--- LF or CR
+-- whether a byte is LF or CR
 abbrev pub is_line_end : ℕ → Bool
 is_line_end b = b == 10 || b == 13
 
--- the bytes before the first CR or LF, or all
+-- the bytes of a text before its first CR or LF, or all where it has neither
 abbrev pub first_line : List ℕ → List ℕ
 first_line [] = []
 first_line (b ∷ bytes) = if is_line_end b then [] else b ∷ first_line bytes
@@ -23,7 +23,7 @@ pub record HasPassphrase (line : Option (List ℕ)) (passphrase : List ℕ) : Ty
   pub is : line ≡ Some passphrase
   pub fits : length passphrase ≤ 2048
 
--- the host failed to give the source, or its first line is longer than 2,048 bytes
+-- the passphrase is refused: the host failed to give the source, or its first line has more than 2,048 bytes
 abbrev pub PassphraseRefused : ScryptRefusal → Option (List ℕ) → Type 0
 PassphraseRefused r line = (r ≡ refusal.PassphraseFault)
     ⊎ ((r ≡ refusal.LongPassphrase) × (long : List ℕ) × (line ≡ Some long) × (2048 < length long))

@@ -7,7 +7,8 @@ use Rattle.host.specs.Faults.{Faults, input_failed, output_failed, secret_failed
 use Rattle.scrypt_run.specs.declared.refusal.ScryptRefusal.{ScryptRefusal}
 use Rattle.scrypt_run.specs.declared.refusal.ScryptRefusal.TheVariants as refusal
 
--- the counts after a refusal: one rises where a call of the host failed, and none otherwise
+-- the counts of failures after a refusal: where it names a call of the host that failed, the count of that kind is
+-- one more; every other refusal raises none
 abbrev pub counted_by : ScryptRefusal → Faults → Faults
 counted_by refusal.InputFault f = input_failed f
 counted_by refusal.OutputFault f = output_failed f
@@ -19,7 +20,7 @@ counted_by r f = f
 abbrev pub RaisesNoCount : ScryptRefusal → Type 0
 RaisesNoCount r = (f : Faults) → counted_by r f ≡ f
 
--- whether the refusal may be told after a derivation has begun: of the others none comes after work
+-- whether the refusal may come after a derivation has begun; every other refusal comes before it
 abbrev pub may_follow_work : ScryptRefusal → Bool
 may_follow_work refusal.WrongPassphrase = true
 may_follow_work refusal.Damaged = true
@@ -28,7 +29,8 @@ may_follow_work refusal.OutputFault = true
 may_follow_work refusal.TooLong = true
 may_follow_work r = false
 
--- whether the refusal is told after the derivation alone: of those that may follow work S12 may come before it, too
+-- whether the refusal comes only after the derivation: of those that may follow it, InputFault (S12) alone may come
+-- before it, too
 abbrev pub follows_work : ScryptRefusal → Bool
 follows_work refusal.WrongPassphrase = true
 follows_work refusal.Damaged = true
@@ -36,12 +38,12 @@ follows_work refusal.OutputFault = true
 follows_work refusal.TooLong = true
 follows_work r = false
 
--- whether the refusal tells want of memory
+-- whether the refusal is that of memory
 abbrev pub is_want : ScryptRefusal → Bool
 is_want refusal.OutOfMemory = true
 is_want r = false
 
--- the refusal of a file's first 96 bytes
+-- the refusal of the command, by the reason why a file is refused before its text is looked at
 abbrev pub refusal_of : FrontRefusal → ScryptRefusal
 refusal_of NotScryptData = refusal.NotScryptData
 refusal_of UnsupportedVersion = refusal.UnsupportedVersion
@@ -50,7 +52,7 @@ refusal_of TooMuchMemory = refusal.MemoryLimit
 refusal_of TooMuchWork = refusal.WorkLimit
 refusal_of WrongPassphrase = refusal.WrongPassphrase
 
--- the line of a refusal
+-- the line of a refusal, without a line feed
 abbrev pub line_of : ScryptRefusal → Text
 line_of refusal.Usage = codes "scrypt: usage: scrypt enc|dec|info [options] infile [outfile]"
 line_of refusal.SomeCosts = codes "scrypt: --logN, -r and -p are given together or not at all"

@@ -12,8 +12,8 @@ use Rattle.scrypt_run.specs.declared.request.Encryption.{Encryption as Encryptio
 use Rattle.scrypt_run.specs.declared.request.Request.{Request as RequestInCode}
 use Rattle.scrypt_run.specs.declared.request.Request.TheVariants as in_code
 
--- the limits, S, of which row i of the table is kept where it divides i, the passphrase's source, and the files; None is
--- the standard stream
+-- what `enc` and `dec` both are asked for: the limits; S, by which row i of V is kept where S divides i; the
+-- passphrase's source; and the names of the files, where None is the standard stream
 pub record Task : Type 0 where
   pub limits : Limits
   pub keep : ℕ
@@ -21,7 +21,7 @@ pub record Task : Type 0 where
   pub infile : Option Text
   pub outfile : Option Text
 
--- the costs, the salt, of which None is the host's, and the rest
+-- what `enc` is asked for: the costs of the new file; its salt, where None is the host's; and the rest
 pub record Encryption : Type 0 where
   pub costs : Parameters
   pub salt : Option (List ℕ)
@@ -37,12 +37,12 @@ pub data Request : Type 0 where
 abbrev pub allowance_of : Task → Allowance
 allowance_of task = record { limits = task.limits; keep = task.keep }
 
--- -M is in its range, and S is a power of two from 1 to 1,024
+-- the limit on bytes is at most 2^40, and S is a power of two from 1 to 1,024
 pub record HasAllowedLimits (task : Task) : Type 0 where
   pub memory : task.limits.max_bytes ≤ 2 ^ 40
   pub keep : is_keep task.keep ≡ true
 
--- so it is with the request, if it has such
+-- the limit on bytes and the S of a request are allowed; `info` has none
 abbrev pub IsAllowed : Request → Type 0
 IsAllowed (encrypt encryption) = HasAllowedLimits encryption.task
 IsAllowed (decrypt task) = HasAllowedLimits task
@@ -50,10 +50,11 @@ IsAllowed (inspect infile) = ⊤
 
 -- ---- what contracts see of the code's request: its names as texts
 
--- the text, if it is there
+-- the text that is lent, if it is there
 abbrev pub text_of : Option (Bor Text) → Option Text
 text_of = option_map (λ s. s.now)
 
+-- a task of the code, with its names as texts
 abbrev pub task_seen : TaskInCode → Task
 task_seen t = record {
   limits = t.limits;
@@ -63,9 +64,11 @@ task_seen t = record {
   outfile = text_of t.outfile;
 }
 
+-- an encryption of the code, with its names as texts
 abbrev pub encryption_seen : EncryptionInCode → Encryption
 encryption_seen e = record { costs = e.costs; salt = e.salt; task = task_seen e.task }
 
+-- a request of the code, with its names as texts
 abbrev pub request_seen : RequestInCode → Request
 request_seen (in_code.Encrypt e) = encrypt (encryption_seen e)
 request_seen (in_code.Decrypt t) = decrypt (task_seen t)

@@ -3,14 +3,15 @@ use Rattle.std.specs.Prelude.{ℕ, List, Option, take}
 use Rattle.host.specs.Seen.{Seen, Text, after_ask, after_open_input, after_pull, after_push}
 use Rattle.scrypt_run.specs.Request.{Task}
 
--- the input was opened under this name, and its first n bytes were pulled
+-- the host after the input was opened under this name, and its first n bytes were pulled
 abbrev pub after_reading : Option Text → ℕ → Seen → Seen
 after_reading infile n s = after_pull n (after_open_input infile s)
 
--- and the passphrase's source was asked: by `enc` at once, by `dec` after 96 bytes
+-- the host after the input was opened, its first n bytes were pulled, and the passphrase's source was asked: n is 0
+-- for `enc`, and 96 for `dec`
 abbrev pub passphrase_asked : Task → ℕ → Seen → Seen
 passphrase_asked task n s = after_ask task.source (after_reading task.infile n s)
 
--- n bytes of the input were pulled, and what they give was written
+-- the host after n bytes of the input were pulled, and what `gives` makes of them was written
 abbrev pub after_passing : (List ℕ → List ℕ) → ℕ → Seen → Seen
 after_passing gives n s = after_push (gives (take n s.input)) (after_pull n s)

@@ -1,20 +1,21 @@
--- How the passing of a text through a cipher may end early. `gives` is what the bytes so far give in all, and `decides`
--- what they decide, which with the last of them may be more.
+-- How the passing of a text through a cipher may end early. `gives` says what the bytes that were pulled so far give
+-- in all. `decides` says what they decide of the output: the same, and with the last byte of the text perhaps more,
+-- such as the final code of a new file.
 use Rattle.std.specs.Prelude.{◌≡◌, ◌+◌, ◌-◌, ◌<◌, ◌≤◌, ◌⊎◌, ℕ, List, length, take}
 use Rattle.host.specs.Seen.{Seen, after_pull, after_push}
 use Rattle.scrypt_run.specs.Steps.{after_passing}
 use Rattle.scrypt_run.specs.declared.refusal.ScryptRefusal.{ScryptRefusal}
 use Rattle.scrypt_run.specs.declared.refusal.ScryptRefusal.TheVariants as refusal
 
--- the input failed below the limit, and all that the bytes pulled before give was written
+-- fewer bytes than the limit were pulled before the input failed, and all that they give was written
 pub record FailsReading (limit : ℕ) (gives : List ℕ → List ℕ) (before after : Seen) : Type 0 where
   pub pulled : ℕ
   pub below : pulled < limit
   pub within : pulled ≤ length before.input
   pub passes : after ≡ after_passing gives pulled before
 
--- fewer bytes than the limit were pulled, and a beginning of what they decide was written, not the whole; at most
--- `most` bytes of it are missing
+-- the output failed: fewer bytes than the limit were pulled, and of what they decide a beginning was written, and not
+-- the whole; no more than `most` bytes of it are missing
 pub record FailsWriting (limit most : ℕ) (decides : List ℕ → List ℕ) (before after : Seen) : Type 0 where
   pub pulled : ℕ
   pub below : pulled < limit
@@ -24,8 +25,8 @@ pub record FailsWriting (limit most : ℕ) (decides : List ℕ → List ℕ) (be
   pub missing : length (decides (take pulled before.input)) ≤ written + most
   pub passes : after ≡ after_push (take written (decides (take pulled before.input))) (after_pull pulled before)
 
--- the input reaches the limit: its bytes before the last piece were handed on, and all that they give was written; of the
--- last piece no more was pulled than one buffer of 4,096 bytes
+-- the input reaches the limit: its bytes before the last piece were passed on, and all that they give was written; of
+-- the last piece no more was pulled than one buffer of 4,096 bytes
 pub record IsTooLong (limit : ℕ) (gives : List ℕ → List ℕ) (before after : Seen) : Type 0 where
   pub handed_on : ℕ
   pub least : limit - 4096 ≤ handed_on
@@ -36,7 +37,8 @@ pub record IsTooLong (limit : ℕ) (gives : List ℕ → List ℕ) (before after
   pub most : pulled ≤ handed_on + 4096
   pub passes : after ≡ after_push (gives (take handed_on before.input)) (after_pull pulled before)
 
--- the passing ended before the end of what is due
+-- the passing of a text ended before all that is due was written: the input failed; or the output failed, and no more
+-- than `most` bytes of what was decided are missing; or the input reaches the limit
 abbrev pub EndsText : ScryptRefusal → ℕ → ℕ → (List ℕ → List ℕ) → (List ℕ → List ℕ) → Seen → Seen → Type 0
 EndsText r limit most gives decides before after =
     ((r ≡ refusal.InputFault) × FailsReading limit gives before after)

@@ -11,29 +11,33 @@ use Rattle.scrypt_run.specs.Refusal.{follows_work}
 use Rattle.scrypt_run.specs.Request.{Encryption, Request, Task, allowance_of, decrypt, encrypt, inspect}
 use Rattle.scrypt_run.specs.declared.refusal.ScryptRefusal.{ScryptRefusal}
 
--- the counter went on by exactly one derivation: of the passphrase in this line, with this salt, these costs and this S
+-- the counter of Salsa20/8 cores went on by exactly one derivation: of the passphrase in this line, with this salt,
+-- these costs and this S
 pub record DerivesOnce (line : Option (List ℕ)) (salt : List ℕ) (sparse : SparseParameters) (before after : ℕ) : Type 0 where
   pub passphrase : List ℕ
   pub given : HasPassphrase line passphrase
   pub count : after ≡ before + sparse_cores passphrase salt sparse
 
--- by that of an encryption, with the costs, the salt and S that were asked for, or the host's salt
+-- the counter went on by the derivation of an encryption, with the costs and S that were asked for, and the salt that
+-- was asked for or the host's
 abbrev pub EncryptWorks : Encryption → Seen → ℕ → ℕ → Type 0
 EncryptWorks asked s before after =
     DerivesOnce (first_line_at asked.task.source s) (salt_used asked.salt s) (with_keep_of (allowance_of asked.task) asked.costs) before after
 
--- by that of the input, with the costs and the salt of its header and the S that was asked for
+-- the counter went on by the derivation of a decryption, with the costs and the salt of the header of the input, and
+-- the S that was asked for
 abbrev pub DecryptWorks : Task → Seen → ℕ → ℕ → Type 0
 DecryptWorks task s before after =
     DerivesOnce (first_line_at task.source s) (salt_of s.input) (with_keep_of (allowance_of task) (costs_of s.input)) before after
 
--- by that of a request; `info` has none
+-- the counter went on by the derivation of a request; `info` has none
 abbrev pub RequestWorks : Request → Seen → ℕ → ℕ → Type 0
 RequestWorks (encrypt asked) s before after = EncryptWorks asked s before after
 RequestWorks (decrypt task) s before after = DecryptWorks task s before after
 RequestWorks (inspect infile) s before after = after ≡ before
 
--- the run ended after its derivation: its refusal comes only there, or an output was asked for. So S12 is told apart:
--- no output is asked for where the input could not be opened, or failed in its first 96 bytes
+-- the run ended after its derivation: its refusal comes only there, or an output was asked for. So the two places of
+-- InputFault (S12) are kept apart: no output is asked for where the input could not be opened, or failed in its first
+-- 96 bytes
 abbrev pub EndsAfterWork : ScryptRefusal → Seen → Type 0
 EndsAfterWork r s = (follows_work r ≡ true) ⊎ (s.output_asked ≡ None → ⊥)

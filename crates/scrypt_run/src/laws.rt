@@ -63,8 +63,8 @@ fn no_other_source_is_asked()
         → RequestRefused refusal request before after → AsksNoOther request before after }
 {}
 
-// Where both are admitted, or a file's header is refused, a run with one S and a run with another
-// come to the same ends: the same file, text, bytes and refusals.
+// Where the costs are admitted with one S and with another, or a file's header is refused, the runs
+// with the one and the other come to the same ends: the same file, text, bytes and refusals.
 fn ends_do_not_depend_on_keep()
     ensures succeeds { (request : Request) (keep : ℕ) (before after : Seen)
         → AdmitsCosts request before → AdmitsCosts (with_keep keep request) before
@@ -77,7 +77,7 @@ fn ends_do_not_depend_on_keep()
         → RequestRefused refusal (with_keep keep request) before after }
 {}
 
-// Want of memory is never told after an output was asked for.
+// A run whose refusal is that of memory asked for no output.
 fn want_of_memory_opens_no_output()
     ensures unopened { (request : Request) (before after : Seen)
         → RequestRefused ScryptRefusal.OutOfMemory request before after

@@ -7,7 +7,7 @@ use encfile::HeaderFault;
 
 /// Why a run of `scrypt` ends with status 1. Each has its number, when it holds, and its line. Of the
 /// words, S1, S2a, S2b, S2c, S2d, S3, S5a and S16a are tested in this order, and the first that holds is
-/// told.
+/// reported.
 #[derive(Clone, Copy, Debug, PartialEq, Eq)]
 pub enum ScryptRefusal {
     /// S1: the words are not those of a subcommand, help is asked for, a number word has another form,
@@ -41,14 +41,15 @@ pub enum ScryptRefusal {
     NotScryptData,
     /// S7: byte 6 of the input is not 0. `scrypt: unsupported format version`
     UnsupportedVersion,
-    /// S8: the costs need more bytes than `-M`. `scrypt: more memory needed than -M allows`
+    /// S8: the rows of V that are kept, or B, need more bytes than `-M`.
+    /// `scrypt: more memory needed than -M allows`
     MemoryLimit,
-    /// S9: the costs need more cores than `--maxops`.
+    /// S9: the upper bound 2 * r * p * N * (1 + S) on the cores of the costs is above `--maxops`.
     /// `scrypt: more work needed than --maxops allows`
     WorkLimit,
-    /// S10: the code of the header is not the passphrase's. `scrypt: wrong passphrase`
+    /// S10: bytes 64 to 95 are not right for the passphrase. `scrypt: wrong passphrase`
     WrongPassphrase,
-    /// S11: the final code is not that of the input, or fewer than 32 bytes follow the header.
+    /// S11: the final code is not that of the input, or fewer than 32 bytes follow byte 95.
     /// `scrypt: input is damaged or cut short`
     Damaged,
     /// S12: the host fails to open or to give the input. `scrypt: input cannot be opened or read`

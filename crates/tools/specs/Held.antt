@@ -9,33 +9,33 @@ use Rattle.tools.specs.declared.run.InputStage.TheVariants as input
 use Rattle.tools.specs.declared.run.OutputStage.{OutputStage}
 use Rattle.tools.specs.declared.run.OutputStage.TheVariants as output
 
--- the system; the calls that are granted; the secret source that was asked, and whether a salt was asked for, whatever
--- came of it
+-- what contracts see of the host over a system: the system; the calls that are granted; the secret source that was
+-- asked, and whether a salt was asked for, whatever came of it
 pub record Held : Type 0 where
   pub world : World
   pub grants : Grants
   pub asked : Option SecretSource
   pub salted : Bool
 
--- the input is not opened yet
+-- whether the input is not opened yet
 abbrev pub is_unopened : InputStage → Bool
 is_unopened input.Unopened = true
 is_unopened input.Opened = false
 is_unopened input.Ended = false
 
--- the input is opened, and its end was not found
+-- whether the input is opened, and its end was not found
 abbrev pub is_going : InputStage → Bool
 is_going input.Unopened = false
 is_going input.Opened = true
 is_going input.Ended = false
 
--- no output was asked for
+-- whether no output was asked for
 abbrev pub is_unasked : OutputStage → Bool
 is_unasked output.Unasked = true
 is_unasked output.Refused = false
 is_unasked output.Opened = false
 
--- the output is in use
+-- whether the output is in use
 abbrev pub is_in_use : OutputStage → Bool
 is_in_use output.Unasked = false
 is_in_use output.Refused = false
@@ -52,22 +52,22 @@ grants_at input_stage output_stage asked salted = record {
   salt = not salted;
 }
 
--- the first 32 bytes, if there are any
+-- the first 32 bytes of a file, or none where it isn't there
 abbrev pub salt_in : Option (List ℕ) → List ℕ
 salt_in None = []
 salt_in (Some bytes) = take 32 bytes
 
--- the salt: the first random bytes of the system
+-- the salt of the host over a system: its first 32 random bytes
 abbrev pub salt_of : World → List ℕ
 salt_of w = salt_in (lookup w.files (codes "/dev/urandom"))
 
--- the bytes of a secret source, if it is there
+-- the bytes of a secret source of a system, if it is there
 abbrev pub secret_in : World → SecretSource → Option (List ℕ)
 secret_in w stdin_once = w.stdin
 secret_in w (env name) = lookup w.variables name
 secret_in w (file name) = lookup w.files name
 
--- the host
+-- what is seen of the host that is made of a system and of how far a run has come
 abbrev pub host_seen : Held → Seen
 host_seen h = record {
   input = h.world.input.left;
@@ -84,7 +84,7 @@ host_seen h = record {
   salt = salt_of h.world;
 }
 
--- the host over a system that was not used yet
+-- what is seen of the host over a system that was not used yet
 abbrev pub host_over : World → Seen
 host_over w = host_seen (record { world = w; grants = nothing_asked; asked = None; salted = false })
 

@@ -24,13 +24,13 @@ GivesWord (Some word) (Err fault.Missing) buf = ⊥
 GivesWord None (Err fault.TooLong) buf = ⊥
 GivesWord (Some word) (Err fault.TooLong) buf = length buf < length word
 
--- a word that is said to be no text is none: it is not UTF-8
+-- where the fault says that this word is no text, the word is there and is not UTF-8
 abbrev pub IsNoText : WordsFault → Option Text → Type 0
 IsNoText words_fault.OutOfMemory word = ⊤
 IsNoText words_fault.NotText None = ⊥
 IsNoText words_fault.NotText (Some word) = IsUtf8 word → ⊥
 
--- where a word is said to be no text, one after the name of the process is none
+-- where a word is said to be no text, one of the words after the name of the process is not UTF-8
 abbrev pub LacksText : WordsFault → List Text → Type 0
 LacksText words_fault.OutOfMemory words = ⊤
 LacksText words_fault.NotText words = (place : ℕ) × (0 < place) × IsNoText words_fault.NotText (word_at words place)

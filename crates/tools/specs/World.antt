@@ -8,17 +8,17 @@ use Rattle.tools.specs.declared.system.Reading.TheVariants as reading
 use Rattle.tools.specs.declared.system.Stream.{Stream}
 use Rattle.tools.specs.declared.system.Stream.TheVariants as stream
 
--- a stream that is read: the name under which it was opened (None: it isn't opened; Some None: standard input), what is
--- left of it, and whether a read found its end
+-- a stream that is read: the name under which it was opened (None: it isn't opened; Some None: standard input), what
+-- is left of it, and whether a read found its end
 pub record Source : Type 0 where
   pub opened : Option (Option Text)
   pub left : List ℕ
   pub is_ended : Bool
 
 -- the input, a secret's source and the random bytes; what was written; the name under which an output was asked for,
--- whatever came of it (None: none was; Some None: standard output); whether the output holds only what is written from
--- now on, and whether it was emptied; the lines said so far; what standard input gives from its beginning, if it is there, and what each file does,
--- other than as the input; and the variables
+-- whatever came of it (None: none was; Some None: standard output); whether the output holds only what is written
+-- from now on, and whether it was emptied; the lines said so far; what standard input gives from its beginning, if it
+-- is there, and what each file does, other than as the input; and the variables
 pub record World : Type 0 where
   pub input : Source
   pub secret : Source
@@ -51,7 +51,7 @@ pub record IsApart (f : Files) : Type 0 where
 
 -- ---- streams that are read
 
--- a stream
+-- the state of a stream of the system
 abbrev pub source_at : Reading → World → Source
 source_at reading.Input w = w.input
 source_at reading.Secret w = w.secret
@@ -63,12 +63,13 @@ with_source reading.Input s w = record w { input = s }
 with_source reading.Secret s w = record w { secret = s }
 with_source reading.Random s w = record w { random = s }
 
--- what stands under this name (None: standard input), other than as the input
+-- the bytes that stand under this name (None: standard input), if it is there, for a stream other than the input
 abbrev pub stands_at : Option Text → World → Option (List ℕ)
 stands_at None w = w.stdin
 stands_at (Some name) w = lookup w.files name
 
--- what a stream gives that is opened under this name; the input gives the same under each
+-- the bytes that a stream gives which is opened under this name, if it can give any: the input what is left of it,
+-- whatever the name, and a secret's source or the random bytes what stands under the name
 abbrev pub gives : Reading → Option Text → World → Option (List ℕ)
 gives reading.Input name w = Some w.input.left
 gives reading.Secret name w = stands_at name w
@@ -84,11 +85,11 @@ pub record Opens (r : Reading) (name : Option Text) (before after : World) : Typ
   pub given : gives r name before ≡ Some bytes
   pub opened : after ≡ with_source r (opened_source name bytes) before
 
--- n bytes of a stream are gone; where there were none to give, its end was found
+-- a stream after n of its bytes were read; where there were none to give, its end was found
 abbrev pub after_reading : ℕ → Source → Source
 after_reading n s = record s { left = drop n s.left; is_ended = n == 0 }
 
--- the same of the system
+-- the system after n bytes of a stream were read; where there were none to give, its end was found
 abbrev pub after_read : Reading → ℕ → World → World
 after_read r n w = with_source r (after_reading n (source_at r w)) w
 
@@ -122,7 +123,8 @@ stays_as_it_is None identity = true
 stays_as_it_is (Some name) None = true
 stays_as_it_is (Some name) (Some identity) = false
 
--- an output was opened under this name, and is that regular file or none; it is new, unless it is to be emptied
+-- the system after an output was opened under this name, which is that regular file or none; it is new, unless it is
+-- to be emptied
 abbrev pub after_open_output : Option Text → Option FileIdentity → World → World
 after_open_output name identity w = record w { output_asked = Some name; is_new = stays_as_it_is name identity }
 
@@ -132,11 +134,11 @@ pub record AsksOutput (name : Option Text) (before after : World) : Type 0 where
   pub is_emptied : Bool
   pub same : after ≡ (let w : World = record before { output_asked = Some name; is_new = is_new; is_emptied = is_emptied } in w)
 
--- the output was emptied
+-- the system after the output was emptied
 abbrev pub after_empty : World → World
 after_empty w = record w { is_new = true; is_emptied = true }
 
--- these bytes stand after the output
+-- the system after these bytes were written to the output
 abbrev pub after_write : List ℕ → World → World
 after_write bytes w = record w { output = w.output ++ bytes }
 
@@ -150,15 +152,15 @@ pub record IsUnused (w : World) : Type 0 where
   pub output : w.output_asked ≡ None
   pub going : w.input.is_ended ≡ false
 
--- a line more was said
+-- the system after a line more was said
 abbrev pub after_line : Text → World → World
 after_line line w = record w { said = w.said ++ (line ∷ []) }
 
--- stands where a system tells nothing
+-- a stream that stands where a system does not tell its bytes
 abbrev pub no_source : Source
 no_source = record { opened = None; left = []; is_ended = false }
 
--- stands where a system tells nothing
+-- stands for what is seen of a system that does not tell its bytes
 abbrev pub no_world : World
 no_world = record {
   input = no_source;
@@ -174,6 +176,6 @@ no_world = record {
   variables = [];
 }
 
--- stands where a system tells nothing
+-- stands for the files of a system that does not tell its bytes: no stream is a regular file
 abbrev pub no_files : Files
 no_files = record { input = None; secret = None; output = None }

@@ -1,6 +1,7 @@
 -- The S-box (FIPS 197, 5.1.1) as a circuit: Boyar and Peralta's of 115 gates ("A new combinational logic minimization
--- technique with applications to cryptology", IACR ePrint 2009/191), with that paper's numbers of wires. Where it has the
--- complement of an exclusive or, `one` is added. A wire may carry a bit, or a plane of bits. Only private functions cite this.
+-- technique with applications to cryptology", IACR ePrint 2009/191), with that paper's numbers of wires. Where it has
+-- the complement of an exclusive or, `one` is added. A wire may carry a bit, or a plane of bits. Only private
+-- functions cite this.
 use Rattle.std.specs.Prelude.{ℕ, List, [], ◌∷◌}
 
 -- the sums of input wires that the rest of the circuit takes: input wire 7, the last, and wires y1 to y21

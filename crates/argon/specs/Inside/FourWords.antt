@@ -23,7 +23,7 @@ by_diagonals x = record {
   d = words_in_order x.d 3 0 1 2;
 }
 
--- and turned back
+-- the vectors turned back from `by_diagonals`, so that the words of a column stand across them
 abbrev pub by_columns : Sixteen → Sixteen
 by_columns x = record {
   a = x.a;
@@ -36,7 +36,7 @@ by_columns x = record {
 abbrev pub pair_places : ℕ → List ℕ
 pair_places at = at ∷ (at + 1) ∷ (at + 16) ∷ (at + 17) ∷ []
 
--- a block with a row of another block, permuted, in place of its own
+-- a block whose row is that row of another block, permuted
 abbrev pub with_row_permuted : List ℕ → List ℕ → ℕ → List ℕ
 with_row_permuted from into row =
     with_words_at into (row_places row) (permutation (words_at from (row_places row)))

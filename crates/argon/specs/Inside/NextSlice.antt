@@ -3,7 +3,7 @@ use Rattle.std.specs.Prelude.{◌≡◌, ℕ, ◌/◌, ◌%◌}
 use Rattle.argon.specs.Filling.{Filling, HasNext, IsFilling}
 use Rattle.argon.specs.Parameters.{Parameters}
 
--- it is the next slice of a matrix of those parameters
+-- the slice is the next one of a matrix of those parameters
 pub record IsNextSlice (matrix : Filling) (parameters : Parameters) (pass slice : ℕ) : Type 0 where
   pub filling : IsFilling matrix
   pub next : HasNext matrix

@@ -7,7 +7,7 @@ use Rattle.argon.specs.Reference.{reference_set, relative_place}
 use Rattle.argon.specs.declared.places.Place.{Place}
 use Rattle.argon.specs.declared.segment.Segment.{Segment}
 
--- the same by the segment and its address block
+-- the place that the planned word of a column names, by the segment and its address block (3.4.2)
 abbrev pub place_by_segment : Segment → ℕ → List ℕ → Place
 place_by_segment at index addresses =
     let j = slice_index addresses (index % 128) in
@@ -22,7 +22,7 @@ pub record PlansPart (at : Segment) (addresses : List ℕ) (old new : List Place
   pub planned : (index : ℕ) → from ≤ index → index < to → entry_at new index ≡ place_by_segment at index addresses
   pub before : (index : ℕ) → index < from → entry_at new index ≡ entry_at old index
 
--- the first columns of a segment are planned, and those that come from H 0 stay
+-- the first columns of a segment are planned, and those that come from H_0 stay
 pub record IsPlanned (parameters : Parameters) (at : Segment) (old new : List Place) (to : ℕ) : Type 0 where
   pub planned : (index : ℕ) → first_index at.pass at.slice ≤ index → index < to
       → entry_at new index ≡ planned_place parameters at.pass at.lane at.slice index

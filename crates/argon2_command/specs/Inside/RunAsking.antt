@@ -7,7 +7,7 @@ use Rattle.argon2_command.specs.Asking.{Asking, LacksOne, with_all}
 use Rattle.argon2_command.specs.Output.{admitted_parameters}
 use Rattle.argon2_command.specs.Request.{Request, argon2_request}
 
--- all three were granted
+-- the memory of the tag, of its line and of the matrix was granted
 pub record RunGranted {Source : Type 0} (ask : Asking Source) (words : List Text) (before after : Source) : Type 0 where
   pub request : Request
   pub password : List ℕ
@@ -16,7 +16,7 @@ pub record RunGranted {Source : Type 0} (ask : Asking Source) (words : List Text
   pub admitted : admitted_parameters request password ≡ Ok parameters
   pub asked : after ≡ with_all ask request parameters before
 
--- one of them was refused
+-- one of the requests for the tag, its line and the matrix was refused
 pub record RunRefused {Source : Type 0} (ask : Asking Source) (words : List Text) (before after : Source) : Type 0 where
   pub request : Request
   pub password : List ℕ

@@ -1,4 +1,4 @@
--- Whether every request for memory was granted, as the number or the fault that was told says.
+-- Whether every request for memory was granted, by the number or the fault that was answered.
 use Rattle.std.specs.Prelude.{ℕ, Bool, true, false, not, ◌==◌}
 use Rattle.argon_text.specs.declared.fault.ReadFault.{ReadFault}
 use Rattle.argon_text.specs.declared.fault.ReadFault.TheVariants as read
@@ -6,17 +6,17 @@ use Rattle.argon_text.specs.declared.fault.VerifyFault.{VerifyFault}
 use Rattle.argon_text.specs.declared.fault.VerifyFault.TheVariants as verify
 use Rattle.pikhsen_c.specs.Status.{out_of_memory}
 
--- as the number says
+-- whether every request for memory was granted, by the number that was answered
 abbrev pub had_memory : ℕ → Bool
 had_memory status = not (status == out_of_memory)
 
--- as a fault of reading says
+-- whether every request for memory was granted, by the fault of reading
 abbrev pub had_memory_to_read : ReadFault → Bool
 had_memory_to_read read.NotInGrammar = true
 had_memory_to_read read.OutOfRange = true
 had_memory_to_read read.OutOfMemory = false
 
--- as a fault of a test says
+-- whether every request for memory was granted, by the fault of the test of a password
 abbrev pub had_memory_to_test : VerifyFault → Bool
 had_memory_to_test verify.PasswordLength = true
 had_memory_to_test verify.InputLength = true

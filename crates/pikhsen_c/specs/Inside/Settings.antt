@@ -1,4 +1,4 @@
--- The settings of a hash, as private functions hand them on.
+-- The settings of a hash, as private functions pass them on.
 use Rattle.std.specs.Prelude.{ℕ}
 use Rattle.argon.specs.Parameters.{Parameters}
 use Rattle.pikhsen_c.specs.declared.argon2.Settings.{Settings}

@@ -1,7 +1,7 @@
 -- Rows whose blocks stand in the order of the diagonals: word k of a block at place 5 * k modulo 16.
 use Rattle.std.specs.Prelude.{ℕ, zero, suc, ◌/◌, List, [], ◌∷◌, ◌++◌, length, take, drop, slice_index}
 
--- a block in its own order, of one in the order of the diagonals
+-- a block in the standard's order, of one in the order of the diagonals
 abbrev pub natural_block : List ℕ → List ℕ
 natural_block w =
     slice_index w 0 ∷ slice_index w 13 ∷ slice_index w 10 ∷ slice_index w 7
@@ -9,11 +9,11 @@ natural_block w =
     ∷ slice_index w 8 ∷ slice_index w 5 ∷ slice_index w 2 ∷ slice_index w 15
     ∷ slice_index w 12 ∷ slice_index w 9 ∷ slice_index w 6 ∷ slice_index w 3 ∷ []
 
--- the first n blocks of a row, each in its own order
+-- the first n blocks of a row in the order of the diagonals, each in the standard's order
 unfoldable pub natural_blocks : ℕ → List ℕ → List ℕ
 natural_blocks zero w = []
 natural_blocks (suc n) w = natural_block (take 16 w) ++ natural_blocks n (drop 16 w)
 
--- a row with each block in its own order
+-- a row in the order of the diagonals, with each block in the standard's order
 abbrev pub natural_row : List ℕ → List ℕ
 natural_row w = natural_blocks (length w / 16) w

@@ -1,5 +1,5 @@
--- What the steps of `dec` after the first 96 bytes may come to: to each its rows of `DecryptRefused`. `front` are these
--- bytes, and the input of `before` are the bytes after them.
+-- What the steps of `dec` after the first 96 bytes may come to: to each its rows of `DecryptRefused`. `front` are
+-- these bytes, and the input of `before` are the bytes after them.
 use Rattle.std.specs.Prelude.{◌≡◌, ◌+◌, ◌^◌, ◌⊎◌, ℕ, List, Option}
 use Rattle.encfile.specs.EncryptedFile.{HasRightHeaderCode}
 use Rattle.host.specs.Seen.{Seen, Text, after_ask_output, after_open_output}

@@ -3,13 +3,13 @@ use Rattle.std.specs.Prelude.{⊤}
 use Rattle.tools.specs.declared.real.Opened.{Opened}
 use Rattle.tools.specs.declared.real.Opened.TheVariants as opened
 
--- the standard stream
+-- what stands for a stream is the standard stream
 abbrev pub IsStandard : Opened → Type 0
 IsStandard opened.Nothing = ⊥
 IsStandard opened.Standard = ⊤
 IsStandard (opened.Named _) = ⊥
 
--- a file that was opened by its name
+-- what stands for a stream is a file that was opened by its name
 abbrev pub IsNamed : Opened → Type 0
 IsNamed opened.Nothing = ⊥
 IsNamed opened.Standard = ⊥
