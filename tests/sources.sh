@@ -172,6 +172,17 @@ compare 8a4250968e40c078f6e24ee22868d9d6c804e22344261c42f76e34fe841cced2 crates/
 compare 27ab446a5ed92bf7fbb468982580077c327db7e9fbc8780f5c76c96b0f983535 crates/tools/src/placeholders.rt
 compare fd72d58f020e62464528b85c0313b937310d5f45d00dd62f1a495d89e964cc97 crates/argon_tool/src/main.rt
 compare 10cd5b39cfdf89c939a2f8bba840c7f608433a105dd98231b48621fce5838759 crates/scrypt_tool/src/main.rt
+# Of the heap neither: that it is asked for what a clause says, once, and that want of memory is reported where the heap
+# refused and nowhere else. So the files in which the heap is the source of memory are compared whole, too.
+compare 50c5f6a67a99faf204f64f79e456976cf61323cfd5b4110226e0c64b0bef41a0 crates/argon/src/room.rt
+compare 501e2e952db87c24cf27d98aaef21c6cd6b6a4a262aabc7a57ddd20416df5ce1 crates/argon2_command/src/bytes.rt
+compare 9d0d777a3f4d40489f2629d8846f725c8c91973ef6e18848af4e522d3231f10f crates/argon2_command/src/line.rt
+compare 8008e33ad9d3744cd3e4c7ba9d35f54f4baa48b8bd09fdfa8e6c04385ca6f382 crates/argon2_command/src/room.rt
+compare abee929f8cb1fdbc22d7ea51528c5888139227b456ce7563b059c7b4426edff6 crates/argon_text/src/room.rt
+compare 35036ae39bd6bcb6d223313685f174b8b3a77c24277d614d88e8f1cb60f5834c crates/pikhsen_c/src/source.rt
+compare e5360ca9490e0205e36f133d97c7ea46cde1fe4598ea098d195985c0735e072c crates/romix/src/reservation.rt
+compare b7c9cf4e2e2bdf886fcc59c19cecdc1ac5c414c77aba9a0904ec74736accbc1a crates/scrypt_run/src/line.rt
+compare 266c1125320cd467b012655480d8b345a1f6f7c5ada451d46ed82e1413a73f58 crates/scrypt_run/src/room.rt
 expect 'set_permissions' "a file keeps the permissions that it has or is made with"
 expect 'PermissionsExt' "a file keeps the permissions that it has or is made with"
 
