@@ -6,8 +6,8 @@ A key is a sum of
 - each function that the edit changes, with its clauses, the head of its block and its own files of proofs/;
 - the clauses of each function that these or the edit may call: of that name, in a block for a type that they reach;
 - each type, trait, constant and block for a trait that all of these reach, without the bodies of its functions;
-- the definitions of specs/ that all of these reach, as tests/reading.py finds them, and those files of proofs/ whole
-  that an invariant cites.
+- the definitions of specs/ that all of these reach, as tests/reading.py finds them, but a record also by the name of
+  a field; and those files of proofs/ whole that an invariant cites.
 
 All are read without comments, in the crate and those below it. A name may stand for several things: then each counts.
 An edit of more than bodies has a key of all files of these crates but their tests. Lemmas of proofs/ are in no key, but
@@ -117,6 +117,8 @@ class Tree:
     def __init__(self, top=TOP):
         self.top, self.sources, self.sums = pathlib.Path(top), {}, {}
         self.definitions = all_files(self.top / "crates")
+        for file in self.definitions.values():
+            file.owners.update(file.fields)  # code may name a field without its type: each record that has it counts
         rules = ["\n".join(without("#", self.text("tests", it))) for it in RULES]
         self.rules = hashlib.sha256(repr(rules).encode()).hexdigest()
 

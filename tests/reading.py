@@ -43,18 +43,17 @@ def imports(text):
 
 
 class File:
-    """A file of specs/: the lines of each item, what it imports, the item of each constructor and field, and the fields."""
+    """A file of specs/: the lines of each item, what it imports, and the item of each constructor and of each field."""
 
     def __init__(self, text):
-        self.imports, self.items, self.owners, self.fields, item, is_record = imports(text), {}, {}, set(), "", False
+        self.imports, self.items, self.owners, self.fields, item, is_record = imports(text), {}, {}, {}, "", False
         for line in text.split("\n"):
             if not line.strip() or line.lstrip().startswith("--") or re.match(r"#|((pub )?(use|mod) )", line):
                 continue
             if begun := ITEM.match(line):
                 item, is_record = begun[1], " record " in f" {line}"
             elif part := PART.match(line):
-                self.owners[part[1]] = item
-                self.fields |= {part[1]} if is_record else set()
+                (self.fields if is_record else self.owners)[part[1]] = item
             self.items.setdefault(item, []).append(line)
 
 
@@ -66,16 +65,15 @@ def all_files(crates=CRATES):
     return found
 
 
-def cited(text, names, files, module=None, by_field=True):
-    """The items of the repository's definitions that a text cites: with by_field also by a word that is a field's name, which
-    may be that of a parameter, too, or of another record's field."""
+def cited(text, names, files, module=None):
+    """The items of the repository's definitions that a text cites. A record is cited where a type names it: the name of a field
+    does not say of which record it is."""
     own = files[module] if module else None
     for word in dict.fromkeys(WORD.findall(text)):
         for name in (word, f"◌{word}◌", f"{word}◌"):
             at, given = names.get(name, (module, name))
             if at in files:
-                owner = given if given in files[at].fields and not by_field else files[at].owners.get(given, given)
-                for item in dict.fromkeys((given, owner)):
+                for item in dict.fromkeys((given, files[at].owners.get(given, given))):
                     if item in files[at].items and (name in names or own):
                         yield at, item
 
@@ -104,12 +102,12 @@ def contract(crate, named):
     sys.exit(f"no public function or trait {crate}::{named}")
 
 
-def reached(texts, files, by_field=True):
+def reached(texts, files):
     """The items that these texts reach, through all that they cite: the nearest first."""
-    found = dict.fromkeys(item for text, names in texts for item in cited(text, names, files, by_field=by_field))
+    found = dict.fromkeys(item for text, names in texts for item in cited(text, names, files))
     left = list(found)
     for module, item in left:
-        for other in cited("\n".join(files[module].items[item]), files[module].imports, files, module, by_field):
+        for other in cited("\n".join(files[module].items[item]), files[module].imports, files, module):
             if other not in found:
                 found[other] = None
                 left.append(other)
@@ -123,9 +121,8 @@ def texts_of(call):
 
 
 def reached_by(call, files):
-    """The items that a call's contract reaches, with those of the host that it is for. A record is read where a type names
-    it: the name of a field does not say of which record it is."""
-    return reached(texts_of(call), files, by_field=False)
+    """The items that a call's contract reaches, with those of the host that it is for."""
+    return reached(texts_of(call), files)
 
 
 def misplaced(files):

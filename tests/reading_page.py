@@ -232,7 +232,7 @@ class Page:
         self.items = reading.reached_by(call, self.files)
         self.laws = list(self.laws_of())
         known = {*self.items}
-        of_laws = reading.reached([law[1:3] for law in self.laws], self.files, by_field=False)
+        of_laws = reading.reached([law[1:3] for law in self.laws], self.files)
         self.law_items = [it for it in of_laws if it not in known]
         self.places = {it: f"d{at}" for at, it in enumerate([*self.items, *self.law_items])}
         self.kit = self.reach.of_kit(self.texts) if whole and self.reach.kit else []

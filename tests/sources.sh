@@ -175,7 +175,7 @@ compare 10cd5b39cfdf89c939a2f8bba840c7f608433a105dd98231b48621fce5838759 crates/
 # Of the heap neither: that it is asked for what a clause says, once, and that want of memory is reported where the heap
 # refused and nowhere else. So the files in which the heap is the source of memory are compared whole, too.
 compare 50c5f6a67a99faf204f64f79e456976cf61323cfd5b4110226e0c64b0bef41a0 crates/argon/src/room.rt
-compare 501e2e952db87c24cf27d98aaef21c6cd6b6a4a262aabc7a57ddd20416df5ce1 crates/argon2_command/src/bytes.rt
+compare d18f42d50d03421d9b23cd0e56050613778ec6371eddee7887e272ade6f69bdc crates/argon2_command/src/bytes.rt
 compare 9d0d777a3f4d40489f2629d8846f725c8c91973ef6e18848af4e522d3231f10f crates/argon2_command/src/line.rt
 compare 8008e33ad9d3744cd3e4c7ba9d35f54f4baa48b8bd09fdfa8e6c04385ca6f382 crates/argon2_command/src/room.rt
 compare abee929f8cb1fdbc22d7ea51528c5888139227b456ce7563b059c7b4426edff6 crates/argon_text/src/room.rt

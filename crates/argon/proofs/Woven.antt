@@ -16,8 +16,8 @@ use Rattle.argon.specs.Parameters.{Parameters, block_count, lane_len, segment_le
 use Rattle.argon.specs.Inside.Segment.{IsInMatrix, IsSegmentOf, column_number}
 use Rattle.argon.specs.declared.segment.Segment.{Segment}
 use Rattle.argon.specs.Weaving.{IsWeaving, HasNoneLeft, Weaving, after_step, next_column, next_number, weaving_from, with_next_block}
-use Rattle.argon.specs.Woven.{AreLeft, IsWovenFrom, block_where_left, blocks_where_left, first_column, is_made, with_next_slice, woven}
-use Rattle.argon.specs.Inside.NextSlice.{IsNextSlice}
+use Rattle.argon.specs.Woven.{IsWovenFrom, block_where_left, blocks_where_left, first_column, is_made, with_next_slice, woven}
+use Rattle.argon.specs.Inside.NextSlice.{AreLeft, IsNextSlice}
 use Rattle.argon.proofs.Buffer.{lanes_apart, place-lt}
 use Rattle.argon.proofs.Progress.{first_index-le, next_is}
 use Rattle.argon.proofs.Slices.{range_long}

@@ -1,11 +1,11 @@
 -- What lanes have made of a matrix in its next slice (RFC 9106, 3.4): it follows from the matrix before the slice and
 -- from how many blocks of it each lane has left, and not from the order in which the lanes went on.
-use Rattle.std.specs.Prelude.{◌≡◌, ℕ, ◌+◌, ◌*◌, ◌/◌, ◌%◌, ◌<◌, ◌≤◌, Bool, ◌&&◌, nat_le, nat_lt, List, [], get_or, length, map, replicate, slice_index, if◌then◌else◌}
+use Rattle.std.specs.Prelude.{◌≡◌, ℕ, ◌+◌, ◌*◌, ◌/◌, ◌%◌, Bool, ◌&&◌, nat_le, nat_lt, List, [], get_or, length, map, replicate, if◌then◌else◌}
 use Rattle.std.specs.List.{range_with_len}
 use Rattle.argon.specs.Argon2.{matrix_block}
-use Rattle.argon.specs.Counts.{blocks_of_segment, first_index}
+use Rattle.argon.specs.Counts.{first_index}
 use Rattle.argon.specs.Filling.{Filling}
-use Rattle.argon.specs.Parameters.{Parameters, lane_len, segment_len}
+use Rattle.argon.specs.Parameters.{lane_len, segment_len}
 use Rattle.argon.specs.Weaving.{Weaving, next_column}
 
 -- the first column of the next slice that is made from other blocks
@@ -47,8 +47,3 @@ with_next_slice matrix = record matrix {
   slices_made = matrix.slices_made + 1;
   blocks = blocks_where_left matrix (replicate matrix.parameters.lanes 0);
 }
-
--- as many blocks as each lane has left can be left of a segment
-pub record AreLeft (parameters : Parameters) (pass slice : ℕ) (left : List ℕ) : Type 0 where
-  pub lanes : length left ≡ parameters.lanes
-  pub few : (lane : ℕ) → lane < parameters.lanes → slice_index left lane ≤ blocks_of_segment parameters pass slice

@@ -7,8 +7,8 @@ ghost use Rattle.argon.specs.Filling.{Filling};
 ghost use Rattle.argon.specs.Parameters.{Parameters, block_count};
 ghost use Rattle.argon.specs.Reference.{HasAddresses, address_block};
 ghost use Rattle.argon.specs.Inside.Segment.{IsInMatrix, IsSegmentOf, column_number, index_after_parts};
-ghost use Rattle.argon.specs.Woven.{AreLeft, blocks_where_left, with_next_slice};
-ghost use Rattle.argon.specs.Inside.NextSlice.{IsNextSlice};
+ghost use Rattle.argon.specs.Woven.{blocks_where_left, with_next_slice};
+ghost use Rattle.argon.specs.Inside.NextSlice.{AreLeft, IsNextSlice};
 
 use crate::addresses::{prepare_addresses, renew_addresses};
 use crate::block::Block;

@@ -28,14 +28,14 @@ impl Bytes {
     }
 
     /// The bytes.
-    pub fn as_slice(&self) -> &[u8]
+    pub(crate) fn as_slice(&self) -> &[u8]
         ensures value { result.now ≡ self.now.list.items }
     {
         self.list.as_slice()
     }
 
     /// The bytes, to be written: as many as before.
-    pub fn as_mut_slice(&mut self) -> &mut [u8]
+    pub(crate) fn as_mut_slice(&mut self) -> &mut [u8]
         ensures* writes_back { sem 𝓛 (LendsBytes self.entry result) }
         ensures value { result.now ≡ self.old.list.items }
         ensures len { length result.now ≡ vec_len self.old.list }

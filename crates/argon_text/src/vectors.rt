@@ -5,6 +5,7 @@ ghost use Rattle.argon_text.specs.Base64.{base64_bytes, is_base64};
 ghost use Rattle.argon_text.specs.EncodedText.{encoded_text, short_text};
 ghost use Rattle.argon_text.specs.Grammar.{HasFields, value_of_fields};
 ghost use Rattle.argon_text.specs.Settings.{first_out, range_fault, settings_of};
+ghost use Rattle.argon_text.specs.Value.{are_in_range, is_in_range};
 ghost use Rattle.argon_text.specs.Verifying.{keyed_fault, keyed_tag, tag_of_password, verify_fault};
 ghost use Rattle.argon_text.specs.Vectors.{known_fields, known_text, known_value, old_short_fields, old_short_text, old_text, old_value};
 ghost use Rattle.argon.specs.declared.kind.Kind.TheVariants.{D};
@@ -102,6 +103,37 @@ fn tag_with_a_secret()
           secret = codes "k";
           associated = codes "x";
         }) ≡ tag → keyed_tag known_value (codes "password") (codes "k") (codes "x") ≡ tag }
+{}
+
+// RFC 9106, 3.1: the ends of each range, and then one number beyond an end, where all else is in range. The ends of salt and
+// tag but the least tag are own, and so is version 0x10, as docs/FORMATS.md has them.
+fn ends_of_ranges()
+    ensures least { are_in_range 0x13 8 1 1 8 4 ≡ true }
+    ensures greatest { are_in_range 0x10 0xFFFF_FFFF 0xFFFF_FFFF 0xFF_FFFF 255 4096 ≡ true }
+    ensures version_between { are_in_range 0x12 8 1 1 8 4 ≡ false }
+    ensures later_version { are_in_range 0x14 8 1 1 8 4 ≡ false }
+    ensures no_passes { are_in_range 0x13 8 0 1 8 4 ≡ false }
+    ensures many_passes { are_in_range 0x13 8 0x1_0000_0000 1 8 4 ≡ false }
+    ensures no_lanes { are_in_range 0x13 8 1 0 8 4 ≡ false }
+    ensures many_lanes { are_in_range 0x13 0x800_0000 1 0x100_0000 8 4 ≡ false }
+    ensures little_memory { are_in_range 0x13 15 1 2 8 4 ≡ false }
+    ensures much_memory { are_in_range 0x13 0x1_0000_0000 1 1 8 4 ≡ false }
+    ensures short_salt { are_in_range 0x13 8 1 1 7 4 ≡ false }
+    ensures long_salt { are_in_range 0x13 8 1 1 256 4 ≡ false }
+    ensures short_tag { are_in_range 0x13 8 1 1 8 3 ≡ false }
+    ensures long_tag { are_in_range 0x13 8 1 1 8 4097 ≡ false }
+{}
+
+// The reference program makes both texts, so what they say is in range; and so are two passes with the memory of one lane, and
+// a tag that is shorter than the salt. The known value has the least memory of a lane, and the least salt.
+fn values_in_range()
+    ensures known { is_in_range known_value ≡ true }
+    ensures old { is_in_range old_value ≡ true }
+    ensures passes { is_in_range (record known_value { passes = 2 }) ≡ true }
+    ensures tag { is_in_range (record known_value { tag = codes "4321" }) ≡ true }
+    ensures version { is_in_range (record known_value { version = 0x12 }) ≡ false }
+    ensures memory { is_in_range (record known_value { memory = 7 }) ≡ false }
+    ensures salt { is_in_range (record known_value { salt = codes "omesalt" }) ≡ false }
 {}
 
 // What is out of range, the first of several (RFC 9106, 3.1: each of these numbers is the first beyond an end of its range).

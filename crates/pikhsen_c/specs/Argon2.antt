@@ -1,5 +1,5 @@
 -- What a caller gives to the functions for Argon2, and what they answer.
-use Rattle.std.specs.Prelude.{◌≡◌, ◌==◌, ◌||◌, ◌⊎◌, ℕ, not, nat_lt, nat_le, List, [], length, replicate, Result, Ok, Err, Option, Some, None, if◌then◌else◌}
+use Rattle.std.specs.Prelude.{◌≡◌, ◌==◌, ◌||◌, ◌⊎◌, ℕ, not, nat_lt, nat_le, List, [], length, replicate, Result, Ok, Err, Option, None, if◌then◌else◌}
 use Rattle.argon.specs.Argon2.{argon2_tag}
 use Rattle.argon.specs.Parameters.{Inputs, Parameters}
 use Rattle.argon.specs.Range.{admission, checked_parameters, is_version}
@@ -11,7 +11,6 @@ use Rattle.argon_text.specs.Grammar.{HasNumbers}
 use Rattle.argon_text.specs.Value.{IsValue, Value}
 use Rattle.argon_text.specs.Verifying.{keyed_fault, keyed_tag}
 use Rattle.argon_text.specs.declared.fault.VerifyFault.{VerifyFault}
-use Rattle.argon_text.specs.declared.fault.VerifyFault.TheVariants.{PasswordLength, InputLength, MemoryLimit, WorkLimit}
 use Rattle.pikhsen_c.specs.Status.{first_told, long_input, no_kind, no_version, params_number, wrong_buffer}
 
 -- the parameters of these numbers (RFC 9106, 3.1)
@@ -119,15 +118,6 @@ encoded_keyed_status parameters salt secret_len associated_len max_kib max_ops o
     (room_status (length (text_of_zeros parameters salt)) out_len)
 
 -- ---- the test of a password
-
--- where the number is that of a fault which comes before memory is asked for, it is the first that holds; where it is
--- that of refused memory, none of these holds
-pub record IsTold (status : ℕ) (first : Option VerifyFault) : Type 0 where
-  pub password_len : status ≡ 6 → first ≡ Some PasswordLength
-  pub input_len : status ≡ 12 → first ≡ Some InputLength
-  pub memory_limit : status ≡ 7 → first ≡ Some MemoryLimit
-  pub work_limit : status ≡ 8 → first ≡ Some WorkLimit
-  pub memory : status ≡ 9 → first ≡ None
 
 -- the text is that of a value within the limits, and the password gives the value's tag, with a secret value K and
 -- associated data X (3.1)

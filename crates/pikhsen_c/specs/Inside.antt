@@ -2,3 +2,4 @@
 pub mod Numbers
 pub mod Requests
 pub mod Settings
+pub mod Verifying

@@ -5,8 +5,9 @@ ghost use Rattle.argon_text.specs.Grammar.{HasNumbers, IsText, IsTextInRange};
 ghost use Rattle.argon_text.specs.Value.{Value};
 ghost use Rattle.argon_text.specs.Verifying.{keyed_fault, keyed_tag};
 ghost use Rattle.argon_text.specs.View.{value_of};
-ghost use Rattle.pikhsen_c.specs.Argon2.{HasKeyedPassword, HasOtherKeyedPassword, HasOtherPassword, HasPassword, IsJudged, IsKeyedJudged, IsTold, MayLackKeyedMemory, MayLackMemory};
+ghost use Rattle.pikhsen_c.specs.Argon2.{HasKeyedPassword, HasOtherKeyedPassword, HasOtherPassword, HasPassword, IsJudged, IsKeyedJudged, MayLackKeyedMemory, MayLackMemory};
 ghost use Rattle.pikhsen_c.specs.Inside.Requests.{had_memory};
+ghost use Rattle.pikhsen_c.specs.Inside.Verifying.{IsTold};
 ghost use Rattle.pikhsen_c.specs.Status.{long_input, mismatch, not_encoded, out_of_memory, out_of_range};
 
 use crate::burning::burn;

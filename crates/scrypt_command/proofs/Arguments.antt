@@ -4,7 +4,8 @@ use Rattle.clap.specs.Words.{AddsArg, AddsSubcommand, App, Rule, app_of, rule_of
 use Rattle.clap.specs.declared.builder.arg.Arg.{Arg}
 use Rattle.clap.specs.declared.builder.command.Command.{Command}
 use Rattle.clap.specs.declared.builder.command.Command.TheViews.{out-Command as fields_of}
-use Rattle.scrypt_command.specs.CommandLine.{Extends, IsCommand}
+use Rattle.scrypt_command.specs.CommandLine.{IsCommand}
+use Rattle.scrypt_command.specs.Inside.CommandLine.{Extends}
 
 or_false : (b : Bool) → b || false ≡ b
 or_false true = refl

@@ -50,8 +50,3 @@ scrypt_app = record named_app { top = record (named_app.top) { no_binary_name = 
 pub record IsCommand (app : App) (c : Command) : Type 0 where
   pub shape : app_of c ≡ app
   pub local : (fields_of c).has_globals ≡ false
-
--- `new` is `old` with one argument more
-pub record Extends (old : Command) (rule : Rule) (new : Command) : Type 0 where
-  pub shape : app_of new ≡ with_rule (app_of old) rule
-  pub local : (fields_of new).has_globals ≡ (fields_of old).has_globals

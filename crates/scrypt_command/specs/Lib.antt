@@ -5,3 +5,4 @@ pub mod Request
 pub mod Vectors
 pub mod Run
 pub mod Laws
+pub mod Inside

@@ -3,7 +3,8 @@
 ghost use Rattle.std.specs.Prelude.{◌≡◌, IfOk, false, fold};
 ghost use Rattle.clap.specs.declared.builder.command.Command.TheViews.{out-Command as fields_of};
 ghost use Rattle.clap.specs.Words.{App, app_of, new_rule, rule_of, with_rule, with_subcommand};
-ghost use Rattle.scrypt_command.specs.CommandLine.{Extends, IsCommand, common_rules, dec_app, enc_app, info_app, long_option, named_app, scrypt_app, short_option, stdin_flag};
+ghost use Rattle.scrypt_command.specs.CommandLine.{IsCommand, common_rules, dec_app, enc_app, info_app, long_option, named_app, scrypt_app, short_option, stdin_flag};
+ghost use Rattle.scrypt_command.specs.Inside.CommandLine.{Extends};
 
 use clap::{Arg, ArgAction, Command};
 use std::alloc::{AllocError, Global};

@@ -3,8 +3,8 @@ use Rattle.std.specs.Prelude.{max}
 use Rattle.argon.specs.Counts.{address_count, address_work, blocks_of_segment, first_index}
 use Rattle.argon.specs.Filling.{Filling}
 use Rattle.argon.specs.Reference.{HasAddresses}
-use Rattle.argon.specs.Woven.{AreLeft, blocks_where_left}
-use Rattle.argon.specs.Inside.NextSlice.{IsNextSlice}
+use Rattle.argon.specs.Woven.{blocks_where_left}
+use Rattle.argon.specs.Inside.NextSlice.{AreLeft, IsNextSlice}
 use Rattle.argon.proofs.segment.fill_segment.Given as goal
 
 abbrev pub invariant-loop-index : goal.invariant-loop-index
