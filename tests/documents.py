@@ -146,7 +146,7 @@ less.sort(key=float)
 python = {it: sorted(f"{ratio:.2f}" for work, ratio in PYTHON if work.startswith(it)) for it in ("Argon2", "scrypt")}
 SENTENCES = [
     ("README.md", f"hashes {hashes[0]} to {hashes[-1]}, keys {keys[0]} to {keys[-1]}, files {files[0]} to {files[-1]}"),
-    ("README.md", f"by the clock, `-p 4` | 1, by threads | {of_threads[0]} to {of_threads[1]} |"),
+    ("README.md", f"hashes from 4 MiB on, `-p 4` | 1 (threads) | {of_threads[0]} to {of_threads[1]} |"),
     ("README.md", f"SHA instructions | 1 | {slower} |"),
     ("README.md", f"with `--keep 16`: {KEPT['20', '16'][0]:.0f} MiB, and "
                   f"{KEPT['20', '16'][1] / KEPT['20', '1'][1]:.1f} times the time"),
