@@ -1,6 +1,6 @@
 #!/usr/bin/env python3
 """Tests the records of wrong bodies and of wrong definitions: which keys change with which text, in a copy of the crate
-macs, and that turns are even.
+macs, that turns are even, and that a body which the types refuse is tried alone, and for its own line.
 """
 import pathlib
 import shutil
@@ -12,7 +12,7 @@ import record
 import turns
 from checking import Checks
 from definitions import Definitions, WrongDefinition
-from edits import TOP, Edit
+from edits import TOP, Edit, in_groups
 from keys import Tree
 
 CRATE = "macs"
@@ -107,6 +107,19 @@ def turns_are_even(checks):
     checks.that("turns: a commit is one of them", turns.turn("e44a48b0") in range(turns.TURNS), True)
 
 
+def types_refuse_alone(checks):
+    edits = [Edit(path) for crate in record.below() for path in record.edits_of(crate, record.BODIES)]
+    named = [it for it in edits if it.types]
+    groups = [group for group, _ in in_groups(edits, 9) if any(it.types for it in group)]
+    checks.that("types: some name the error that refuses them", bool(named), True)
+    checks.that("types: each is tried alone", groups, [[it] for it in named])
+    for edit in named:
+        file, _, new = edit.pairs[0]
+        lines = edit.texts[file].split("\n")
+        puts = [at for at in range(len(lines)) if edit.puts(file, at)]
+        checks.that(f"types: {edit.name} has the error in its own line", [lines[it] for it in puts], [new])
+
+
 def main():
     checks = Checks("none")
     with tempfile.TemporaryDirectory() as room:
@@ -114,6 +127,7 @@ def main():
         keys_change(checks, folder)
         keys_of_definitions_change(checks, folder)
     turns_are_even(checks)
+    types_refuse_alone(checks)
     checks.end()
 
 
