@@ -36,6 +36,8 @@ STANDARD = re.compile(r"(?m)^ *(?:pub |ghost )?use (?:Rattle\.(?:std|core)\.spec
 ALIASES = re.compile(r"(?m)^ *(?:pub |ghost )?use Rattle\.([\w.]+?)\.\{([^}]* as [^}]*)\}")
 ALIASED = re.compile(r"(?m)^ *(?:pub |ghost )?use Rattle\.([\w.]+) as (\w+)")
 KIT = "Definitions of the toolchain's libraries"
+# Where no standard has a rule, code that is read with one.
+CODE = {"crypto_aesctr.c": "Tarsnap's scrypt", "reference implementation": "Argon2 (run.c, encoding.c; version 0x10)"}
 SIGNED = "read and found right by: ____________________________ date: ______________"
 
 NOTATION = [
@@ -60,10 +62,10 @@ NOTATION = [
     ("let x = e in .., let x : A = e in ..", "x stands for e"),
     ("[], x ∷ xs", "the empty list, and the list of x and then the items of xs. (a, b, c) is a tuple with the parts .0, .1 and .2"),
     ("f x ∷ a ++ b, j / 2 ^ 32 % n", "what belongs together first: a field, then a call, then ^, then * / %, then ∷, then + - ++, "
-     "then ≡ ≤ < and the like, then × and →. So the first is ((f x) ∷ a) ++ b, and the second (j / (2 ^ 32)) % n: of those that "
+     "then ≡ ≤ < and the like, then &&, ||, ×, ⊎ and →, and λ and (x : A) × reach as far to the right as they can. So the first is ((f x) ∷ a) ++ b, and the second (j / (2 ^ 32)) % n: of those that "
      "stand alike the left one comes first, but for ^ ∷ × and →. 0x5C is 92"),
     ("do x ← e; .. on lines", "x is the value of e; where e is a refusal, that is the whole answer. So the first refusal in the "
-     "order of the lines counts"),
+     "order of the lines counts; the last line is the answer"),
     ("refusal.Usage", "a case of a type of the sources, for which the name before the point stands. In the text below most names "
      "are links to what they mean"),
     ("-- .. or // ..", "a comment"),
@@ -71,7 +73,8 @@ NOTATION = [
      "the trait Host it takes a value, one that is lent to be read, one that is lent to be changed, and gives back an R. u8, "
      "u32, u64 and usize are numbers below 2^8, 2^32, 2^64 and 2^64; [u8] is a list of bytes, and [u8; 32] one of 32; str and "
      "String are texts, Global is the heap, and Self the type that has the trait; () is nothing, and 'a and '_ only say how long "
-     "something is lent. Contracts see a number as ℕ, and a text as its bytes, which string_bytes gives of a String"),
+     "something is lent. HostFault is the one fault of a host. Contracts see a number as ℕ, and a text as its bytes, which "
+     "string_bytes gives of a String"),
     ("trait T, ghost NAME", "what each type that has the trait promises, call by call; what contracts see of it, which is not "
      "there when the program runs"),
     ("requires NAME, and below it P", "what a caller has to see to: P holds when the call begins"),
@@ -80,6 +83,12 @@ NOTATION = [
      "changed, as it was at the beginning and as it is at the end; an argument as it came"),
     ("H.tells, H.seen host.old", "what a host of the kind H lets contracts see: see the trait among the contracts"),
 ]
+
+ON_HOSTS = """<p>The built programs run over a host of the crate <code>tools</code>, <code>SystemHost</code>, which tells what
+the system below it tells: the contract of <code>run</code> of their crates says the clauses above of every system that tells its
+bytes. Of Linux no contract knows a byte, so that it is such a system is trusted and tested. Contracts do not see the heap: nothing
+here promises that a run does not end with the refusal of memory, and nothing that salts cannot be guessed.</p>
+"""
 
 STYLE = """
 :root{color-scheme:light dark;--page:#fff;--text:#1f2328;--soft:#59636e;--line:#d1d9e0;--box:#f6f8fa;--link:#0550ae}
@@ -419,6 +428,7 @@ class Page:
         names = [call] + ["Host (the trait)"] * (len(self.texts) - 1)
         for name, (text, imports) in zip(names, self.texts):
             contracts += self.function(name, text, imports)
+        contracts += ON_HOSTS if len(self.texts) > 1 else ""
         self.section(f"The contract of {call}", contracts, "".join(text for text, _ in self.texts))
         notation = "<p>Definitions are written in antt, the language of the toolchain's proofs. They are functions on lists of " \
                    "numbers, and statements; nothing of them is run by the program.</p>" + \
@@ -460,6 +470,7 @@ class Page:
         said = " ".join(filter(None, (self.sources.get(it) for it in self.items)))
         found = sorted({*re.findall(r"RFC \d+|FIPS \d+|SP \d+-\w+|\bFORMAT\b|Salsa20 specification", said)})
         found = [it.replace("FORMAT", "FORMAT of Tarsnap's scrypt (version 0)") for it in found]
+        found += [f"{name} of {whose}" for name, whose in CODE.items() if name in said]
         found += ["FIPS 180-4 (SHA-256)"] if "sha256" in {*self.kit_words()} else []
         return ", ".join(found[:-1]) + f" and {found[-1]}" if len(found) > 1 else "".join(found) or "its own comments"
 
@@ -473,8 +484,9 @@ class Page:
         """What a reader has to read besides this page, if it has no text of the toolchain's."""
         if self.whole or not any(title == KIT for title, _, _ in self.sections):
             return ""
-        return f"<p>The section “{KIT}” names what the call reaches of these; <code>make reading CALL={self.call}</code> prints " \
-               "their text too.</p>"
+        lines = sum(row[2] for row in reading_kit.kept() if row[0] == self.call)
+        return f"<p>Besides it the call rests on {lines} lines of these libraries, which the section “{KIT}” names, and which a " \
+               f"signature on this page does not cover; <code>make reading CALL={self.call}</code> prints their text too.</p>"
 
     def whole_page(self, call):
         digest = hashlib.sha256("".join(text for _, _, text in self.sections).encode()).hexdigest()[:16]
@@ -482,11 +494,11 @@ class Page:
         modules = {module for module, _ in self.items}
         lines = sum(len(self.files[module].items[item]) for module, item in self.items)
         title, against = f"What {call} is proved to do", self.standards()
-        about = f"<p>Pikhsen {version}. This page has all that a reader has to find right to believe the call " \
-                f"<code>{self.call}</code>: its contract, and the {len(self.items)} definitions in {len(modules)} files " \
-                f"({lines} lines) that the contract reaches, each after the first that cites it. That the program meets the " \
-                f"contract is proved by the toolchain, and needs no reader. Read it against {against}, whose sections stand in " \
-                f"brackets{self.own_pages()}.</p>{self.left_out()}" \
+        about = f"<p>Pikhsen {version}. This page has all of this repository's text that a reader has to find right to believe " \
+                f"the call <code>{self.call}</code>: its contract, and the {len(self.items)} definitions in {len(modules)} files " \
+                f"({lines} lines) that the contract reaches, in the order in which the files are first cited. That the program " \
+                f"meets the contract is proved by the toolchain, and needs no reader. Read it against {against}, whose sections " \
+                f"stand in brackets{self.own_pages()}.</p>{self.left_out()}" \
                 f"<p class=s>Made by tests/reading_page.py. Sum of all sections: {digest}. A signature stands as long as the sum " \
                 "of its section does.</p>"
         listed_ones = "".join(f"<li><a href=#s{at}>{escape(name, False)}</a></li>\n"

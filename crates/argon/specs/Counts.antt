@@ -1,5 +1,5 @@
 -- How many block functions, that is, calls of G, a hash takes (RFC 9106, 3.2 and 3.4.1.2): by the
--- parameters alone.
+-- parameters alone. Address blocks count as 3.4.1.2 makes them, also where no block of the segment needs one.
 use Rattle.std.specs.Prelude.{ℕ, ◌+◌, ◌-◌, ◌*◌, ◌/◌, ◌%◌, Bool, true, false, ◌&&◌, nat_eq, nat_lt, if◌then◌else◌}
 use Rattle.argon.specs.Parameters.{Parameters, segment_len, block_count}
 use Rattle.argon.specs.Reference.{is_independent}

@@ -1,5 +1,5 @@
 -- The ranges of the parameters (RFC 9106, 3.1). The upper ends of tag, salt and password are narrower here, and so
--- are two lower ones: a salt has at least 8 bytes and a password 1, where the RFC allows none at all.
+-- are two lower ones: a salt has at least 8 bytes and a password 1, where the RFC allows the empty one.
 use Rattle.std.specs.Prelude.{◌≡◌, ℕ, ◌*◌, ◌==◌, ◌<◌, ◌≤◌, ◌^◌, Bool, true, ◌&&◌, ◌||◌, nat_le, Result, Ok, Err, ⊤, if◌then◌else◌}
 use Rattle.argon.specs.Counts.{work}
 use Rattle.argon.specs.Parameters.{Parameters, block_count}

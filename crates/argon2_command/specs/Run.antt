@@ -30,7 +30,8 @@ IsDue r words before after = (argon2_output words before ≡ Err r) × IsEarly r
 abbrev pub FailsPassword : Argon2Refusal → List Text → Seen → Seen → Type 0
 FailsPassword r words before after = (r ≡ refusal.PasswordFault) × IsOk (argon2_request words) × (after ≡ password_asked words before)
 
--- no refusal was due, and a growth of memory was refused before the output was asked for
+-- the refusal is that of memory, where no other was due, and before the output was asked for; contracts do not see the
+-- heap, so nothing here says that it refused
 abbrev pub LacksMemory : Argon2Refusal → List Text → Seen → Seen → Type 0
 LacksMemory r words before after = (r ≡ refusal.OutOfMemory) × IsOk (argon2_output words before) × (after ≡ password_asked words before)
 

@@ -120,7 +120,7 @@ pub(super) fn attempt<R: Room, H: Host>(
 /// refusal, which says its one line ([`Argon2Refusal`] has them all); a line that cannot be said is
 /// passed over. The words, the password, the parameters and the limits are tested before any growth
 /// of memory, all memory is taken before the hash, and the whole output stands in memory before
-/// standard output is opened.
+/// standard output is opened: the contract of `attempt`, which does the run, says so.
 pub fn argon2<H: Host>(alloc: Global, words: &[String], host: &mut H) -> u8
     requires room { AreBelow (2 ^ 63) (H.faults host.old) }
     requires fresh { IsTrue H.tells → IsFresh (H.seen host.old) }

@@ -13,7 +13,8 @@ is_number_word word = nat_lt 0 (length word) && (nat_le (length word) 20 && list
 abbrev pub number_of : Text → Option ℕ
 number_of word = if is_number_word word then Some (digits_value 10 word) else None
 
--- the number of a number word that is at least `least` and below `end`: with 1 and 32, as for argon2's -m, 1 to 31
+-- the number of a number word that is at least `least` and below `end`: with 1 and 32, the powers of two that a word
+-- may name, it is 1 to 31
 abbrev pub number_in : ℕ → ℕ → Text → Option ℕ
 number_in least end text =
     option_and_then (λ n. if nat_le least n && nat_lt n end then Some n else None) (number_of text)

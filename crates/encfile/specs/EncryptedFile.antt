@@ -41,7 +41,7 @@ unfoldable pub encrypted_file : List ℕ → List ℕ → Parameters → List �
 encrypted_file passphrase salt costs text = body passphrase salt costs text ++ final_code passphrase salt costs text
 
 -- the file is that of the text under the passphrase, with some salt of 32 bytes and some costs in range, and the text
--- has fewer than 2^60 bytes
+-- has fewer than 2^60 bytes, which is this project's bound
 pub record IsEncryptionOf (file passphrase text : List ℕ) : Type 0 where
   pub salt : List ℕ
   pub costs : Parameters

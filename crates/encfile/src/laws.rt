@@ -34,8 +34,8 @@ fn short_file_is_refused()
         → length file < 96 → front_refusal file allowed passphrase ≡ Some NotScryptData }
 {}
 
-// A file of 96 bytes or more is refused by what `Header::read`, `Sparse::new`, `Sparse::admitted` and
-// `Dec::open` answer of its first 96 bytes.
+// A file of 96 bytes or more is refused by the first that holds of its first 96 bytes: a fault of the header, of S, of
+// the limits, or a header's code that is not right.
 fn front_is_decided_by_calls()
     ensures decided { (file : List ℕ) (allowed : Allowance) (passphrase front : List ℕ)
         → 96 ≤ length file → front ≡ take 96 file

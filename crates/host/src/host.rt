@@ -29,7 +29,8 @@ pub enum Source<'a> {
 /// Contracts see whether the host tells its bytes (`tells`), its bytes, names and lines (`seen`),
 /// how often its calls have failed (`faults`), and which calls it grants (`grants`). A call that answers
 /// `Ok` changes no count, and of `seen` only what its clauses say; a call that answers `Err` raises its
-/// count by one and changes nothing else, but that an output, a secret source or a salt was asked for.
+/// count by one and changes nothing else, but that an output, a secret source or a salt was asked for, and
+/// that nothing is promised of what is granted after a pull or a push that failed.
 /// What is said of bytes, names and lines holds of a host that tells them; the counts, the bounds on
 /// lengths and what is granted hold of every host.
 ///

@@ -4,8 +4,8 @@ use Rattle.romix.specs.Costs.{Parameters}
 use Rattle.romix.specs.SparseCosts.{SparseFitsMemory, SparseParameters, cores_bound}
 use Rattle.romix.specs.declared.limits.Limits.{Limits}
 
--- limits of memory and work, and S, by which row i of V is kept where S divides i: a greater S takes less memory and
--- more work
+-- limits of memory and work, and S, the value of `--keep`, which changes no result (and is not the salt S of RFC
+-- 7914): row i of V is kept where S divides i, so a greater S takes less memory and more work
 pub record Allowance : Type 0 where
   pub limits : Limits
   pub keep : ℕ

@@ -7,9 +7,9 @@ pub record Parameters : Type 0 where
   pub r : ℕ
   pub p : ℕ
 
--- N is a power of two above 1, r and p are not 0, and r * p is below 2^30 (sections 2 and 6). That N is at most 2^63
--- is FORMAT's bound for scrypt's files, not the RFC's; the RFC's bound N < 2^(128 * r / 8) is left out, since FORMAT
--- has none
+-- N is a power of two above 1, r and p are not 0, and r * p is below 2^30, that is, p <= (2^32 - 1) * 32 / (128 * r)
+-- (sections 2 and 6). That N is at most 2^63 is FORMAT's bound for scrypt's files, not the RFC's; the RFC's bound
+-- N < 2^(128 * r / 8) is left out, since FORMAT has none (it matters for r from 1 to 3 alone)
 pub record IsInRange (c : Parameters) : Type 0 where
   pub log_n_low : 1 ≤ c.log_n
   pub log_n_high : c.log_n ≤ 63

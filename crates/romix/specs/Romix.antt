@@ -1,4 +1,5 @@
--- scryptROMix (RFC 7914, 5) on a row B, over words. There is no table: V and X are recursions.
+-- scryptROMix (RFC 7914, 5) on a row B, over words; a row is 2 * r blocks, 128 * r octets, here 32 * r words. There is
+-- no table: V and X are recursions.
 use Rattle.std.specs.Prelude.{ℕ, zero, suc, ◌-◌, ◌%◌, ◌^◌, List, length, drop}
 use Rattle.std.specs.Simd.Lanes.{number_l}
 use Rattle.four_words.specs.Words.{xored_words}

@@ -10,7 +10,7 @@ use Rattle.clap.specs.declared.builder.command.Command.TheViews.{out-Command as 
 abbrev pub long_option : Text → Rule
 long_option name = record (new_rule name) { long = Some name }
 
--- an option `-c VALUE`, under a name
+-- an option `-c VALUE`, under a name; c is the number of its character: 77 M, 80 P, 112 p, 114 r
 abbrev pub short_option : Text → ℕ → Rule
 short_option name c = record (new_rule name) { short = Some c }
 

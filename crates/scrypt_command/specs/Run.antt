@@ -16,8 +16,8 @@ pub record Succeeds (words : List Text) (before after : Seen) : Type 0 where
   pub asked : scrypt_request words ≡ Ok request
   pub succeeds : RequestSucceeds request before after
 
--- the run ended while its words were read, and nothing changed at the host: the words are refused; or a growth of
--- memory was refused, which may come of any words
+-- the run ended while its words were read, and nothing changed at the host: the words are refused; or the refusal is
+-- that of memory, which may come of any words: contracts do not see the heap, so nothing here says that it refused
 abbrev pub EndsReading : ScryptRefusal → List Text → Seen → Seen → Type 0
 EndsReading r words before after = ((scrypt_request words ≡ Err r) ⊎ (r ≡ refusal.OutOfMemory)) × (after ≡ before)
 

@@ -60,8 +60,9 @@ pub record DecryptSucceeds (task : Task) (before after : Seen) : Type 0 where
 
 -- `dec` ends with this refusal, by one of these rows: the first 96 bytes were not read, or their header or costs are
 -- refused; no passphrase; no memory; a wrong passphrase; no output; the passing of the text ended early, with no more
--- than 4,128 bytes of what was decided missing; all was released and is damaged. What stands before a `× (` holds for
--- all rows after it: header and costs are not refused, there is a passphrase, and it is the right one
+-- than 4,128 bytes of what was decided missing (a piece of 4,096 and a code of 32); all was released and is damaged.
+-- What stands before a `× (` holds for all rows after it: header and costs are not refused, there is a passphrase, and
+-- it is the right one
 abbrev pub DecryptRefused : ScryptRefusal → Task → Seen → Seen → Type 0
 DecryptRefused r task before after =
     FrontRefused r (limits_refusal_of task before) task.infile before after

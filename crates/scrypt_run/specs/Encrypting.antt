@@ -53,8 +53,8 @@ pub record EncryptSucceeds (asked : Encryption) (before after : Seen) : Type 0 w
 
 -- `enc` ends with this refusal, by one of these rows: the costs are refused; the input could not be opened; no
 -- passphrase; no salt; no memory; no output; the passing of the text ended early, with no more than 4,128 bytes of
--- what was decided missing. What stands before a `× (` holds for all rows after it: the costs are allowed, and there
--- is a passphrase
+-- what was decided missing (a piece of 4,096 and a code of 32). What stands before a `× (` holds for all rows after
+-- it: the costs are allowed, and there is a passphrase
 abbrev pub EncryptRefused : ScryptRefusal → Encryption → Seen → Seen → Type 0
 EncryptRefused r asked before after =
     ((option_map refusal_of (costs_refusal_of asked) ≡ Some r) × (after ≡ before))
