@@ -1,11 +1,20 @@
-//! Systems in memory that tests run over.
-ghost use Rattle.std.specs.Prelude.{IfOk};
+//! Systems in memory that tests run over. Where memory is refused they lack something, and the tests fail. Who makes
+//! one lets it go by `drop`: the end of a scope would let go of its parts one by one, in each proof anew.
 ghost use Rattle.tools.specs.World.{IsUnused};
 
 use crate::contents::{Contents, Identities};
 use crate::memory_system::MemorySystem;
-use host::HostFault;
 use std::alloc::Global;
+
+// These bytes.
+fn list(alloc: Global, bytes: &[u8]) -> Vec<u8> {
+    bytes.to_vec(alloc).unwrap_or(Vec::new(alloc))
+}
+
+// This text.
+fn text(alloc: Global, text: &str) -> String {
+    String::from_str(alloc, text).unwrap_or(String::new(alloc))
+}
 
 /// A system whose standard input gives these bytes. Both standard streams are these files.
 pub fn with_standard(
@@ -13,15 +22,12 @@ pub fn with_standard(
     bytes: &[u8],
     input: Identities,
     output: Identities,
-) -> Result<MemorySystem, HostFault>
-    ensures unused { IfOk result (λ s. IsUnused s.world) }
+) -> MemorySystem
+    ensures unused { IsUnused result.world }
 {
-    let Ok(stdin) = bytes.to_vec(alloc) else {
-        return Err(HostFault);
-    };
     let mut system = MemorySystem::new(alloc);
-    system.set_standard(Contents::new(stdin, input), output);
-    Ok(system)
+    system.set_standard(Contents::new(list(alloc, bytes), input), output);
+    system
 }
 
 /// Puts a file under a name.
@@ -31,34 +37,18 @@ pub fn put(
     name: &str,
     bytes: &[u8],
     identities: Identities,
-) -> Result<(), HostFault>
+)
     requires unused { IsUnused system.old.world }
     ensures unused { IsUnused system.new.world }
 {
-    let (Ok(name), Ok(bytes)) = (String::from_str(alloc, name), bytes.to_vec(alloc)) else {
-        return Err(HostFault);
-    };
-    match system.set_file(name, Contents::new(bytes, identities)) {
-        Ok(()) => Ok(()),
-        Err(_) => Err(HostFault),
-    }
+    let contents = Contents::new(list(alloc, bytes), identities);
+    let _ = system.set_file(text(alloc, name), contents);
 }
 
 /// Gives a variable a value.
-pub fn put_variable(
-    alloc: Global,
-    system: &mut MemorySystem,
-    name: &str,
-    bytes: &[u8],
-) -> Result<(), HostFault>
+pub fn put_variable(alloc: Global, system: &mut MemorySystem, name: &str, bytes: &[u8])
     requires unused { IsUnused system.old.world }
     ensures unused { IsUnused system.new.world }
 {
-    let (Ok(name), Ok(bytes)) = (String::from_str(alloc, name), bytes.to_vec(alloc)) else {
-        return Err(HostFault);
-    };
-    match system.set_variable(name, bytes) {
-        Ok(()) => Ok(()),
-        Err(_) => Err(HostFault),
-    }
+    let _ = system.set_variable(text(alloc, name), list(alloc, bytes));
 }

@@ -1,5 +1,4 @@
 //! Secrets and salts whose bytes come in pieces.
-ghost use Rattle.std.specs.Prelude.{IfOk};
 ghost use Rattle.tools.specs.World.{IsUnused};
 
 use super::*;
@@ -9,40 +8,47 @@ use crate::memory_system::MemorySystem;
 use std::alloc::Global;
 
 // A system where each source gives so many sevens, at most 40, two at a time.
-fn sevens(alloc: Global, count: usize) -> Result<MemorySystem, HostFault>
-    ensures unused { IfOk result (λ s. IsUnused s.world) }
+fn sevens(alloc: Global, count: usize) -> MemorySystem
+    ensures unused { IsUnused result.world }
 {
     let bytes = &[7; 40][..count.min(40)];
-    let mut system = with_standard(alloc, bytes, Identities::NONE, Identities::NONE)?;
-    put(alloc, &mut system, "/dev/urandom", bytes, Identities::NONE)?;
-    put_variable(alloc, &mut system, "name", bytes)?;
+    let mut system = with_standard(alloc, bytes, Identities::NONE, Identities::NONE);
+    put(alloc, &mut system, "/dev/urandom", bytes, Identities::NONE);
+    put_variable(alloc, &mut system, "name", bytes);
     system.set_sizes(2, 2);
-    Ok(system)
+    system
 }
 
-// Whether a secret with room for eight bytes has so many where so many sevens are, and ends with this byte.
-fn is_secret(alloc: Global, count: usize, source: Source<'_>, length: usize, last: u8) -> bool {
-    let Ok(mut system) = sevens(alloc, count) else {
-        return false;
-    };
-    let mut buf = [0; 8];
-    read_secret(&mut system, source, &mut buf) == Ok(length) && buf[7] == last
+// How many bytes a secret has with room for eight where so many sevens are, and the last.
+fn secret(alloc: Global, count: usize, source: Source<'_>) -> (Result<usize, HostFault>, u8) {
+    let (mut system, mut buf) = (sevens(alloc, count), [0; 8]);
+    let length = read_secret(&mut system, source, &mut buf);
+    drop(system);
+    (length, buf[7])
 }
+
+// Whether each source gives a secret of so many bytes where so many sevens are, which ends with this byte.
+fn are_secrets(alloc: Global, (count, length, last): (usize, usize, u8)) -> bool {
+    secret(alloc, count, Source::StdinOnce) == (Ok(length), last)
+        && secret(alloc, count, Source::File("/dev/urandom")) == (Ok(length), last)
+        && secret(alloc, count, Source::Env("name")) == (Ok(length), last)
+}
+
+static SECRETS: [(usize, usize, u8); 3] = [(0, 0, 0), (5, 5, 0), (9, 8, 7)];
 
 #[test]
 fn takes_secrets_in_pieces(rt: HostRuntime) {
-    let alloc = rt.alloc();
-    for (count, length, last) in [(0, 0, 0), (5, 5, 0), (9, 8, 7)] {
-        let is_so = is_secret(alloc, count, Source::StdinOnce, length, last)
-            && is_secret(alloc, count, Source::File("/dev/urandom"), length, last)
-            && is_secret(alloc, count, Source::Env("name"), length, last);
-        assert!(rt; is_so, "{count}");
+    for row in &SECRETS {
+        assert!(rt; are_secrets(rt.alloc(), *row), "{}", row.0);
     }
 }
 
 // Whether a secret is a fault in a system where nothing is, whose standard input is closed.
 fn is_fault(alloc: Global, source: Source<'_>) -> bool {
-    read_secret(&mut MemorySystem::new(alloc), source, &mut [0; 8]).is_err()
+    let mut system = MemorySystem::new(alloc);
+    let is_err = read_secret(&mut system, source, &mut [0; 8]).is_err();
+    drop(system);
+    is_err
 }
 
 #[test]
@@ -54,16 +60,17 @@ fn missing_secrets_are_faults(rt: HostRuntime) {
 
 // Whether a salt is taken where so many sevens are, whole or not at all.
 fn is_salt(alloc: Global, count: usize) -> bool {
-    let Ok(mut system) = sevens(alloc, count) else {
-        return false;
-    };
-    let mut salt = [0; 32];
-    read_salt(&mut system, &mut salt).is_ok() && salt == [7; 32]
+    let (mut system, mut salt) = (sevens(alloc, count), [0; 32]);
+    let is_ok = read_salt(&mut system, &mut salt).is_ok();
+    drop(system);
+    is_ok && salt == [7; 32]
 }
+
+static SALTS: [(usize, bool); 4] = [(0, false), (31, false), (32, true), (40, true)];
 
 #[test]
 fn takes_whole_salts(rt: HostRuntime) {
-    for (count, is_taken) in [(0, false), (31, false), (32, true), (40, true)] {
-        assert!(rt; is_salt(rt.alloc(), count) == is_taken, "{count}");
+    for (count, is_taken) in &SALTS {
+        assert!(rt; is_salt(rt.alloc(), *count) == *is_taken, "{count}");
     }
 }

@@ -1,5 +1,5 @@
 //! Which opened outputs are emptied, and which are faults.
-ghost use Rattle.std.specs.Prelude.{◌≡◌, None, IfOk};
+ghost use Rattle.std.specs.Prelude.{◌≡◌, None};
 ghost use Rattle.tools.specs.World.{IsUnused};
 
 use super::*;
@@ -35,8 +35,8 @@ struct Beside {
 }
 
 // A system with that input, and with the output under two names and as standard output.
-fn files(alloc: Global, beside: Beside) -> Result<MemorySystem, HostFault>
-    ensures unused { IfOk result (λ s. IsUnused s.world) }
+fn files(alloc: Global, beside: Beside) -> MemorySystem
+    ensures unused { IsUnused result.world }
 {
     let input = Identities {
         before: beside.before,
@@ -46,29 +46,10 @@ fn files(alloc: Global, beside: Beside) -> Result<MemorySystem, HostFault>
         before: None,
         after: beside.output,
     };
-    let mut system = with_standard(alloc, b"kept", input, output)?;
-    put(alloc, &mut system, "output", b"", output)?;
-    put(alloc, &mut system, "link", b"", output)?;
-    Ok(system)
-}
-
-// The same, with standard input opened as the input.
-fn with_input(alloc: Global, beside: Beside) -> Result<MemorySystem, HostFault>
-    ensures unasked { IfOk result (λ s. s.world.output_asked ≡ None) }
-{
-    let mut system = files(alloc, beside)?;
-    system.set_input(None)?;
-    system.open(Reading::Input, None)?;
-    Ok(system)
-}
-
-// The same, with standard input opened as a secret.
-fn with_secret(alloc: Global, beside: Beside) -> Result<MemorySystem, HostFault>
-    ensures unasked { IfOk result (λ s. s.world.output_asked ≡ None) }
-{
-    let mut system = files(alloc, beside)?;
-    system.open(Reading::Secret, None)?;
-    Ok(system)
+    let mut system = with_standard(alloc, b"kept", input, output);
+    put(alloc, &mut system, "output", b"", output);
+    put(alloc, &mut system, "link", b"", output);
+    system
 }
 
 // Whether an output of this name is opened, and whether it was emptied. The call that fails is counted from the
@@ -81,19 +62,37 @@ fn outcome(system: &mut MemorySystem, name: Option<&str>, failing: u64) -> (bool
     (is_opened, system.is_emptied())
 }
 
-const EMPTIED: (bool, bool) = (true, true);
+// Whether standard input is opened, an output then, and whether that was emptied.
+type Seen = (bool, bool, bool);
 
-const AS_IT_IS: (bool, bool) = (true, false);
+// What becomes of an output where standard input is opened as the input.
+fn beside_input(alloc: Global, beside: Beside, name: Option<&str>, failing: u64) -> Seen {
+    let mut system = files(alloc, beside);
+    let _ = system.set_input(None);
+    let is_read = system.open(Reading::Input, None).is_ok();
+    let (is_opened, is_emptied) = outcome(&mut system, name, failing);
+    drop(system);
+    (is_read, is_opened, is_emptied)
+}
 
-const REFUSED: (bool, bool) = (false, false);
+// The same where it is opened as a secret.
+fn beside_secret(alloc: Global, beside: Beside, name: Option<&str>) -> Seen {
+    let mut system = files(alloc, beside);
+    let is_read = system.open(Reading::Secret, None).is_ok();
+    let (is_opened, is_emptied) = outcome(&mut system, name, 0);
+    drop(system);
+    (is_read, is_opened, is_emptied)
+}
+
+const EMPTIED: Seen = (true, true, true);
+
+const AS_IT_IS: Seen = (true, true, false);
+
+const REFUSED: Seen = (true, false, false);
 
 // Whether this becomes of an output of this name beside the input, and beside the secret.
-fn becomes(alloc: Global, beside: Beside, name: Option<&str>, what: (bool, bool)) -> bool {
-    let (Ok(mut input), Ok(mut secret)) = (with_input(alloc, beside), with_secret(alloc, beside))
-    else {
-        return false;
-    };
-    outcome(&mut input, name, 0) == what && outcome(&mut secret, name, 0) == what
+fn becomes(alloc: Global, beside: Beside, name: Option<&str>, what: Seen) -> bool {
+    beside_input(alloc, beside, name, 0) == what && beside_secret(alloc, beside, name) == what
 }
 
 // What is read before the output is opened and then, the output, and what becomes of it under a name and as standard
@@ -102,8 +101,8 @@ type Row = (
     Option<FileIdentity>,
     Option<FileIdentity>,
     Option<FileIdentity>,
-    (bool, bool),
-    (bool, bool),
+    Seen,
+    Seen,
 );
 
 // A named output is emptied where it is a regular file, and standard output is not; what is read is refused. Either
@@ -119,45 +118,52 @@ static ROWS: [Row; 8] = [
     (THIS, THIS, None, AS_IT_IS, AS_IT_IS),
 ];
 
+// Whether that becomes of it.
+fn is_row(alloc: Global, (before, after, output, named, standard): Row) -> bool {
+    let beside = Beside {
+        before,
+        after,
+        output,
+    };
+    becomes(alloc, beside, Some("output"), named)
+        && becomes(alloc, beside, Some("link"), named)
+        && becomes(alloc, beside, Some("new"), EMPTIED)
+        && becomes(alloc, beside, None, standard)
+}
+
 #[test]
 fn files_that_are_read_stay(rt: HostRuntime) {
-    let alloc = rt.alloc();
-    for (before, after, output, named, standard) in &ROWS {
-        let beside = Beside {
-            before: *before,
-            after: *after,
-            output: *output,
-        };
-        let is_so = becomes(alloc, beside, Some("output"), *named)
-            && becomes(alloc, beside, Some("link"), *named)
-            && becomes(alloc, beside, Some("new"), EMPTIED)
-            && becomes(alloc, beside, None, *standard);
-        assert!(rt; is_so, "{before:?} {after:?}");
+    for row in &ROWS {
+        assert!(rt; is_row(rt.alloc(), *row), "{:?} {:?}", row.0, row.1);
     }
 }
 
-// Whether this becomes of an output beside another file, under a name and as standard output, where this call of the
-// system fails.
-fn becomes_at(alloc: Global, call: u64, named: (bool, bool), standard: (bool, bool)) -> bool {
-    let beside = Beside {
-        before: ANOTHER,
-        after: ANOTHER,
-        output: THIS,
-    };
-    let (Ok(mut first), Ok(mut second)) = (with_input(alloc, beside), with_input(alloc, beside))
-    else {
-        return false;
-    };
-    outcome(&mut first, Some("output"), call) == named
-        && outcome(&mut second, None, call) == standard
+// An output beside another file.
+const APART: Beside = Beside {
+    before: ANOTHER,
+    after: ANOTHER,
+    output: THIS,
+};
+
+// Whether this becomes of it under a name and as standard output where this call of the system fails.
+fn becomes_at(alloc: Global, (call, named, standard): (u64, Seen, Seen)) -> bool {
+    beside_input(alloc, APART, Some("output"), call) == named
+        && beside_input(alloc, APART, None, call) == standard
 }
 
 // An output is opened by five calls, and by four where it is not emptied.
+static FAILING: [(u64, Seen, Seen); 6] = [
+    (1, REFUSED, REFUSED),
+    (2, REFUSED, REFUSED),
+    (3, REFUSED, REFUSED),
+    (4, REFUSED, REFUSED),
+    (5, REFUSED, AS_IT_IS),
+    (6, EMPTIED, AS_IT_IS),
+];
+
 #[test]
 fn each_call_that_fails_is_a_fault(rt: HostRuntime) {
-    for call in 1..=4 {
-        assert!(rt; becomes_at(rt.alloc(), call, REFUSED, REFUSED), "{call}");
+    for row in &FAILING {
+        assert!(rt; becomes_at(rt.alloc(), *row), "{}", row.0);
     }
-    assert!(rt; becomes_at(rt.alloc(), 5, REFUSED, AS_IT_IS));
-    assert!(rt; becomes_at(rt.alloc(), 6, EMPTIED, AS_IT_IS));
 }

@@ -1,84 +1,26 @@
 //! Whole runs over a system in memory.
 mod real;
 
-ghost use Rattle.std.specs.Prelude.{IfOk};
-ghost use Rattle.tools.specs.World.{IsUnused};
-
 use super::*;
 use crate::contents::Identities;
 use crate::fixtures::{put, with_standard};
 use crate::memory_system::MemorySystem;
 use std::alloc::Global;
 
-// A system of which nothing was used, with five bytes of standard input, which are the input, and random bytes.
-fn five_bytes(alloc: Global) -> Result<MemorySystem, HostFault>
-    ensures unused { IfOk result (λ s. IsUnused s.world) }
-{
-    let mut system = with_standard(alloc, b"hello", Identities::NONE, Identities::NONE)?;
+// A run of which nothing was used, over five bytes of standard input, which are the input, and random bytes. This call
+// of its system fails.
+fn begun(alloc: Global, failing: u64) -> Run<MemorySystem> {
+    let mut system = with_standard(alloc, b"hello", Identities::NONE, Identities::NONE);
     put(
         alloc,
         &mut system,
         "/dev/urandom",
         &[7; 40],
         Identities::NONE,
-    )?;
-    system.set_input(None)?;
-    Ok(system)
-}
-
-// A run over that, of whose calls this one fails.
-fn begun(alloc: Global, failing: u64) -> Result<Run<MemorySystem>, HostFault> {
-    let mut system = five_bytes(alloc)?;
+    );
+    let _ = system.set_input(None);
     system.fail_at(failing);
-    Ok(Run::new(system))
-}
-
-// Opens the input, if it was not opened.
-fn open_input<S: System>(run: &mut Run<S>, name: Option<&str>) -> Result<(), HostFault> {
-    if run.input != InputStage::Unopened {
-        return Err(HostFault);
-    }
-    run.open_input(name)
-}
-
-// Opens an output, if none was asked for.
-fn open_output<S: System>(run: &mut Run<S>, name: Option<&str>) -> Result<(), HostFault> {
-    if run.output != OutputStage::Unasked {
-        return Err(HostFault);
-    }
-    run.open_output(name)
-}
-
-// Pulls at most so many bytes, up to four, if the input was opened.
-fn pull(run: &mut Run<MemorySystem>, most: usize) -> Result<usize, HostFault> {
-    if run.input == InputStage::Unopened {
-        return Err(HostFault);
-    }
-    run.pull(&mut [0; 4][..most.min(4)])
-}
-
-// Pushes bytes, if an output was opened.
-fn push(run: &mut Run<MemorySystem>, bytes: &[u8]) -> Result<usize, HostFault> {
-    if run.output != OutputStage::Opened {
-        return Err(HostFault);
-    }
-    run.push(bytes)
-}
-
-// Reads a secret, if none was asked for.
-fn secret<S: System>(run: &mut Run<S>, source: Source<'_>) -> Result<usize, HostFault> {
-    if run.asked.is_some() {
-        return Err(HostFault);
-    }
-    run.secret(source, &mut [0; 4])
-}
-
-// Takes a salt, if none was asked for.
-fn salt<S: System>(run: &mut Run<S>, out: &mut [u8; 32]) -> Result<(), HostFault> {
-    if run.salted {
-        return Err(HostFault);
-    }
-    run.salt(out)
+    Run::new(system)
 }
 
 // A dot for what is done, and else an F.
@@ -94,17 +36,59 @@ fn count(outcome: Result<usize, HostFault>) -> u8 {
     }
 }
 
+// Opens the input, if it was not opened.
+fn open_input<S: System>(run: &mut Run<S>, name: Option<&str>) -> u8 {
+    match run.input {
+        InputStage::Unopened => done(run.open_input(name)),
+        _ => b'F',
+    }
+}
+
+// Opens an output, if none was asked for.
+fn open_output<S: System>(run: &mut Run<S>, name: Option<&str>) -> u8 {
+    match run.output {
+        OutputStage::Unasked => done(run.open_output(name)),
+        _ => b'F',
+    }
+}
+
+// Pulls at most so many bytes, up to four.
+fn pull(run: &mut Run<MemorySystem>, most: usize) -> u8 {
+    count(run.pull(&mut [0; 4][..most.min(4)]))
+}
+
+// Pushes bytes.
+fn push(run: &mut Run<MemorySystem>, bytes: &[u8]) -> u8 {
+    count(run.push(bytes))
+}
+
+// Reads a secret, if none was asked for.
+fn secret<S: System>(run: &mut Run<S>, source: Source<'_>) -> u8 {
+    match run.asked {
+        None => count(run.secret(source, &mut [0; 4])),
+        Some(_) => b'F',
+    }
+}
+
+// Takes a salt, if none was asked for.
+fn salt<S: System>(run: &mut Run<S>, out: &mut [u8; 32]) -> u8 {
+    if run.salted {
+        return b'F';
+    }
+    done(run.salt(out))
+}
+
 // What nine calls answer, none of which waits for another's answer.
 fn answers(run: &mut Run<MemorySystem>) -> [u8; 9] {
     [
-        done(open_input(run, None)),
-        count(pull(run, 4)),
-        count(pull(run, 4)),
-        count(pull(run, 4)),
-        count(secret(run, Source::StdinOnce)),
-        done(salt(run, &mut [0; 32])),
-        done(open_output(run, Some("out"))),
-        count(push(run, b"text")),
+        open_input(run, None),
+        pull(run, 4),
+        pull(run, 4),
+        pull(run, 4),
+        secret(run, Source::StdinOnce),
+        salt(run, &mut [0; 32]),
+        open_output(run, Some("out")),
+        push(run, b"text"),
         done(run.say("line")),
     ]
 }
@@ -112,12 +96,11 @@ fn answers(run: &mut Run<MemorySystem>) -> [u8; 9] {
 // Whether they answer this, with this call of the system failing; and whether the output was emptied then, and a line
 // was said.
 fn is_row(alloc: Global, (failing, marks, is_emptied, lines): (u64, [u8; 9], bool, usize)) -> bool {
-    let Ok(mut run) = begun(alloc, failing) else {
-        return false;
-    };
-    answers(&mut run) == marks
-        && run.system.is_emptied() == is_emptied
-        && run.system.lines().len() == lines
+    let mut run = begun(alloc, failing);
+    let answers = answers(&mut run);
+    let left = (run.system.is_emptied(), run.system.lines().len());
+    drop(run);
+    answers == marks && left == (is_emptied, lines)
 }
 
 // The call of the system that fails, and what the calls of the run answer. Nothing else is lost but what rests on it:
@@ -159,21 +142,21 @@ fn each_call_fails(rt: HostRuntime) {
 // What pulls answer, the first of which has no room.
 fn pulls(run: &mut Run<MemorySystem>) -> [u8; 6] {
     [
-        done(open_input(run, None)),
-        count(pull(run, 0)),
-        count(pull(run, 4)),
-        count(pull(run, 4)),
-        count(pull(run, 4)),
-        count(pull(run, 4)),
+        open_input(run, None),
+        pull(run, 0),
+        pull(run, 4),
+        pull(run, 4),
+        pull(run, 4),
+        pull(run, 4),
     ]
 }
 
 // Whether the system was asked no more once the end was found.
 fn ends_once(alloc: Global) -> bool {
-    match begun(alloc, 0) {
-        Ok(mut run) => pulls(&mut run) == *b".04100" && run.system.tries() == 3,
-        Err(_) => false,
-    }
+    let mut run = begun(alloc, 0);
+    let (pulls, tries) = (pulls(&mut run), run.system.tries());
+    drop(run);
+    pulls == *b".04100" && tries == 3
 }
 
 #[test]
@@ -184,46 +167,48 @@ fn reads_nothing_after_the_end(rt: HostRuntime) {
 // What is answered to an output, and then to the input, a secret and a salt.
 fn late(run: &mut Run<MemorySystem>) -> [u8; 4] {
     [
-        done(open_output(run, None)),
-        done(open_input(run, None)),
-        count(secret(run, Source::StdinOnce)),
-        done(salt(run, &mut [0; 32])),
+        open_output(run, None),
+        open_input(run, None),
+        secret(run, Source::StdinOnce),
+        salt(run, &mut [0; 32]),
     ]
 }
 
 // Whether these are the answers where this call of the system fails, and how often it was called.
-fn is_late(alloc: Global, failing: u64, marks: [u8; 4], calls: u64) -> bool {
-    match begun(alloc, failing) {
-        Ok(mut run) => late(&mut run) == marks && run.system.calls() == calls,
-        Err(_) => false,
-    }
+fn is_late(alloc: Global, (failing, marks, calls): (u64, [u8; 4], u64)) -> bool {
+    let mut run = begun(alloc, failing);
+    let late = (late(&mut run), run.system.calls());
+    drop(run);
+    late == (marks, calls)
 }
 
 // Also where the output could not be opened. Standard output that is no regular file takes two calls.
+static LATE: [(u64, [u8; 4], u64); 3] = [(0, *b".FFF", 2), (1, *b"FFFF", 1), (2, *b"FFFF", 2)];
+
 #[test]
 fn opens_nothing_once_an_output_was_asked_for(rt: HostRuntime) {
-    assert!(rt; is_late(rt.alloc(), 0, *b".FFF", 2));
-    assert!(rt; is_late(rt.alloc(), 1, *b"FFFF", 1));
-    assert!(rt; is_late(rt.alloc(), 2, *b"FFFF", 2));
+    for row in &LATE {
+        assert!(rt; is_late(rt.alloc(), *row), "{}", row.0);
+    }
 }
 
 // What is pulled and pushed once an output is opened.
 fn going_on(run: &mut Run<MemorySystem>) -> [u8; 5] {
     [
-        done(open_input(run, None)),
-        done(open_output(run, None)),
-        count(pull(run, 4)),
-        count(push(run, b"text")),
-        count(push(run, b"")),
+        open_input(run, None),
+        open_output(run, None),
+        pull(run, 4),
+        push(run, b"text"),
+        push(run, b""),
     ]
 }
 
 // Whether what was opened is read and written on.
 fn goes_on(alloc: Global) -> bool {
-    match begun(alloc, 0) {
-        Ok(mut run) => going_on(&mut run) == *b"..440",
-        Err(_) => false,
-    }
+    let mut run = begun(alloc, 0);
+    let answers = going_on(&mut run);
+    drop(run);
+    answers == *b"..440"
 }
 
 #[test]

@@ -1,12 +1,11 @@
 //! Streams that are interrupted, that fail in the middle, and that take or give little.
-ghost use Rattle.std.specs.Prelude.{◌≡◌, true, false, IfOk};
-ghost use Rattle.tools.specs.World.{IsApart};
+ghost use Rattle.std.specs.Prelude.{◌≡◌, None, false};
 
 use super::*;
 use crate::contents::Identities;
 use crate::fixtures::with_standard;
 use crate::memory_system::MemorySystem;
-use crate::system::Stream;
+use crate::outputs::open_apart;
 use std::alloc::Global;
 
 // How many bytes come or go at a time, how often each read or write is interrupted, and which of them fails,
@@ -30,54 +29,52 @@ fn make(system: &mut MemorySystem, trouble: Trouble)
     system.fail_at(system.calls().saturating_add(trouble.failing));
 }
 
-// A system whose standard input is opened, and gives these bytes.
-fn to_read(alloc: Global, bytes: &[u8]) -> Result<MemorySystem, HostFault>
-    ensures going { IfOk result (λ s. s.world.input.is_ended ≡ false) }
+// A system whose standard input is opened, and gives these bytes with this trouble.
+fn to_read(alloc: Global, bytes: &[u8], trouble: Trouble) -> MemorySystem
+    ensures going { result.world.input.is_ended ≡ false }
 {
-    let mut system = with_standard(alloc, bytes, Identities::NONE, Identities::NONE)?;
-    system.set_input(None)?;
-    system.open(Reading::Input, None)?;
-    Ok(system)
-}
-
-// Whether this comes of a read with room for five bytes.
-fn reads_some(alloc: Global, bytes: &[u8], trouble: Trouble, (answer, tries): Answer) -> bool {
-    let Ok(mut system) = to_read(alloc, bytes) else {
-        return false;
-    };
+    let mut system = with_standard(alloc, bytes, Identities::NONE, Identities::NONE);
+    let _ = system.set_input(None);
+    let _ = system.open(Reading::Input, None);
     make(&mut system, trouble);
-    read_some(&mut system, Reading::Input, &mut [0; 5]) == answer && system.tries() == tries
+    system
 }
 
-// Whether this comes of reading until five bytes are there.
-fn reads_full(alloc: Global, bytes: &[u8], trouble: Trouble, (answer, tries): Answer) -> bool {
-    let Ok(mut system) = to_read(alloc, bytes) else {
-        return false;
-    };
-    make(&mut system, trouble);
-    read_full(&mut system, Reading::Input, &mut [0; 5]) == answer && system.tries() == tries
+// What comes of a read with room for five bytes.
+fn some_read(alloc: Global, bytes: &[u8], trouble: Trouble) -> Answer {
+    let mut system = to_read(alloc, bytes, trouble);
+    let answer = read_some(&mut system, Reading::Input, &mut [0; 5]);
+    let tries = system.tries();
+    drop(system);
+    (answer, tries)
 }
 
-// A system whose standard output is opened, and is no regular file.
-fn to_write(alloc: Global) -> Result<MemorySystem, HostFault>
-    ensures new { IfOk result (λ s. s.world.is_new ≡ true) }
-    ensures apart { IfOk result (λ s. IsApart s.files) }
+// What comes of reading until five bytes are there.
+fn full_read(alloc: Global, bytes: &[u8], trouble: Trouble) -> Answer {
+    let mut system = to_read(alloc, bytes, trouble);
+    let answer = read_full(&mut system, Reading::Input, &mut [0; 5]);
+    let tries = system.tries();
+    drop(system);
+    (answer, tries)
+}
+
+// What comes of a write of these bytes to standard output.
+fn write(system: &mut MemorySystem, bytes: &[u8], trouble: Trouble) -> Answer
+    requires unasked { system.old.world.output_asked ≡ None }
 {
-    let mut system = MemorySystem::new(alloc);
-    system.open_output(None)?;
-    if system.file(Stream::Output)?.is_some() {
-        return Err(HostFault);
+    if open_apart(system, None).is_err() {
+        return (FAULT, 0);
     }
-    Ok(system)
+    make(system, trouble);
+    (write_some(system, bytes), system.tries())
 }
 
-// Whether this comes of a write of these bytes.
-fn writes(alloc: Global, bytes: &[u8], trouble: Trouble, (answer, tries): Answer) -> bool {
-    let Ok(mut system) = to_write(alloc) else {
-        return false;
-    };
-    make(&mut system, trouble);
-    write_some(&mut system, bytes) == answer && system.tries() == tries
+// The same of a new system, whose standard output is no regular file.
+fn written(alloc: Global, bytes: &[u8], trouble: Trouble) -> Answer {
+    let mut system = MemorySystem::new(alloc);
+    let answer = write(&mut system, bytes, trouble);
+    drop(system);
+    answer
 }
 
 // A size, interruptions and the call that fails; and what becomes of reading some or five bytes of six, and of writing
@@ -97,19 +94,22 @@ static ROWS: [Row; 7] = [
     (2, 0, 3, (Ok(2), 1), (FAULT, 3), (Ok(2), 1)),
 ];
 
+// Whether that becomes of it.
+fn is_row(alloc: Global, (size, interruptions, failing, some, full, write): Row) -> bool {
+    let trouble = Trouble {
+        size,
+        interruptions,
+        failing,
+    };
+    some_read(alloc, b"hello!", trouble) == some
+        && full_read(alloc, b"hello!", trouble) == full
+        && written(alloc, b"hello", trouble) == write
+}
+
 #[test]
 fn interruptions_faults_and_short_counts(rt: HostRuntime) {
-    let alloc = rt.alloc();
-    for (size, interruptions, failing, some, full, written) in &ROWS {
-        let trouble = Trouble {
-            size: *size,
-            interruptions: *interruptions,
-            failing: *failing,
-        };
-        let is_so = reads_some(alloc, b"hello!", trouble, *some)
-            && reads_full(alloc, b"hello!", trouble, *full)
-            && writes(alloc, b"hello", trouble, *written);
-        assert!(rt; is_so, "{size} {interruptions}");
+    for row in &ROWS {
+        assert!(rt; is_row(rt.alloc(), *row), "{} {}", row.0, row.1);
     }
 }
 
@@ -126,8 +126,8 @@ const NOTHING: Trouble = Trouble { size: 0, ..PAIRS };
 #[test]
 fn ends(rt: HostRuntime) {
     let alloc = rt.alloc();
-    assert!(rt; reads_full(alloc, b"four", PAIRS, (Ok(4), 3)));
-    assert!(rt; reads_some(alloc, b"", PAIRS, (Ok(0), 1)));
-    assert!(rt; writes(alloc, b"hello", NOTHING, (FAULT, 1)));
-    assert!(rt; writes(alloc, b"", NOTHING, (Ok(0), 0)));
+    assert!(rt; full_read(alloc, b"four", PAIRS) == (Ok(4), 3));
+    assert!(rt; some_read(alloc, b"", PAIRS) == (Ok(0), 1));
+    assert!(rt; written(alloc, b"hello", NOTHING) == (FAULT, 1));
+    assert!(rt; written(alloc, b"", NOTHING) == (Ok(0), 0));
 }

@@ -1,5 +1,5 @@
 //! A host over a system in memory.
-ghost use Rattle.std.specs.Prelude.{◌≡◌, IfOk};
+ghost use Rattle.std.specs.Prelude.{◌≡◌};
 ghost use Rattle.host.specs.Faults.{no_faults};
 
 use super::*;
@@ -10,26 +10,31 @@ use host::refuse;
 use std::alloc::Global;
 
 // A host over a system that gives nothing, and of whose calls this one fails.
-fn failing(alloc: Global, call: u64) -> Result<SystemHost<MemorySystem>, HostFault>
-    ensures counts { IfOk result (λ h. ⟦<SystemHost<MemorySystem> as Host>⟧.faults h ≡ no_faults) }
+fn failing(alloc: Global, call: u64) -> SystemHost<MemorySystem>
+    ensures counts { ⟦<SystemHost<MemorySystem> as Host>⟧.faults result ≡ no_faults }
 {
-    let mut system = with_standard(alloc, b"", Identities::NONE, Identities::NONE)?;
+    let mut system = with_standard(alloc, b"", Identities::NONE, Identities::NONE);
     system.fail_at(call);
-    Ok(SystemHost::new(system))
+    SystemHost::new(system)
 }
 
-// Whether a refusal has status 1, so many faults, and is said alone if there is none.
-fn is_counted(alloc: Global, call: u64, faults: u64) -> bool {
-    let Ok(mut host) = failing(alloc, call) else {
-        return false;
-    };
+// Whether the lines are this one alone.
+fn is_said(lines: &[String], said: &str) -> bool {
+    matches!(lines, [line] if line.as_str() == said)
+}
+
+// The status of a refusal, how many faults it has, and whether it is said alone.
+fn refused(alloc: Global, call: u64) -> (u8, u64, bool) {
+    let mut host = failing(alloc, call);
     let status = refuse(&mut host, "a refusal");
-    let is_said = matches!(host.system().lines(), [line] if line.as_str() == "a refusal");
-    status == 1 && host.line_faults == faults && is_said == (faults == 0)
+    let is_said = is_said(host.system().lines(), "a refusal");
+    let faults = host.line_faults;
+    drop(host);
+    (status, faults, is_said)
 }
 
 #[test]
 fn refusals_are_said(rt: HostRuntime) {
-    assert!(rt; is_counted(rt.alloc(), 0, 0));
-    assert!(rt; is_counted(rt.alloc(), 1, 1));
+    assert!(rt; refused(rt.alloc(), 0) == (1, 0, true));
+    assert!(rt; refused(rt.alloc(), 1) == (1, 1, false));
 }

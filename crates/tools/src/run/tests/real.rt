@@ -20,9 +20,14 @@ fn holds(rt: HostRuntime, name: &str, bytes: &[u8]) -> bool {
     }
 }
 
+// Whether this text is put into a file.
+fn put(rt: HostRuntime, name: &str, text: &str) -> bool {
+    fs::write(&rt, name, text).is_ok()
+}
+
 // Whether the file `one` is made, with two further names.
 fn is_made(rt: HostRuntime) -> bool {
-    fs::write(&rt, "one", "kept").is_ok()
+    put(rt, "one", "kept")
         && fs::hard_link(&rt, "one", "hard-link").is_ok()
         && symlink(&rt, "one", "symbolic-link").is_ok()
 }
@@ -30,46 +35,67 @@ fn is_made(rt: HostRuntime) -> bool {
 // Whether that file is opened as input, and then this name is refused as output.
 fn stays_as_input(rt: HostRuntime, name: &str) -> bool {
     let mut run = real(rt);
-    open_input(&mut run, Some("one")).is_ok() && open_output(&mut run, Some(name)).is_err()
+    let marks = [
+        open_input(&mut run, Some("one")),
+        open_output(&mut run, Some(name)),
+    ];
+    drop(run);
+    marks == *b".F"
 }
 
 // The same where that file is the secret's.
 fn stays_as_secret(rt: HostRuntime, name: &str) -> bool {
     let mut run = real(rt);
-    secret(&mut run, Source::File("one")).is_ok() && open_output(&mut run, Some(name)).is_err()
+    let marks = [
+        secret(&mut run, Source::File("one")),
+        open_output(&mut run, Some(name)),
+    ];
+    drop(run);
+    marks == *b"4F"
 }
+
+// Whether it is refused beside either.
+fn stays(rt: HostRuntime, name: &str) -> bool {
+    stays_as_input(rt, name) && stays_as_secret(rt, name)
+}
+
+static NAMES: [&str; 4] = ["one", "./one", "hard-link", "symbolic-link"];
 
 #[test]
 fn files_that_are_read_stay_under_each_name(rt: HostRuntime) {
     assert!(rt; is_made(rt));
-    for name in ["one", "./one", "hard-link", "symbolic-link"] {
-        assert!(rt;
-            stays_as_input(rt, name) && stays_as_secret(rt, name),
-            "{name}"
-        );
+    for name in &NAMES {
+        assert!(rt; stays(rt, name), "{name}");
     }
     assert!(rt; holds(rt, "one", b"kept"));
 }
 
-// Whether a file that is not read is opened as output and emptied, and holds what is pushed.
-fn is_written(rt: HostRuntime) -> bool {
-    let mut run = real(rt);
-    fs::write(&rt, "written", "lost").is_ok()
-        && open_output(&mut run, Some("written")).is_ok()
+// Whether the file `written` is opened as output and emptied, and holds what is pushed.
+fn writes(rt: HostRuntime, run: &mut Run<Real>) -> bool {
+    open_output(run, Some("written")) == b'.'
         && holds(rt, "written", b"")
         && run.push(b"hello") == Ok(5)
         && holds(rt, "written", b"hello")
 }
 
+// Whether a run writes it, which reads nothing.
+fn is_written(rt: HostRuntime) -> bool {
+    let mut run = real(rt);
+    let is_written = writes(rt, &mut run);
+    drop(run);
+    is_written
+}
+
 #[test]
 fn writes_another_file(rt: HostRuntime) {
-    assert!(rt; is_written(rt));
+    assert!(rt; put(rt, "written", "lost") && is_written(rt));
 }
 
 // A salt of the system.
 fn salt_of(rt: HostRuntime) -> [u8; 32] {
     let (mut run, mut bytes) = (real(rt), [0; 32]);
-    let _ = salt(&mut run, &mut bytes);
+    salt(&mut run, &mut bytes);
+    drop(run);
     bytes
 }
 
