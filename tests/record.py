@@ -68,7 +68,7 @@ def rows_of(crate, commit=None, folder=BODIES):
 def write(crate, rows, folder=BODIES):
     """Writes the rows of the edits that are there; a record without rows is taken away."""
     there = {path.stem for it in (FOLDERS if folder == BODIES else [folder]) for path in edits_of(crate, it)}
-    lines = ["\t".join([name, *row]) + "\n" for name, row in sorted(rows.items()) if name in there]
+    lines = ["\t".join(filter(None, [name, *row])) + "\n" for name, row in sorted(rows.items()) if name in there]
     path = TOP / file_of(crate, folder)
     if lines:
         path.parent.mkdir(exist_ok=True)
