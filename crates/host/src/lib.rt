@@ -16,6 +16,8 @@
 #![tactic(auto)]
 
 mod asked;
+#[cfg(test)]
+mod fixtures;
 mod growth;
 mod host;
 mod memory;

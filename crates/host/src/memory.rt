@@ -418,76 +418,56 @@ mod refusing;
 #[cfg(test)]
 mod tests {
     use super::*;
+    use crate::fixtures::{list, new_host, text};
     use crate::writing::write_output;
-    use std::test::Fail;
 
-    // The example at the head of the crate.
-    #[test]
-    fn example(rt: HostRuntime) -> Result<(), Fail> {
-        let alloc = rt.alloc();
-        let input = b"the input".to_vec(alloc)?;
-        let mut host = MemoryHost::new(alloc, input, Vec::new(alloc), [7; 32]);
+    // The calls of the example at the head of the crate.
+    fn copy(host: &mut MemoryHost) -> Result<(), HostFault>
+        requires room { AreBelow (2 ^ 63) (memory_faults host.old) }
+        requires unopened { host.old.input_opened ≡ None }
+        requires unasked { host.old.output_asked ≡ None }
+    {
         host.open_input(Some("in"))?;
         let mut buf = [0u8; 5];
         let n = host.pull(&mut buf)?;
-        write_output(&mut host, &buf[..n])?;
-        assert_eq!(rt; host.output(), b"the i".as_slice());
-        Ok(())
+        write_output(host, &buf[..n])
     }
 
-    // Sets a variable.
-    fn set_variable(
-        alloc: Global,
-        host: &mut MemoryHost,
-        name: &str,
-        bytes: &[u8],
-    ) -> Result<(), AllocError>
-        ensures faults { memory_faults host.new ≡ memory_faults host.old }
-        ensures asked { host.new.asked ≡ host.old.asked }
-    {
-        let bytes = bytes.to_vec(alloc)?;
-        host.set_env(String::from_str(alloc, name)?, bytes)
-    }
-
-    // Sets a file.
-    fn set_secret_file(
-        alloc: Global,
-        host: &mut MemoryHost,
-        name: &str,
-        bytes: &[u8],
-    ) -> Result<(), AllocError>
-        ensures faults { memory_faults host.new ≡ memory_faults host.old }
-        ensures asked { host.new.asked ≡ host.old.asked }
-    {
-        let bytes = bytes.to_vec(alloc)?;
-        host.set_file(String::from_str(alloc, name)?, bytes)
+    // The example at the head of the crate.
+    #[test]
+    fn example(rt: HostRuntime) {
+        let mut host = new_host(rt.alloc(), b"the input", b"");
+        let is_copied = copy(&mut host).is_ok() && host.output() == b"the i".as_slice();
+        drop(host);
+        assert!(rt; is_copied);
     }
 
     // A host that has three secrets.
-    fn with_secrets(alloc: Global) -> Result<MemoryHost, AllocError>
-        ensures room { IfOk result (λ host. AreBelow (2 ^ 63) (memory_faults host)) }
-        ensures unasked { IfOk result (λ host. host.asked ≡ None) }
+    fn with_secrets(alloc: Global) -> MemoryHost
+        ensures room { AreBelow (2 ^ 63) (memory_faults result) }
+        ensures unasked { result.asked ≡ None }
     {
-        let stdin = b"typed".to_vec(alloc)?;
-        let mut host = MemoryHost::new(alloc, Vec::new(alloc), stdin, [7; 32]);
-        set_variable(alloc, &mut host, "PW", b"first")?;
-        set_variable(alloc, &mut host, "PW", b"second")?;
-        set_secret_file(alloc, &mut host, "pw", b"long file")?;
-        Ok(host)
+        let mut host = new_host(alloc, b"", b"typed");
+        let _ = host.set_env(text(alloc, "PW"), list(alloc, b"first"));
+        let _ = host.set_env(text(alloc, "PW"), list(alloc, b"second"));
+        let _ = host.set_file(text(alloc, "pw"), list(alloc, b"long file"));
+        host
     }
 
     // Whether the host gives this of a source for which there is room for six bytes.
-    fn gives(alloc: Global, source: Source<'_>, text: Option<&[u8]>) -> Result<bool, AllocError> {
-        let mut host = with_secrets(alloc)?;
+    fn gives(alloc: Global, source: Source<'_>, text: Option<&[u8]>) -> bool {
+        let mut host = with_secrets(alloc);
         let mut buf = [0u8; 6];
-        match host.secret(source, &mut buf) {
-            Ok(n) => Ok(text == Some(&buf[..n])),
-            Err(_) => Ok(text.is_none()),
+        let given = host.secret(source, &mut buf);
+        drop(host);
+        match given {
+            Ok(n) => text == Some(&buf[..n]),
+            Err(_) => text.is_none(),
         }
     }
 
     #[test]
-    fn gives_secrets(rt: HostRuntime) -> Result<(), Fail> {
+    fn gives_secrets(rt: HostRuntime) {
         let rows = [
             (Source::StdinOnce, Some(b"typed".as_slice())),
             (Source::Env("PW"), Some(b"second")),
@@ -496,9 +476,8 @@ mod tests {
             (Source::File("PW"), None),
         ];
         for (source, text) in rows {
-            assert!(rt; gives(rt.alloc(), source, text)?, "{source:?}");
+            assert!(rt; gives(rt.alloc(), source, text), "{source:?}");
         }
-        Ok(())
     }
 
     // How many bytes a pull of at most so many puts into a buffer, where it is some.
@@ -518,34 +497,44 @@ mod tests {
     }
 
     // What four pulls give, of which the first three give some bytes, and the buffer after each.
-    fn pulls(alloc: Global) -> Result<[(usize, [u8; 4]); 4], Fail> {
-        let input = b"the input".to_vec(alloc)?;
-        let mut host = MemoryHost::new(alloc, input, Vec::new(alloc), [7; 32]);
+    type Pieces = [(usize, [u8; 4]); 4];
+
+    fn pulls(host: &mut MemoryHost) -> Result<Pieces, HostFault>
+        requires room { AreBelow (2 ^ 63) (memory_faults host.old) }
+        requires unopened { host.old.input_opened ≡ None }
+    {
         host.open_input(None)?;
         let mut buf = [0u8; 4];
-        let first = (pulled(&mut host, 3, &mut buf)?, buf);
-        let second = (pulled(&mut host, 9, &mut buf)?, buf);
-        let third = (pulled(&mut host, 9, &mut buf)?, buf);
+        let first = (pulled(host, 3, &mut buf)?, buf);
+        let second = (pulled(host, 9, &mut buf)?, buf);
+        let third = (pulled(host, 9, &mut buf)?, buf);
         let last = (host.pull(&mut buf)?, buf);
         Ok([first, second, third, last])
     }
 
     #[test]
-    fn gives_the_input_piece_by_piece(rt: HostRuntime) -> Result<(), Fail> {
+    fn gives_the_input_piece_by_piece(rt: HostRuntime) {
+        let mut host = new_host(rt.alloc(), b"the input", b"");
+        let given = pulls(&mut host);
+        drop(host);
         let pieces = [(3, *b"the\0"), (4, *b" inp"), (2, *b"utnp"), (0, *b"utnp")];
-        assert_eq!(rt; pulls(rt.alloc())?, pieces);
-        Ok(())
+        assert_eq!(rt; given, Ok(pieces));
+    }
+
+    // What comes of asking for the salt where this call fails, and what is in its place then.
+    fn salt(alloc: Global, failing: u64) -> (Result<(), HostFault>, [u8; 32]) {
+        let mut host = new_host(alloc, b"", b"");
+        host.fail_at(failing);
+        let mut salt = [0u8; 32];
+        let outcome = host.salt(&mut salt);
+        drop(host);
+        (outcome, salt)
     }
 
     #[test]
     fn gives_the_salt(rt: HostRuntime) {
-        let alloc = rt.alloc();
         for (failing, outcome, filled) in [(0, Ok(()), [7; 32]), (1, Err(HostFault), [0; 32])] {
-            let mut host = MemoryHost::new(alloc, Vec::new(alloc), Vec::new(alloc), [7; 32]);
-            host.fail_at(failing);
-            let mut salt = [0u8; 32];
-            assert_eq!(rt; host.salt(&mut salt), outcome);
-            assert_eq!(rt; salt, filled);
+            assert!(rt; salt(rt.alloc(), failing) == (outcome, filled));
         }
     }
 
@@ -560,7 +549,7 @@ mod tests {
         host.open_input(Some("in")).is_err() && host.input_name().is_none()
     }
 
-    // Whether an input has its name, and is all left after a pull that fails.
+    // Whether an input of two bytes has its name, and is all left after a pull that fails.
     fn is_left_whole(host: &mut MemoryHost) -> bool
         requires room { AreBelow (2 ^ 63 + 1) (memory_faults host.old) }
         requires readable { host.old.readable ≡ true }
@@ -571,16 +560,23 @@ mod tests {
             && host.pull(&mut buf) == Err(HostFault)
             && buf == [0; 4]
             && host.taken == 0
+            && host.input.len() == 2
+    }
+
+    // Whether each call of the input fails so.
+    fn is_whole_after_failures(host: &mut MemoryHost) -> bool
+        requires room { AreBelow (2 ^ 63) (memory_faults host.old) }
+        requires unopened { host.old.input_opened ≡ None }
+    {
+        is_refused(host) && host.open_input(Some("in")).is_ok() && is_left_whole(host)
     }
 
     #[test]
-    fn fails_at_each_call_of_the_input(rt: HostRuntime) -> Result<(), Fail> {
-        let alloc = rt.alloc();
-        let mut host = MemoryHost::new(alloc, b"in".to_vec(alloc)?, Vec::new(alloc), [7; 32]);
-        assert!(rt; is_refused(&mut host));
-        host.open_input(Some("in"))?;
-        assert!(rt; is_left_whole(&mut host));
-        Ok(())
+    fn fails_at_each_call_of_the_input(rt: HostRuntime) {
+        let mut host = new_host(rt.alloc(), b"in", b"");
+        let is_so = is_whole_after_failures(&mut host);
+        drop(host);
+        assert!(rt; is_so);
     }
 
     // What two pushes and a line answer.
@@ -608,11 +604,12 @@ mod tests {
     }
 
     #[test]
-    fn fails_at_the_call_named(rt: HostRuntime) -> Result<(), Fail> {
-        let alloc = rt.alloc();
-        let mut host = MemoryHost::new(alloc, Vec::new(alloc), Vec::new(alloc), [7; 32]);
-        assert_eq!(rt; answers(&mut host), Ok((2, Err(HostFault), Ok(()))));
-        assert!(rt; is_left(&host));
-        Ok(())
+    fn fails_at_the_call_named(rt: HostRuntime) {
+        let mut host = new_host(rt.alloc(), b"", b"");
+        let answers = answers(&mut host);
+        let is_left = is_left(&host);
+        drop(host);
+        assert_eq!(rt; answers, Ok((2, Err(HostFault), Ok(()))));
+        assert!(rt; is_left);
     }
 }

@@ -2,7 +2,6 @@
 //! aes-256-ctr, and scrypt(1) 1.3.1 opens it.
 use std::alloc::Global;
 use std::fs;
-use std::test::Fail;
 use tools::{Real, SystemHost};
 
 pub const FILE_OF_HELLO: &[u8] = b"scrypt\x00\x04\x00\x00\x00\x01\x00\x00\x00\x01\
@@ -14,74 +13,121 @@ pub const FILE_OF_HELLO: &[u8] = b"scrypt\x00\x04\x00\x00\x00\x01\x00\x00\x00\x0
 pub const SALT: &str = "000102030405060708090a0b0c0d0e0f101112131415161718191a1b1c1d1e1f";
 
 // The status of a run with the words of this line, which spaces part.
-fn status(rt: HostRuntime, line: &str) -> Result<u8, Fail> {
+fn status(rt: HostRuntime, line: &str) -> u8 {
     let alloc: Global = rt.alloc();
     let mut words = Vec::new(alloc);
     for word in line.split_whitespace() {
-        words.push(String::from_str(alloc, word)?)?;
+        let word = String::from_str(alloc, word).unwrap_or(String::new(alloc));
+        let _ = words.push(word);
     }
-    Ok(scrypt_command::scrypt(alloc, &words, &mut SystemHost::new(Real::new(rt))))
+    let mut host = SystemHost::new(Real::new(rt));
+    let status = scrypt_command::scrypt(alloc, &words, &mut host);
+    drop(host);
+    status
+}
+
+// The status where `text` is made `file` with these words more.
+fn enc(rt: HostRuntime, words: &str) -> Option<u8> {
+    match format!(in rt.alloc();
+        "enc --logN 4 -r 1 -p 1 {words} --salt {SALT} --passphrase file:pw text file"
+    ) {
+        Ok(line) => Some(status(rt, line.as_str())),
+        Err(_) => None,
+    }
+}
+
+// The status where `file` is opened into `back` with these words more.
+fn dec(rt: HostRuntime, words: &str) -> Option<u8> {
+    match format!(in rt.alloc(); "dec {words} --passphrase file:pw file back") {
+        Ok(line) => Some(status(rt, line.as_str())),
+        Err(_) => None,
+    }
+}
+
+// Whether these bytes are put into a file.
+fn put(rt: HostRuntime, name: &str, bytes: &[u8]) -> bool {
+    fs::write(&rt, name, bytes).is_ok()
+}
+
+// Whether a file holds these bytes.
+fn holds(rt: HostRuntime, name: &str, bytes: &[u8]) -> bool {
+    match fs::read(&rt, name) {
+        Ok(held) => held.as_slice() == bytes,
+        Err(_) => false,
+    }
+}
+
+// Whether `file` has so many bytes, the first of which are those of the file of `hello`.
+fn has_front(rt: HostRuntime, length: usize) -> bool {
+    match fs::read(&rt, "file") {
+        Ok(held) => held.len() == length && held.starts_with(&FILE_OF_HELLO[..96]),
+        Err(_) => false,
+    }
+}
+
+// Whether a text becomes a file of so many bytes, and comes back.
+fn comes_back(rt: HostRuntime, text: &str, length: usize) -> bool {
+    put(rt, "text", text.as_bytes())
+        && enc(rt, "") == Some(0)
+        && has_front(rt, length)
+        && dec(rt, "") == Some(0)
+        && holds(rt, "back", text.as_bytes())
 }
 
 // A backup is made, shown and opened.
 #[test]
-fn files(rt: HostRuntime) -> Result<(), Fail> {
-    fs::write(&rt, "pw", "pw\n")?;
+fn files(rt: HostRuntime) {
+    assert!(rt; put(rt, "pw", b"pw\n"));
     for (text, length) in [("", 128), ("hello", 133)] {
-        fs::write(&rt, "text", text)?;
-        let enc = format!(in rt.alloc();
-            "enc --logN 4 -r 1 -p 1 --salt {SALT} --passphrase file:pw text file"
-        )?;
-        assert_eq!(rt; status(rt, enc.as_str())?, 0);
-        let file = fs::read(&rt, "file")?;
-        assert_eq!(rt; file.len(), length);
-        assert!(rt; file.starts_with(&FILE_OF_HELLO[..96]));
-        assert_eq!(rt; status(rt, "dec --passphrase file:pw file back")?, 0);
-        assert_eq!(rt; fs::read(&rt, "back")?.as_slice(), text.as_bytes());
+        assert!(rt; comes_back(rt, text, length), "{text}");
     }
-    assert_eq!(rt; fs::read(&rt, "file")?.as_slice(), FILE_OF_HELLO);
-    assert_eq!(rt; status(rt, "info file")?, 0);
-    Ok(())
+    assert!(rt; holds(rt, "file", FILE_OF_HELLO));
+    assert!(rt; status(rt, "info file") == 0);
+}
+
+// Whether a file that is cut so ends with status 1, and leaves this.
+fn is_refused(rt: HostRuntime, cut: &[u8], back: &str) -> bool {
+    put(rt, "cut", cut)
+        && status(rt, "dec --passphrase file:pw cut back") == 1
+        && holds(rt, "back", back.as_bytes())
 }
 
 // A file that is cut releases a beginning of its text.
 #[test]
-fn file_that_is_cut(rt: HostRuntime) -> Result<(), Fail> {
-    fs::write(&rt, "pw", "pw\n")?;
-    fs::write(&rt, "back", "before")?;
+fn file_that_is_cut(rt: HostRuntime) {
+    assert!(rt; put(rt, "pw", b"pw\n") && put(rt, "back", b"before"));
     for (length, back) in [(95usize, "before"), (127, ""), (130, "he")] {
-        fs::write(&rt, "cut", &FILE_OF_HELLO[..length])?;
-        assert_eq!(rt; status(rt, "dec --passphrase file:pw cut back")?, 1);
-        assert_eq!(rt; fs::read(&rt, "back")?.as_slice(), back.as_bytes());
+        assert!(rt; is_refused(rt, &FILE_OF_HELLO[..length], back), "{length}");
     }
-    Ok(())
 }
+
+// Whether `dec` with these words ends with this status, and leaves this.
+fn opens(rt: HostRuntime, words: &str, status: u8, back: &str) -> bool {
+    put(rt, "back", b"before")
+        && dec(rt, words) == Some(status)
+        && holds(rt, "back", back.as_bytes())
+}
+
+static ROWS: [(&str, u8, &str); 5] = [
+    ("--keep 4 -M 512 --maxops 160", 0, "hello"),
+    ("--keep 4 -M 511", 1, "before"),
+    ("--keep 4 --maxops 159", 1, "before"),
+    ("--keep 32", 1, "before"),
+    ("--keep 3", 1, "before"),
+];
 
 // How many rows of the table are kept changes neither the file nor the text; a limit that they meet to the byte and to
 // the core admits them, and one below, or more rows apart than there are, leaves the output as it was.
 #[test]
-fn rows_that_are_kept(rt: HostRuntime) -> Result<(), Fail> {
-    fs::write(&rt, "pw", "pw\n")?;
-    fs::write(&rt, "text", "hello")?;
-    for keep in [2u64, 16] {
-        let enc = format!(in rt.alloc();
-            "enc --logN 4 -r 1 -p 1 --keep {keep} --salt {SALT} --passphrase file:pw text file"
-        )?;
-        assert_eq!(rt; status(rt, enc.as_str())?, 0);
-        assert_eq!(rt; fs::read(&rt, "file")?.as_slice(), FILE_OF_HELLO);
+fn rows_that_are_kept(rt: HostRuntime) {
+    assert!(rt; put(rt, "pw", b"pw\n") && put(rt, "text", b"hello"));
+    for words in ["--keep 2", "--keep 16"] {
+        assert!(rt;
+            enc(rt, words) == Some(0) && holds(rt, "file", FILE_OF_HELLO),
+            "{words}"
+        );
     }
-    let rows = [
-        ("--keep 4 -M 512 --maxops 160", 0, "hello"),
-        ("--keep 4 -M 511", 1, "before"),
-        ("--keep 4 --maxops 159", 1, "before"),
-        ("--keep 32", 1, "before"),
-        ("--keep 3", 1, "before"),
-    ];
-    for (words, ends, back) in rows {
-        fs::write(&rt, "back", "before")?;
-        let dec = format!(in rt.alloc(); "dec {words} --passphrase file:pw file back")?;
-        assert_eq!(rt; status(rt, dec.as_str())?, ends);
-        assert_eq!(rt; fs::read(&rt, "back")?.as_slice(), back.as_bytes());
+    for (words, status, back) in &ROWS {
+        assert!(rt; opens(rt, words, *status, back), "{words}");
     }
-    Ok(())
 }

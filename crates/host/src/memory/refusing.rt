@@ -4,11 +4,11 @@ ghost use Rattle.host.specs.Faults.{AreBelow};
 ghost use Rattle.host.specs.Memory.{memory_faults};
 
 use super::MemoryHost;
+use crate::fixtures::{list, new_host, text};
 use crate::growth::Growth;
 use crate::host::Host;
 use crate::named_secret::{NamedSecret, find, put_first};
 use std::alloc::{AllocError, Global};
-use std::test::Fail;
 
 // Grants all requests but one, which is counted from 1.
 #[derive(Drop)]
@@ -71,19 +71,19 @@ enum Call {
     Say,
 }
 
+// Whether a secret is put under `pw`, with this growth.
+fn put(growth: &mut Refusing, entries: &mut Vec<NamedSecret>) -> bool {
+    let (name, bytes) = (text(growth.alloc, "pw"), list(growth.alloc, b"secret"));
+    put_first(growth, entries, name, bytes).is_ok()
+}
+
 // Whether a call of a host is done, with this growth.
-fn is_done(
-    host: &mut MemoryHost,
-    growth: &mut Refusing,
-    call: Call,
-    name: String,
-    bytes: Vec<u8>,
-) -> bool
+fn is_done(host: &mut MemoryHost, growth: &mut Refusing, call: Call) -> bool
     requires room { AreBelow (2 ^ 63) (memory_faults host.old) }
 {
     match call {
-        Call::SetVariable => put_first(growth, &mut host.variables, name, bytes).is_ok(),
-        Call::SetFile => put_first(growth, &mut host.files, name, bytes).is_ok(),
+        Call::SetVariable => put(growth, &mut host.variables),
+        Call::SetFile => put(growth, &mut host.files),
         Call::OpenInput => host.open_input_with(growth, Some("in")).is_ok(),
         Call::OpenOutput => host.open_output_with(growth, Some("out")).is_ok(),
         Call::Push => host.push_with(growth, b"text").is_ok(),
@@ -104,50 +104,60 @@ fn is_seen(host: &MemoryHost, call: Call) -> bool {
 }
 
 // What a new host tells of the call after it, whether it answered, and how often it asked.
-#[derive(Drop, Debug, PartialEq, Eq)]
+#[derive(Clone, Copy, PartialEq, Eq)]
 struct Told {
     is_done: bool,
     is_seen: bool,
     asked: u32,
 }
 
-fn told_of(alloc: Global, call: Call, refused: u32) -> Result<Told, AllocError> {
+fn told_of(alloc: Global, call: Call, refused: u32) -> Told {
     let mut growth = Refusing {
         alloc,
         asked: 0,
         refused,
     };
-    let name = String::from_str(alloc, "pw")?;
-    let bytes = b"secret".to_vec(alloc)?;
-    let mut host = MemoryHost::new(alloc, Vec::new(alloc), Vec::new(alloc), [7; 32]);
-    let is_done = is_done(&mut host, &mut growth, call, name, bytes);
-    Ok(Told {
+    let mut host = new_host(alloc, b"", b"");
+    let is_done = is_done(&mut host, &mut growth, call);
+    let is_seen = is_seen(&host, call);
+    drop(host);
+    Told {
         is_done,
-        is_seen: is_seen(&host, call),
+        is_seen,
         asked: growth.asked,
-    })
+    }
+}
+
+// The calls, and how many growths each takes.
+static CALLS: [(Call, u32); 6] = [
+    (Call::SetVariable, 1),
+    (Call::SetFile, 1),
+    (Call::OpenInput, 1),
+    (Call::OpenOutput, 1),
+    (Call::Push, 1),
+    (Call::Say, 2),
+];
+
+// Whether this call is refused so where this growth is.
+fn is_refused(alloc: Global, call: Call, growths: u32, refused: u32) -> bool {
+    let is_granted = refused > growths;
+    let expected = Told {
+        is_done: is_granted,
+        is_seen: is_granted,
+        asked: refused.min(growths),
+    };
+    told_of(alloc, call, refused) == expected
 }
 
 // A call whose growth is refused tells so and changes nothing: a line takes two, any other call one.
 #[test]
-fn each_growth_is_refused(rt: HostRuntime) -> Result<(), Fail> {
-    for (call, growths) in [
-        (Call::SetVariable, 1u32),
-        (Call::SetFile, 1),
-        (Call::OpenInput, 1),
-        (Call::OpenOutput, 1),
-        (Call::Push, 1),
-        (Call::Say, 2),
-    ] {
-        for refused in 1..=growths + 1 {
-            let told = told_of(rt.alloc(), call, refused)?;
-            let expected = Told {
-                is_done: refused > growths,
-                is_seen: refused > growths,
-                asked: refused.min(growths),
-            };
-            assert_eq!(rt; told, expected, "{call:?}, {refused}");
+fn each_growth_is_refused(rt: HostRuntime) {
+    for (call, growths) in &CALLS {
+        for refused in 1..=growths.saturating_add(1) {
+            assert!(rt;
+                is_refused(rt.alloc(), *call, *growths, refused),
+                "{call:?}, {refused}"
+            );
         }
     }
-    Ok(())
 }

@@ -1,11 +1,8 @@
 //! Whole runs over a system in memory.
-ghost use Rattle.std.specs.Prelude.{IfOk};
 ghost use Rattle.tools.specs.World.{IsUnused};
 
 use super::*;
 use crate::tests::{FILE_OF_HELLO, SALT};
-use host::HostFault;
-use std::alloc::AllocError;
 use std::test::Fail;
 use tools::{Contents, FileIdentity, Identities, MemorySystem};
 
@@ -37,52 +34,49 @@ const COPIED: Identities = Identities {
 // How a run ends: the status, the output, the line, and whether the output was emptied.
 type End<'a> = (u8, &'a [u8], Option<&'a str>, bool);
 
+// These bytes, or none where memory is refused: then the test fails.
+fn list(alloc: Global, bytes: &[u8]) -> Vec<u8> {
+    bytes.to_vec(alloc).unwrap_or(Vec::new(alloc))
+}
+
+// Adds a word.
+fn add_word(alloc: Global, system: &mut MemorySystem, word: &[u8])
+    requires unused { IsUnused system.old.world }
+    ensures unused { IsUnused system.new.world }
+{
+    let _ = system.add_word(list(alloc, word));
+}
+
 // Adds the words of a line, which spaces part.
-fn add_words(alloc: Global, system: &mut MemorySystem, line: &str) -> Result<(), HostFault>
+fn add_words(alloc: Global, system: &mut MemorySystem, line: &str)
     requires unused { IsUnused system.old.world }
     ensures unused { IsUnused system.new.world }
 {
     for word in line.split_whitespace() {
-        let word = word.as_bytes().to_vec(alloc).map_err(|_| HostFault)?;
-        system.add_word(word).map_err(|_| HostFault)?;
+        add_word(alloc, system, word.as_bytes());
     }
-    Ok(())
 }
 
 // Puts a file under a name.
-fn put(
-    alloc: Global,
-    system: &mut MemorySystem,
-    name: &str,
-    bytes: &[u8],
-    identities: Identities,
-) -> Result<(), HostFault>
+fn put(alloc: Global, system: &mut MemorySystem, name: &str, bytes: &[u8], identities: Identities)
     requires unused { IsUnused system.old.world }
     ensures unused { IsUnused system.new.world }
 {
-    let name = String::from_str(alloc, name).map_err(|_| HostFault)?;
-    let bytes = bytes.to_vec(alloc).map_err(|_| HostFault)?;
-    system
-        .set_file(name, Contents::new(bytes, identities))
-        .map_err(|_| HostFault)
+    let name = String::from_str(alloc, name).unwrap_or(String::new(alloc));
+    let _ = system.set_file(name, Contents::new(list(alloc, bytes), identities));
 }
 
 // A process with these words, of which the first is its name, over a passphrase and an input with two names.
-fn process(
-    alloc: Global,
-    line: &str,
-    input: &[u8],
-    identities: Identities,
-) -> Result<MemorySystem, HostFault>
-    ensures unused { IfOk result (λ s. IsUnused s.world) }
+fn process(alloc: Global, line: &str, input: &[u8], identities: Identities) -> MemorySystem
+    ensures unused { IsUnused result.world }
 {
     let mut system = MemorySystem::new(alloc);
-    add_words(alloc, &mut system, line)?;
-    put(alloc, &mut system, "pw", b"pw\n", Identities::NONE)?;
-    put(alloc, &mut system, "in", input, identities)?;
-    put(alloc, &mut system, "link", input, identities)?;
-    system.set_input(Some("in"))?;
-    Ok(system)
+    add_words(alloc, &mut system, line);
+    put(alloc, &mut system, "pw", b"pw\n", Identities::NONE);
+    put(alloc, &mut system, "in", input, identities);
+    put(alloc, &mut system, "link", input, identities);
+    let _ = system.set_input(Some("in"));
+    system
 }
 
 // The program, of which nothing is said.
@@ -102,17 +96,19 @@ fn comes_to(status: u8, system: &MemorySystem, end: End<'_>) -> bool {
     status == end.0 && system.output() == end.1 && is_told && system.is_emptied() == end.3
 }
 
-// Whether a run of these words over this input comes to this.
-fn runs(
-    alloc: Global,
-    line: &str,
-    input: &[u8],
-    identities: Identities,
-    end: End<'_>,
-) -> Result<bool, HostFault> {
-    let system = process(alloc, line, input, identities)?;
+// Whether a run over this system comes to this.
+fn ends_so(alloc: Global, system: MemorySystem, end: End<'_>) -> bool
+    requires unused { IsUnused system.world }
+{
     let (status, host) = ends(alloc, system);
-    Ok(comes_to(status, host.system(), end))
+    let is_so = comes_to(status, host.system(), end);
+    drop(host);
+    is_so
+}
+
+// Whether a run of these words over this input comes to this.
+fn runs(alloc: Global, line: &str, input: &[u8], identities: Identities, end: End<'_>) -> bool {
+    ends_so(alloc, process(alloc, line, input, identities), end)
 }
 
 const DEC: &str = "scrypt dec --passphrase file:pw in out";
@@ -157,11 +153,7 @@ static ROWS: [(&str, End<'static>); 6] = [
 #[test]
 fn words_and_their_ends(rt: HostRuntime) {
     for (line, end) in &ROWS {
-        assert_eq!(rt;
-            runs(rt.alloc(), line, FILE_OF_HELLO, FILE, *end),
-            Ok(true),
-            "{line}"
-        );
+        assert!(rt; runs(rt.alloc(), line, FILE_OF_HELLO, FILE, *end), "{line}");
     }
 }
 
@@ -173,7 +165,7 @@ fn makes_a_file(rt: HostRuntime) -> Result<(), Fail> {
         "scrypt enc --logN 4 -r 1 -p 1 --salt {SALT} --passphrase file:pw in out"
     )?;
     let end = (0, FILE_OF_HELLO, None, true);
-    assert_eq!(rt; runs(alloc, line.as_str(), b"hello", FILE, end), Ok(true));
+    assert!(rt; runs(alloc, line.as_str(), b"hello", FILE, end));
     Ok(())
 }
 
@@ -182,9 +174,8 @@ fn makes_a_file(rt: HostRuntime) -> Result<(), Fail> {
 fn a_file_that_is_cut(rt: HostRuntime) {
     for (length, text) in [(127usize, b"".as_slice()), (130, b"he")] {
         let end = (1, text, Some(DAMAGED), true);
-        assert_eq!(rt;
+        assert!(rt;
             runs(rt.alloc(), DEC, &FILE_OF_HELLO[..length], FILE, end),
-            Ok(true),
             "{length}"
         );
     }
@@ -196,27 +187,25 @@ fn the_input_stays_as_it_is(rt: HostRuntime) {
     let line = "scrypt dec --passphrase file:pw in link";
     let end = (1, b"".as_slice(), Some(OUTPUT_FAULT), false);
     for identities in [FILE, COPIED] {
-        assert_eq!(rt;
+        assert!(rt;
             runs(rt.alloc(), line, FILE_OF_HELLO, identities, end),
-            Ok(true),
             "{identities:?}"
         );
     }
 }
 
 // Whether a run of a process with this name and this word ends with this line.
-fn tells(alloc: Global, name: &[u8], word: &[u8], line: &str) -> Result<bool, AllocError> {
+fn tells(alloc: Global, name: &[u8], word: &[u8], line: &str) -> bool {
     let mut system = MemorySystem::new(alloc);
-    system.add_word(name.to_vec(alloc)?)?;
-    system.add_word(word.to_vec(alloc)?)?;
-    let (status, host) = ends(alloc, system);
-    Ok(comes_to(status, host.system(), (1, b"", Some(line), false)))
+    add_word(alloc, &mut system, name);
+    add_word(alloc, &mut system, word);
+    ends_so(alloc, system, (1, b"", Some(line), false))
 }
 
 // A word that is no text is a wrong use, and so are no words.
 #[test]
 fn words_that_are_no_text(rt: HostRuntime) {
     let usage = "scrypt: usage: scrypt enc|dec|info [options] infile [outfile]";
-    assert_eq!(rt; tells(rt.alloc(), b"scrypt", b"in\xff", usage), Ok(true));
-    assert_eq!(rt; tells(rt.alloc(), b"\xff", b"enc", usage), Ok(true));
+    assert!(rt; tells(rt.alloc(), b"scrypt", b"in\xff", usage));
+    assert!(rt; tells(rt.alloc(), b"\xff", b"enc", usage));
 }
