@@ -51,7 +51,8 @@ DOES = {
     "header, sources, module and page",
     "tests/reading.py --check": "docs/reading/ and docs/VECTORS.md are what scripts make of the sources; each definition "
     "that a public contract reaches has an equation or a reason; `specs/Inside/` has what none reaches, and nothing else",
-    "tests/record_test.py": "a change of a text gives the right wrong bodies a new key, and turns cost about the same",
+    "tests/record_test.py": "a change of a text gives the right wrong bodies a new key, turns cost about the "
+    "same, and a body that the types refuse is tried alone",
     "tests/first_run.py": "`make run`, `make lib` and `make check` over a stand-in for `rt`: their order, their "
     "lines, and what they leave behind if a proof fails or they are stopped",
     "tests/build_scripts.py": "packaging/build.sh, chosen.sh, lib.sh and deb.sh over stand-ins: what they make, and that "
