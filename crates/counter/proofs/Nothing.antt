@@ -20,5 +20,5 @@ pub for_nothing : {M : Type 1} {𝓤 : Ura M} (𝓛 : Logic 𝓤) (number : ℕ)
     → ent 𝓤 (emp 𝓤) (sem 𝓛 (the_row.own_val number (stored ∷ [])))
 for_nothing 𝓛 number =
     makes_shadow 𝓛 (the_row.own_val number (stored ∷ []))
-    (λ fields. (((λ parts. (tt, (tt, tt))), tt), tt))
-    ((record { seal = tt; number = number }, (refl, tt)), ((((vunit ∷ [], tt), (refl, (refl, tt))), tt), tt))
+    (((λ parts. (tt, (tt, tt))), tt), (λ same. tt))
+    ((((vunit ∷ [], tt), (refl, (refl, tt))), tt), ((refl, tt), tt))

@@ -8,6 +8,7 @@ use std::marker::Model;
 
 /// A whole number without a bound, which contracts see and no code can read. A type that counts
 /// something keeps one to itself, and so decides what is counted.
+#[repr(C)]
 #[derive(Drop)]
 pub struct Count {
     // keeps other crates from making one of any number
@@ -19,6 +20,9 @@ impl Model for Count {
     ghost Value = { ℕ };
 
     ghost view = { λ count. count.number };
+
+    // What crosses to C and back gives its fields back.
+    ghost inverse = { λ number. record { seal = tt; number = number } };
 
     ghost also_owns = { λ _. ftrue };
 }

@@ -7,6 +7,7 @@ use std::marker::Model;
 
 /// How many Salsa20/8 cores were done with it. Contracts see a whole number without a bound. At run
 /// time it takes no bytes and can't be read.
+#[repr(C)]
 #[derive(Drop)]
 pub struct Ticks {
     count: Count,
@@ -16,6 +17,9 @@ impl Model for Ticks {
     ghost Value = { ℕ };
 
     ghost view = { λ ticks. ticks.count };
+
+    // What crosses to C and back gives its fields back.
+    ghost inverse = { λ number. record { count = number } };
 }
 
 impl Ticks {
