@@ -63,31 +63,32 @@ expect() {
 }
 expect '.tick()' "the counters tick in the one block function and the one core" \
     crates/argon/src/compression.rt crates/romix/src/salsa20.rt
-expect 'Ticks::new(' "a counter is made by the test of a password, the functions for C and the commands, once each" \
-    crates/argon_text/src/verify_password.rt crates/argon2_command/src/run.rt \
-    crates/scrypt_command/src/run.rt crates/pikhsen_c/src/argon2.rt crates/pikhsen_c/src/encoded.rt \
-    crates/pikhsen_c/src/file.rt crates/pikhsen_c/src/file.rt crates/pikhsen_c/src/in_place.rt \
-    crates/pikhsen_c/src/keyed.rt crates/pikhsen_c/src/scrypt.rt
-for text in 'Count::new()' '.plus_one()'; do
-    expect "$text" "argon and romix count, each in its own counter" crates/argon/src/ticks.rt crates/romix/src/ticks.rt
-done
+expect 'Ticks::new(' "a counter is made by the test of a password and the commands, once each" \
+    crates/argon_text/src/verify_password.rt crates/argon2_command/src/run.rt crates/scrypt_command/src/run.rt
+expect 'Count::new()' "argon and romix count, each in its own counter" \
+    crates/argon/src/ticks.rt crates/romix/src/ticks.rt
+expect '.plus_one()' "argon, romix and the heap of the functions for C count, each in its own counter" \
+    crates/argon/src/ticks.rt crates/romix/src/ticks.rt crates/pikhsen_c/src/heap.rt crates/pikhsen_c/src/heap.rt
 
 # Memory is reserved, and work begun, in one place for each way to it, where contracts say what was tested before.
 expect '::reserve(' "only a source of memory reserves, on the condition that limits admit the work" \
-    crates/argon_text/src/room.rt crates/argon2_command/src/room.rt crates/pikhsen_c/src/source.rt \
-    crates/pikhsen_c/src/source.rt crates/scrypt_run/src/room.rt
+    crates/argon_text/src/room.rt crates/argon2_command/src/room.rt crates/pikhsen_c/src/heap.rt \
+    crates/pikhsen_c/src/heap.rt crates/scrypt_run/src/room.rt
 # A run of scrypt has no heap but through its source of memory, whose requests its contract counts.
 expect_below crates/scrypt_run 'Global' "a run has its memory from its source alone" crates/scrypt_run/src/line.rt \
     crates/scrypt_run/src/line.rt crates/scrypt_run/src/line.rt crates/scrypt_run/src/room.rt \
     crates/scrypt_run/src/room.rt
-# Of what only hands on the heap, or a counter that it makes, no contract sees that a step is done twice.
+# The contracts of the functions for C count requests and work, by the machine that these are handed. One file has the
+# heap itself.
+expect_below crates/pikhsen_c 'Global' "a function for C has no heap but that of the machine" \
+    crates/pikhsen_c/src/heap.rt crates/pikhsen_c/src/heap.rt crates/pikhsen_c/src/heap.rt
+# Of what else only hands on the heap, or a counter that it makes, no contract sees that a step is done twice.
 expect 'run(&mut room' "a run is made once" crates/scrypt_command/src/run.rt
 expect 'attempt(' "a run is made once" crates/argon2_command/src/run.rt crates/scrypt_command/src/run.rt
-expect 'verify_in(' "a password is tested once" crates/argon_text/src/verify_password.rt \
-    crates/pikhsen_c/src/keyed.rt crates/pikhsen_c/src/verifying.rt
+expect_below crates/argon_text 'verify_in(' "a password is tested once" crates/argon_text/src/verify_password.rt
 # where it is declared, and the export that ends so, among them
 expect 'verify_keyed(' "a password is tested once" crates/argon_text/src/verify_password.rt \
-    crates/argon_text/src/verify_password.rt crates/pikhsen_c/src/keyed.rt crates/pikhsen_c/src/source.rt
+    crates/argon_text/src/verify_password.rt crates/pikhsen_c/src/keyed.rt crates/pikhsen_c/src/heap.rt
 expect 'read_from(&mut' "a text is read once" crates/argon_text/src/read.rt
 expect '.decode(' "a salt or a tag is decoded once" crates/argon_text/src/room.rt
 expect 'reserve_from(&mut' "memory is asked for once" crates/argon/src/lanes.rt crates/argon/src/matrix.rt \
@@ -96,30 +97,17 @@ expect '.allocator()' "no function takes the heap out of what it is lent, but th
     crates/argon_text/src/encoded.rt
 expect 'vec![in' "lists of a given length are made by the sources of memory, and for the words of the process" \
     crates/argon/src/room.rt crates/argon/src/room.rt crates/argon2_command/src/bytes.rt \
-    crates/pikhsen_c/src/source.rt crates/romix/src/reservation.rt crates/tools/src/arguments.rt
+    crates/pikhsen_c/src/heap.rt crates/romix/src/reservation.rt crates/tools/src/arguments.rt
 expect 'with_capacity(' "room for a given length is asked for by the sources of memory alone, which use lists"
-expect '.hash(' "a hash is made by the test of a password, the functions for C and argon2" \
-    crates/argon_text/src/verify_password.rt crates/argon2_command/src/output.rt crates/pikhsen_c/src/argon2.rt \
-    crates/pikhsen_c/src/encoded.rt
-# The functions for C: one copy of a list is made, where memory comes from, no list grows, and each is freed.
-for text in '.to_vec(' 'Vec::new(' '.write(' 'Encoded::read(' 'Encoded::read(*self, text)' \
-    'Matrix::reserve(*self, params)' 'Workspace::reserve(*self, sparse)' 'text_of_zeros(*self, kind, params, salt)' \
-    'verify_keyed(*self' 'verify_keyed(*self, encoded, password, secret, associated, max_kib, max_ops)'; do
-    expect_below crates/pikhsen_c "$text" "memory is asked for by the sources of memory alone" \
-        crates/pikhsen_c/src/source.rt
-done
+expect_below crates/argon_text '.hash(' "a hash is made once" crates/argon_text/src/verify_password.rt
+expect_below crates/argon2_command '.hash(' "a hash is made once" crates/argon2_command/src/output.rt
+# The functions for C: a list, which keeps its allocator, does not grow, and each is freed.
+expect_below crates/pikhsen_c '.write(' "a text is written where the heap is" crates/pikhsen_c/src/heap.rt
 grows='append|clone\w*|extend\w*|from_elem|insert\w*|push\w*|(try_)?reserve\w*|(try_)?resize\w*|sort\w*'
 if grep -nHE "(\.|::)($grows)\(|\bBox::new\(" crates/pikhsen_c/src/*.rt |
-    grep -vE ': *//|: +(Matrix|Workspace)::reserve\(\*self,'; then
+    grep -vE '/heap\.rt:|: *//'; then
     fail "memory is asked for by a function for C that is not a source of memory"
 fi
-expect 'burn(told)' "zeros are put over the stack before an answer" crates/pikhsen_c/src/argon2.rt \
-    crates/pikhsen_c/src/encoded.rt crates/pikhsen_c/src/file.rt crates/pikhsen_c/src/file.rt \
-    crates/pikhsen_c/src/in_place.rt crates/pikhsen_c/src/keyed.rt crates/pikhsen_c/src/keyed.rt \
-    crates/pikhsen_c/src/scrypt.rt crates/pikhsen_c/src/verifying.rt
-! found=$(sed 's/extern"C"fn/\n/g' "$code"/crates/pikhsen_c/src/*.rt | sed -nE 's/.*let mut source=alloc;(.*)/\1/p' |
-    sed 's/burn(told)}.*//' | grep -E '\breturn\b|\?|\bbreak\b') ||
-    fail "a function for C answers before zeros are put over the stack: $found"
 for text in 'forget(' 'ManuallyDrop' 'leak(' 'into_raw('; do
     expect "$text" "all memory that is taken is freed"
 done
@@ -149,15 +137,10 @@ expect_below crates/romix 'Vec<' "a list of words is not wiped" crates/romix/src
 expect_below crates/argon 'Vec<' "a list of blocks is not wiped" crates/argon/src/held.rt crates/argon/src/held.rt \
     crates/argon/src/lanes.rt crates/argon/src/room.rt crates/argon/src/room.rt crates/argon/src/room.rt \
     crates/argon/src/room.rt crates/argon/src/weave.rt
-# An exported function makes a source of the heap and a counter, and hands these on: no other line speaks of the heap.
-if grep -nHE '(^|[^m])alloc' crates/pikhsen_c/src/*.rt | sed 's/&mut Ticks::new(alloc)//' | grep alloc |
-    grep -vE '/source\.rt:|: *//' | grep -vE ': *(alloc: Global,|let mut source = alloc;|use std::alloc::Global;)$'; then
-    fail "the heap is used by a function for C that is not a source of memory"
-fi
-expect 'Enc::start(' "a derivation for a new file is begun by enc and its function for C" \
-    crates/pikhsen_c/src/file.rt crates/scrypt_run/src/encrypt.rt
-expect 'Dec::open(' "a derivation for a file that is read is begun by dec and its function for C" \
-    crates/pikhsen_c/src/file.rt crates/scrypt_run/src/decrypt.rt
+expect_below crates/scrypt_run 'Enc::start(' "a derivation for a new file is begun once" \
+    crates/scrypt_run/src/encrypt.rt
+expect_below crates/scrypt_run 'Dec::open(' "a derivation for a file that is read is begun once" \
+    crates/scrypt_run/src/decrypt.rt
 
 # Of the system no contract knows a byte. So the files that call it, and what hands the system to the programs, are
 # compared whole, without comments and white space, by their sums: who changes one reads it again, and puts its new sum here.
@@ -179,7 +162,7 @@ compare d18f42d50d03421d9b23cd0e56050613778ec6371eddee7887e272ade6f69bdc crates/
 compare 9d0d777a3f4d40489f2629d8846f725c8c91973ef6e18848af4e522d3231f10f crates/argon2_command/src/line.rt
 compare 8008e33ad9d3744cd3e4c7ba9d35f54f4baa48b8bd09fdfa8e6c04385ca6f382 crates/argon2_command/src/room.rt
 compare abee929f8cb1fdbc22d7ea51528c5888139227b456ce7563b059c7b4426edff6 crates/argon_text/src/room.rt
-compare 35036ae39bd6bcb6d223313685f174b8b3a77c24277d614d88e8f1cb60f5834c crates/pikhsen_c/src/source.rt
+compare cb1b292bb760f949e34e01f10e945bb18c7ce5e7653719541cc2daaea871788b crates/pikhsen_c/src/heap.rt
 compare e5360ca9490e0205e36f133d97c7ea46cde1fe4598ea098d195985c0735e072c crates/romix/src/reservation.rt
 compare b7c9cf4e2e2bdf886fcc59c19cecdc1ac5c414c77aba9a0904ec74736accbc1a crates/scrypt_run/src/line.rt
 compare 266c1125320cd467b012655480d8b345a1f6f7c5ada451d46ed82e1413a73f58 crates/scrypt_run/src/room.rt
@@ -192,10 +175,9 @@ expect '!are_same(&front[64..], ' "the code of a header is compared over all its
 expect 'are_same(&self.bytes, code)' "the final code is compared over all its bytes" crates/encfile/src/held.rt
 expect 'difference |= left[i] ^ right[i];' "the comparison looks at every byte" crates/comparison/src/lib.rt
 compare fb4363fe3d8f4754cafa6a15c5c1d3a150f77cd070cfa0065e07306138c5f572 crates/comparison/src/lib.rt
-compare 2cec3806482fe9dca3c6d842639b41e6b728b0f898496e1bfd965812b49d2426 crates/pikhsen_c/src/burning.rt
-expect 'source.test(' "a password is tested for C in one place" crates/pikhsen_c/src/verifying.rt
+compare 71c33e769e960d3f18f050ea2e08c3c4063c438c0f7254eae786411ffaff42b3 crates/pikhsen_c/src/burning.rt
 for text in '==' '!=' '.eq(' '.ne(' '.cmp(' '.starts_with(' '.position(' 'are_same('; do
-    for file in keyed source verifying; do
+    for file in heap keyed source verifying; do
         expect_below "crates/pikhsen_c/src/$file.rt" "$text" "what tests a password for C compares nothing itself"
     done
 done

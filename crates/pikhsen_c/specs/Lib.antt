@@ -4,5 +4,6 @@ pub mod Message
 pub mod Argon2
 pub mod Scrypt
 pub mod File
+pub mod Heap
 pub mod Settings
 pub mod Inside

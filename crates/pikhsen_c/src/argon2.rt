@@ -6,14 +6,15 @@ ghost use Rattle.argon.specs.Inputs.{inputs_of};
 ghost use Rattle.argon.specs.Kind.{type_number};
 ghost use Rattle.argon.specs.Range.{IsInRange, admission};
 ghost use Rattle.pikhsen_c.specs.Argon2.{hash_status, inputs_given, kind_numbered, limits_status, parameters_given, params_status};
+ghost use Rattle.pikhsen_c.specs.Heap.{AsksOnce};
 ghost use Rattle.pikhsen_c.specs.Inside.Settings.{parameters_of};
 ghost use Rattle.pikhsen_c.specs.Status.{out_of_memory};
 
-use crate::burning::burn;
+use crate::burning::{Told, burn};
+use crate::machine::Machine;
 use crate::source::Source;
 use crate::status;
 use argon::{Inputs, Kind, Params, Ticks};
-use std::alloc::Global;
 
 /// What a caller sets, and the limits of what may be taken.
 #[derive(Drop)]
@@ -151,7 +152,7 @@ fn hash_in<S: Source>(
 /// memory is asked for.
 #[unsafe(no_mangle)]
 pub extern "C" fn pikhsen_argon2_hash(
-    alloc: Global,
+    machine: Machine,
     kind: u32,
     version: u32,
     passes: u32,
@@ -164,20 +165,28 @@ pub extern "C" fn pikhsen_argon2_hash(
     max_kib: u32,
     max_ops: u64,
     out: &mut [u8],
-) -> u32
-    ensures tag { result ≡ 0 → out.new ≡ argon2_tag (parameters_given kind version passes lanes memory_kib
+) -> Told
+    ensures tag { result.status ≡ 0 → out.new ≡ argon2_tag (parameters_given kind version passes lanes memory_kib
         (length out.old) (length salt.now) (length password.now))
         (inputs_given password.now salt.now secret.now associated.now) }
-    ensures status { result ≢ out_of_memory → result ≡ hash_status (parameters_given kind version passes lanes memory_kib
+    ensures status { result.status ≢ out_of_memory → result.status
+        ≡ hash_status (parameters_given kind version passes lanes memory_kib
         (length out.old) (length salt.now) (length password.now))
         (length secret.now) (length associated.now) max_kib max_ops }
     // Memory is asked for, and refused, only where nothing else is.
-    ensures memory { result ≡ out_of_memory → hash_status (parameters_given kind version passes lanes memory_kib
+    ensures memory { result.status ≡ out_of_memory → hash_status (parameters_given kind version passes lanes memory_kib
         (length out.old) (length salt.now) (length password.now))
         (length secret.now) (length associated.now) max_kib max_ops ≡ 0 }
-    ensures untouched { result ≢ 0 → out.new ≡ out.old }
+    ensures untouched { result.status ≢ 0 → out.new ≡ out.old }
+    // What was asked of the heap.
+    ensures asked { AsksOnce result.status machine.heap result.machine.heap }
+    // No hash begins before every refusal is ruled out, and then one.
+    ensures no_work { result.status ≢ 0 → result.machine.blocks ≡ machine.blocks }
+    ensures count { result.status ≡ 0 → result.machine.blocks ≡ machine.blocks
+        + work (parameters_given kind version passes lanes memory_kib
+        (length out.old) (length salt.now) (length password.now)) }
 {
-    let mut source = alloc;
+    let mut machine = machine;
     let settings = Settings {
         kind,
         version,
@@ -193,6 +202,12 @@ pub extern "C" fn pikhsen_argon2_hash(
         secret,
         associated,
     };
-    let told = hash_in(&mut source, &settings, &inputs, out, &mut Ticks::new(alloc));
-    burn(told)
+    let told = hash_in(
+        &mut machine.heap,
+        &settings,
+        &inputs,
+        out,
+        &mut machine.blocks,
+    );
+    burn(told, machine)
 }

@@ -5,16 +5,17 @@ ghost use Rattle.argon.specs.Counts.{work};
 ghost use Rattle.argon.specs.Range.{IsInRange, admission};
 ghost use Rattle.argon_text.specs.EncodedText.{encoded_text};
 ghost use Rattle.pikhsen_c.specs.Argon2.{encoded_hash, encoded_keyed_hash, encoded_keyed_status, encoded_status, hash_status, inputs_given, kind_numbered, parameters_given, settings_status, text_of_zeros, value_given};
+ghost use Rattle.pikhsen_c.specs.Heap.{AsksTwice};
 ghost use Rattle.pikhsen_c.specs.Inside.Settings.{parameters_of};
 ghost use Rattle.pikhsen_c.specs.Status.{out_of_memory, wrong_buffer};
 
 use crate::argon2::{Settings, admitted, kind_of, params_of};
-use crate::burning::burn;
+use crate::burning::{Told, burn};
+use crate::machine::Machine;
 use crate::source::Source;
 use crate::status;
 use argon::{Inputs, Matrix, Ticks};
 use argon_text::put_tag;
-use std::alloc::Global;
 
 // Hashes, and writes the tag over the zeros of the text. It can ask for no memory.
 fn hash_into(
@@ -155,7 +156,7 @@ pub(crate) fn encode_in<S: Source>(
 /// that byte, goes to `text_len`. There is no secret and no associated data.
 #[unsafe(no_mangle)]
 pub extern "C" fn pikhsen_argon2_encoded(
-    alloc: Global,
+    machine: Machine,
     kind: u32,
     version: u32,
     passes: u32,
@@ -168,22 +169,32 @@ pub extern "C" fn pikhsen_argon2_encoded(
     max_ops: u64,
     out: &mut [u8],
     text_len: &mut usize,
-) -> u32
-    ensures text { result ≡ 0 → take text_len.new out.new ≡ encoded_hash (parameters_given kind version passes lanes
-        memory_kib tag_len (length salt.now) (length password.now)) password.now salt.now }
-    ensures end { result ≡ 0 → take (text_len.new + 1) out.new ≡ encoded_hash (parameters_given kind version passes lanes
-        memory_kib tag_len (length salt.now) (length password.now)) password.now salt.now ++ 0 ∷ [] }
+) -> Told
+    ensures text { result.status ≡ 0 → take text_len.new out.new
+        ≡ encoded_hash (parameters_given kind version passes lanes memory_kib
+        tag_len (length salt.now) (length password.now)) password.now salt.now }
+    ensures end { result.status ≡ 0 → take (text_len.new + 1) out.new
+        ≡ encoded_hash (parameters_given kind version passes lanes memory_kib
+        tag_len (length salt.now) (length password.now)) password.now salt.now ++ 0 ∷ [] }
     // What is after it stays.
-    ensures rest { result ≡ 0 → drop (text_len.new + 1) out.new ≡ drop (text_len.new + 1) out.old }
-    ensures status { result ≢ out_of_memory → result ≡ encoded_status (parameters_given kind version passes lanes
-        memory_kib tag_len (length salt.now) (length password.now)) salt.now max_kib max_ops (length out.old) }
+    ensures rest { result.status ≡ 0 → drop (text_len.new + 1) out.new ≡ drop (text_len.new + 1) out.old }
+    ensures status { result.status ≢ out_of_memory → result.status
+        ≡ encoded_status (parameters_given kind version passes lanes memory_kib
+        tag_len (length salt.now) (length password.now)) salt.now max_kib max_ops (length out.old) }
     // Memory is asked for, and refused, only where the settings are not.
-    ensures memory { result ≡ out_of_memory → settings_status (parameters_given kind version passes lanes
+    ensures memory { result.status ≡ out_of_memory → settings_status (parameters_given kind version passes lanes
         memory_kib tag_len (length salt.now) (length password.now)) max_kib max_ops ≡ 0 }
-    ensures untouched { result ≢ 0 → out.new ≡ out.old }
-    ensures nothing { result ≢ 0 → text_len.new ≡ 0 }
+    ensures untouched { result.status ≢ 0 → out.new ≡ out.old }
+    ensures nothing { result.status ≢ 0 → text_len.new ≡ 0 }
+    // What was asked of the heap.
+    ensures asked { AsksTwice result.status machine.heap result.machine.heap }
+    // No hash begins before every refusal is ruled out, and then one.
+    ensures no_work { result.status ≢ 0 → result.machine.blocks ≡ machine.blocks }
+    ensures count { result.status ≡ 0 → result.machine.blocks ≡ machine.blocks
+        + work (parameters_given kind version passes lanes memory_kib
+        tag_len (length salt.now) (length password.now)) }
 {
-    let mut source = alloc;
+    let mut machine = machine;
     let settings = Settings {
         kind,
         version,
@@ -194,7 +205,7 @@ pub extern "C" fn pikhsen_argon2_encoded(
         max_ops,
     };
     let told = encode_in(
-        &mut source,
+        &mut machine.heap,
         &settings,
         password,
         salt,
@@ -203,7 +214,7 @@ pub extern "C" fn pikhsen_argon2_encoded(
         tag_len,
         out,
         text_len,
-        &mut Ticks::new(alloc),
+        &mut machine.blocks,
     );
-    burn(told)
+    burn(told, machine)
 }

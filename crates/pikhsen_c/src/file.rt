@@ -8,16 +8,17 @@ ghost use Rattle.encfile.specs.Encrypting.{HasEncrypted};
 ghost use Rattle.encfile.specs.Header.{IsHeaderOf, costs_of, salt_of};
 ghost use Rattle.encfile.specs.HeaderFaults.{header_fault};
 ghost use Rattle.pikhsen_c.specs.File.{encrypt_status, front_status, header_status, lengths_status, number_of, opening_status};
+ghost use Rattle.pikhsen_c.specs.Heap.{AsksOnce, AsksToOpen};
 ghost use Rattle.pikhsen_c.specs.Scrypt.{costs_given, limits_status, sparse_given};
 ghost use Rattle.pikhsen_c.specs.Status.{damaged, long_text, out_of_memory, wrong_passphrase};
 
-use crate::burning::burn;
+use crate::burning::{Told, burn};
+use crate::machine::Machine;
 use crate::scrypt::{costs_of, workspace};
 use crate::source::Source;
 use crate::status;
 use encfile::{Dec, Enc, Header, TooLong};
 use romix::Ticks;
-use std::alloc::Global;
 
 /// What a file asks for.
 #[repr(C)]
@@ -215,7 +216,7 @@ fn encrypt_in<S: Source>(
 /// The file of a text. `out` has 128 bytes more than the text.
 #[unsafe(no_mangle)]
 pub extern "C" fn pikhsen_scrypt_encrypt(
-    alloc: Global,
+    machine: Machine,
     passphrase: &[u8],
     salt: &[u8],
     log_n: u32,
@@ -226,18 +227,26 @@ pub extern "C" fn pikhsen_scrypt_encrypt(
     max_ops: u64,
     text: &[u8],
     out: &mut [u8],
-) -> u32
-    ensures file { result ≡ 0 → out.new ≡ encrypted_file passphrase.now salt.now (costs_given log_n r p) text.now }
-    ensures status { result ≢ out_of_memory → result ≡ encrypt_status (costs_given log_n r p) keep max_bytes max_ops
+) -> Told
+    ensures file { result.status ≡ 0
+        → out.new ≡ encrypted_file passphrase.now salt.now (costs_given log_n r p) text.now }
+    ensures status { result.status ≢ out_of_memory → result.status
+        ≡ encrypt_status (costs_given log_n r p) keep max_bytes max_ops
         (length salt.now) (length text.now) (length out.old) }
     // Memory is asked for, and refused, only where nothing else is.
-    ensures memory { result ≡ out_of_memory → encrypt_status (costs_given log_n r p) keep max_bytes max_ops
+    ensures memory { result.status ≡ out_of_memory → encrypt_status (costs_given log_n r p) keep max_bytes max_ops
         (length salt.now) (length text.now) (length out.old) ≡ 0 }
-    ensures untouched { result ≢ 0 → out.new ≡ out.old }
+    ensures untouched { result.status ≢ 0 → out.new ≡ out.old }
+    // What was asked of the heap.
+    ensures asked { AsksOnce result.status machine.heap result.machine.heap }
+    // No derivation begins before every refusal is ruled out, and then one.
+    ensures no_work { result.status ≢ 0 → result.machine.cores ≡ machine.cores }
+    ensures count { result.status ≡ 0 → result.machine.cores ≡ machine.cores
+        + sparse_cores passphrase.now salt.now (sparse_given (costs_given log_n r p) keep) }
 {
-    let mut source = alloc;
+    let mut machine = machine;
     let told = encrypt_in(
-        &mut source,
+        &mut machine.heap,
         passphrase,
         salt,
         log_n,
@@ -248,9 +257,9 @@ pub extern "C" fn pikhsen_scrypt_encrypt(
         max_ops,
         text,
         out,
-        &mut Ticks::new(alloc),
+        &mut machine.cores,
     );
-    burn(told)
+    burn(told, machine)
 }
 
 // The first 96 bytes of a file.
@@ -429,7 +438,7 @@ fn decrypt_in<S: Source>(
 /// at least as many bytes as the file, and the text is the first `text_len` of them; the others are zeros.
 #[unsafe(no_mangle)]
 pub extern "C" fn pikhsen_scrypt_decrypt(
-    alloc: Global,
+    machine: Machine,
     passphrase: &[u8],
     keep: u32,
     max_bytes: u64,
@@ -437,29 +446,39 @@ pub extern "C" fn pikhsen_scrypt_decrypt(
     file: &[u8],
     out: &mut [u8],
     text_len: &mut usize,
-) -> u32
-    ensures whole { result ≡ 0 → IsEncryptionOf file.now passphrase.now (take text_len.new out.new) }
-    ensures rest { result ≡ 0 → drop text_len.new out.new ≡ replicate (length out.old - text_len.new) 0 }
-    ensures nothing { result ≢ 0 → text_len.new ≡ 0 }
+) -> Told
+    ensures whole { result.status ≡ 0 → IsEncryptionOf file.now passphrase.now (take text_len.new out.new) }
+    ensures rest { result.status ≡ 0 → drop text_len.new out.new ≡ replicate (length out.old - text_len.new) 0 }
+    ensures nothing { result.status ≢ 0 → text_len.new ≡ 0 }
     // What is refused whatever the passphrase is told by the first fault, and nothing else is then told.
-    ensures status { result ≢ 0 → result ≢ out_of_memory → result < wrong_passphrase
-        → result ≡ front_status file.now keep max_bytes max_ops (length out.old) }
-    ensures admitted { result ≡ 0 → front_status file.now keep max_bytes max_ops (length out.old) ≡ 0 }
-    ensures memory { result ≡ out_of_memory → front_status file.now keep max_bytes max_ops (length out.old) ≡ 0 }
-    ensures late { wrong_passphrase ≤ result → front_status file.now keep max_bytes max_ops (length out.old) ≡ 0 }
-    ensures wrong { result ≡ wrong_passphrase → HasRightHeaderCode (take 96 file.now) passphrase.now → ⊥ }
-    ensures right { wrong_passphrase < result → HasRightHeaderCode (take 96 file.now) passphrase.now }
-    ensures damaged { result ≡ damaged
+    ensures status { result.status ≢ 0 → result.status ≢ out_of_memory → result.status < wrong_passphrase
+        → result.status ≡ front_status file.now keep max_bytes max_ops (length out.old) }
+    ensures admitted { result.status ≡ 0 → front_status file.now keep max_bytes max_ops (length out.old) ≡ 0 }
+    ensures memory { result.status ≡ out_of_memory
+        → front_status file.now keep max_bytes max_ops (length out.old) ≡ 0 }
+    ensures late { wrong_passphrase ≤ result.status
+        → front_status file.now keep max_bytes max_ops (length out.old) ≡ 0 }
+    ensures wrong { result.status ≡ wrong_passphrase → HasRightHeaderCode (take 96 file.now) passphrase.now → ⊥ }
+    ensures right { wrong_passphrase < result.status → HasRightHeaderCode (take 96 file.now) passphrase.now }
+    ensures damaged { result.status ≡ damaged
         → IsEncryptionOf file.now passphrase.now (released_text file.now passphrase.now) → ⊥ }
-    ensures too_long { result ≡ long_text → 2 ^ 60 + 128 ≤ length file.now }
-    ensures high { result ≤ 29 }
+    ensures too_long { result.status ≡ long_text → 2 ^ 60 + 128 ≤ length file.now }
+    ensures high { result.status ≤ 29 }
     // No text is left of a file that is not whole.
-    ensures zeros { wrong_passphrase < result → out.new ≡ replicate (length out.old) 0 }
-    ensures untouched { result ≢ 0 → result ≤ wrong_passphrase → out.new ≡ out.old }
+    ensures zeros { wrong_passphrase < result.status → out.new ≡ replicate (length out.old) 0 }
+    ensures untouched { result.status ≢ 0 → result.status ≤ wrong_passphrase → out.new ≡ out.old }
+    // What was asked of the heap.
+    ensures asked { AsksToOpen result.status machine.heap result.machine.heap }
+    // No derivation begins before these refusals are ruled out, and then one.
+    ensures no_work { result.status ≢ 0 → result.status < wrong_passphrase → result.machine.cores ≡ machine.cores }
+    ensures count { result.status ≡ 0 → result.machine.cores ≡ machine.cores
+        + sparse_cores passphrase.now (salt_of (take 64 file.now)) (sparse_given (costs_of (take 64 file.now)) keep) }
+    ensures count_if_wrong { wrong_passphrase ≤ result.status → result.machine.cores ≡ machine.cores
+        + sparse_cores passphrase.now (salt_of (take 64 file.now)) (sparse_given (costs_of (take 64 file.now)) keep) }
 {
-    let mut source = alloc;
+    let mut machine = machine;
     let told = decrypt_in(
-        &mut source,
+        &mut machine.heap,
         passphrase,
         keep,
         max_bytes,
@@ -467,7 +486,7 @@ pub extern "C" fn pikhsen_scrypt_decrypt(
         file,
         out,
         text_len,
-        &mut Ticks::new(alloc),
+        &mut machine.cores,
     );
-    burn(told)
+    burn(told, machine)
 }

@@ -5,16 +5,17 @@ ghost use Rattle.romix.specs.Sparse.{sparse_cores};
 ghost use Rattle.encfile.specs.EncryptedFile.{encrypted_file};
 ghost use Rattle.encfile.specs.Encrypting.{HasEncrypted};
 ghost use Rattle.pikhsen_c.specs.File.{encrypt_status};
+ghost use Rattle.pikhsen_c.specs.Heap.{AsksOnce};
 ghost use Rattle.pikhsen_c.specs.Scrypt.{costs_given, sparse_given};
 ghost use Rattle.pikhsen_c.specs.Status.{out_of_memory};
 
-use crate::burning::burn;
+use crate::burning::{Told, burn};
 use crate::file::begun;
+use crate::machine::Machine;
 use crate::source::Source;
 use crate::status;
 use encfile::{Enc, TooLong};
 use romix::Ticks;
-use std::alloc::Global;
 
 // Moves the text, which is all but the last 128 bytes, to where it stands in a file, and makes the file of it, by an
 // encryption of nothing yet. It is never too long.
@@ -96,7 +97,7 @@ fn encrypt_in_place_in<S: Source>(
 /// The file of the text that is all of `out` but its last 128 bytes, which need not be set. The file takes its place.
 #[unsafe(no_mangle)]
 pub extern "C" fn pikhsen_scrypt_encrypt_in_place(
-    alloc: Global,
+    machine: Machine,
     passphrase: &[u8],
     salt: &[u8],
     log_n: u32,
@@ -106,20 +107,27 @@ pub extern "C" fn pikhsen_scrypt_encrypt_in_place(
     max_bytes: u64,
     max_ops: u64,
     out: &mut [u8],
-) -> u32
-    ensures file { result ≡ 0 → out.new ≡ encrypted_file passphrase.now salt.now (costs_given log_n r p)
+) -> Told
+    ensures file { result.status ≡ 0 → out.new ≡ encrypted_file passphrase.now salt.now (costs_given log_n r p)
         (take (length out.old - 128) out.old) }
-    ensures status { result ≢ out_of_memory → result ≡ encrypt_status (costs_given log_n r p) keep max_bytes max_ops
+    ensures status { result.status ≢ out_of_memory → result.status
+        ≡ encrypt_status (costs_given log_n r p) keep max_bytes max_ops
         (length salt.now) (length out.old - 128) (length out.old) }
     // Memory is asked for, and refused, only where nothing else is.
-    ensures memory { result ≡ out_of_memory → encrypt_status (costs_given log_n r p) keep max_bytes max_ops
+    ensures memory { result.status ≡ out_of_memory → encrypt_status (costs_given log_n r p) keep max_bytes max_ops
         (length salt.now) (length out.old - 128) (length out.old) ≡ 0 }
     // The text stays where it is not encrypted.
-    ensures untouched { result ≢ 0 → out.new ≡ out.old }
+    ensures untouched { result.status ≢ 0 → out.new ≡ out.old }
+    // What was asked of the heap.
+    ensures asked { AsksOnce result.status machine.heap result.machine.heap }
+    // No derivation begins before every refusal is ruled out, and then one.
+    ensures no_work { result.status ≢ 0 → result.machine.cores ≡ machine.cores }
+    ensures count { result.status ≡ 0 → result.machine.cores ≡ machine.cores
+        + sparse_cores passphrase.now salt.now (sparse_given (costs_given log_n r p) keep) }
 {
-    let mut source = alloc;
+    let mut machine = machine;
     let told = encrypt_in_place_in(
-        &mut source,
+        &mut machine.heap,
         passphrase,
         salt,
         log_n,
@@ -129,7 +137,7 @@ pub extern "C" fn pikhsen_scrypt_encrypt_in_place(
         max_bytes,
         max_ops,
         out,
-        &mut Ticks::new(alloc),
+        &mut machine.cores,
     );
-    burn(told)
+    burn(told, machine)
 }

@@ -9,8 +9,10 @@ mod argon2;
 mod burning;
 mod encoded;
 mod file;
+mod heap;
 mod in_place;
 mod keyed;
+mod machine;
 mod message;
 mod scrypt;
 mod settings;
@@ -22,12 +24,15 @@ mod verifying;
 mod version;
 
 pub use argon2::pikhsen_argon2_hash;
+pub use burning::Told;
 pub use encoded::pikhsen_argon2_encoded;
 pub use file::{
     PikhsenScryptCosts, pikhsen_scrypt_decrypt, pikhsen_scrypt_encrypt, pikhsen_scrypt_info,
 };
+pub use heap::Heap;
 pub use in_place::pikhsen_scrypt_encrypt_in_place;
 pub use keyed::{pikhsen_argon2_encoded_keyed, pikhsen_argon2_verify_keyed};
+pub use machine::Machine;
 pub use message::pikhsen_message;
 pub use scrypt::pikhsen_scrypt;
 pub use settings::{PikhsenArgon2Settings, pikhsen_argon2_needs_rehash, pikhsen_argon2_settings};

@@ -3,14 +3,15 @@ ghost use Rattle.std.specs.Prelude.{◌≡◌, ◌≢◌, ◌+◌, ◌≤◌, �
 ghost use Rattle.romix.specs.Scrypt.{scrypt};
 ghost use Rattle.romix.specs.Sparse.{sparse_cores};
 ghost use Rattle.romix.specs.SparseCosts.{SparseFitsMemory};
+ghost use Rattle.pikhsen_c.specs.Heap.{AsksOnce};
 ghost use Rattle.pikhsen_c.specs.Scrypt.{costs_given, costs_status, limits_status, scrypt_status, sparse_given};
 ghost use Rattle.pikhsen_c.specs.Status.{out_of_memory};
 
-use crate::burning::burn;
+use crate::burning::{Told, burn};
+use crate::machine::Machine;
 use crate::source::Source;
 use crate::status;
 use romix::{Costs, Limits, Sparse, Ticks, Workspace};
-use std::alloc::Global;
 
 // No more bytes are asked for, whatever the limit of a caller.
 const MOST_BYTES: u64 = 1 << 40;
@@ -142,7 +143,7 @@ fn derive_in<S: Source>(
 /// made again: the key is the same.
 #[unsafe(no_mangle)]
 pub extern "C" fn pikhsen_scrypt(
-    alloc: Global,
+    machine: Machine,
     password: &[u8],
     salt: &[u8],
     log_n: u32,
@@ -152,18 +153,24 @@ pub extern "C" fn pikhsen_scrypt(
     max_bytes: u64,
     max_ops: u64,
     out: &mut [u8],
-) -> u32
-    ensures key { result ≡ 0 → out.new ≡ scrypt password.now salt.now (2 ^ log_n) r p (length out.old) }
-    ensures status { result ≢ out_of_memory
-        → result ≡ scrypt_status (costs_given log_n r p) keep max_bytes max_ops (length out.old) }
+) -> Told
+    ensures key { result.status ≡ 0 → out.new ≡ scrypt password.now salt.now (2 ^ log_n) r p (length out.old) }
+    ensures status { result.status ≢ out_of_memory
+        → result.status ≡ scrypt_status (costs_given log_n r p) keep max_bytes max_ops (length out.old) }
     // Memory is asked for, and refused, only where nothing else is.
-    ensures memory { result ≡ out_of_memory
+    ensures memory { result.status ≡ out_of_memory
         → scrypt_status (costs_given log_n r p) keep max_bytes max_ops (length out.old) ≡ 0 }
-    ensures untouched { result ≢ 0 → out.new ≡ out.old }
+    ensures untouched { result.status ≢ 0 → out.new ≡ out.old }
+    // What was asked of the heap.
+    ensures asked { AsksOnce result.status machine.heap result.machine.heap }
+    // No derivation begins before every refusal is ruled out, and then one.
+    ensures no_work { result.status ≢ 0 → result.machine.cores ≡ machine.cores }
+    ensures count { result.status ≡ 0 → result.machine.cores ≡ machine.cores
+        + sparse_cores password.now salt.now (sparse_given (costs_given log_n r p) keep) }
 {
-    let mut source = alloc;
+    let mut machine = machine;
     let told = derive_in(
-        &mut source,
+        &mut machine.heap,
         password,
         salt,
         log_n,
@@ -173,7 +180,7 @@ pub extern "C" fn pikhsen_scrypt(
         max_bytes,
         max_ops,
         out,
-        &mut Ticks::new(alloc),
+        &mut machine.cores,
     );
-    burn(told)
+    burn(told, machine)
 }

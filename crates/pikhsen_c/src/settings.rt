@@ -2,14 +2,16 @@
 ghost use Rattle.std.specs.Prelude.{◌≡◌, ◌≢◌, ◌≤◌, ◌<◌, true};
 ghost use Rattle.argon_text.specs.Grammar.{HasNumbers, IsText, IsTextInRange};
 ghost use Rattle.argon_text.specs.View.{value_of};
+ghost use Rattle.pikhsen_c.specs.Heap.{AsksToRead};
 ghost use Rattle.pikhsen_c.specs.Inside.Requests.{had_memory, had_memory_to_read};
 ghost use Rattle.pikhsen_c.specs.Settings.{HasSettings, IsCompared, IsOutOfRange, settings_told};
 ghost use Rattle.pikhsen_c.specs.Status.{not_encoded, out_of_memory};
 
+use crate::burning::{Told, burn};
+use crate::machine::Machine;
 use crate::source::Source;
 use crate::status;
 use argon_text::{Encoded, ReadFault, range_fault};
-use std::alloc::Global;
 
 /// What an encoded text says but for the bytes of its salt and its tag, of which it has the lengths.
 #[repr(C)]
@@ -108,24 +110,27 @@ fn settings_in<S: Source>(source: &mut S, text: &[u8], settings: &mut PikhsenArg
 /// The settings of an encoded text. Nothing is hashed, and no password is tested.
 #[unsafe(no_mangle)]
 pub extern "C" fn pikhsen_argon2_settings(
-    alloc: Global,
+    machine: Machine,
     text: &[u8],
     settings: &mut PikhsenArgon2Settings,
-) -> u32
-    ensures found { result ≡ 0 → HasSettings text.now settings.new }
-    ensures not_in_grammar { result ≡ not_encoded → IsText text.now → ⊥ }
+) -> Told
+    ensures found { result.status ≡ 0 → HasSettings text.now settings.new }
+    ensures not_in_grammar { result.status ≡ not_encoded → IsText text.now → ⊥ }
     // Each part of a text that may be out of range has a number of its own, and the first is told.
-    ensures out_of_range { 31 ≤ result → IsOutOfRange text.now result }
-    ensures memory { result ≡ out_of_memory → HasNumbers text.now }
+    ensures out_of_range { 31 ≤ result.status → IsOutOfRange text.now result.status }
+    ensures memory { result.status ≡ out_of_memory → HasNumbers text.now }
     // There is no other number.
-    ensures low { 0 < result → 9 ≤ result }
-    ensures gap { 9 < result → 14 ≤ result }
-    ensures gap_after_14 { 14 < result → 31 ≤ result }
-    ensures high { result ≤ 36 }
-    ensures untouched { result ≢ 0 → settings.new ≡ settings.old }
+    ensures low { 0 < result.status → 9 ≤ result.status }
+    ensures gap { 9 < result.status → 14 ≤ result.status }
+    ensures gap_after_14 { 14 < result.status → 31 ≤ result.status }
+    ensures high { result.status ≤ 36 }
+    ensures untouched { result.status ≢ 0 → settings.new ≡ settings.old }
+    // What was asked of the heap.
+    ensures asked { AsksToRead result.status machine.heap result.machine.heap }
 {
-    let mut source = alloc;
-    settings_in(&mut source, text, settings)
+    let mut machine = machine;
+    let told = settings_in(&mut machine.heap, text, settings);
+    burn(told, machine)
 }
 
 // Whether a text has these settings, with memory from `source`: for its salt and its tag.
@@ -160,22 +165,25 @@ fn needs_rehash_in<S: Source>(
 /// where it was, and 0 where it has just these.
 #[unsafe(no_mangle)]
 pub extern "C" fn pikhsen_argon2_needs_rehash(
-    alloc: Global,
+    machine: Machine,
     text: &[u8],
     wanted: &PikhsenArgon2Settings,
     needs: &mut u32,
-) -> u32
-    ensures compared { result ≡ 0 → IsCompared text.now wanted.now needs.new }
-    ensures not_in_grammar { result ≡ not_encoded → IsText text.now → ⊥ }
-    ensures out_of_range { 31 ≤ result → IsOutOfRange text.now result }
-    ensures memory { result ≡ out_of_memory → HasNumbers text.now }
+) -> Told
+    ensures compared { result.status ≡ 0 → IsCompared text.now wanted.now needs.new }
+    ensures not_in_grammar { result.status ≡ not_encoded → IsText text.now → ⊥ }
+    ensures out_of_range { 31 ≤ result.status → IsOutOfRange text.now result.status }
+    ensures memory { result.status ≡ out_of_memory → HasNumbers text.now }
     // There is no other number.
-    ensures low { 0 < result → 9 ≤ result }
-    ensures gap { 9 < result → 14 ≤ result }
-    ensures gap_after_14 { 14 < result → 31 ≤ result }
-    ensures high { result ≤ 36 }
-    ensures untouched { result ≢ 0 → needs.new ≡ needs.old }
+    ensures low { 0 < result.status → 9 ≤ result.status }
+    ensures gap { 9 < result.status → 14 ≤ result.status }
+    ensures gap_after_14 { 14 < result.status → 31 ≤ result.status }
+    ensures high { result.status ≤ 36 }
+    ensures untouched { result.status ≢ 0 → needs.new ≡ needs.old }
+    // What was asked of the heap.
+    ensures asked { AsksToRead result.status machine.heap result.machine.heap }
 {
-    let mut source = alloc;
-    needs_rehash_in(&mut source, text, wanted, needs)
+    let mut machine = machine;
+    let told = needs_rehash_in(&mut machine.heap, text, wanted, needs);
+    burn(told, machine)
 }

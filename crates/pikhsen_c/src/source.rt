@@ -13,9 +13,9 @@ ghost use Rattle.pikhsen_c.specs.Inside.Requests.{had_memory_to_read, had_memory
 ghost use Rattle.pikhsen_c.specs.Scrypt.{limits_status};
 
 use argon::{Kind, Matrix, Params};
-use argon_text::{Encoded, ReadFault, VerifyFault, verify_keyed};
+use argon_text::{Encoded, ReadFault, VerifyFault};
 use romix::{Sparse, Workspace};
-use std::alloc::{AllocError, Global};
+use std::alloc::AllocError;
 
 /// The requests for memory of a call. Contracts see which were made, in which order, under which limits, and whether
 /// they were granted: the last argument of each function below says so.
@@ -93,82 +93,4 @@ pub(crate) trait Source {
         ensures refused { IfErr result (λ fault. self.new
             ≡ after_test self.old (value_of encoded.now) password.now secret.now associated.now
             max_kib max_ops (had_memory_to_test fault)) };
-}
-
-impl Source for Global {
-    ghost after_matrix = { λ source _ _ _ _. source };
-
-    ghost after_text = { λ source _ _ _. source };
-
-    ghost after_workspace = { λ source _ _ _ _. source };
-
-    ghost after_reading = { λ source _ _. source };
-
-    ghost after_test = { λ source _ _ _ _ _ _ _. source };
-
-    fn matrix(
-        &mut self,
-        params: &Params,
-        _max_kib: u32,
-        _max_ops: u64,
-    ) -> Result<Matrix, AllocError> {
-        Matrix::reserve(*self, params)
-    }
-
-    fn text(&mut self, kind: Kind, params: &Params, salt: &[u8]) -> Result<Vec<u8>, AllocError> {
-        text_of_zeros(*self, kind, params, salt)
-    }
-
-    fn workspace(
-        &mut self,
-        sparse: &Sparse,
-        _max_bytes: u64,
-        _max_ops: u64,
-    ) -> Result<Workspace, AllocError> {
-        Workspace::reserve(*self, sparse)
-    }
-
-    fn read(&mut self, text: &[u8]) -> Result<Encoded, ReadFault> {
-        Encoded::read(*self, text)
-    }
-
-    fn test(
-        &mut self,
-        encoded: &Encoded,
-        password: &[u8],
-        secret: &[u8],
-        associated: &[u8],
-        max_kib: u32,
-        max_ops: u64,
-    ) -> Result<bool, VerifyFault> {
-        verify_keyed(
-            *self, encoded, password, secret, associated, max_kib, max_ops,
-        )
-    }
-}
-
-// The text that has zeros for a tag.
-fn text_of_zeros(
-    alloc: Global,
-    kind: Kind,
-    params: &Params,
-    salt: &[u8],
-) -> Result<Vec<u8>, AllocError>
-    requires kind { kind ≡ kind_numbered params.now.kind }
-    requires in_range { IsInRange params.now }
-    requires salt { length salt.now ≡ params.now.salt_len }
-    ensures text { IfOk result (λ text. text.items ≡ text_of_zeros params.now salt.now) }
-{
-    let encoded = Encoded {
-        kind,
-        version: params.version(),
-        memory: params.memory_kib(),
-        passes: params.passes(),
-        lanes: params.lanes(),
-        salt: salt.to_vec(alloc)?,
-        tag: vec![in alloc; 0u8; params.tag_len()]?,
-    };
-    let mut text = Vec::new(alloc);
-    encoded.write(&mut text)?;
-    Ok(text)
 }

@@ -6,15 +6,16 @@ ghost use Rattle.argon_text.specs.Value.{Value};
 ghost use Rattle.argon_text.specs.Verifying.{keyed_fault, keyed_tag};
 ghost use Rattle.argon_text.specs.View.{value_of};
 ghost use Rattle.pikhsen_c.specs.Argon2.{HasKeyedPassword, HasOtherKeyedPassword, HasOtherPassword, HasPassword, IsJudged, IsKeyedJudged, MayLackKeyedMemory, MayLackMemory};
+ghost use Rattle.pikhsen_c.specs.Heap.{AsksToVerify};
 ghost use Rattle.pikhsen_c.specs.Inside.Requests.{had_memory};
 ghost use Rattle.pikhsen_c.specs.Inside.Verifying.{IsTold};
 ghost use Rattle.pikhsen_c.specs.Status.{long_input, mismatch, not_encoded, out_of_memory, out_of_range};
 
-use crate::burning::burn;
+use crate::burning::{Told, burn};
+use crate::machine::Machine;
 use crate::source::Source;
 use crate::status;
 use argon_text::{Encoded, VerifyFault};
-use std::alloc::Global;
 
 // What the test of a password answers, by its number.
 fn answered<S: Source>(
@@ -111,26 +112,39 @@ pub(crate) fn verify_in<S: Source>(
 /// where it needs more than the limits allow, before memory is asked for the hash.
 #[unsafe(no_mangle)]
 pub extern "C" fn pikhsen_argon2_verify(
-    alloc: Global,
+    machine: Machine,
     text: &[u8],
     password: &[u8],
     max_kib: u32,
     max_ops: u64,
-) -> u32
-    ensures right { result ≡ 0 → HasPassword text.now password.now max_kib max_ops }
-    ensures wrong { result ≡ mismatch → HasOtherPassword text.now password.now max_kib max_ops }
-    ensures not_in_grammar { result ≡ not_encoded → IsText text.now → ⊥ }
-    ensures out_of_range { result ≡ out_of_range → IsText text.now × (IsTextInRange text.now → ⊥) }
-    ensures password_len { result ≡ 6 → IsJudged (Some VerifyFault.PasswordLength) text.now password.now max_kib max_ops }
-    ensures memory_limit { result ≡ 7 → IsJudged (Some VerifyFault.MemoryLimit) text.now password.now max_kib max_ops }
-    ensures work_limit { result ≡ 8 → IsJudged (Some VerifyFault.WorkLimit) text.now password.now max_kib max_ops }
-    ensures memory { result ≡ out_of_memory → MayLackMemory text.now password.now max_kib max_ops }
+) -> Told
+    ensures right { result.status ≡ 0 → HasPassword text.now password.now max_kib max_ops }
+    ensures wrong { result.status ≡ mismatch → HasOtherPassword text.now password.now max_kib max_ops }
+    ensures not_in_grammar { result.status ≡ not_encoded → IsText text.now → ⊥ }
+    ensures out_of_range { result.status ≡ out_of_range → IsText text.now × (IsTextInRange text.now → ⊥) }
+    ensures password_len { result.status ≡ 6
+        → IsJudged (Some VerifyFault.PasswordLength) text.now password.now max_kib max_ops }
+    ensures memory_limit { result.status ≡ 7
+        → IsJudged (Some VerifyFault.MemoryLimit) text.now password.now max_kib max_ops }
+    ensures work_limit { result.status ≡ 8
+        → IsJudged (Some VerifyFault.WorkLimit) text.now password.now max_kib max_ops }
+    ensures memory { result.status ≡ out_of_memory → MayLackMemory text.now password.now max_kib max_ops }
     // There is no other number.
-    ensures low { 0 < result → 6 ≤ result }
-    ensures gap { 9 < result → 14 ≤ result }
-    ensures high { result ≤ 16 }
+    ensures low { 0 < result.status → 6 ≤ result.status }
+    ensures gap { 9 < result.status → 14 ≤ result.status }
+    ensures high { result.status ≤ 16 }
+    // What was asked of the heap.
+    ensures asked { AsksToVerify result.status machine.heap result.machine.heap }
 {
-    let mut source = alloc;
-    let told = verify_in(&mut source, text, password, &[], &[], max_kib, max_ops);
-    burn(told)
+    let mut machine = machine;
+    let told = verify_in(
+        &mut machine.heap,
+        text,
+        password,
+        &[],
+        &[],
+        max_kib,
+        max_ops,
+    );
+    burn(told, machine)
 }

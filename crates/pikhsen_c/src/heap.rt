@@ -1,0 +1,123 @@
+//! The heap of the program that calls, as the functions for C have it: contracts see what was asked of it.
+ghost use Rattle.std.specs.Prelude.{◌≡◌, length, IfOk};
+ghost use Rattle.argon.specs.Range.{IsInRange};
+ghost use Rattle.pikhsen_c.specs.Argon2.{kind_numbered, text_of_zeros};
+ghost use Rattle.pikhsen_c.specs.Heap.{after_request};
+
+use crate::source::Source;
+use argon::{Kind, Matrix, Params};
+use argon_text::{Encoded, ReadFault, VerifyFault, verify_keyed};
+use counter::Count;
+use romix::{Sparse, Workspace};
+use std::alloc::{AllocError, Global};
+
+/// The heap, and how many requests it granted and refused, each call of `Source` being one. It takes no bytes. No code
+/// but this file makes one, or takes the allocator out of it.
+#[repr(C)]
+#[derive(Drop)]
+pub struct Heap {
+    alloc: Global,
+    granted: Count,
+    refused: Count,
+}
+
+impl Heap {
+    // Counts one request.
+    fn count(&mut self, granted: bool)
+        ensures counted { self.new ≡ after_request self.old granted }
+    {
+        if granted {
+            self.granted = self.granted.plus_one();
+        } else {
+            self.refused = self.refused.plus_one();
+        }
+    }
+}
+
+impl Source for Heap {
+    ghost after_matrix = { λ heap _ _ _ granted. after_request heap granted };
+
+    ghost after_text = { λ heap _ _ granted. after_request heap granted };
+
+    ghost after_workspace = { λ heap _ _ _ granted. after_request heap granted };
+
+    ghost after_reading = { λ heap _ granted. after_request heap granted };
+
+    ghost after_test = { λ heap _ _ _ _ _ _ granted. after_request heap granted };
+
+    fn matrix(
+        &mut self,
+        params: &Params,
+        _max_kib: u32,
+        _max_ops: u64,
+    ) -> Result<Matrix, AllocError> {
+        let matrix = Matrix::reserve(self.alloc, params);
+        self.count(matrix.is_ok());
+        matrix
+    }
+
+    fn text(&mut self, kind: Kind, params: &Params, salt: &[u8]) -> Result<Vec<u8>, AllocError> {
+        let text = text_of_zeros(self.alloc, kind, params, salt);
+        self.count(text.is_ok());
+        text
+    }
+
+    fn workspace(
+        &mut self,
+        sparse: &Sparse,
+        _max_bytes: u64,
+        _max_ops: u64,
+    ) -> Result<Workspace, AllocError> {
+        let workspace = Workspace::reserve(self.alloc, sparse);
+        self.count(workspace.is_ok());
+        workspace
+    }
+
+    fn read(&mut self, text: &[u8]) -> Result<Encoded, ReadFault> {
+        let read = Encoded::read(self.alloc, text);
+        self.count(!matches!(&read, Err(ReadFault::OutOfMemory)));
+        read
+    }
+
+    fn test(
+        &mut self,
+        encoded: &Encoded,
+        password: &[u8],
+        secret: &[u8],
+        associated: &[u8],
+        max_kib: u32,
+        max_ops: u64,
+    ) -> Result<bool, VerifyFault> {
+        let told = verify_keyed(
+            self.alloc, encoded, password, secret, associated, max_kib, max_ops,
+        );
+        self.count(!matches!(&told, Err(VerifyFault::OutOfMemory)));
+        told
+    }
+}
+
+// The text that has zeros for a tag.
+fn text_of_zeros(
+    alloc: Global,
+    kind: Kind,
+    params: &Params,
+    salt: &[u8],
+) -> Result<Vec<u8>, AllocError>
+    requires kind { kind ≡ kind_numbered params.now.kind }
+    requires in_range { IsInRange params.now }
+    requires salt { length salt.now ≡ params.now.salt_len }
+    ensures text { IfOk result (λ text. text.items ≡ text_of_zeros params.now salt.now) }
+{
+    let encoded = Encoded {
+        kind,
+        version: params.version(),
+        memory: params.memory_kib(),
+        passes: params.passes(),
+        lanes: params.lanes(),
+        salt: salt.to_vec(alloc)?,
+        tag: vec![in alloc; 0u8; params.tag_len()]?,
+    };
+    let mut text = Vec::new(alloc);
+    encoded.write(&mut text)?;
+    Ok(text)
+}
