@@ -139,9 +139,12 @@ of_threads = [f"{float(it):.1f}" for it in (lanes[0], lanes[-1])]
 lanes = [f"{1 / float(lanes[-1]):.2f}", f"{1 / float(lanes[0]):.2f}"]
 BENCHMARKS = " ".join((TOP / "docs/BENCHMARKS.md").read_text(encoding="utf-8").split())
 (slower,) = re.findall(r"ours, which cannot, took (\S+ to \S+) times as long", BENCHMARKS)
+LIBRARIES = ("libsodium", "OpenSSL")
+beside = {it: [between(it, None, level) for level in ("v2", "v3")] for it in LIBRARIES}
 LOGIN, KEY = ("argon2 -id -t 3 -p 4 -m", "16"), "key, -r 8 -p 1, --logN"
 keys_of = {log_n: seconds(KEY, log_n) for log_n in ("14", "17", "20")}
-less = [f"{float(row['theirs_MiB']) - float(row['ours_MiB']):.1f}" for row in MEASURED.values()]
+less = [f"{float(row['theirs_MiB']) - float(row['ours_MiB']):.1f}" for (work, _, _), row in MEASURED.items()
+        if not work.startswith(LIBRARIES)]
 less.sort(key=float)
 python = {it: sorted(f"{ratio:.2f}" for work, ratio in PYTHON if work.startswith(it)) for it in ("Argon2", "scrypt")}
 SENTENCES = [
@@ -151,7 +154,7 @@ SENTENCES = [
     ("README.md", f"with `--keep 16`: {KEPT['20', '16'][0]:.0f} MiB, and "
                   f"{KEPT['20', '16'][1] / KEPT['20', '1'][1]:.1f} times the time"),
     ("README.md", f"takes 1 GiB and {keys_of['20']} seconds"),
-    ("README.md", f"takes 64 MiB and {seconds(*LOGIN)} to {seconds(*LOGIN, 'x86-64-v2')} seconds"),
+    ("README.md", f"takes 64 MiB and {seconds(*LOGIN, digits=2)} to {seconds(*LOGIN, 'x86-64-v2', digits=2)} seconds"),
     *(("man/scrypt.1", f"{memory} and {keys_of[log_n]} seconds")
       for log_n, memory in (("14", "16 MiB"), ("17", "128 MiB"), ("20", "1 GiB"))),
     ("man/scrypt.1", "{} to {} percent off the processor time of a key of 128 MiB".format(
@@ -169,6 +172,8 @@ SENTENCES = [
     ("docs/BENCHMARKS.md", f"{levels['v2'][1][0]} to {levels['v2'][1][-1]} for x86-64-v2, and {levels['v3'][1][0]} to "
                            f"{levels['v3'][1][-1]} for x86-64-v3"),
     ("docs/BENCHMARKS.md", f"{' and '.join(levels['v2'][2])} for x86-64-v2, {' and '.join(levels['v3'][2])} for x86-64-v3"),
+    *(("docs/BENCHMARKS.md", f"{v2[0]} to {v2[-1]} of the time of {it} for x86-64-v2, and {v3[0]} to {v3[-1]} for x86-64-v3")
+      for it, (v2, v3) in beside.items()),
     ("docs/BENCHMARKS.md", f"has all {len(MEASURED)} rows"),
     ("docs/BENCHMARKS.md", f"hashes took {python['Argon2'][0]} to {python['Argon2'][-1]} of the time of argon2-cffi, and keys "
                            f"{python['scrypt'][0]} to {python['scrypt'][-1]} of that of `hashlib.scrypt`"),

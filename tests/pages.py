@@ -139,7 +139,7 @@ def machines():
     for level, processor in (("x86-64-v2", "as E"), ("x86-64-v3", "the same")):
         files = " and ".join(PRINTED[f"{it}, --logN 14, MiB", "100", level]["ratio"] for it in ("enc", "dec"))
         loads = sorted(float(row["load"]) for row in PRINTED.values())
-        lines.append(["F", level, processor, f"{loads[0]:g} to {loads[-1]:g}", least_and_most(level, "argon2 ", ("16", "18")),
+        lines.append(["G", level, processor, f"{loads[0]:g} to {loads[-1]:g}", least_and_most(level, "argon2 ", ("16", "18")),
                       least_and_most(level, "key"), files])
     head = ["machine", "built for", "processor", "load", "hashes", "keys", "`enc` and `dec`, 100 MiB"]
     return table(head, lines)
