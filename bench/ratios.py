@@ -25,8 +25,8 @@ ROWS = [
     ("OpenSSL, -r 8 -p 1, --logN", "17", "OpenSSL: key, N = 2^17"),
 ]
 LEVELS = [("x86-64-v2", "v2", 1), ("x86-64-v3", "v3", 14)]
-LEFT, SCALE, STEP, TOP = 250, 400, 32, 84
-SECONDS = LEFT + int(1.3 * SCALE)
+LEFT, SCALE, STEP, TOP = 250, 360, 32, 84
+SECONDS = LEFT + int(1.45 * SCALE)
 WIDTH = SECONDS + 190
 # Colours for a light page and for a dark one: page, text, soft text, grid, v2, v3, Debian's.
 LIGHT = "#ffffff #1f2328 #59636e #d1d9e0 #4493f8 #0a3069 #cf222e".split()
@@ -85,7 +85,7 @@ def drawn(path):
         f'<svg xmlns="http://www.w3.org/2000/svg" viewBox="0 0 {WIDTH} {height}" width="{WIDTH}" height="{height}">',
         f"<title>Processor time beside Debian's scrypt and argon2</title><style>{STYLE}</style>",
         f'<rect class="page" width="{WIDTH}" height="{height}"/>',
-        '<text class="title" x="20" y="28">Processor time beside Debian\'s programs: shorter is faster</text>',
+        '<text class="title" x="20" y="28">Processor time beside Debian\'s programs and libraries: shorter is faster</text>',
         f'<text class="soft" x="20" y="47">{escape(machine)}; {escape(day)}; labels: the ratio, our time, Debian\'s time</text>',
     ]
     for (level, kind, _), x in zip(LEVELS, (20, 180)):

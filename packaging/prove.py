@@ -31,14 +31,14 @@ CRATES, ROOMS, LOGS = TOP / "crates", TOP / "bin/rooms", TOP / "bin/logs"
 MEMORY = 3 << 20  # KiB for a check: few take more
 MOST = 4  # processes that share the work of one crate: more gain little
 BESIDE = 10  # how nice a crate is to the one that holds up most others
-SMALL = 52  # seconds of the processor below which a check mostly loads libraries, which each process would do again
+SMALL = 60  # seconds of the processor below which a check mostly loads libraries, which each process would do again
 
 # Seconds of the processor for a check from nothing. Only the order of the crates rests on them.
 SECONDS = {
-    "four_words": 9, "counter": 10, "blake": 53, "comparison": 12, "macs": 28, "aes_ctr": 108, "romix": 101,
-    "encfile": 60, "argon": 156, "argon_text": 117, "host": 85, "scrypt_run": 151, "command_words": 18,
-    "argon2_command": 166, "scrypt_command": 213, "command": 19, "tools": 82, "pikhsen_c": 153, "argon_tool": 45,
-    "scrypt_tool": 50,
+    "four_words": 15, "counter": 20, "blake": 97, "comparison": 12, "macs": 45, "aes_ctr": 211, "romix": 162,
+    "encfile": 115, "argon": 222, "argon_text": 201, "host": 165, "scrypt_run": 303, "command_words": 15,
+    "argon2_command": 211, "scrypt_command": 312, "command": 20, "tools": 296, "pikhsen_c": 260, "argon_tool": 63,
+    "scrypt_tool": 123,
 }
 
 
