@@ -8,8 +8,9 @@
     >>> pikhsen.decrypt(file, b"passphrase")
     b'Dear Ada'
 
-Passwords, salts and files are bytes, or anything else that holds bytes: a bytearray, a memoryview, an mmap. What is
-refused raises Refused, whose `status` tells why, and numbers that are out of range raise Invalid, a ValueError.
+Passwords, salts and files are bytes, or anything else that holds bytes: a bytearray, a memoryview, an mmap. Files on a
+disk, larger than the memory too, are for `encrypt_file` and `decrypt_file`. What is refused raises Refused, whose
+`status` tells why, and numbers that are out of range raise Invalid, a ValueError.
 
 Limits: `max_kib` is in KiB, `max_bytes` in bytes. The work of Argon2 is counted in block functions, one for each KiB
 and pass and a few more; that of scrypt in cores of Salsa20/8, 4 * r * p * 2 ** log_n of them with `keep` 1. On a Xeon
@@ -25,18 +26,21 @@ The library is the file that the variable PIKHSEN_LIBRARY names; or that which `
 or libpikhsen.so.0, where the system finds it. An empty value counts as none, and under Python's options -E and -I the
 variable is not read.
 """
+import contextlib
 import ctypes
 import enum
+import mmap
 import operator
 import os
+import stat
 import sys
 from ctypes import POINTER, byref, c_char_p, c_size_t, c_uint, c_ulong
-from typing import TYPE_CHECKING, Callable, Dict, List, NamedTuple, Optional, Type, Union
+from typing import TYPE_CHECKING, Callable, Dict, Iterator, List, NamedTuple, Optional, Type, Union
 
 __all__ = [
     "BytesLike", "Costs", "Damaged", "Invalid", "Kind", "LimitExceeded", "NotAFile", "OutOfMemory", "Refused",
-    "Settings", "Status", "WrongPassphrase", "decrypt", "encode", "encrypt", "encrypt_in_place", "hash", "info", "message",
-    "needs_rehash", "scrypt", "settings", "verify", "version",
+    "Settings", "Status", "WrongPassphrase", "decrypt", "decrypt_file", "encode", "encrypt", "encrypt_file",
+    "encrypt_in_place", "hash", "info", "message", "needs_rehash", "scrypt", "settings", "verify", "version",
 ]
 
 # What is taken for bytes: all that a memoryview can be made of, so no str. In Python 3.9 only checkers of types have a
@@ -45,6 +49,7 @@ if TYPE_CHECKING:
     from _typeshed import ReadableBuffer as BytesLike
 else:
     BytesLike = Union[bytes, bytearray, memoryview]
+Path = Union[str, bytes, "os.PathLike[str]", "os.PathLike[bytes]"]
 
 
 class Kind(enum.IntEnum):
@@ -382,6 +387,38 @@ def _front(buffer: "ctypes.Array[ctypes.c_char]", length: int) -> bytes:
     return memoryview(buffer)[:length].tobytes()
 
 
+def _mapped(file: int, length: int, access: int) -> "ctypes.Array[ctypes.c_char]":
+    """The bytes of an opened file, which is mapped: the system reads and writes them as they are used."""
+    if not length:
+        return _buffer(0)
+    return (ctypes.c_char * length).from_buffer(mmap.mmap(file, length, access=access))
+
+
+def _content(path: Path) -> "ctypes.Array[ctypes.c_char]":
+    """The bytes of a regular file."""
+    # a pipe without a writer would hold up the opening
+    with open(path, "rb", opener=lambda name, flags: os.open(name, flags | os.O_NONBLOCK)) as file:
+        about = os.fstat(file.fileno())
+        # some files, as those of /proc, have no length and yet bytes
+        if not stat.S_ISREG(about.st_mode) or not about.st_size and file.read(1):
+            raise ValueError(f"no regular file, or one without a length: {os.fsdecode(path)!r}")
+        # ctypes takes only what could be written; what would be, does not go to the file
+        return _mapped(file.fileno(), about.st_size, mmap.ACCESS_COPY)
+
+
+@contextlib.contextmanager
+def _new_file(path: Path, length: int) -> Iterator[int]:
+    """A new file of this length, for which the disk has room. It is gone again if what is done with it fails."""
+    with open(path, "xb+", opener=lambda name, flags: os.open(name, flags, 0o600)) as file:
+        try:
+            if length:
+                os.posix_fallocate(file.fileno(), 0, length)
+            yield file.fileno()
+        except BaseException:
+            os.unlink(path)
+            raise
+
+
 def version() -> str:
     """The version of the library, as "0.1.0"."""
     return _dotted(_lib.pikhsen_version())
@@ -591,3 +628,51 @@ def decrypt(
         return _front(out, text_len.value)
     finally:
         ctypes.memset(out, 0, len(out))
+
+
+def encrypt_file(
+    source: Path, target: Path, passphrase: BytesLike, *, log_n: int = 17, r: int = 8, p: int = 1, keep: int = 1,
+    max_bytes: int = 1 << 32, max_ops: int = 1 << 33, salt: Optional[BytesLike] = None,
+) -> None:
+    """Encrypts the regular file `source` into the new file `target`. Both may be larger than the memory: they are
+    mapped, so the system reads and writes them piece by piece.
+
+    If there is a `target`, FileExistsError is raised, and it stays. The new file has mode 600. If the call raises,
+    it is removed; if the process is killed, a part of it is left. Nobody may write to either file during the call: if
+    `source` becomes shorter, the process is killed (SIGBUS). All else is as for `encrypt`, A NEW SALT FOR EACH FILE and
+    the EMPTY PASSPHRASE THAT IS ACCEPTED among others.
+    """
+    text = _content(source)
+    length = len(text) + 128
+    with _new_file(target, length) as made:
+        # the map has no name here, else what is raised would hold on to the file
+        number = _number(
+            _lib.pikhsen_scrypt_encrypt, _bytes(passphrase), _file_salt(salt), *_scrypt_settings(log_n, r, p, keep),
+            *_limits(max_bytes, max_ops), text, _mapped(made, length, mmap.ACCESS_WRITE),
+        )
+        _judge(number)
+
+
+def decrypt_file(
+    source: Path, target: Path, passphrase: BytesLike, *, keep: int = 1, max_bytes: int = 1 << 30,
+    max_ops: int = 1 << 28,
+) -> None:
+    """Decrypts the encrypted file `source` into the new file `target`, if the whole file is right under the passphrase,
+    its final code included. Both may be larger than the memory, as for `encrypt_file`.
+
+    The text is in `target` before its final code is tested, so DO NOT USE IT BEFORE THE CALL RETURNS. If the call
+    raises, the text is overwritten with zeros, and `target` is removed; if the process is killed, it is left. What is
+    raised, and the limits, are those of `decrypt`, and what `encrypt_file` says of both files holds here, too.
+    """
+    file, text_len = _content(source), c_size_t()
+    length = len(file)
+    if length < 96:
+        raise NotAFile(Status.TOO_SHORT)
+    info(_front(file, 96))
+    with _new_file(target, length) as made:
+        number = _number(
+            _lib.pikhsen_scrypt_decrypt, _bytes(passphrase), _u32(keep), *_limits(max_bytes, max_ops), file,
+            _mapped(made, length, mmap.ACCESS_WRITE), byref(text_len),
+        )
+        _judge(number)
+        os.ftruncate(made, text_len.value)

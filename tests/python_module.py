@@ -1,7 +1,7 @@
 #!/usr/bin/env python3
 """Calls the module for Python over a built library: RFC vectors, hashlib, each byte of a file changed, each cut, files
-in place, settings of texts, salts of its own, buffers that it wipes, all forms of bytes, limits, exceptions, threads,
-processes, and libraries that it must refuse.
+in place, files on a disk, settings of texts, salts of its own, buffers that it wipes, all forms of bytes, limits,
+exceptions, threads, processes, and libraries that it must refuse.
 
     tests/python_module.py FOLDER      the folder in which libpikhsen.so.0 lies
 """
@@ -10,6 +10,7 @@ import base64
 import concurrent.futures
 import copy
 import ctypes
+import errno
 import hashlib
 import mmap
 import os
@@ -269,6 +270,99 @@ def large_from_python(checks, folder, lib):
                          stdout=subprocess.PIPE, stderr=subprocess.STDOUT, text=True)
     checks.that("a GiB that is no file", ran.stdout, "NotAFile(<Status.MAGIC: 22>)\n" * 3)
     os.remove(f"{folder}/large")
+
+
+def no_room(*_):
+    raise OSError(errno.ENOSPC, os.strerror(errno.ENOSPC))
+
+
+def kept_files_from_python(checks, pikhsen, folder):
+    """Files on a disk: what `encrypt` makes and `decrypt` gives, in a new file, which is gone after a refusal."""
+    salt, cheap = b"s" * 32, {"log_n": 4, "r": 1, "p": 1}
+    text, file, again = (pathlib.Path(folder, it) for it in ("text", "text.scrypt", "again"))
+    for content in (b"", b"Dear Ada", bytes(range(256)) * 300):
+        text.write_bytes(content)
+        pikhsen.encrypt_file(text, str(file), b"pw", salt=salt, keep=4, **cheap)
+        checks.that(f"file, {len(content)}", file.read_bytes(), pikhsen.encrypt(content, b"pw", salt=salt, **cheap))
+        pikhsen.decrypt_file(os.fsencode(file), again, b"pw", keep=4)
+        checks.that(f"text of a file, {len(content)}", again.read_bytes(), content)
+        checks.that("modes of new files", [it.stat().st_mode & 0o777 for it in (file, again)], [0o600] * 2)
+        for source, made, call in ((text, file, pikhsen.encrypt_file), (file, again, pikhsen.decrypt_file)):
+            before = made.read_bytes()
+            checks.that("a target that is there", (refusal(call, source, made, b"pw") or "")[:15], "FileExistsError")
+            checks.that("a target that is there, afterwards", made.read_bytes(), before)
+        again.unlink()
+        whole = file.read_bytes()
+        for why, given, named in (
+            ("DAMAGED", whole[:-1], {}), ("DAMAGED", whole + b"x", {}), ("CHECKSUM", whole[:63] + b"x" * 65, {}),
+            ("WRONG_PASSPHRASE", whole, {"passphrase": b"PW"}), ("TOO_SHORT", whole[:95], {}), ("TOO_SHORT", b"", {}),
+            ("MEMORY_LIMIT", whole, {"max_bytes": 2047}), ("WORK_LIMIT", whole, {"max_ops": 63}),
+            ("KEEP", whole, {"keep": 3}), ("MAGIC", b"x" * 200, {}),
+        ):
+            file.write_bytes(given)
+            found = refusal(pikhsen.decrypt_file, file, again, **{"passphrase": b"pw", **named})
+            checks.that(f"decrypt_file, {why}", (found, again.exists(), file.read_bytes() == given), (why, False, True))
+        file.unlink()
+    for why, named in (
+        ("LOG_N", {"log_n": 0}), ("FILE_SALT", {"salt": b"s" * 31}), ("MEMORY_LIMIT", {"max_bytes": 2047}),
+        ("WORK_LIMIT", {"max_ops": 63}),
+    ):
+        found = refusal(pikhsen.encrypt_file, text, file, b"pw", **{**cheap, **named})
+        checks.that(f"encrypt_file, {why}", (found, file.exists()), (why, False))
+    os.mkfifo(f"{folder}/pipe")
+    for name in (f"{folder}/pipe", folder, "/dev/null", "/proc/version"):
+        for call in (pikhsen.encrypt_file, pikhsen.decrypt_file):
+            found = refusal(call, name, file, b"pw") or ""
+            expected = "IsADirectoryError" if name == folder else "ValueError"
+            checks.that(f"{call.__name__} of {name}", (found.split("(")[0], file.exists()), (expected, False))
+    checks.that("an empty name", (refusal(pikhsen.encrypt_file, text, "", b"pw") or "")[:17], "FileNotFoundError")
+    real = os.posix_fallocate
+    try:
+        os.posix_fallocate = no_room
+        found = refusal(pikhsen.encrypt_file, text, file, b"pw", **cheap) or ""
+    finally:
+        os.posix_fallocate = real
+    checks.that("a disk without room", (found, file.exists()), ("OSError(28, 'No space left on device')", False))
+    salts = []
+    for _ in range(2):
+        pikhsen.encrypt_file(text, file, b"pw", **cheap)
+        salts.append(file.read_bytes()[16:48])
+        file.unlink()
+    checks.that("salts of two files", salts[0] == salts[1], False)
+
+
+LARGE = """import pathlib, pikhsen, resource, sys, threading
+text, file, again = sys.argv[1:]
+done, most = threading.Event(), [0]
+def watch():
+    while not done.wait(0.001):
+        lines = pathlib.Path("/proc/self/status").read_text().splitlines()
+        most.append(next(int(it.split()[1]) for it in lines if it.startswith("RssAnon")))
+watching = threading.Thread(target=watch, daemon=True)
+watching.start()
+pikhsen.encrypt_file(text, file, b"pw", log_n=4)
+pikhsen.decrypt_file(file, again, b"pw")
+done.set()
+watching.join()
+print(max(most) < 32 << 10, len(most) > 10)
+resource.setrlimit(resource.RLIMIT_FSIZE, (1 << 20, resource.RLIM_INFINITY))
+pathlib.Path(again).unlink()
+try:
+    pikhsen.decrypt_file(file, again, b"pw")
+except OSError as refused:
+    print(refused.strerror, pathlib.Path(again).exists())
+"""
+
+
+def large_files_from_python(checks, folder, lib):
+    """128 MiB on a disk go through less than 32 MiB of memory; where the disk has no room, no file is left."""
+    names = [f"{folder}/{it}" for it in ("large", "large.scrypt", "text of large")]
+    with open(names[0], "wb") as large:
+        large.truncate(1 << 27)
+    environment = {**os.environ, "PIKHSEN_LIBRARY": f"{lib}/libpikhsen.so.0", "PYTHONPATH": str(TOP / "python")}
+    ran = subprocess.run([sys.executable, "-B", "-c", LARGE, *names], env=environment, stdout=subprocess.PIPE,
+                         stderr=subprocess.STDOUT, text=True)
+    checks.that("128 MiB on a disk", ran.stdout, "True True\nFile too large False\n")
 
 
 def threads_from_python(checks, pikhsen):
@@ -595,12 +689,15 @@ def calls(checks, folder, lib):
     """All that is tested of the module: over the library in one folder, with files of its own in another."""
     pikhsen = loaded(lib)
     for part in (
-        from_python, secrets_from_python, keys_from_python, files_from_python, in_place_from_python, settings_from_python, salts_from_python,
-        buffers_from_python, threads_from_python, arguments_from_python, limits_from_python, defaults_from_python,
-        exceptions_from_python,
+        from_python, secrets_from_python, keys_from_python, files_from_python, in_place_from_python,
+        settings_from_python, salts_from_python, buffers_from_python, threads_from_python, arguments_from_python,
+        limits_from_python, defaults_from_python, exceptions_from_python,
     ):
         part(checks, pikhsen)
     large_from_python(checks, folder, lib)
+    with tempfile.TemporaryDirectory(dir=folder) as kept:
+        kept_files_from_python(checks, pikhsen, kept)
+        large_files_from_python(checks, kept, lib)
     libraries_of_python(checks, folder, lib)
     return pikhsen
 

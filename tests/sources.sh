@@ -162,6 +162,7 @@ compare d18f42d50d03421d9b23cd0e56050613778ec6371eddee7887e272ade6f69bdc crates/
 compare 9d0d777a3f4d40489f2629d8846f725c8c91973ef6e18848af4e522d3231f10f crates/argon2_command/src/line.rt
 compare 8008e33ad9d3744cd3e4c7ba9d35f54f4baa48b8bd09fdfa8e6c04385ca6f382 crates/argon2_command/src/room.rt
 compare abee929f8cb1fdbc22d7ea51528c5888139227b456ce7563b059c7b4426edff6 crates/argon_text/src/room.rt
+compare c6234a04aca9f064647504f1045cc33af2c8af430f53ff6a583a83d85d28fd07 crates/argon_text/src/text_room.rt
 compare cb1b292bb760f949e34e01f10e945bb18c7ce5e7653719541cc2daaea871788b crates/pikhsen_c/src/heap.rt
 compare e5360ca9490e0205e36f133d97c7ea46cde1fe4598ea098d195985c0735e072c crates/romix/src/reservation.rt
 compare b7c9cf4e2e2bdf886fcc59c19cecdc1ac5c414c77aba9a0904ec74736accbc1a crates/scrypt_run/src/line.rt
@@ -182,6 +183,7 @@ for text in '==' '!=' '.eq(' '.ne(' '.cmp(' '.starts_with(' '.position(' 'are_sa
     done
 done
 
+tests/heap_in_reach.py || status=1
 tests/encoded_texts.py crates/argon_text/src/tests/near_misses.rt || status=1
 
 test $status != 0 || echo "compared whole:$compared"

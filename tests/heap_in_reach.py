@@ -1,0 +1,293 @@
+#!/usr/bin/env python3
+"""Compares whole each function that has the heap in reach.
+
+The heap (`Global`) can be copied, and no contract sees what is requested of it: a function that has it could take memory,
+or make a counter and work on that, beside what its clauses say. So the others get a source of memory, whose requests
+contracts count. Each function with `Global` in its head, or that takes the heap out of a list, stands below with its
+body, as it was read: it passes the heap on, once, and does nothing else with it. White space and comments do not count,
+and `Global` stands nowhere else, except in `use` lines. Left out are files that tests/sources.sh compares whole, tests, and the host and the system in memory,
+which no program uses.
+
+    tests/heap_in_reach.py          fails if a body differs, if one is missing here, or if `Global` stands elsewhere
+    tests/heap_in_reach.py --told   prints the functions that have the heap, as they are now
+"""
+import pathlib
+import re
+import sys
+import textwrap
+
+from edits import FUNCTION, IMPL, TOP, opens_at, path_of
+
+# Files that have no part in a program, or that tests/sources.sh compares whole.
+OTHERS = {"host/src/growth.rt", "host/src/memory.rt", "tools/src/memory_system.rt", "tools/src/memory_source.rt"}
+WHOLE = re.compile(r"^compare \w+ crates/(\S+)$", re.MULTILINE)
+TESTS = re.compile(r"(^|/)(tests|vectors|fixtures|refusing)(/|\.rt$)")
+HEAP = re.compile(r"\bGlobal\b")
+BODIES = {
+    "argon::lanes::Lanes::reserve": """
+        let mut room = alloc;
+        reserve_from(&mut room, params)
+    """,
+    "argon::matrix::Matrix::reserve": """
+        let mut room = alloc;
+        reserve_from(&mut room, params)
+    """,
+    "argon::ticks::Ticks::new": """
+        Ticks {
+            count: Count::new(),
+        }
+    """,
+    "argon2_command::run::argon2": """
+        let mut room = alloc;
+        match attempt(&mut room, words, host, &mut Ticks::new(alloc)) {
+            Ok(()) => 0,
+            Err(refusal) => refuse(host, refusal.line()),
+        }
+    """,
+    "argon_text::encoded::Encoded::write": """
+        let mut room = *out.allocator();
+        self.write_in(&mut room, out)
+    """,
+    "argon_text::encoded::Encoded::read": """
+        let mut room = alloc;
+        read_from(&mut room, text)
+    """,
+    "argon_text::verify_password::verify": """
+        verify_keyed(alloc, encoded, password, &[], &[], max_kib, max_ops)
+    """,
+    "argon_text::verify_password::verify_keyed": """
+        let mut room = alloc;
+        verify_in(
+            &mut room,
+            &Claim::of(encoded),
+            password,
+            secret,
+            associated,
+            max_kib,
+            max_ops,
+            &mut Ticks::new(alloc),
+        )
+    """,
+    "argon_tool::program::run": """
+        let read = words(&system, alloc);
+        let mut host = SystemHost::new(system);
+        match read {
+            Ok(words) => {
+                let status = argon2(alloc, &words, &mut host);
+                (status, host)
+            }
+            Err(WordsFault::NotText) => {
+                let status = refuse(&mut host, Argon2Refusal::Usage.line());
+                (status, host)
+            }
+            Err(WordsFault::OutOfMemory) => {
+                let status = refuse(&mut host, Argon2Refusal::OutOfMemory.line());
+                (status, host)
+            }
+        }
+    """,
+    "command::handed_on::call_argon2": """
+        argon2(alloc, words, host)
+    """,
+    "command::handed_on::call_scrypt": """
+        scrypt(alloc, words, host)
+    """,
+    "romix::ticks::Ticks::new": """
+        Ticks {
+            count: Count::new(),
+        }
+    """,
+    "romix::workspace::Workspace::reserve": """
+        let mut source = alloc;
+        reserve_from(&mut source, sparse)
+    """,
+    "scrypt_command::command_line::with_long": """
+        with_argument(command, Arg::new(alloc, name).long(name))
+    """,
+    "scrypt_command::command_line::with_short": """
+        with_argument(command, Arg::new(alloc, name).short(short))
+    """,
+    "scrypt_command::command_line::with_stdin_flag": """
+        let flag = Arg::new(alloc, "P").short('P').action(ArgAction::SetTrue);
+        with_argument(command, flag)
+    """,
+    "scrypt_command::command_line::with_file": """
+        with_argument(command, Arg::new(alloc, name))
+    """,
+    "scrypt_command::command_line::with_common_words": """
+        let command = with_short(alloc, command, "M", 'M')?;
+        let command = with_long(alloc, command, "maxops")?;
+        let command = with_long(alloc, command, "keep")?;
+        let command = with_stdin_flag(alloc, command)?;
+        let command = with_long(alloc, command, "passphrase")?;
+        let command = with_file(alloc, command, "infile")?;
+        with_file(alloc, command, "outfile")
+    """,
+    "scrypt_command::command_line::enc_command": """
+        let command = with_long(alloc, Command::new(alloc, "enc"), "logN")?;
+        let command = with_short(alloc, command, "r", 'r')?;
+        let command = with_short(alloc, command, "p", 'p')?;
+        let command = with_long(alloc, command, "salt")?;
+        with_common_words(alloc, command)
+    """,
+    "scrypt_command::command_line::dec_command": """
+        with_common_words(alloc, Command::new(alloc, "dec"))
+    """,
+    "scrypt_command::command_line::info_command": """
+        with_file(alloc, Command::new(alloc, "info"), "infile")
+    """,
+    "scrypt_command::command_line::named_command": """
+        let command = with_command(Command::new(alloc, "scrypt"), enc_command(alloc))?;
+        let command = with_command(command, dec_command(alloc))?;
+        with_command(command, info_command(alloc))
+    """,
+    "scrypt_command::command_line::scrypt_command": """
+        Ok(named_command(alloc)?.no_binary_name(true))
+    """,
+    "scrypt_command::request::read_request": """
+        let matches = read_words(alloc, words)?;
+        request_in(&matches)
+    """,
+    "scrypt_command::run::attempt": """
+        let mut room = alloc;
+        match read_request(alloc, words) {
+            Ok(request) => run(&mut room, host, &request, ticks),
+            Err(refusal) => Err(refusal),
+        }
+    """,
+    "scrypt_command::run::scrypt": """
+        match attempt(alloc, words, host, &mut Ticks::new(alloc)) {
+            Ok(()) => 0,
+            Err(refusal) => refuse(host, refusal.line()),
+        }
+    """,
+    "scrypt_command::words::read_words": """
+        let Ok(command) = scrypt_command(alloc) else {
+            return Err(ScryptRefusal::OutOfMemory);
+        };
+        match command.try_get_matches_from(words) {
+            Ok(matches) => Ok(matches),
+            Err(error) => Err(refusal_for(&error)),
+        }
+    """,
+    "scrypt_tool::program::run": """
+        let read = words(&system, alloc);
+        let mut host = SystemHost::new(system);
+        match read {
+            Ok(words) => {
+                let status = scrypt(alloc, &words, &mut host);
+                (status, host)
+            }
+            Err(WordsFault::NotText) => {
+                let status = refuse(&mut host, ScryptRefusal::Usage.line());
+                (status, host)
+            }
+            Err(WordsFault::OutOfMemory) => {
+                let status = refuse(&mut host, ScryptRefusal::OutOfMemory.line());
+                (status, host)
+            }
+        }
+    """,
+    "tools::arguments::words": """
+        let mut words = Vec::new(alloc);
+        for place in 1..usize::MAX {
+            match word(system, alloc, place) {
+                Err(fault) => return Err(fault),
+                Ok(None) => return Ok(words),
+                Ok(Some(word)) => match with_word(words, word) {
+                    Ok(more) => words = more,
+                    Err(_) => return Err(WordsFault::OutOfMemory),
+                },
+            }
+        }
+        Err(WordsFault::OutOfMemory)
+    """,
+    "tools::arguments::word": """
+        let mut room = FIRST_ROOM;
+        loop {
+            let Ok(mut buf) = vec![in alloc; 0; room] else {
+                return Err(WordsFault::OutOfMemory);
+            };
+            match system.word(place, &mut buf) {
+                Ok(n) => {
+                    buf.truncate(n);
+                    return text_of(buf);
+                }
+                Err(WordFault::Missing) => return Ok(None),
+                Err(WordFault::TooLong) => {}
+            }
+            let Some(more) = room.checked_mul(2) else {
+                return Err(WordsFault::OutOfMemory);
+            };
+            room = more;
+        }
+    """,
+}
+
+
+def without_comments(text):
+    return [line for line in text.split("\n") if not line.lstrip().startswith("//")]
+
+
+def functions_of(path):
+    """The functions of a file that have the heap, by their paths, each with its body; and whether the heap is named
+    elsewhere."""
+    crate = path.relative_to(TOP / "crates").parts[0]
+    file = str(path.relative_to(TOP / "crates" / crate))
+    lines, found = without_comments(path.read_text(encoding="utf-8")), {}
+    tests = [at for at, line in enumerate(lines) if line.startswith("mod ") and lines[at - 1] == "#[cfg(test)]"]
+    del lines[min(tests, default=len(lines)):]
+    others = [line for line in lines if HEAP.search(line) and not line.startswith("use ")]
+    for start, head in enumerate(map(FUNCTION.match, lines)):
+        if not head:
+            continue
+        opens = opens_at(lines, start, head[1])
+        ends = lines.index(head[1] + "}", opens) if lines[opens].endswith("{") else opens
+        named = [line for line in lines[start:opens + 1] if HEAP.search(line)]
+        if named or any("allocator(" in line for line in lines[opens:ends]):
+            above = [it for it in map(IMPL.match, lines[:start]) if it and head[1]]
+            name = path_of(TOP / "crates" / crate, file, above[-1] if above else None, head[2])
+            found[f"{crate}::{name}"] = "\n".join(lines[opens + 1:ends])
+            for line in named:
+                others.remove(line)
+    return found, others
+
+
+def in_one_form(text):
+    """A body without white space, and without commas before a bracket that closes."""
+    return re.sub(r",(?=[\])}])", "", re.sub(r"\s+", "", text))
+
+
+def read_all():
+    """All functions that have the heap, and the lines that name it elsewhere."""
+    whole = {*WHOLE.findall((TOP / "tests/sources.sh").read_text(encoding="utf-8"))} | OTHERS
+    found, others = {}, []
+    for path in sorted((TOP / "crates").glob("*/src/**/*.rt")):
+        name = str(path.relative_to(TOP / "crates"))
+        if name not in whole and not TESTS.search(name):
+            functions, lines = functions_of(path)
+            found.update(functions)
+            others += [f"crates/{name}: {line.strip()}" for line in lines]
+    return found, others
+
+
+def main():
+    found, others = read_all()
+    if sys.argv[1:] == ["--told"]:
+        for name, body in found.items():
+            print(f'    "{name}": """\n{textwrap.indent(textwrap.dedent(body), " " * 8)}\n    """,')
+        return 0
+    wrong = [f"{line}: the heap is named outside of a function's head" for line in others]
+    for name in sorted({*found, *BODIES}):
+        if name not in BODIES:
+            wrong.append(f"{name} has the heap, and its body does not stand in tests/heap_in_reach.py")
+        elif name not in found:
+            wrong.append(f"{name} does not have the heap any more, and its body stands in tests/heap_in_reach.py")
+        elif in_one_form(found[name]) != in_one_form(BODIES[name]):
+            wrong.append(f"{name} is not what was read when its body was put into tests/heap_in_reach.py")
+    print("\n".join(wrong) or f"functions that have the heap, compared whole: {len(found)}")
+    return 1 if wrong else 0
+
+
+if __name__ == "__main__":
+    sys.exit(main())
