@@ -192,7 +192,7 @@ expect '!are_same(&front[64..], ' "the code of a header is compared over all its
 expect 'are_same(&self.bytes, code)' "the final code is compared over all its bytes" crates/encfile/src/held.rt
 expect 'difference |= left[i] ^ right[i];' "the comparison looks at every byte" crates/comparison/src/lib.rt
 compare fb4363fe3d8f4754cafa6a15c5c1d3a150f77cd070cfa0065e07306138c5f572 crates/comparison/src/lib.rt
-compare 2cec3806482fe9dca3c6d842639b41e6b728b0f898496e1bfd965812b49d2426 crates/pikhsen_c/src/burning.rt
+compare dd69d982b6907d5b3aba278c1fedd70edfccac1660ce9c4714f7905e5a1eefca crates/pikhsen_c/src/burning.rt
 expect 'source.test(' "a password is tested for C in one place" crates/pikhsen_c/src/verifying.rt
 for text in '==' '!=' '.eq(' '.ne(' '.cmp(' '.starts_with(' '.position(' 'are_same('; do
     for file in keyed source verifying; do
