@@ -19,9 +19,10 @@
  *    three must be of one allocator. A call needs a stack of 64 KiB. It writes no file, reads no clock, starts no
  *    thread, sets no errno but by a malloc that refuses, and never ends the process.
  *  - Before a function that derives or hashes answers, it puts zeros over 32 KiB of the stack below its own frame,
- *    where its work stood, and over the memory of the hash or the derivation before it is freed; this is tested, and
- *    not proved. Salt, tag and text of a hash are freed as they are. Registers may hold a piece of a key, which a
- *    later call of a function whose name is not bound yet may store: link with -z now.
+ *    where its work stood, over the memory of the hash or the derivation before it is freed, and into the vector
+ *    registers; this is tested, and not proved. Salt, tag and text of a hash are freed as they are. General registers
+ *    may hold a piece of a key, which a later call of a function whose name is not bound yet may store: link with
+ *    -z now.
  *  - Not to be called from a signal handler, nor in the forked child of a process with threads.
  */
 #ifndef PIKHSEN_H

@@ -1,7 +1,7 @@
 #!/usr/bin/env python3
 """Makes libpikhsen of what was proved, and calls it from C and from Python: header and exports are the same,
-both ways to link, keys that a call leaves in memory, what docs/LIBRARY.md and the manual page show, all of
-tests/python_module.py and, of what is installed and packaged, of tests/packages.py.
+both ways to link, keys that a call leaves in memory and vector registers, what docs/LIBRARY.md and the manual page show,
+all of tests/python_module.py and, of what is installed and packaged, of tests/packages.py.
 
     tests/c_face.py              takes crates/pikhsen_c/out/libpikhsen_c.a as tests/wrong_bodies.py or make lib left it,
                                  and the library for x86-64-v3 as make lib left it in bin/lib, if it is of these sources
@@ -196,14 +196,15 @@ def first_blocks(kib, lanes, length):
 
 def secrets_from_c(checks, folder, lib, pikhsen):
     """After a call no key is in writable memory, on the stack or elsewhere: none of the four pieces of the 64 derived
-    bytes, nor what they are made of. And the memory that a call frees, but for texts of hashes, holds zeros alone."""
+    bytes, nor what they are made of. The memory that a call frees, but for texts of hashes, holds zeros alone; so do the
+    vector registers when it returns."""
     program = f"{folder}/secrets"
     # -z now: to bind a name at its first call would store vector registers, and a piece of a key may be in these
     flags = ["-Wl,-z,now", "-Wl,--wrap=malloc,--wrap=realloc,--wrap=free"]
     made = compile_c(TOP / "tests/secrets.c", lib, program, True, *STRICT, *flags)
     checks.that("secrets.c, compiled", made, (0, ""))
-    of_two = [[it, "kept"] for it in ("painted", "freed", "again", "key")]
-    for words in ([], ["keys"], ["painted"], ["again"], *of_two):
+    of_two = [[it, "kept"] for it in ("painted", "freed", "again", "registers", "key")]
+    for words in ([], ["keys"], ["painted"], ["again"], ["registers"], *of_two):
         found = subprocess.run([program, *words], stdin=subprocess.DEVNULL, stdout=subprocess.DEVNULL).returncode
         checks.that(f"secrets.c, other words: {words}", found, 2)
     # a matrix of 64 KiB; a table of 64 rows, or 16, of 1,024 bytes, and two rows, or three; four rows of 128 bytes, and
@@ -212,16 +213,23 @@ def secrets_from_c(checks, folder, lib, pikhsen):
     for what, told, freed in (
         ("hash", 0, 65536), ("encoded", 0, 65536), ("verify", 0, 65536), ("keyed-text", 0, 65536),
         ("keyed-test", 0, 65536), ("key", 0, 67584), ("sparse", 0, 19456), ("encrypt", 0, 67584),
-        ("decrypt", 0, 67584), ("wrong", told_wrong, 67584),
+        ("in-place", 0, 67584), ("decrypt", 0, 67584), ("wrong", told_wrong, 67584),
         ("small-key", 0, 768), ("large-hash", 0, 8388608), ("large-key", 0, 8390656),
     ):
         found = said(program, "painted", what, check=False)
         checks.that(f"stack after: {what}", found, f"told {told}, not wiped 0, touched deeper 0\n")
         found = said(program, "freed", what, check=False)
         checks.that(f"freed by: {what}", found, f"told {told}, freed {freed}, not zero 0\n")
+        for level, of_level in {"x86-64-v2": program, **higher_levels(folder, lib)}.items():
+            found = said(of_level, "registers", what, check=False)
+            checks.that(f"vector registers of {level} after: {what}", found, f"told {told}, not zero:\n")
         if told == 0:
             found = said(without_zeros(folder, lib), "painted", what, check=False)
             checks.that(f"stack after, without the zeros: {what}", " not wiped 0," in found, False)
+            found = said(without_zeros(folder, lib), "registers", what, check=False)
+            checks.that(f"vector registers after, without the zeros: {what}", found.endswith(":\n"), False)
+    found = said(program, "registers", "three", check=False)
+    checks.that("vector registers, a key left in one", found, "told 0, not zero: 3\n")
     found = said(program, "freed", "seven", check=False)
     checks.that("freed, and not wiped before", found, "told 0, freed 1024, not zero 1024\n")
     try:
@@ -230,24 +238,36 @@ def secrets_from_c(checks, folder, lib, pikhsen):
         print(f"the memory of a process may not be read here ({why}): keys are not looked for")
 
 
+def over_shared(folder, name, content):
+    """secrets.c over a shared library of these bytes."""
+    other = pathlib.Path(folder, name)
+    other.mkdir()
+    (other / "libpikhsen.so.0").write_bytes(content)
+    os.symlink("libpikhsen.so.0", other / "libpikhsen.so")
+    program = f"{folder}/secrets-{name}"
+    flags = ["-Wl,-z,now", "-Wl,--wrap=malloc,--wrap=realloc,--wrap=free"]
+    compile_c(TOP / "tests/secrets.c", str(other), program, False, *STRICT, *flags)
+    return program
+
+
+@functools.lru_cache(maxsize=1)
+def higher_levels(folder, lib):
+    """secrets.c over the library for each higher level that is there, by the level's name."""
+    files = pathlib.Path(lib, "glibc-hwcaps").glob("*/libpikhsen.so.0")
+    return {it.parent.name: over_shared(folder, it.parent.name, it.read_bytes()) for it in files}
+
+
 @functools.lru_cache(maxsize=1)
 def without_zeros(folder, lib):
-    """secrets.c over a library whose function that puts zeros over the stack answers at once: so the look at the stack
-    is seen to find what stays."""
+    """secrets.c over a library whose function that puts zeros over the stack answers at once: so the looks at the
+    stack and at the registers are seen to find what stays."""
     code = said("objdump", "-d", f"{lib}/libpikhsen.so.0")
     at = int(re.search(r"^([0-9a-f]+) <[^>]*burning::burn[^>]*>:$", code, re.MULTILINE)[1], 16)
     text = re.search(r" \.text +PROGBITS +([0-9a-f]+) ([0-9a-f]+) ", said("readelf", "-SW", f"{lib}/libpikhsen.so.0"))
     spoiled = bytearray(pathlib.Path(lib, "libpikhsen.so.0").read_bytes())
     place = at - int(text[1], 16) + int(text[2], 16)
     spoiled[place:place + 3] = b"\x89\xf8\xc3"  # mov %edi,%eax; ret
-    other = pathlib.Path(folder, "without-zeros")
-    other.mkdir()
-    (other / "libpikhsen.so.0").write_bytes(spoiled)
-    os.symlink("libpikhsen.so.0", other / "libpikhsen.so")
-    program = f"{folder}/secrets-without-zeros"
-    flags = ["-Wl,-z,now", "-Wl,--wrap=malloc,--wrap=realloc,--wrap=free"]
-    compile_c(TOP / "tests/secrets.c", str(other), program, False, *STRICT, *flags)
-    return program
+    return over_shared(folder, "without-zeros", spoiled)
 
 
 def searches_from_c(checks, program, pikhsen):

@@ -1,8 +1,8 @@
 /*
- * What calls of libpikhsen leave in memory, for tests/c_face.py, in four ways. CALL is hash, encoded, verify,
- * keyed-text and keyed-test (these two with a secret and data), key, sparse (a key over every fourth row of the table),
- * encrypt, decrypt, wrong (decrypt with a wrong passphrase), small-key (over rows of 128 bytes), or large-hash and
- * large-key (over 8 MiB).
+ * What calls of libpikhsen leave in memory and in vector registers, for tests/c_face.py, in five ways. CALL is hash,
+ * encoded, verify, keyed-text and keyed-test (these two with a secret and data), key, sparse (a key over every fourth
+ * row of the table), encrypt, in-place (encrypt in the text's place), decrypt, wrong (decrypt with a wrong passphrase),
+ * small-key (over rows of 128 bytes), or large-hash and large-key (over 8 MiB).
  *
  * Makes one call, says "0" where it was told PIKHSEN_OK, and waits for the end of standard input, so that its memory
  * can be searched for the key, and for what the key was made of:
@@ -27,6 +27,12 @@
  *
  *     secrets freed CALL
  *     secrets freed seven       frees 1,024 bytes that are all 7
+ *
+ * Or puts zeros into all vector registers that the processor has, makes one call, and says which of them are not 0 as
+ * soon as it returns: of the sixteen of 16 bytes, or of 32 with AVX, or of the thirty-two of 64 bytes with AVX-512:
+ *
+ *     secrets registers CALL
+ *     secrets registers three   leaves a piece of a key in the register of number 3
  *
  * Any other words end it with status 2.
  */
@@ -108,6 +114,11 @@ static unsigned int derive_large(void)
 static unsigned int encrypt(void)
 {
 	return pikhsen_scrypt_encrypt(passphrase, 2, salt, 32, 6, 8, 1, 1, most, most, text, 1000, file, 1128);
+}
+
+static unsigned int encrypt_in_place(void)
+{
+	return pikhsen_scrypt_encrypt_in_place(passphrase, 2, salt, 32, 6, 8, 1, 1, most, most, file, 1128);
 }
 
 static unsigned int decrypt(void)
@@ -202,6 +213,7 @@ static const struct {
 	{"key", derive, NULL},
 	{"sparse", derive_sparse, NULL},
 	{"encrypt", encrypt, NULL},
+	{"in-place", encrypt_in_place, NULL},
 	{"decrypt", decrypt, encrypt},
 	{"wrong", decrypt_wrongly, encrypt},
 	{"small-key", derive_small, NULL},
@@ -329,6 +341,86 @@ static int look_at_freed(unsigned int (*call)(void))
 	return 0;
 }
 
+/* ---- in vector registers */
+
+enum { REGISTERS = 32, WIDTH = 64 };
+
+static unsigned char registers[REGISTERS][WIDTH];
+
+#define FIRST(DO) DO(0) DO(1) DO(2) DO(3) DO(4) DO(5) DO(6) DO(7) DO(8) DO(9) DO(10) DO(11) DO(12) DO(13) DO(14) DO(15)
+#define OTHER(DO)                                                                                                     \
+	DO(16) DO(17) DO(18) DO(19) DO(20) DO(21) DO(22) DO(23) DO(24) DO(25) DO(26) DO(27) DO(28) DO(29) DO(30) DO(31)
+
+#define CLEAR_XMM(n) __asm__ volatile("pxor %%xmm" #n ", %%xmm" #n : : : "xmm" #n);
+#define CLEAR_YMM(n) __asm__ volatile("vpxor %%ymm" #n ", %%ymm" #n ", %%ymm" #n : : : "xmm" #n);
+#define CLEAR_ZMM(n) __asm__ volatile("vpxorq %%zmm" #n ", %%zmm" #n ", %%zmm" #n : : : "memory");
+
+#define STORE_XMM(n) __asm__ volatile("movdqu %%xmm" #n ", %0" : "=m"(registers[n]));
+#define STORE_YMM(n) __asm__ volatile("vmovdqu %%ymm" #n ", %0" : "=m"(registers[n]));
+#define STORE_ZMM(n) __asm__ volatile("vmovdqu64 %%zmm" #n ", %0" : "=m"(registers[n]));
+
+/* Between the call and the stores no register may be used for anything else: so there is a function for each kind. */
+
+static NOINLINE unsigned int call_with_xmm(unsigned int (*call)(void))
+{
+	unsigned int told;
+
+	FIRST(CLEAR_XMM)
+	told = call();
+	FIRST(STORE_XMM)
+	return told;
+}
+
+static NOINLINE unsigned int call_with_ymm(unsigned int (*call)(void))
+{
+	unsigned int told;
+
+	FIRST(CLEAR_YMM)
+	told = call();
+	FIRST(STORE_YMM)
+	return told;
+}
+
+static NOINLINE unsigned int call_with_zmm(unsigned int (*call)(void))
+{
+	unsigned int told;
+
+	FIRST(CLEAR_YMM)
+	FIRST(CLEAR_ZMM)
+	OTHER(CLEAR_ZMM)
+	told = call();
+	FIRST(STORE_ZMM)
+	OTHER(STORE_ZMM)
+	return told;
+}
+
+static unsigned int leave_key_in_three(void)
+{
+	unsigned int told = derive();
+
+	__asm__ volatile("movdqu %0, %%xmm3" : : "m"(key) : "xmm3");
+	return told;
+}
+
+static int look_at_registers(unsigned int (*call)(void))
+{
+	static const unsigned char zeros[WIDTH];
+	unsigned int told, number;
+
+	if (__builtin_cpu_supports("avx512f"))
+		told = call_with_zmm(call);
+	else if (__builtin_cpu_supports("avx"))
+		told = call_with_ymm(call);
+	else
+		told = call_with_xmm(call);
+	printf("told %u, not zero:", told);
+	for (number = 0; number < REGISTERS; ++number)
+		if (memcmp(registers[number], zeros, WIDTH) != 0)
+			printf(" %u", number);
+	printf("\n");
+	return 0;
+}
+
 int main(int count, char **words)
 {
 	unsigned int (*call)(void);
@@ -340,6 +432,8 @@ int main(int count, char **words)
 		return 2;
 	if (strcmp(words[1], "freed") == 0 && strcmp(words[2], "seven") == 0)
 		return look_at_freed(free_seven);
+	if (strcmp(words[1], "registers") == 0 && strcmp(words[2], "three") == 0)
+		return look_at_registers(leave_key_in_three);
 	call = call_of(words[2]);
 	if (call == NULL)
 		return 2;
@@ -347,6 +441,8 @@ int main(int count, char **words)
 		return again(call);
 	if (strcmp(words[1], "painted") == 0)
 		return painted(call);
+	if (strcmp(words[1], "registers") == 0)
+		return look_at_registers(call);
 	if (strcmp(words[1], "freed") == 0) {
 		least = call == encode || call == verify || call == encode_keyed || call == verify_keyed ? 1024 : 1;
 		return look_at_freed(call);

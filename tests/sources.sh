@@ -176,7 +176,7 @@ expect '!are_same(&front[64..], ' "the code of a header is compared over all its
 expect 'are_same(&self.bytes, code)' "the final code is compared over all its bytes" crates/encfile/src/held.rt
 expect 'difference |= left[i] ^ right[i];' "the comparison looks at every byte" crates/comparison/src/lib.rt
 compare fb4363fe3d8f4754cafa6a15c5c1d3a150f77cd070cfa0065e07306138c5f572 crates/comparison/src/lib.rt
-compare 71c33e769e960d3f18f050ea2e08c3c4063c438c0f7254eae786411ffaff42b3 crates/pikhsen_c/src/burning.rt
+compare 73e8068b5e2372ec631f8eb42d7afce95fc89541c66f2a76578b05058eb9e2bf crates/pikhsen_c/src/burning.rt
 for text in '==' '!=' '.eq(' '.ne(' '.cmp(' '.starts_with(' '.position(' 'are_same('; do
     for file in heap keyed source verifying; do
         expect_below "crates/pikhsen_c/src/$file.rt" "$text" "what tests a password for C compares nothing itself"
