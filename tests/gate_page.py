@@ -42,8 +42,9 @@ HEADS = {
 }
 # What each step does, by its words in the Makefile.
 DOES = {
-    "tests/sources.sh": "proofs by hand are those listed below; a counter ticks, memory is reserved, wiped and freed, "
-    "and a hash begins only in the places that the script lists; files that call the system are those that were read",
+    "tests/sources.sh": "proofs by hand are those listed below; a counter ticks, and memory is reserved, wiped and freed, "
+    "only in the places that the script lists; functions that have the heap (`tests/heap_in_reach.py`), and files that "
+    "call the system, are those that were read",
     "tests/documents.py": "what the pages name exists: files, definitions, tests, clauses, a row for each wrong body; "
     "pictures and tables are what scripts make of the sources and the data; the pages are short enough",
     "tests/values.py": "options, ranges, defaults, messages and numbers are those of docs/values.tsv in the sources, the "

@@ -1,8 +1,7 @@
 #!/bin/sh
-# What a reader of the sources relies on, beside the proofs: proofs by hand are all listed in docs/GATE.md, each
-# counter ticks in one place, and a counter is made where a whole run begins: no crate that is handed one makes its own.
-# Memory is reserved and work begun where contracts say what was tested before. Tables that another program made are
-# what it makes.
+# What a reader of the sources relies on, beside the proofs: proofs by hand are all listed in docs/GATE.md; each counter
+# ticks in one place; what has the heap, and so could take memory or make a counter, is compared whole; memory is
+# reserved where contracts say what was tested before. Tables that another program made are what it makes.
 set -eu
 cd "$(dirname "$0")/.."
 status=0
@@ -47,8 +46,7 @@ counted='Ticks|Count|Matrix|Workspace|Lanes|Encoded|Enc|Dec|Vec|String|Box|Globa
 refuse "${begins}type [A-Z][A-Za-z]*(<[^=;]*>)?=[^;]*\\b($counted)\\b" \
     "a type's name is another's: calls by it are not counted"
 refuse "\\b($counted)::[a-z_]+[];,)}]" "a function that is counted stands as a value"
-refuse '[=(,](verify|verify_in|verify_keyed|read_from|reserve|reserve_from|attempt|are_same)[;,)]' \
-    "a function that is counted stands as a value"
+refuse '[=(,](reserve|are_same)[;,)]' "a function that is counted stands as a value"
 # expect_below FOLDER TEXT REASON FILE..: below the folder the text stands once in each of these files, twice where it
 # is named twice, and nowhere else.
 expect_below() {
@@ -63,8 +61,6 @@ expect() {
 }
 expect '.tick()' "the counters tick in the one block function and the one core" \
     crates/argon/src/compression.rt crates/romix/src/salsa20.rt
-expect 'Ticks::new(' "a counter is made by the test of a password and the commands, once each" \
-    crates/argon_text/src/verify_password.rt crates/argon2_command/src/run.rt crates/scrypt_command/src/run.rt
 expect 'Count::new()' "argon and romix count, each in its own counter" \
     crates/argon/src/ticks.rt crates/romix/src/ticks.rt
 expect '.plus_one()' "argon, romix and the heap of the functions for C count, each in its own counter" \
@@ -74,25 +70,9 @@ expect '.plus_one()' "argon, romix and the heap of the functions for C count, ea
 expect '::reserve(' "only a source of memory reserves, on the condition that limits admit the work" \
     crates/argon_text/src/room.rt crates/argon2_command/src/room.rt crates/pikhsen_c/src/heap.rt \
     crates/pikhsen_c/src/heap.rt crates/scrypt_run/src/room.rt
-# A run of scrypt has no heap but through its source of memory, whose requests its contract counts.
-expect_below crates/scrypt_run 'Global' "a run has its memory from its source alone" crates/scrypt_run/src/line.rt \
-    crates/scrypt_run/src/line.rt crates/scrypt_run/src/line.rt crates/scrypt_run/src/room.rt \
-    crates/scrypt_run/src/room.rt
-# The contracts of the functions for C count requests and work, by the machine that these are handed. One file has the
-# heap itself.
-expect_below crates/pikhsen_c 'Global' "a function for C has no heap but that of the machine" \
-    crates/pikhsen_c/src/heap.rt crates/pikhsen_c/src/heap.rt crates/pikhsen_c/src/heap.rt
-# Of what else only hands on the heap, or a counter that it makes, no contract sees that a step is done twice.
-expect 'run(&mut room' "a run is made once" crates/scrypt_command/src/run.rt
-expect 'attempt(' "a run is made once" crates/argon2_command/src/run.rt crates/scrypt_command/src/run.rt
-expect_below crates/argon_text 'verify_in(' "a password is tested once" crates/argon_text/src/verify_password.rt
-# where it is declared, and the export that ends so, among them
-expect 'verify_keyed(' "a password is tested once" crates/argon_text/src/verify_password.rt \
-    crates/argon_text/src/verify_password.rt crates/pikhsen_c/src/keyed.rt crates/pikhsen_c/src/heap.rt
-expect 'read_from(&mut' "a text is read once" crates/argon_text/src/read.rt
+# Each function that has the heap is compared whole.
+tests/heap_in_reach.py || status=1
 expect '.decode(' "a salt or a tag is decoded once" crates/argon_text/src/room.rt
-expect 'reserve_from(&mut' "memory is asked for once" crates/argon/src/lanes.rt crates/argon/src/matrix.rt \
-    crates/romix/src/workspace.rt
 expect '.allocator()' "no function takes the heap out of what it is lent, but the writing of a text" \
     crates/argon_text/src/encoded.rt
 expect 'vec![in' "lists of a given length are made by the sources of memory, and for the words of the process" \
@@ -183,7 +163,6 @@ for text in '==' '!=' '.eq(' '.ne(' '.cmp(' '.starts_with(' '.position(' 'are_sa
     done
 done
 
-tests/heap_in_reach.py || status=1
 tests/encoded_texts.py crates/argon_text/src/tests/near_misses.rt || status=1
 
 test $status != 0 || echo "compared whole:$compared"
