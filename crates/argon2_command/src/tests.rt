@@ -2,7 +2,7 @@
 //! words of the row gives them; its report on standard output is what a run writes.
 mod refusing;
 
-ghost use Rattle.std.specs.Prelude.{◌≡◌, ◌^◌, ◌<◌, IfOk};
+ghost use Rattle.std.specs.Prelude.{◌^◌, ◌<◌};
 ghost use Rattle.host.specs.Faults.{AreBelow};
 ghost use Rattle.host.specs.Memory.{memory_faults, memory_seen};
 ghost use Rattle.host.specs.Seen.{IsFresh};
@@ -12,8 +12,7 @@ use super::run::attempt;
 use super::{Argon2Refusal, argon2};
 use argon::Ticks;
 use host::MemoryHost;
-use std::alloc::{AllocError, Global};
-use std::test::Fail;
+use std::alloc::Global;
 
 const USAGE: &str =
     "argon2: usage: argon2 salt [-i|-d|-id] [-t N] [-m N | -k N] [-p N] [-l N] [-v VERSION] [--maxmem KIB] [--maxops N] (-e|-r)";
@@ -59,7 +58,7 @@ const ONE_PASS: &str =
     "$argon2d$v=19$m=8,t=1,p=1$c29tZXNhbHQ$xRnmA6xgPsGutbcexEpheePzl1sUwMl+ORTHnmNj4Xg";
 
 // Words and what standard output gets before its line feed.
-const HASHES: &[(&str, &str)] = &[
+static HASHES: [(&str, &str); 21] = [
     ("somesalt -t 2 -m 8 -e", TWO_PASSES),
     ("somesalt -i -v 13 -p 1 -l 32 -t 2 -m 8 -e -e", TWO_PASSES),
     (
@@ -126,7 +125,7 @@ const HASHES: &[(&str, &str)] = &[
 ];
 
 // Words and the line of their refusal.
-const REFUSALS: &[(&str, &str)] = &[
+static REFUSALS: [(&str, &str); 50] = [
     ("", USAGE),
     ("-h", USAGE),
     ("-h -q", USAGE),
@@ -184,29 +183,30 @@ const REFUSALS: &[(&str, &str)] = &[
     ("somesalt -t 4294967295 -e", WORK_LIMIT),
 ];
 
-// The words of a line, which spaces part.
-fn words(alloc: Global, line: &str) -> Result<Vec<String>, AllocError> {
+// The words of a line, which spaces part, or none where memory is refused: then the test fails.
+fn words(alloc: Global, line: &str) -> Vec<String> {
     line.split_whitespace()
         .map(|word| String::from_str(alloc, word))
         .try_collect(alloc)
+        .unwrap_or(Vec::new(alloc))
 }
 
-// A host with this standard input.
-fn host_with(alloc: Global, stdin: &[u8]) -> Result<MemoryHost, AllocError>
-    ensures room { IfOk result (λ host. AreBelow (2 ^ 63) (memory_faults host)) }
-    ensures fresh { IfOk result (λ host. IsFresh (memory_seen host)) }
+// A host with this standard input. Who makes one lets it go by `drop`: the end of a scope would let go of its parts one
+// by one, in each proof anew.
+fn host_with(alloc: Global, stdin: &[u8]) -> MemoryHost
+    ensures room { AreBelow (2 ^ 63) (memory_faults result) }
+    ensures fresh { IsFresh (memory_seen result) }
 {
-    let stdin = stdin.to_vec(alloc)?;
-    Ok(MemoryHost::new(alloc, Vec::new(alloc), stdin, [0; 32]))
+    let stdin = stdin.to_vec(alloc).unwrap_or(Vec::new(alloc));
+    MemoryHost::new(alloc, Vec::new(alloc), stdin, [0; 32])
 }
 
-// Runs the words of a line.
-fn run_line(alloc: Global, line: &str, host: &mut MemoryHost) -> Result<u8, AllocError>
+// The status of a run of the words of a line.
+fn run_line(alloc: Global, line: &str, host: &mut MemoryHost) -> u8
     requires room { AreBelow (2 ^ 63) (memory_faults host.old) }
     requires fresh { IsFresh (memory_seen host.old) }
 {
-    let words = words(alloc, line)?;
-    Ok(argon2(alloc, &words, host))
+    argon2(alloc, &words(alloc, line), host)
 }
 
 // The line that was said, where it is one.
@@ -237,36 +237,31 @@ fn ends(host: &MemoryHost, status: u8, answer: Result<&str, &str>) -> bool {
 }
 
 // Whether the words end so over a host that gives this standard input.
-fn runs(
-    alloc: Global,
-    line: &str,
-    stdin: &[u8],
-    answer: Result<&str, &str>,
-) -> Result<bool, AllocError> {
-    let mut host = host_with(alloc, stdin)?;
-    let status = run_line(alloc, line, &mut host)?;
-    Ok(ends(&host, status, answer))
+fn runs(alloc: Global, line: &str, stdin: &[u8], answer: Result<&str, &str>) -> bool {
+    let mut host = host_with(alloc, stdin);
+    let status = run_line(alloc, line, &mut host);
+    let is_so = ends(&host, status, answer);
+    drop(host);
+    is_so
 }
 
 #[test]
-fn hashes(rt: HostRuntime) -> Result<(), Fail> {
-    for (line, text) in HASHES {
-        assert!(rt; runs(rt.alloc(), line, b"password", Ok(*text))?, "{line}");
+fn hashes(rt: HostRuntime) {
+    for (line, text) in &HASHES {
+        assert!(rt; runs(rt.alloc(), line, b"password", Ok(*text)), "{line}");
     }
-    Ok(())
 }
 
 #[test]
-fn refusals(rt: HostRuntime) -> Result<(), Fail> {
-    for (line, told) in REFUSALS {
-        assert!(rt; runs(rt.alloc(), line, b"password", Err(*told))?, "{line}");
+fn refusals(rt: HostRuntime) {
+    for (line, told) in &REFUSALS {
+        assert!(rt; runs(rt.alloc(), line, b"password", Err(*told)), "{line}");
     }
-    Ok(())
 }
 
 // Words, a standard input and how the run ends. The password is all of standard input: 1 to 127 bytes, of which none is
 // special.
-const PASSWORDS: &[(&str, &[u8], Result<&str, &str>)] = &[
+static PASSWORDS: [(&str, &[u8], Result<&str, &str>); 6] = [
     // head -c 127 /dev/zero | tr '\0' a | argon2 somesalt -t 2 -m 8 -e
     (
         "somesalt -t 2 -m 8 -e",
@@ -287,94 +282,97 @@ const PASSWORDS: &[(&str, &[u8], Result<&str, &str>)] = &[
 ];
 
 #[test]
-fn passwords(rt: HostRuntime) -> Result<(), Fail> {
-    for (line, stdin, answer) in PASSWORDS {
-        assert!(rt; runs(rt.alloc(), line, stdin, *answer)?, "{line}");
+fn passwords(rt: HostRuntime) {
+    for (line, stdin, answer) in &PASSWORDS {
+        assert!(rt; runs(rt.alloc(), line, stdin, *answer), "{line}");
     }
-    Ok(())
 }
 
-// Whether a run, one byte a push, ends so with this call of the host's failing: with a status, one line if it is 1,
-// and so many bytes of its output, which is opened or not.
+// Whether one line was said, if any, and so many bytes of the output written, which was opened or not.
+fn is_broken_off(host: &MemoryHost, told: Option<&str>, written: usize, is_opened: bool) -> bool {
+    only_line(host) == told
+        && host.lines().len() == usize::from(told.is_some())
+        && host.output().len() == written
+        && TWO_PASSES_LINE.starts_with(host.output())
+        && host.output_name().is_some() == is_opened
+}
+
+// Whether a run, one byte a push, ends so with this call of the host's failing, and with status 1 if it says a line.
 fn breaks_off(
     alloc: Global,
     call: u64,
     told: Option<&str>,
     written: usize,
     is_opened: bool,
-) -> Result<bool, AllocError> {
-    let mut host = host_with(alloc, b"password")?;
+) -> bool {
+    let mut host = host_with(alloc, b"password");
     host.set_sizes(1, 1);
     host.fail_at(call);
-    let status = run_line(alloc, "somesalt -t 2 -m 8 -e", &mut host)?;
-    Ok(
-        status == u8::from(told.is_some())
-            && only_line(&host) == told
-            && host.lines().len() == usize::from(told.is_some())
-            && host.output().len() == written
-            && TWO_PASSES_LINE.starts_with(host.output())
-            && host.output_name().is_some() == is_opened,
-    )
+    let status = run_line(alloc, "somesalt -t 2 -m 8 -e", &mut host);
+    let is_so = is_broken_off(&host, told, written, is_opened);
+    drop(host);
+    status == u8::from(told.is_some()) && is_so
 }
 
 // The calls are one secret, one opening, and a push for each of the 84 bytes.
 #[test]
-fn each_host_call_fails(rt: HostRuntime) -> Result<(), Fail> {
+fn each_host_call_fails(rt: HostRuntime) {
     let alloc = rt.alloc();
-    assert!(rt; breaks_off(alloc, 1, Some(PASSWORD_FAULT), 0, false)?);
-    assert!(rt; breaks_off(alloc, 2, Some(OUTPUT_FAULT), 0, false)?);
+    assert!(rt; breaks_off(alloc, 1, Some(PASSWORD_FAULT), 0, false));
+    assert!(rt; breaks_off(alloc, 2, Some(OUTPUT_FAULT), 0, false));
     for written in 0..84usize {
         let call = written as u64 + 3;
         assert!(rt;
-            breaks_off(alloc, call, Some(OUTPUT_FAULT), written, true)?,
+            breaks_off(alloc, call, Some(OUTPUT_FAULT), written, true),
             "{call}"
         );
     }
-    assert!(rt; breaks_off(alloc, 87, None, 84, true)?);
-    Ok(())
+    assert!(rt; breaks_off(alloc, 87, None, 84, true));
 }
 
 // Whether a run says and writes nothing, with this call of the host's failing.
-fn is_silent(alloc: Global, line: &str, call: u64) -> Result<bool, AllocError> {
-    let mut host = host_with(alloc, b"")?;
+fn is_silent(alloc: Global, line: &str, call: u64) -> bool {
+    let mut host = host_with(alloc, b"");
     host.fail_at(call);
-    let status = run_line(alloc, line, &mut host)?;
-    Ok(status == 1 && host.lines().len() == 0 && host.output().len() == 0)
+    let status = run_line(alloc, line, &mut host);
+    let is_so = host.lines().len() == 0 && host.output().len() == 0;
+    drop(host);
+    status == 1 && is_so
 }
 
 // A line that cannot be said is passed over.
 #[test]
-fn says_nothing(rt: HostRuntime) -> Result<(), Fail> {
-    assert!(rt; is_silent(rt.alloc(), "", 1)?);
-    assert!(rt; is_silent(rt.alloc(), "somesalt -e", 2)?);
-    Ok(())
+fn says_nothing(rt: HostRuntime) {
+    assert!(rt; is_silent(rt.alloc(), "", 1));
+    assert!(rt; is_silent(rt.alloc(), "somesalt -e", 2));
+}
+
+// Whether the output is that of a tag of 4,096 bytes with these first and last 32 bytes.
+fn is_longest(host: &MemoryHost, first: &[u8], last: &[u8]) -> bool {
+    host.output().len() == 8193 && host.output().starts_with(first) && host.output().ends_with(last)
 }
 
 // Whether the longest tag has these first and last 32 bytes.
-fn has_longest_tag(alloc: Global, first: &[u8], last: &[u8]) -> Result<bool, AllocError> {
-    let mut host = host_with(alloc, b"password")?;
-    let status = run_line(alloc, "somesalt -d -t 1 -k 8 -l 4096 -r", &mut host)?;
-    Ok(
-        status == 0
-            && host.output().len() == 8193
-            && host.output().starts_with(first)
-            && host.output().ends_with(last),
-    )
+fn has_longest_tag(alloc: Global, first: &[u8], last: &[u8]) -> bool {
+    let mut host = host_with(alloc, b"password");
+    let status = run_line(alloc, "somesalt -d -t 1 -k 8 -l 4096 -r", &mut host);
+    let is_so = is_longest(&host, first, last);
+    drop(host);
+    status == 0 && is_so
 }
 
 // As the reference program gives them.
 #[test]
-fn longest_tag(rt: HostRuntime) -> Result<(), Fail> {
+fn longest_tag(rt: HostRuntime) {
     let first = b"11164024bbb98e6e90b14957a1d51417df657057e0c245f9359366d794eb5f63";
     let last = b"b4e4162facc1fd3b88e73741e49c9fa04069973a7ee3fb65bcfef1cd394250e0\n";
-    assert!(rt; has_longest_tag(rt.alloc(), first, last)?);
-    Ok(())
+    assert!(rt; has_longest_tag(rt.alloc(), first, last));
 }
 
 const REFUSED: Option<Argon2Refusal> = Some(Argon2Refusal::OutOfMemory);
 
 // Words, how many requests are granted, the refusal, and the last request.
-const REQUESTS: &[(&str, u32, Option<Argon2Refusal>, Option<Asked>)] = &[
+static REQUESTS: [(&str, u32, Option<Argon2Refusal>, Option<Asked>); 10] = [
     ("somesalt -t 2 -m 8 -e", 0, REFUSED, Some(Asked::Zeros)),
     ("somesalt -t 2 -m 8 -e", 1, REFUSED, Some(Asked::Line)),
     ("somesalt -t 2 -m 8 -e", 2, REFUSED, Some(Asked::Matrix)),
@@ -398,32 +396,31 @@ const REQUESTS: &[(&str, u32, Option<Argon2Refusal>, Option<Asked>)] = &[
 ];
 
 // The refusal of a run to which so many requests are granted, its last request, and whether the output was opened.
-fn asked(
-    alloc: Global,
-    line: &str,
-    left: u32,
-) -> Result<(Option<Argon2Refusal>, Option<Asked>, bool), AllocError> {
-    let words = words(alloc, line)?;
+type Answer = (Option<Argon2Refusal>, Option<Asked>, bool);
+
+fn answer(alloc: Global, line: &str, left: u32) -> Answer {
     let mut room = Refusing {
         alloc,
         left,
         last: None,
     };
-    let mut host = host_with(alloc, b"password")?;
-    let answer = attempt(&mut room, &words, &mut host, &mut Ticks::new(alloc));
-    Ok((answer.err(), room.last, host.output_name().is_some()))
+    let mut host = host_with(alloc, b"password");
+    let words = words(alloc, line);
+    let refusal = attempt(&mut room, &words, &mut host, &mut Ticks::new(alloc)).err();
+    let is_opened = host.output_name().is_some();
+    drop(host);
+    (refusal, room.last, is_opened)
 }
 
 // The tag, the line and the matrix are the requests, in this order and after every other refusal: so the hash, which
 // needs the matrix, comes after them all, and nothing is asked for after it.
 #[test]
-fn each_request_is_refused(rt: HostRuntime) -> Result<(), Fail> {
-    for (line, left, refusal, last) in REQUESTS {
+fn each_request_is_refused(rt: HostRuntime) {
+    for (line, left, refusal, last) in &REQUESTS {
         let expected = (*refusal, *last, refusal.is_none());
         assert!(rt;
-            asked(rt.alloc(), line, *left)? == expected,
+            answer(rt.alloc(), line, *left) == expected,
             "{line} {left}"
         );
     }
-    Ok(())
 }
