@@ -387,35 +387,46 @@ def _front(buffer: "ctypes.Array[ctypes.c_char]", length: int) -> bytes:
     return memoryview(buffer)[:length].tobytes()
 
 
-def _mapped(file: int, length: int, access: int) -> "ctypes.Array[ctypes.c_char]":
+# Maps of files, of which ctypes takes only those that can be written. What is written to the first goes to the file.
+# The second is not written to, and the system sets no memory apart for that (MAP_NORESERVE).
+_SHARED, _PRIVATE = mmap.MAP_SHARED, mmap.MAP_PRIVATE | 0x4000
+
+
+def _mapped(file: int, length: int, flags: int) -> "ctypes.Array[ctypes.c_char]":
     """The bytes of an opened file, which is mapped: the system reads and writes them as they are used."""
     if not length:
         return _buffer(0)
-    return (ctypes.c_char * length).from_buffer(mmap.mmap(file, length, access=access))
+    return (ctypes.c_char * length).from_buffer(mmap.mmap(file, length, flags=flags))
 
 
 def _content(path: Path) -> "ctypes.Array[ctypes.c_char]":
     """The bytes of a regular file."""
     # a pipe without a writer would hold up the opening
-    with open(path, "rb", opener=lambda name, flags: os.open(name, flags | os.O_NONBLOCK)) as file:
+    with open(os.fspath(path), "rb", opener=lambda name, flags: os.open(name, flags | os.O_NONBLOCK)) as file:
         about = os.fstat(file.fileno())
         # some files, as those of /proc, have no length and yet bytes
         if not stat.S_ISREG(about.st_mode) or not about.st_size and file.read(1):
             raise ValueError(f"no regular file, or one without a length: {os.fsdecode(path)!r}")
-        # ctypes takes only what could be written; what would be, does not go to the file
-        return _mapped(file.fileno(), about.st_size, mmap.ACCESS_COPY)
+        return _mapped(file.fileno(), about.st_size, _PRIVATE)
 
 
 @contextlib.contextmanager
 def _new_file(path: Path, length: int) -> Iterator[int]:
-    """A new file of this length, for which the disk has room. It is gone again if what is done with it fails."""
-    with open(path, "xb+", opener=lambda name, flags: os.open(name, flags, 0o600)) as file:
+    """A new file of this length, for which the disk has room. What is done with it is on the disk at the end, or, if it
+    fails, the file is gone again."""
+    name = os.path.abspath(os.fspath(path))
+    with open(name, "xb+", opener=lambda name, flags: os.open(name, flags, 0o600)) as file:
+        made = file.fileno()
         try:
             if length:
-                os.posix_fallocate(file.fileno(), 0, length)
-            yield file.fileno()
+                os.posix_fallocate(made, 0, length)
+            yield made
+            os.fsync(made)
         except BaseException:
-            os.unlink(path)
+            # what was raised is not hidden, and what stands there instead by now is not removed
+            with contextlib.suppress(OSError):
+                if os.path.samestat(os.stat(name), os.fstat(made)):
+                    os.unlink(name)
             raise
 
 
@@ -637,18 +648,19 @@ def encrypt_file(
     """Encrypts the regular file `source` into the new file `target`. Both may be larger than the memory: they are
     mapped, so the system reads and writes them piece by piece.
 
-    If there is a `target`, FileExistsError is raised, and it stays. The new file has mode 600. If the call raises,
-    it is removed; if the process is killed, a part of it is left. Nobody may write to either file during the call: if
-    `source` becomes shorter, the process is killed (SIGBUS). All else is as for `encrypt`, A NEW SALT FOR EACH FILE and
-    the EMPTY PASSPHRASE THAT IS ACCEPTED among others.
+    If there is a `target`, FileExistsError is raised, and it stays. The new file is for its owner alone (mode 600). If
+    the call raises, it is removed; if the process is killed, a part of it is left. Nobody may write to either file
+    during the call: if `source` becomes shorter, or the disk of `target` has less room than it said, the process is
+    killed (SIGBUS). All else is as for `encrypt`, A NEW SALT FOR EACH FILE and the EMPTY PASSPHRASE THAT IS ACCEPTED
+    among others.
     """
     text = _content(source)
     length = len(text) + 128
     with _new_file(target, length) as made:
-        # the map has no name here, else what is raised would hold on to the file
+        # the map has no name here, else what is raised would hold on to the new file
         number = _number(
             _lib.pikhsen_scrypt_encrypt, _bytes(passphrase), _file_salt(salt), *_scrypt_settings(log_n, r, p, keep),
-            *_limits(max_bytes, max_ops), text, _mapped(made, length, mmap.ACCESS_WRITE),
+            *_limits(max_bytes, max_ops), text, _mapped(made, length, _SHARED),
         )
         _judge(number)
 
@@ -660,9 +672,10 @@ def decrypt_file(
     """Decrypts the encrypted file `source` into the new file `target`, if the whole file is right under the passphrase,
     its final code included. Both may be larger than the memory, as for `encrypt_file`.
 
-    The text is in `target` before its final code is tested, so DO NOT USE IT BEFORE THE CALL RETURNS. If the call
-    raises, the text is overwritten with zeros, and `target` is removed; if the process is killed, it is left. What is
-    raised, and the limits, are those of `decrypt`, and what `encrypt_file` says of both files holds here, too.
+    The text is in `target` before its final code is tested, so DO NOT USE IT BEFORE THE CALL RETURNS. If the file is
+    not right, the text is overwritten with zeros. Whatever the call raises, `target` is removed; if the process is
+    killed, it is left. What is raised, and the limits, are those of `decrypt`, and what `encrypt_file` says of both
+    files holds here, too.
     """
     file, text_len = _content(source), c_size_t()
     length = len(file)
@@ -672,7 +685,7 @@ def decrypt_file(
     with _new_file(target, length) as made:
         number = _number(
             _lib.pikhsen_scrypt_decrypt, _bytes(passphrase), _u32(keep), *_limits(max_bytes, max_ops), file,
-            _mapped(made, length, mmap.ACCESS_WRITE), byref(text_len),
+            _mapped(made, length, _SHARED), byref(text_len),
         )
         _judge(number)
         os.ftruncate(made, text_len.value)

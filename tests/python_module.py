@@ -272,8 +272,21 @@ def large_from_python(checks, folder, lib):
     os.remove(f"{folder}/large")
 
 
+NO_ROOM = "OSError(28, 'No space left on device')"
+
+
 def no_room(*_):
     raise OSError(errno.ENOSPC, os.strerror(errno.ENOSPC))
+
+
+def without_room(instead, call, *arguments, **named):
+    """With what a call is refused where room on the disk is asked for by this function."""
+    real = os.posix_fallocate
+    try:
+        os.posix_fallocate = instead
+        return refusal(call, *arguments, **named)
+    finally:
+        os.posix_fallocate = real
 
 
 def kept_files_from_python(checks, pikhsen, folder):
@@ -315,14 +328,41 @@ def kept_files_from_python(checks, pikhsen, folder):
             found = refusal(call, name, file, b"pw") or ""
             expected = "IsADirectoryError" if name == folder else "ValueError"
             checks.that(f"{call.__name__} of {name}", (found.split("(")[0], file.exists()), (expected, False))
-    checks.that("an empty name", (refusal(pikhsen.encrypt_file, text, "", b"pw") or "")[:17], "FileNotFoundError")
-    real = os.posix_fallocate
-    try:
-        os.posix_fallocate = no_room
-        found = refusal(pikhsen.encrypt_file, text, file, b"pw", **cheap) or ""
-    finally:
-        os.posix_fallocate = real
-    checks.that("a disk without room", (found, file.exists()), ("OSError(28, 'No space left on device')", False))
+    right = pathlib.Path(folder, "right")
+    pikhsen.encrypt_file(text, right, b"pw", **cheap)
+    with open(file, "wb+") as opened:
+        for call, source, target in (
+            (pikhsen.encrypt_file, text, opened.fileno()), (pikhsen.decrypt_file, right, opened.fileno()),
+            (pikhsen.encrypt_file, opened.fileno(), again), (pikhsen.decrypt_file, opened.fileno(), again),
+        ):
+            found = refusal(call, source, target, b"pw") or ""
+            checks.that(f"{call.__name__} of a number", (found[:9], file.stat().st_size), ("TypeError", 0))
+    file.unlink()
+
+    def replaced(*_):
+        file.unlink()
+        file.write_bytes(b"of another")
+        no_room()
+
+    def removed(*_):
+        file.unlink()
+        no_room()
+
+    for name, room, left in (("replaced", replaced, b"of another"), ("removed", removed, None)):
+        found = without_room(room, pikhsen.encrypt_file, text, file, b"pw", **cheap)
+        is_left = file.read_bytes() if file.exists() else None
+        checks.that(f"a new file that was {name} meanwhile", (found, is_left), (NO_ROOM, left))
+        file.unlink(missing_ok=True)
+    great = pathlib.Path(folder, "great")
+    memory = sum(int(it.split()[1]) for it in pathlib.Path("/proc/meminfo").read_text(encoding="ascii").splitlines()
+                 if it.startswith(("MemTotal", "SwapTotal")))
+    with open(great, "wb") as sparse:
+        sparse.truncate((memory << 10) + (1 << 30))
+    checks.that("a file larger than the memory", len(pikhsen._content(great)), great.stat().st_size)
+    great.unlink()
+    checks.that("an empty name", (refusal(pikhsen.encrypt_file, text, "", b"pw") or "")[:15], "FileExistsError")
+    found = without_room(no_room, pikhsen.encrypt_file, text, file, b"pw", **cheap)
+    checks.that("a disk without room", (found, file.exists()), (NO_ROOM, False))
     salts = []
     for _ in range(2):
         pikhsen.encrypt_file(text, file, b"pw", **cheap)

@@ -6,7 +6,7 @@ ghost use Rattle.argon.specs.Inputs.{inputs_of};
 ghost use Rattle.argon.specs.Kind.{type_number};
 ghost use Rattle.argon.specs.Range.{IsInRange, admission};
 ghost use Rattle.pikhsen_c.specs.Argon2.{hash_status, inputs_given, kind_numbered, limits_status, parameters_given, params_status};
-ghost use Rattle.pikhsen_c.specs.Heap.{AsksOnce};
+ghost use Rattle.pikhsen_c.specs.Heap.{AsksOnce, asked_for_matrix};
 ghost use Rattle.pikhsen_c.specs.Inside.Settings.{parameters_of};
 ghost use Rattle.pikhsen_c.specs.Status.{out_of_memory};
 
@@ -179,7 +179,8 @@ pub extern "C" fn pikhsen_argon2_hash(
         (length secret.now) (length associated.now) max_kib max_ops ≡ 0 }
     ensures untouched { result.status ≢ 0 → out.new ≡ out.old }
     // What was asked of the heap.
-    ensures asked { AsksOnce result.status machine.heap result.machine.heap }
+    ensures asked { AsksOnce asked_for_matrix result.status machine.heap result.machine.heap }
+    ensures no_cores { result.machine.cores ≡ machine.cores }
     // No hash begins before every refusal is ruled out, and then one.
     ensures no_work { result.status ≢ 0 → result.machine.blocks ≡ machine.blocks }
     ensures count { result.status ≡ 0 → result.machine.blocks ≡ machine.blocks

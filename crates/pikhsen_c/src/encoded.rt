@@ -188,6 +188,7 @@ pub extern "C" fn pikhsen_argon2_encoded(
     ensures nothing { result.status ≢ 0 → text_len.new ≡ 0 }
     // What was asked of the heap.
     ensures asked { AsksTwice result.status machine.heap result.machine.heap }
+    ensures no_cores { result.machine.cores ≡ machine.cores }
     // No hash begins before every refusal is ruled out, and then one.
     ensures no_work { result.status ≢ 0 → result.machine.blocks ≡ machine.blocks }
     ensures count { result.status ≡ 0 → result.machine.blocks ≡ machine.blocks

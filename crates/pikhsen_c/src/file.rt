@@ -8,7 +8,7 @@ ghost use Rattle.encfile.specs.Encrypting.{HasEncrypted};
 ghost use Rattle.encfile.specs.Header.{IsHeaderOf, costs_of, salt_of};
 ghost use Rattle.encfile.specs.HeaderFaults.{header_fault};
 ghost use Rattle.pikhsen_c.specs.File.{encrypt_status, front_status, header_status, lengths_status, number_of, opening_status};
-ghost use Rattle.pikhsen_c.specs.Heap.{AsksOnce, AsksToOpen};
+ghost use Rattle.pikhsen_c.specs.Heap.{AsksOnce, AsksToOpen, asked_for_workspace};
 ghost use Rattle.pikhsen_c.specs.Scrypt.{costs_given, limits_status, sparse_given};
 ghost use Rattle.pikhsen_c.specs.Status.{damaged, long_text, out_of_memory, wrong_passphrase};
 
@@ -238,7 +238,8 @@ pub extern "C" fn pikhsen_scrypt_encrypt(
         (length salt.now) (length text.now) (length out.old) ≡ 0 }
     ensures untouched { result.status ≢ 0 → out.new ≡ out.old }
     // What was asked of the heap.
-    ensures asked { AsksOnce result.status machine.heap result.machine.heap }
+    ensures asked { AsksOnce asked_for_workspace result.status machine.heap result.machine.heap }
+    ensures no_blocks { result.machine.blocks ≡ machine.blocks }
     // No derivation begins before every refusal is ruled out, and then one.
     ensures no_work { result.status ≢ 0 → result.machine.cores ≡ machine.cores }
     ensures count { result.status ≡ 0 → result.machine.cores ≡ machine.cores
@@ -469,6 +470,7 @@ pub extern "C" fn pikhsen_scrypt_decrypt(
     ensures untouched { result.status ≢ 0 → result.status ≤ wrong_passphrase → out.new ≡ out.old }
     // What was asked of the heap.
     ensures asked { AsksToOpen result.status machine.heap result.machine.heap }
+    ensures no_blocks { result.machine.blocks ≡ machine.blocks }
     // No derivation begins before these refusals are ruled out, and then one.
     ensures no_work { result.status ≢ 0 → result.status < wrong_passphrase → result.machine.cores ≡ machine.cores }
     ensures count { result.status ≡ 0 → result.machine.cores ≡ machine.cores

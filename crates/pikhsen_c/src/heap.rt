@@ -2,7 +2,7 @@
 ghost use Rattle.std.specs.Prelude.{◌≡◌, length, IfOk};
 ghost use Rattle.argon.specs.Range.{IsInRange};
 ghost use Rattle.pikhsen_c.specs.Argon2.{kind_numbered, text_of_zeros};
-ghost use Rattle.pikhsen_c.specs.Heap.{after_request};
+ghost use Rattle.pikhsen_c.specs.Heap.{asked_for_matrix, asked_for_text, asked_for_workspace, asked_to_read, asked_to_test, one_more};
 
 use crate::source::Source;
 use argon::{Kind, Matrix, Params};
@@ -11,20 +11,31 @@ use counter::Count;
 use romix::{Sparse, Workspace};
 use std::alloc::{AllocError, Global};
 
-/// The heap, and how many requests it granted and refused, each call of `Source` being one. It takes no bytes. No code
-/// but this file makes one, or takes the allocator out of it.
+/// How many requests of one kind were granted and refused.
 #[repr(C)]
 #[derive(Drop)]
-pub struct Heap {
-    alloc: Global,
+pub struct Requests {
     granted: Count,
     refused: Count,
 }
 
-impl Heap {
+/// The heap, and how many requests of each kind it granted and refused, each call of `Source` being one. It takes no
+/// bytes. No code but this file makes one, or takes the allocator out of it.
+#[repr(C)]
+#[derive(Drop)]
+pub struct Heap {
+    alloc: Global,
+    matrices: Requests,
+    texts: Requests,
+    workspaces: Requests,
+    readings: Requests,
+    tests: Requests,
+}
+
+impl Requests {
     // Counts one request.
     fn count(&mut self, granted: bool)
-        ensures counted { self.new ≡ after_request self.old granted }
+        ensures counted { self.new ≡ one_more self.old granted }
     {
         if granted {
             self.granted = self.granted.plus_one();
@@ -35,15 +46,15 @@ impl Heap {
 }
 
 impl Source for Heap {
-    ghost after_matrix = { λ heap _ _ _ granted. after_request heap granted };
+    ghost after_matrix = { λ heap _ _ _ granted. asked_for_matrix heap granted };
 
-    ghost after_text = { λ heap _ _ granted. after_request heap granted };
+    ghost after_text = { λ heap _ _ granted. asked_for_text heap granted };
 
-    ghost after_workspace = { λ heap _ _ _ granted. after_request heap granted };
+    ghost after_workspace = { λ heap _ _ _ granted. asked_for_workspace heap granted };
 
-    ghost after_reading = { λ heap _ granted. after_request heap granted };
+    ghost after_reading = { λ heap _ granted. asked_to_read heap granted };
 
-    ghost after_test = { λ heap _ _ _ _ _ _ granted. after_request heap granted };
+    ghost after_test = { λ heap _ _ _ _ _ _ granted. asked_to_test heap granted };
 
     fn matrix(
         &mut self,
@@ -52,13 +63,13 @@ impl Source for Heap {
         _max_ops: u64,
     ) -> Result<Matrix, AllocError> {
         let matrix = Matrix::reserve(self.alloc, params);
-        self.count(matrix.is_ok());
+        self.matrices.count(matrix.is_ok());
         matrix
     }
 
     fn text(&mut self, kind: Kind, params: &Params, salt: &[u8]) -> Result<Vec<u8>, AllocError> {
         let text = text_of_zeros(self.alloc, kind, params, salt);
-        self.count(text.is_ok());
+        self.texts.count(text.is_ok());
         text
     }
 
@@ -69,13 +80,14 @@ impl Source for Heap {
         _max_ops: u64,
     ) -> Result<Workspace, AllocError> {
         let workspace = Workspace::reserve(self.alloc, sparse);
-        self.count(workspace.is_ok());
+        self.workspaces.count(workspace.is_ok());
         workspace
     }
 
     fn read(&mut self, text: &[u8]) -> Result<Encoded, ReadFault> {
         let read = Encoded::read(self.alloc, text);
-        self.count(!matches!(&read, Err(ReadFault::OutOfMemory)));
+        self.readings
+            .count(!matches!(&read, Err(ReadFault::OutOfMemory)));
         read
     }
 
@@ -91,7 +103,8 @@ impl Source for Heap {
         let told = verify_keyed(
             self.alloc, encoded, password, secret, associated, max_kib, max_ops,
         );
-        self.count(!matches!(&told, Err(VerifyFault::OutOfMemory)));
+        self.tests
+            .count(!matches!(&told, Err(VerifyFault::OutOfMemory)));
         told
     }
 }

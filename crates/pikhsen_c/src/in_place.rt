@@ -5,7 +5,7 @@ ghost use Rattle.romix.specs.Sparse.{sparse_cores};
 ghost use Rattle.encfile.specs.EncryptedFile.{encrypted_file};
 ghost use Rattle.encfile.specs.Encrypting.{HasEncrypted};
 ghost use Rattle.pikhsen_c.specs.File.{encrypt_status};
-ghost use Rattle.pikhsen_c.specs.Heap.{AsksOnce};
+ghost use Rattle.pikhsen_c.specs.Heap.{AsksOnce, asked_for_workspace};
 ghost use Rattle.pikhsen_c.specs.Scrypt.{costs_given, sparse_given};
 ghost use Rattle.pikhsen_c.specs.Status.{out_of_memory};
 
@@ -119,7 +119,8 @@ pub extern "C" fn pikhsen_scrypt_encrypt_in_place(
     // The text stays where it is not encrypted.
     ensures untouched { result.status ≢ 0 → out.new ≡ out.old }
     // What was asked of the heap.
-    ensures asked { AsksOnce result.status machine.heap result.machine.heap }
+    ensures asked { AsksOnce asked_for_workspace result.status machine.heap result.machine.heap }
+    ensures no_blocks { result.machine.blocks ≡ machine.blocks }
     // No derivation begins before every refusal is ruled out, and then one.
     ensures no_work { result.status ≢ 0 → result.machine.cores ≡ machine.cores }
     ensures count { result.status ≡ 0 → result.machine.cores ≡ machine.cores

@@ -56,6 +56,7 @@ pub extern "C" fn pikhsen_argon2_encoded_keyed(
     ensures nothing { result.status ≢ 0 → text_len.new ≡ 0 }
     // What was asked of the heap.
     ensures asked { AsksTwice result.status machine.heap result.machine.heap }
+    ensures no_cores { result.machine.cores ≡ machine.cores }
     // No hash begins before every refusal is ruled out, and then one.
     ensures no_work { result.status ≢ 0 → result.machine.blocks ≡ machine.blocks }
     ensures count { result.status ≡ 0 → result.machine.blocks ≡ machine.blocks
@@ -123,6 +124,9 @@ pub extern "C" fn pikhsen_argon2_verify_keyed(
     ensures high { result.status ≤ 16 }
     // What was asked of the heap.
     ensures asked { AsksToVerify result.status machine.heap result.machine.heap }
+    // No hash but that of the test, which counts its own.
+    ensures no_blocks { result.machine.blocks ≡ machine.blocks }
+    ensures no_cores { result.machine.cores ≡ machine.cores }
 {
     let mut machine = machine;
     let told = verify_in(

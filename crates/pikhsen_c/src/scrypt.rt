@@ -3,7 +3,7 @@ ghost use Rattle.std.specs.Prelude.{◌≡◌, ◌≢◌, ◌+◌, ◌≤◌, �
 ghost use Rattle.romix.specs.Scrypt.{scrypt};
 ghost use Rattle.romix.specs.Sparse.{sparse_cores};
 ghost use Rattle.romix.specs.SparseCosts.{SparseFitsMemory};
-ghost use Rattle.pikhsen_c.specs.Heap.{AsksOnce};
+ghost use Rattle.pikhsen_c.specs.Heap.{AsksOnce, asked_for_workspace};
 ghost use Rattle.pikhsen_c.specs.Scrypt.{costs_given, costs_status, limits_status, scrypt_status, sparse_given};
 ghost use Rattle.pikhsen_c.specs.Status.{out_of_memory};
 
@@ -162,7 +162,8 @@ pub extern "C" fn pikhsen_scrypt(
         → scrypt_status (costs_given log_n r p) keep max_bytes max_ops (length out.old) ≡ 0 }
     ensures untouched { result.status ≢ 0 → out.new ≡ out.old }
     // What was asked of the heap.
-    ensures asked { AsksOnce result.status machine.heap result.machine.heap }
+    ensures asked { AsksOnce asked_for_workspace result.status machine.heap result.machine.heap }
+    ensures no_blocks { result.machine.blocks ≡ machine.blocks }
     // No derivation begins before every refusal is ruled out, and then one.
     ensures no_work { result.status ≢ 0 → result.machine.cores ≡ machine.cores }
     ensures count { result.status ≡ 0 → result.machine.cores ≡ machine.cores

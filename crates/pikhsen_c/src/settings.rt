@@ -127,6 +127,8 @@ pub extern "C" fn pikhsen_argon2_settings(
     ensures untouched { result.status ≢ 0 → settings.new ≡ settings.old }
     // What was asked of the heap.
     ensures asked { AsksToRead result.status machine.heap result.machine.heap }
+    ensures no_blocks { result.machine.blocks ≡ machine.blocks }
+    ensures no_cores { result.machine.cores ≡ machine.cores }
 {
     let mut machine = machine;
     let told = settings_in(&mut machine.heap, text, settings);
@@ -182,6 +184,8 @@ pub extern "C" fn pikhsen_argon2_needs_rehash(
     ensures untouched { result.status ≢ 0 → needs.new ≡ needs.old }
     // What was asked of the heap.
     ensures asked { AsksToRead result.status machine.heap result.machine.heap }
+    ensures no_blocks { result.machine.blocks ≡ machine.blocks }
+    ensures no_cores { result.machine.cores ≡ machine.cores }
 {
     let mut machine = machine;
     let told = needs_rehash_in(&mut machine.heap, text, wanted, needs);

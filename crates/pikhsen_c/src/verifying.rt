@@ -135,6 +135,9 @@ pub extern "C" fn pikhsen_argon2_verify(
     ensures high { result.status ≤ 16 }
     // What was asked of the heap.
     ensures asked { AsksToVerify result.status machine.heap result.machine.heap }
+    // No hash but that of the test, which counts its own.
+    ensures no_blocks { result.machine.blocks ≡ machine.blocks }
+    ensures no_cores { result.machine.cores ≡ machine.cores }
 {
     let mut machine = machine;
     let told = verify_in(
