@@ -1,10 +1,8 @@
 //! Whole runs over a system in memory. Hashes come from the reference program, as `printf password | argon2 ..` with the
 //! words of the row gives them.
-ghost use Rattle.std.specs.Prelude.{IfOk};
 ghost use Rattle.tools.specs.World.{IsUnused};
 
 use super::*;
-use std::alloc::AllocError;
 use tools::{Contents, FileIdentity, Identities, MemorySystem};
 
 const USAGE: &str =
@@ -32,26 +30,40 @@ const FILE: Identities = Identities {
     }),
 };
 
+// How a run ends: the status, the output and the line.
+type End<'a> = (u8, &'a str, Option<&'a str>);
+
+// These bytes, or none where memory is refused: then the test fails.
+fn list(alloc: Global, bytes: &[u8]) -> Vec<u8> {
+    bytes.to_vec(alloc).unwrap_or(Vec::new(alloc))
+}
+
+// Adds a word.
+fn add_word(alloc: Global, system: &mut MemorySystem, word: &[u8])
+    requires unused { IsUnused system.old.world }
+    ensures unused { IsUnused system.new.world }
+{
+    let _ = system.add_word(list(alloc, word));
+}
+
 // Adds the words of a line, which spaces part.
-fn add_words(alloc: Global, system: &mut MemorySystem, line: &str) -> Result<(), AllocError>
+fn add_words(alloc: Global, system: &mut MemorySystem, line: &str)
     requires unused { IsUnused system.old.world }
     ensures unused { IsUnused system.new.world }
 {
     for word in line.split_whitespace() {
-        system.add_word(word.as_bytes().to_vec(alloc)?)?;
+        add_word(alloc, system, word.as_bytes());
     }
-    Ok(())
 }
 
 // A process with these words, of which the first is its name, over a password in a file, and with this standard output.
-fn process(alloc: Global, line: &str, stdout: Identities) -> Result<MemorySystem, AllocError>
-    ensures unused { IfOk result (λ s. IsUnused s.world) }
+fn process(alloc: Global, line: &str, stdout: Identities) -> MemorySystem
+    ensures unused { IsUnused result.world }
 {
-    let password = b"password".to_vec(alloc)?;
     let mut system = MemorySystem::new(alloc);
-    add_words(alloc, &mut system, line)?;
-    system.set_standard(Contents::new(password, FILE), stdout);
-    Ok(system)
+    add_words(alloc, &mut system, line);
+    system.set_standard(Contents::new(list(alloc, b"password"), FILE), stdout);
+    system
 }
 
 // The program, of which nothing is said.
@@ -62,7 +74,7 @@ fn ends(alloc: Global, system: MemorySystem) -> (u8, SystemHost<MemorySystem>)
 }
 
 // Whether this status, output and line is all that a run comes to.
-fn comes_to(status: u8, system: &MemorySystem, end: (u8, &str, Option<&str>)) -> bool {
+fn comes_to(status: u8, system: &MemorySystem, end: End<'_>) -> bool {
     let is_told = match system.lines() {
         [] => end.2.is_none(),
         [line] => end.2 == Some(line.as_str()),
@@ -71,22 +83,26 @@ fn comes_to(status: u8, system: &MemorySystem, end: (u8, &str, Option<&str>)) ->
     status == end.0 && system.output() == end.1.as_bytes() && is_told
 }
 
-// Whether a run of these words comes to this, with this standard output, and this call of the system failing.
-fn runs(
-    alloc: Global,
-    line: &str,
-    stdout: Identities,
-    failing: u64,
-    end: (u8, &str, Option<&str>),
-) -> Result<bool, AllocError> {
-    let mut system = process(alloc, line, stdout)?;
-    system.fail_at(failing);
+// Whether a run over this system comes to this. A system and a host are let go of by `drop`: the end of a scope would
+// let go of their parts one by one, in each proof anew.
+fn ends_so(alloc: Global, system: MemorySystem, end: End<'_>) -> bool
+    requires unused { IsUnused system.world }
+{
     let (status, host) = ends(alloc, system);
-    Ok(comes_to(status, host.system(), end))
+    let is_so = comes_to(status, host.system(), end);
+    drop(host);
+    is_so
+}
+
+// Whether a run of these words comes to this, with this standard output, and this call of the system failing.
+fn runs(alloc: Global, line: &str, stdout: Identities, failing: u64, end: End<'_>) -> bool {
+    let mut system = process(alloc, line, stdout);
+    system.fail_at(failing);
+    ends_so(alloc, system, end)
 }
 
 // Words, and what a run of them comes to.
-static ROWS: [(&str, (u8, &str, Option<&str>)); 7] = [
+static ROWS: [(&str, End<'static>); 7] = [
     (ONE_PASS, (0, ONE_PASS_LINE, None)),
     (
         "argon2 somesalt -t 2 -m 8 -e",
@@ -115,17 +131,13 @@ static ROWS: [(&str, (u8, &str, Option<&str>)); 7] = [
 #[test]
 fn words_and_their_ends(rt: HostRuntime) {
     for (line, end) in &ROWS {
-        assert_eq!(rt;
-            runs(rt.alloc(), line, Identities::NONE, 0, *end),
-            Ok(true),
-            "{line}"
-        );
+        assert!(rt; runs(rt.alloc(), line, Identities::NONE, 0, *end), "{line}");
     }
 }
 
 // The call of the system that fails, and what a run comes to: the password opened, eight bytes and its end; the output
 // opened and found to be no regular file; the line, and that of the refusal.
-static FAILING: [(u64, (u8, &str, Option<&str>)); 7] = [
+static FAILING: [(u64, End<'static>); 7] = [
     (1, (1, "", Some(PASSWORD_FAULT))),
     (2, (1, "", Some(PASSWORD_FAULT))),
     (3, (1, "", Some(PASSWORD_FAULT))),
@@ -138,9 +150,8 @@ static FAILING: [(u64, (u8, &str, Option<&str>)); 7] = [
 #[test]
 fn each_call_fails(rt: HostRuntime) {
     for (failing, end) in &FAILING {
-        assert_eq!(rt;
+        assert!(rt;
             runs(rt.alloc(), ONE_PASS, Identities::NONE, *failing, *end),
-            Ok(true),
             "{failing}"
         );
     }
@@ -150,42 +161,29 @@ fn each_call_fails(rt: HostRuntime) {
 #[test]
 fn says_nothing(rt: HostRuntime) {
     let end = (1, "", None);
-    assert_eq!(rt;
-        runs(rt.alloc(), "argon2", Identities::NONE, 1, end),
-        Ok(true)
-    );
+    assert!(rt; runs(rt.alloc(), "argon2", Identities::NONE, 1, end));
 }
 
 // Nothing is written after the password into its file.
 #[test]
 fn the_password_stays_as_it_is(rt: HostRuntime) {
     let end = (1, "", Some(OUTPUT_FAULT));
-    assert_eq!(rt; runs(rt.alloc(), ONE_PASS, FILE, 0, end), Ok(true));
+    assert!(rt; runs(rt.alloc(), ONE_PASS, FILE, 0, end));
 }
 
 // Whether a run of a process with this name and this word comes to this.
-fn runs_bytes(
-    alloc: Global,
-    name: &[u8],
-    word: &[u8],
-    end: (u8, &str, Option<&str>),
-) -> Result<bool, AllocError> {
+fn runs_bytes(alloc: Global, name: &[u8], word: &[u8], end: End<'_>) -> bool {
     let mut system = MemorySystem::new(alloc);
-    system.add_word(name.to_vec(alloc)?)?;
-    system.add_word(word.to_vec(alloc)?)?;
-    let (status, host) = ends(alloc, system);
-    Ok(comes_to(status, host.system(), end))
+    add_word(alloc, &mut system, name);
+    add_word(alloc, &mut system, word);
+    ends_so(alloc, system, end)
 }
 
 // A word that is no text is a wrong use, and the program's name may be any bytes.
 #[test]
 fn words_of_any_bytes(rt: HostRuntime) {
-    let alloc = rt.alloc();
     let usage = (1, "", Some(USAGE));
     let form = (1, "", Some("argon2: exactly one of -e and -r is needed"));
-    assert_eq!(rt;
-        runs_bytes(alloc, b"argon2", b"some\xffsalt", usage),
-        Ok(true)
-    );
-    assert_eq!(rt; runs_bytes(alloc, b"\xff", b"somesalt", form), Ok(true));
+    assert!(rt; runs_bytes(rt.alloc(), b"argon2", b"some\xffsalt", usage));
+    assert!(rt; runs_bytes(rt.alloc(), b"\xff", b"somesalt", form));
 }
