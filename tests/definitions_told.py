@@ -48,7 +48,9 @@ WHY = {
     ("scrypt_run.specs.Asking", "asks_workspace"): "one request of a source of memory, which has no value",
     ("scrypt_run.specs.Refusal", "is_want"): "whether a case of an enum is `OutOfMemory`",
     ("argon_text.specs.Settings", "range_fault"): "`first_out` of the fields of a value",
-    ("pikhsen_c.specs.Heap", "after_request"): "one of two numbers of a record goes up by one",
+    ("pikhsen_c.specs.Heap", "one_more"): "one of two numbers of a record goes up by one",
+    **{("pikhsen_c.specs.Heap", name): "`one_more` of one field of a record" for name in (
+        "asked_for_matrix", "asked_for_text", "asked_for_workspace", "asked_to_read", "asked_to_test")},
     ("pikhsen_c.specs.Settings", "settings_told"): "field by field, the settings of a value",
     ("pikhsen_c.specs.Settings", "number_of"): "`range_number` of a fault, or 0",
     ("pikhsen_c.specs.Status", "range_number"): "one number for each fault, which tests/values.py compares with the header",

@@ -1,14 +1,14 @@
 #!/usr/bin/env python3
 """Compares whole each function that has the heap in reach.
 
-The heap (`Global`) can be copied, and no contract sees what is requested of it: a function that has it could take memory,
-or make a counter and work on that, beside what its clauses say. So the others get a source of memory, whose requests
-contracts count. Each function with `Global` in its head, or that takes the heap out of a list, stands below with its
-body, as it was read: it passes the heap on, once, and does nothing else with it. White space and comments do not count,
-and `Global` stands nowhere else, except in `use` lines. Left out are files that tests/sources.sh compares whole, tests, and the host and the system in memory,
-which no program uses.
+The heap (`Global`) can be copied, and no contract sees what is requested of it: a function that has it could take
+memory, or make a counter and work on that, beside what its clauses say. So the others get a source of memory, whose
+requests contracts count. Each function with `Global` or any other `Allocator` in its head, or that takes the heap out of
+a list, stands below with its body, as it was read: it passes the heap on, once, and does nothing else with it. White
+space and comments do not count, and these words stand nowhere else, except in `use` lines. Left out are files that
+tests/sources.sh compares whole, tests, and the host and the system in memory, which no program uses.
 
-    tests/heap_in_reach.py          fails if a body differs, if one is missing here, or if `Global` stands elsewhere
+    tests/heap_in_reach.py          fails if a body differs, if one is missing here, or if the heap is named elsewhere
     tests/heap_in_reach.py --told   prints the functions that have the heap, as they are now
 """
 import pathlib
@@ -21,8 +21,9 @@ from edits import FUNCTION, IMPL, TOP, opens_at, path_of
 # Files that have no part in a program, or that tests/sources.sh compares whole.
 OTHERS = {"host/src/growth.rt", "host/src/memory.rt", "tools/src/memory_system.rt", "tools/src/memory_source.rt"}
 WHOLE = re.compile(r"^compare \w+ crates/(\S+)$", re.MULTILINE)
+FOR_TESTS = re.compile(r"(?:pub(?:\([a-z]+\))? )?mod (?:tests|vectors|fixtures|refusing)\b")
 TESTS = re.compile(r"(^|/)(tests|vectors|fixtures|refusing)(/|\.rt$)")
-HEAP = re.compile(r"\bGlobal\b")
+HEAP = re.compile(r"\b(Global|Allocator|AllocGlobal|allocator)\b")
 BODIES = {
     "argon::lanes::Lanes::reserve": """
         let mut room = alloc;
@@ -235,18 +236,25 @@ def functions_of(path):
     crate = path.relative_to(TOP / "crates").parts[0]
     file = str(path.relative_to(TOP / "crates" / crate))
     lines, found = without_comments(path.read_text(encoding="utf-8")), {}
-    tests = [at for at, line in enumerate(lines) if line.startswith("mod ") and lines[at - 1] == "#[cfg(test)]"]
-    del lines[min(tests, default=len(lines)):]
-    others = [line for line in lines if HEAP.search(line) and not line.startswith("use ")]
+    tests = [at for at, line in enumerate(lines) if FOR_TESTS.match(line) and lines[at - 1] == "#[cfg(test)]"]
+    for at in reversed(tests):
+        del lines[at:lines.index("}", at) + 1 if lines[at].endswith("{") else at + 1]
+    others = [line for line in lines if HEAP.search(line) and not line.startswith("use ") or FOR_TESTS.match(line)]
     for start, head in enumerate(map(FUNCTION.match, lines)):
         if not head:
+            continue
+        if re.search(r"[^{]}$", lines[start]):
+            others.append(lines[start])  # on one line, which no layout here has
             continue
         opens = opens_at(lines, start, head[1])
         ends = lines.index(head[1] + "}", opens) if lines[opens].endswith("{") else opens
         named = [line for line in lines[start:opens + 1] if HEAP.search(line)]
-        if named or any("allocator(" in line for line in lines[opens:ends]):
+        named += [line for line in lines[opens + 1:ends] if re.search(r"\ballocator\b", line)]
+        if named:
             above = [it for it in map(IMPL.match, lines[:start]) if it and head[1]]
             name = path_of(TOP / "crates" / crate, file, above[-1] if above else None, head[2])
+            if f"{crate}::{name}" in found:
+                others.append(lines[start])  # one of two of this name would not be looked at
             found[f"{crate}::{name}"] = "\n".join(lines[opens + 1:ends])
             for line in named:
                 others.remove(line)
@@ -277,7 +285,7 @@ def main():
         for name, body in found.items():
             print(f'    "{name}": """\n{textwrap.indent(textwrap.dedent(body), " " * 8)}\n    """,')
         return 0
-    wrong = [f"{line}: the heap is named outside of a function's head" for line in others]
+    wrong = [f"{line}: the heap is named there, or this cannot be compared" for line in others]
     for name in sorted({*found, *BODIES}):
         if name not in BODIES:
             wrong.append(f"{name} has the heap, and its body does not stand in tests/heap_in_reach.py")

@@ -41,10 +41,10 @@ refuse() {
     ! found=$(cd "$code" && grep -roHE -- "$1" crates) || fail "$2: $found"
 }
 begins='(^|[];{}])(pub |pub\([a-z]+\))?'
-refuse "${begins}use [^;]* as [A-Za-z]" "a name is another's: calls by it are not counted"
+refuse "${begins}use [^;]* as [A-Za-z]" "a name stands for a different one: calls by it are not counted"
 counted='Ticks|Count|Matrix|Workspace|Lanes|Encoded|Enc|Dec|Vec|String|Box|Global'
 refuse "${begins}type [A-Z][A-Za-z]*(<[^=;]*>)?=[^;]*\\b($counted)\\b" \
-    "a type's name is another's: calls by it are not counted"
+    "a type's name stands for a different one: calls by it are not counted"
 refuse "\\b($counted)::[a-z_]+[];,)}]" "a function that is counted stands as a value"
 refuse '[=(,](reserve|are_same)[;,)]' "a function that is counted stands as a value"
 # expect_below FOLDER TEXT REASON FILE..: below the folder the text stands once in each of these files, twice where it
@@ -71,7 +71,7 @@ expect '::reserve(' "only a source of memory reserves, on the condition that lim
     crates/argon_text/src/room.rt crates/argon2_command/src/room.rt crates/pikhsen_c/src/heap.rt \
     crates/pikhsen_c/src/heap.rt crates/scrypt_run/src/room.rt
 # Each function that has the heap is compared whole.
-tests/heap_in_reach.py || status=1
+functions=$(tests/heap_in_reach.py) || fail "$functions"
 expect '.decode(' "a salt or a tag is decoded once" crates/argon_text/src/room.rt
 expect '.allocator()' "no function takes the heap out of what it is lent, but the writing of a text" \
     crates/argon_text/src/encoded.rt
@@ -83,12 +83,29 @@ expect_below crates/argon_text '.hash(' "a hash is made once" crates/argon_text/
 expect_below crates/argon2_command '.hash(' "a hash is made once" crates/argon2_command/src/output.rt
 # The functions for C: a list, which keeps its allocator, does not grow, and each is freed.
 expect_below crates/pikhsen_c '.write(' "a text is written where the heap is" crates/pikhsen_c/src/heap.rt
-grows='append|clone\w*|extend\w*|from_elem|insert\w*|push\w*|(try_)?reserve\w*|(try_)?resize\w*|sort\w*'
-if grep -nHE "(\.|::)($grows)\(|\bBox::new\(" crates/pikhsen_c/src/*.rt |
-    grep -vE '/heap\.rt:|: *//'; then
-    fail "memory is asked for by a function for C that is not a source of memory"
-fi
-for text in 'forget(' 'ManuallyDrop' 'leak(' 'into_raw('; do
+grows='append|clone\w*|extend\w*|from_elem|insert\w*|push\w*|(try_)?reserve\w*|(try_)?resize\w*|shrink\w*|sort\w*'
+grows="$grows|splice\w*|split_off"
+! found=$(cd "$code" && grep -roHE "(\.|::)($grows)\(|\bBox::new\(" crates/pikhsen_c | grep -v '/heap\.rt:') ||
+    fail "memory is asked for by a function for C that is not a source of memory: $found"
+# Each asks its source in these places. Of a test contracts do not see the limits.
+in_c() {
+    text=$1 reason=$2
+    shift 2
+    for file in "$@"; do set -- "$@" "crates/pikhsen_c/src/$file.rt" && shift; done
+    expect_below crates/pikhsen_c "$text" "$reason" "$@"
+}
+in_c 'source.matrix(&params, settings.max_kib, settings.max_ops)' "a matrix is for a hash" argon2 encoded
+in_c '.matrix(' "a matrix is for a hash" argon2 encoded
+in_c '.text(' "a text is for the text of a hash" encoded
+in_c '.workspace(' "the memory of a derivation is taken in one place" scrypt
+in_c '.read(' "a text is read for its settings and for the test of a password" settings settings verifying
+in_c 'source.test(encoded, password, secret, associated, max_kib, max_ops)' \
+    "a password is tested under the limits that are given" verifying
+in_c '.test(' "a password is tested in one place" verifying
+# Nothing comes after the zeros over the stack.
+! found=$(cd "$code" && sed 's/burn(told,machine)}//g' crates/pikhsen_c/src/[!b]*.rt | grep -oE '.{0,40}\bburn\(.{0,40}') ||
+    fail "something comes after zeros were put over the stack: $found"
+for text in 'forget' 'ManuallyDrop' 'leak(' 'into_raw('; do
     expect "$text" "all memory that is taken is freed"
 done
 # What comes from a password stands in lists that `Held::free` alone lets go of, on the condition that they hold zeros:
@@ -143,7 +160,7 @@ compare 9d0d777a3f4d40489f2629d8846f725c8c91973ef6e18848af4e522d3231f10f crates/
 compare 8008e33ad9d3744cd3e4c7ba9d35f54f4baa48b8bd09fdfa8e6c04385ca6f382 crates/argon2_command/src/room.rt
 compare abee929f8cb1fdbc22d7ea51528c5888139227b456ce7563b059c7b4426edff6 crates/argon_text/src/room.rt
 compare c6234a04aca9f064647504f1045cc33af2c8af430f53ff6a583a83d85d28fd07 crates/argon_text/src/text_room.rt
-compare cb1b292bb760f949e34e01f10e945bb18c7ce5e7653719541cc2daaea871788b crates/pikhsen_c/src/heap.rt
+compare 7db94bd6c475fc69c1ed8835d82201ed1fd88e8a4268231b26ae5764c5c4eba9 crates/pikhsen_c/src/heap.rt
 compare e5360ca9490e0205e36f133d97c7ea46cde1fe4598ea098d195985c0735e072c crates/romix/src/reservation.rt
 compare b7c9cf4e2e2bdf886fcc59c19cecdc1ac5c414c77aba9a0904ec74736accbc1a crates/scrypt_run/src/line.rt
 compare 266c1125320cd467b012655480d8b345a1f6f7c5ada451d46ed82e1413a73f58 crates/scrypt_run/src/room.rt
@@ -165,6 +182,6 @@ done
 
 tests/encoded_texts.py crates/argon_text/src/tests/near_misses.rt || status=1
 
-test $status != 0 || echo "compared whole:$compared"
+test $status != 0 || printf '%s\n' "compared whole:$compared" "$functions"
 
 exit $status
