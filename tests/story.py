@@ -305,6 +305,8 @@ def compare_parts(checks, programs):
             checks.that(f"README in {name}: costs are timed", (status, re.findall(r"^--logN \d+$", said, re.MULTILINE)), (0, ["--logN 4", "--logN 5"]))
             if SHARED.exists():
                 pathlib.Path(room, "check.py").write_text(python, encoding="utf-8")
+                (text,) = re.findall(r"^    (\$argon2id\$\S+\n)", README, re.MULTILINE)  # of the story
+                pathlib.Path(room, "stored").write_text(text, encoding="utf-8")
                 found = shell.run("python3 check.py", PYTHONPATH=str(TOP / "python"), PIKHSEN_LIBRARY=str(SHARED))
                 checks.that("README: a stored text in Python", found, (0, "True\n"))
             else:
