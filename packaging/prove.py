@@ -7,9 +7,9 @@ With a LEVEL, as x86-64-v2, a program among them is built for it, crates/CRATE/o
 crates/CRATE/out/libCRATE.a; without one they are only proved. An older one is taken away before.
 
 A crate starts once all below it are proved; of several first the one with the longest chain of others above it. As many
-run side by side as there are processors, or as JOBS says, with 3 GB of free memory for each. The crate that holds up
-most others shares its work among several processes, and the others let it go first (nice); so does a crate that starts
-where few others can run. What stands on a crate that is not proved is left out.
+run side by side as there are processors, or as JOBS says, with 3 GB of free memory for each. A crate that starts where
+fewer can run shares its work among several processes. The crate that holds up most others goes first: the others are
+nice to it. What stands on a crate that is not proved is left out.
 
 The toolchain lets one run at a time work in a crate and in what it stands on. So each crate is proved in a folder of
 its own below bin/rooms, with links to its files and to the libraries below it; what it makes goes to the crate's out/.
@@ -29,16 +29,16 @@ import time
 TOP = pathlib.Path(__file__).resolve().parent.parent
 CRATES, ROOMS, LOGS = TOP / "crates", TOP / "bin/rooms", TOP / "bin/logs"
 MEMORY = 3 << 20  # KiB for a check: few take more
-MOST = 4  # processes that share the work of one crate: more gain little
+MOST = 4  # processes that share the work of one crate: each loads the libraries anew, so more gain little
 BESIDE = 10  # how nice a crate is to the one that holds up most others
 SMALL = 60  # seconds of the processor below which a check mostly loads libraries, which each process would do again
 
-# Seconds of the processor for a check from nothing. Only the order of the crates rests on them.
+# Seconds of the processor for a check from nothing by one process. Only the order of the crates rests on them.
 SECONDS = {
-    "four_words": 15, "counter": 20, "blake": 97, "comparison": 12, "macs": 45, "aes_ctr": 211, "romix": 162,
-    "encfile": 115, "argon": 222, "argon_text": 201, "host": 165, "scrypt_run": 303, "command_words": 15,
-    "argon2_command": 211, "scrypt_command": 312, "command": 20, "tools": 296, "pikhsen_c": 260, "argon_tool": 63,
-    "scrypt_tool": 123,
+    "four_words": 12, "counter": 14, "blake": 64, "comparison": 13, "macs": 30, "aes_ctr": 112, "romix": 138,
+    "encfile": 92, "argon": 226, "argon_text": 189, "host": 120, "command_words": 20, "argon2_words": 80,
+    "scrypt_request": 30, "scrypt_words": 240, "argon2_command": 93, "scrypt_run": 239, "scrypt_command": 55,
+    "command": 59, "tools": 299, "argon_tool": 71, "scrypt_tool": 109, "pikhsen_c": 200,
 }
 
 
@@ -224,11 +224,11 @@ def chains(steps):
     return longest
 
 
-def jobs_for(weight, others, leads):
-    """How many processes prove a crate of this weight beside so many others that run or could: the one that leads has
-    all, and any half as many as there are processors, since no check keeps its processes busy to its end."""
+def jobs_for(weight, others):
+    """How many processes prove a crate of this weight beside so many others that run or could: its share of the
+    processors. More would do the same work twice where no processor is idle."""
     most = MOST if weight > SMALL else 1
-    return max(1, min(most, processors() if leads else max(processors() // (others + 1), processors() // 2)))
+    return max(1, min(most, processors() // (others + 1)))
 
 
 def prove(steps):
@@ -258,7 +258,7 @@ def prove(steps):
                 step = ready.pop(0)
                 left.remove(step)
                 leads = all(longest[step.name] >= longest[it.name] for it in [*left, *running.values()])
-                jobs = jobs_for(step.weight, len(running) + len(ready), leads)
+                jobs = jobs_for(step.weight, len(running) + len(ready))
                 running[step.start(uses, jobs, leads)] = step
             if told:
                 stop()  # also what was just being started

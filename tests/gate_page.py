@@ -13,7 +13,7 @@ docs/gate.tsv, by steps, and in docs/crates.tsv, by crates; the first lines of b
 - wrong-bodies.tsv of a run of tests/wrong_bodies.py that tried each edit, as make audit does;
 - logs/ of a run of packaging/prove.py that proved each crate anew, as after make clean
 
-      packaging/prove.py argon_tool scrypt_tool pikhsen_c
+      packaging/prove.py argon_tool scrypt_tool command pikhsen_c
 
 What is of no such run is not taken, and --take says so. No step leaves what each proof with tests took: these seconds
 stay in docs/crates.tsv, with the run that they are of.

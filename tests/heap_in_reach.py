@@ -102,20 +102,20 @@ BODIES = {
         let mut source = alloc;
         reserve_from(&mut source, sparse)
     """,
-    "scrypt_command::command_line::with_long": """
+    "scrypt_words::command_line::with_long": """
         with_argument(command, Arg::new(alloc, name).long(name))
     """,
-    "scrypt_command::command_line::with_short": """
+    "scrypt_words::command_line::with_short": """
         with_argument(command, Arg::new(alloc, name).short(short))
     """,
-    "scrypt_command::command_line::with_stdin_flag": """
+    "scrypt_words::command_line::with_stdin_flag": """
         let flag = Arg::new(alloc, "P").short('P').action(ArgAction::SetTrue);
         with_argument(command, flag)
     """,
-    "scrypt_command::command_line::with_file": """
+    "scrypt_words::command_line::with_file": """
         with_argument(command, Arg::new(alloc, name))
     """,
-    "scrypt_command::command_line::with_common_words": """
+    "scrypt_words::command_line::with_common_words": """
         let command = with_short(alloc, command, "M", 'M')?;
         let command = with_long(alloc, command, "maxops")?;
         let command = with_long(alloc, command, "keep")?;
@@ -124,28 +124,28 @@ BODIES = {
         let command = with_file(alloc, command, "infile")?;
         with_file(alloc, command, "outfile")
     """,
-    "scrypt_command::command_line::enc_command": """
+    "scrypt_words::command_line::enc_command": """
         let command = with_long(alloc, Command::new(alloc, "enc"), "logN")?;
         let command = with_short(alloc, command, "r", 'r')?;
         let command = with_short(alloc, command, "p", 'p')?;
         let command = with_long(alloc, command, "salt")?;
         with_common_words(alloc, command)
     """,
-    "scrypt_command::command_line::dec_command": """
+    "scrypt_words::command_line::dec_command": """
         with_common_words(alloc, Command::new(alloc, "dec"))
     """,
-    "scrypt_command::command_line::info_command": """
+    "scrypt_words::command_line::info_command": """
         with_file(alloc, Command::new(alloc, "info"), "infile")
     """,
-    "scrypt_command::command_line::named_command": """
+    "scrypt_words::command_line::named_command": """
         let command = with_command(Command::new(alloc, "scrypt"), enc_command(alloc))?;
         let command = with_command(command, dec_command(alloc))?;
         with_command(command, info_command(alloc))
     """,
-    "scrypt_command::command_line::scrypt_command": """
+    "scrypt_words::command_line::scrypt_command": """
         Ok(named_command(alloc)?.no_binary_name(true))
     """,
-    "scrypt_command::request::read_request": """
+    "scrypt_words::request::read_request": """
         let matches = read_words(alloc, words)?;
         request_in(&matches)
     """,
@@ -162,7 +162,7 @@ BODIES = {
             Err(refusal) => refuse(host, refusal.line()),
         }
     """,
-    "scrypt_command::words::read_words": """
+    "scrypt_words::words::read_words": """
         let Ok(command) = scrypt_command(alloc) else {
             return Err(ScryptRefusal::OutOfMemory);
         };

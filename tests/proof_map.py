@@ -17,11 +17,11 @@ from xml.sax.saxutils import escape
 from promises import CRATES, ROOT, code, promises, read
 
 WIDTH, COLUMNS = 1200, [(30, 372), (446, 336), (826, 344)]
-PLACES = [["scrypt_command", "scrypt_run", "encfile", "aes_ctr"],
+PLACES = [["scrypt_command", "scrypt_words", "scrypt_run", "encfile", "aes_ctr"],
           ["command_words", "host", "tools", "comparison", "counter", "romix", "macs"],
-          ["argon2_command", "argon_text", "argon", "blake"]]
-# Crates without a promise that are not drawn: lemmas, and the programs.
-UNDRAWN = ["four_words", "argon_tool", "scrypt_tool"]
+          ["argon2_command", "argon2_words", "argon_text", "argon", "blake"]]
+# Crates without a promise that are not drawn: lemmas, what words and run of scrypt share, and the programs.
+UNDRAWN = ["four_words", "scrypt_request", "argon_tool", "scrypt_tool"]
 # The box of the functions for C leaves room at both sides for the arrows of the commands.
 FOR_C = (240, 734)
 # Each standard as docs/DEFINITIONS.md names it, below the column of the crates that restate it.
@@ -29,13 +29,15 @@ STANDARDS = [{"FORMAT": "scrypt's file", "SP 800-38A": "CTR mode", "FIPS 197": "
              {"RFC 2104": "HMAC", "RFC 8018": "PBKDF2", "RFC 7914": "scrypt"},
              {"RFC 4648": "base64", "RFC 7693": "BLAKE2b", "RFC 9106": "Argon2"}]
 SYSTEM = "the system's calls"
-STRAIGHT = [("command", "scrypt_command"), ("command", "argon2_command"), ("scrypt_command", "scrypt_run"),
-            ("command_words", "host"), ("argon2_command", "argon_text"), ("scrypt_run", "encfile"),
+STRAIGHT = [("command", "scrypt_command"), ("command", "argon2_command"), ("scrypt_command", "scrypt_words"),
+            ("command_words", "host"), ("argon2_command", "argon2_words"), ("scrypt_run", "encfile"),
             ("encfile", "aes_ctr"), ("aes_ctr", "FORMAT"), ("aes_ctr", "SP 800-38A"), ("aes_ctr", "FIPS 197"),
             ("tools", "host"), ("tools", SYSTEM), ("romix", "counter"), ("romix", "macs"), ("macs", "RFC 2104"), ("macs", "RFC 8018"),
             ("macs", "RFC 7914"), ("argon_text", "argon"), ("argon", "blake"), ("blake", "RFC 7693"), ("blake", "RFC 9106")]
 # The other arrows, each with the x on which it goes down.
-ASIDE = {("scrypt_command", "command_words"): 430, ("argon2_command", "command_words"): 797, ("scrypt_run", "host"): 430,
+ASIDE = {("scrypt_command", "scrypt_run"): 20, ("scrypt_words", "command_words"): 430, ("scrypt_words", "host"): 430,
+         ("scrypt_words", "romix"): 424, ("scrypt_run", "host"): 430, ("argon2_words", "command_words"): 797,
+         ("argon2_words", "host"): 797, ("argon2_words", "argon"): 1192, ("argon2_command", "argon_text"): 1179,
          ("encfile", "comparison"): 418, ("encfile", "romix"): 418, ("encfile", "FIPS 180-4"): 418,
          ("macs", "FIPS 180-4"): 430, ("encfile", "FORMAT"): 14, ("romix", "RFC 7914"): 797, ("argon_text", "comparison"): 811,
          ("argon_text", "RFC 4648"): 811, ("argon_text", "RFC 9106"): 1186, ("argon", "RFC 9106"): 1186,
@@ -47,10 +49,11 @@ FROM_BELOW = {("pikhsen_c", "encfile"): 410, ("pikhsen_c", "argon_text"): 818}
 SMALL = [
     [{"argon_tool": "the program argon2"}, {"pikhsen_c": "the functions for C"}, {"scrypt_tool": "the program scrypt"}],
     [{}, {"command": "both commands", "tools": "the system's host"}, {}],
-    [{"argon2_command": "arguments and run of argon2"}, {}, {"scrypt_command": "arguments of scrypt"}],
-    [{}, {"command_words": "arguments of both"}, {"scrypt_run": "enc, dec and info"}],
-    [{"argon_text": "texts of stored hashes"}, {"host": "what commands see"}, {"encfile": "encrypted files"}],
-    [{"argon": "Argon2, RFC 9106"}, {}, {"romix": "scrypt, RFC 7914"}],
+    [{"argon2_command": "the run of argon2"}, {}, {"scrypt_command": "the run of scrypt"}],
+    [{"argon2_words": "arguments of argon2"}, {}, {"scrypt_words": "arguments of scrypt", "scrypt_run": "enc, dec and info"}],
+    [{"argon_text": "texts of stored hashes"}, {"command_words": "arguments of both"},
+     {"scrypt_request": "what is asked for", "encfile": "encrypted files"}],
+    [{"argon": "Argon2, RFC 9106"}, {"host": "what commands see"}, {"romix": "scrypt, RFC 7914"}],
     [{"blake": "BLAKE2b, RFC 7693"}, {"comparison": "of codes", "counter": "of work", "four_words": "lemmas"},
      {"macs": "HMAC, PBKDF2", "aes_ctr": "AES-256"}],
 ]

@@ -103,7 +103,7 @@ def flowing(text):
 
 def options_of_argon2():
     """The options of argon2 as its sources have them: what each word sets, what it may be, and what holds without."""
-    items, settings = source("argon2_command", "src/items.rt"), source("argon2_command", "src/settings.rt")
+    items, settings = source("argon2_words", "src/items.rt"), source("argon2_words", "src/settings.rt")
     text = settings.split("const DEFAULTS")[1].split("};")[0]
     defaults = dict(re.findall(r"^    (\w+): (.*),$", text, re.MULTILINE))
     least = {}
@@ -150,7 +150,7 @@ def argon2_in_sources(checks):
 
 def options_of_scrypt():
     """The options of scrypt as clap is told of them, by the words of enc and of dec."""
-    lines, made = source("scrypt_command", "src/command_line.rt"), {}
+    lines, made = source("scrypt_words", "src/command_line.rt"), {}
     for function in ("with_common_words", "enc_command"):
         body = lines.split(f"\nfn {function}<")[1].split("\n}\n")[0]
         long = [f"--{it}" for it in re.findall(r'with_long\(.*, "(\w+)"\)', body)]
@@ -170,7 +170,7 @@ def scrypt_in_sources(checks):
     for subcommand, words in options_of_scrypt().items():
         checks.that(f"options of scrypt {subcommand} in its sources", words, of_subcommand(subcommand))
     table = {it.word.lstrip("-"): it for it in values_table.options("scrypt")}
-    texts = "".join(source("scrypt_command", f"src/{it}.rt") for it in ("costs", "request", "task"))
+    texts = "".join(source("scrypt_words", f"src/{it}.rt") for it in ("costs", "request", "task"))
     for name, given in re.findall(r'number_given\(matches, "(\w+)", (\d+)\)', texts):
         checks.that(f"scrypt {name}: where it is not given", given, table[name].default)
     for name, end, given in re.findall(r'limit_given\(matches, "(\w+)", (\w+), ([^)]*)\)', texts):
@@ -312,7 +312,7 @@ def messages_of_page(checks, program, page):
 
 
 def messages_of_sources(checks, program):
-    crate = {"argon2": "argon2_command", "scrypt": "scrypt_run"}[program]
+    crate = {"argon2": "argon2_words", "scrypt": "scrypt_request"}[program]
     code, specs = source(crate, "src/refusal.rt"), source(crate, "specs/Refusal.antt")
     table = {it.name: it for it in values_table.messages(program)}
     lines = dict(re.findall(r'Refusal::(\w+) =>\s*\{?\s*"([^"]*)"', code))

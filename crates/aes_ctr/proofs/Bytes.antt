@@ -3,7 +3,9 @@ use Rattle.std.proofs.Common.{◌≡◌, ℕ, ◌+◌, ◌*◌, ◌%◌, ◌<◌
 use lib.Lanes.{top}
 use Rattle.std.specs.List.{range_with_len}
 use Rattle.std.proofs.lemmas.List.FromFn.{get_or-map-range_with_len}
-use Rattle.aes_ctr.specs.Aes.{affine_bits, inverse, polynomial_product, power, product, remainder, sub_byte}
+use Rattle.std.proofs.lemmas.Simd.{map-map}
+use Rattle.aes_ctr.specs.Aes.{polynomial_product, product, remainder, sub_byte}
+use Rattle.aes_ctr.proofs.SBox.{entries, sub_byte-entries}
 
 -- two functions that agree on the list of all bytes agree at each byte
 pub by_table : (f g : ℕ → ℕ) → map f (range_with_len 0 256) ≡ map g (range_with_len 0 256) → (b : ℕ) → b < 256 → f b ≡ g b
@@ -40,9 +42,13 @@ product_two-lt b h =
 
 -- ---- the S-box
 
+entries-reduced : map (λ b. b % 256) entries ≡ entries
+entries-reduced = refl
+
 sub_byte-reduced : map (λ b. sub_byte b % 256) (range_with_len 0 256) ≡ map sub_byte (range_with_len 0 256)
-unfolding sub_byte affine_bits inverse power product polynomial_product remainder
-sub_byte-reduced = refl
+sub_byte-reduced =
+    sym (map-map (λ b. b % 256) sub_byte (range_with_len 0 256)) ∙ ap (map (λ b. b % 256)) sub_byte-entries
+    ∙ entries-reduced ∙ sym sub_byte-entries
 
 pub sub_byte-lt : (b : ℕ) → b < 256 → sub_byte b < 256
 sub_byte-lt b h =

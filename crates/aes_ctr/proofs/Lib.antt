@@ -8,6 +8,7 @@ pub mod Keys
 pub mod KeyStream
 pub mod Lookup
 pub mod Pairs
+pub mod SBox
 pub mod Sixteen
 pub mod Swapped
 pub mod Wires

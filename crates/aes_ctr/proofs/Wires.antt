@@ -7,12 +7,13 @@ use Rattle.std.proofs.lemmas.List.{map-append}
 use Rattle.std.proofs.lemmas.List.FromFn.{get_or-map-range_with_len}
 use Rattle.std.proofs.lemmas.Nat.Bits.{bit_at_ones}
 use Rattle.std.proofs.lemmas.Simd.{Each1-weaker, map-map, splat_is_map, zip2_of_maps}
-use Rattle.aes_ctr.specs.Aes.{affine_bits, inverse, polynomial_product, power, product, remainder, sub_byte, sub_bytes}
+use Rattle.aes_ctr.specs.Aes.{sub_byte, sub_bytes}
 use Rattle.aes_ctr.specs.Inside.Circuit.{input_sums, inverse_of_norm, norm, output_wires, products}
 use Rattle.aes_ctr.specs.Planes.{IsBlock, IsHeld, bits, plane}
 use Rattle.aes_ctr.specs.Inside.PlaneSteps.{IsPair}
 use Rattle.aes_ctr.proofs.Held.{IsBitwise, below_eight, bit_at-bit_and, bit_at-bit_xor, bits-zip2}
 use Rattle.aes_ctr.proofs.Pairs.{IsPair-append}
+use Rattle.aes_ctr.proofs.SBox.{entries, sub_byte-entries}
 use Rattle.aes_ctr.proofs.Sixteen.{map-agreeing, map-sub_byte}
 
 -- bit b of each lane of a plane, as a function of the bytes of a block
@@ -110,9 +111,13 @@ outputs_of sums = output_wires bit_xor 1 (slice_index (products bit_xor bit_and 
 abbrev byte_bits : ℕ → List ℕ
 byte_bits a = bit_at a 0 ∷ bit_at a 1 ∷ bit_at a 2 ∷ bit_at a 3 ∷ bit_at a 4 ∷ bit_at a 5 ∷ bit_at a 6 ∷ bit_at a 7 ∷ []
 
+outputs_of-entries : map (λ a. outputs_of (sums_of a)) (range_with_len 0 256) ≡ map byte_bits entries
+unfolding input_sums norm inverse_of_norm products output_wires
+outputs_of-entries = refl
+
 outputs_of_all : map (λ a. outputs_of (sums_of a)) (range_with_len 0 256) ≡ map (λ a. byte_bits (sub_byte a)) (range_with_len 0 256)
-unfolding sub_byte affine_bits inverse power product polynomial_product remainder input_sums norm inverse_of_norm products output_wires
-outputs_of_all = refl
+outputs_of_all =
+    outputs_of-entries ∙ ap (map byte_bits) (sym sub_byte-entries) ∙ map-map byte_bits sub_byte (range_with_len 0 256)
 
 outputs_of-byte : (a : ℕ) → a < 256 → outputs_of (sums_of a) ≡ byte_bits (sub_byte a)
 outputs_of-byte a h =

@@ -1,5 +1,5 @@
 -- The block of one column, as the code makes it from the buffer, against the equation of B (RFC 9106, 3.2 and 3.4).
-use Rattle.std.proofs.Common.{◌≡◌, ℕ, zero, suc, ◌+◌, ◌-◌, ◌*◌, ◌/◌, ◌%◌, ◌^◌, ◌<◌, ◌≤◌, Bool, true, false, ◌&&◌, List, [], length, get_or, slice_index, refl, sym, ap, ◌∙◌, arith, nat_eq}
+use Rattle.std.proofs.Common.{◌≡◌, ℕ, zero, suc, ◌+◌, ◌-◌, ◌*◌, ◌/◌, ◌%◌, ◌^◌, ◌<◌, ◌≤◌, Bool, true, false, ◌&&◌, List, [], length, get_or, set, slice_index, refl, sym, ap, ◌∙◌, arith, nat_eq}
 use Rattle.std.specs.Prelude.{if◌then◌else◌}
 use Rattle.std.proofs.Math.Nat.{mul-le-mul_right, mul-add-mod_self_right, mod-eq_of_lt, add-mod_right}
 use Rattle.argon.specs.Argon2.{block_at, is_xored_in, stored_block}
@@ -73,6 +73,24 @@ pub step_is : (c : Parameters) (lanes seg : ℕ) → c.lanes ≡ lanes → segme
     → new ≡ stored_block x old (compression previous reference)
     → new ≡ block_at c (block_held c buf) (pass * (4 * seg) + (slice * seg + index)) pass lane slice index
 step_is c lanes seg el es = rw (← el, ← es) (step_own c)
+
+-- the same in the buffer, by the places that the code has
+pub stored_is : (c : Parameters) (lanes seg : ℕ) → c.lanes ≡ lanes → segment_len c ≡ seg
+    → (buf : List (List ℕ)) (pass slice index lane before j named other : ℕ) (previous reference place : ℕ) (x : Bool)
+    → previous ≡ lane * (4 * seg) + before → reference ≡ named * (4 * seg) + other → place ≡ lane * (4 * seg) + (slice * seg + index)
+    → is_xored_in c pass ≡ x → slice < 4 → index < seg
+    → before ≡ (pass * (4 * seg) + (slice * seg + index) - 1) % (4 * seg)
+    → j ≡ reference_words c pass lane slice index (get_or buf previous [])
+    → named ≡ (if nat_eq pass 0 && nat_eq slice 0 then lane else j / 2 ^ 32 % lanes)
+    → other ≡ slice_index (reference_set seg pass slice index (nat_eq named lane))
+    (relative_place (length (reference_set seg pass slice index (nat_eq named lane))) (j % 2 ^ 32)) % (4 * seg)
+    → set buf place (stored_block x (get_or buf place []) (compression (get_or buf previous []) (get_or buf reference [])))
+    ≡ set buf (lane * (4 * seg) + (slice * seg + index))
+    (block_at c (block_held c buf) (pass * (4 * seg) + (slice * seg + index)) pass lane slice index)
+stored_is c lanes seg el es buf pass slice index lane before j named other previous reference place x ep er et ex hl hi eb ej en eo =
+    rw et (ap (set buf (lane * (4 * seg) + (slice * seg + index)))
+    (step_is c lanes seg el es buf pass slice index lane before j named other (get_or buf previous []) (get_or buf reference []) _ _ x ex hl hi eb
+    (ap (λ k. get_or buf k []) ep) ej en eo (ap (λ k. get_or buf k []) er) refl refl))
 
 -- what the index is at least, in the first slice
 pub first_two : (pass slice index : ℕ) → first_index pass slice ≤ index → pass ≡ 0 → slice ≡ 0 → 2 ≤ index

@@ -70,6 +70,17 @@ fn reference_words(is_independent: bool, addresses: &Block, index: u32, previous
     }
 }
 
+// Where a column of a lane stands in the buffer, which has the lanes one after the other.
+fn place_held(at: &Segment, lane: u32, column: usize) -> usize
+    requires valid { IsInMatrix at.now }
+    requires lanes { lane < at.now.lanes }
+    requires columns { column < 4 * at.now.len }
+    ensures value { result ≡ lane * (4 * at.now.len) + column }
+    ensures within { result < at.now.lanes * (4 * at.now.len) }
+{
+    lane as usize * (4 * at.len as usize) + column
+}
+
 // Makes the block of one column.
 fn fill_column(
     blocks: &mut [Block],
@@ -95,17 +106,18 @@ fn fill_column(
 {
     let lane_len = 4 * at.len as usize;
     let column = (at.slice * at.len + index) as usize;
-    let start = at.lane as usize * lane_len;
-    let previous = start + previous_column(lane_len, column);
+    let before = previous_column(lane_len, column);
+    let previous = place_held(at, at.lane, before);
     let j = reference_words(at.is_independent, addresses, index, &blocks[previous]);
     let lane = reference_lane(at.lanes, at.pass, at.lane, at.slice, j);
     let j1 = (j % 0x1_0000_0000) as u32;
     let other = reference_column(at.len, at.pass, at.slice, index, lane == at.lane, j1);
-    let reference = lane as usize * lane_len + other as usize;
+    let reference = place_held(at, lane, other as usize);
+    let place = place_held(at, at.lane, column);
     store_block(
         at.is_xored,
         blocks,
-        start + column,
+        place,
         previous,
         reference,
         scratch,

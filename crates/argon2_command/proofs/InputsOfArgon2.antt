@@ -3,10 +3,10 @@ use Rattle.std.proofs.Common.{◌≡◌, inl, inr, refl, ℕ, List, Some, Ok, Er
 use Rattle.argon.specs.Argon2.{Parameters}
 use Rattle.host.specs.Seen.{Text}
 use Rattle.argon2_command.specs.Output.{admitted_parameters, output_for, output_line, password_in}
-use Rattle.argon2_command.specs.Refusal.{IsLate}
-use Rattle.argon2_command.specs.Request.{Request, argon2_request}
+use Rattle.argon2_words.specs.Refusal.{IsLate}
+use Rattle.argon2_words.specs.Request.{Request, argon2_request}
 use Rattle.argon2_command.specs.Run.{IsToldForSome, SucceedsForSome}
-use Rattle.argon2_command.specs.declared.refusal.Argon2Refusal.{Argon2Refusal}
+use Rattle.argon2_words.specs.declared.refusal.Argon2Refusal.{Argon2Refusal}
 
 pub parameters_told : (words : List Text) (q : Request) (password : List ℕ) (r : Argon2Refusal) → argon2_request words ≡ Ok q
     → password_in (Some password) ≡ Ok password → admitted_parameters q password ≡ Err r → IsToldForSome words r

@@ -1,7 +1,7 @@
 -- What is asked of a source of memory: the tag, its line and one matrix, in this order, each once.
 use Rattle.std.specs.Prelude.{◌≡◌, ◌⊎◌, Bool, true, false, ℕ}
 use Rattle.argon.specs.Argon2.{Parameters}
-use Rattle.argon2_command.specs.Request.{Request}
+use Rattle.argon2_words.specs.Request.{Request}
 
 -- what a request for so many bytes of zero, for the line of a tag of so many bytes, and for a matrix leave of a
 -- source of memory, granted or refused

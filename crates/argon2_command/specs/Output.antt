@@ -9,13 +9,13 @@ use Rattle.argon_text.specs.EncodedText.{encoded_text}
 use Rattle.argon_text.specs.Value.{Value}
 use Rattle.host.specs.Seen.{Seen, Text}
 use Rattle.command_words.specs.Answer.{◌>>=◌}
-use Rattle.argon2_command.specs.Refusal.{refusal_of}
-use Rattle.argon2_command.specs.Request.{Request, argon2_request}
-use Rattle.argon2_command.specs.Settings.{version_number}
-use Rattle.argon2_command.specs.declared.items.Form.{Form}
-use Rattle.argon2_command.specs.declared.items.Form.TheVariants.{Encoded, Hex}
-use Rattle.argon2_command.specs.declared.refusal.Argon2Refusal.{Argon2Refusal}
-use Rattle.argon2_command.specs.declared.refusal.Argon2Refusal.TheVariants as refusal
+use Rattle.argon2_words.specs.Refusal.{refusal_of}
+use Rattle.argon2_words.specs.Request.{Request, argon2_request}
+use Rattle.argon2_words.specs.Settings.{version_number}
+use Rattle.argon2_words.specs.declared.items.Form.{Form}
+use Rattle.argon2_words.specs.declared.items.Form.TheVariants.{Encoded, Hex}
+use Rattle.argon2_words.specs.declared.refusal.Argon2Refusal.{Argon2Refusal}
+use Rattle.argon2_words.specs.declared.refusal.Argon2Refusal.TheVariants as refusal
 
 -- the password, which is the whole standard input, 1 to 127 bytes, or its refusal (A8a, A8b, A8c)
 abbrev pub password_in : Option (List ℕ) → Result (List ℕ) Argon2Refusal

@@ -4,11 +4,11 @@ use Rattle.host.specs.Output.{IsCutShort, after_writing}
 use Rattle.host.specs.Seen.{Seen, Text, after_ask, after_ask_output, stdin_once}
 use Rattle.host.specs.Faults.{Faults}
 use Rattle.host.specs.Lines.{SaysOneLine}
-use Rattle.argon2_command.specs.Refusal.{IsEarly, IsLate, counted_by, line_of}
-use Rattle.argon2_command.specs.Request.{argon2_request}
+use Rattle.argon2_words.specs.Refusal.{IsEarly, IsLate, counted_by, line_of}
+use Rattle.argon2_words.specs.Request.{argon2_request}
 use Rattle.argon2_command.specs.Output.{argon2_output, output_for}
-use Rattle.argon2_command.specs.declared.refusal.Argon2Refusal.{Argon2Refusal}
-use Rattle.argon2_command.specs.declared.refusal.Argon2Refusal.TheVariants as refusal
+use Rattle.argon2_words.specs.declared.refusal.Argon2Refusal.{Argon2Refusal}
+use Rattle.argon2_words.specs.declared.refusal.Argon2Refusal.TheVariants as refusal
 
 -- the host after the words were read: where they are accepted, standard input was asked for the password, and where
 -- they are refused, no source was asked

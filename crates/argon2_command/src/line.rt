@@ -3,12 +3,11 @@ ghost use Rattle.std.specs.Prelude.{◌≡◌, ℕ, List, IfOk, length, true};
 ghost use Rattle.argon_text.specs.EncodedText.{encoded_text};
 ghost use Rattle.argon_text.specs.Value.{is_in_range};
 ghost use Rattle.argon2_command.specs.Output.{tag_line, tag_text, value_with};
-ghost use Rattle.argon2_command.specs.RequestView.{request_of};
+ghost use Rattle.argon2_words.specs.RequestView.{request_of};
 
 use crate::bytes::Bytes;
-use crate::items::Form;
-use crate::request::Request;
 use argon_text::Encoded;
+use argon2_words::{Form, Request};
 use std::alloc::{AllocError, Global};
 
 // The encoded text of a tag.

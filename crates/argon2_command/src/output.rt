@@ -3,16 +3,15 @@ ghost use Rattle.std.specs.Prelude.{◌≡◌, ◌+◌, IfOk, IfErr, OnOk, OnErr
 ghost use Rattle.argon.specs.Counts.{work};
 ghost use Rattle.argon2_command.specs.Asking.{LacksOne, asking, with_all};
 ghost use Rattle.argon2_command.specs.Output.{admitted_parameters, output_line, parameters_of, tag_line};
-ghost use Rattle.argon2_command.specs.Refusal.{IsEarly};
-ghost use Rattle.argon2_command.specs.RequestView.{request_of};
+ghost use Rattle.argon2_words.specs.Refusal.{IsEarly};
+ghost use Rattle.argon2_words.specs.RequestView.{request_of};
 
 use crate::bytes::Bytes;
 use crate::line::put_tag;
 use crate::password::Password;
-use crate::refusal::Argon2Refusal;
-use crate::request::Request;
 use crate::room::Room;
 use argon::{Inputs, Matrix, Params, Ticks};
+use argon2_words::{Argon2Refusal, Request};
 use std::alloc::AllocError;
 
 /// The parameters that a request and a password ask for, in range and admitted by the request's limits.

@@ -4,10 +4,10 @@ ghost use Rattle.host.specs.Faults.{AreBelow};
 ghost use Rattle.host.specs.Grants.{with_secret_asked};
 ghost use Rattle.host.specs.Seen.{after_ask, stdin_once};
 ghost use Rattle.argon2_command.specs.Output.{RefusesInput, password_in};
-ghost use Rattle.argon2_command.specs.Refusal.{IsEarly, counted_by};
-ghost use Rattle.argon2_command.specs.declared.refusal.Argon2Refusal.TheVariants.{PasswordFault};
+ghost use Rattle.argon2_words.specs.Refusal.{IsEarly, counted_by};
+ghost use Rattle.argon2_words.specs.declared.refusal.Argon2Refusal.TheVariants.{PasswordFault};
 
-use crate::refusal::Argon2Refusal;
+use argon2_words::Argon2Refusal;
 use host::{Host, Source};
 use std::marker::Model;
 

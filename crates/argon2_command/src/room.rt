@@ -4,14 +4,13 @@ ghost use Rattle.argon.specs.Argon2.{Parameters};
 ghost use Rattle.argon.specs.Range.{admission};
 ghost use Rattle.argon_text.specs.Value.{is_in_range};
 ghost use Rattle.argon2_command.specs.Output.{tag_line, value_with};
-ghost use Rattle.argon2_command.specs.Request.{Request};
-ghost use Rattle.argon2_command.specs.RequestView.{request_of};
+ghost use Rattle.argon2_words.specs.Request.{Request};
+ghost use Rattle.argon2_words.specs.RequestView.{request_of};
 
 use crate::bytes::Bytes;
 use crate::line::line_of;
-use crate::request::Request;
-use crate::settings::Settings;
 use argon::{Matrix, Params};
+use argon2_words::{Request, Settings};
 use std::alloc::{AllocError, Global};
 
 /// The requests for memory of a run, which has no other source. All of them are made before the hash.

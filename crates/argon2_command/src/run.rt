@@ -8,18 +8,17 @@ ghost use Rattle.argon2_command.specs.Asking.{asking};
 ghost use Rattle.argon2_command.specs.Inside.RunAsking.{RunGranted, RunRefused};
 ghost use Rattle.argon2_command.specs.Output.{argon2_output};
 ghost use Rattle.argon2_command.specs.Inside.Work.{request_work};
-ghost use Rattle.argon2_command.specs.Refusal.{IsEarly, counted_by, line_of};
-ghost use Rattle.argon2_command.specs.Request.{argon2_request};
+ghost use Rattle.argon2_words.specs.Refusal.{IsEarly, counted_by, line_of};
+ghost use Rattle.argon2_words.specs.Request.{argon2_request};
 ghost use Rattle.argon2_command.specs.Run.{IsRefused, IsToldForSome, Refuses, Succeeds, SucceedsForSome, password_asked};
-ghost use Rattle.argon2_command.specs.declared.refusal.Argon2Refusal.{Argon2Refusal};
+ghost use Rattle.argon2_words.specs.declared.refusal.Argon2Refusal.{Argon2Refusal};
 
 use crate::bytes::Bytes;
 use crate::output::{output, parameters};
 use crate::password::read_password;
-use crate::refusal::Argon2Refusal;
-use crate::request::read_request;
 use crate::room::Room;
 use argon::Ticks;
+use argon2_words::{Argon2Refusal, read_request};
 use host::{Host, refuse, write_output};
 use std::alloc::Global;
 

@@ -1,60 +1,11 @@
-//! The definitions of argon2's words and of its output, run on what the reference program takes and
-//! gives.
-ghost use Rattle.std.specs.Prelude.{◌≡◌, [], ◌∷◌, ◌++◌, Ok, Err, None, Some, codes, false, replicate, true};
+//! The definitions of argon2's output, run on what the reference program gives.
+ghost use Rattle.std.specs.Prelude.{◌≡◌, [], ◌∷◌, ◌++◌, Ok, Err, None, Some, codes, replicate};
 ghost use Rattle.argon.specs.Argon2.{argon2_tag};
-ghost use Rattle.argon.specs.declared.kind.Kind.TheVariants.{I, Id};
 ghost use Rattle.argon_text.specs.Vectors.{known_text, known_value};
 ghost use Rattle.argon2_command.specs.Output.{argon2_output, output_for};
-ghost use Rattle.argon2_command.specs.Request.{argon2_request};
-ghost use Rattle.argon2_command.specs.Settings.{defaults};
-ghost use Rattle.argon2_command.specs.Refusal.{counted_by, line_of};
 ghost use Rattle.argon2_command.specs.Run.{password_asked};
-ghost use Rattle.host.specs.Faults.{no_faults};
 ghost use Rattle.host.specs.Seen.{nothing_seen, stdin_once};
-ghost use Rattle.argon2_command.specs.declared.items.Form.TheVariants.{Encoded, Hex};
-ghost use Rattle.argon2_command.specs.declared.refusal.Argon2Refusal.TheVariants.{BadNumber, EmptyPassword, Lanes, LongPassword, Memory, MemoryLimit, MissingValue, OneForm, OutOfMemory, OutputFault, Passes, PasswordFault, SaltLength, TagLength, UnknownWord, Usage, WorkLimit};
-ghost use Rattle.argon2_command.specs.declared.settings.Version.TheVariants.{V10, V13};
-
-fn settings_of_two_passes()
-    ensures request { argon2_request (codes "somesalt" ∷ codes "-t" ∷ codes "2" ∷ codes "-m" ∷ codes "8"
-        ∷ codes "-e" ∷ []) ≡
-        Ok (record {
-          salt = codes "somesalt";
-          settings = record defaults { passes = 2; memory_kib = 256; encoded = true };
-          form = Encoded;
-        }) }
-{}
-
-fn last_type_counts()
-    ensures request { argon2_request (codes "somesalt" ∷ codes "-d" ∷ codes "-i" ∷ codes "-id" ∷ codes "-t"
-        ∷ codes "2" ∷ codes "-k" ∷ codes "256" ∷ codes "-e" ∷ []) ≡
-        Ok (record {
-          salt = codes "somesalt";
-          settings = record defaults { kind = Id; passes = 2; memory_kib = 256; encoded = true };
-          form = Encoded;
-        }) }
-{}
-
-fn version_is_hexadecimal()
-    ensures request { argon2_request (codes "somesalt" ∷ codes "-v" ∷ codes "10" ∷ codes "-e" ∷ []) ≡
-        Ok (record {
-          salt = codes "somesalt";
-          settings = record defaults { version = V10; encoded = true };
-          form = Encoded;
-        }) }
-    ensures decimal { argon2_request (codes "somesalt" ∷ codes "-v" ∷ codes "16" ∷ codes "-e" ∷ []) ≡
-        Err BadNumber }
-{}
-
-fn first_faulty_item_decides()
-    ensures both_forms { argon2_request (codes "somesalt" ∷ codes "-e" ∷ codes "-r" ∷ []) ≡ Err OneForm }
-    ensures no_form { argon2_request (codes "somesalt" ∷ []) ≡ Err OneForm }
-    ensures no_value { argon2_request (codes "somesalt" ∷ codes "-e" ∷ codes "-t" ∷ []) ≡
-        Err MissingValue }
-    ensures bad_number { argon2_request (codes "somesalt" ∷ codes "-t" ∷ codes "x" ∷ codes "-q" ∷ []) ≡
-        Err BadNumber }
-    ensures no_words { argon2_request [] ≡ Err Usage }
-{}
+ghost use Rattle.argon2_words.specs.declared.refusal.Argon2Refusal.TheVariants.{EmptyPassword, LongPassword, MemoryLimit, OneForm, Passes, PasswordFault, SaltLength, WorkLimit};
 
 // printf password | argon2 somesalt -d -t 1 -k 8 -e, by the tag that it has with -r
 fn output_of_one_pass()
@@ -80,51 +31,6 @@ fn output_of_one_pass()
         (record nothing_seen { stdin = Some (codes "password") }) ≡ Ok (known_text ++ 10 ∷ []) }
 {}
 
-// What no word sets, number by number, as Debian's manual page of argon2 tells it; the limits are own.
-fn settings_of_no_item()
-    ensures request { argon2_request (codes "somesalt" ∷ codes "-r" ∷ []) ≡
-        Ok (record {
-          salt = codes "somesalt";
-          settings = record {
-            kind = I;
-            passes = 3;
-            memory_kib = 4096;
-            lanes = 1;
-            tag_length = 32;
-            version = V13;
-            max_memory_kib = 4194304;
-            max_ops = 8589934592;
-            encoded = false;
-            hex = true;
-          };
-          form = Hex;
-        }) }
-{}
-
-// Each option sets its own number.
-fn each_option()
-    ensures numbers { argon2_request (codes "somesalt" ∷ codes "-t" ∷ codes "4294967295" ∷ codes "-p" ∷ codes "5"
-        ∷ codes "-l" ∷ codes "6" ∷ codes "-k" ∷ codes "7" ∷ codes "--maxmem" ∷ codes "8" ∷ codes "--maxops" ∷ codes "9" ∷ codes "-v" ∷ codes "13" ∷ codes "-r" ∷ []) ≡
-        Ok (record {
-          salt = codes "somesalt";
-          settings = record defaults { passes = 4294967295; lanes = 5; tag_length = 6; memory_kib = 7; max_memory_kib = 8; max_ops = 9; hex = true };
-          form = Hex;
-        }) }
-{}
-
-// The ends of numbers: 2^32 is none of -t, -m has powers from 1 to 31, and no limit is 0.
-fn ends_of_numbers()
-    ensures count_above { argon2_request (codes "somesalt" ∷ codes "-t" ∷ codes "4294967296" ∷ codes "-e" ∷ []) ≡ Err BadNumber }
-    ensures no_power { argon2_request (codes "somesalt" ∷ codes "-m" ∷ codes "0" ∷ codes "-e" ∷ []) ≡ Err BadNumber }
-    ensures power_above { argon2_request (codes "somesalt" ∷ codes "-m" ∷ codes "32" ∷ codes "-e" ∷ []) ≡ Err BadNumber }
-    ensures no_memory_limit { argon2_request (codes "somesalt" ∷ codes "--maxmem" ∷ codes "0" ∷ codes "-e" ∷ []) ≡ Err BadNumber }
-    ensures no_work_limit { argon2_request (codes "somesalt" ∷ codes "--maxops" ∷ codes "0" ∷ codes "-e" ∷ []) ≡ Err BadNumber }
-    ensures unknown { argon2_request (codes "somesalt" ∷ codes "-q" ∷ codes "-t" ∷ codes "x" ∷ []) ≡ Err UnknownWord }
-    ensures help { argon2_request (codes "somesalt" ∷ codes "-h" ∷ codes "-q" ∷ []) ≡ Err Usage }
-    ensures help_first { argon2_request (codes "-h" ∷ codes "-e" ∷ []) ≡ Err Usage }
-    ensures salt_like_an_item { argon2_request (codes "-q" ∷ []) ≡ Err OneForm }
-{}
-
 // Words, password, parameters, limits: the first refusal is told. 127 bytes are a password, and 128 are none.
 fn first_refusal_of_a_run()
     ensures words { output_for (codes "s" ∷ []) (Some []) ≡ Err OneForm }
@@ -135,34 +41,6 @@ fn first_refusal_of_a_run()
     ensures passes_first { output_for (codes "s" ∷ codes "-t" ∷ codes "0" ∷ codes "-e" ∷ []) (Some (codes "p")) ≡ Err Passes }
     ensures memory_limit { output_for (codes "somesalt" ∷ codes "--maxmem" ∷ codes "4095" ∷ codes "--maxops" ∷ codes "1" ∷ codes "-e" ∷ []) (Some (codes "p")) ≡ Err MemoryLimit }
     ensures work_limit { output_for (codes "somesalt" ∷ codes "--maxmem" ∷ codes "4096" ∷ codes "--maxops" ∷ codes "1" ∷ codes "-e" ∷ []) (Some (codes "p")) ≡ Err WorkLimit }
-{}
-
-// docs/REFUSALS.md, the table of argon2: the line of each.
-fn lines_of_refusals()
-    ensures usage { line_of Usage ≡ codes "argon2: usage: argon2 salt [-i|-d|-id] [-t N] [-m N | -k N] [-p N] [-l N] [-v VERSION] [--maxmem KIB] [--maxops N] (-e|-r)" }
-    ensures unknown_word { line_of UnknownWord ≡ codes "argon2: unknown word" }
-    ensures missing_value { line_of MissingValue ≡ codes "argon2: missing value" }
-    ensures bad_number { line_of BadNumber ≡ codes "argon2: bad number" }
-    ensures one_form { line_of OneForm ≡ codes "argon2: exactly one of -e and -r is needed" }
-    ensures password_fault { line_of PasswordFault ≡ codes "argon2: password cannot be read" }
-    ensures empty_password { line_of EmptyPassword ≡ codes "argon2: password is empty" }
-    ensures long_password { line_of LongPassword ≡ codes "argon2: password is longer than 127 bytes" }
-    ensures passes { line_of Passes ≡ codes "argon2: passes out of range" }
-    ensures lanes { line_of Lanes ≡ codes "argon2: lanes out of range" }
-    ensures memory { line_of Memory ≡ codes "argon2: memory out of range" }
-    ensures tag_length { line_of TagLength ≡ codes "argon2: tag length out of range" }
-    ensures salt_length { line_of SaltLength ≡ codes "argon2: salt length out of range" }
-    ensures memory_limit { line_of MemoryLimit ≡ codes "argon2: more memory needed than --maxmem allows" }
-    ensures work_limit { line_of WorkLimit ≡ codes "argon2: more work needed than --maxops allows" }
-    ensures out_of_memory { line_of OutOfMemory ≡ codes "argon2: out of memory" }
-    ensures output_fault { line_of OutputFault ≡ codes "argon2: output cannot be written" }
-{}
-
-// A failing call of the host raises its own count, and no other refusal raises one.
-fn counts_of_refusals()
-    ensures password { counted_by PasswordFault no_faults ≡ record { input = 0; output = 0; secrets = 1; salt = 0; lines = 0 } }
-    ensures output { counted_by OutputFault no_faults ≡ record { input = 0; output = 1; secrets = 0; salt = 0; lines = 0 } }
-    ensures memory { counted_by OutOfMemory no_faults ≡ no_faults }
 {}
 
 // Standard input is asked for the password where the words are taken, and nothing is where they are refused.

@@ -4,8 +4,8 @@ use Rattle.host.specs.Faults.{Faults, no_faults}
 use Rattle.host.specs.Lines.{SaysOneLine}
 use Rattle.host.specs.Seen.{Seen, Text}
 use Rattle.argon2_command.specs.Run.{Refuses}
-use Rattle.argon2_command.specs.Refusal.{line_of}
-use Rattle.argon2_command.specs.declared.refusal.Argon2Refusal.TheVariants as refusal
+use Rattle.argon2_words.specs.Refusal.{line_of}
+use Rattle.argon2_words.specs.declared.refusal.Argon2Refusal.TheVariants as refusal
 use Rattle.tools.specs.Words.{LacksText}
 use Rattle.tools.specs.declared.arguments.WordsFault.TheVariants as words_fault
 

@@ -3,4 +3,3 @@ pub mod Fronts
 pub mod Headers
 pub mod Pieces
 pub mod Reading
-pub mod KnownFile

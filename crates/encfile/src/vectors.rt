@@ -10,7 +10,8 @@ ghost use Rattle.encfile.specs.Vectors.{allowance, front_of_costs, front_of_hell
 ghost use Rattle.encfile.specs.declared.fault.HeaderFault.TheVariants.{Checksum, CostsOutOfRange, Magic, Version};
 
 // The file of `hello` with log2 N 4, r 1, p 1, the passphrase `pw` and the salt 00 01 .. 1f, as
-// Python's `hashlib.scrypt` and `hmac`, and `openssl enc -aes-256-ctr`, give it.
+// Python's `hashlib.scrypt` and `hmac`, and `openssl enc -aes-256-ctr`, give it; the text that it
+// releases, and that of its first 96 bytes alone.
 fn file_of_hello()
     ensures file { encrypted_file (codes "pw") (range_with_len 0 32)
         (record { log_n = 4; r = 1; p = 1 }) (codes "hello") ≡
@@ -26,6 +27,8 @@ fn file_of_hello()
         0x92 ∷ 0x5E ∷ 0x75 ∷ 0x4D ∷ 0x1B ∷ 0x00 ∷ 0xD8 ∷ 0xF6 ∷ 0xAC ∷ 0xAA ∷ 0x79 ∷ 0x86 ∷
         0x8E ∷ 0x22 ∷ 0x1C ∷ 0xD3 ∷ 0xC4 ∷ 0x0E ∷ 0xFB ∷ 0x4B ∷ 0xDD ∷ 0x9F ∷ 0xFB ∷ 0x35 ∷
         0xB8 ∷ [] }
+    ensures text { released_text (front_of_hello ++ rest_of_hello) (codes "pw") ≡ codes "hello" }
+    ensures cut_off { released_text front_of_hello (codes "pw") ≡ [] }
 {}
 
 // Fronts of 96 bytes that are refused for their length, a byte, the checksum, a cost, S, memory and
@@ -65,12 +68,6 @@ fn passphrases_of_hello()
     ensures own { front_refusal front_of_hello (allowance 1 2048 64) (codes "pw") ≡ None }
     ensures other { front_refusal front_of_hello (allowance 1 2048 64) (codes "pv") ≡ Some WrongPassphrase }
     ensures limits_first { front_refusal front_of_hello (allowance 1 2047 64) (codes "pv") ≡ Some TooMuchMemory }
-{}
-
-// The text of the same file, and of its first 96 bytes alone.
-fn text_of_hello()
-    ensures text { released_text (front_of_hello ++ rest_of_hello) (codes "pw") ≡ codes "hello" }
-    ensures cut_off { released_text front_of_hello (codes "pw") ≡ [] }
 {}
 
 // A header whose numbers have different bytes, as Python's struct and hashlib give it, and what it says.

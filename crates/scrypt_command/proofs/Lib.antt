@@ -1,5 +1,2 @@
 -- Lemmas, by topic.
-pub mod Arguments
-pub mod WideCosts
 pub mod WholeRuns
-pub mod WordsOfClap

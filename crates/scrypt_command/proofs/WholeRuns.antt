@@ -3,14 +3,14 @@ use Rattle.std.proofs.Common.{◌≡◌, ◌∙◌, ◌⊎◌, inl, inr, ap, sym
 use Rattle.std.proofs.lemmas.Option.{none-some, same_Some}
 use Rattle.host.specs.Seen.{Seen, Text}
 use Rattle.scrypt_run.specs.Laws.{AreOneEnd, IsRefusedFromOutside as RefusesFromOutside}
-use Rattle.scrypt_run.specs.Request.{Request}
+use Rattle.scrypt_request.specs.Request.{Request}
 use Rattle.scrypt_run.specs.Run.{RequestRefused, RequestSucceeds}
-use Rattle.scrypt_run.specs.declared.refusal.ScryptRefusal.{ScryptRefusal}
-use Rattle.scrypt_run.specs.declared.refusal.ScryptRefusal.TheVariants as refusal
+use Rattle.scrypt_request.specs.declared.refusal.ScryptRefusal.{ScryptRefusal}
+use Rattle.scrypt_request.specs.declared.refusal.ScryptRefusal.TheVariants as refusal
 use Rattle.scrypt_run.proofs.Refusals.{one_refusal}
 use Rattle.scrypt_run.proofs.Successes.{one_success, refused_from_outside}
 use Rattle.scrypt_command.specs.Laws.{IsRefusedFromOutside}
-use Rattle.scrypt_command.specs.Request.{scrypt_request}
+use Rattle.scrypt_words.specs.Request.{scrypt_request}
 use Rattle.scrypt_command.specs.Run.{IsRefused, RefusesRequest, Succeeds}
 
 -- ---- an answer has one request, or one refusal

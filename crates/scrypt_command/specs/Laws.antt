@@ -2,10 +2,10 @@
 use Rattle.std.specs.Prelude.{◌≡◌, ◌⊎◌, List, Ok}
 use Rattle.host.specs.Seen.{Text}
 use Rattle.scrypt_run.specs.Laws.{IsRefusedFromOutside as RefusesFromOutside}
-use Rattle.scrypt_run.specs.Request.{Request}
-use Rattle.scrypt_run.specs.declared.refusal.ScryptRefusal.{ScryptRefusal}
-use Rattle.scrypt_run.specs.declared.refusal.ScryptRefusal.TheVariants as refusal
-use Rattle.scrypt_command.specs.Request.{scrypt_request}
+use Rattle.scrypt_request.specs.Request.{Request}
+use Rattle.scrypt_request.specs.declared.refusal.ScryptRefusal.{ScryptRefusal}
+use Rattle.scrypt_request.specs.declared.refusal.ScryptRefusal.TheVariants as refusal
+use Rattle.scrypt_words.specs.Request.{scrypt_request}
 
 -- the words are accepted, and the refusal of what they ask for is one of a failing host or of refused memory
 pub record RefusesTaken (words : List Text) (r : ScryptRefusal) : Type 0 where

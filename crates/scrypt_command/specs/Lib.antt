@@ -1,8 +1,3 @@
--- The command scrypt: what its words say and ask for, and what a run comes to.
-pub mod CommandLine
-pub mod Words
-pub mod Request
-pub mod Vectors
+-- The command scrypt: what a run comes to, for its words and a host.
 pub mod Run
 pub mod Laws
-pub mod Inside

@@ -3,12 +3,12 @@ use Rattle.std.specs.Prelude.{◌≡◌, ◌⊎◌, Bool, List, Ok, Err, IsTrue}
 use Rattle.host.specs.Faults.{Faults}
 use Rattle.host.specs.Lines.{SaysOneLine}
 use Rattle.host.specs.Seen.{Seen, Text}
-use Rattle.scrypt_run.specs.Refusal.{counted_by, line_of}
-use Rattle.scrypt_run.specs.Request.{Request}
+use Rattle.scrypt_request.specs.Refusal.{counted_by, line_of}
+use Rattle.scrypt_request.specs.Request.{Request}
 use Rattle.scrypt_run.specs.Run.{RequestRefused, RequestSucceeds}
-use Rattle.scrypt_run.specs.declared.refusal.ScryptRefusal.{ScryptRefusal}
-use Rattle.scrypt_run.specs.declared.refusal.ScryptRefusal.TheVariants as refusal
-use Rattle.scrypt_command.specs.Request.{scrypt_request}
+use Rattle.scrypt_request.specs.declared.refusal.ScryptRefusal.{ScryptRefusal}
+use Rattle.scrypt_request.specs.declared.refusal.ScryptRefusal.TheVariants as refusal
+use Rattle.scrypt_words.specs.Request.{scrypt_request}
 
 -- the run ended with status 0: it did what its words ask for
 pub record Succeeds (words : List Text) (before after : Seen) : Type 0 where

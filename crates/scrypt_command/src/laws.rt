@@ -4,7 +4,7 @@ ghost use Rattle.host.specs.Seen.{Seen, Text};
 ghost use Rattle.scrypt_command.specs.Laws.{IsRefusedFromOutside};
 ghost use Rattle.scrypt_command.specs.Run.{IsRefused, Succeeds};
 ghost use Rattle.scrypt_run.specs.Laws.{AreOneEnd};
-ghost use Rattle.scrypt_run.specs.declared.refusal.ScryptRefusal.{ScryptRefusal};
+ghost use Rattle.scrypt_request.specs.declared.refusal.ScryptRefusal.{ScryptRefusal};
 
 // Words and a host come to one end, but for refusals from outside: to one success, beside which every
 // refusal is from outside, or to one refusal, which leaves one state.

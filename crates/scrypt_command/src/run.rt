@@ -3,17 +3,18 @@ ghost use Rattle.std.specs.Prelude.{◌≡◌, ◌≤◌, ◌+◌, ◌^◌, fals
 ghost use Rattle.host.specs.Faults.{AreBelow};
 ghost use Rattle.host.specs.Grants.{GrantsAll};
 ghost use Rattle.host.specs.Seen.{IsFresh};
-ghost use Rattle.scrypt_run.specs.Refusal.{counted_by, may_follow_work};
+ghost use Rattle.scrypt_request.specs.Refusal.{counted_by, may_follow_work};
 ghost use Rattle.scrypt_run.specs.Run.{most_cores};
 ghost use Rattle.scrypt_run.specs.Work.{EndsAfterWork, RequestWorks};
-ghost use Rattle.scrypt_run.specs.declared.refusal.ScryptRefusal.{ScryptRefusal};
-ghost use Rattle.scrypt_command.specs.Request.{scrypt_request};
+ghost use Rattle.scrypt_request.specs.declared.refusal.ScryptRefusal.{ScryptRefusal};
+ghost use Rattle.scrypt_words.specs.Request.{scrypt_request};
 ghost use Rattle.scrypt_command.specs.Run.{IsRefused, Refuses, Succeeds, TellsOfWords, TellsWords};
 
-use crate::request::read_request;
 use host::{Host, refuse};
 use romix::Ticks;
-use scrypt_run::{ScryptRefusal, run};
+use scrypt_request::ScryptRefusal;
+use scrypt_run::run;
+use scrypt_words::read_request;
 use std::alloc::Global;
 
 // All of a run but the line of a refusal.

@@ -9,10 +9,10 @@ use Rattle.scrypt_run.specs.Front.{FrontRefused}
 use Rattle.scrypt_run.specs.Inside.Decrypting.{ReleaseRefused}
 use Rattle.scrypt_run.specs.Inspecting.{InspectRefused}
 use Rattle.scrypt_run.specs.Laws.{AsksNoOther}
-use Rattle.scrypt_run.specs.Request.{Encryption, Request, Task, decrypt, encrypt, inspect}
+use Rattle.scrypt_request.specs.Request.{Encryption, Request, Task, decrypt, encrypt, inspect}
 use Rattle.scrypt_run.specs.Run.{RequestRefused, RequestSucceeds}
 use Rattle.scrypt_run.specs.Text.{EndsText}
-use Rattle.scrypt_run.specs.declared.refusal.ScryptRefusal.{ScryptRefusal}
+use Rattle.scrypt_request.specs.declared.refusal.ScryptRefusal.{ScryptRefusal}
 
 -- the same host has the same source
 same_source : (s t : Seen) → t ≡ s → t.asked ≡ s.asked

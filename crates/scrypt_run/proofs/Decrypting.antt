@@ -12,9 +12,9 @@ use Rattle.scrypt_run.specs.Decrypting.{DecryptRefused, limits_refusal_of, text_
 use Rattle.scrypt_run.specs.Inside.Decrypting.{OpenRefused}
 use Rattle.scrypt_run.specs.Passphrase.{first_line_at}
 use Rattle.scrypt_run.specs.Refusal.{refusal_of}
-use Rattle.scrypt_run.specs.Request.{Task, allowance_of}
+use Rattle.scrypt_request.specs.Request.{Task, allowance_of}
 use Rattle.scrypt_run.specs.Steps.{passphrase_asked}
-use Rattle.scrypt_run.specs.declared.refusal.ScryptRefusal.{ScryptRefusal}
+use Rattle.scrypt_request.specs.declared.refusal.ScryptRefusal.{ScryptRefusal}
 
 -- before the output was opened: the step's refusals among the run's
 pub opening_ends : (task : Task) (before after : Seen) (r : ScryptRefusal) → 96 ≤ length before.input → limits_refusal_of task before ≡ None

@@ -12,10 +12,10 @@ use Rattle.host.specs.Seen.{Seen, after_ask, after_open_input, after_pull, after
 use Rattle.scrypt_run.specs.Encrypting.{EncryptRefused, costs_refusal_of, decided, salt_used}
 use Rattle.scrypt_run.specs.Inside.Encrypting.{StartRefused, TextNotOpened}
 use Rattle.scrypt_run.specs.Passphrase.{HasPassphrase, first_line_at}
-use Rattle.scrypt_run.specs.Request.{Encryption}
+use Rattle.scrypt_request.specs.Request.{Encryption}
 use Rattle.scrypt_run.specs.Steps.{after_passing, passphrase_asked}
 use Rattle.scrypt_run.specs.Text.{EndsText, FailsWriting}
-use Rattle.scrypt_run.specs.declared.refusal.ScryptRefusal.{ScryptRefusal}
+use Rattle.scrypt_request.specs.declared.refusal.ScryptRefusal.{ScryptRefusal}
 use Rattle.host.proofs.Pushes.{push_push}
 use Rattle.scrypt_run.proofs.Ends.{first_line_at-reading, salt_used-opening}
 use Rattle.scrypt_run.proofs.Passing.{begun_on}

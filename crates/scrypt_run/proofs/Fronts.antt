@@ -16,8 +16,8 @@ use Rattle.scrypt_run.specs.Front.{FrontRefused}
 use Rattle.scrypt_run.specs.Inspecting.{costs_line}
 use Rattle.scrypt_run.specs.Refusal.{refusal_of}
 use Rattle.scrypt_run.specs.Steps.{after_reading}
-use Rattle.scrypt_run.specs.declared.refusal.ScryptRefusal.{ScryptRefusal}
-use Rattle.scrypt_run.specs.declared.refusal.ScryptRefusal.TheVariants as refusal
+use Rattle.scrypt_request.specs.declared.refusal.ScryptRefusal.{ScryptRefusal}
+use Rattle.scrypt_request.specs.declared.refusal.ScryptRefusal.TheVariants as refusal
 
 -- ---- how many bytes there were
 

@@ -12,9 +12,9 @@ use Rattle.scrypt_run.specs.Decrypting.{DecryptRefused, DecryptSucceeds}
 use Rattle.scrypt_run.specs.Encrypting.{EncryptRefused, EncryptSucceeds}
 use Rattle.scrypt_run.specs.Laws.{AdmitsCosts, with_keep}
 use Rattle.scrypt_run.specs.Refusal.{refusal_of}
-use Rattle.scrypt_run.specs.Request.{Encryption, Request, Task, allowance_of, decrypt, encrypt, inspect}
+use Rattle.scrypt_request.specs.Request.{Encryption, Request, Task, allowance_of, decrypt, encrypt, inspect}
 use Rattle.scrypt_run.specs.Run.{RequestRefused, RequestSucceeds}
-use Rattle.scrypt_run.specs.declared.refusal.ScryptRefusal.{ScryptRefusal}
+use Rattle.scrypt_request.specs.declared.refusal.ScryptRefusal.{ScryptRefusal}
 use Rattle.scrypt_run.proofs.Openings.{none_refuses}
 
 -- ---- what refuses a file

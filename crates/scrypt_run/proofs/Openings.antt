@@ -17,9 +17,9 @@ use Rattle.scrypt_run.specs.Laws.{CanBeOpened, IsFromOutside, WroteWhatWasEncryp
 use Rattle.scrypt_run.specs.Passphrase.{HasPassphrase, PassphraseRefused, first_line_at}
 use Rattle.scrypt_run.specs.Front.{FrontRefused}
 use Rattle.scrypt_run.specs.Refusal.{refusal_of}
-use Rattle.scrypt_run.specs.Request.{Task, allowance_of}
+use Rattle.scrypt_request.specs.Request.{Task, allowance_of}
 use Rattle.scrypt_run.specs.Steps.{passphrase_asked}
-use Rattle.scrypt_run.specs.declared.refusal.ScryptRefusal.{ScryptRefusal}
+use Rattle.scrypt_request.specs.declared.refusal.ScryptRefusal.{ScryptRefusal}
 
 -- a source gives one passphrase
 pub one_passphrase : (line : Option (List ℕ)) (p q : List ℕ) → HasPassphrase line p → HasPassphrase line q → p ≡ q

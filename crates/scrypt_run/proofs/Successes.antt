@@ -8,12 +8,12 @@ use Rattle.scrypt_run.specs.Decrypting.{DecryptSucceeds, text_after}
 use Rattle.scrypt_run.specs.Encrypting.{EncryptRefused, EncryptSucceeds, costs_refusal_of, salt_asked, salt_used}
 use Rattle.scrypt_run.specs.Inspecting.{InspectRefused, InspectSucceeds}
 use Rattle.scrypt_run.specs.Laws.{IsFromOutside, IsRefusedFromOutside, WroteAnEncryption}
-use Rattle.scrypt_run.specs.Request.{Encryption, Request, Task, decrypt, encrypt, inspect}
+use Rattle.scrypt_request.specs.Request.{Encryption, Request, Task, decrypt, encrypt, inspect}
 use Rattle.scrypt_run.specs.Run.{RequestRefused, RequestSucceeds}
 use Rattle.scrypt_run.specs.Steps.{after_passing, passphrase_asked}
 use Rattle.scrypt_run.specs.Text.{EndsText}
-use Rattle.scrypt_run.specs.declared.refusal.ScryptRefusal.{ScryptRefusal}
-use Rattle.scrypt_run.specs.declared.refusal.ScryptRefusal.TheVariants as refusal
+use Rattle.scrypt_request.specs.declared.refusal.ScryptRefusal.{ScryptRefusal}
+use Rattle.scrypt_request.specs.declared.refusal.ScryptRefusal.TheVariants as refusal
 use Rattle.scrypt_run.proofs.Openings.{decrypt_from_outside, front_from_outside, none_refuses, one_passphrase, genuine_by_success, passphrase_from_outside}
 
 -- ---- one success

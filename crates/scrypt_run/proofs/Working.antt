@@ -13,11 +13,11 @@ use Rattle.scrypt_run.specs.Front.{FrontRefused}
 use Rattle.scrypt_run.specs.Inside.Decrypting.{ReleaseRefused}
 use Rattle.scrypt_run.specs.Inside.Encrypting.{WriteRefused}
 use Rattle.scrypt_run.specs.Passphrase.{HasPassphrase, first_line_at}
-use Rattle.scrypt_run.specs.Refusal.{follows_work}
-use Rattle.scrypt_run.specs.Request.{Encryption, Task, allowance_of}
+use Rattle.scrypt_request.specs.Refusal.{follows_work}
+use Rattle.scrypt_request.specs.Request.{Encryption, Task, allowance_of}
 use Rattle.scrypt_run.specs.Steps.{after_reading}
 use Rattle.scrypt_run.specs.Work.{DecryptWorks, DerivesOnce, EncryptWorks, EndsAfterWork}
-use Rattle.scrypt_run.specs.declared.refusal.ScryptRefusal.{ScryptRefusal}
+use Rattle.scrypt_request.specs.declared.refusal.ScryptRefusal.{ScryptRefusal}
 use Rattle.scrypt_run.proofs.Ends.{first_line_at-reading, salt_used-opening}
 
 -- ---- the derivation

@@ -6,9 +6,9 @@ use Rattle.romix.specs.Allowance.{with_keep_of}
 use Rattle.romix.specs.Costs.{Parameters}
 use Rattle.romix.specs.SparseCosts.{SparseParameters}
 use Rattle.encfile.specs.Header.{costs_of}
-use Rattle.scrypt_run.specs.Refusal.{is_want, may_follow_work}
-use Rattle.scrypt_run.specs.Request.{Request, Task, allowance_of, decrypt, encrypt, inspect}
-use Rattle.scrypt_run.specs.declared.refusal.ScryptRefusal.{ScryptRefusal}
+use Rattle.scrypt_request.specs.Refusal.{is_want, may_follow_work}
+use Rattle.scrypt_request.specs.Request.{Request, Task, allowance_of, decrypt, encrypt, inspect}
+use Rattle.scrypt_request.specs.declared.refusal.ScryptRefusal.{ScryptRefusal}
 
 -- ---- one request. `ask granted` is what it leaves of the source, granted or refused
 

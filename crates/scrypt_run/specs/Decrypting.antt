@@ -6,11 +6,11 @@ use Rattle.host.specs.Seen.{Seen, Text, after_ask_output, after_open_output}
 use Rattle.scrypt_run.specs.Front.{FrontRefused}
 use Rattle.scrypt_run.specs.Passphrase.{HasPassphrase, PassphraseRefused, first_line_at}
 use Rattle.scrypt_run.specs.Refusal.{refusal_of}
-use Rattle.scrypt_run.specs.Request.{Task, allowance_of}
+use Rattle.scrypt_request.specs.Request.{Task, allowance_of}
 use Rattle.scrypt_run.specs.Steps.{after_passing, passphrase_asked}
 use Rattle.scrypt_run.specs.Text.{EndsText}
-use Rattle.scrypt_run.specs.declared.refusal.ScryptRefusal.{ScryptRefusal}
-use Rattle.scrypt_run.specs.declared.refusal.ScryptRefusal.TheVariants as refusal
+use Rattle.scrypt_request.specs.declared.refusal.ScryptRefusal.{ScryptRefusal}
+use Rattle.scrypt_request.specs.declared.refusal.ScryptRefusal.TheVariants as refusal
 
 -- ---- after the first 96 bytes: `front` are these, and the input of `before` are the bytes after them
 

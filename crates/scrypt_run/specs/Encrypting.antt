@@ -6,11 +6,11 @@ use Rattle.encfile.specs.Front.{FrontRefusal, costs_refusal}
 use Rattle.host.specs.Seen.{Seen, Text, after_ask_output, after_open_output}
 use Rattle.scrypt_run.specs.Passphrase.{HasPassphrase, PassphraseRefused, first_line_at}
 use Rattle.scrypt_run.specs.Refusal.{refusal_of}
-use Rattle.scrypt_run.specs.Request.{Encryption, allowance_of}
+use Rattle.scrypt_request.specs.Request.{Encryption, allowance_of}
 use Rattle.scrypt_run.specs.Steps.{after_passing, passphrase_asked}
 use Rattle.scrypt_run.specs.Text.{EndsText}
-use Rattle.scrypt_run.specs.declared.refusal.ScryptRefusal.{ScryptRefusal}
-use Rattle.scrypt_run.specs.declared.refusal.ScryptRefusal.TheVariants as refusal
+use Rattle.scrypt_request.specs.declared.refusal.ScryptRefusal.{ScryptRefusal}
+use Rattle.scrypt_request.specs.declared.refusal.ScryptRefusal.TheVariants as refusal
 
 -- the salt that the request gives, or the host's where it gives none
 abbrev pub salt_used : Option (List ℕ) → Seen → List ℕ

@@ -4,8 +4,8 @@ use Rattle.encfile.specs.Front.{FrontRefusal}
 use Rattle.host.specs.Seen.{Seen, Text}
 use Rattle.scrypt_run.specs.Steps.{after_reading}
 use Rattle.scrypt_run.specs.Refusal.{refusal_of}
-use Rattle.scrypt_run.specs.declared.refusal.ScryptRefusal.{ScryptRefusal}
-use Rattle.scrypt_run.specs.declared.refusal.ScryptRefusal.TheVariants as refusal
+use Rattle.scrypt_request.specs.declared.refusal.ScryptRefusal.{ScryptRefusal}
+use Rattle.scrypt_request.specs.declared.refusal.ScryptRefusal.TheVariants as refusal
 
 -- the input was opened, and failed before 96 bytes of it had come
 pub record FrontCutOff (infile : Option Text) (before after : Seen) : Type 0 where

@@ -7,8 +7,8 @@ use Rattle.encfile.specs.Header.{costs_of}
 use Rattle.host.specs.Output.{IsCutShort, after_writing}
 use Rattle.host.specs.Seen.{Seen, Text, after_ask_output}
 use Rattle.scrypt_run.specs.Front.{FrontRefused, after_front}
-use Rattle.scrypt_run.specs.declared.refusal.ScryptRefusal.{ScryptRefusal}
-use Rattle.scrypt_run.specs.declared.refusal.ScryptRefusal.TheVariants as refusal
+use Rattle.scrypt_request.specs.declared.refusal.ScryptRefusal.{ScryptRefusal}
+use Rattle.scrypt_request.specs.declared.refusal.ScryptRefusal.TheVariants as refusal
 
 -- the line that shows costs: N, r, p, the bytes of V and the Salsa20/8 cores of a derivation that keeps V whole, and
 -- a line feed

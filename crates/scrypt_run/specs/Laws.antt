@@ -7,9 +7,9 @@ use Rattle.encfile.specs.Front.{costs_refusal, format_refusal}
 use Rattle.encfile.specs.Header.{costs_of}
 use Rattle.host.specs.Seen.{SecretSource, Seen}
 use Rattle.scrypt_run.specs.Passphrase.{HasPassphrase, first_line_at}
-use Rattle.scrypt_run.specs.Request.{Encryption, Request, Task, allowance_of, decrypt, encrypt, inspect}
-use Rattle.scrypt_run.specs.declared.refusal.ScryptRefusal.{ScryptRefusal}
-use Rattle.scrypt_run.specs.declared.refusal.ScryptRefusal.TheVariants as refusal
+use Rattle.scrypt_request.specs.Request.{Encryption, Request, Task, allowance_of, decrypt, encrypt, inspect}
+use Rattle.scrypt_request.specs.declared.refusal.ScryptRefusal.{ScryptRefusal}
+use Rattle.scrypt_request.specs.declared.refusal.ScryptRefusal.TheVariants as refusal
 
 -- the input is the file of the text under the passphrase that the source gives, and the limits admit its costs
 pub record CanBeOpened (task : Task) (before : Seen) (passphrase salt : List ℕ) (costs : Parameters) (text : List ℕ)

@@ -1,6 +1,5 @@
 -- What a run of scrypt comes to.
 pub mod Refusal
-pub mod Request
 pub mod Admission
 pub mod Steps
 pub mod Front

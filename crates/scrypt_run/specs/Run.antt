@@ -6,8 +6,8 @@ use Rattle.host.specs.Seen.{Seen}
 use Rattle.scrypt_run.specs.Decrypting.{DecryptRefused, DecryptSucceeds}
 use Rattle.scrypt_run.specs.Encrypting.{EncryptRefused, EncryptSucceeds}
 use Rattle.scrypt_run.specs.Inspecting.{InspectRefused, InspectSucceeds}
-use Rattle.scrypt_run.specs.Request.{Request, encrypt, decrypt, inspect}
-use Rattle.scrypt_run.specs.declared.refusal.ScryptRefusal.{ScryptRefusal}
+use Rattle.scrypt_request.specs.Request.{Request, encrypt, decrypt, inspect}
+use Rattle.scrypt_request.specs.declared.refusal.ScryptRefusal.{ScryptRefusal}
 
 -- the run did what its request asks for: to encrypt, to decrypt, or to show the costs of a file
 abbrev pub RequestSucceeds : Request → Seen → Seen → Type 0

@@ -1,7 +1,7 @@
 -- What a run does to a host, step by step.
 use Rattle.std.specs.Prelude.{ℕ, List, Option, take}
 use Rattle.host.specs.Seen.{Seen, Text, after_ask, after_open_input, after_pull, after_push}
-use Rattle.scrypt_run.specs.Request.{Task}
+use Rattle.scrypt_request.specs.Request.{Task}
 
 -- the host after the input was opened under this name, and its first n bytes were pulled
 abbrev pub after_reading : Option Text → ℕ → Seen → Seen

@@ -4,8 +4,8 @@
 use Rattle.std.specs.Prelude.{◌≡◌, ◌+◌, ◌-◌, ◌<◌, ◌≤◌, ◌⊎◌, ℕ, List, length, take}
 use Rattle.host.specs.Seen.{Seen, after_pull, after_push}
 use Rattle.scrypt_run.specs.Steps.{after_passing}
-use Rattle.scrypt_run.specs.declared.refusal.ScryptRefusal.{ScryptRefusal}
-use Rattle.scrypt_run.specs.declared.refusal.ScryptRefusal.TheVariants as refusal
+use Rattle.scrypt_request.specs.declared.refusal.ScryptRefusal.{ScryptRefusal}
+use Rattle.scrypt_request.specs.declared.refusal.ScryptRefusal.TheVariants as refusal
 
 -- fewer bytes than the limit were pulled before the input failed, and all that they give was written
 pub record FailsReading (limit : ℕ) (gives : List ℕ → List ℕ) (before after : Seen) : Type 0 where

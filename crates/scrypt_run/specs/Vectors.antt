@@ -1,7 +1,7 @@
 -- What is asked of the host of vectors.
 use Rattle.std.specs.Prelude.{ℕ, List, [], ◌∷◌, ◌++◌, replicate, Option, Some, None, codes}
 use Rattle.host.specs.Seen.{env}
-use Rattle.scrypt_run.specs.Request.{Encryption, Task}
+use Rattle.scrypt_request.specs.Request.{Encryption, Task}
 
 -- with these limits and this S
 abbrev pub task_shown : ℕ → ℕ → ℕ → Task

@@ -7,9 +7,9 @@ use Rattle.encfile.specs.Header.{costs_of, salt_of}
 use Rattle.host.specs.Seen.{Seen}
 use Rattle.scrypt_run.specs.Encrypting.{salt_used}
 use Rattle.scrypt_run.specs.Passphrase.{HasPassphrase, first_line_at}
-use Rattle.scrypt_run.specs.Refusal.{follows_work}
-use Rattle.scrypt_run.specs.Request.{Encryption, Request, Task, allowance_of, decrypt, encrypt, inspect}
-use Rattle.scrypt_run.specs.declared.refusal.ScryptRefusal.{ScryptRefusal}
+use Rattle.scrypt_request.specs.Refusal.{follows_work}
+use Rattle.scrypt_request.specs.Request.{Encryption, Request, Task, allowance_of, decrypt, encrypt, inspect}
+use Rattle.scrypt_request.specs.declared.refusal.ScryptRefusal.{ScryptRefusal}
 
 -- the counter of Salsa20/8 cores went on by exactly one derivation: of the passphrase in this line, with this salt,
 -- these costs and this S

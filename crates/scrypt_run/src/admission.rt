@@ -2,13 +2,13 @@
 ghost use Rattle.std.specs.Prelude.{◌≡◌, Some, None, true, false, option_map, IfOk, IfErr, OnOk};
 ghost use Rattle.romix.specs.SparseCosts.{is_keep};
 ghost use Rattle.encfile.specs.Front.{costs_refusal};
-ghost use Rattle.scrypt_run.specs.Refusal.{RaisesNoCount, follows_work, is_want, refusal_of};
-ghost use Rattle.scrypt_run.specs.Request.{allowance_of, task_seen};
+ghost use Rattle.scrypt_request.specs.Refusal.{RaisesNoCount, follows_work, is_want};
+ghost use Rattle.scrypt_run.specs.Refusal.{refusal_of};
+ghost use Rattle.scrypt_request.specs.Request.{allowance_of, task_seen};
 ghost use Rattle.scrypt_run.specs.Admission.{IsAdmitted};
 
-use crate::refusal::ScryptRefusal;
-use crate::request::Task;
 use romix::{CostFault, Costs, Sparse};
+use scrypt_request::{ScryptRefusal, Task};
 
 /// The costs over a table of which every S-th row is kept, if S is at most N and the limits admit
 /// them; or the first refusal that holds.

@@ -13,8 +13,8 @@ ghost use Rattle.host.specs.Seen.{IsFresh, after_ask};
 ghost use Rattle.scrypt_run.specs.Asking.{EndsAsking, EndsAskingFor, WasGranted, asks_workspace};
 ghost use Rattle.scrypt_run.specs.Decrypting.{DecryptRefused, DecryptSucceeds, Decrypted, text_after};
 ghost use Rattle.scrypt_run.specs.Passphrase.{HasPassphrase, first_line_at};
-ghost use Rattle.scrypt_run.specs.Refusal.{counted_by, follows_work, may_follow_work};
-ghost use Rattle.scrypt_run.specs.Request.{HasAllowedLimits, allowance_of, task_seen, text_of};
+ghost use Rattle.scrypt_request.specs.Refusal.{counted_by, follows_work, may_follow_work};
+ghost use Rattle.scrypt_request.specs.Request.{HasAllowedLimits, allowance_of, task_seen, text_of};
 ghost use Rattle.scrypt_run.specs.Admission.{IsAdmitted};
 ghost use Rattle.scrypt_run.specs.Inside.Decrypting.{OpenRefused, ReleaseRefused};
 ghost use Rattle.scrypt_run.specs.Steps.{after_passing};
@@ -23,12 +23,11 @@ ghost use Rattle.scrypt_run.specs.Work.{DecryptWorks, DerivesOnce, EndsAfterWork
 
 use crate::front::open_admitted_front;
 use crate::passphrase::read_passphrase;
-use crate::refusal::ScryptRefusal;
-use crate::request::Task;
 use crate::room::Room;
 use encfile::{Dec, Header};
 use host::{Host, push_all};
 use romix::{Sparse, Ticks};
+use scrypt_request::{ScryptRefusal, Task};
 
 // Reads the passphrase, takes the memory of the derivation, and tests the passphrase against the
 // code of the header. The memory is there when the work begins.

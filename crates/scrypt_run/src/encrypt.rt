@@ -10,23 +10,22 @@ ghost use Rattle.host.specs.Seen.{IsFresh, after_ask, after_open_input};
 ghost use Rattle.scrypt_run.specs.Asking.{EndsAsking, asks_workspace};
 ghost use Rattle.scrypt_run.specs.Encrypting.{EncryptRefused, EncryptSucceeds, IsEncrypted, after_salting, costs_refusal_of, salt_used};
 ghost use Rattle.scrypt_run.specs.Passphrase.{HasPassphrase, first_line_at};
-ghost use Rattle.scrypt_run.specs.Refusal.{counted_by, follows_work, is_want, may_follow_work};
-ghost use Rattle.scrypt_run.specs.Request.{HasAllowedLimits, encryption_seen, task_seen, text_of};
+ghost use Rattle.scrypt_request.specs.Refusal.{counted_by, follows_work, is_want, may_follow_work};
+ghost use Rattle.scrypt_request.specs.Request.{HasAllowedLimits, encryption_seen, task_seen, text_of};
 ghost use Rattle.scrypt_run.specs.Admission.{IsAdmitted};
 ghost use Rattle.scrypt_run.specs.Inside.Encrypting.{StartRefused, TextNotOpened, WriteRefused};
 ghost use Rattle.scrypt_run.specs.Steps.{after_passing};
 ghost use Rattle.scrypt_run.specs.Text.{EndsText};
 ghost use Rattle.scrypt_run.specs.Work.{EncryptWorks, EndsAfterWork};
-ghost use Rattle.scrypt_run.specs.declared.refusal.ScryptRefusal.TheVariants.{SaltFault};
+ghost use Rattle.scrypt_request.specs.declared.refusal.ScryptRefusal.TheVariants.{SaltFault};
 
 use crate::admission::admit;
 use crate::passphrase::read_passphrase;
-use crate::refusal::ScryptRefusal;
-use crate::request::Encryption;
 use crate::room::Room;
 use encfile::Enc;
 use host::{Host, push_all};
 use romix::{Sparse, Ticks};
+use scrypt_request::{Encryption, ScryptRefusal};
 
 // Holds the costs against the limits, and opens the input.
 fn open_text<H: Host>(host: &mut H, asked: &Encryption<'_>) -> Result<Sparse, ScryptRefusal>

@@ -6,17 +6,18 @@ ghost use Rattle.host.specs.Faults.{AreBelow, input_failed};
 ghost use Rattle.host.specs.Grants.{with_input_opened};
 ghost use Rattle.host.specs.Seen.{after_pull};
 ghost use Rattle.scrypt_run.specs.Front.{FrontRefused};
-ghost use Rattle.scrypt_run.specs.Refusal.{counted_by, follows_work, is_want, refusal_of};
-ghost use Rattle.scrypt_run.specs.Request.{HasAllowedLimits, allowance_of, task_seen, text_of};
+ghost use Rattle.scrypt_request.specs.Refusal.{counted_by, follows_work, is_want};
+ghost use Rattle.scrypt_run.specs.Refusal.{refusal_of};
+ghost use Rattle.scrypt_request.specs.Request.{HasAllowedLimits, allowance_of, task_seen, text_of};
 ghost use Rattle.scrypt_run.specs.Admission.{IsAdmitted};
 ghost use Rattle.scrypt_run.specs.Steps.{after_reading};
 
 use crate::admission::admit;
-use crate::refusal::{ScryptRefusal, header_refusal};
-use crate::request::Task;
+use crate::refusal::header_refusal;
 use encfile::Header;
 use host::{Host, HostFault};
 use romix::Sparse;
+use scrypt_request::{ScryptRefusal, Task};
 
 // Pulls 96 bytes, or all where there are fewer, and says how many.
 fn pull_front<H: Host>(host: &mut H, front: &mut [u8; 96]) -> Result<usize, HostFault>

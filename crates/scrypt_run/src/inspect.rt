@@ -5,13 +5,13 @@ ghost use Rattle.host.specs.Grants.{GrantsAll};
 ghost use Rattle.host.specs.Seen.{IsFresh};
 ghost use Rattle.scrypt_run.specs.Asking.{EndsAskingFor, WasGranted};
 ghost use Rattle.scrypt_run.specs.Inspecting.{InspectRefused, InspectSucceeds};
-ghost use Rattle.scrypt_run.specs.Refusal.{counted_by};
-ghost use Rattle.scrypt_run.specs.Request.{text_of};
+ghost use Rattle.scrypt_request.specs.Refusal.{counted_by};
+ghost use Rattle.scrypt_request.specs.Request.{text_of};
 
 use crate::front::open_front;
-use crate::refusal::ScryptRefusal;
 use crate::room::Room;
 use host::{Host, write_output};
+use scrypt_request::ScryptRefusal;
 
 /// Writes a line with the costs of the input of this name to standard output, which is opened once the
 /// header was read and the line stands in memory.

@@ -5,9 +5,9 @@ ghost use Rattle.host.specs.Seen.{Seen};
 ghost use Rattle.scrypt_run.specs.Decrypting.{DecryptRefused, DecryptSucceeds};
 ghost use Rattle.scrypt_run.specs.Encrypting.{EncryptSucceeds};
 ghost use Rattle.scrypt_run.specs.Laws.{AdmitsCosts, AreOneEnd, AsksNoOther, CanBeOpened, IsFromOutside, IsRefusedFromOutside, WroteAnEncryption, WroteWhatWasEncrypted, with_keep};
-ghost use Rattle.scrypt_run.specs.Request.{Encryption, Request, Task};
+ghost use Rattle.scrypt_request.specs.Request.{Encryption, Request, Task};
 ghost use Rattle.scrypt_run.specs.Run.{RequestRefused, RequestSucceeds};
-ghost use Rattle.scrypt_run.specs.declared.refusal.ScryptRefusal.{ScryptRefusal};
+ghost use Rattle.scrypt_request.specs.declared.refusal.ScryptRefusal.{ScryptRefusal};
 
 // An encrypted file is opened under its passphrase, unless the host fails or memory is refused; and
 // what is written is its text.

@@ -53,7 +53,6 @@ mod laws;
 mod line;
 mod passphrase;
 mod refusal;
-mod request;
 mod room;
 mod run_request;
 #[cfg(test)]
@@ -62,7 +61,6 @@ mod tests;
 mod vectors;
 
 pub use line::Line;
-pub use refusal::ScryptRefusal;
-pub use request::{Encryption, Request, Task};
 pub use room::Room;
 pub use run_request::run;
+pub use scrypt_request::{Encryption, Request, ScryptRefusal, Task};

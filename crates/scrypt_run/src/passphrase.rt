@@ -5,10 +5,10 @@ ghost use Rattle.host.specs.Grants.{with_secret_asked};
 ghost use Rattle.host.specs.Secret.{source_of};
 ghost use Rattle.host.specs.Seen.{after_ask};
 ghost use Rattle.scrypt_run.specs.Passphrase.{HasPassphrase, PassphraseRefused, first_line, first_line_at, is_line_end};
-ghost use Rattle.scrypt_run.specs.Refusal.{counted_by, follows_work, is_want};
+ghost use Rattle.scrypt_request.specs.Refusal.{counted_by, follows_work, is_want};
 
-use crate::refusal::ScryptRefusal;
 use host::{Host, Source};
+use scrypt_request::ScryptRefusal;
 use std::marker::Model;
 
 /// A passphrase of 0 to 2,048 bytes. Contracts see its bytes.

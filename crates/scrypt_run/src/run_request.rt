@@ -4,19 +4,18 @@ ghost use Rattle.host.specs.Faults.{AreBelow};
 ghost use Rattle.host.specs.Grants.{GrantsAll};
 ghost use Rattle.host.specs.Seen.{IsFresh};
 ghost use Rattle.scrypt_run.specs.Asking.{RequestAsked, RequestGranted};
-ghost use Rattle.scrypt_run.specs.Refusal.{counted_by, may_follow_work};
-ghost use Rattle.scrypt_run.specs.Request.{IsAllowed, request_seen};
+ghost use Rattle.scrypt_request.specs.Refusal.{counted_by, may_follow_work};
+ghost use Rattle.scrypt_request.specs.Request.{IsAllowed, request_seen};
 ghost use Rattle.scrypt_run.specs.Run.{KeepsAll, RequestRefused, RequestSucceeds, cores_asked, most_cores};
 ghost use Rattle.scrypt_run.specs.Work.{EndsAfterWork, RequestWorks};
 
 use crate::decrypt::decrypt;
 use crate::encrypt::encrypt;
 use crate::inspect::inspect;
-use crate::refusal::ScryptRefusal;
-use crate::request::Request;
 use crate::room::Room;
 use host::Host;
 use romix::Ticks;
+use scrypt_request::{Request, ScryptRefusal};
 
 /// Does what a request asks for: all of a run but its words and the line of a refusal. Nothing is
 /// opened yet, and the limit `-M` is at most 2^40 bytes.

@@ -4,8 +4,8 @@ use Rattle.host.specs.Faults.{Faults, no_faults}
 use Rattle.host.specs.Lines.{SaysOneLine}
 use Rattle.host.specs.Seen.{Seen, Text}
 use Rattle.scrypt_command.specs.Run.{Refuses}
-use Rattle.scrypt_run.specs.Refusal.{line_of}
-use Rattle.scrypt_run.specs.declared.refusal.ScryptRefusal.TheVariants as refusal
+use Rattle.scrypt_request.specs.Refusal.{line_of}
+use Rattle.scrypt_request.specs.declared.refusal.ScryptRefusal.TheVariants as refusal
 use Rattle.tools.specs.Words.{LacksText}
 use Rattle.tools.specs.declared.arguments.WordsFault.TheVariants as words_fault
 

@@ -5,7 +5,7 @@ use Rattle.argon.specs.Argon2.{Parameters}
 use Rattle.host.specs.Seen.{Text}
 use Rattle.argon2_command.specs.Asking.{Asking, LacksOne, with_all}
 use Rattle.argon2_command.specs.Output.{admitted_parameters}
-use Rattle.argon2_command.specs.Request.{Request, argon2_request}
+use Rattle.argon2_words.specs.Request.{Request, argon2_request}
 
 -- the memory of the tag, of its line and of the matrix was granted
 pub record RunGranted {Source : Type 0} (ask : Asking Source) (words : List Text) (before after : Source) : Type 0 where

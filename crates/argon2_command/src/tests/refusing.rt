@@ -3,10 +3,9 @@ ghost use Rattle.std.specs.Prelude.{◌≡◌, ◌-◌, Some};
 ghost use Rattle.argon2_command.specs.declared.tests.refusing.Asked.TheVariants as asked;
 
 use crate::bytes::Bytes;
-use crate::request::Request;
 use crate::room::Room;
-use crate::settings::Settings;
 use argon::{Matrix, Params};
+use argon2_words::{Request, Settings};
 use std::alloc::{AllocError, Global};
 
 /// A request for memory.

@@ -6,8 +6,8 @@ use Rattle.host.specs.Seen.{Seen, Text, after_ask_output, after_open_output}
 use Rattle.scrypt_run.specs.Decrypting.{IsDamaged, text_after}
 use Rattle.scrypt_run.specs.Passphrase.{HasPassphrase, PassphraseRefused}
 use Rattle.scrypt_run.specs.Text.{EndsText}
-use Rattle.scrypt_run.specs.declared.refusal.ScryptRefusal.{ScryptRefusal}
-use Rattle.scrypt_run.specs.declared.refusal.ScryptRefusal.TheVariants as refusal
+use Rattle.scrypt_request.specs.declared.refusal.ScryptRefusal.{ScryptRefusal}
+use Rattle.scrypt_request.specs.declared.refusal.ScryptRefusal.TheVariants as refusal
 
 -- no passphrase, no memory, or a wrong passphrase; `line` is the first line of the passphrase's source
 abbrev pub OpenRefused : ScryptRefusal → Option (List ℕ) → List ℕ → Type 0

@@ -6,10 +6,10 @@ use Rattle.host.specs.Seen.{Seen, Text, after_ask_output, after_open_output}
 use Rattle.scrypt_run.specs.Encrypting.{after_salting, costs_refusal_of, decided}
 use Rattle.scrypt_run.specs.Passphrase.{HasPassphrase, PassphraseRefused}
 use Rattle.scrypt_run.specs.Refusal.{refusal_of}
-use Rattle.scrypt_run.specs.Request.{Encryption}
+use Rattle.scrypt_request.specs.Request.{Encryption}
 use Rattle.scrypt_run.specs.Text.{EndsText}
-use Rattle.scrypt_run.specs.declared.refusal.ScryptRefusal.{ScryptRefusal}
-use Rattle.scrypt_run.specs.declared.refusal.ScryptRefusal.TheVariants as refusal
+use Rattle.scrypt_request.specs.declared.refusal.ScryptRefusal.{ScryptRefusal}
+use Rattle.scrypt_request.specs.declared.refusal.ScryptRefusal.TheVariants as refusal
 
 -- the costs are refused, or the input could not be opened
 abbrev pub TextNotOpened : ScryptRefusal → Encryption → Seen → Seen → Type 0

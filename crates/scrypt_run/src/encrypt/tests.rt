@@ -1,8 +1,8 @@
 //! A text that is encrypted, whatever the sizes of pulls and pushes.
 use super::*;
-use crate::request::Task;
 use host::{MemoryHost, Source};
 use romix::{Costs, Limits};
+use scrypt_request::Task;
 use std::test::Fail;
 
 // The salt 00 01 .. 1f.

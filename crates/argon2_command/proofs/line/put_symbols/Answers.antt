@@ -1,9 +1,9 @@
 use Rattle.std.proofs.Common.{◌≡◌, ◌∙◌, ◌*◌, ap, sym, rules, length, Result, Ok, Err, IsOk, OnOk}
 use Rattle.std.specs.Prelude.{⊤}
 use Rattle.argon2_command.specs.Output.{tag_text, value_with}
-use Rattle.argon2_command.specs.Request.{Request}
-use Rattle.argon2_command.specs.RequestView.{request_of}
-use Rattle.argon2_command.specs.declared.items.Form.{Form}
+use Rattle.argon2_words.specs.Request.{Request}
+use Rattle.argon2_words.specs.RequestView.{request_of}
+use Rattle.argon2_words.specs.declared.items.Form.{Form}
 use Rattle.argon_text.specs.EncodedText.{encoded_text}
 use Rattle.hex.specs.Hex.{encode_lower, lower_digits}
 use Rattle.hex.proofs.HexLemmas.{length-encode_with}

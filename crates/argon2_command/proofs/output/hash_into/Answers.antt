@@ -1,6 +1,6 @@
 use Rattle.std.proofs.Common.{◌∙◌, ap, rules}
 use Rattle.argon2_command.specs.Output.{tag_line}
-use Rattle.argon2_command.specs.RequestView.{request_of}
+use Rattle.argon2_words.specs.RequestView.{request_of}
 use Rattle.argon2_command.proofs.output.hash_into.Goals as goal
 
 pub returns-clause-line : goal.returns-clause-line

@@ -1,9 +1,9 @@
 use Rattle.std.proofs.Common.{rules, ◌≡◌, List, Result, Err, MatchResult, map, string_bytes, sym, subst}
 use Rattle.host.specs.Seen.{Text}
-use Rattle.argon2_command.specs.RequestView.{request_of}
+use Rattle.argon2_words.specs.RequestView.{request_of}
 use Rattle.argon2_command.specs.Run.{IsToldForSome, SucceedsForSome}
-use Rattle.argon2_command.specs.declared.refusal.Argon2Refusal.{Argon2Refusal}
-use Rattle.argon2_command.specs.declared.refusal.Argon2Refusal.TheVariants.{OutOfMemory}
+use Rattle.argon2_words.specs.declared.refusal.Argon2Refusal.{Argon2Refusal}
+use Rattle.argon2_words.specs.declared.refusal.Argon2Refusal.TheVariants.{OutOfMemory}
 use Rattle.argon2_command.proofs.InputsOfArgon2.{late_told, parameters_told, succeeds}
 use Rattle.argon2_command.proofs.run.prepare.Goals as goal
 

@@ -7,8 +7,8 @@ use Rattle.host.specs.Seen.{Seen, after_ask}
 use Rattle.scrypt_run.specs.Decrypting.{DecryptRefused, Decrypted}
 use Rattle.scrypt_run.specs.Inside.Decrypting.{OpenRefused, ReleaseRefused}
 use Rattle.scrypt_run.specs.Passphrase.{HasPassphrase, first_line_at}
-use Rattle.scrypt_run.specs.Refusal.{is_want}
-use Rattle.scrypt_run.specs.Request.{allowance_of, task_seen}
+use Rattle.scrypt_request.specs.Refusal.{is_want}
+use Rattle.scrypt_request.specs.Request.{allowance_of, task_seen}
 use Rattle.scrypt_run.specs.Work.{DecryptWorks, EndsAfterWork}
 use Rattle.scrypt_run.proofs.Decrypting.{length_read-first, opening_ends}
 use Rattle.scrypt_run.proofs.Ends.{always_err, always_ok, first_line_at-reading, handed_on, if_err, on_ok}

@@ -4,7 +4,7 @@ use Rattle.encfile.specs.EncryptedFile.{IsEncryptionOf, released_text}
 use Rattle.host.specs.Seen.{Seen}
 use Rattle.scrypt_run.specs.Decrypting.{text_after}
 use Rattle.scrypt_run.specs.Inside.Decrypting.{ReleaseRefused}
-use Rattle.scrypt_run.specs.Request.{text_of}
+use Rattle.scrypt_request.specs.Request.{text_of}
 use Rattle.scrypt_run.specs.Steps.{after_passing}
 use Rattle.scrypt_run.specs.Text.{EndsText}
 use Rattle.scrypt_run.proofs.decrypt.finish.Goals as goal

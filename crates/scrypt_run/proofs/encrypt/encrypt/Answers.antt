@@ -2,7 +2,7 @@ use Rattle.std.proofs.Common.{rules, ◌∙◌, ap, inr, subst}
 use Rattle.host.specs.Seen.{after_ask}
 use Rattle.scrypt_run.specs.Encrypting.{IsEncrypted, after_salting, salt_used}
 use Rattle.scrypt_run.specs.Inside.Encrypting.{WriteRefused}
-use Rattle.scrypt_run.specs.Request.{encryption_seen}
+use Rattle.scrypt_request.specs.Request.{encryption_seen}
 use Rattle.scrypt_run.proofs.Encrypting.{opening_ends, started_before, starting_ends}
 use Rattle.scrypt_run.proofs.Ends.{always_err, always_ok, if_err, on_ok}
 use Rattle.scrypt_run.proofs.Working.{works_before, write_after}

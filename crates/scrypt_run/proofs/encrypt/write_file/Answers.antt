@@ -3,7 +3,7 @@ use Rattle.encfile.specs.EncryptedFile.{body}
 use Rattle.host.specs.Seen.{after_open_output}
 use Rattle.scrypt_run.specs.Encrypting.{decided}
 use Rattle.scrypt_run.specs.Inside.Encrypting.{WriteRefused}
-use Rattle.scrypt_run.specs.Request.{text_of}
+use Rattle.scrypt_request.specs.Request.{text_of}
 use Rattle.scrypt_run.specs.Text.{EndsText, FailsWriting}
 use Rattle.scrypt_run.proofs.Encrypting.{code_cut, passing_ended}
 use Rattle.scrypt_run.proofs.encrypt.write_file.Goals as goal

@@ -1,6 +1,6 @@
 use Rattle.std.proofs.Common.{rules, ◌∙◌, sym}
 use Rattle.encfile.specs.Front.{limits_refusal}
-use Rattle.scrypt_run.specs.Request.{allowance_of, task_seen, text_of}
+use Rattle.scrypt_request.specs.Request.{allowance_of, task_seen, text_of}
 use Rattle.scrypt_run.proofs.Fronts.{format_first, limits_front, refused_front}
 use Rattle.scrypt_run.proofs.front.open_admitted_front.Goals as goal
 

@@ -1,6 +1,6 @@
 use Rattle.std.proofs.Common.{arith, rules, ◌∙◌, sym}
 use Rattle.encfile.specs.Front.{format_refusal}
-use Rattle.scrypt_run.specs.Request.{text_of}
+use Rattle.scrypt_request.specs.Request.{text_of}
 use Rattle.scrypt_run.proofs.Fronts.{costs_front, format_front, refused_front, salt_front}
 use Rattle.scrypt_run.proofs.front.open_front.Goals as goal
 

@@ -1,6 +1,6 @@
 use Rattle.std.proofs.Common.{arith, ◌<◌}
 use Rattle.std.proofs.lemmas.Bool.Decides.{nat_tests}
-use Rattle.scrypt_run.specs.Request.{text_of}
+use Rattle.scrypt_request.specs.Request.{text_of}
 use Rattle.scrypt_run.proofs.Fronts.{short_input}
 use Rattle.scrypt_run.proofs.front.read_front.Goals as goal
 

@@ -1,6 +1,6 @@
 use Rattle.std.proofs.Common.{◌∙◌, ap, option_map}
 use Rattle.scrypt_run.specs.Refusal.{refusal_of}
-use Rattle.scrypt_run.specs.Request.{allowance_of, task_seen}
+use Rattle.scrypt_request.specs.Request.{allowance_of, task_seen}
 use Rattle.scrypt_run.proofs.Ends.{if_err, on_ok}
 use Rattle.scrypt_run.proofs.Fronts.{limits_told}
 use Rattle.scrypt_run.proofs.front.test_limits.Goals as goal

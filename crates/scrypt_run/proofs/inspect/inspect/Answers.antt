@@ -1,6 +1,6 @@
 use Rattle.std.proofs.Common.{◌∙◌, ap, refl, inl, inr}
 use Rattle.encfile.specs.Header.{costs_of}
-use Rattle.scrypt_run.specs.Refusal.{is_want}
+use Rattle.scrypt_request.specs.Refusal.{is_want}
 use Rattle.scrypt_run.proofs.Ends.{handed_on}
 use Rattle.scrypt_run.proofs.inspect.inspect.Goals as goal
 

@@ -1,0 +1,75 @@
+-- What a run of scrypt is asked for.
+use Rattle.std.specs.Prelude.{◌≡◌, ◌^◌, ◌≤◌, true, List, ℕ, Option, option_map, ⊤}
+use Rattle.std.specs.Borrow.{Bor}
+use Rattle.romix.specs.Allowance.{Allowance}
+use Rattle.romix.specs.Costs.{Parameters}
+use Rattle.romix.specs.SparseCosts.{is_keep}
+use Rattle.romix.specs.declared.limits.Limits.{Limits}
+use Rattle.host.specs.Seen.{SecretSource, Text}
+use Rattle.host.specs.Secret.{source_of}
+use Rattle.scrypt_request.specs.declared.request.Task.{Task as TaskInCode}
+use Rattle.scrypt_request.specs.declared.request.Encryption.{Encryption as EncryptionInCode}
+use Rattle.scrypt_request.specs.declared.request.Request.{Request as RequestInCode}
+use Rattle.scrypt_request.specs.declared.request.Request.TheVariants as in_code
+
+-- what `enc` and `dec` both are asked for: the limits; S, by which row i of V is kept where S divides i; the
+-- passphrase's source; and the names of the files, where None is the standard stream
+pub record Task : Type 0 where
+  pub limits : Limits
+  pub keep : ℕ
+  pub source : SecretSource
+  pub infile : Option Text
+  pub outfile : Option Text
+
+-- what `enc` is asked for: the costs of the new file; its salt, where None is the host's; and the rest
+pub record Encryption : Type 0 where
+  pub costs : Parameters
+  pub salt : Option (List ℕ)
+  pub task : Task
+
+-- what is asked for: to encrypt, to decrypt, or to show the costs of a file
+pub data Request : Type 0 where
+  encrypt : Encryption → Request
+  decrypt : Task → Request
+  inspect : Option Text → Request
+
+-- what the derivation of a task may take
+abbrev pub allowance_of : Task → Allowance
+allowance_of task = record { limits = task.limits; keep = task.keep }
+
+-- the limit on bytes is at most 2^40, and S is a power of two from 1 to 1,024
+pub record HasAllowedLimits (task : Task) : Type 0 where
+  pub memory : task.limits.max_bytes ≤ 2 ^ 40
+  pub keep : is_keep task.keep ≡ true
+
+-- the limit on bytes and the S of a request are allowed; `info` has none
+abbrev pub IsAllowed : Request → Type 0
+IsAllowed (encrypt encryption) = HasAllowedLimits encryption.task
+IsAllowed (decrypt task) = HasAllowedLimits task
+IsAllowed (inspect infile) = ⊤
+
+-- ---- what contracts see of the code's request: its names as texts
+
+-- the text that is lent, if it is there
+abbrev pub text_of : Option (Bor Text) → Option Text
+text_of = option_map (λ s. s.now)
+
+-- a task of the code, with its names as texts
+abbrev pub task_seen : TaskInCode → Task
+task_seen t = record {
+  limits = t.limits;
+  keep = t.keep;
+  source = source_of t.source;
+  infile = text_of t.infile;
+  outfile = text_of t.outfile;
+}
+
+-- an encryption of the code, with its names as texts
+abbrev pub encryption_seen : EncryptionInCode → Encryption
+encryption_seen e = record { costs = e.costs; salt = e.salt; task = task_seen e.task }
+
+-- a request of the code, with its names as texts
+abbrev pub request_seen : RequestInCode → Request
+request_seen (in_code.Encrypt e) = encrypt (encryption_seen e)
+request_seen (in_code.Decrypt t) = decrypt (task_seen t)
+request_seen (in_code.Inspect infile) = inspect (text_of infile)

@@ -1,0 +1,10 @@
+//! What a run of `scrypt` is asked for, and how it may be refused: what the words and the run have in common.
+#![tactic(auto)]
+
+mod refusal;
+mod request;
+#[cfg(test)]
+mod vectors;
+
+pub use refusal::ScryptRefusal;
+pub use request::{Encryption, Request, Task};

@@ -1,0 +1,62 @@
+//! Vectors that the checker computes by the definitions alone.
+ghost use Rattle.std.specs.Prelude.{◌≡◌, codes, false, true};
+ghost use Rattle.host.specs.Faults.{no_faults};
+ghost use Rattle.scrypt_request.specs.Refusal.{counted_by, follows_work, is_want, line_of, may_follow_work};
+ghost use Rattle.scrypt_request.specs.declared.refusal.ScryptRefusal.{ScryptRefusal};
+
+// docs/REFUSALS.md, the table of scrypt: the line of each.
+fn lines_of_refusals()
+    ensures usage { line_of ScryptRefusal.Usage ≡ codes "scrypt: usage: scrypt enc|dec|info [options] infile [outfile]" }
+    ensures some_costs { line_of ScryptRefusal.SomeCosts ≡ codes "scrypt: --logN, -r and -p are given together or not at all" }
+    ensures costs_out_of_range { line_of ScryptRefusal.CostsOutOfRange ≡ codes "scrypt: costs out of range" }
+    ensures standard_input_twice { line_of ScryptRefusal.StandardInputTwice ≡ codes "scrypt: passphrase and input cannot both come from standard input" }
+    ensures same_name { line_of ScryptRefusal.SameName ≡ codes "scrypt: infile and outfile have the same name" }
+    ensures passphrase_source { line_of ScryptRefusal.PassphraseSource ≡ codes "scrypt: one passphrase source is needed: -P, dev:stdin-once, env:NAME or file:NAME" }
+    ensures passphrase_fault { line_of ScryptRefusal.PassphraseFault ≡ codes "scrypt: passphrase cannot be read" }
+    ensures long_passphrase { line_of ScryptRefusal.LongPassphrase ≡ codes "scrypt: passphrase is longer than 2048 bytes" }
+    ensures salt_digits { line_of ScryptRefusal.SaltDigits ≡ codes "scrypt: --salt takes 64 hexadecimal digits" }
+    ensures salt_fault { line_of ScryptRefusal.SaltFault ≡ codes "scrypt: no salt can be read" }
+    ensures not_scrypt_data { line_of ScryptRefusal.NotScryptData ≡ codes "scrypt: not valid scrypt data" }
+    ensures unsupported_version { line_of ScryptRefusal.UnsupportedVersion ≡ codes "scrypt: unsupported format version" }
+    ensures memory_limit { line_of ScryptRefusal.MemoryLimit ≡ codes "scrypt: more memory needed than -M allows" }
+    ensures work_limit { line_of ScryptRefusal.WorkLimit ≡ codes "scrypt: more work needed than --maxops allows" }
+    ensures wrong_passphrase { line_of ScryptRefusal.WrongPassphrase ≡ codes "scrypt: wrong passphrase" }
+    ensures damaged { line_of ScryptRefusal.Damaged ≡ codes "scrypt: input is damaged or cut short" }
+    ensures input_fault { line_of ScryptRefusal.InputFault ≡ codes "scrypt: input cannot be opened or read" }
+    ensures output_fault { line_of ScryptRefusal.OutputFault ≡ codes "scrypt: output cannot be opened or written" }
+    ensures too_long { line_of ScryptRefusal.TooLong ≡ codes "scrypt: input is too long" }
+    ensures out_of_memory { line_of ScryptRefusal.OutOfMemory ≡ codes "scrypt: out of memory" }
+    ensures keep_out_of_range { line_of ScryptRefusal.KeepOutOfRange ≡ codes "scrypt: --keep takes a power of two from 1 to 1024" }
+    ensures keep_above_n { line_of ScryptRefusal.KeepAboveN ≡ codes "scrypt: --keep is larger than N" }
+{}
+
+// A failing call of the host raises its own count, and no other refusal raises one.
+fn counts_of_refusals()
+    ensures input { counted_by ScryptRefusal.InputFault no_faults ≡ record { input = 1; output = 0; secrets = 0; salt = 0; lines = 0 } }
+    ensures output { counted_by ScryptRefusal.OutputFault no_faults ≡ record { input = 0; output = 1; secrets = 0; salt = 0; lines = 0 } }
+    ensures passphrase { counted_by ScryptRefusal.PassphraseFault no_faults ≡ record { input = 0; output = 0; secrets = 1; salt = 0; lines = 0 } }
+    ensures salt { counted_by ScryptRefusal.SaltFault no_faults ≡ record { input = 0; output = 0; secrets = 0; salt = 1; lines = 0 } }
+    ensures damaged { counted_by ScryptRefusal.Damaged no_faults ≡ no_faults }
+    ensures memory { counted_by ScryptRefusal.OutOfMemory no_faults ≡ no_faults }
+{}
+
+// docs/REFUSALS.md, the order of scrypt: S10, S11, S13 and S14 come after the derivation, S12 before and after it, and S15 and
+// what is told of the first 96 bytes before it.
+fn refusals_after_work()
+    ensures passphrase { follows_work ScryptRefusal.WrongPassphrase ≡ true }
+    ensures damaged { follows_work ScryptRefusal.Damaged ≡ true }
+    ensures output { follows_work ScryptRefusal.OutputFault ≡ true }
+    ensures long { follows_work ScryptRefusal.TooLong ≡ true }
+    ensures input { follows_work ScryptRefusal.InputFault ≡ false }
+    ensures input_may { may_follow_work ScryptRefusal.InputFault ≡ true }
+    ensures damaged_may { may_follow_work ScryptRefusal.Damaged ≡ true }
+    ensures memory { may_follow_work ScryptRefusal.OutOfMemory ≡ false }
+    ensures memory_limit { may_follow_work ScryptRefusal.MemoryLimit ≡ false }
+    ensures salt { may_follow_work ScryptRefusal.SaltFault ≡ false }
+{}
+
+// Want of memory is S15 alone: S8 is a limit.
+fn wants_of_memory()
+    ensures refused { is_want ScryptRefusal.OutOfMemory ≡ true }
+    ensures limit { is_want ScryptRefusal.MemoryLimit ≡ false }
+{}

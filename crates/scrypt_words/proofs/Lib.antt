@@ -1,0 +1,4 @@
+-- Lemmas, by topic.
+pub mod Arguments
+pub mod WideCosts
+pub mod WordsOfClap

@@ -1,0 +1,10 @@
+use Rattle.std.proofs.lemmas.Result.{IfOk-at_ok, IfOk-weaker}
+use Rattle.scrypt_words.specs.CommandLine.{IsCommand}
+use Rattle.scrypt_words.proofs.Arguments.{subcommand_then}
+use Rattle.scrypt_words.proofs.command_line.with_command.Goals as goal
+
+pub returns : goal.returns
+returns c = record {
+  command = λ app added old sub. IfOk-weaker c.subcommand.result _ _
+      (λ r e. subcommand_then app added old (IfOk-at_ok (IsCommand added) c.in_ok-subcommand.was sub) e) c.subcommand.ensures;
+}

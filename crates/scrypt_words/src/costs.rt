@@ -1,0 +1,75 @@
+//! The costs that the words give.
+ghost use Rattle.std.specs.Prelude.{◌≡◌, None, IfErr, MatchOption, is_some, true};
+ghost use Rattle.command_words.specs.Number.{number_of};
+ghost use Rattle.romix.specs.Faults.{cost_fault};
+ghost use Rattle.scrypt_request.specs.Refusal.{RaisesNoCount};
+ghost use Rattle.scrypt_words.specs.Request.{costs_asked, has_some_costs, number_asked};
+ghost use Rattle.scrypt_words.specs.Words.{rows_in};
+
+use crate::words::value_of;
+use clap::ArgMatches;
+use command_words::number;
+use romix::Costs;
+use scrypt_request::ScryptRefusal;
+
+// The numbers that the words give, of any size.
+#[derive(Clone, Copy)]
+struct Numbers {
+    log_n: u128,
+    r: u128,
+    p: u128,
+}
+
+/// The number that an option gives, or the number without the option.
+pub fn number_given(
+    matches: &ArgMatches<'_>,
+    name: &str,
+    default: u128,
+) -> Result<u128, ScryptRefusal>
+    ensures number { result ≡ number_asked name.now number_of default (rows_in matches.now) }
+    ensures counts { IfErr result RaisesNoCount }
+{
+    match value_of(matches, name) {
+        None => Ok(default),
+        Some(text) => number(text).ok_or(ScryptRefusal::Usage),
+    }
+}
+
+// Whether one or two of the costs are given.
+fn has_some_costs(matches: &ArgMatches<'_>) -> bool
+    ensures has_some { result ≡ has_some_costs (rows_in matches.now) }
+{
+    let log_n = value_of(matches, "logN").is_some();
+    let r = value_of(matches, "r").is_some();
+    let p = value_of(matches, "p").is_some();
+    (log_n || r || p) && !(log_n && r && p)
+}
+
+// The costs of these numbers, if they are in range.
+fn costs_of(numbers: Numbers) -> Option<Costs>
+    ensures costs { MatchOption result
+        (is_some (cost_fault numbers.log_n numbers.r numbers.p) ≡ true)
+        (λ c. (cost_fault numbers.log_n numbers.r numbers.p ≡ None)
+        × (c ≡ record { log_n = numbers.log_n; r = numbers.r; p = numbers.p })) }
+{
+    let log_n = u8::try_from(numbers.log_n).ok()?;
+    let r = u32::try_from(numbers.r).ok()?;
+    let p = u32::try_from(numbers.p).ok()?;
+    Costs::new(log_n, r, p).ok()
+}
+
+/// The costs that the words of `enc` give, or 17, 8 and 1 where they give none.
+pub fn costs_given(matches: &ArgMatches<'_>) -> Result<Costs, ScryptRefusal>
+    ensures costs { result ≡ costs_asked (rows_in matches.now) }
+    ensures counts { IfErr result RaisesNoCount }
+{
+    let numbers = Numbers {
+        log_n: number_given(matches, "logN", 17)?,
+        r: number_given(matches, "r", 8)?,
+        p: number_given(matches, "p", 1)?,
+    };
+    if has_some_costs(matches) {
+        return Err(ScryptRefusal::SomeCosts);
+    }
+    costs_of(numbers).ok_or(ScryptRefusal::CostsOutOfRange)
+}
