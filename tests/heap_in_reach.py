@@ -116,30 +116,30 @@ BODIES = {
         with_argument(command, Arg::new(alloc, name))
     """,
     "scrypt_words::command_line::with_common_words": """
-        let command = with_short(alloc, command, "M", 'M')?;
-        let command = with_long(alloc, command, "maxops")?;
-        let command = with_long(alloc, command, "keep")?;
-        let command = with_stdin_flag(alloc, command)?;
-        let command = with_long(alloc, command, "passphrase")?;
-        let command = with_file(alloc, command, "infile")?;
+        let command = with_short(alloc, command, "M", 'M');
+        let command = with_long(alloc, command, "maxops");
+        let command = with_long(alloc, command, "keep");
+        let command = with_stdin_flag(alloc, command);
+        let command = with_long(alloc, command, "passphrase");
+        let command = with_file(alloc, command, "infile");
         with_file(alloc, command, "outfile")
     """,
     "scrypt_words::command_line::enc_command": """
-        let command = with_long(alloc, Command::new(alloc, "enc"), "logN")?;
-        let command = with_short(alloc, command, "r", 'r')?;
-        let command = with_short(alloc, command, "p", 'p')?;
-        let command = with_long(alloc, command, "salt")?;
+        let command = with_long(alloc, Ok(Command::new(alloc, "enc")), "logN");
+        let command = with_short(alloc, command, "r", 'r');
+        let command = with_short(alloc, command, "p", 'p');
+        let command = with_long(alloc, command, "salt");
         with_common_words(alloc, command)
     """,
     "scrypt_words::command_line::dec_command": """
-        with_common_words(alloc, Command::new(alloc, "dec"))
+        with_common_words(alloc, Ok(Command::new(alloc, "dec")))
     """,
     "scrypt_words::command_line::info_command": """
-        with_file(alloc, Command::new(alloc, "info"), "infile")
+        with_file(alloc, Ok(Command::new(alloc, "info")), "infile")
     """,
     "scrypt_words::command_line::named_command": """
-        let command = with_command(Command::new(alloc, "scrypt"), enc_command(alloc))?;
-        let command = with_command(command, dec_command(alloc))?;
+        let command = with_command(Ok(Command::new(alloc, "scrypt")), enc_command(alloc));
+        let command = with_command(command, dec_command(alloc));
         with_command(command, info_command(alloc))
     """,
     "scrypt_words::command_line::scrypt_command": """

@@ -157,7 +157,7 @@ def options_of_scrypt():
         short = [f"-{it}" for it in re.findall(r"with_short\(.*?, \"\w+\", '(\w)'\)", body)]
         made[function] = [*long, *short, *(["-P"] if "with_stdin_flag(" in body else [])]
     dec = lines.split("\nfn dec_command<")[1].split("\n}\n")[0]
-    checks_dec = "with_common_words(alloc, Command::new(alloc, \"dec\"))" in dec and "with_long" not in dec
+    checks_dec = "with_common_words(alloc, Ok(Command::new(alloc, \"dec\")))" in dec and "with_long" not in dec
     common = made["with_common_words"] if checks_dec else []
     return {"enc": sorted([*common, *made["enc_command"]]), "dec": sorted(common), "info": []}
 

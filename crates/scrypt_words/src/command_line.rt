@@ -1,29 +1,34 @@
 //! The words of `scrypt` as `clap` is told of them. No argument refers to another, so what the words
-//! mean is what `clap` defines for a simple command.
+//! mean is what `clap` defines for a simple command. A command under way is handed on as a `Result`: what adds
+//! to it alone looks at whether there was memory so far.
 ghost use Rattle.std.specs.Prelude.{◌≡◌, IfOk, false, fold};
-ghost use Rattle.clap.specs.declared.builder.command.Command.TheViews.{out-Command as fields_of};
-ghost use Rattle.clap.specs.Words.{App, app_of, new_rule, rule_of, with_rule, with_subcommand};
+ghost use Rattle.clap.specs.Words.{App, new_rule, rule_of, with_rule, with_subcommand};
 ghost use Rattle.scrypt_words.specs.CommandLine.{IsCommand, common_rules, dec_app, enc_app, info_app, long_option, named_app, scrypt_app, short_option, stdin_flag};
-ghost use Rattle.scrypt_words.specs.Inside.CommandLine.{Extends};
 
 use clap::{Arg, ArgAction, Command};
 use std::alloc::{AllocError, Global};
 
-// An argument more.
-fn with_argument<'a>(command: Command<'a>, argument: Arg<'a>) -> Result<Command<'a>, AllocError>
+// An argument more, if there was memory for the command.
+fn with_argument<'a>(
+    command: Result<Command<'a>, AllocError>,
+    argument: Arg<'a>,
+) -> Result<Command<'a>, AllocError>
     requires local { argument.global ≡ false }
-    ensures extends { IfOk result (λ r. Extends command.entry (rule_of argument.entry) r) }
+    ensures command { (app : App) → IfOk command.entry (IsCommand app)
+        → IfOk result (IsCommand (with_rule app (rule_of argument.entry))) }
 {
+    let command = command?;
     command.arg(argument)
 }
 
 // `--name VALUE`
 fn with_long<'a>(
     alloc: Global,
-    command: Command<'a>,
+    command: Result<Command<'a>, AllocError>,
     name: &'a str,
 ) -> Result<Command<'a>, AllocError>
-    ensures extends { IfOk result (λ r. Extends command.entry (long_option name.entry.now) r) }
+    ensures command { (app : App) → IfOk command.entry (IsCommand app)
+        → IfOk result (IsCommand (with_rule app (long_option name.entry.now))) }
 {
     with_argument(command, Arg::new(alloc, name).long(name))
 }
@@ -31,18 +36,23 @@ fn with_long<'a>(
 // `-c VALUE`, under a name.
 fn with_short<'a>(
     alloc: Global,
-    command: Command<'a>,
+    command: Result<Command<'a>, AllocError>,
     name: &'a str,
     short: char,
 ) -> Result<Command<'a>, AllocError>
-    ensures extends { IfOk result (λ r. Extends command.entry (short_option name.entry.now short) r) }
+    ensures command { (app : App) → IfOk command.entry (IsCommand app)
+        → IfOk result (IsCommand (with_rule app (short_option name.entry.now short))) }
 {
     with_argument(command, Arg::new(alloc, name).short(short))
 }
 
 // `-P`
-fn with_stdin_flag<'a>(alloc: Global, command: Command<'a>) -> Result<Command<'a>, AllocError>
-    ensures extends { IfOk result (λ r. Extends command.entry stdin_flag r) }
+fn with_stdin_flag<'a>(
+    alloc: Global,
+    command: Result<Command<'a>, AllocError>,
+) -> Result<Command<'a>, AllocError>
+    ensures command { (app : App) → IfOk command.entry (IsCommand app)
+        → IfOk result (IsCommand (with_rule app stdin_flag)) }
 {
     let flag = Arg::new(alloc, "P").short('P').action(ArgAction::SetTrue);
     with_argument(command, flag)
@@ -51,61 +61,65 @@ fn with_stdin_flag<'a>(alloc: Global, command: Command<'a>) -> Result<Command<'a
 // A file.
 fn with_file<'a>(
     alloc: Global,
-    command: Command<'a>,
+    command: Result<Command<'a>, AllocError>,
     name: &'a str,
 ) -> Result<Command<'a>, AllocError>
-    ensures extends { IfOk result (λ r. Extends command.entry (new_rule name.entry.now) r) }
+    ensures command { (app : App) → IfOk command.entry (IsCommand app)
+        → IfOk result (IsCommand (with_rule app (new_rule name.entry.now))) }
 {
     with_argument(command, Arg::new(alloc, name))
 }
 
 // What `enc` and `dec` both take.
-fn with_common_words<'a>(alloc: Global, command: Command<'a>) -> Result<Command<'a>, AllocError>
-    ensures shape { IfOk result (λ r. app_of r ≡ fold with_rule (app_of command.entry) common_rules) }
-    ensures local { IfOk result (λ r.
-        (fields_of r).has_globals ≡ (fields_of command.entry).has_globals) }
+fn with_common_words<'a>(
+    alloc: Global,
+    command: Result<Command<'a>, AllocError>,
+) -> Result<Command<'a>, AllocError>
+    ensures command { (app : App) → IfOk command.entry (IsCommand app)
+        → IfOk result (IsCommand (fold with_rule app common_rules)) }
 {
-    let command = with_short(alloc, command, "M", 'M')?;
-    let command = with_long(alloc, command, "maxops")?;
-    let command = with_long(alloc, command, "keep")?;
-    let command = with_stdin_flag(alloc, command)?;
-    let command = with_long(alloc, command, "passphrase")?;
-    let command = with_file(alloc, command, "infile")?;
+    let command = with_short(alloc, command, "M", 'M');
+    let command = with_long(alloc, command, "maxops");
+    let command = with_long(alloc, command, "keep");
+    let command = with_stdin_flag(alloc, command);
+    let command = with_long(alloc, command, "passphrase");
+    let command = with_file(alloc, command, "infile");
     with_file(alloc, command, "outfile")
 }
 
 fn enc_command<'a>(alloc: Global) -> Result<Command<'a>, AllocError>
     ensures command { IfOk result (IsCommand enc_app) }
 {
-    let command = with_long(alloc, Command::new(alloc, "enc"), "logN")?;
-    let command = with_short(alloc, command, "r", 'r')?;
-    let command = with_short(alloc, command, "p", 'p')?;
-    let command = with_long(alloc, command, "salt")?;
+    let command = with_long(alloc, Ok(Command::new(alloc, "enc")), "logN");
+    let command = with_short(alloc, command, "r", 'r');
+    let command = with_short(alloc, command, "p", 'p');
+    let command = with_long(alloc, command, "salt");
     with_common_words(alloc, command)
 }
 
 fn dec_command<'a>(alloc: Global) -> Result<Command<'a>, AllocError>
     ensures command { IfOk result (IsCommand dec_app) }
 {
-    with_common_words(alloc, Command::new(alloc, "dec"))
+    with_common_words(alloc, Ok(Command::new(alloc, "dec")))
 }
 
 fn info_command<'a>(alloc: Global) -> Result<Command<'a>, AllocError>
     ensures command { IfOk result (IsCommand info_app) }
 {
-    with_file(alloc, Command::new(alloc, "info"), "infile")
+    with_file(alloc, Ok(Command::new(alloc, "info")), "infile")
 }
 
-// A subcommand more, if there was memory for it.
+// A subcommand more, if there was memory for both.
 fn with_command<'a>(
-    command: Command<'a>,
+    command: Result<Command<'a>, AllocError>,
     subcommand: Result<Command<'a>, AllocError>,
 ) -> Result<Command<'a>, AllocError>
-    ensures command { (app added : App) → IsCommand app command.entry
+    ensures command { (app added : App) → IfOk command.entry (IsCommand app)
         → IfOk subcommand.entry (IsCommand added)
         → IfOk result (IsCommand (with_subcommand app added.top)) }
 {
     let subcommand = subcommand?;
+    let command = command?;
     command.subcommand(subcommand)
 }
 
@@ -113,8 +127,8 @@ fn with_command<'a>(
 fn named_command<'a>(alloc: Global) -> Result<Command<'a>, AllocError>
     ensures command { IfOk result (IsCommand named_app) }
 {
-    let command = with_command(Command::new(alloc, "scrypt"), enc_command(alloc))?;
-    let command = with_command(command, dec_command(alloc))?;
+    let command = with_command(Ok(Command::new(alloc, "scrypt")), enc_command(alloc));
+    let command = with_command(command, dec_command(alloc));
     with_command(command, info_command(alloc))
 }
 

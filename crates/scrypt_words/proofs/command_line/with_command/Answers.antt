@@ -5,6 +5,7 @@ use Rattle.scrypt_words.proofs.command_line.with_command.Goals as goal
 
 pub returns : goal.returns
 returns c = record {
-  command = λ app added old sub. IfOk-weaker c.subcommand.result _ _
-      (λ r e. subcommand_then app added old (IfOk-at_ok (IsCommand added) c.in_ok-subcommand.was sub) e) c.subcommand.ensures;
+  command = λ app added old sub. IfOk-weaker c.subcommand.result _ _ (λ r e. subcommand_then app added
+      (IfOk-at_ok (IsCommand app) c.in_ok-command.was old)
+      (IfOk-at_ok (IsCommand added) c.in_ok-subcommand.was sub) e) c.subcommand.ensures;
 }
