@@ -59,8 +59,8 @@ DOES = {
     "lines, and what they leave behind if a proof fails or they are stopped",
     "tests/build_scripts.py": "packaging/build.sh, chosen.sh, lib.sh and deb.sh over stand-ins: what they make, and that "
     "they leave no older program, library or package if they fail or are stopped",
-    "rt ci": "proves every crate and its tests from nothing, tries the edits of `must-fail/`, and runs each test, and "
-    "the programs as built by two compilers",
+    "rt ci": "proves every crate and its tests, tries the edits of `must-fail/`, and runs each test, and the programs as "
+    "built by two compilers; what it proved before on the same machine, of the same bytes, it takes from /opt/rattle-kept",
     "tests/wrong_bodies.py": "tries the edits of `wrong-bodies/` that are new, and a tenth of the others; builds the "
     "parts of `libpikhsen`",
     "tests/wrong_definitions.py": "tries the edits of `wrong-definitions/` that are new, and a tenth of the others",

@@ -53,22 +53,6 @@ BODIES = {
         let mut room = alloc;
         read_from(&mut room, text)
     """,
-    "argon_text::verify_password::verify": """
-        verify_keyed(alloc, encoded, password, &[], &[], max_kib, max_ops)
-    """,
-    "argon_text::verify_password::verify_keyed": """
-        let mut room = alloc;
-        verify_in(
-            &mut room,
-            &Claim::of(encoded),
-            password,
-            secret,
-            associated,
-            max_kib,
-            max_ops,
-            &mut Ticks::new(alloc),
-        )
-    """,
     "argon_tool::program::run": """
         let read = words(&system, alloc);
         let mut host = SystemHost::new(system);

@@ -72,7 +72,7 @@ expect '::reserve(' "only a source of memory reserves, on the condition that lim
     crates/pikhsen_c/src/heap.rt crates/scrypt_run/src/room.rt
 # Each function that has the heap is compared whole.
 functions=$(tests/heap_in_reach.py) || fail "$functions"
-expect '.decode(' "a salt or a tag is decoded once" crates/argon_text/src/room.rt
+expect '.decode(' "a salt or a tag is decoded once" crates/argon_text/src/read_room.rt
 expect '.allocator()' "no function takes the heap out of what it is lent, but the writing of a text" \
     crates/argon_text/src/encoded.rt
 expect 'vec![in' "lists of a given length are made by the sources of memory, and for the words of the process" \
@@ -87,7 +87,7 @@ grows='append|clone\w*|extend\w*|from_elem|insert\w*|push\w*|(try_)?reserve\w*|(
 grows="$grows|splice\w*|split_off"
 ! found=$(cd "$code" && grep -roHE "(\.|::)($grows)\(|\bBox::new\(" crates/pikhsen_c | grep -v '/heap\.rt:') ||
     fail "memory is asked for by a function for C that is not a source of memory: $found"
-# Each asks its source in these places. Of a test contracts do not see the limits.
+# Each asks its source in these places.
 in_c() {
     text=$1 reason=$2
     shift 2
@@ -99,9 +99,6 @@ in_c '.matrix(' "a matrix is for a hash" argon2 encoded
 in_c '.text(' "a text is for the text of a hash" encoded
 in_c '.workspace(' "the memory of a derivation is taken in one place" scrypt
 in_c '.read(' "a text is read for its settings and for the test of a password" settings settings verifying
-in_c 'source.test(encoded, password, secret, associated, max_kib, max_ops)' \
-    "a password is tested under the limits that are given" verifying
-in_c '.test(' "a password is tested in one place" verifying
 # Nothing comes after the zeros over the stack.
 ! found=$(cd "$code" && sed 's/burn(told,machine)}//g' crates/pikhsen_c/src/[!b]*.rt | grep -oE '.{0,40}\bburn\(.{0,40}') ||
     fail "something comes after zeros were put over the stack: $found"
@@ -158,9 +155,10 @@ compare 50c5f6a67a99faf204f64f79e456976cf61323cfd5b4110226e0c64b0bef41a0 crates/
 compare d18f42d50d03421d9b23cd0e56050613778ec6371eddee7887e272ade6f69bdc crates/argon2_command/src/bytes.rt
 compare e7cbb65a747c159f80f65fb01374e95c1b0389396d383e4bac663a68e85e132e crates/argon2_command/src/line.rt
 compare 7d3dc1b3eea0508bb0be62cb014654feb9119cfeaa93e8dd80e6c85d09bbc733 crates/argon2_command/src/room.rt
-compare abee929f8cb1fdbc22d7ea51528c5888139227b456ce7563b059c7b4426edff6 crates/argon_text/src/room.rt
+compare 1d39eeb3f8dc83e08cb2923cd170bc794bbdd7cfed2d59b3f5bf262a08bd9fa2 crates/argon_text/src/read_room.rt
+compare 0718e36ffe70d272a0a6b73aba7e9fef2fa7764476b1d37b1c674c9033809646 crates/argon_text/src/room.rt
 compare c6234a04aca9f064647504f1045cc33af2c8af430f53ff6a583a83d85d28fd07 crates/argon_text/src/text_room.rt
-compare 7db94bd6c475fc69c1ed8835d82201ed1fd88e8a4268231b26ae5764c5c4eba9 crates/pikhsen_c/src/heap.rt
+compare 691bd3c06895100303822f1e77060c49fd16823828c6ea548639e2d18c6b4d5e crates/pikhsen_c/src/heap.rt
 compare e5360ca9490e0205e36f133d97c7ea46cde1fe4598ea098d195985c0735e072c crates/romix/src/reservation.rt
 compare b7c9cf4e2e2bdf886fcc59c19cecdc1ac5c414c77aba9a0904ec74736accbc1a crates/scrypt_run/src/line.rt
 compare 266c1125320cd467b012655480d8b345a1f6f7c5ada451d46ed82e1413a73f58 crates/scrypt_run/src/room.rt

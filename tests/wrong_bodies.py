@@ -14,9 +14,10 @@ counts only if that commit has it, too. The others are taken by record, but for 
 groups of a crate at a time. One in turn that is refused at another goal than its row says has failed, and keeps its row,
 unless another release of the toolchain wrote it: that may have searched in another order.
 
-Each crate of which an edit is tried is proved once more, into its out/incremental, since rt ci keeps no proof. It stands
-on the libraries that rt ci left; where there are none, they are built. In the gate the library for C is always among
-these crates: its proof here is also what builds it, crates/pikhsen_c/out/libpikhsen_c.a, for tests/c_face.py.
+Each crate of which an edit is tried is proved once more, into its out/incremental, since rt ci keeps its proofs for
+itself. It stands on the libraries that rt ci left; where there are none, they are built. In the gate the library for C
+is always among these crates: its proof here is also what builds it, crates/pikhsen_c/out/libpikhsen_c.a, for
+tests/c_face.py.
 """
 import copy
 import os

@@ -1,5 +1,6 @@
 -- What contracts see of this crate's types.
 use Rattle.argon_text.specs.Value.{Value}
+use Rattle.argon_text.specs.declared.claim.Claim.{Claim}
 use Rattle.argon_text.specs.declared.encoded.Encoded.{Encoded}
 
 -- the value of an `Encoded`, without where its bytes lie in memory
@@ -12,4 +13,16 @@ value_of e = record {
   lanes = e.lanes;
   salt = e.salt.items;
   tag = e.tag.items;
+}
+
+-- the value of a `Claim`, by the bytes that are lent
+abbrev pub value_claimed : Claim → Value
+value_claimed claim = record {
+  kind = claim.kind;
+  version = claim.version;
+  memory = claim.memory;
+  passes = claim.passes;
+  lanes = claim.lanes;
+  salt = claim.salt.now;
+  tag = claim.tag.now;
 }

@@ -5,26 +5,33 @@ ghost use Rattle.argon_text.specs.Value.{are_in_range};
 use crate::encoded::Encoded;
 use argon::Kind;
 
-/// What a value lends to the test of a password: salt and tag as bytes alone. A list would lend its allocator too, and
-/// memory could be asked for beside the source.
+/// A tag and what it is claimed to be the tag of, but for the password: what a value lends to `verify`, or whoever has
+/// salt and tag without an `Encoded`. The ranges are those of `Encoded`. Salt and tag are bytes alone: a list would lend
+/// its allocator too, and memory could be asked for beside the source.
 #[derive(Drop)]
-pub(crate) struct Claim<'a> {
+pub struct Claim<'a> {
+    /// Argon2d, Argon2i or Argon2id.
     pub kind: Kind,
+    /// The version of Argon2: 0x10 or 0x13.
     pub version: u32,
+    /// Memory in KiB: 8 * lanes to 2^32-1.
     pub memory: u32,
+    /// Passes over memory: 1 to 2^32-1.
     pub passes: u32,
+    /// Lanes: 1 to 2^24-1.
     pub lanes: u32,
+    /// The salt: 8 to 255 bytes.
     pub salt: &'a [u8],
+    /// The tag: 4 to 4,096 bytes.
     pub tag: &'a [u8],
     pub ghost in_range: { are_in_range version memory passes lanes (length salt.now) (length tag.now) ≡ true },
 }
 
 impl<'a> Claim<'a> {
-    ghost use Rattle.argon_text.specs.View.{value_of};
-    ghost use Rattle.argon_text.specs.Inside.Claim.{value_claimed};
+    ghost use Rattle.argon_text.specs.View.{value_claimed, value_of};
 
     /// What this value lends.
-    pub(crate) fn of(encoded: &'a Encoded) -> Claim<'a>
+    pub fn of(encoded: &'a Encoded) -> Claim<'a>
         ensures value { value_claimed result ≡ value_of encoded.now }
     {
         Claim {

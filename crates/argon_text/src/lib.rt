@@ -12,8 +12,11 @@
 //! ```
 //! let text = b"$argon2i$v=19$m=256,t=2,p=1$c29tZXNhbHQ$iekCn0Y3spW+sCcFanM2xBT63UP2sghkUoHLIUpWRS8";
 //! let encoded = Encoded::read(alloc, text)?;
-//! assert!(rt; verify(alloc, &encoded, b"password", 256, 526)?);
-//! assert!(rt; !verify(alloc, &encoded, b"Password", 256, 526)?);
+//! let claim = Claim::of(&encoded);
+//! let mut room = alloc;
+//! let mut ticks = Ticks::new(alloc);
+//! assert!(rt; verify(&mut room, &claim, b"password", 256, 526, &mut ticks)?);
+//! assert!(rt; !verify(&mut room, &claim, b"Password", 256, 526, &mut ticks)?);
 //! let mut again = Vec::new(alloc);
 //! encoded.write(&mut again)?;
 //! assert_eq!(rt; again.as_slice(), text.as_slice());
@@ -28,6 +31,7 @@ mod fields;
 mod laws;
 mod range;
 mod read;
+mod read_room;
 mod room;
 mod settings;
 #[cfg(test)]
@@ -37,8 +41,10 @@ mod text_room;
 mod vectors;
 mod verify_password;
 
+pub use claim::Claim;
 pub use encoded::{Encoded, put_tag};
 pub use fault::{ReadFault, VerifyFault};
 pub use range::{RangeFault, range_fault};
+pub use room::Room;
 pub use settings::Settings;
 pub use verify_password::{verify, verify_keyed};

@@ -13,7 +13,7 @@ ghost use Rattle.argon_text.specs.Inside.FieldsRead.{fields_of};
 use crate::encoded::Encoded;
 use crate::fault::ReadFault;
 use crate::fields::{Fields, fields_in};
-use crate::room::Room;
+use crate::read_room::ReadRoom;
 use base64::DecodeAllocError;
 use std::alloc::Global;
 
@@ -44,7 +44,7 @@ impl Encoded {
 }
 
 /// Reads an encoded text, with memory from `room`.
-pub(crate) fn read_from<R: Room>(room: &mut R, text: &[u8]) -> Result<Encoded, ReadFault>
+pub(crate) fn read_from<R: ReadRoom>(room: &mut R, text: &[u8]) -> Result<Encoded, ReadFault>
     ensures answer { IsAnswerOf text.now result }
     // Nothing is asked of the source of memory for a text whose fields are not found.
     ensures unasked { fields_at text.now ≡ None → room.new ≡ room.old }
@@ -67,7 +67,7 @@ pub(crate) fn read_from<R: Room>(room: &mut R, text: &[u8]) -> Result<Encoded, R
 }
 
 // The bytes that symbols of base64 stand for.
-fn decoded<R: Room>(room: &mut R, symbols: &[u8]) -> Result<Vec<u8>, ReadFault>
+fn decoded<R: ReadRoom>(room: &mut R, symbols: &[u8]) -> Result<Vec<u8>, ReadFault>
     ensures bytes { IfOk result (λ bytes. IsBytes bytes.items) }
     ensures text { IfOk result (λ bytes. symbols.now ≡ base64_text bytes.items) }
     ensures err { IfErr result (IsBase64Fault symbols.now) }

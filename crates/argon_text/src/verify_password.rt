@@ -1,80 +1,57 @@
 //! Whether a password gives the tag of a value.
-ghost use Rattle.std.specs.Prelude.{◌≡◌, ◌≢◌, ◌+◌, ◌<◌, ◌^◌, ◌↔◌, None, Ok, true, false, length, IfOk, IfErr, OnOk, IsTrue};
+ghost use Rattle.std.specs.Prelude.{◌≡◌, ◌≢◌, ◌+◌, ◌<◌, ◌^◌, ◌↔◌, None, Ok, true, false, length, IfOk, IfErr, OnOk, OnErr, IsTrue};
 ghost use Rattle.argon.specs.Counts.{work};
 ghost use Rattle.argon.specs.Range.{admission, is_between};
-ghost use Rattle.argon_text.specs.Inside.Claim.{value_claimed};
 ghost use Rattle.argon_text.specs.Verifying.{IsToldFault, keyed_fault, keyed_tag, parameters_with, tag_of_password, verify_fault};
-ghost use Rattle.argon_text.specs.View.{value_of};
+ghost use Rattle.argon_text.specs.View.{value_claimed};
 
 use crate::claim::Claim;
-use crate::encoded::Encoded;
 use crate::fault::VerifyFault;
 use crate::room::Room;
 use argon::{Inputs, ParamFault, Params, Ticks};
 use comparison::are_same;
-use std::alloc::{AllocError, Global};
+use std::alloc::AllocError;
 
-/// Whether the password gives the tag of the value, under the value's parameters, with no secret and
-/// no associated data. The tags are compared over all their bytes before it decides.
+/// Whether the password gives the tag of the claim, under its parameters, with no secret and no associated data. The tags
+/// are compared over all their bytes before it decides.
 ///
 /// `max_kib` is the greatest number of blocks of 1 KiB, and `max_ops` of block functions, that the
-/// hash may take: a value from a stranger can ask for 4 TiB and for days. Both are tested before
-/// memory is asked for. The faults, by their numbers, the first that holds: 6 where the password has
-/// not 1 to 127 bytes, 7 where `max_kib` is too little, 8 where `max_ops` is, 9 where memory was
-/// refused.
-pub fn verify(
-    alloc: Global,
-    encoded: &Encoded,
+/// hash may take: a text from a stranger can ask for 4 TiB and for days. Both are tested before
+/// memory is asked for. `room` is asked once, for the matrix, and `ticks` counts the block functions of the one hash.
+/// The faults, by their numbers, the first that holds: 6 where the password has not 1 to 127 bytes, 7 where `max_kib` is
+/// too little, 8 where `max_ops` is, 9 where memory was refused.
+pub fn verify<R: Room>(
+    room: &mut R,
+    claim: &Claim<'_>,
     password: &[u8],
     max_kib: u32,
     max_ops: u64,
+    ticks: &mut Ticks,
 ) -> Result<bool, VerifyFault>
     ensures answer { IfOk result (λ same. IsTrue same
-        ↔ tag_of_password (value_of encoded.now) password.now ≡ encoded.now.tag.items) }
+        ↔ tag_of_password (value_claimed claim.now) password.now ≡ claim.now.tag.now) }
     // There is an answer only where the password's length and both limits are kept.
-    ensures admitted { IfOk result (λ _. verify_fault (value_of encoded.now) password.now max_kib max_ops ≡ None) }
+    ensures admitted { IfOk result (λ _. verify_fault (value_claimed claim.now) password.now max_kib max_ops ≡ None) }
     // What is told is the first that holds, and memory was asked for where none does.
-    ensures fault { IfErr result (IsToldFault (verify_fault (value_of encoded.now) password.now max_kib max_ops)) }
+    ensures fault { IfErr result (IsToldFault (verify_fault (value_claimed claim.now) password.now max_kib max_ops)) }
+    // Nothing is asked of the source of memory before every other refusal is ruled out.
+    ensures unasked { IfErr result (λ fault. fault ≢ VerifyFault.OutOfMemory → room.new ≡ room.old) }
+    // And then the matrix alone, under the caller's own limits; want of memory is told where that was refused.
+    ensures asked { IfOk result (λ _. room.new ≡ R.after_matrix room.old
+        (parameters_with (value_claimed claim.now) password.now) max_kib max_ops true) }
+    ensures refused { IfErr result (λ fault. fault ≡ VerifyFault.OutOfMemory → room.new ≡ R.after_matrix room.old
+        (parameters_with (value_claimed claim.now) password.now) max_kib max_ops false) }
+    // No hash begins before every refusal is ruled out, that of memory too, and then one.
+    ensures no_work { IfErr result (λ _. ticks.new ≡ ticks.old) }
+    ensures count { IfOk result (λ _. ticks.new ≡ ticks.old + work (parameters_with (value_claimed claim.now) password.now)) }
 {
-    verify_keyed(alloc, encoded, password, &[], &[], max_kib, max_ops)
+    verify_keyed(room, claim, password, &[], &[], max_kib, max_ops, ticks)
 }
 
-/// Whether the password gives the tag of the value with this secret value and this associated data, as they
+/// Whether the password gives the tag of the claim with this secret value and this associated data, as they
 /// were given when it was hashed (RFC 9106, 3.1: K and X); a text holds neither. All else is as for `verify`,
 /// and one fault more: 12 where the secret or the data is 2^32 bytes or longer, after 6 and before 7.
-pub fn verify_keyed(
-    alloc: Global,
-    encoded: &Encoded,
-    password: &[u8],
-    secret: &[u8],
-    associated: &[u8],
-    max_kib: u32,
-    max_ops: u64,
-) -> Result<bool, VerifyFault>
-    ensures answer { IfOk result (λ same. IsTrue same
-        ↔ keyed_tag (value_of encoded.now) password.now secret.now associated.now ≡ encoded.now.tag.items) }
-    // There is an answer only where the lengths and both limits are kept.
-    ensures admitted { IfOk result (λ _.
-        keyed_fault (value_of encoded.now) password.now (length secret.now) (length associated.now) max_kib max_ops ≡ None) }
-    // What is told is the first that holds, and memory was asked for where none does.
-    ensures fault { IfErr result (IsToldFault
-        (keyed_fault (value_of encoded.now) password.now (length secret.now) (length associated.now) max_kib max_ops)) }
-{
-    let mut room = alloc;
-    verify_in(
-        &mut room,
-        &Claim::of(encoded),
-        password,
-        secret,
-        associated,
-        max_kib,
-        max_ops,
-        &mut Ticks::new(alloc),
-    )
-}
-
-/// The same, with memory from `room`: one request, for the matrix.
-pub(crate) fn verify_in<R: Room>(
+pub fn verify_keyed<R: Room>(
     room: &mut R,
     claim: &Claim<'_>,
     password: &[u8],
@@ -86,18 +63,20 @@ pub(crate) fn verify_in<R: Room>(
 ) -> Result<bool, VerifyFault>
     ensures answer { IfOk result (λ same. IsTrue same
         ↔ keyed_tag (value_claimed claim.now) password.now secret.now associated.now ≡ claim.now.tag.now) }
+    // There is an answer only where the lengths and both limits are kept.
     ensures admitted { IfOk result (λ _.
         keyed_fault (value_claimed claim.now) password.now (length secret.now) (length associated.now) max_kib max_ops ≡ None) }
+    // What is told is the first that holds, and memory was asked for where none does.
     ensures fault { IfErr result (IsToldFault
         (keyed_fault (value_claimed claim.now) password.now (length secret.now) (length associated.now) max_kib max_ops)) }
     // Nothing is asked of the source of memory before every other refusal is ruled out.
     ensures unasked { IfErr result (λ fault. fault ≢ VerifyFault.OutOfMemory → room.new ≡ room.old) }
-    // And then the matrix alone.
-    ensures asked { IfOk result (λ _. room.new
-        ≡ R.after_matrix room.old (parameters_with (value_claimed claim.now) password.now)) }
-    ensures refused { IfErr result (λ fault. fault ≡ VerifyFault.OutOfMemory
-        → room.new ≡ R.after_matrix room.old (parameters_with (value_claimed claim.now) password.now)) }
-    // No hash begins before every refusal is ruled out, that of memory too.
+    // And then the matrix alone, under the caller's own limits; want of memory is told where that was refused.
+    ensures asked { IfOk result (λ _. room.new ≡ R.after_matrix room.old
+        (parameters_with (value_claimed claim.now) password.now) max_kib max_ops true) }
+    ensures refused { IfErr result (λ fault. fault ≡ VerifyFault.OutOfMemory → room.new ≡ R.after_matrix room.old
+        (parameters_with (value_claimed claim.now) password.now) max_kib max_ops false) }
+    // No hash begins before every refusal is ruled out, that of memory too, and then one.
     ensures no_work { IfErr result (λ _. ticks.new ≡ ticks.old) }
     ensures count { IfOk result (λ _. ticks.new ≡ ticks.old + work (parameters_with (value_claimed claim.now) password.now)) }
 {
@@ -166,7 +145,8 @@ fn write_tag<R: Room>(
     requires size { length out.old ≡ length claim.now.tag.now }
     ensures tag { OnOk result (out.new ≡ keyed_tag (value_claimed claim.now) inputs.now.password.now
         inputs.now.secret.now inputs.now.associated.now) }
-    ensures asked { room.new ≡ R.after_matrix room.old params.now }
+    ensures asked { OnOk result (room.new ≡ R.after_matrix room.old params.now max_kib max_ops true) }
+    ensures refused { OnErr result (room.new ≡ R.after_matrix room.old params.now max_kib max_ops false) }
     ensures no_work { IfErr result (λ _. ticks.new ≡ ticks.old) }
     ensures count { IfOk result (λ _. ticks.new ≡ ticks.old + work params.now) }
 {

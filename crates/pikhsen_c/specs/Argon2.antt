@@ -1,6 +1,7 @@
 -- What a caller gives to the functions for Argon2, and what they answer.
-use Rattle.std.specs.Prelude.{◌≡◌, ◌==◌, ◌||◌, ◌⊎◌, ℕ, not, nat_lt, nat_le, List, [], length, replicate, Result, Ok, Err, Option, None, if◌then◌else◌}
+use Rattle.std.specs.Prelude.{◌≡◌, ◌==◌, ◌||◌, ◌⊎◌, ◌+◌, ℕ, not, nat_lt, nat_le, List, [], length, replicate, Result, Ok, Err, Option, None, if◌then◌else◌}
 use Rattle.argon.specs.Argon2.{argon2_tag}
+use Rattle.argon.specs.Counts.{work}
 use Rattle.argon.specs.Parameters.{Inputs, Parameters}
 use Rattle.argon.specs.Range.{admission, checked_parameters, is_version}
 use Rattle.argon.specs.declared.fault.ParamFault.{ParamFault}
@@ -9,7 +10,7 @@ use Rattle.argon.specs.declared.kind.Kind.TheVariants.{D, I, Id}
 use Rattle.argon_text.specs.EncodedText.{IsTextOf, encoded_text}
 use Rattle.argon_text.specs.Grammar.{HasNumbers}
 use Rattle.argon_text.specs.Value.{IsValue, Value}
-use Rattle.argon_text.specs.Verifying.{keyed_fault, keyed_tag}
+use Rattle.argon_text.specs.Verifying.{keyed_fault, keyed_tag, parameters_with}
 use Rattle.argon_text.specs.declared.fault.VerifyFault.{VerifyFault}
 use Rattle.pikhsen_c.specs.Status.{first_told, long_input, no_kind, no_version, params_number, wrong_buffer}
 
@@ -171,3 +172,9 @@ MayLackKeyedMemory text password secret_len associated_len max_kib max_ops =
 -- the text are read, and for the hash where nothing else refuses it
 abbrev pub MayLackMemory : List ℕ → List ℕ → ℕ → ℕ → Type 0
 MayLackMemory text password = MayLackKeyedMemory text password 0 0
+
+-- the count of block functions rose by those of one hash, of this password under the parameters of this text
+pub record CountsTest (text password : List ℕ) (before after : ℕ) : Type 0 where
+  pub value : Value
+  pub written : IsTextOf value text
+  pub counted : after ≡ before + work (parameters_with value password)

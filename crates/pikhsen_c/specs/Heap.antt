@@ -1,6 +1,6 @@
--- What a call asked of the heap, each call of `Source` being one request: how many of each kind were granted, and refused.
+-- What a call asked of the heap, each call of `Room` or `Source` being one request: how many of each kind were granted, and refused.
 use Rattle.std.specs.Prelude.{◌≡◌, ◌≢◌, ◌≤◌, ◌<◌, ◌⊎◌, ℕ, ◌+◌, Bool, true, false}
-use Rattle.pikhsen_c.specs.Status.{not_encoded, out_of_memory, out_of_range, wrong_buffer, wrong_passphrase}
+use Rattle.pikhsen_c.specs.Status.{mismatch, out_of_memory, wrong_buffer, wrong_passphrase}
 use Rattle.pikhsen_c.specs.declared.heap.Heap.{Heap}
 use Rattle.pikhsen_c.specs.declared.heap.Requests.{Requests}
 
@@ -24,10 +24,6 @@ asked_for_workspace heap granted = record heap { workspaces = one_more heap.work
 -- the same for the reading of a text, which may take no memory
 abbrev pub asked_to_read : Heap → Bool → Heap
 asked_to_read heap granted = record heap { readings = one_more heap.readings granted }
-
--- the same for the test of a password, which takes none where it is refused for another reason
-abbrev pub asked_to_test : Heap → Bool → Heap
-asked_to_test heap granted = record heap { tests = one_more heap.tests granted }
 
 -- one request of a kind at most, of a hash, a derivation or an encryption: it was granted where the call did its work,
 -- refused where want of memory is told, and not made before any other refusal
@@ -57,11 +53,11 @@ pub record AsksTwice (status : ℕ) (before after : Heap) : Type 0 where
       → (after ≡ asked_for_text before false) ⊎ (after ≡ asked_for_matrix (asked_for_text before true) false)
   pub unasked : status ≢ 0 → status ≢ out_of_memory → status ≢ wrong_buffer → after ≡ before
 
--- one request for the reading of a text, and where it is read, one for the test of a password, whatever comes of it
+-- one request for the reading of a text, and where it is read and nothing else refuses the test of a password, one for
+-- the matrix of its hash
 pub record AsksToVerify (status : ℕ) (before after : Heap) : Type 0 where
-  pub unread : status ≡ not_encoded → after ≡ asked_to_read before true
-  pub read_out_of_range : status ≡ out_of_range → after ≡ asked_to_read before true
-  pub asked : status ≢ not_encoded → status ≢ out_of_range → status ≢ out_of_memory
-      → after ≡ asked_to_test (asked_to_read before true) true
+  pub asked : status ≡ 0 → after ≡ asked_for_matrix (asked_to_read before true) true
+  pub asked_if_wrong : status ≡ mismatch → after ≡ asked_for_matrix (asked_to_read before true) true
+  pub unasked : status ≢ 0 → status ≢ mismatch → status ≢ out_of_memory → after ≡ asked_to_read before true
   pub refused : status ≡ out_of_memory
-      → (after ≡ asked_to_read before false) ⊎ (after ≡ asked_to_test (asked_to_read before true) false)
+      → (after ≡ asked_to_read before false) ⊎ (after ≡ asked_for_matrix (asked_to_read before true) false)

@@ -2,11 +2,11 @@
 ghost use Rattle.std.specs.Prelude.{◌≡◌, length, IfOk};
 ghost use Rattle.argon.specs.Range.{IsInRange};
 ghost use Rattle.pikhsen_c.specs.Argon2.{kind_numbered, text_of_zeros};
-ghost use Rattle.pikhsen_c.specs.Heap.{asked_for_matrix, asked_for_text, asked_for_workspace, asked_to_read, asked_to_test, one_more};
+ghost use Rattle.pikhsen_c.specs.Heap.{asked_for_matrix, asked_for_text, asked_for_workspace, asked_to_read, one_more};
 
 use crate::source::Source;
 use argon::{Kind, Matrix, Params};
-use argon_text::{Encoded, ReadFault, VerifyFault, verify_keyed};
+use argon_text::{Encoded, ReadFault, Room};
 use counter::Count;
 use romix::{Sparse, Workspace};
 use std::alloc::{AllocError, Global};
@@ -19,8 +19,8 @@ pub struct Requests {
     refused: Count,
 }
 
-/// The heap, and how many requests of each kind it granted and refused, each call of `Source` being one. It takes no
-/// bytes. No code but this file makes one, or takes the allocator out of it.
+/// The heap, and how many requests of each kind it granted and refused, each call of `Room` and `Source` being one. It
+/// takes no bytes. No code but this file makes one, or takes the allocator out of it.
 #[repr(C)]
 #[derive(Drop)]
 pub struct Heap {
@@ -29,7 +29,6 @@ pub struct Heap {
     texts: Requests,
     workspaces: Requests,
     readings: Requests,
-    tests: Requests,
 }
 
 impl Requests {
@@ -45,16 +44,8 @@ impl Requests {
     }
 }
 
-impl Source for Heap {
+impl Room for Heap {
     ghost after_matrix = { λ heap _ _ _ granted. asked_for_matrix heap granted };
-
-    ghost after_text = { λ heap _ _ granted. asked_for_text heap granted };
-
-    ghost after_workspace = { λ heap _ _ _ granted. asked_for_workspace heap granted };
-
-    ghost after_reading = { λ heap _ granted. asked_to_read heap granted };
-
-    ghost after_test = { λ heap _ _ _ _ _ _ granted. asked_to_test heap granted };
 
     fn matrix(
         &mut self,
@@ -66,6 +57,14 @@ impl Source for Heap {
         self.matrices.count(matrix.is_ok());
         matrix
     }
+}
+
+impl Source for Heap {
+    ghost after_text = { λ heap _ _ granted. asked_for_text heap granted };
+
+    ghost after_workspace = { λ heap _ _ _ granted. asked_for_workspace heap granted };
+
+    ghost after_reading = { λ heap _ granted. asked_to_read heap granted };
 
     fn text(&mut self, kind: Kind, params: &Params, salt: &[u8]) -> Result<Vec<u8>, AllocError> {
         let text = text_of_zeros(self.alloc, kind, params, salt);
@@ -89,23 +88,6 @@ impl Source for Heap {
         self.readings
             .count(!matches!(&read, Err(ReadFault::OutOfMemory)));
         read
-    }
-
-    fn test(
-        &mut self,
-        encoded: &Encoded,
-        password: &[u8],
-        secret: &[u8],
-        associated: &[u8],
-        max_kib: u32,
-        max_ops: u64,
-    ) -> Result<bool, VerifyFault> {
-        let told = verify_keyed(
-            self.alloc, encoded, password, secret, associated, max_kib, max_ops,
-        );
-        self.tests
-            .count(!matches!(&told, Err(VerifyFault::OutOfMemory)));
-        told
     }
 }
 

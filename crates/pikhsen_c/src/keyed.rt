@@ -3,7 +3,7 @@
 ghost use Rattle.std.specs.Prelude.{◌≡◌, ◌≢◌, ◌+◌, ◌++◌, ◌<◌, ◌≤◌, ◌∷◌, [], Some, length, take, drop};
 ghost use Rattle.argon_text.specs.Grammar.{IsText, IsTextInRange};
 ghost use Rattle.argon.specs.Counts.{work};
-ghost use Rattle.pikhsen_c.specs.Argon2.{HasKeyedPassword, HasOtherKeyedPassword, IsKeyedJudged, MayLackKeyedMemory, encoded_keyed_hash, encoded_keyed_status, hash_status, parameters_given};
+ghost use Rattle.pikhsen_c.specs.Argon2.{CountsTest, HasKeyedPassword, HasOtherKeyedPassword, IsKeyedJudged, MayLackKeyedMemory, encoded_keyed_hash, encoded_keyed_status, hash_status, parameters_given};
 ghost use Rattle.pikhsen_c.specs.Heap.{AsksTwice, AsksToVerify};
 ghost use Rattle.pikhsen_c.specs.Status.{long_input, mismatch, not_encoded, out_of_memory, out_of_range};
 
@@ -124,9 +124,13 @@ pub extern "C" fn pikhsen_argon2_verify_keyed(
     ensures high { result.status ≤ 16 }
     // What was asked of the heap.
     ensures asked { AsksToVerify result.status machine.heap result.machine.heap }
-    // No hash but that of the test, which counts its own.
-    ensures no_blocks { result.machine.blocks ≡ machine.blocks }
     ensures no_cores { result.machine.cores ≡ machine.cores }
+    // No hash begins before every refusal is ruled out, and then one.
+    ensures no_work { result.status ≢ 0 → result.status ≢ mismatch → result.machine.blocks ≡ machine.blocks }
+    ensures count { result.status ≡ 0
+        → CountsTest text.now password.now machine.blocks result.machine.blocks }
+    ensures count_if_wrong { result.status ≡ mismatch
+        → CountsTest text.now password.now machine.blocks result.machine.blocks }
 {
     let mut machine = machine;
     let told = verify_in(
@@ -137,6 +141,7 @@ pub extern "C" fn pikhsen_argon2_verify_keyed(
         associated,
         max_kib,
         max_ops,
+        &mut machine.blocks,
     );
     burn(told, machine)
 }

@@ -2,7 +2,7 @@
 ghost use Rattle.std.specs.Prelude.{◌≡◌, ◌≢◌, ◌≤◌, ◌<◌};
 ghost use Rattle.pikhsen_c.specs.Status.{costs_number, header_number, params_number, range_number};
 ghost use Rattle.pikhsen_c.specs.Inside.Numbers.{read_number, verify_number};
-ghost use Rattle.pikhsen_c.specs.Inside.Requests.{had_memory, had_memory_to_read, had_memory_to_test};
+ghost use Rattle.pikhsen_c.specs.Inside.Requests.{had_memory, had_memory_to_read};
 
 use argon::ParamFault;
 use argon_text::{RangeFault, ReadFault, VerifyFault};
@@ -72,7 +72,8 @@ pub(crate) fn of_params(fault: ParamFault) -> u32
 /// The number of why a password isn't tested: 6 to 9, or 12.
 pub(crate) fn of_verify(fault: VerifyFault) -> u32
     ensures number { result ≡ verify_number fault }
-    ensures memory { had_memory_to_test fault ≡ had_memory result }
+    ensures memory { result ≡ 9 → fault ≡ VerifyFault.OutOfMemory }
+    ensures other { result ≢ 9 → fault ≢ VerifyFault.OutOfMemory }
     ensures at_least_6 { 6 ≤ result }
     ensures gap { 9 < result → 12 ≤ result }
     ensures below { result ≤ 12 }

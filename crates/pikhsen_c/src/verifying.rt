@@ -1,13 +1,13 @@
 //! The test of a password against an encoded text.
-ghost use Rattle.std.specs.Prelude.{◌≡◌, ◌≢◌, ◌≤◌, ◌<◌, ◌⊎◌, None, Some, length, true, false};
+ghost use Rattle.std.specs.Prelude.{◌≡◌, ◌≢◌, ◌+◌, ◌≤◌, ◌<◌, ◌⊎◌, None, Some, length, true, false};
+ghost use Rattle.argon.specs.Counts.{work};
 ghost use Rattle.argon_text.specs.EncodedText.{IsTextOf};
 ghost use Rattle.argon_text.specs.Grammar.{HasNumbers, IsText, IsTextInRange};
 ghost use Rattle.argon_text.specs.Value.{Value};
-ghost use Rattle.argon_text.specs.Verifying.{keyed_fault, keyed_tag};
-ghost use Rattle.argon_text.specs.View.{value_of};
-ghost use Rattle.pikhsen_c.specs.Argon2.{HasKeyedPassword, HasOtherKeyedPassword, HasOtherPassword, HasPassword, IsJudged, IsKeyedJudged, MayLackKeyedMemory, MayLackMemory};
+ghost use Rattle.argon_text.specs.Verifying.{keyed_fault, keyed_tag, parameters_with};
+ghost use Rattle.argon_text.specs.View.{value_claimed, value_of};
+ghost use Rattle.pikhsen_c.specs.Argon2.{CountsTest, HasKeyedPassword, HasOtherKeyedPassword, HasOtherPassword, HasPassword, IsJudged, IsKeyedJudged, MayLackKeyedMemory, MayLackMemory};
 ghost use Rattle.pikhsen_c.specs.Heap.{AsksToVerify};
-ghost use Rattle.pikhsen_c.specs.Inside.Requests.{had_memory};
 ghost use Rattle.pikhsen_c.specs.Inside.Verifying.{IsTold};
 ghost use Rattle.pikhsen_c.specs.Status.{long_input, mismatch, not_encoded, out_of_memory, out_of_range};
 
@@ -15,37 +15,53 @@ use crate::burning::{Told, burn};
 use crate::machine::Machine;
 use crate::source::Source;
 use crate::status;
-use argon_text::{Encoded, VerifyFault};
+use argon::Ticks;
+use argon_text::{Claim, VerifyFault, verify_keyed};
 
 // What the test of a password answers, by its number.
 fn answered<S: Source>(
     source: &mut S,
-    encoded: &Encoded,
+    claim: &Claim<'_>,
     password: &[u8],
     secret: &[u8],
     associated: &[u8],
     max_kib: u32,
     max_ops: u64,
+    ticks: &mut Ticks,
 ) -> u32
-    ensures admitted { result ≡ 0 → keyed_fault (value_of encoded.now) password.now
+    ensures admitted { result ≡ 0 → keyed_fault (value_claimed claim.now) password.now
         (length secret.now) (length associated.now) max_kib max_ops ≡ None }
     ensures right { result ≡ 0
-        → keyed_tag (value_of encoded.now) password.now secret.now associated.now ≡ encoded.now.tag.items }
-    ensures admitted_if_wrong { result ≡ 16 → keyed_fault (value_of encoded.now) password.now
+        → keyed_tag (value_claimed claim.now) password.now secret.now associated.now ≡ claim.now.tag.now }
+    ensures admitted_if_wrong { result ≡ 16 → keyed_fault (value_claimed claim.now) password.now
         (length secret.now) (length associated.now) max_kib max_ops ≡ None }
     ensures wrong { result ≡ 16
-        → keyed_tag (value_of encoded.now) password.now secret.now associated.now ≡ encoded.now.tag.items → ⊥ }
-    ensures refused { IsTold result (keyed_fault (value_of encoded.now) password.now
+        → keyed_tag (value_claimed claim.now) password.now secret.now associated.now ≡ claim.now.tag.now → ⊥ }
+    ensures told { IsTold result (keyed_fault (value_claimed claim.now) password.now
         (length secret.now) (length associated.now) max_kib max_ops) }
     ensures low { 0 < result → 6 ≤ result }
     ensures gap { 9 < result → 12 ≤ result }
     ensures gap_after_12 { 12 < result → 16 ≤ result }
     ensures high { result ≤ 16 }
-    // It is tested once, under the caller's own limits; want of memory is told where that was refused, and only there.
-    ensures asked { source.new ≡ S.after_test source.old (value_of encoded.now) password.now
-        secret.now associated.now max_kib max_ops (had_memory result) }
+    // Nothing is asked of the source before every other refusal is ruled out.
+    ensures unasked { result ≢ 0 → result ≢ 16 → result ≢ 9 → source.new ≡ source.old }
+    // And then the matrix alone, under the caller's own limits; want of memory is told where that was refused.
+    ensures asked { result ≡ 0 → source.new ≡ S.after_matrix source.old
+        (parameters_with (value_claimed claim.now) password.now) max_kib max_ops true }
+    ensures asked_if_wrong { result ≡ 16 → source.new ≡ S.after_matrix source.old
+        (parameters_with (value_claimed claim.now) password.now) max_kib max_ops true }
+    ensures refused { result ≡ 9 → source.new ≡ S.after_matrix source.old
+        (parameters_with (value_claimed claim.now) password.now) max_kib max_ops false }
+    // No hash begins before every refusal is ruled out, and then one.
+    ensures no_work { result ≢ 0 → result ≢ 16 → ticks.new ≡ ticks.old }
+    ensures count { result ≡ 0
+        → ticks.new ≡ ticks.old + work (parameters_with (value_claimed claim.now) password.now) }
+    ensures count_if_wrong { result ≡ 16
+        → ticks.new ≡ ticks.old + work (parameters_with (value_claimed claim.now) password.now) }
 {
-    match source.test(encoded, password, secret, associated, max_kib, max_ops) {
+    match verify_keyed(
+        source, claim, password, secret, associated, max_kib, max_ops, ticks,
+    ) {
         Ok(true) => status::OK,
         Ok(false) => status::MISMATCH,
         Err(fault) => status::of_verify(fault),
@@ -62,6 +78,7 @@ pub(crate) fn verify_in<S: Source>(
     associated: &[u8],
     max_kib: u32,
     max_ops: u64,
+    ticks: &mut Ticks,
 ) -> u32
     ensures right { result ≡ 0
         → HasKeyedPassword text.now password.now secret.now associated.now max_kib max_ops }
@@ -83,28 +100,35 @@ pub(crate) fn verify_in<S: Source>(
     ensures gap { 9 < result → 12 ≤ result }
     ensures gap_after_12 { 12 < result → 14 ≤ result }
     ensures high { result ≤ 16 }
-    // Where the text is refused, its reading was asked for, once.
-    ensures unread { result ≡ not_encoded → source.new ≡ S.after_reading source.old text.now true }
-    ensures read_out_of_range { result ≡ out_of_range → source.new ≡ S.after_reading source.old text.now true }
-    // Where it is read, a password is then tested, once.
-    ensures asked { result ≢ not_encoded → result ≢ out_of_range → result ≢ out_of_memory
-        → (value : Value) × IsTextOf value text.now × (source.new
-        ≡ S.after_test (S.after_reading source.old text.now true) value password.now secret.now associated.now
+    // Its reading is asked for, once, and nothing more where the text or the test is refused.
+    ensures unasked { result ≢ 0 → result ≢ mismatch → result ≢ out_of_memory
+        → source.new ≡ S.after_reading source.old text.now true }
+    // Otherwise the matrix of one hash, under the caller's own limits.
+    ensures asked { result ≡ 0 → (value : Value) × IsTextOf value text.now × (source.new
+        ≡ S.after_matrix (S.after_reading source.old text.now true) (parameters_with value password.now)
+        max_kib max_ops true) }
+    ensures asked_if_wrong { result ≡ mismatch → (value : Value) × IsTextOf value text.now × (source.new
+        ≡ S.after_matrix (S.after_reading source.old text.now true) (parameters_with value password.now)
         max_kib max_ops true) }
     // Want of memory is told where one of the two was refused, the second only within the limits.
     ensures refused { result ≡ out_of_memory
         → (source.new ≡ S.after_reading source.old text.now false)
         ⊎ ((value : Value) × IsTextOf value text.now × (keyed_fault value password.now
         (length secret.now) (length associated.now) max_kib max_ops ≡ None) × (source.new
-        ≡ S.after_test (S.after_reading source.old text.now true) value password.now secret.now associated.now
+        ≡ S.after_matrix (S.after_reading source.old text.now true) (parameters_with value password.now)
         max_kib max_ops false)) }
+    // No hash begins before every refusal is ruled out, and then one.
+    ensures no_work { result ≢ 0 → result ≢ mismatch → ticks.new ≡ ticks.old }
+    ensures count { result ≡ 0 → CountsTest text.now password.now ticks.old ticks.new }
+    ensures count_if_wrong { result ≡ mismatch → CountsTest text.now password.now ticks.old ticks.new }
 {
     let encoded = match source.read(text) {
         Ok(encoded) => encoded,
         Err(fault) => return status::of_read(fault),
     };
+    let claim = Claim::of(&encoded);
     answered(
-        source, &encoded, password, secret, associated, max_kib, max_ops,
+        source, &claim, password, secret, associated, max_kib, max_ops, ticks,
     )
 }
 
@@ -135,9 +159,13 @@ pub extern "C" fn pikhsen_argon2_verify(
     ensures high { result.status ≤ 16 }
     // What was asked of the heap.
     ensures asked { AsksToVerify result.status machine.heap result.machine.heap }
-    // No hash but that of the test, which counts its own.
-    ensures no_blocks { result.machine.blocks ≡ machine.blocks }
     ensures no_cores { result.machine.cores ≡ machine.cores }
+    // No hash begins before every refusal is ruled out, and then one.
+    ensures no_work { result.status ≢ 0 → result.status ≢ mismatch → result.machine.blocks ≡ machine.blocks }
+    ensures count { result.status ≡ 0
+        → CountsTest text.now password.now machine.blocks result.machine.blocks }
+    ensures count_if_wrong { result.status ≡ mismatch
+        → CountsTest text.now password.now machine.blocks result.machine.blocks }
 {
     let mut machine = machine;
     let told = verify_in(
@@ -148,6 +176,7 @@ pub extern "C" fn pikhsen_argon2_verify(
         &[],
         max_kib,
         max_ops,
+        &mut machine.blocks,
     );
     burn(told, machine)
 }

@@ -1,5 +1,6 @@
 //! Texts that other programs made of the reference library of Argon2, with salts, lengths and passwords of their own.
-use crate::{Encoded, verify};
+use super::verifying::fits;
+use crate::Encoded;
 use argon::Kind;
 use std::alloc::Global;
 use std::test::Fail;
@@ -141,9 +142,9 @@ const ROWS: &[Row] = &[
 // Whether a text is read as its row says, and fits its password and no other.
 fn is_as_made(alloc: Global, (text, kind, version, password): Row) -> Result<bool, Fail> {
     let encoded = Encoded::read(alloc, text.as_bytes())?;
-    let fits = verify(alloc, &encoded, password.as_bytes(), 64, 1000)?;
-    let fits_another = verify(alloc, &encoded, b"Password", 64, 1000)?;
-    Ok(encoded.kind == kind && encoded.version == version && fits && !fits_another)
+    let is_read = encoded.kind == kind && encoded.version == version;
+    let text = text.as_bytes();
+    Ok(is_read && fits(alloc, text, password)? && !fits(alloc, text, "Password")?)
 }
 
 #[test]

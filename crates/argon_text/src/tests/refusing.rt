@@ -1,6 +1,7 @@
 //! Sources of memory that refuse one request.
 ghost use Rattle.std.specs.Prelude.{◌≡◌, ◌-◌};
 
+use crate::read_room::ReadRoom;
 use crate::room::Room;
 use crate::text_room::TextRoom;
 use argon::{Matrix, Params};
@@ -25,10 +26,8 @@ impl Refusing {
     }
 }
 
-impl Room for Refusing {
+impl ReadRoom for Refusing {
     ghost after_decoded = { λ room _. record room { left = room.left - 1 } };
-
-    ghost after_matrix = { λ room _. record room { left = room.left - 1 } };
 
     fn decoded(&mut self, symbols: &[u8]) -> Result<Vec<u8>, DecodeAllocError> {
         if !self.grants() {
@@ -37,6 +36,10 @@ impl Room for Refusing {
         let mut alloc = self.alloc;
         alloc.decoded(symbols)
     }
+}
+
+impl Room for Refusing {
+    ghost after_matrix = { λ room _ _ _ _. record room { left = room.left - 1 } };
 
     fn matrix(
         &mut self,

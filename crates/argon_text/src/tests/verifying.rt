@@ -1,12 +1,30 @@
 //! Passwords against texts of the reference program, and the faults in their order.
 use super::reference_texts::{KNOWN, ROWS};
 use super::refusing::Refusing;
-use crate::claim::Claim;
-use crate::verify_password::verify_in;
-use crate::{Encoded, ReadFault, VerifyFault, verify, verify_keyed};
+use crate::{Claim, Encoded, ReadFault, VerifyFault, verify, verify_keyed};
 use argon::Ticks;
 use std::alloc::Global;
 use std::test::Fail;
+
+// What `verify` answers with the heap and a counter of its own.
+fn tested(
+    alloc: Global,
+    encoded: &Encoded,
+    password: &[u8],
+    max_kib: u32,
+    max_ops: u64,
+) -> Result<bool, VerifyFault> {
+    let mut room = alloc;
+    let mut ticks = Ticks::new(alloc);
+    verify(
+        &mut room,
+        &Claim::of(encoded),
+        password,
+        max_kib,
+        max_ops,
+        &mut ticks,
+    )
+}
 
 // An answer as 0 or 1, and a fault by its number.
 fn number_of(answer: Result<bool, VerifyFault>) -> u8 {
@@ -36,7 +54,7 @@ const ANSWERS: [(&[u8], u32, u64, u8); 9] = [
 // The number of the answer to a password of the known text.
 fn answered(alloc: Global, password: &[u8], max_kib: u32, max_ops: u64) -> Result<u8, Fail> {
     let encoded = Encoded::read(alloc, KNOWN)?;
-    Ok(number_of(verify(alloc, &encoded, password, max_kib, max_ops)))
+    Ok(number_of(tested(alloc, &encoded, password, max_kib, max_ops)))
 }
 
 #[test]
@@ -48,10 +66,10 @@ fn answers_in_their_order(rt: HostRuntime) -> Result<(), Fail> {
     Ok(())
 }
 
-// Whether a password fits a text.
-fn fits(alloc: Global, text: &[u8], password: &str) -> Result<bool, Fail> {
+/// Whether a password fits a text.
+pub fn fits(alloc: Global, text: &[u8], password: &str) -> Result<bool, Fail> {
     let encoded = Encoded::read(alloc, text)?;
-    Ok(verify(alloc, &encoded, password.as_bytes(), 256, 526)?)
+    Ok(tested(alloc, &encoded, password.as_bytes(), 256, 1000)?)
 }
 
 #[test]
@@ -94,15 +112,18 @@ fn answered_keyed(
     max_kib: u32,
 ) -> Result<u8, Fail> {
     let encoded = Encoded::read(alloc, KEYED)?;
-    Ok(number_of(verify_keyed(
-        alloc,
-        &encoded,
+    let mut room = alloc;
+    let found = verify_keyed(
+        &mut room,
+        &Claim::of(&encoded),
         &[1; 32],
         secret,
         associated,
         max_kib,
         1 << 10,
-    )))
+        &mut Ticks::new(alloc),
+    );
+    Ok(number_of(found))
 }
 
 #[test]
@@ -135,12 +156,10 @@ fn each_byte_of_the_tag_counts(rt: HostRuntime) -> Result<(), Fail> {
 fn answered_with(alloc: Global, left: u32, max_ops: u64) -> Result<u8, Fail> {
     let encoded = Encoded::read(alloc, KNOWN)?;
     let mut room = Refusing { alloc, left };
-    let found = verify_in(
+    let found = verify(
         &mut room,
         &Claim::of(&encoded),
         b"password",
-        &[],
-        &[],
         256,
         max_ops,
         &mut Ticks::new(alloc),
@@ -160,14 +179,18 @@ fn the_one_request_is_refused(rt: HostRuntime) -> Result<(), Fail> {
     Ok(())
 }
 
-// Whether a password fits the text that is stored for an account. README.md shows this function.
+// Whether a password fits the text that is stored for an account. docs/LIBRARY.md shows this function.
 fn may_enter(alloc: Global, stored: &[u8], password: &[u8]) -> Result<bool, VerifyFault> {
-    match Encoded::read(alloc, stored) {
-        // at most 64 MiB and 2^18 block functions, whoever wrote the text
-        Ok(encoded) => verify(alloc, &encoded, password, 65_536, 1 << 18),
-        Err(ReadFault::OutOfMemory) => Err(VerifyFault::OutOfMemory),
-        Err(_) => Ok(false),
-    }
+    let encoded = match Encoded::read(alloc, stored) {
+        Ok(encoded) => encoded,
+        Err(ReadFault::OutOfMemory) => return Err(VerifyFault::OutOfMemory),
+        Err(_) => return Ok(false),
+    };
+    let claim = Claim::of(&encoded);
+    let mut room = alloc;
+    let mut ticks = Ticks::new(alloc);
+    // at most 64 MiB and 2^18 block functions, whoever wrote the text
+    verify(&mut room, &claim, password, 65_536, 1 << 18, &mut ticks)
 }
 
 #[test]

@@ -1,6 +1,7 @@
 //! Texts of version 0x10, with the version and without it.
 use super::reference_texts::KNOWN;
-use crate::{Encoded, verify};
+use super::verifying::fits;
+use crate::Encoded;
 use argon::Kind;
 use std::alloc::{AllocError, Global};
 use std::test::Fail;
@@ -57,15 +58,8 @@ fn is_text_of(alloc: Global, text: &[u8], kind: Kind, whole: &[u8]) -> Result<bo
     let encoded = Encoded::read(alloc, text)?;
     let mut out = Vec::new(alloc);
     encoded.write(&mut out)?;
-    let fits = verify(alloc, &encoded, b"password", 256, 526)?;
-    let fits_another = verify(alloc, &encoded, b"Password", 256, 526)?;
-    Ok(
-        encoded.kind == kind
-            && encoded.version == 0x10
-            && out.as_slice() == whole
-            && fits
-            && !fits_another,
-    )
+    let is_read = encoded.kind == kind && encoded.version == 0x10 && out.as_slice() == whole;
+    Ok(is_read && fits(alloc, text, "password")? && !fits(alloc, text, "Password")?)
 }
 
 // Whether both texts of a row are read as one value, which is written with its version.
@@ -88,8 +82,7 @@ fn lost(alloc: Global) -> Result<(u32, bool), Fail> {
     let mut text = KNOWN[..8].to_vec(alloc)?;
     text.extend_from_slice(&KNOWN[13..])?;
     let encoded = Encoded::read(alloc, &text)?;
-    let fits = verify(alloc, &encoded, b"password", 256, 526)?;
-    Ok((encoded.version, fits))
+    Ok((encoded.version, fits(alloc, &text, "password")?))
 }
 
 #[test]

@@ -2,8 +2,6 @@
 use Rattle.std.specs.Prelude.{ℕ, Bool, true, false, not, ◌==◌}
 use Rattle.argon_text.specs.declared.fault.ReadFault.{ReadFault}
 use Rattle.argon_text.specs.declared.fault.ReadFault.TheVariants as read
-use Rattle.argon_text.specs.declared.fault.VerifyFault.{VerifyFault}
-use Rattle.argon_text.specs.declared.fault.VerifyFault.TheVariants as verify
 use Rattle.pikhsen_c.specs.Status.{out_of_memory}
 
 -- whether every request for memory was granted, by the number that was answered
@@ -15,11 +13,3 @@ abbrev pub had_memory_to_read : ReadFault → Bool
 had_memory_to_read read.NotInGrammar = true
 had_memory_to_read read.OutOfRange = true
 had_memory_to_read read.OutOfMemory = false
-
--- whether every request for memory was granted, by the fault of the test of a password
-abbrev pub had_memory_to_test : VerifyFault → Bool
-had_memory_to_test verify.PasswordLength = true
-had_memory_to_test verify.InputLength = true
-had_memory_to_test verify.MemoryLimit = true
-had_memory_to_test verify.WorkLimit = true
-had_memory_to_test verify.OutOfMemory = false

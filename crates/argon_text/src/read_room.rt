@@ -1,0 +1,31 @@
+//! Where the memory of a value that is read comes from: the heap, or what a test puts in its place to refuse it.
+ghost use Rattle.std.specs.Prelude.{◌≡◌, ℕ, List, IfOk, IfErr};
+ghost use Rattle.base64.specs.Engines.{standard_no_pad};
+ghost use Rattle.base64.specs.GeneralPurpose.{IsBytes, IsDecodeFailure};
+ghost use Rattle.argon_text.specs.EncodedText.{base64_text};
+
+use base64::DecodeAllocError;
+use base64::engine::general_purpose::STANDARD_NO_PAD;
+use std::alloc::Global;
+
+/// The requests for memory of `Encoded::read`. Contracts see how many there are, and of what.
+pub(crate) trait ReadRoom {
+    // What a request for the bytes of these symbols leaves of the source, granted or not.
+    ghost after_decoded: { Self → List ℕ → Self };
+
+    /// The bytes that the symbols of base64 stand for. Takes three bytes for each four symbols begun.
+    fn decoded(&mut self, symbols: &[u8]) -> Result<Vec<u8>, DecodeAllocError>
+        ensures bytes { IfOk result (λ bytes. IsBytes bytes.items) }
+        ensures text { IfOk result (λ bytes. symbols.now ≡ base64_text bytes.items) }
+        ensures err { IfErr result (IsDecodeFailure standard_no_pad symbols.now) }
+        ensures asked { self.new ≡ after_decoded self.old symbols.now };
+}
+
+impl ReadRoom for Global {
+    ghost after_decoded = { λ room _. room };
+
+    #[tactic(auto, unfolding(crate::specs::EncodedText::base64_text))]
+    fn decoded(&mut self, symbols: &[u8]) -> Result<Vec<u8>, DecodeAllocError> {
+        STANDARD_NO_PAD.decode(*self, symbols)
+    }
+}
