@@ -1,12 +1,14 @@
 #!/usr/bin/env python3
-"""Compares whole each function that has the heap in reach.
+"""Compares whole each function that has the heap in reach, and in argon_text each that has a list.
 
 The heap (`Global`) can be copied, and no contract sees what is requested of it: a function that has it could take
 memory, or make a counter and work on that, beside what its clauses say. So the others get a source of memory, whose
 requests contracts count. Each function with `Global` or any other `Allocator` in its head, or that takes the heap out of
 a list, stands below with its body, as it was read: it passes the heap on, once, and does nothing else with it. White
-space and comments do not count, and these words stand nowhere else, except in `use` lines. Left out are files that
-tests/sources.sh compares whole, tests, and the host and the system in memory, which no program uses.
+space and comments do not count, and these words stand nowhere else, except in `use` lines. A list keeps its allocator,
+and can grow: so where a password is tested, in argon_text, each function with a list (a `Vec`, a `String`, an `Encoded`)
+in its head stands below, too. Left out are files that tests/sources.sh compares whole, tests, and the host and the
+system in memory, which no program uses.
 
     tests/heap_in_reach.py          fails if a body differs, if one is missing here, or if the heap is named elsewhere
     tests/heap_in_reach.py --told   prints the functions that have the heap, as they are now
@@ -17,13 +19,16 @@ import sys
 import textwrap
 
 from edits import FUNCTION, IMPL, TOP, opens_at, path_of
+from uncommented import without_comments
 
 # Files that have no part in a program, or that tests/sources.sh compares whole.
 OTHERS = {"host/src/growth.rt", "host/src/memory.rt", "tools/src/memory_system.rt", "tools/src/memory_source.rt"}
 WHOLE = re.compile(r"^compare \w+ crates/(\S+)$", re.MULTILINE)
-FOR_TESTS = re.compile(r"(?:pub(?:\([a-z]+\))? )?mod (?:tests|vectors|fixtures|refusing)\b")
+FOR_TESTS = re.compile(r"(?:pub(?:\([^)]*\))? )?mod (?:tests|vectors|fixtures|refusing)\b")
+OF_TESTS = re.compile(r"\bmod\s+(?:tests|vectors|fixtures|refusing)\b")
 TESTS = re.compile(r"(^|/)(tests|vectors|fixtures|refusing)(/|\.rt$)")
 HEAP = re.compile(r"\b(Global|Allocator|AllocGlobal|allocator)\b")
+LIST = re.compile(r"\b(Vec|String|Encoded)\b")
 BODIES = {
     "argon::lanes::Lanes::reserve": """
         let mut room = alloc;
@@ -45,13 +50,105 @@ BODIES = {
             Err(refusal) => refuse(host, refusal.line()),
         }
     """,
+    "argon_text::claim::Claim::of": """
+        Claim {
+            kind: encoded.kind,
+            version: encoded.version,
+            memory: encoded.memory,
+            passes: encoded.passes,
+            lanes: encoded.lanes,
+            salt: &encoded.salt,
+            tag: &encoded.tag,
+        }
+    """,
     "argon_text::encoded::Encoded::write": """
         let mut room = *out.allocator();
         self.write_in(&mut room, out)
     """,
+    "argon_text::encoded::Encoded::write_in": """
+        let text = self.text(room)?;
+        room.append(out, text.as_bytes())
+    """,
+    "argon_text::encoded::Encoded::text": """
+        let salt = room.symbols(&self.salt)?;
+        let tag = room.symbols(&self.tag)?;
+        let mut text = room.no_text();
+        room.push(&mut text, "$argon2")?;
+        room.push(&mut text, kind_name(self.kind))?;
+        push_number(room, &mut text, "$v=", self.version)?;
+        push_number(room, &mut text, "$m=", self.memory)?;
+        push_number(room, &mut text, ",t=", self.passes)?;
+        push_number(room, &mut text, ",p=", self.lanes)?;
+        push_part(room, &mut text, &salt)?;
+        push_part(room, &mut text, &tag)?;
+        Ok(text)
+    """,
+    "argon_text::encoded::push_number": """
+        room.push(text, label)?;
+        let digits = room.digits(number)?;
+        room.push(text, &digits)
+    """,
+    "argon_text::encoded::push_part": """
+        room.push(text, "$")?;
+        room.push(text, part)
+    """,
     "argon_text::encoded::Encoded::read": """
         let mut room = alloc;
         read_from(&mut room, text)
+    """,
+    "argon_text::read::read_from": """
+        let Some(fields) = fields_in(text) else {
+            return Err(ReadFault::NotInGrammar);
+        };
+        let salt = decoded(room, fields.salt)?;
+        let tag = decoded(room, fields.tag)?;
+        match encoded_of(&fields, salt, tag) {
+            Some(encoded) => Ok(encoded),
+            None => Err(ReadFault::OutOfRange),
+        }
+    """,
+    "argon_text::read::decoded": """
+        match room.decoded(symbols) {
+            Ok(bytes) => Ok(bytes),
+            Err(DecodeAllocError::OutOfMemory) => Err(ReadFault::OutOfMemory),
+            Err(DecodeAllocError::DecodeError(_)) => Err(ReadFault::NotInGrammar),
+        }
+    """,
+    "argon_text::read::encoded_of": """
+        let version = match fields.version {
+            None => 0x10,
+            Some(digits) => number_value(digits)?,
+        };
+        let memory = number_value(fields.memory)?;
+        let passes = number_value(fields.passes)?;
+        let lanes = number_value(fields.lanes)?;
+        if are_in_range(version, memory, passes, lanes, salt.len(), tag.len()) {
+            Some(Encoded {
+                kind: fields.kind,
+                version,
+                memory,
+                passes,
+                lanes,
+                salt,
+                tag,
+            })
+        } else {
+            None
+        }
+    """,
+    "argon_text::encoded::Encoded::settings": """
+        Settings {
+            kind: self.kind,
+            version: self.version,
+            memory: self.memory,
+            passes: self.passes,
+            lanes: self.lanes,
+            salt_len: self.salt.len(),
+            tag_len: self.tag.len(),
+        }
+    """,
+    "argon_text::encoded::Encoded::needs_rehash": """
+        self.settings() != *wanted
     """,
     "argon_tool::program::run": """
         let read = words(&system, alloc);
@@ -210,10 +307,6 @@ BODIES = {
 }
 
 
-def without_comments(text):
-    return [line for line in text.split("\n") if not line.lstrip().startswith("//")]
-
-
 def functions_of(path):
     """The functions of a file that have the heap, by their paths, each with its body; and whether the heap is named
     elsewhere."""
@@ -223,7 +316,8 @@ def functions_of(path):
     tests = [at for at, line in enumerate(lines) if FOR_TESTS.match(line) and lines[at - 1] == "#[cfg(test)]"]
     for at in reversed(tests):
         del lines[at:lines.index("}", at) + 1 if lines[at].endswith("{") else at + 1]
-    others = [line for line in lines if HEAP.search(line) and not line.startswith("use ") or FOR_TESTS.match(line)]
+    others = [line for line in lines if HEAP.search(line) and not line.startswith("use ")]
+    others += OF_TESTS.findall("\n".join(lines))  # this script and tests/sources.sh would not look at what is in it
     for start, head in enumerate(map(FUNCTION.match, lines)):
         if not head:
             continue
@@ -234,8 +328,8 @@ def functions_of(path):
         ends = lines.index(head[1] + "}", opens) if lines[opens].endswith("{") else opens
         named = [line for line in lines[start:opens + 1] if HEAP.search(line)]
         named += [line for line in lines[opens + 1:ends] if re.search(r"\ballocator\b", line)]
-        if named:
-            above = [it for it in map(IMPL.match, lines[:start]) if it and head[1]]
+        above = [it for it in map(IMPL.match, lines[:start]) if it and head[1]]
+        if named or crate == "argon_text" and has_list("\n".join(lines[start:opens + 1]), above):
             name = path_of(TOP / "crates" / crate, file, above[-1] if above else None, head[2])
             if f"{crate}::{name}" in found:
                 others.append(lines[start])  # one of two of this name would not be looked at
@@ -243,6 +337,11 @@ def functions_of(path):
             for line in named:
                 others.remove(line)
     return found, others
+
+
+def has_list(head, above):
+    """Whether a function with this head, in the last of these blocks, has a list."""
+    return LIST.search(head) or "self" in head and above and above[-1][2] == "Encoded"
 
 
 def in_one_form(text):
@@ -272,12 +371,12 @@ def main():
     wrong = [f"{line}: the heap is named there, or this cannot be compared" for line in others]
     for name in sorted({*found, *BODIES}):
         if name not in BODIES:
-            wrong.append(f"{name} has the heap, and its body does not stand in tests/heap_in_reach.py")
+            wrong.append(f"{name} has the heap, or a list, and its body does not stand in tests/heap_in_reach.py")
         elif name not in found:
-            wrong.append(f"{name} does not have the heap any more, and its body stands in tests/heap_in_reach.py")
+            wrong.append(f"{name} does not have it any more, and its body stands in tests/heap_in_reach.py")
         elif in_one_form(found[name]) != in_one_form(BODIES[name]):
             wrong.append(f"{name} is not what was read when its body was put into tests/heap_in_reach.py")
-    print("\n".join(wrong) or f"functions that have the heap, compared whole: {len(found)}")
+    print("\n".join(wrong) or f"functions that have the heap, or in argon_text a list, compared whole: {len(found)}")
     return 1 if wrong else 0
 
 

@@ -23,15 +23,12 @@ done
 export LC_ALL=C
 code=$(mktemp -d)
 trap 'rm -rf "$code"' EXIT
-in_one_form() {
-    sed -E 's/  +/ /g; s/ ?([^A-Za-z0-9_ ]) ?/\1/g; s/,([])}])/\1/g
-        :types; s/::<([^<>()]|<[^<>()]*>)*>//; ttypes; :paths; s/<([A-Za-z0-9_:]+)>::/\1::/; tpaths'
-}
-find crates -name out -prune -o -name tests -prune -o -name '*.rt' ! -name tests.rt ! -name vectors.rt -print |
-    while read -r file; do
-        mkdir -p "$code/${file%/*}"
-        sed '/^ *\/\//d' "$file" | tr '\n' ' ' | in_one_form >"$code/$file"
-    done
+one_form='s/  +/ /g; s/ ?([^A-Za-z0-9_ ]) ?/\1/g; s/,([])}])/\1/g
+    :types; s/::<([^<>()]|<[^<>()]*>)*>//; ttypes; :paths; s/<([A-Za-z0-9_:]+)>::/\1::/; tpaths'
+in_one_form() { sed -E "$one_form"; }
+files=$(find crates -name out -prune -o -name tests -prune -o -name '*.rt' ! -name tests.rt ! -name vectors.rt -print)
+strings=$(tests/uncommented.py "$code" $files) || fail "$strings"
+find "$code" -name '*.rt' -exec sed -s -i -E "$one_form" {} +
 # The files of this code below a folder that have this text, each as often as it has it.
 places() {
     (cd "$code" && grep -roHF -- "$(printf %s "$2" | in_one_form)" "$1" | cut -d: -f1 | sort)
@@ -40,6 +37,7 @@ places() {
 refuse() {
     ! found=$(cd "$code" && grep -roHE -- "$1" crates) || fail "$2: $found"
 }
+refuse macro_rules "what a macro of its own takes for text may be code"
 begins='(^|[];{}])(pub |pub\([a-z]+\))?'
 refuse "${begins}use [^;]* as [A-Za-z]" "a name stands for a different one: calls by it are not counted"
 counted='Ticks|Count|Matrix|Workspace|Lanes|Encoded|Enc|Dec|Vec|String|Box|Global'
@@ -70,7 +68,7 @@ expect '.plus_one()' "argon, romix and the heap of the functions for C count, ea
 expect '::reserve(' "only a source of memory reserves, on the condition that limits admit the work" \
     crates/argon_text/src/room.rt crates/argon2_command/src/room.rt crates/pikhsen_c/src/heap.rt \
     crates/pikhsen_c/src/heap.rt crates/scrypt_run/src/room.rt
-# Each function that has the heap is compared whole.
+# Each function that has the heap is compared whole, and of argon_text each that has a list.
 functions=$(tests/heap_in_reach.py) || fail "$functions"
 expect '.decode(' "a salt or a tag is decoded once" crates/argon_text/src/read_room.rt
 expect '.allocator()' "no function takes the heap out of what it is lent, but the writing of a text" \
@@ -80,6 +78,7 @@ expect 'vec![in' "lists of a given length are made by the sources of memory, and
     crates/pikhsen_c/src/heap.rt crates/romix/src/reservation.rt crates/tools/src/arguments.rt
 expect 'with_capacity(' "room for a given length is asked for by the sources of memory alone, which use lists"
 expect_below crates/argon_text '.hash(' "a hash is made once" crates/argon_text/src/verify_password.rt
+expect '.start(' "a hash is begun where it is made: its first steps are not counted" crates/argon/src/matrix.rt
 expect_below crates/argon2_command '.hash(' "a hash is made once" crates/argon2_command/src/output.rt
 # The functions for C: a list, which keeps its allocator, does not grow, and each is freed.
 expect_below crates/pikhsen_c '.write(' "a text is written where the heap is" crates/pikhsen_c/src/heap.rt
@@ -158,7 +157,9 @@ compare 7d3dc1b3eea0508bb0be62cb014654feb9119cfeaa93e8dd80e6c85d09bbc733 crates/
 compare 1d39eeb3f8dc83e08cb2923cd170bc794bbdd7cfed2d59b3f5bf262a08bd9fa2 crates/argon_text/src/read_room.rt
 compare 0718e36ffe70d272a0a6b73aba7e9fef2fa7764476b1d37b1c674c9033809646 crates/argon_text/src/room.rt
 compare c6234a04aca9f064647504f1045cc33af2c8af430f53ff6a583a83d85d28fd07 crates/argon_text/src/text_room.rt
-compare 691bd3c06895100303822f1e77060c49fd16823828c6ea548639e2d18c6b4d5e crates/pikhsen_c/src/heap.rt
+compare 71379740175d79a7bebf6a946526f623252ee63cd94b630fbda8926aebcc8d4d crates/pikhsen_c/src/heap.rt
+compare 3a1324cba20a5a03fbb4015d8da8bd52dffebec8c00f221b7f16718dd0e8a79b crates/pikhsen_c/src/reading.rt
+compare 9b460b315d4860e9eca8bc2e229a0912a4cfc94bc96eb8b0c52a4ac5928deaba crates/pikhsen_c/src/text.rt
 compare e5360ca9490e0205e36f133d97c7ea46cde1fe4598ea098d195985c0735e072c crates/romix/src/reservation.rt
 compare b7c9cf4e2e2bdf886fcc59c19cecdc1ac5c414c77aba9a0904ec74736accbc1a crates/scrypt_run/src/line.rt
 compare 266c1125320cd467b012655480d8b345a1f6f7c5ada451d46ed82e1413a73f58 crates/scrypt_run/src/room.rt
@@ -172,11 +173,13 @@ expect 'are_same(&self.bytes, code)' "the final code is compared over all its by
 expect 'difference |= left[i] ^ right[i];' "the comparison looks at every byte" crates/comparison/src/lib.rt
 compare fb4363fe3d8f4754cafa6a15c5c1d3a150f77cd070cfa0065e07306138c5f572 crates/comparison/src/lib.rt
 compare 73e8068b5e2372ec631f8eb42d7afce95fc89541c66f2a76578b05058eb9e2bf crates/pikhsen_c/src/burning.rt
-for text in '==' '!=' '.eq(' '.ne(' '.cmp(' '.starts_with(' '.position(' 'are_same('; do
-    for file in heap keyed source verifying; do
-        expect_below "crates/pikhsen_c/src/$file.rt" "$text" "what tests a password for C compares nothing itself"
+for text in '==' '!=' '.eq(' '.ne(' '.cmp(' '.starts_with(' '.position('; do
+    for file in pikhsen_c/src/heap pikhsen_c/src/keyed pikhsen_c/src/reading pikhsen_c/src/source \
+        pikhsen_c/src/verifying argon_text/src/verify_password; do
+        expect_below "crates/$file.rt" "$text" "what tests a password compares by are_same alone"
     done
 done
+expect_below crates/pikhsen_c 'are_same(' "what tests a password for C compares nothing itself"
 
 tests/encoded_texts.py crates/argon_text/src/tests/near_misses.rt || status=1
 

@@ -2,3 +2,4 @@ pub mod FirstTold
 pub mod FrontStatus
 pub mod MovedText
 pub mod NoSecret
+pub mod WithinLimits

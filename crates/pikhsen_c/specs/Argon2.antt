@@ -1,5 +1,5 @@
 -- What a caller gives to the functions for Argon2, and what they answer.
-use Rattle.std.specs.Prelude.{◌≡◌, ◌==◌, ◌||◌, ◌⊎◌, ◌+◌, ℕ, not, nat_lt, nat_le, List, [], length, replicate, Result, Ok, Err, Option, None, if◌then◌else◌}
+use Rattle.std.specs.Prelude.{◌≡◌, ◌==◌, ◌||◌, ◌⊎◌, ◌+◌, ◌≤◌, ℕ, not, nat_lt, nat_le, List, [], length, replicate, Result, Ok, Err, Option, None, if◌then◌else◌}
 use Rattle.argon.specs.Argon2.{argon2_tag}
 use Rattle.argon.specs.Counts.{work}
 use Rattle.argon.specs.Parameters.{Inputs, Parameters}
@@ -173,8 +173,11 @@ MayLackKeyedMemory text password secret_len associated_len max_kib max_ops =
 abbrev pub MayLackMemory : List ℕ → List ℕ → ℕ → ℕ → Type 0
 MayLackMemory text password = MayLackKeyedMemory text password 0 0
 
--- the count of block functions rose by those of one hash, of this password under the parameters of this text
-pub record CountsTest (text password : List ℕ) (before after : ℕ) : Type 0 where
+-- the count of block functions rose by those of one hash, of this password under the parameters of this text, which are
+-- as many as the limit at most
+pub record CountsTest (text password : List ℕ) (max_ops before after : ℕ) : Type 0 where
   pub value : Value
+  pub valid : IsValue value
   pub written : IsTextOf value text
   pub counted : after ≡ before + work (parameters_with value password)
+  pub admitted : work (parameters_with value password) ≤ max_ops

@@ -53,11 +53,11 @@ pub record AsksTwice (status : ℕ) (before after : Heap) : Type 0 where
       → (after ≡ asked_for_text before false) ⊎ (after ≡ asked_for_matrix (asked_for_text before true) false)
   pub unasked : status ≢ 0 → status ≢ out_of_memory → status ≢ wrong_buffer → after ≡ before
 
--- one request for the reading of a text, and where it is read and nothing else refuses the test of a password, one for
--- the matrix of its hash
-pub record AsksToVerify (status : ℕ) (before after : Heap) : Type 0 where
+-- one request for the reading of a text, and where it is read and nothing else refuses the test of a password, one for a
+-- matrix; where that was refused, nothing else refuses the test
+pub record AsksToVerify (IsAdmitted : Type 0) (status : ℕ) (before after : Heap) : Type 0 where
   pub asked : status ≡ 0 → after ≡ asked_for_matrix (asked_to_read before true) true
   pub asked_if_wrong : status ≡ mismatch → after ≡ asked_for_matrix (asked_to_read before true) true
   pub unasked : status ≢ 0 → status ≢ mismatch → status ≢ out_of_memory → after ≡ asked_to_read before true
   pub refused : status ≡ out_of_memory
-      → (after ≡ asked_to_read before false) ⊎ (after ≡ asked_for_matrix (asked_to_read before true) false)
+      → (after ≡ asked_to_read before false) ⊎ (IsAdmitted × (after ≡ asked_for_matrix (asked_to_read before true) false))

@@ -14,12 +14,12 @@ use crate::burning::{Told, burn};
 use crate::machine::Machine;
 use crate::source::Source;
 use crate::status;
+use crate::text::Text;
 use argon::{Inputs, Matrix, Ticks};
-use argon_text::put_tag;
 
 // Hashes, and writes the tag over the zeros of the text. It can ask for no memory.
 fn hash_into(
-    text: &mut [u8],
+    text: &mut Text,
     matrix: &mut Matrix,
     password: &[u8],
     salt: &[u8],
@@ -34,9 +34,10 @@ fn hash_into(
     requires salt { length salt.now ≡ matrix.old.parameters.salt_len }
     requires secret { length secret.now < 2 ^ 32 }
     requires associated { length associated.now < 2 ^ 32 }
-    requires zeros { text.old ≡ text_of_zeros matrix.old.parameters salt.now }
-    ensures text { text.new
+    requires zeros { text.old.list.items ≡ text_of_zeros matrix.old.parameters salt.now }
+    ensures text { text.new.list.items
         ≡ encoded_keyed_hash matrix.old.parameters password.now salt.now secret.now associated.now }
+    ensures len { length text.new.list.items ≡ length text.old.list.items }
     ensures count { ticks.new ≡ ticks.old + work matrix.old.parameters }
 {
     let mut longest = [0u8; 4096];
@@ -48,7 +49,7 @@ fn hash_into(
         associated,
     };
     matrix.hash(&inputs, tag, ticks);
-    put_tag(text, tag);
+    text.put(tag);
 }
 
 /// Copies a text to the front, and a byte 0 after it.
@@ -131,7 +132,7 @@ pub(crate) fn encode_in<S: Source>(
     let Ok(mut text) = source.text(kind, &params, salt) else {
         return status::OUT_OF_MEMORY;
     };
-    if out.len() <= text.len() {
+    if out.len() <= text.as_slice().len() {
         return status::BUFFER;
     }
     let Ok(mut matrix) = source.matrix(&params, settings.max_kib, settings.max_ops) else {
@@ -147,8 +148,8 @@ pub(crate) fn encode_in<S: Source>(
         tag_len,
         ticks,
     );
-    copy_text(&text, out);
-    *text_len = text.len();
+    copy_text(text.as_slice(), out);
+    *text_len = text.as_slice().len();
     status::OK
 }
 

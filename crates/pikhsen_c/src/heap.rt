@@ -4,7 +4,9 @@ ghost use Rattle.argon.specs.Range.{IsInRange};
 ghost use Rattle.pikhsen_c.specs.Argon2.{kind_numbered, text_of_zeros};
 ghost use Rattle.pikhsen_c.specs.Heap.{asked_for_matrix, asked_for_text, asked_for_workspace, asked_to_read, one_more};
 
+use crate::reading::Reading;
 use crate::source::Source;
+use crate::text::Text;
 use argon::{Kind, Matrix, Params};
 use argon_text::{Encoded, ReadFault, Room};
 use counter::Count;
@@ -66,7 +68,7 @@ impl Source for Heap {
 
     ghost after_reading = { λ heap _ granted. asked_to_read heap granted };
 
-    fn text(&mut self, kind: Kind, params: &Params, salt: &[u8]) -> Result<Vec<u8>, AllocError> {
+    fn text(&mut self, kind: Kind, params: &Params, salt: &[u8]) -> Result<Text, AllocError> {
         let text = text_of_zeros(self.alloc, kind, params, salt);
         self.texts.count(text.is_ok());
         text
@@ -83,11 +85,14 @@ impl Source for Heap {
         workspace
     }
 
-    fn read(&mut self, text: &[u8]) -> Result<Encoded, ReadFault> {
+    fn read(&mut self, text: &[u8]) -> Result<Reading, ReadFault> {
         let read = Encoded::read(self.alloc, text);
         self.readings
             .count(!matches!(&read, Err(ReadFault::OutOfMemory)));
-        read
+        match read {
+            Ok(encoded) => Ok(Reading::new(encoded)),
+            Err(fault) => Err(fault),
+        }
     }
 }
 
@@ -97,11 +102,11 @@ fn text_of_zeros(
     kind: Kind,
     params: &Params,
     salt: &[u8],
-) -> Result<Vec<u8>, AllocError>
+) -> Result<Text, AllocError>
     requires kind { kind ≡ kind_numbered params.now.kind }
     requires in_range { IsInRange params.now }
     requires salt { length salt.now ≡ params.now.salt_len }
-    ensures text { IfOk result (λ text. text.items ≡ text_of_zeros params.now salt.now) }
+    ensures text { IfOk result (λ text. text.list.items ≡ text_of_zeros params.now salt.now) }
 {
     let encoded = Encoded {
         kind,
@@ -114,5 +119,5 @@ fn text_of_zeros(
     };
     let mut text = Vec::new(alloc);
     encoded.write(&mut text)?;
-    Ok(text)
+    Ok(Text::new(text))
 }

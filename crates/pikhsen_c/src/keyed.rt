@@ -1,6 +1,6 @@
 //! Hashes with a secret value and associated data, as encoded texts, and the test of a password against such a text.
 //! A text holds neither.
-ghost use Rattle.std.specs.Prelude.{◌≡◌, ◌≢◌, ◌+◌, ◌++◌, ◌<◌, ◌≤◌, ◌∷◌, [], Some, length, take, drop};
+ghost use Rattle.std.specs.Prelude.{◌≡◌, ◌≢◌, ◌+◌, ◌++◌, ◌<◌, ◌≤◌, ◌∷◌, [], None, Some, length, take, drop};
 ghost use Rattle.argon_text.specs.Grammar.{IsText, IsTextInRange};
 ghost use Rattle.argon.specs.Counts.{work};
 ghost use Rattle.pikhsen_c.specs.Argon2.{CountsTest, HasKeyedPassword, HasOtherKeyedPassword, IsKeyedJudged, MayLackKeyedMemory, encoded_keyed_hash, encoded_keyed_status, hash_status, parameters_given};
@@ -123,14 +123,16 @@ pub extern "C" fn pikhsen_argon2_verify_keyed(
     ensures gap_after_12 { 12 < result.status → 14 ≤ result.status }
     ensures high { result.status ≤ 16 }
     // What was asked of the heap.
-    ensures asked { AsksToVerify result.status machine.heap result.machine.heap }
+    ensures asked { AsksToVerify (IsKeyedJudged None text.now password.now
+        (length secret.now) (length associated.now) max_kib max_ops)
+        result.status machine.heap result.machine.heap }
     ensures no_cores { result.machine.cores ≡ machine.cores }
-    // No hash begins before every refusal is ruled out, and then one.
+    // No block function is run before every refusal is ruled out, and then those of one hash.
     ensures no_work { result.status ≢ 0 → result.status ≢ mismatch → result.machine.blocks ≡ machine.blocks }
     ensures count { result.status ≡ 0
-        → CountsTest text.now password.now machine.blocks result.machine.blocks }
+        → CountsTest text.now password.now max_ops machine.blocks result.machine.blocks }
     ensures count_if_wrong { result.status ≡ mismatch
-        → CountsTest text.now password.now machine.blocks result.machine.blocks }
+        → CountsTest text.now password.now max_ops machine.blocks result.machine.blocks }
 {
     let mut machine = machine;
     let told = verify_in(

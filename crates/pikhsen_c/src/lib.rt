@@ -14,10 +14,12 @@ mod in_place;
 mod keyed;
 mod machine;
 mod message;
+mod reading;
 mod scrypt;
 mod settings;
 mod source;
 mod status;
+mod text;
 #[cfg(test)]
 mod vectors;
 mod verifying;

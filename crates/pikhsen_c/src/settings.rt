@@ -9,9 +9,10 @@ ghost use Rattle.pikhsen_c.specs.Status.{not_encoded, out_of_memory};
 
 use crate::burning::{Told, burn};
 use crate::machine::Machine;
+use crate::reading::Reading;
 use crate::source::Source;
 use crate::status;
-use argon_text::{Encoded, ReadFault, range_fault};
+use argon_text::{ReadFault, range_fault};
 
 /// What an encoded text says but for the bytes of its salt and its tag, of which it has the lengths.
 #[repr(C)]
@@ -27,10 +28,10 @@ pub struct PikhsenArgon2Settings {
 }
 
 // The settings of what was read.
-fn told_of(encoded: &Encoded) -> PikhsenArgon2Settings
-    ensures settings { result ≡ settings_told (value_of encoded.now) }
+fn told_of(reading: &Reading) -> PikhsenArgon2Settings
+    ensures settings { result ≡ settings_told (value_of reading.now.encoded) }
 {
-    let settings = encoded.settings();
+    let settings = reading.settings();
     PikhsenArgon2Settings {
         kind: settings.kind.number(),
         version: settings.version,
@@ -99,8 +100,8 @@ fn settings_in<S: Source>(source: &mut S, text: &[u8], settings: &mut PikhsenArg
     ensures asked { source.new ≡ S.after_reading source.old text.now (had_memory result) }
 {
     match source.read(text) {
-        Ok(encoded) => {
-            *settings = told_of(&encoded);
+        Ok(reading) => {
+            *settings = told_of(&reading);
             status::OK
         }
         Err(fault) => why_not(text, fault),
@@ -155,8 +156,8 @@ fn needs_rehash_in<S: Source>(
     ensures asked { source.new ≡ S.after_reading source.old text.now (had_memory result) }
 {
     match source.read(text) {
-        Ok(encoded) => {
-            *needs = differs(&told_of(&encoded), wanted);
+        Ok(reading) => {
+            *needs = differs(&told_of(&reading), wanted);
             status::OK
         }
         Err(fault) => why_not(text, fault),

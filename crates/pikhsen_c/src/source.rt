@@ -11,8 +11,10 @@ ghost use Rattle.pikhsen_c.specs.Argon2.{kind_numbered, text_of_zeros};
 ghost use Rattle.pikhsen_c.specs.Inside.Requests.{had_memory_to_read};
 ghost use Rattle.pikhsen_c.specs.Scrypt.{limits_status};
 
+use crate::reading::Reading;
+use crate::text::Text;
 use argon::{Kind, Params};
-use argon_text::{Encoded, ReadFault, Room};
+use argon_text::{ReadFault, Room};
 use romix::{Sparse, Workspace};
 use std::alloc::AllocError;
 
@@ -30,11 +32,11 @@ pub(crate) trait Source: Room {
     ghost after_reading: { Self → List ℕ → Bool → Self };
 
     /// The text that has zeros for a tag.
-    fn text(&mut self, kind: Kind, params: &Params, salt: &[u8]) -> Result<Vec<u8>, AllocError>
+    fn text(&mut self, kind: Kind, params: &Params, salt: &[u8]) -> Result<Text, AllocError>
         requires kind { kind ≡ kind_numbered params.now.kind }
         requires in_range { IsInRange params.now }
         requires salt { length salt.now ≡ params.now.salt_len }
-        ensures text { IfOk result (λ text. text.items ≡ text_of_zeros params.now salt.now) }
+        ensures text { IfOk result (λ text. text.list.items ≡ text_of_zeros params.now salt.now) }
         ensures asked { self.new ≡ after_text self.old params.now salt.now (is_ok result) };
 
     /// The memory of a derivation that the limits admit.
@@ -49,10 +51,10 @@ pub(crate) trait Source: Room {
         ensures sparse { IfOk result (λ workspace. workspace.sparse ≡ sparse.now) }
         ensures asked { self.new ≡ after_workspace self.old sparse.now max_bytes max_ops (is_ok result) };
 
-    /// What `Encoded::read` answers.
-    fn read(&mut self, text: &[u8]) -> Result<Encoded, ReadFault>
-        ensures found { IfOk result (λ e. IsTextOf (value_of e) text.now) }
-        ensures value { IfOk result (λ e. IsValue (value_of e)) }
+    /// What `Encoded::read` answers, without the lists of a value.
+    fn read(&mut self, text: &[u8]) -> Result<Reading, ReadFault>
+        ensures found { IfOk result (λ reading. IsTextOf (value_of reading.encoded) text.now) }
+        ensures value { IfOk result (λ reading. IsValue (value_of reading.encoded)) }
         ensures not_in_grammar { IsErrOf result ReadFault.NotInGrammar → IsText text.now → ⊥ }
         ensures out_of_range { IsErrOf result ReadFault.OutOfRange
             → IsText text.now × (IsTextInRange text.now → ⊥) }

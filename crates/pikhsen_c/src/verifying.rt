@@ -3,7 +3,7 @@ ghost use Rattle.std.specs.Prelude.{◌≡◌, ◌≢◌, ◌+◌, ◌≤◌, �
 ghost use Rattle.argon.specs.Counts.{work};
 ghost use Rattle.argon_text.specs.EncodedText.{IsTextOf};
 ghost use Rattle.argon_text.specs.Grammar.{HasNumbers, IsText, IsTextInRange};
-ghost use Rattle.argon_text.specs.Value.{Value};
+ghost use Rattle.argon_text.specs.Value.{IsValue, Value};
 ghost use Rattle.argon_text.specs.Verifying.{keyed_fault, keyed_tag, parameters_with};
 ghost use Rattle.argon_text.specs.View.{value_claimed, value_of};
 ghost use Rattle.pikhsen_c.specs.Argon2.{CountsTest, HasKeyedPassword, HasOtherKeyedPassword, HasOtherPassword, HasPassword, IsJudged, IsKeyedJudged, MayLackKeyedMemory, MayLackMemory};
@@ -52,7 +52,7 @@ fn answered<S: Source>(
         (parameters_with (value_claimed claim.now) password.now) max_kib max_ops true }
     ensures refused { result ≡ 9 → source.new ≡ S.after_matrix source.old
         (parameters_with (value_claimed claim.now) password.now) max_kib max_ops false }
-    // No hash begins before every refusal is ruled out, and then one.
+    // No block function is run before every refusal is ruled out, and then those of one hash.
     ensures no_work { result ≢ 0 → result ≢ 16 → ticks.new ≡ ticks.old }
     ensures count { result ≡ 0
         → ticks.new ≡ ticks.old + work (parameters_with (value_claimed claim.now) password.now) }
@@ -104,29 +104,28 @@ pub(crate) fn verify_in<S: Source>(
     ensures unasked { result ≢ 0 → result ≢ mismatch → result ≢ out_of_memory
         → source.new ≡ S.after_reading source.old text.now true }
     // Otherwise the matrix of one hash, under the caller's own limits.
-    ensures asked { result ≡ 0 → (value : Value) × IsTextOf value text.now × (source.new
+    ensures asked { result ≡ 0 → (value : Value) × IsValue value × IsTextOf value text.now × (source.new
         ≡ S.after_matrix (S.after_reading source.old text.now true) (parameters_with value password.now)
         max_kib max_ops true) }
-    ensures asked_if_wrong { result ≡ mismatch → (value : Value) × IsTextOf value text.now × (source.new
+    ensures asked_if_wrong { result ≡ mismatch → (value : Value) × IsValue value × IsTextOf value text.now × (source.new
         ≡ S.after_matrix (S.after_reading source.old text.now true) (parameters_with value password.now)
         max_kib max_ops true) }
     // Want of memory is told where one of the two was refused, the second only within the limits.
     ensures refused { result ≡ out_of_memory
         → (source.new ≡ S.after_reading source.old text.now false)
-        ⊎ ((value : Value) × IsTextOf value text.now × (keyed_fault value password.now
-        (length secret.now) (length associated.now) max_kib max_ops ≡ None) × (source.new
-        ≡ S.after_matrix (S.after_reading source.old text.now true) (parameters_with value password.now)
-        max_kib max_ops false)) }
-    // No hash begins before every refusal is ruled out, and then one.
+        ⊎ ((judged : IsKeyedJudged None text.now password.now (length secret.now) (length associated.now)
+        max_kib max_ops) × (source.new ≡ S.after_matrix (S.after_reading source.old text.now true)
+        (parameters_with judged.value password.now) max_kib max_ops false)) }
+    // No block function is run before every refusal is ruled out, and then those of one hash.
     ensures no_work { result ≢ 0 → result ≢ mismatch → ticks.new ≡ ticks.old }
-    ensures count { result ≡ 0 → CountsTest text.now password.now ticks.old ticks.new }
-    ensures count_if_wrong { result ≡ mismatch → CountsTest text.now password.now ticks.old ticks.new }
+    ensures count { result ≡ 0 → CountsTest text.now password.now max_ops ticks.old ticks.new }
+    ensures count_if_wrong { result ≡ mismatch → CountsTest text.now password.now max_ops ticks.old ticks.new }
 {
-    let encoded = match source.read(text) {
-        Ok(encoded) => encoded,
+    let reading = match source.read(text) {
+        Ok(reading) => reading,
         Err(fault) => return status::of_read(fault),
     };
-    let claim = Claim::of(&encoded);
+    let claim = reading.claim();
     answered(
         source, &claim, password, secret, associated, max_kib, max_ops, ticks,
     )
@@ -158,14 +157,15 @@ pub extern "C" fn pikhsen_argon2_verify(
     ensures gap { 9 < result.status → 14 ≤ result.status }
     ensures high { result.status ≤ 16 }
     // What was asked of the heap.
-    ensures asked { AsksToVerify result.status machine.heap result.machine.heap }
+    ensures asked { AsksToVerify (IsJudged None text.now password.now max_kib max_ops)
+        result.status machine.heap result.machine.heap }
     ensures no_cores { result.machine.cores ≡ machine.cores }
-    // No hash begins before every refusal is ruled out, and then one.
+    // No block function is run before every refusal is ruled out, and then those of one hash.
     ensures no_work { result.status ≢ 0 → result.status ≢ mismatch → result.machine.blocks ≡ machine.blocks }
     ensures count { result.status ≡ 0
-        → CountsTest text.now password.now machine.blocks result.machine.blocks }
+        → CountsTest text.now password.now max_ops machine.blocks result.machine.blocks }
     ensures count_if_wrong { result.status ≡ mismatch
-        → CountsTest text.now password.now machine.blocks result.machine.blocks }
+        → CountsTest text.now password.now max_ops machine.blocks result.machine.blocks }
 {
     let mut machine = machine;
     let told = verify_in(

@@ -10,5 +10,5 @@ returns-clause-text c =
     let parameters : Parameters = c.args.matrix.now.parameters in
     let salt : List ℕ = c.args.salt.now in
     let kept = c.hash.auto.out in
-    c.put_tag.ensures.text (value_given parameters salt (replicate parameters.tag_len 0)) c.requires.zeros (length-replicate {A = ℕ} parameters.tag_len 0 ∙ c.requires.tag_len ∙ grind (rules, kept, c.requires.short))
+    c.put.ensures.text (value_given parameters salt (replicate parameters.tag_len 0)) c.requires.zeros (length-replicate {A = ℕ} parameters.tag_len 0 ∙ c.requires.tag_len ∙ grind (rules, kept, c.requires.short))
     ∙ ap (λ (tag : List ℕ). encoded_text (value_given parameters salt tag)) c.hash.ensures.tag

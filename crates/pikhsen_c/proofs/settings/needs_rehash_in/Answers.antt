@@ -4,7 +4,7 @@ use Rattle.pikhsen_c.proofs.settings.needs_rehash_in.Goals as goal
 
 pub returns-in-Ok-clause-compared : goal.returns-in-Ok-clause-compared
 returns-in-Ok-clause-compared g c = λ told. record {
-  value = value_of c.in-Ok.encoded;
+  value = value_of c.in-Ok.reading.encoded;
   valid = c.in-Ok.ensures.value;
   written = c.in-Ok.ensures.found;
   same = λ none. sym c.told_of.ensures.settings ∙ c.differs.ensures.same none;

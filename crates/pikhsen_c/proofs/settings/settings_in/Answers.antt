@@ -3,7 +3,7 @@ use Rattle.pikhsen_c.proofs.settings.settings_in.Goals as goal
 
 pub returns-in-Ok-clause-found : goal.returns-in-Ok-clause-found
 returns-in-Ok-clause-found g c = λ told. record {
-  value = value_of c.in-Ok.encoded;
+  value = value_of c.in-Ok.reading.encoded;
   valid = c.in-Ok.ensures.value;
   written = c.in-Ok.ensures.found;
   told = c.told_of.ensures.settings;

@@ -1,0 +1,37 @@
+//! What was read of a text, without its lists.
+ghost use Rattle.std.specs.Prelude.{◌≡◌};
+
+use argon_text::{Claim, Encoded, Settings};
+
+/// What was read of a text. It lends salt and tag as bytes alone: a list would lend its allocator, so whoever had it could
+/// take memory, or make a counter, beside the source.
+#[derive(Drop)]
+pub(crate) struct Reading {
+    encoded: Encoded,
+}
+
+impl Reading {
+    ghost use Rattle.argon_text.specs.Settings.{settings_of};
+    ghost use Rattle.argon_text.specs.View.{value_claimed, value_of};
+
+    /// What was read.
+    pub(crate) fn new(encoded: Encoded) -> Reading
+        ensures encoded { result.encoded ≡ encoded }
+    {
+        Reading { encoded }
+    }
+
+    /// What it lends to the test of a password.
+    pub(crate) fn claim(&self) -> Claim<'_>
+        ensures value { value_claimed result ≡ value_of self.now.encoded }
+    {
+        Claim::of(&self.encoded)
+    }
+
+    /// The settings that the text says.
+    pub(crate) fn settings(&self) -> Settings
+        ensures settings { result ≡ settings_of (value_of self.now.encoded) }
+    {
+        self.encoded.settings()
+    }
+}

@@ -1,0 +1,38 @@
+//! The text of a hash, without its list.
+ghost use Rattle.std.specs.Prelude.{◌≡◌, length};
+ghost use Rattle.argon_text.specs.EncodedText.{encoded_text};
+ghost use Rattle.argon_text.specs.Value.{Value};
+
+use argon_text::put_tag;
+
+/// The encoded text of a hash that is being made. It stays as long as it is, and lends bytes alone: a list would lend its
+/// allocator, so whoever had it could take memory, or make a counter, beside the source.
+#[derive(Drop)]
+pub(crate) struct Text {
+    list: Vec<u8>,
+}
+
+impl Text {
+    /// The text of these bytes.
+    pub(crate) fn new(list: Vec<u8>) -> Text
+        ensures list { result.list ≡ list }
+    {
+        Text { list }
+    }
+
+    /// Its bytes.
+    pub(crate) fn as_slice(&self) -> &[u8]
+        ensures value { result.now ≡ self.now.list.items }
+    {
+        self.list.as_slice()
+    }
+
+    /// Writes a tag over the tag of the text, of the same length.
+    pub(crate) fn put(&mut self, tag: &[u8])
+        ensures text { (v : Value) → self.old.list.items ≡ encoded_text v → length v.tag ≡ length tag.now
+            → self.new.list.items ≡ encoded_text (record v { tag = tag.now }) }
+        ensures len { length self.new.list.items ≡ length self.old.list.items }
+    {
+        put_tag(&mut self.list, tag);
+    }
+}
