@@ -43,8 +43,8 @@ HEADS = {
 # What each step does, by its words in the Makefile.
 DOES = {
     "tests/sources.sh": "proofs by hand are those listed below; a counter ticks, and memory is reserved, wiped and freed, "
-    "only in the places that the script lists; functions that have the heap (`tests/heap_in_reach.py`), and files that "
-    "call the system, are those that were read",
+    "only in the places that the script lists; functions that have the heap, or in `argon_text` a list "
+    "(`tests/heap_in_reach.py`), and files that call the system, are those that were read",
     "tests/documents.py": "crates.txt lists for each crate the libraries that it names; what the pages name exists: "
     "files, definitions, tests, clauses, a row for each wrong body; "
     "pictures and tables are what scripts make of the sources and the data; the pages are short enough",
