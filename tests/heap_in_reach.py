@@ -11,7 +11,7 @@ in its head stands below, too. Left out are files that tests/sources.sh compares
 system in memory, which no program uses.
 
     tests/heap_in_reach.py          fails if a body differs, if one is missing here, or if the heap is named elsewhere
-    tests/heap_in_reach.py --told   prints the functions that have the heap, as they are now
+    tests/heap_in_reach.py --told   prints the functions that have the heap, or a list, as they are now
 """
 import pathlib
 import re
@@ -24,8 +24,8 @@ from uncommented import without_comments
 # Files that have no part in a program, or that tests/sources.sh compares whole.
 OTHERS = {"host/src/growth.rt", "host/src/memory.rt", "tools/src/memory_system.rt", "tools/src/memory_source.rt"}
 WHOLE = re.compile(r"^compare \w+ crates/(\S+)$", re.MULTILINE)
-FOR_TESTS = re.compile(r"(?:pub(?:\([^)]*\))? )?mod (?:tests|vectors|fixtures|refusing)\b")
-OF_TESTS = re.compile(r"\bmod\s+(?:tests|vectors|fixtures|refusing)\b")
+TEST_MODULE = re.compile(r"(?:pub(?:\([^)]*\))? )?mod (?:tests|vectors|fixtures|refusing)\b")
+TEST_MODULE_ANYWHERE = re.compile(r"\bmod\s+(?:tests|vectors|fixtures|refusing)\b")
 TESTS = re.compile(r"(^|/)(tests|vectors|fixtures|refusing)(/|\.rt$)")
 HEAP = re.compile(r"\b(Global|Allocator|AllocGlobal|allocator)\b")
 LIST = re.compile(r"\b(Vec|String|Encoded)\b")
@@ -313,11 +313,13 @@ def functions_of(path):
     crate = path.relative_to(TOP / "crates").parts[0]
     file = str(path.relative_to(TOP / "crates" / crate))
     lines, found = without_comments(path.read_text(encoding="utf-8")), {}
-    tests = [at for at, line in enumerate(lines) if FOR_TESTS.match(line) and lines[at - 1] == "#[cfg(test)]"]
+    tests = [at for at, line in enumerate(lines) if TEST_MODULE.match(line) and lines[at - 1] == "#[cfg(test)]"]
     for at in reversed(tests):
         del lines[at:lines.index("}", at) + 1 if lines[at].endswith("{") else at + 1]
-    others = [line for line in lines if HEAP.search(line) and not line.startswith("use ")]
-    others += OF_TESTS.findall("\n".join(lines))  # this script and tests/sources.sh would not look at what is in it
+    others = [line for line in lines if HEAP.search(line) and not re.fullmatch(r"use [^;]*;?", line)]
+    # this script and tests/sources.sh would not look at what is in such a module, or behind such a head
+    others += TEST_MODULE_ANYWHERE.findall("\n".join(lines))
+    others += [line for line in lines if re.search(r"\bfn +\w|\bfn$", line) and not FUNCTION.match(line)]
     for start, head in enumerate(map(FUNCTION.match, lines)):
         if not head:
             continue
@@ -341,7 +343,7 @@ def functions_of(path):
 
 def has_list(head, above):
     """Whether a function with this head, in the last of these blocks, has a list."""
-    return LIST.search(head) or "self" in head and above and above[-1][2] == "Encoded"
+    return LIST.search(head) or (re.search(r"\b[sS]elf\b", head) and above and above[-1][2] == "Encoded")
 
 
 def in_one_form(text):
@@ -373,7 +375,7 @@ def main():
         if name not in BODIES:
             wrong.append(f"{name} has the heap, or a list, and its body does not stand in tests/heap_in_reach.py")
         elif name not in found:
-            wrong.append(f"{name} does not have it any more, and its body stands in tests/heap_in_reach.py")
+            wrong.append(f"{name} has neither the heap nor a list any more, and its body stands in tests/heap_in_reach.py")
         elif in_one_form(found[name]) != in_one_form(BODIES[name]):
             wrong.append(f"{name} is not what was read when its body was put into tests/heap_in_reach.py")
     print("\n".join(wrong) or f"functions that have the heap, or in argon_text a list, compared whole: {len(found)}")

@@ -37,11 +37,14 @@ places() {
 refuse() {
     ! found=$(cd "$code" && grep -roHE -- "$1" crates) || fail "$2: $found"
 }
-refuse macro_rules "what a macro of its own takes for text may be code"
-begins='(^|[];{}])(pub |pub\([a-z]+\))?'
-refuse "${begins}use [^;]* as [A-Za-z]" "a name stands for a different one: calls by it are not counted"
+refuse macro_rules "a macro may make code of what the searches take for text"
+refuse '#\[path|\binclude(_str|_bytes)?!' "a file is read under a name that is not its own"
+refuse '\br#[A-Za-z_]' "a raw name is not found by its name"
+refuse '\b(Room|ReadRoom|TextRoom|Source)::[a-z_]+\(|\bMatrix::(start|hash)\(' "a call by its path is not counted"
+begins='(^|[];{}])(pub |pub\([^)]*\))?'
+refuse "${begins}use [^;]* as _*[A-Za-z0-9]" "a name stands for a different one: calls by it are not counted"
 counted='Ticks|Count|Matrix|Workspace|Lanes|Encoded|Enc|Dec|Vec|String|Box|Global'
-refuse "${begins}type [A-Z][A-Za-z]*(<[^=;]*>)?=[^;]*\\b($counted)\\b" \
+refuse "${begins}type \w+(<[^=;]*>)?=[^;]*\\b($counted)\\b" \
     "a type's name stands for a different one: calls by it are not counted"
 refuse "\\b($counted)::[a-z_]+[];,)}]" "a function that is counted stands as a value"
 refuse '[=(,](reserve|are_same)[;,)]' "a function that is counted stands as a value"
@@ -80,12 +83,16 @@ expect 'with_capacity(' "room for a given length is asked for by the sources of 
 expect_below crates/argon_text '.hash(' "a hash is made once" crates/argon_text/src/verify_password.rt
 expect '.start(' "a hash is begun where it is made: its first steps are not counted" crates/argon/src/matrix.rt
 expect_below crates/argon2_command '.hash(' "a hash is made once" crates/argon2_command/src/output.rt
-# The functions for C: a list, which keeps its allocator, does not grow, and each is freed.
+# A list, which keeps its allocator, does not grow where a hash is made or a key derived, but in the sources of memory.
 expect_below crates/pikhsen_c '.write(' "a text is written where the heap is" crates/pikhsen_c/src/heap.rt
 grows='append|clone\w*|extend\w*|from_elem|insert\w*|push\w*|(try_)?reserve\w*|(try_)?resize\w*|shrink\w*|sort\w*'
 grows="$grows|splice\w*|split_off"
-! found=$(cd "$code" && grep -roHE "(\.|::)($grows)\(|\bBox::new\(" crates/pikhsen_c | grep -v '/heap\.rt:') ||
-    fail "memory is asked for by a function for C that is not a source of memory: $found"
+! found=$(cd "$code/crates" && grep -roHE "(\.|::)($grows)\(|\bBox::new\(" \
+    argon2_command command pikhsen_c scrypt_command scrypt_run | grep -vE '/(heap|line|room)\.rt:') ||
+    fail "memory is asked for by what is not a source of memory: $found"
+# The functions for C get what has a list in types that keep it to themselves.
+! found=$(cd "$code" && grep -rlE '\b(Vec|String|Encoded)\b' crates/pikhsen_c | grep -vE '/(heap|reading|text)\.rt$') ||
+    fail "a list, which has an allocator, stands where it is not kept from others: $found"
 # Each asks its source in these places.
 in_c() {
     text=$1 reason=$2

@@ -5,9 +5,9 @@ ghost use Rattle.argon_text.specs.Value.{are_in_range};
 use crate::encoded::Encoded;
 use argon::Kind;
 
-/// A tag and what it is claimed to be the tag of, but for the password: what a value lends to `verify`, or whoever has
-/// salt and tag without an `Encoded`. The ranges are those of `Encoded`. Salt and tag are bytes alone: a list would lend
-/// its allocator too, and memory could be asked for beside the source.
+/// A tag, and the parameters and the salt with which it is claimed to be made: what a value lends to `verify`, or whoever
+/// has them without an `Encoded`. The ranges are those of `Encoded`. Salt and tag are bytes alone: a list would lend its
+/// allocator too, and memory could be asked for beside the source.
 #[derive(Drop)]
 pub struct Claim<'a> {
     /// Argon2d, Argon2i or Argon2id.

@@ -7,7 +7,7 @@
 //! told by is `specs/Grammar.antt`.
 //!
 //! A text of Argon2i is read, two passwords are tried, each in at most 256 KiB and 526 block functions,
-//! and the text is written again:
+//! and the text is written again (`Ticks` is that of `argon`):
 //!
 //! ```
 //! let text = b"$argon2i$v=19$m=256,t=2,p=1$c29tZXNhbHQ$iekCn0Y3spW+sCcFanM2xBT63UP2sghkUoHLIUpWRS8";

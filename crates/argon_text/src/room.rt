@@ -7,7 +7,8 @@ use argon::{Matrix, Params};
 use std::alloc::{AllocError, Global};
 
 /// Where `verify` and `verify_keyed` take the memory of a hash: the heap (`Global`), or a type of the caller's that
-/// counts requests or refuses some. Contracts see how many there are, of what, and what came of each.
+/// counts requests or refuses some. Contracts see how many there are, of what, and what came of each; but of the heap
+/// they see nothing, since it has no state.
 pub trait Room {
     // The state in which a request for the matrix of a hash with these parameters, which limits of so many KiB and block
     // functions admit, leaves the source; `true`: it was granted.

@@ -17,7 +17,8 @@ use std::alloc::AllocError;
 ///
 /// `max_kib` is the greatest number of blocks of 1 KiB, and `max_ops` of block functions, that the
 /// hash may take: a text from a stranger can ask for 4 TiB and for days. Both are tested before
-/// memory is asked for. `room` is asked once, for the matrix, and `ticks` counts the block functions of the one hash.
+/// memory is asked for. Where nothing else refuses, `room` is asked once, for the matrix, and `ticks` counts the block
+/// functions of the one hash.
 /// The faults, by their numbers, the first that holds: 6 where the password has not 1 to 127 bytes, 7 where `max_kib` is
 /// too little, 8 where `max_ops` is, 9 where memory was refused.
 pub fn verify<R: Room>(
@@ -41,7 +42,7 @@ pub fn verify<R: Room>(
         (parameters_with (value_claimed claim.now) password.now) max_kib max_ops true) }
     ensures refused { IfErr result (λ fault. fault ≡ VerifyFault.OutOfMemory → room.new ≡ R.after_matrix room.old
         (parameters_with (value_claimed claim.now) password.now) max_kib max_ops false) }
-    // No hash begins before every refusal is ruled out, that of memory too, and then one.
+    // No block function is run before every refusal is ruled out, that of memory too, and then those of one hash.
     ensures no_work { IfErr result (λ _. ticks.new ≡ ticks.old) }
     ensures count { IfOk result (λ _. ticks.new ≡ ticks.old + work (parameters_with (value_claimed claim.now) password.now)) }
 {
@@ -76,7 +77,7 @@ pub fn verify_keyed<R: Room>(
         (parameters_with (value_claimed claim.now) password.now) max_kib max_ops true) }
     ensures refused { IfErr result (λ fault. fault ≡ VerifyFault.OutOfMemory → room.new ≡ R.after_matrix room.old
         (parameters_with (value_claimed claim.now) password.now) max_kib max_ops false) }
-    // No hash begins before every refusal is ruled out, that of memory too, and then one.
+    // No block function is run before every refusal is ruled out, that of memory too, and then those of one hash.
     ensures no_work { IfErr result (λ _. ticks.new ≡ ticks.old) }
     ensures count { IfOk result (λ _. ticks.new ≡ ticks.old + work (parameters_with (value_claimed claim.now) password.now)) }
 {

@@ -173,8 +173,8 @@ MayLackKeyedMemory text password secret_len associated_len max_kib max_ops =
 abbrev pub MayLackMemory : List ℕ → List ℕ → ℕ → ℕ → Type 0
 MayLackMemory text password = MayLackKeyedMemory text password 0 0
 
--- the count of block functions rose by those of one hash, of this password under the parameters of this text, which are
--- as many as the limit at most
+-- the count of block functions rose by those of one hash, of this password under the parameters of this text, and these
+-- are at most `max_ops`
 pub record CountsTest (text password : List ℕ) (max_ops before after : ℕ) : Type 0 where
   pub value : Value
   pub valid : IsValue value

@@ -54,7 +54,7 @@ pub record AsksTwice (status : ℕ) (before after : Heap) : Type 0 where
   pub unasked : status ≢ 0 → status ≢ out_of_memory → status ≢ wrong_buffer → after ≡ before
 
 -- one request for the reading of a text, and where it is read and nothing else refuses the test of a password, one for a
--- matrix; where that was refused, nothing else refuses the test
+-- matrix; `IsAdmitted` says that nothing else refuses it, and holds where that request was refused
 pub record AsksToVerify (IsAdmitted : Type 0) (status : ℕ) (before after : Heap) : Type 0 where
   pub asked : status ≡ 0 → after ≡ asked_for_matrix (asked_to_read before true) true
   pub asked_if_wrong : status ≡ mismatch → after ≡ asked_for_matrix (asked_to_read before true) true

@@ -1,4 +1,4 @@
-//! What was read of a text, without its lists.
+//! What was read of a text, whose lists are not lent.
 ghost use Rattle.std.specs.Prelude.{◌≡◌};
 
 use argon_text::{Claim, Encoded, Settings};

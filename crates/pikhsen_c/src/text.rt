@@ -1,11 +1,11 @@
-//! The text of a hash, without its list.
+//! The text of a hash, whose list is not lent.
 ghost use Rattle.std.specs.Prelude.{◌≡◌, length};
 ghost use Rattle.argon_text.specs.EncodedText.{encoded_text};
 ghost use Rattle.argon_text.specs.Value.{Value};
 
 use argon_text::put_tag;
 
-/// The encoded text of a hash that is being made. It stays as long as it is, and lends bytes alone: a list would lend its
+/// The encoded text of a hash that is being made. Its length does not change, and it lends bytes alone: a list lends its
 /// allocator, so whoever had it could take memory, or make a counter, beside the source.
 #[derive(Drop)]
 pub(crate) struct Text {

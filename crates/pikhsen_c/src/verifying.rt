@@ -100,7 +100,7 @@ pub(crate) fn verify_in<S: Source>(
     ensures gap { 9 < result → 12 ≤ result }
     ensures gap_after_12 { 12 < result → 14 ≤ result }
     ensures high { result ≤ 16 }
-    // Its reading is asked for, once, and nothing more where the text or the test is refused.
+    // The text is read once, and nothing more is asked for where it or the test is refused for another reason than memory.
     ensures unasked { result ≢ 0 → result ≢ mismatch → result ≢ out_of_memory
         → source.new ≡ S.after_reading source.old text.now true }
     // Otherwise the matrix of one hash, under the caller's own limits.

@@ -186,8 +186,11 @@ fn may_enter(alloc: Global, stored: &[u8], password: &[u8]) -> Result<bool, Veri
         Err(ReadFault::OutOfMemory) => return Err(VerifyFault::OutOfMemory),
         Err(_) => return Ok(false),
     };
+    // settings, salt and tag of the text
     let claim = Claim::of(&encoded);
+    // the memory of the hash is from the heap
     let mut room = alloc;
+    // counts the work, for contracts alone
     let mut ticks = Ticks::new(alloc);
     // at most 64 MiB and 2^18 block functions, whoever wrote the text
     verify(&mut room, &claim, password, 65_536, 1 << 18, &mut ticks)
