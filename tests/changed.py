@@ -4,7 +4,7 @@
     tests/changed.py [COMMIT]
 
 What differs from the commit (HEAD), files that are not committed too, names the crates that changed. Each of them is
-proved and tested, and each crate that stands on one of them is proved, side by side, as packaging/prove.py does it. No
+proved and tested, also where its tests stand apart, in CRATE_tests, and each crate that stands on one of them is proved, side by side, as packaging/prove.py does it. No
 wrong body or definition is tried; that the text which each replaces stands in its file once is checked.
 """
 import pathlib
@@ -34,7 +34,7 @@ def main():
     inside = [parts for parts in paths if parts[0] == "crates" and len(parts) > 2]
     named = {name for _, name, part, *_ in inside if part not in ("must-fail", "wrong-bodies", "wrong-definitions")}
     uses = prove.uses_of()
-    changed = [name for name in uses if name in named]
+    changed = [name for name in uses if {name, name.removesuffix("_tests")} & named]
     touched = [name for name in uses if named & {name, *uses[name]}]
     if touched:
         steps = steps_for(changed, touched)

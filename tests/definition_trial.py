@@ -4,8 +4,9 @@ Each key of these records has the text of this file and of tests/definitions.py 
 tried again. What is printed, and what is tried when, stands in tests/wrong_definitions.py.
 
 That a vector's proof fails would show little: a name may be gone, or an answer no longer fit. So its equation is
-turned round. In a copy of the crate with the wrong definition the checker must prove that the two sides differ: then
-the value from outside refuses the definition, and no code takes part. With the right definitions rt ci proves the
+turned round. In a copy of the crate with the wrong definition, into which the crate's vectors are put where they stand
+apart, the checker must prove that the two sides differ: then the value from outside refuses the definition, and no code
+takes part. With the right definitions rt ci proves the
 equation itself, so that they cannot be refused so.
 
 Where the vector has an answer that computes (`CLAUSE = refl`), the two sides are handed to a comparison, which must
@@ -24,6 +25,7 @@ from trial import ALONE, rt
 
 NUMBER = re.compile(r"0x[0-9A-F]+|[\d ^*+()-]+")
 NAMES = {"Prelude": ("◌≢◌", "false", "nat_eq"), "Str": ("bytes_eq",)}  # which a turned equation cites
+ROOT = "src/lib.rt"
 NO_MATTER = re.compile(r"(?:statements|library|logic|crate|by-macro|help|rt:)\b")
 
 
@@ -38,7 +40,8 @@ def turned(edit, name):
             same = "nat_eq" if NUMBER.fullmatch(right) else "bytes_eq"
             clauses = {"differ": f"{same} ({left}) ({right}) ≡ false"}
         head = edit.answer.partition("\nreturns c =")[0]
-        head = head.replace(f"vectors.{edit.vector}.", f"vectors.{name}.")
+        of_vector, here = rf"Rattle\.\w+\.proofs\.vectors\.{edit.vector}\.", f"Rattle.{edit.folder.name}.proofs.vectors.{name}."
+        head = re.sub(of_vector, here, head)
         if edit.gives:
             answers = re.sub(r"\breturns\b", "returns-clause-gives", head) + "\nreturns-clause-gives c = refl\n"
         else:
@@ -62,7 +65,10 @@ def tried(crate, edits, folder, kept):
     texts, names = {}, [f"wrong_{edit.path.stem.replace('-', '_')}" for edit in edits]
     for edit in edits:
         texts = edit.put(texts)[0]
-    texts[VECTORS] = with_names(text_of(crate.folder, VECTORS, {}))
+    tests = reading.folder_of_tests(crate.folder)
+    texts[VECTORS] = with_names(text_of(tests, VECTORS, {}))
+    if tests != pathlib.Path(crate.folder):
+        texts[ROOT] = f"{text_of(crate.folder, ROOT, texts)}\n#[cfg(test)]\nmod vectors;\n"
     shutil.rmtree(folder, ignore_errors=True)
     whole, crate = crate, copy.copy(crate)
     crate.folder = shutil.copytree(crate.folder, folder, ignore=shutil.ignore_patterns("out"))

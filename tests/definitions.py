@@ -1,7 +1,7 @@
 """Wrong definitions: which equation is to refuse each, what that equation reaches, and the key of its trial.
 
 An edit of crates/CRATE/wrong-definitions/ changes specs/ alone, and its line `vector: NAME CLAUSE` names an equation
-of src/vectors.rt. tests/definition_trial.py says how it is tried. Edits of a crate share a check where no equation of
+of src/vectors.rt, in the crate or in CRATE_tests. tests/definition_trial.py says how it is tried. Edits of a crate share a check where no equation of
 one reaches a definition that another changes.
 
 A key is a sum of the toolchain's name, the rules of the trial (this file and that one), the edit, the equation with
@@ -79,9 +79,10 @@ class WrongDefinition(Edit):
         self.vector, self.clause = re.search(r"(?m)^vector: (\w+) (\w+)$", said).groups()
         self.gives = (re.findall(r"(?m)^gives: (.+)$", said) or [None])[0]
         self.row = f"`{self.vector}`: `{self.clause}`"
-        text = text_of(self.folder, VECTORS, {})
+        tests = reading.folder_of_tests(self.folder)
+        text = text_of(tests, VECTORS, {})
         self.equation, names = equations(text).get((self.vector, self.clause)), reading.imports(text)
-        answer = text_of(self.folder, f"proofs/vectors/{self.vector}/Answers.antt", {})
+        answer = text_of(tests, f"proofs/vectors/{self.vector}/Answers.antt", {})
         self.answer = answer if re.search(rf"\b{self.clause} = refl\b", answer) else ""
         self.changes, self.items, self.wrong = set(), [], "it changes what is not a definition"
         if self.texts and all(file.startswith("specs/") for file in self.texts) and self.equation:

@@ -69,7 +69,7 @@ def told():
     """By each definition the nearest equation: how many definitions it reaches, its place, its crate, and how it is called."""
     found, at = {}, 0
     for path in sorted(reading.CRATES.glob("*/src/vectors.rt")):
-        text, crate = path.read_text(encoding="utf-8"), path.parts[-3]
+        text, crate = path.read_text(encoding="utf-8"), path.parts[-3].removesuffix("_tests")
         names = reading.imports(text)
         for _, name, clauses in VECTOR.findall(text):
             for clause, said in CLAUSE.findall(clauses):

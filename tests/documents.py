@@ -58,7 +58,8 @@ SPECS = {crate: "\n".join(texts(crate, "specs", ".antt").values()) for crate in 
 
 
 def is_function(name, crate):
-    return re.search(rf"\bfn {re.escape(name)}\b", SOURCES[crate]) is not None
+    """Whether a crate, or that of its tests, has this function."""
+    return any(re.search(rf"\bfn {re.escape(name)}\b", SOURCES.get(it, "")) for it in (crate, f"{crate}_tests"))
 
 
 def tables(document):
@@ -83,6 +84,7 @@ for crate, listed in CRATES.items():
     named = re.findall(r"(?<![\w:])(\w+)::", code) + re.findall(r"\bRattle\.(\w+)\.", code)
     named = set(named) & {*CRATES, *sum(CRATES.values(), [])} - {crate}
     expect(named == set(listed), "crates.txt", f"{crate} with what it names alone: {', '.join(sorted(named))}")
+    expect(not any(it.endswith("_tests") for it in listed), "crates.txt", f"{crate} with no crate of tests below it")
 
 # Files.
 for document in DOCUMENTS:

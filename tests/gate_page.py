@@ -30,7 +30,7 @@ import pages
 import record
 from edits import TOP
 from keys import Source
-from reading import TESTS
+from reading import TESTS, folder_of_tests
 
 PAGE, STEPS, CRATES = TOP / "docs" / "GATE.md", TOP / "docs" / "gate.tsv", TOP / "docs" / "crates.tsv"
 COLUMNS = ("check", "tests", "bodies")
@@ -113,16 +113,27 @@ def seconds_of_crates():
     return {name: dict(zip(COLUMNS, cells)) for name, *cells in rows_of(CRATES)[1:]}
 
 
+def crates():
+    """The crates, lowest first, without those that have only the tests of one."""
+    return [it for it in record.below() if not it.endswith("_tests")]
+
+
+def sources(crate):
+    """The folder of each source of a crate, and of those that stand apart in the crate of its tests, with the source."""
+    for folder in dict.fromkeys((TOP / "crates" / crate, folder_of_tests(TOP / "crates" / crate))):
+        yield from ((folder, it) for it in (folder / "src").rglob("*.rt"))
+
+
 def functions(crate):
     """How many functions a crate has, laws among them, without tests and vectors."""
-    folder, left_out = TOP / "crates" / crate, TESTS | {"vectors.rt"}
-    paths = [it for it in (folder / "src").rglob("*.rt") if not left_out & {*it.relative_to(folder).parts}]
-    return sum(len(Source(folder, it).functions) for it in paths)
+    left_out = TESTS | {"vectors.rt"}
+    found = [at for at in sources(crate) if not left_out & {*at[1].relative_to(at[0]).parts}]
+    return sum(len(Source(*at).functions) for at in found)
 
 
 def tests(crate):
     """How many tests a crate has."""
-    texts = (it.read_text(encoding="utf-8") for it in (TOP / "crates" / crate / "src").rglob("*.rt"))
+    texts = (it.read_text(encoding="utf-8") for _, it in sources(crate))
     return sum(len(re.findall(r"^ *#\[test\]$", text, re.MULTILINE)) for text in texts)
 
 
@@ -156,7 +167,7 @@ def table_of_crates():
     """What each crate has, and how long its proofs and its wrong bodies take, with the runs."""
     seconds, runs, rows = seconds_of_crates(), runs_of(CRATES), []
     taken = [it for it in COLUMNS if any(row.get(it) for row in seconds.values())]
-    for crate in record.below():
+    for crate in crates():
         edits = [len(record.edits_of(crate, folder)) for folder in (*record.FOLDERS, record.DEFINITIONS)]
         cells = [seconds.get(crate, {}).get(column, "") for column in taken]
         rows.append([f"`{crate}`", functions(crate), tests(crate), *edits, *cells])
@@ -216,7 +227,7 @@ def take_column(column, path, found, why, load):
         return f"{path}: not taken, since {why}"
     seconds, runs = seconds_of_crates(), {**runs_of(CRATES), column: run_of(path, load)}
     lines = [f"# {it}: {runs[it]}" for it in COLUMNS] + ["\t".join(["crate", *COLUMNS])]
-    for crate in record.below():
+    for crate in crates():
         cells = {**dict.fromkeys(COLUMNS, ""), **seconds.get(crate, {}), column: found.get(crate, "")}
         lines.append("\t".join([crate, *(cells[it] for it in COLUMNS)]))
     CRATES.write_text("\n".join(lines) + "\n", encoding="utf-8")
@@ -241,7 +252,7 @@ def take_checks(folder, load):
         log = (folder / "logs" / crate).read_text(encoding="utf-8", errors="replace")
         if re.search(rf"^crate {crate}: modules loaded=\d+ checked=[1-9]", log, re.MULTILINE):
             found[crate] = seconds
-    left = [it for it in record.below() if it not in found]
+    left = [it for it in crates() if it not in found]
     why = f"it proved nothing of {', '.join(left)}" if left else ""
     return take_column("check", path, found, why, f"{load}, {largest / 1024:.1f} GB in the largest process")
 

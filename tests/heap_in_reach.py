@@ -24,9 +24,9 @@ from uncommented import without_comments
 # Files that have no part in a program, or that tests/sources.sh compares whole.
 OTHERS = {"host/src/growth.rt", "host/src/memory.rt", "tools/src/memory_system.rt", "tools/src/memory_source.rt"}
 WHOLE = re.compile(r"^compare \w+ crates/(\S+)$", re.MULTILINE)
-TEST_MODULE = re.compile(r"(?:pub(?:\([^)]*\))? )?mod (?:tests|vectors|fixtures|refusing)\b")
-TEST_MODULE_ANYWHERE = re.compile(r"\bmod\s+(?:tests|vectors|fixtures|refusing)\b")
-TESTS = re.compile(r"(^|/)(tests|vectors|fixtures|refusing)(/|\.rt$)")
+TEST_MODULE = re.compile(r"(?:pub(?:\([^)]*\))? )?mod (?:tests|fixtures|refusing)\b")
+TEST_MODULE_ANYWHERE = re.compile(r"\bmod\s+(?:tests|fixtures|refusing)\b")
+TESTS = re.compile(r"(^|/)(tests|fixtures|refusing)(/|\.rt$)")
 HEAP = re.compile(r"\b(Global|Allocator|AllocGlobal|allocator)\b")
 LIST = re.compile(r"\b(Vec|String|Encoded)\b")
 BODIES = {

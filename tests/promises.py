@@ -61,6 +61,7 @@ CRATES = crates()
 FUNCTIONS = {crate: functions(crate) for crate in CRATES}
 for each, below in CRATES.items():
     FUNCTIONS[each].update(handed_on(each))
+    FUNCTIONS[each.removesuffix("_tests")].update(FUNCTIONS[each])
     if "host" in below:
         FUNCTIONS[each]["Host"] = set()
 

@@ -32,6 +32,12 @@ IMPORT = re.compile(r"(?m)^ *(?:pub |ghost )?use Rattle\.(\w+\.specs\.[\w.]+)\.\
 WORD = re.compile(r"[^\s(){}\[\],;.]+")
 
 
+def folder_of_tests(folder):
+    """The folder in which a crate's tests, laws and vectors stand: CRATE_tests beside it, or its own."""
+    apart = pathlib.Path(f"{folder}_tests")
+    return apart if apart.is_dir() else pathlib.Path(folder)
+
+
 def imports(text):
     """What a file imports, by the name that it has there: the module, and its name in it."""
     found = {}

@@ -255,13 +255,13 @@ class Page:
         """The laws that speak of what the call reaches alone, and of files of definitions for laws: name, text, imports, note."""
         known = {*self.items}
         for crate in dict.fromkeys(module.split(".")[0] for module, _ in self.items):
-            path = CRATES / crate / "src" / "laws.rt"
+            path = reading.folder_of_tests(CRATES / crate) / "src" / "laws.rt"
             text = path.read_text(encoding="utf-8") if path.is_file() else ""
             for found in reading.FUNCTION.finditer(text):
                 names = reading.imports(text)
                 cited = [*reading.cited(found[0], names, self.files)]
                 if cited and all(it in known or it[0].endswith(".Laws") for it in cited) and known & {*cited}:
-                    yield found[3], found[0], names, source_of(found[0])[2], f"{crate}::laws"
+                    yield found[3], found[0], names, source_of(found[0])[2], f"{path.parts[-3]}::laws"
 
     def kit_words(self):
         """The names of the toolchain's definitions, but for its standard library's, that are cited here."""

@@ -1,6 +1,6 @@
 #!/usr/bin/env python3
 """Tests the records of wrong bodies and of wrong definitions: which keys change with which text, in a copy of the crate
-macs, that turns are even, and that a body which the types refuse is tried alone, and for its own line.
+macs and of its tests, that turns are even, and that a body which the types refuse is tried alone, and for its own line.
 """
 import pathlib
 import shutil
@@ -16,6 +16,7 @@ from edits import TOP, Edit, in_groups
 from keys import Tree
 
 CRATE = "macs"
+TESTS = f"../{CRATE}_tests"
 ALL = {path.stem for path in record.edits_of(CRATE, record.BODIES)}
 ALL_DEFINITIONS = {path.stem for path in record.edits_of(CRATE, record.DEFINITIONS)}
 # A text that stands in a file of the crate once, what is put in its place, and the edits that then have other keys.
@@ -40,16 +41,17 @@ CHANGES_OF_DEFINITIONS = (
     ("a definition", "specs/Pbkdf2.antt", "take n (", "take 1 (", OF_33_BYTES),
     ("one that all reach", "specs/HmacSha256.antt", "sha256 (inner_key", "sha256 (outer_key", ALL_DEFINITIONS),
     ("a comment on one", "specs/Pbkdf2.antt", "-- T_i", "-- the T_i", set()),
-    ("an equation", "src/vectors.rt", "0x49 ∷ [] }", "0x4A ∷ [] }", OF_33_BYTES),
-    ("another equation", "src/vectors.rt", "0x83 ∷ [] }", "0x84 ∷ [] }", set()),
-    ("an answer", "proofs/vectors/pbkdf2_of_33_bytes/Answers.antt", "key_block joined", "joined", OF_33_BYTES),
+    ("an equation", f"{TESTS}/src/vectors.rt", "0x49 ∷ [] }", "0x4A ∷ [] }", OF_33_BYTES),
+    ("another equation", f"{TESTS}/src/vectors.rt", "0x83 ∷ [] }", "0x84 ∷ [] }", set()),
+    ("an answer", f"{TESTS}/proofs/vectors/pbkdf2_of_33_bytes/Answers.antt", "key_block joined", "joined", OF_33_BYTES),
     ("the edit", "wrong-definitions/whole-blocks-alone.edit", "new: ", "new:  ", {"whole-blocks-alone"}),
 )
 
 
 def tree_of(room):
-    """A copy of the crate and of the rules."""
-    shutil.copytree(TOP / "crates" / CRATE, room / "crates" / CRATE, ignore=shutil.ignore_patterns("out"))
+    """A copy of the crate, of its tests, and of the rules."""
+    for name in (CRATE, f"{CRATE}_tests"):
+        shutil.copytree(TOP / "crates" / name, room / "crates" / name, ignore=shutil.ignore_patterns("out"))
     (room / "tests").mkdir()
     for name in (*bodies.RULES, *definitions.RULES):
         shutil.copy(TOP / "tests" / name, room / "tests")
@@ -94,7 +96,7 @@ def keys_of_definitions_change(checks, folder):
         checks.that(f"keys of definitions: {what}", found, expected)
     found = other(folder, "tests/definitions.py", "MOST = 8", "MOST = 7", keys_of_definitions)
     checks.that("keys of definitions: a rule of the trial", found, ALL_DEFINITIONS)
-    found = other(folder, f"crates/{CRATE}/src/vectors.rt", "0x49 ∷ []", "0x4A ∷ []")
+    found = other(folder, f"crates/{CRATE}/{TESTS}/src/vectors.rt", "0x49 ∷ []", "0x4A ∷ []")
     checks.that("keys: an equation", found, set())
 
 

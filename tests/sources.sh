@@ -17,8 +17,8 @@ for proof in $(grep -o 'crates/[A-Za-z0-9_/]*/Proof\.antt' docs/GATE.md | sort -
     test -f "$proof" || fail "docs/GATE.md lists $proof, which is not there"
 done
 
-# The code of the crates, without comments, tests and vectors, and in one form: white space between words alone, no
-# comma before a bracket that closes, `f(` for `f::<T>(`, and `T::f` for `<T>::f`. So neither layout nor a type hides a
+# The code of the crates, without comments and tests, and in one form: white space between words alone, no comma
+# before a bracket that closes, `f(` for `f::<T>(`, and `T::f` for `<T>::f`. So neither layout nor a type hides a
 # call.
 export LC_ALL=C
 code=$(mktemp -d)
@@ -26,7 +26,7 @@ trap 'rm -rf "$code"' EXIT
 one_form='s/  +/ /g; s/ ?([^A-Za-z0-9_ ]) ?/\1/g; s/,([])}])/\1/g
     :types; s/::<([^<>()]|<[^<>()]*>)*>//; ttypes; :paths; s/<([A-Za-z0-9_:]+)>::/\1::/; tpaths'
 in_one_form() { sed -E "$one_form"; }
-files=$(find crates -name out -prune -o -name tests -prune -o -name '*.rt' ! -name tests.rt ! -name vectors.rt -print)
+files=$(find crates -name out -prune -o -name tests -prune -o -name '*.rt' ! -name tests.rt -print)
 strings=$(tests/uncommented.py "$code" $files) || fail "$strings"
 find "$code" -name '*.rt' -exec sed -s -i -E "$one_form" {} +
 # The files of this code below a folder that have this text, each as often as it has it.

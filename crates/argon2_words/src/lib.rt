@@ -3,13 +3,9 @@
 #![tactic(auto)]
 
 mod items;
-#[cfg(test)]
-mod laws;
 mod refusal;
 mod request;
 mod settings;
-#[cfg(test)]
-mod vectors;
 
 pub use items::Form;
 pub use refusal::Argon2Refusal;

@@ -21,11 +21,7 @@
 
 mod compression;
 mod hasher;
-#[cfg(test)]
-mod tests;
 mod variable_length;
-#[cfg(test)]
-mod vectors;
 
 pub use hasher::Blake2b;
 pub use variable_length::long_hash;

@@ -53,12 +53,6 @@ mod header;
 mod header_bytes;
 mod held;
 mod keys;
-#[cfg(test)]
-mod laws;
-#[cfg(test)]
-mod tests;
-#[cfg(test)]
-mod vectors;
 
 pub use dec::Dec;
 pub use enc::Enc;

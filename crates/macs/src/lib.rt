@@ -24,10 +24,3 @@ mod pbkdf2_sha256;
 pub use hmac::Hmac;
 pub use pbkdf2_pair::Pbkdf2Pair;
 pub use pbkdf2_sha256::{pbkdf2, pbkdf2_block};
-
-#[cfg(test)]
-mod laws;
-#[cfg(test)]
-mod tests;
-#[cfg(test)]
-mod vectors;

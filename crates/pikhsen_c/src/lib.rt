@@ -20,7 +20,6 @@ mod settings;
 mod source;
 mod status;
 mod text;
-#[cfg(test)]
 mod vectors;
 mod verifying;
 mod version;

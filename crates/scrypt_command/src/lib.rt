@@ -4,11 +4,7 @@
 //! what a run comes to, whatever the host is.
 #![tactic(auto)]
 
-#[cfg(test)]
-mod laws;
 mod run;
-#[cfg(test)]
-mod tests;
 
 pub use run::scrypt;
 pub use scrypt_request::ScryptRefusal;

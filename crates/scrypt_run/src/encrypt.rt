@@ -249,6 +249,3 @@ pub(crate) fn encrypt<R: Room, H: Host>(
     let enc = start(room, host, asked, &sparse, ticks)?;
     write_file(host, asked.task.outfile, enc)
 }
-
-#[cfg(test)]
-mod tests;

@@ -48,17 +48,11 @@ mod decrypt;
 mod encrypt;
 mod front;
 mod inspect;
-#[cfg(test)]
-mod laws;
 mod line;
 mod passphrase;
 mod refusal;
 mod room;
 mod run_request;
-#[cfg(test)]
-mod tests;
-#[cfg(test)]
-mod vectors;
 
 pub use line::Line;
 pub use room::Room;

@@ -7,8 +7,6 @@ mod costs;
 mod request;
 mod salt;
 mod task;
-#[cfg(test)]
-mod vectors;
 mod words;
 
 pub use request::read_request;

@@ -1,5 +1,0 @@
-use Rattle.encfile.proofs.Files.{GivesBack-is}
-use Rattle.encfile.proofs.laws.file_gives_its_text_back.Goals as goal
-
-pub returns : goal.returns
-returns c = record { back = GivesBack-is }

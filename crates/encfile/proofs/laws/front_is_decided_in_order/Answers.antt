@@ -1,5 +1,0 @@
-use Rattle.encfile.proofs.Fronts.{front_refusal-order}
-use Rattle.encfile.proofs.laws.front_is_decided_in_order.Goals as goal
-
-pub returns : goal.returns
-returns c = record { decided = front_refusal-order }

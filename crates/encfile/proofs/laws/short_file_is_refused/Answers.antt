@@ -1,5 +1,0 @@
-use Rattle.encfile.proofs.Fronts.{front_refusal-short}
-use Rattle.encfile.proofs.laws.short_file_is_refused.Goals as goal
-
-pub returns : goal.returns
-returns c = record { short = front_refusal-short }

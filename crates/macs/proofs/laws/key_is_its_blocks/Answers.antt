@@ -1,5 +1,0 @@
-use Rattle.macs.proofs.Parts.{key-block}
-use Rattle.macs.proofs.laws.key_is_its_blocks.Goals as goal
-
-pub returns : goal.returns
-returns c = record { block = key-block }

@@ -1,0 +1,8 @@
+use Rattle.std.proofs.Common.{refl}
+use Rattle.sha2.specs.Sha256.{compress, digest_bytes, first_words, hash_after, rounds, schedule, sha256}
+use Rattle.macs.specs.HmacSha256.{hmac_sha256, key_block}
+use Rattle.macs_tests.proofs.vectors.hmac_sha256_of_a_long_key.Goals as goal
+
+pub returns : goal.returns
+unfolding compress digest_bytes first_words hash_after rounds schedule sha256 hmac_sha256 key_block
+returns c = record { code = refl }

@@ -1,7 +1,0 @@
-use Rattle.std.proofs.Common.{refl}
-use Rattle.encfile.specs.Front.{format_refusal, limits_refusal}
-use Rattle.scrypt_run.proofs.vectors.refusal_of_a_short_input.Goals as goal
-
-pub returns : goal.returns
-unfolding format_refusal limits_refusal
-returns c = record { short = refl }
