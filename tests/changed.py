@@ -16,16 +16,20 @@ sys.path.insert(0, str(TOP / "packaging"))
 sys.dont_write_bytecode = True
 import prove  # noqa: E402
 
+APART = "_tests"  # how the crate is called that has a crate's tests, if they stand apart
+
 
 def changed_files(base):
     named = ["git", "diff", "--name-only", base], ["git", "ls-files", "--others", "--exclude-standard"]
     return [line for words in named for line in subprocess.check_output(words, cwd=TOP, text=True).splitlines()]
 
 
-def steps_for(changed, touched):
-    """The steps that prove the crates that are touched, with what they stand on, and test those that changed."""
-    tests = [prove.Step(f"{name}-tests", name, ["test"], [name]) for name in changed]
-    return prove.steps_for(touched) + tests
+def steps_for(touched, tested):
+    """The steps that prove the crates that are touched, with what they and the tests stand on, and run these tests."""
+    uses, apart = prove.uses_of(), [name for name in tested if name.endswith(APART)]
+    below = [it for name in apart for it in uses[name]]
+    tests = [prove.Step(f"{name}-tests", name, ["test"], uses[name] if name in apart else [name]) for name in tested]
+    return prove.steps_for([*touched, *below]) + tests
 
 
 def main():
@@ -34,17 +38,18 @@ def main():
     inside = [parts for parts in paths if parts[0] == "crates" and len(parts) > 2]
     named = {name for _, name, part, *_ in inside if part not in ("must-fail", "wrong-bodies", "wrong-definitions")}
     uses = prove.uses_of()
-    changed = [name for name in uses if {name, name.removesuffix("_tests")} & named]
-    touched = [name for name in uses if named & {name, *uses[name]}]
-    if touched:
-        steps = steps_for(changed, touched)
+    changed = [name for name in uses if name in named]
+    touched = [name for name in uses if named & {name, *uses[name]} and not name.endswith(APART)]
+    tested = list(dict.fromkeys(name + APART if name + APART in uses else name for name in changed))
+    if changed:
+        steps = steps_for(touched, tested)
         prove.say(f"{len(touched)} crates to prove, changed since {base} or above one that is: {', '.join(touched)}.")
-        prove.say(f"{len(changed)} to test: {', '.join(changed)}. With what all of these stand on, {len(steps)} steps:")
+        prove.say(f"{len(tested)} to test: {', '.join(tested)}. With what all of these stand on, {len(steps)} steps:")
         prove.prove_or_exit(steps)
     for script in ("tests/sources.sh", "tests/documents.py"):
         if subprocess.run([script], cwd=TOP).returncode != 0:
             sys.exit(f"{script} failed")
-    prove.say(f"{len(touched)} crates are proved, the tests of {len(changed)} pass, and sources and pages agree.")
+    prove.say(f"{len(touched)} crates are proved, the tests of {len(tested)} pass, and sources and pages agree.")
 
 
 main()

@@ -27,7 +27,7 @@ import prove  # noqa: E402
 LINE = re.compile(r" ?(\d+) of (\d+) ([\w-]+), (\d+ s|as it was proved before)(?:; under way: (.*))?")
 LEVEL = "x86-64-v2"
 PROGRAMS = ("bin/argon2", "bin/scrypt", f"bin/{LEVEL}/argon2", f"bin/{LEVEL}/scrypt")
-NO_PROGRAM = ["pikhsen_c", "command"]  # what no program stands on
+NO_PROGRAM = ["pikhsen_c", "command", *(it for it in prove.listed() if it.endswith("_tests"))]  # what no program stands on
 SCRYPT = ["scrypt_run", "scrypt_command", "argon_tool", "scrypt_tool"]
 # Says that a crate is proved whose text has not the word "broken", after a minute where it has the word "slow". Like rt
 # it lets no other run work in the crate and in what it stands on, keeps a library, and then says nothing.
@@ -254,6 +254,19 @@ def checks_what_changed(checks, tree):
     checks.that("make check: begun", tree.begun(), sorted([*touched, "argon_text"]))
     checks.that("make check: tests", [it[1] for it in tree.noted("begin") if "test" in it[2]], ["argon_text"])
     checks.that("make check: the lines", len([it for it in said if LINE.fullmatch(it)]), 23)
+    subprocess.run([*git, "commit", "-q", "-a", "-m", "argon_text"], cwd=tree.top, env=tree.environment, check=True)
+    tree.write("scrypt_command", "changed\n")
+    status, said = tree.make("check")
+    checks.that("make check, tests apart", status, 0)
+    begun = [(it[1], it[2][0]) for it in tree.noted("begin")]
+    expected = [("command", "lib"), ("scrypt_command", "lib"), ("scrypt_command_tests", "test"), ("scrypt_tool", "check")]
+    checks.that("make check, tests apart: begun", sorted(begun), expected)
+    tree.write("scrypt_command_tests", "changed\n")
+    tree.write("scrypt_command", "as it was\n")
+    status, said = tree.make("check")
+    checks.that("make check, tests alone", status, 0)
+    checks.that("make check, tests alone: tested", any(it.startswith("1 to test: scrypt_command_tests.") for it in said), True)
+    tree.write("scrypt_command_tests", "as it was\n")
     tree.write("argon_text", "broken\n")
     status, said = tree.make("check")
     checks.that("make check fails", (status != 0, tree.begun()), (True, ["argon_text"]))
