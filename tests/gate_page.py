@@ -37,7 +37,7 @@ COLUMNS = ("check", "tests", "bodies")
 # How the page calls each column of seconds, and what it says of it.
 HEADS = {
     "check": ("check", "of the processor, for the proof of the crate from nothing"),
-    "tests": ("with tests", "of the processor, for the second proof of a crate that has tests"),
+    "tests": ("with tests", "of the processor, for the second proof of a crate that has tests, or for the crate that has them"),
     "bodies": ("wrong bodies", "by the clock, for all its edits, where checks that run side by side are added up"),
 }
 # What each step does, by its words in the Makefile.
