@@ -57,7 +57,8 @@ test: $(filter bin/x86-64-v3/%,$(wildcard $(LEVELS:%=bin/%/scrypt))) ## the gate
 	@tests/step.sh tests/outside_plants.py
 	@echo 'seconds, those of the processors, and step:' && cat bin/gate.tsv
 
-audit: ## tries each wrong body, wrong definition and wrong line outside the proofs, whatever the records say, and writes them anew
+# A wrong line may need the programs or the library to be found.
+audit: bin/x86-64-v2/scrypt bin/lib/libpikhsen.so.0 ## tries each wrong body, wrong definition and wrong line outside the proofs, whatever the records say, and writes them anew
 	tests/wrong_bodies.py --audit
 	tests/wrong_definitions.py --audit
 	tests/outside_plants.py --audit
