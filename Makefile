@@ -35,8 +35,8 @@ check: ## proves what differs from the last commit and what stands on it, and ru
 	tests/changed.py
 
 # What was built for another level is tested, too, and built anew before, if the sources changed. With SINCE=COMMIT, a
-# commit that the gate passed, a wrong body or definition is taken by record only where that commit has the row.
-test: $(filter bin/x86-64-v3/%,$(wildcard $(LEVELS:%=bin/%/scrypt))) ## the gate: proofs from nothing, tests, wrong bodies and definitions that are new or in turn, the built programs
+# commit that the gate passed, a wrong body, definition or line is taken by record only where that commit has its row.
+test: $(filter bin/x86-64-v3/%,$(wildcard $(LEVELS:%=bin/%/scrypt))) ## the gate: proofs, tests, wrong bodies, definitions and lines that are new or in turn, the built programs
 	@rm -rf bin/gate.tsv bin/rooms
 	@tests/step.sh tests/sources.sh
 	@tests/step.sh tests/documents.py
@@ -54,7 +54,7 @@ test: $(filter bin/x86-64-v3/%,$(wildcard $(LEVELS:%=bin/%/scrypt))) ## the gate
 	@for level in $(LEVELS); do test ! -x bin/$$level/scrypt || tests/step.sh tests/outside.sh bin/$$level || exit 1; done
 	@tests/step.sh tests/c_face.py
 	@tests/step.sh tests/builds.py --check
-	@tests/step.sh tests/outside_plants.py
+	@tests/step.sh tests/outside_plants.py $(SINCE:%=--since %)
 	@echo 'seconds, those of the processors, and step:' && cat bin/gate.tsv
 
 # A wrong line may need the programs or the library to be found.

@@ -31,15 +31,19 @@ CRATES, ROOMS, LOGS = TOP / "crates", TOP / "bin/rooms", TOP / "bin/logs"
 MEMORY = 3 << 20  # KiB for a check: few take more
 MOST = 4  # processes that share the work of one crate: each loads the libraries anew, so more gain little
 BESIDE = 10  # how nice a crate is to the one that holds up most others
-SMALL = 60  # seconds of the processor below which a check mostly loads libraries, which each process would do again
+SMALL = 50  # seconds of the processor below which a check mostly loads libraries, which each process would do again
 
-# Seconds of the processor for a check from nothing by one process. Only the order of the crates rests on them.
-SECONDS = {
-    "four_words": 12, "counter": 14, "blake": 64, "comparison": 13, "macs": 30, "aes_ctr": 112, "romix": 138,
-    "encfile": 92, "argon": 226, "argon_text": 189, "host": 120, "command_words": 20, "argon2_words": 80,
-    "scrypt_request": 30, "scrypt_words": 240, "argon2_command": 93, "scrypt_run": 239, "scrypt_command": 55,
-    "command": 59, "tools": 299, "argon_tool": 71, "scrypt_tool": 109, "pikhsen_c": 200,
-}
+
+def seconds_of_checks():
+    """The seconds of the processor for a check of each crate from nothing, as docs/crates.tsv has them, if it is there.
+    Only the order of the crates rests on them."""
+    path = TOP / "docs/crates.tsv"
+    lines = path.read_text(encoding="utf-8").splitlines() if path.is_file() else []
+    _, *rows = [it.split("\t") for it in lines if not it.startswith("#")] or [[]]
+    return {crate: int(check) for crate, check, *_ in rows if check}
+
+
+SECONDS = seconds_of_checks()
 
 
 class Step:

@@ -2,15 +2,16 @@
 """Puts wrong lines into what stands outside the proofs, in copies: module, header, pages, completions, packaging, and
 sources where no contract sees what they do. A test must find each.
 
-    tests/outside_plants.py           those whose row of the record has another key, and by turns a tenth of the others
-    tests/outside_plants.py --audit   all of them
-    tests/outside_plants.py NAME..    these
+    tests/outside_plants.py [--since COMMIT]   those that are new, and by turns a tenth of the others
+    tests/outside_plants.py --audit            all of them
+    tests/outside_plants.py NAME..             these
 
 A plant is a file of tests/outside-plants/: what it puts in the place of what, in which file, as a wrong body does, and
 the test that must fail for it. A line `and: TEXT` is the next line of the text above it. The record has a row for each
 that was found: its name, its key, and what the test said. A key is a sum of the plant, of the file that it changes as
-it stands, and of the test with all that it reads of tests/. Rows are written by a trial alone. A test that fails over
-an unchanged copy finds nothing.
+it stands, and of the test with all that it is made of. A plant is new where its row has another key, or there is none;
+with --since a row counts only if that commit has it, too. Rows are written by a trial alone. A test that fails over an
+unchanged copy finds nothing.
 """
 import argparse
 import concurrent.futures
@@ -24,6 +25,7 @@ import sys
 import tempfile
 import time
 
+import record
 import turns
 
 TOP = pathlib.Path(__file__).resolve().parent.parent
@@ -94,21 +96,28 @@ class Plant:
 
 
 def read_by(test):
-    """The files of tests/ that a test is made of, or runs, and the table of values where it reads that."""
+    """The files that a test is made of: what it imports, the C that it compiles, what a script of the shell runs, and the
+    table of values where it reads that."""
     found, left = [], [test]
     while left:
         name = left.pop()
         if name not in found and (TOP / name).is_file():
             found.append(name)
             text = (TOP / name).read_text(encoding="utf-8")
-            made_of = re.findall(r"^(?:import |from |tests/(?=\w+\.py\b))(\w+)", text, re.MULTILINE)
-            left += [f"tests/{it}.py" for it in made_of]
+            modules = re.findall(r"^ *(?:import|from) (\w+)", text, re.MULTILINE)
+            left += [f"{folder}/{it}.py" for it in modules for folder in ("tests", "packaging", "bench")]
+            left += [f"tests/{it}" for it in re.findall(r"\b\w+\.c\b", text)]
+            left += re.findall(r"\btests/\w+\.(?:py|sh)\b", text) if name.endswith(".sh") else []
     return sorted(found) + (["docs/values.tsv"] if "tests/values_table.py" in found else [])
 
 
-def rows_of_record():
-    lines = RECORD.read_text(encoding="utf-8").splitlines() if RECORD.is_file() else []
-    return {name: (key, said) for name, key, said in (line.split("\t") for line in lines)}
+def rows_of_record(commit=None):
+    """The rows of the record, as it stands or stood at a commit, by the plant's name."""
+    if commit:
+        text = record.git("show", f"{commit}:{RECORD.relative_to(TOP)}") or ""
+    else:
+        text = RECORD.read_text(encoding="utf-8") if RECORD.is_file() else ""
+    return {name: (key, said) for name, key, said in (line.split("\t") for line in text.splitlines())}
 
 
 def sources():
@@ -161,10 +170,12 @@ def chosen(plants, given):
         return [it for it in plants if it.name in given.names], ""
     if given.audit:
         return plants, ""
-    rows, commit = rows_of_record(), turns.commit()
-    in_turn = turns.turns({it.name: TESTS[it.test][1] for it in plants})
-    turn = turns.turn(commit)
-    now = [it for it in plants if rows.get(it.name, ("",))[0] != it.key() or in_turn[it.name] == turn]
+    rows = rows_of_record()
+    before = rows_of_record(given.since) if given.since else rows
+    rows = {name: row for name, row in rows.items() if before.get(name) == row}
+    known = {it.name for it in plants if it.name in rows and rows[it.name][0] == it.key()}
+    in_turn, turn = turns.turns({it.name: TESTS[it.test][1] for it in plants}), turns.turn(turns.commit())
+    now = [it for it in plants if it.name not in known or in_turn[it.name] == turn]
     return now, f"; turn {turn} of {turns.TURNS}"
 
 
@@ -204,15 +215,18 @@ def trial(plants, lib):
 def main():
     parser = argparse.ArgumentParser()
     parser.add_argument("--audit", action="store_true")
+    parser.add_argument("--since", metavar="COMMIT")
     parser.add_argument("names", nargs="*", metavar="NAME")
     given, begun = parser.parse_args(), time.monotonic()
+    if given.since and not record.git("rev-parse", "--verify", "--quiet", given.since + "^{commit}"):
+        parser.error(f"there is no commit {given.since}")
     plants = [Plant(it) for it in sorted(FOLDER.glob("*.edit"))]
     wrong = [it.name for it in plants if it.test not in TESTS] + [
         it for it in given.names if it not in [plant.name for plant in plants]]
     if wrong:
         sys.exit(f"no plant of this name, or its test is none of these: {', '.join(wrong)}")
-    now, how = chosen(plants, given)
-    now = that_can_be_tried(now)
+    wanted, how = chosen(plants, given)
+    now = that_can_be_tried(wanted)
     # of the texts as they are before the trial: what is changed meanwhile has another
     keys = {it.name: it.key() for it in plants}
     with tempfile.TemporaryDirectory(prefix="pikhsen-plants-") as folder:
@@ -225,8 +239,9 @@ def main():
     RECORD.write_text("".join(lines), encoding="utf-8")
     for name in lost:
         print(f"FAILED {name}: not found, or what it replaces does not stand there once")
-    by_record = len(plants) - len(now)
-    print(f"{len(now)} tried, {by_record} by record, in {time.monotonic() - begun:.0f} s{how}")
+    by_record, left_out = len(plants) - len(wanted), len(wanted) - len(now)
+    tried = f"{len(now)} tried, {by_record} by record" + f", {left_out} left out" * bool(left_out)
+    print(f"{tried}, in {time.monotonic() - begun:.0f} s{how}")
     print(f"{len(now) - len(lost)} passed, {len(lost)} failed")
     sys.exit(1 if lost else 0)
 

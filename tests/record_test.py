@@ -1,13 +1,16 @@
 #!/usr/bin/env python3
 """Tests the records of wrong bodies and of wrong definitions: which keys change with which text, in a copy of the crate
-macs and of its tests, that turns are even, and that a body which the types refuse is tried alone, and for its own line.
+macs and of its tests, that turns are even, and that a body which the types refuse is tried alone, and for its own line;
+and of wrong lines, what their keys are of, and which rows count since a commit.
 """
+import argparse
 import pathlib
 import shutil
 import tempfile
 
 import definitions
 import keys as bodies
+import outside_plants
 import record
 import turns
 from checking import Checks
@@ -109,6 +112,33 @@ def turns_are_even(checks):
     checks.that("turns: a commit is one of them", turns.turn("e44a48b0") in range(turns.TURNS), True)
 
 
+def searches_are_read(checks):
+    """The key of a wrong line of the sources has in it each script that searches them."""
+    read = outside_plants.read_by("tests/sources.sh")
+    expected = ["tests/edits.py", *(f"tests/{it}.py" for it in ("encoded_texts", "heap_in_reach", "uncommented"))]
+    checks.that("keys of lines: the searches", read, sorted([*expected, "tests/sources.sh"]))
+    read = outside_plants.read_by("tests/build_scripts.py")
+    checks.that("keys of lines: a module of packaging/", "packaging/prove.py" in read, True)
+
+
+def rows_count_since(checks):
+    """A wrong line whose row the commit has otherwise, or not at all, is tried."""
+    plants = [outside_plants.Plant(it) for it in sorted(outside_plants.FOLDER.glob("*.edit"))]
+    rows, git = outside_plants.RECORD.read_text(encoding="utf-8").splitlines(keepends=True), record.git
+
+    def tried(since, had=()):
+        record.git = lambda *words: "".join(had) if words[0] == "show" else git(*words)
+        now, _ = outside_plants.chosen(plants, argparse.Namespace(names=[], audit=False, since=since))
+        record.git = git
+        return {it.name for it in now}
+
+    name, key, said = rows[0].split("\t")
+    otherwise = f"{name}\t{key[::-1]}\t{said}"
+    checks.that("since: the rows that a commit has", tried("a commit", rows), tried(None))
+    checks.that("since: a row that it has otherwise", tried("a commit", [otherwise, *rows[1:]]), tried(None) | {name})
+    checks.that("since: a commit without rows", tried("a commit"), {it.name for it in plants})
+
+
 def types_refuse_alone(checks):
     edits = [Edit(path) for crate in record.below() for path in record.edits_of(crate, record.BODIES)]
     named = [it for it in edits if it.types]
@@ -129,6 +159,8 @@ def main():
         keys_change(checks, folder)
         keys_of_definitions_change(checks, folder)
     turns_are_even(checks)
+    searches_are_read(checks)
+    rows_count_since(checks)
     types_refuse_alone(checks)
     checks.end()
 
