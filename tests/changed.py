@@ -4,8 +4,9 @@
     tests/changed.py [COMMIT]
 
 What differs from the commit (HEAD), files that are not committed too, names the crates that changed. Each of them is
-proved and tested, also where its tests stand apart, in CRATE_tests, and each crate that stands on one of them is proved, side by side, as packaging/prove.py does it. No
-wrong body or definition is tried; that the text which each replaces stands in its file once is checked.
+proved and tested, also where its tests stand apart, in CRATE_tests, and each crate that stands on one of them is proved,
+side by side, as packaging/prove.py does it. No wrong body or definition is tried; that the text which each replaces
+stands in its file once is checked.
 """
 import pathlib
 import subprocess

@@ -1,12 +1,12 @@
 """Wrong definitions: which equation is to refuse each, what that equation reaches, and the key of its trial.
 
 An edit of crates/CRATE/wrong-definitions/ changes specs/ alone, and its line `vector: NAME CLAUSE` names an equation
-of src/vectors.rt, in the crate or in CRATE_tests. tests/definition_trial.py says how it is tried. Edits of a crate share a check where no equation of
-one reaches a definition that another changes.
+of src/vectors.rt, in the crate or in CRATE_tests. tests/definition_trial.py says how it is tried. Edits of a crate
+share a check where no equation of one reaches a definition that another changes.
 
-A key is a sum of the toolchain's name, the rules of the trial (this file and that one), the edit, the equation with
-its answer, the definitions that it reaches, and the types of the sources that the crate's definitions cite. All are
-read without comments.
+A key is a sum of the toolchain's logic, the rules of the trial (this file and that one), the edit, the equation with
+its answer, the definitions that it reaches, the types of the sources that the crate's definitions cite, and what the
+names of all these texts stand for, where their files import them. All are read without comments.
 """
 import copy
 import hashlib
@@ -15,7 +15,7 @@ import re
 
 import reading
 from edits import TOP, Edit, text_of
-from keys import without
+from keys import Text, uses, without
 
 RULES = ("definitions.py", "definition_trial.py")
 MOST = 8  # edits that share a check
@@ -37,21 +37,10 @@ def equations(text):
 
 
 class Definitions:
-    """The definitions of all crates, with names that one file hands on from another told by where they stand."""
+    """The definitions of all crates."""
 
     def __init__(self, top=TOP):
         self.top, self.files = pathlib.Path(top), reading.all_files(pathlib.Path(top) / "crates")
-        for file in self.files.values():
-            file.imports = self.resolved(file.imports)
-
-    def resolved(self, names):
-        def at(module, name):
-            file = self.files.get(module)
-            if file and name not in file.items and name not in file.owners and name in file.imports:
-                return at(*file.imports[name])
-            return module, name
-
-        return {here: at(*there) for here, there in names.items()}
 
     def with_edit(self, edit):
         """The same with an edit, and the items that it changes."""
@@ -60,14 +49,13 @@ class Definitions:
         for path, text in edit.texts.items():
             module = ".".join([edit.folder.name, *pathlib.PurePath(path).with_suffix("").parts])
             before, file = self.files[module], reading.File(text)
-            file.imports = self.resolved(file.imports)
             made.files[module] = file
             items = {*before.items, *file.items}
             changed |= {(module, it) for it in items if before.items.get(it) != file.items.get(it)}
         return made, changed
 
     def reached(self, text, names):
-        return reading.reached([(text, self.resolved(names))], self.files)
+        return reading.reached([(text, names)], self.files)
 
 
 class WrongDefinition(Edit):
@@ -82,6 +70,7 @@ class WrongDefinition(Edit):
         tests = reading.folder_of_tests(self.folder)
         text = text_of(tests, VECTORS, {})
         self.equation, names = equations(text).get((self.vector, self.clause)), reading.imports(text)
+        self.uses = uses(text)
         answer = text_of(tests, f"proofs/vectors/{self.vector}/Answers.antt", {})
         self.answer = answer if re.search(rf"\b{self.clause} = refl\b", answer) else ""
         self.changes, self.items, self.wrong = set(), [], "it changes what is not a definition"
@@ -97,13 +86,15 @@ class WrongDefinition(Edit):
     def goes_with(self, other):
         return not (self.changes & other.reach or other.changes & self.reach)
 
-    def key(self, definitions, tree, crates, logic):
+    def key(self, tree, crates, logic):
         """The key of an edit of the last of these crates, which stands on the others, in this logic."""
-        texts = ["\n".join(definitions.files[at].items[item]) for at, item in self.items]
+        texts = [tree.definition(*it) for it in self.items]
         texts += [text for crate in crates for text in declared(tree, crate)]
+        stand = {said for it in [*texts, Text("\n".join(self.equation), {}, self.uses)] for said in it.stands_for}
+        texts = sorted(it.text for it in texts) + sorted(stand)
         rules = [without("#", tree.text("tests", it)) for it in RULES]
         said = self.path.read_text(encoding="utf-8")
-        whole = [logic, rules, said, self.equation, without("--", self.answer), crates, sorted(texts)]
+        whole = [logic, rules, said, self.equation, without("--", self.answer), crates, texts]
         return hashlib.sha256(repr(whole).encode()).hexdigest()[:32]
 
 

@@ -15,8 +15,7 @@ docs/gate.tsv, by steps, and in docs/crates.tsv, by crates; the first lines of b
 
       packaging/prove.py argon_tool scrypt_tool command pikhsen_c
 
-What is of no such run is not taken, and --take says so. No step leaves what each proof with tests took: these seconds
-stay in docs/crates.tsv, with the run that they are of.
+What is of no such run is not taken, and --take says so.
 """
 import argparse
 import datetime
@@ -33,11 +32,10 @@ from keys import Source
 from reading import TESTS, folder_of_tests
 
 PAGE, STEPS, CRATES = TOP / "docs" / "GATE.md", TOP / "docs" / "gate.tsv", TOP / "docs" / "crates.tsv"
-COLUMNS = ("check", "tests", "bodies")
+COLUMNS = ("check", "bodies")
 # How the page calls each column of seconds, and what it says of it.
 HEADS = {
     "check": ("check", "of the processor, for the proof of the crate from nothing"),
-    "tests": ("with tests", "of the processor, for the second proof of a crate that has tests, or for the crate that has them"),
     "bodies": ("wrong bodies", "by the clock, for all its edits, where checks that run side by side are added up"),
 }
 # What each step does, by its words in the Makefile.

@@ -7,26 +7,71 @@ A key is a sum of
 - the clauses of each function that these or the edit may call: of that name, in a block for a type that they reach;
 - each type, trait, constant and block for a trait that all of these reach, without the bodies of its functions;
 - the definitions of specs/ that all of these reach, as tests/reading.py finds them, but a record also by the name of
-  a field; and those files of proofs/ whole that an invariant cites.
+  a field; those files of proofs/ whole that an invariant cites, and that these cite;
+- what the names of all these texts stand for, where their files import them.
 
 All are read without comments, in the crate and those below it. A name may stand for several things: then each counts.
 An edit of more than bodies has a key of all files of these crates but their tests. Lemmas of proofs/ are in no key, but
 where an invariant's file has them: with another lemma the same search might end otherwise, yet what the wrong body does
 not meet is in the key.
 """
+import functools
 import hashlib
 import pathlib
 import re
 
 from edits import FUNCTION, IMPL, TOP, opens_at, path_of
-from reading import TESTS, all_files, imports, reached
+from reading import BIND, TESTS, all_files, cited, imports
 
 DECLARED = re.compile(r"(?:pub(?:\([a-z]+\))? )?(?:struct|enum|trait|const|static|type|macro_rules!) (\w+)")
+USE = re.compile(r"(?m)^ *(?:pub(?:\([a-z]+\))? )?(?:ghost )?use (?=\w)")
 RULES = ("trial.py", "edits.py")
 
 
 def words_of(text):
     return {*re.findall(r"\w+", text)}
+
+
+def statement(text, start):
+    """The import that begins here: to its semicolon, or to the end of the line on which its braces are closed."""
+    depth = 0
+    for at in range(start, len(text)):
+        depth += {"{": 1, "}": -1}.get(text[at], 0)
+        if depth == 0 and text[at] in ";\n":
+            return text[start:at]
+    return text[start:]
+
+
+def leaves(path):
+    """Each path that an import names, with its braces taken apart."""
+    before, brace, inner = path.partition("{")
+    if not brace:
+        return [path.strip()]
+    found, depth, part = [], 0, ""
+    for letter in inner.rpartition("}")[0] + ",":
+        depth += {"{": 1, "}": -1}.get(letter, 0)
+        if letter == "," and depth == 0:
+            found += [before.strip() + it for it in leaves(part)] if part.strip() else []
+            part = ""
+        else:
+            part += letter
+    return found
+
+
+def uses(text):
+    """What a file imports, each with the name that it has there; all of a module stands under none."""
+    found = []
+    for begun in USE.finditer(text):
+        for leaf in leaves(statement(text, begun.end())):
+            path, _, alias = leaf.partition(" as ")
+            name = re.split(r"::|\.(?=[^.])", path.removesuffix("::self"))[-1]
+            found.append((path, alias or ("" if name == "*" else name)))
+    return found
+
+
+def is_cited(name, text):
+    """Whether a text may name this: all its parts stand in it, or it is what `do` names."""
+    return all(part in text for part in name.split("◌")) or name == BIND and "do" in text
 
 
 def without(comment, text):
@@ -61,18 +106,34 @@ def function_of(chunk, margin):
     return next((it[2] for it in map(FUNCTION.match, chunk) if it and it[1] == margin), None)
 
 
+class Text:
+    """A text that counts, and what its file imports: the definitions among it by their names, and all of it. One of a
+    definition has its module."""
+
+    def __init__(self, text, names, uses, module=None):
+        self.text, self.names, self.uses, self.module, self.cited = text, names, uses, module, None
+
+    @functools.cached_property
+    def words(self):
+        return words_of(self.text)
+
+    @functools.cached_property
+    def stands_for(self):
+        """What the names of the text stand for."""
+        return [f"{name}: {path}" for path, name in self.uses if is_cited(name, self.text)]
+
+    def cites(self, definitions):
+        """The definitions that it cites, which are the same each time."""
+        if self.cited is None:
+            self.cited = [*cited(self.text, self.names, definitions, self.module)]
+        return self.cited
+
+
 class Part:
     """What a key may count: a function's clauses, a type, trait or constant, or a block for a trait."""
 
-    def __init__(self, kind, name, text, names, owners=()):
-        self.kind, self.name, self.text, self.names, self.owners = kind, name, text, names, {*owners}
-        self.words = words_of(text)
-
-    def is_met(self, called, seen):
-        """Whether it counts where these names are called and seen."""
-        if self.kind == "function":
-            return self.name in called and (not self.owners or bool(self.owners & seen))
-        return self.name in seen
+    def __init__(self, kind, name, text, owners=()):
+        self.kind, self.name, self.text, self.owners = kind, name, text, {*owners}
 
 
 class Source:
@@ -80,10 +141,13 @@ class Source:
 
     def __init__(self, folder, path):
         text, self.file = path.read_text(encoding="utf-8"), str(path.relative_to(folder))
-        self.folder, self.names, self.parts, self.functions = folder, imports(text), [], {}
+        self.folder, self.names, self.uses, self.parts, self.functions = folder, imports(text), uses(text), [], {}
         for chunk in chunks(without("//", text), ""):
             if not chunk[0].startswith("#[cfg(test)]"):
                 self.put(chunk)
+
+    def text(self, lines):
+        return Text("\n".join(lines), self.names, self.uses)
 
     def put(self, chunk):
         if impl := first(IMPL, chunk):
@@ -91,7 +155,7 @@ class Source:
         elif name := function_of(chunk, ""):
             self.put_function(None, name, head_of(chunk, ""), chunk)
         elif found := first(DECLARED, chunk):
-            self.parts.append(Part("item", found[1], "\n".join(chunk), self.names))
+            self.parts.append(Part("item", found[1], self.text(chunk)))
 
     def put_block(self, impl, chunk):
         head = head_of(chunk, "")
@@ -102,23 +166,27 @@ class Source:
                 self.put_function(impl, name, said[-1], [head, *inner])
             else:
                 said.append("\n".join(inner))
+                if not impl[1] and (found := first(DECLARED, [it[4:] for it in inner])):
+                    self.parts.append(Part("item", found[1], self.text([head, *inner])))
         if impl[1]:
-            self.parts.append(Part("block", impl[2], "\n".join(said), self.names))
+            self.parts.append(Part("block", impl[2], self.text(said)))
 
     def put_function(self, impl, name, clauses, whole):
         owners = words_of(" ".join(filter(None, impl.groups()))) if impl else ()
-        self.parts.append(Part("function", name, clauses, self.names, owners))
-        self.functions[path_of(self.folder, self.file, impl, name)] = "\n".join(whole), self.names
+        self.parts.append(Part("function", name, self.text([clauses]), owners))
+        self.functions[path_of(self.folder, self.file, impl, name)] = self.text(whole)
 
 
 class Tree:
     """A tree of crates as it stands now, each file of which is read once."""
 
     def __init__(self, top=TOP):
-        self.top, self.sources, self.sums = pathlib.Path(top), {}, {}
+        self.top, self.sources, self.sums, self.parts, self.texts = pathlib.Path(top), {}, {}, {}, {}
         self.definitions = all_files(self.top / "crates")
-        for file in self.definitions.values():
+        for module, file in self.definitions.items():
             file.owners.update(file.fields)  # code may name a field without its type: each record that has it counts
+            crate, *inside = module.split(".")
+            file.uses = uses(self.text("crates", crate, *inside[:-1], f"{inside[-1]}.antt"))
         rules = ["\n".join(without("#", self.text("tests", it))) for it in RULES]
         self.rules = hashlib.sha256(repr(rules).encode()).hexdigest()
 
@@ -142,28 +210,62 @@ class Tree:
         return self.sums[crate]
 
     def proofs_of(self, crate, place):
-        """The own files of proofs/ of a function, and those that its invariants cite there."""
+        """The own files of proofs/ of a function, and those that its invariants cite there, and that these cite."""
         proofs = self.top / "crates" / crate / "proofs"
         files = sorted(proofs.joinpath(*place.split("::")).glob("*.antt"))
-        invariants = "".join(it.read_text(encoding="utf-8") for it in files if it.name == "Invariants.antt")
-        cited = sorted({*re.findall(rf"use Rattle\.{crate}\.proofs\.([A-Z]\w*)\.", invariants)})
-        files += [it for it in (proofs / f"{name}.antt" for name in cited) if it.is_file()]
+        left = [it for it in files if it.name == "Invariants.antt"]
+        while left:
+            names = re.findall(rf"use Rattle\.{crate}\.proofs\.([A-Z]\w*)\b", left.pop().read_text(encoding="utf-8"))
+            found = [it for it in (proofs / f"{name}.antt" for name in sorted({*names})) if it.is_file()]
+            found = [it for it in found if it not in files]
+            files, left = files + found, left + found
         return [it.read_text(encoding="utf-8") for it in files]
 
+    def definition(self, module, item):
+        file = self.definitions[module]
+        if (module, item) not in self.texts:
+            self.texts[module, item] = Text("\n".join(file.items[item]), file.imports, file.uses, module)
+        return self.texts[module, item]
+
+    def reach(self, texts, found):
+        """Puts the definitions that these texts reach to those that are found, and says which are new."""
+        left, new = list(texts), []
+        for text in left:
+            for at in text.cites(self.definitions):
+                if at not in found:
+                    found[at] = self.definition(*at)
+                    left.append(found[at])
+                    new.append(found[at])
+        return new
+
+    def parts_of(self, crates):
+        """The parts of these crates, by their names."""
+        if crates not in self.parts:
+            self.parts[crates] = found = {}
+            for part in (it for crate in crates for source in self.sources_of(crate) for it in source.parts):
+                found.setdefault(part.name, []).append(part)
+        return self.parts[crates]
+
     def counted(self, edit, crates):
-        """The texts that count for an edit of bodies of the last of these crates."""
+        """The texts that count for an edit of bodies of the last of these crates, and what their names stand for."""
         functions = {place: it for source in self.sources_of(crates[-1]) for place, it in source.functions.items()}
         texts = [functions[place] for place in sorted(edit.places)]
         for proof in (it for place in sorted(edit.places) for it in self.proofs_of(crates[-1], place)):
-            texts.append(("\n".join(without("--", proof)), imports(proof)))
-        called = words_of("\n".join([text for text, _ in texts] + [new for _, _, new in edit.pairs]))
-        seen, left = {*called}, [it for crate in crates for source in self.sources_of(crate) for it in source.parts]
-        while met := [it for it in left if it.is_met(called, seen)]:
-            texts += [(it.text, it.names) for it in met]
-            seen.update(*(it.words for it in met))
-            left = [it for it in left if it not in met]
-        items = reached(texts, self.definitions)
-        return [text for text, _ in texts] + ["\n".join(self.definitions[at].items[item]) for at, item in items]
+            texts.append(Text("\n".join(without("--", proof)), imports(proof), uses(proof)))
+        called = words_of("\n".join([new for _, _, new in edit.pairs])).union(*(it.words for it in texts))
+        parts, seen, defined, fresh = self.parts_of((*crates,)), set(), {}, texts
+        calls = [it for word in called for it in parts.get(word, ()) if it.kind == "function"]
+        while fresh:
+            # a type, and with it a block for a trait, may also be one that a definition alone names
+            words = called.union(*(it.words for it in [*fresh, *self.reach(fresh, defined)])) - seen
+            seen |= words
+            heard = [it for it in calls if not it.owners or it.owners & seen]
+            calls = [it for it in calls if it not in heard]
+            others = [it for word in words for it in parts.get(word, ()) if it.kind != "function"]
+            fresh = [it.text for it in others + heard]
+            texts = texts + fresh
+        texts += defined.values()
+        return [it.text for it in texts] + [said for it in texts for said in it.stands_for]
 
     def key(self, edit, crates, logic):
         """The key of an edit of the last of these crates, which has the others below it, in this logic."""

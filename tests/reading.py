@@ -15,7 +15,9 @@ import sys
 
 TOP = pathlib.Path(__file__).resolve().parent.parent
 CRATES = TOP / "crates"
-ITEM = re.compile(r"(?:(?:pub|abbrev|unfoldable|opaque|data|record)\s+)*([^\s:(){},=]+)(?:\s+[({].*)?\s+:(?:\s|$)")
+ITEM = re.compile(r"(?:(?:pub|abbrev|unfoldable|opaque|data|record)\s+)*(◌[^\s◌]+◌|[^\s:(){},=]+)(?:\s+[({].*)?\s+:(?:\s|$)")
+FIXITY = re.compile(r"infix[lr]? \d+ (\S+)$")
+BIND = "◌>>=◌"  # which `do` names
 PART = re.compile(r"\s+(?:pub )?([^\s:]+) :")
 # A function with its clauses, to the brace of its body: on a line of its own after clauses, else at the end of a line.
 FUNCTION = re.compile(
@@ -28,7 +30,7 @@ TESTS = {"tests", "tests.rt", "testing.rt", "fixtures.rt"}
 OURS = ["scrypt_tool::run", "argon_tool::run", "command::scrypt", "command::argon2", "scrypt_run::run", "argon_text::verify"]
 FOR_C = re.findall(r"\bpikhsen_(?!version)\w+", (CRATES / "pikhsen_c" / "src" / "lib.rt").read_text(encoding="utf-8").partition("pub use")[2])
 CALLS = [*OURS, *(f"pikhsen_c::{name}" for name in FOR_C)]
-IMPORT = re.compile(r"(?m)^ *(?:pub |ghost )?use Rattle\.(\w+\.specs\.[\w.]+)\.\{([^}]*)\}")
+IMPORT = re.compile(r"(?m)^ *(?:pub |ghost )?use Rattle\.(\w+\.specs\.[\w.]+)(?:\.\{([^}]*)\}| as (\w+))")
 WORD = re.compile(r"[^\s(){}\[\],;.]+")
 
 
@@ -39,12 +41,15 @@ def folder_of_tests(folder):
 
 
 def imports(text):
-    """What a file imports, by the name that it has there: the module, and its name in it."""
+    """What a file imports, by the name that it has there: the module, and its name in it. A module that has a name of its
+    own there stands under that name and a full stop, without a name in it."""
     found = {}
-    for module, names in IMPORT.findall(text):
-        for name in names.split(","):
-            given, _, here = name.strip().partition(" as ")
+    for module, names, alias in IMPORT.findall(text):
+        for name in filter(None, map(str.strip, names.split(","))):
+            given, _, here = name.partition(" as ")
             found[here or given] = (module, given)
+        if alias:
+            found[f"{alias}."] = (module, "")
     return found
 
 
@@ -56,7 +61,9 @@ class File:
         for line in text.split("\n"):
             if not line.strip() or line.lstrip().startswith("--") or re.match(r"#|((pub )?(use|mod) )", line):
                 continue
-            if begun := ITEM.match(line):
+            if fixity := FIXITY.match(line):
+                item = fixity[1]
+            elif begun := ITEM.match(line):
                 item, is_record = begun[1], " record " in f" {line}"
             elif part := PART.match(line):
                 (self.fields if is_record else self.owners)[part[1]] = item
@@ -71,17 +78,35 @@ def all_files(crates=CRATES):
     return found
 
 
+def items_of(files, module, name):
+    """The item of this name in a module, or that of which it names a case; also where the module hands it on."""
+    module, name = handed_on(files, module, name)
+    if module in files:
+        for item in dict.fromkeys((name, files[module].owners.get(name, name))):
+            if item in files[module].items:
+                yield module, item
+
+
+def handed_on(files, module, name):
+    """Where a name stands that one file hands on from another."""
+    while (file := files.get(module)) and name not in file.items and name not in file.owners and name in file.imports:
+        module, name = file.imports[name]
+    return module, name
+
+
 def cited(text, names, files, module=None):
     """The items of the repository's definitions that a text cites. A record is cited where a type names it: the name of a field
     does not say of which record it is."""
     own = files[module] if module else None
-    for word in dict.fromkeys(WORD.findall(text)):
-        for name in (word, f"◌{word}◌", f"{word}◌"):
+    words = dict.fromkeys(WORD.findall(text))
+    for word in words:
+        for name in (word, f"◌{word}◌", f"{word}◌", *([BIND] if word == "do" else [])):
             at, given = names.get(name, (module, name))
-            if at in files:
-                for item in dict.fromkeys((given, files[at].owners.get(given, given))):
-                    if item in files[at].items and (name in names or own):
-                        yield at, item
+            if name in names or own:
+                yield from items_of(files, at, given)
+    for alias, (at, given) in names.items():
+        for word in words if not given and alias in text else ():
+            yield from items_of(files, at, word)
 
 
 def public(crate):

@@ -45,15 +45,6 @@ def kit_files(files, kit):
     return found
 
 
-def where_it_stands(files, module, name):
-    """Where a name stands that one file hands on from another."""
-    file = files.get(module)
-    while file and name not in file.items and name not in file.owners and name in file.imports:
-        module, name = file.imports[name]
-        file = files.get(module)
-    return module, name
-
-
 class Reach:
     """What calls reach, through this repository's definitions and the toolchain's."""
 
@@ -64,7 +55,7 @@ class Reach:
             file.imports = self.resolved(file.imports)
 
     def resolved(self, names):
-        return {here: where_it_stands(self.whole, *there) for here, there in names.items()}
+        return {here: reading.handed_on(self.whole, *there) for here, there in names.items()}
 
     def of_kit(self, texts):
         """The toolchain's definitions that these texts reach, the nearest first."""

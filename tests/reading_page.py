@@ -137,7 +137,7 @@ def parted(text):
         elif not line.strip():
             title, note, begun = title if begun else title or note, [], begun
         else:
-            if (name := reading.ITEM.match(line)) and name[1] != item:
+            if (name := reading.FIXITY.match(line) or reading.ITEM.match(line)) and name[1] != item:
                 item = name[1]
                 found[item] = Part(heading, note, [])
             elif item and note:

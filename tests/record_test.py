@@ -17,6 +17,7 @@ from checking import Checks
 from definitions import Definitions, WrongDefinition
 from edits import TOP, Edit, in_groups
 from keys import Tree
+from reading import BIND, File, cited
 
 CRATE = "macs"
 TESTS = f"../{CRATE}_tests"
@@ -34,6 +35,12 @@ CHANGES = (
         "blocks-from-zero", "pair-key-a-byte-short", "pair-of-half-a-key"}),
     ("an answer", "proofs/hmac/key_block/Answers.antt", "64 0,", "63 0,", {"long-key-cut"}),
     ("a loop's invariant", "proofs/pbkdf2_sha256/write_key/Invariants.antt", "min (32", "min (31", {"blocks-from-zero"}),
+    ("what a name of clauses stands for", "src/hmac.rt", "specs.Hmac.{Holds}", "specs.KeyPair.{HoldsSalt as Holds}",
+        ALL - {"long-key-cut", "pair-blocks-from-zero", "salt-as-password"}),
+    ("what a name of the code stands for", "src/hmac.rt", "::{Digest, Sha256}", "::{Digest, Sha512 as Sha256}", ALL),
+    ("what a name of a definition stands for", "specs/Pbkdf2.antt", "Int.{w32,", "Int.{w64 as w32,", {
+        "blocks-from-zero", "index-low-byte-first", "pair-blocks-from-zero", "pair-key-a-byte-short", "pair-of-half-a-key",
+        "salt-as-password"}),
     ("a comment", "src/hmac.rt", "/// The code of the message", "/// The code", set()),
     ("the edit", "wrong-bodies/salt-as-password.edit", "new: ", "new:  ", {"salt-as-password"}),
 )
@@ -43,6 +50,7 @@ CHANGES_OF_DEFINITIONS = (
     ("a body", "src/hmac.rt", "        xored[i] = ", "        xored[0] = ", set()),
     ("a definition", "specs/Pbkdf2.antt", "take n (", "take 1 (", OF_33_BYTES),
     ("one that all reach", "specs/HmacSha256.antt", "sha256 (inner_key", "sha256 (outer_key", ALL_DEFINITIONS),
+    ("what a name of one stands for", "specs/Pbkdf2.antt", "Int.{w32,", "Int.{w64 as w32,", OF_33_BYTES),
     ("a comment on one", "specs/Pbkdf2.antt", "-- T_i", "-- the T_i", set()),
     ("an equation", f"{TESTS}/src/vectors.rt", "0x49 ∷ [] }", "0x4A ∷ [] }", OF_33_BYTES),
     ("another equation", f"{TESTS}/src/vectors.rt", "0x83 ∷ [] }", "0x84 ∷ [] }", set()),
@@ -72,7 +80,7 @@ def keys_of_definitions(folder, logic="a logic"):
     """The same of its wrong definitions."""
     tree, found = Tree(folder), Definitions(folder)
     edits = sorted((folder / "crates" / CRATE / record.DEFINITIONS).glob("*.edit"))
-    return {path.stem: WrongDefinition(path, found).key(found, tree, [CRATE], logic) for path in edits}
+    return {path.stem: WrongDefinition(path, found).key(tree, [CRATE], logic) for path in edits}
 
 
 def other(folder, file, old, new, keys=keys):
@@ -101,6 +109,16 @@ def keys_of_definitions_change(checks, folder):
     checks.that("keys of definitions: a rule of the trial", found, ALL_DEFINITIONS)
     found = other(folder, f"crates/{CRATE}/{TESTS}/src/vectors.rt", "0x49 ∷ []", "0x4A ∷ []")
     checks.that("keys: an equation", found, set())
+
+
+def bind_is_cited(checks):
+    """What `do` names is reached, and what stands behind another name of its module."""
+    files = {"here": File("infixl 10 ◌>>=◌\nabbrev ◌>>=◌ : A\nx >>= f = f x\n"), "there": File("use Rattle.a.specs.B as b\n")}
+    files["a.specs.B"] = File("abbrev pub value : ℕ\nvalue = 1\n")
+    names = {BIND: ("here", BIND), "b.": ("a.specs.B", "")}
+    checks.that("what do names", [*cited("f = do\n", names, files)], [("here", BIND)])
+    checks.that("a name behind that of a module", [*cited("f = b.value\n", names, files)], [("a.specs.B", "value")])
+    checks.that("the name of a module", files["there"].imports, {"b.": ("a.specs.B", "")})
 
 
 def turns_are_even(checks):
@@ -158,6 +176,7 @@ def main():
         folder = tree_of(pathlib.Path(room))
         keys_change(checks, folder)
         keys_of_definitions_change(checks, folder)
+    bind_is_cited(checks)
     turns_are_even(checks)
     searches_are_read(checks)
     rows_count_since(checks)

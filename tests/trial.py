@@ -6,6 +6,9 @@ be tried again. What is printed, and what is tried when, stands in tests/wrong_b
 Edits of different functions share a check of these functions, in each of which a goal must be left open. An edit that
 leaves none there is tried again without the others, and one that changes more than bodies by a check of the crate.
 
+Where an answer by hand names what the edit took away, as a step or a goal that now has another name, the proof of the
+function is no longer the author's. There a goal that is left open counts only if values are known at which it is false.
+
 An edit with a line `types:` is one that the types refuse: a check of the crate must say that error, and no other, of a
 line that the edit puts. So a body that wants a counter or memory that nothing hands it cannot be written at all.
 
@@ -25,11 +28,13 @@ ALONE = ["--jobs", "1"]
 MOST = 9  # edits that share a check
 OF_THE_LANGUAGE = re.compile(r"`(?:overflow_|bounds-|nonzero_)")  # a number fits, an index is in range: no contract asks it
 NO_GOAL = "\npub of-no-goal : of-no-goal\nof-no-goal c = c\n"  # refused for a name that is not in scope
+OF_NO_GOAL = "`of-no-goal`"
 LEFT_OPEN = re.compile(r"note: (?:\./)?(src/\S+?):(\d+):\d+: it is not proved .*?\((`[^`]+`)\)")
 AT_ITS_ANSWER = re.compile(r"(?:\./)?proofs/(\S+)/(?:Answers|Invariants)\.antt:\d+:\d+: error: (`[^`]+`): .*")
 LEMMA = re.compile(r"(?:\./)?proofs/\S+:\d+:\d+: error: `(\w+)`: .*")
 ERROR = re.compile(r"(?:\./)?(\S+?):(\d+):\d+: error(?:\[[\w-]+\])?: (.*)")
 LOST_NAME = re.compile(r"has no field|is not in scope|has no `|was not admitted")  # says nothing of a contract
+IS_FALSE = "the facts known there allow values at which this goal is false"
 
 
 def load_rt():
@@ -45,10 +50,16 @@ def load_rt():
 rt = load_rt()
 
 
+def without_answers(lines):
+    """The functions of which an answer names what is not there."""
+    found = [AT_ITS_ANSWER.match(it) for it in lines if LOST_NAME.search(it)]
+    return {it[1].replace("/", "::") for it in found if it and it[2] != OF_NO_GOAL}
+
+
 def goals(folder, texts, lines):
     """The first goal that each function leaves open, as the page names it, by the function's path; a lemma's by None.
     One that the language itself asks for stands only where no other is open."""
-    found = {}
+    found, lost = {}, without_answers(lines)
 
     def put(place, goal):
         if place not in found or OF_THE_LANGUAGE.match(found[place]):
@@ -56,7 +67,9 @@ def goals(folder, texts, lines):
 
     for line in lines:
         if at := LEFT_OPEN.match(line):
-            put(function_at(folder, at[1], text_of(folder, at[1], texts), int(at[2]) - 1), at[3])
+            place = function_at(folder, at[1], text_of(folder, at[1], texts), int(at[2]) - 1)
+            if place not in lost or IS_FALSE in line:
+                put(place, at[3])
         elif LOST_NAME.search(line):
             continue
         elif at := AT_ITS_ANSWER.match(line):

@@ -20,6 +20,7 @@ is always among these crates: its proof here is also what builds it, crates/pikh
 tests/c_face.py.
 """
 import copy
+import math
 import os
 import pathlib
 import re
@@ -29,6 +30,7 @@ import tempfile
 import threading
 import time
 
+import gate_page
 import record
 import trials
 from edits import TOP, Edit, in_groups
@@ -36,9 +38,17 @@ from keys import Tree, sum_of
 from trial import MOST, is_right, rt, tried
 
 LEVEL = "x86-64-v2"  # what the gate builds for
-TOGETHER = 5  # groups of a crate that are in turn together
+TOGETHER = 900  # seconds of trials of a crate that are in turn together: more makes the turns uneven
+UNKNOWN = 60, 15  # the seconds of a proof, and of the trial of an edit, where docs/crates.tsv has none
 COUNTS = re.compile(r"^crate \w+: modules loaded=(\d+) checked=(\d+)$", re.MULTILINE)
 TIMES = TOP / "bin" / "wrong-bodies.tsv"
+
+
+def seconds_of(crate, edits):
+    """The seconds of a crate's proof, and of the trial of each of so many edits, as docs/crates.tsv has them."""
+    proof, trial = UNKNOWN
+    row = gate_page.seconds_of_crates().get(crate, {})
+    return int(row.get("check") or proof), int(row.get("bodies") or trial * edits) / max(edits, 1)
 
 
 class Wanted:
@@ -59,13 +69,14 @@ class Wanted:
         return all(sum_of(TOP / "crates" / it) == self.sums[it] for it in self.below)
 
     def units(self):
-        """What is in turn together, by its name, with what it costs: one group where the crate is proved once more at each
+        """What is in turn together, by its name, with its seconds: one group where the crate is proved once more at each
         turn, and else so many that this proof is worth it."""
         groups = [edits for edits, _ in in_groups(self.edits, MOST)]
-        most, proof = (1, 0) if self.crate.is_static else (TOGETHER, 2)
-        parts = [groups[at:at + most] for at in range(0, len(groups), most)]
-        costs = [(len(part) + proof) * self.crate.count(rb"\n") for part in parts]
-        return {f"{self.name} {at}": (sum(part, []), cost) for at, (part, cost) in enumerate(zip(parts, costs), 1)}
+        proof, trial = seconds_of(self.name, len(self.edits))
+        most = math.ceil(len(groups) / max(1, math.ceil(trial * len(self.edits) / TOGETHER)))
+        most, proof = (1, 0) if self.crate.is_static else (max(most, 1), proof)
+        parts = [sum(groups[at:at + most], []) for at in range(0, len(groups), most)]
+        return {f"{self.name} {at}": (part, proof + round(trial * len(part))) for at, part in enumerate(parts, 1)}
 
 
 def choose(wanted, asked):

@@ -43,7 +43,7 @@ class Wanted:
         self.below = [it.name for it in [*crate.below(), crate]]
         edits = [WrongDefinition(path, ALL) for path in record.edits_of(crate.name, record.DEFINITIONS)]
         self.edits = [it for it in edits if not asked.asked or {crate.name, it.name} & {*asked.asked}]
-        self.keys = {it: it.key(ALL, TREE, self.below, trials.LOGIC) for it in self.edits}
+        self.keys = {it: it.key(TREE, self.below, trials.LOGIC) for it in self.edits}
         self.sums = {it: TREE.sum_of(it) for it in self.below} if self.edits else {}
         self.now = list(self.edits)
 

@@ -37,7 +37,7 @@ fn answered<S: Source>(
         (length secret.now) (length associated.now) max_kib max_ops ≡ None }
     ensures wrong { result ≡ 16
         → keyed_tag (value_claimed claim.now) password.now secret.now associated.now ≡ claim.now.tag.now → ⊥ }
-    ensures told { IsTold result (keyed_fault (value_claimed claim.now) password.now
+    ensures first_fault { IsTold result (keyed_fault (value_claimed claim.now) password.now
         (length secret.now) (length associated.now) max_kib max_ops) }
     ensures low { 0 < result → 6 ≤ result }
     ensures gap { 9 < result → 12 ≤ result }

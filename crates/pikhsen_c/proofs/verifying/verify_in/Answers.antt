@@ -29,7 +29,7 @@ returns-clause-password_len g c = λ told. record {
   value = value_claimed c.claim-claim.result;
   valid = subst IsValue (sym c.claim-claim.ensures.value) c.in-Ok.ensures.value;
   written = subst (λ (value : Value). IsTextOf value c.args.text.now) (sym c.claim-claim.ensures.value) c.in-Ok.ensures.found;
-  refused = c.answered.ensures.told.password_len told;
+  refused = c.answered.ensures.first_fault.password_len told;
 }
 
 pub returns-clause-input_len : goal.returns-clause-input_len
@@ -37,7 +37,7 @@ returns-clause-input_len g c = λ told. record {
   value = value_claimed c.claim-claim.result;
   valid = subst IsValue (sym c.claim-claim.ensures.value) c.in-Ok.ensures.value;
   written = subst (λ (value : Value). IsTextOf value c.args.text.now) (sym c.claim-claim.ensures.value) c.in-Ok.ensures.found;
-  refused = c.answered.ensures.told.input_len told;
+  refused = c.answered.ensures.first_fault.input_len told;
 }
 
 pub returns-clause-memory_limit : goal.returns-clause-memory_limit
@@ -45,7 +45,7 @@ returns-clause-memory_limit g c = λ told. record {
   value = value_claimed c.claim-claim.result;
   valid = subst IsValue (sym c.claim-claim.ensures.value) c.in-Ok.ensures.value;
   written = subst (λ (value : Value). IsTextOf value c.args.text.now) (sym c.claim-claim.ensures.value) c.in-Ok.ensures.found;
-  refused = c.answered.ensures.told.memory_limit told;
+  refused = c.answered.ensures.first_fault.memory_limit told;
 }
 
 pub returns-clause-work_limit : goal.returns-clause-work_limit
@@ -53,7 +53,7 @@ returns-clause-work_limit g c = λ told. record {
   value = value_claimed c.claim-claim.result;
   valid = subst IsValue (sym c.claim-claim.ensures.value) c.in-Ok.ensures.value;
   written = subst (λ (value : Value). IsTextOf value c.args.text.now) (sym c.claim-claim.ensures.value) c.in-Ok.ensures.found;
-  refused = c.answered.ensures.told.work_limit told;
+  refused = c.answered.ensures.first_fault.work_limit told;
 }
 
 pub returns-clause-memory : goal.returns-clause-memory
@@ -61,7 +61,7 @@ returns-clause-memory g c = λ told. inr (record {
   value = value_claimed c.claim-claim.result;
   valid = subst IsValue (sym c.claim-claim.ensures.value) c.in-Ok.ensures.value;
   written = subst (λ (value : Value). IsTextOf value c.args.text.now) (sym c.claim-claim.ensures.value) c.in-Ok.ensures.found;
-  refused = c.answered.ensures.told.memory told;
+  refused = c.answered.ensures.first_fault.memory told;
 })
 
 pub returns-clause-asked : goal.returns-clause-asked
@@ -90,7 +90,7 @@ returns-clause-refused g c = λ told. inr (
     value = value_claimed c.claim-claim.result;
     valid = subst IsValue (sym c.claim-claim.ensures.value) c.in-Ok.ensures.value;
     written = subst (λ (value : Value). IsTextOf value c.args.text.now) (sym c.claim-claim.ensures.value) c.in-Ok.ensures.found;
-    refused = c.answered.ensures.told.memory told;
+    refused = c.answered.ensures.first_fault.memory told;
   },
   c.answered.ensures.refused told
       ∙ ap (λ source. g.S.Room.after_matrix source (parameters_with (value_claimed c.claim-claim.result) c.args.password.now)
