@@ -38,24 +38,18 @@ check: ## proves what differs from the last commit and what stands on it, and ru
 # commit that the gate passed, a wrong body, definition or line is taken by record only where that commit has its row.
 test: $(filter bin/x86-64-v3/%,$(wildcard $(LEVELS:%=bin/%/scrypt))) ## the gate: proofs, tests, wrong bodies, definitions and lines that are new or in turn, the built programs
 	@rm -rf bin/gate.tsv bin/rooms
-	@tests/step.sh tests/sources.sh
-	@tests/step.sh tests/documents.py
-	@tests/step.sh tests/values.py
-	@tests/step.sh tests/reading.py --check
-	@tests/step.sh tests/record_test.py
-	@tests/step.sh tests/first_run.py
-	@tests/step.sh tests/build_scripts.py
-	@tests/step.sh rt ci
+	@tests/steps.py tests/sources.sh tests/documents.py tests/values.py 'tests/reading.py --check' tests/record_test.py \
+		tests/first_run.py tests/build_scripts.py tests/steps_test.py
+	@tests/steps.py 'rt ci'
 	@install -D -m 755 crates/argon_tool/out/argon_tool bin/x86-64-v2/argon2
 	@install -D -m 755 crates/scrypt_tool/out/scrypt_tool bin/x86-64-v2/scrypt
 	@test -f bin/level && test "$$(cat bin/level)" != x86-64-v2 || packaging/chosen.sh x86-64-v2
-	@tests/step.sh tests/wrong_bodies.py $(SINCE:%=--since %)
-	@tests/step.sh tests/wrong_definitions.py $(SINCE:%=--since %)
-	@for level in $(LEVELS); do test ! -x bin/$$level/scrypt || tests/step.sh tests/outside.sh bin/$$level || exit 1; done
-	@tests/step.sh tests/c_face.py
-	@tests/step.sh tests/builds.py --check
-	@tests/step.sh tests/outside_plants.py $(SINCE:%=--since %)
-	@echo 'seconds, those of the processors, and step:' && cat bin/gate.tsv
+	@tests/steps.py 'tests/wrong_bodies.py $(SINCE:%=--since %)'
+	@tests/steps.py 'tests/wrong_definitions.py $(SINCE:%=--since %)' tests/c_face.py \
+		$(foreach it,$(LEVELS),$(if $(filter x86-64-v2,$(it))$(wildcard bin/$(it)/scrypt),'tests/outside.sh bin/$(it)')) \
+		'tests/outside_plants.py $(SINCE:%=--since %)'
+	@tests/steps.py 'tests/builds.py --check'
+	@tests/steps.py --all
 
 # A wrong line may need the programs or the library to be found.
 audit: bin/x86-64-v2/scrypt bin/lib/libpikhsen.so.0 ## tries each wrong body, wrong definition and wrong line outside the proofs, whatever the records say, and writes them anew

@@ -33,6 +33,7 @@ from reading import TESTS, folder_of_tests
 
 PAGE, STEPS, CRATES = TOP / "docs" / "GATE.md", TOP / "docs" / "gate.tsv", TOP / "docs" / "crates.tsv"
 COLUMNS = ("check", "bodies")
+WHOLE = "all"  # the row of a whole run: less than the sum by the clock, since steps run side by side
 # How the page calls each column of seconds, and what it says of it.
 HEADS = {
     "check": ("check", "of the processor, for the proof of the crate from nothing"),
@@ -57,6 +58,7 @@ DOES = {
     "lines, and what they leave behind if a proof fails or they are stopped",
     "tests/build_scripts.py": "packaging/build.sh, chosen.sh, lib.sh and deb.sh over stand-ins: what they make, and that "
     "they leave no older program, library or package if they fail or are stopped",
+    "tests/steps_test.py": "what runs these steps stops where one fails or is killed, and says so",
     "rt ci": "proves every crate and its tests, tries the edits of `must-fail/`, and runs each test, and the programs as "
     "built by two compilers; what it proved before on the same machine, of the same bytes, it takes from /opt/rattle-kept",
     "tests/wrong_bodies.py": "tries the edits of `wrong-bodies/` that are new, and a tenth of the others; builds the "
@@ -75,9 +77,10 @@ DOES = {
 
 
 def steps():
-    """The steps of the gate in their order: the words of the Makefile after tests/step.sh."""
+    """The steps of the gate in their order: those of the Makefile after tests/steps.py."""
     recipe = (TOP / "Makefile").read_text(encoding="utf-8").partition("\ntest:")[2].partition("\n\n")[0]
-    return re.findall(r"tests/step\.sh ([\w./]+(?: ci| --\w+)?)", recipe)
+    calls = " ".join(re.findall(r"tests/steps\.py ((?:.*\\\n)*.*)", recipe))
+    return re.findall(r"(?<![\w/])((?:tests/\w+\.(?:py|sh)|rt)(?: ci| --check)?)", calls)
 
 
 def rows_of(path):
@@ -141,12 +144,12 @@ def line_of(cells):
     return "|" + "|".join(f" {it} " if it else " " for it in shown) + "|\n"
 
 
-def table(head, rows):
-    """A table of these rows, with the sums of its numbers below; columns of numbers stand at the right."""
+def table(head, rows, foot=None):
+    """A table of these rows, with the sums of its numbers, or what is given, below; columns of numbers stand at the right."""
     columns = [*zip(*rows)]
     has_words = [any(f"{it}" and not f"{it}".isdigit() for it in column) for column in columns]
     sides = "|".join("---" if it else "---:" for it in has_words)
-    return line_of(head) + f"|{sides}|\n" + "".join(map(line_of, rows)) + line_of(["all", *map(total, columns[1:])])
+    return line_of(head) + f"|{sides}|\n" + "".join(map(line_of, rows)) + line_of(["all", *(foot or map(total, columns[1:]))])
 
 
 def said(text):
@@ -158,7 +161,8 @@ def table_of_steps():
     found = seconds_of_steps(STEPS)
     rows = [[f"`{it}`", DOES[it], *found.get(it, ["", ""])] for it in steps()]
     text = f"The steps, with seconds by the clock and of all processors, in {runs_of(STEPS)['run']}."
-    return said(text) + table(["step", "what it does or looks at", "clock", "processors"], rows)
+    foot = ["", *found[WHOLE]] if WHOLE in found else None
+    return said(text) + table(["step", "what it does or looks at", "clock", "processors"], rows, foot)
 
 
 def table_of_crates():
@@ -209,13 +213,14 @@ def tried_in(path):
 def take_steps(folder, load):
     """Takes the seconds of the steps, and says whether it did."""
     path, bodies = folder / "gate.tsv", folder / "wrong-bodies.tsv"
-    lacking = [it for it in steps() if it not in seconds_of_steps(path)]
+    lacking = [it for it in [*steps(), WHOLE] if it not in seconds_of_steps(path)]
     if lacking:
         return f"{path}: not taken, since it lacks {', '.join(lacking)}"
     if bodies.is_file() and bodies.stat().st_mtime <= path.stat().st_mtime:
         edits = sum(len(record.edits_of(it, "wrong-bodies")) for it in record.below())
         load += f", {sum(tried for tried, _ in tried_in(bodies).values())} of {edits} edits tried"
-    STEPS.write_text(f"# run: {run_of(path, load)}\n" + path.read_text(encoding="utf-8"), encoding="utf-8")
+    rows = ["\t".join(it) for it in rows_of(path)]
+    STEPS.write_text("\n".join([f"# run: {run_of(path, load)}", *rows]) + "\n", encoding="utf-8")
     return f"{path}: taken"
 
 

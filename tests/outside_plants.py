@@ -41,7 +41,7 @@ TESTS = {
     "tests/values.py": ([], 1), "tests/documents.py": ([], 5), "tests/first_run.py": ([], 8),
     "tests/build_scripts.py": ([], 20), "tests/python_module.py": (["LIB"], 6), "tests/packages.py": (["LIB"], 9),
     "tests/c_face.py": (["--header", "LIB"], 6), "tests/sources.sh": ([], 2),
-    "tests/story.py": (["--recipes", "bin/x86-64-v2"], 25),
+    "tests/story.py": (["--recipes", "bin/x86-64-v2"], 25), "tests/steps_test.py": ([], 4),
 }
 # What a test needs beside Python: without it, it finds nothing.
 NEEDS = {"tests/build_scripts.py": ["gcc", "dpkg-deb"], "tests/python_module.py": ["gcc"],

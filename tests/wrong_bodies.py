@@ -38,6 +38,7 @@ from keys import Tree, sum_of
 from trial import MOST, is_right, rt, tried
 
 LEVEL = "x86-64-v2"  # what the gate builds for
+CHECKS = 3  # for each processor, where so few edits are tried that their checks would not fill all processors
 TOGETHER = 900  # seconds of trials of a crate that are in turn together: more makes the turns uneven
 UNKNOWN = 60, 15  # the seconds of a proof, and of the trial of an edit, where docs/crates.tsv has none
 COUNTS = re.compile(r"^crate \w+: modules loaded=(\d+) checked=(\d+)$", re.MULTILINE)
@@ -62,7 +63,15 @@ class Wanted:
         self.edits = [it for it in edits if asked.is_gate or asked.audit or {crate.name, it.name} & {*asked.asked}]
         self.keys = {it: tree.key(it, self.below, trials.LOGIC) for it in self.edits}
         self.sums = {it: tree.sum_of(it) for it in self.below} if self.edits else {}
-        self.now, self.seconds, self.proof = list(self.edits), 0, None
+        self.now, self.seconds, self.proof, self.is_right = list(self.edits), 0, None, False
+
+    def seconds_of_proof(self):
+        """The seconds that the proof of the crate is likely to take."""
+        return seconds_of(self.name, 0)[0]
+
+    def seconds_of(self, edits):
+        """The seconds that a check of these is likely to take."""
+        return math.ceil(seconds_of(self.name, len(self.edits))[1] * len(edits))
 
     def is_unchanged(self):
         """Whether each file from which the crate is proved is still the one that the keys are of."""
@@ -107,6 +116,8 @@ class Run:
         self.wanted, self.asked, self.room = {it.name: it for it in wanted}, asked, room
         self.passed, self.failed, self.done, self.lock = 0, [], 0, threading.Lock()
         self.all = sum(len(it.now) for it in wanted)
+        self.most = max(1, min(MOST, math.ceil(self.all / (CHECKS * rt.processors()))))
+        self.proofs = sum(it.seconds_of_proof() for it in wanted)
 
     def say(self, text):
         print(text, flush=True)
@@ -131,26 +142,40 @@ class Run:
 
     def prove(self, name, jobs):
         """Whether the crate is proved as it is, into out/incremental, so that a check proves again what edits change
-        alone, and whether a shared check of the right bodies of what they change leaves nothing open."""
+        alone. It gets as many jobs as there are idle processors, or its share of all where that is more."""
         it, begun = self.wanted[name], time.monotonic()
-        kept = f"{it.crate.folder}/out/incremental"
-        status, said = self.check(it.crate, jobs)
+        share = round(rt.processors() * it.seconds_of_proof() / max(self.proofs, 1))
+        status, said = self.check(it.crate, max(jobs, share) if rt.free() > share * rt.need(it.crate) else jobs)
         loaded, checked = map(int, (COUNTS.findall(said) or [(0, 0)])[-1])
         it.proof = loaded, checked, time.monotonic() - begun
-        is_well = status == 0
-        said = f"{name}: {loaded} modules loaded, {checked} checked, {it.proof[2]:.0f} s" if is_well else said[-2000:]
-        if is_well and it.now:
-            begun = time.monotonic()
-            right = f"{self.room}/right/{name}"
-            shutil.copytree(kept, f"{right}/out")
-            is_well = is_right(it.crate, it.now, f"{right}/sources", f"{right}/out")
-            shutil.rmtree(right)
-            it.seconds += time.monotonic() - begun
-            said += "" if is_well else "\nbut with an answer that belongs to no goal its right bodies leave some open"
+        said = f"{name}: {loaded} modules loaded, {checked} checked, {it.proof[2]:.0f} s" if status == 0 else said[-2000:]
         with self.lock:
-            self.failed += [] if is_well else [name]
+            self.failed += [] if status == 0 else [name]
             self.say(said)
+        return status == 0
+
+    def is_right(self, name):
+        """Whether a shared check of the right bodies of what a crate's edits change leaves nothing open. Before that no row
+        of the crate is written."""
+        it, begun = self.wanted[name], time.monotonic()
+        right = f"{self.room}/right/{name}"
+        shutil.copytree(f"{it.crate.folder}/out/incremental", f"{right}/out")
+        is_well = is_right(it.crate, it.now, f"{right}/sources", f"{right}/out")
+        shutil.rmtree(right)
+        with self.lock:
+            it.seconds, it.is_right = it.seconds + time.monotonic() - begun, is_well
+            if is_well:
+                self.write(it)
+            else:
+                self.failed.append(name)
+                self.say(f"{name}: with an answer that belongs to no goal its right bodies leave some open")
         return is_well
+
+    def write(self, it):
+        """Writes the rows of a crate, if they count."""
+        if it.is_right:
+            record.write(it.name, it.rows)
+            record.PAGE.write_text(record.page(), encoding="utf-8")
 
     def attempt(self, name, edits, texts):
         """Tries a group, and writes what came of it."""
@@ -166,8 +191,7 @@ class Run:
             for edit, (goal, said) in zip(edits, answers):
                 said = said if is_unchanged else "the crate, or one below it, was changed meanwhile"
                 self.judge(it, edit, goal if is_unchanged else None, said)
-            record.write(name, it.rows)
-            record.PAGE.write_text(record.page(), encoding="utf-8")
+            self.write(it)
             self.done += len(edits)
             self.say(f"{name}: {len(edits)} tried, {time.monotonic() - begun:.0f} s ({self.done} of {self.all})")
 
@@ -194,19 +218,23 @@ class Run:
         built = [] if trials.left_by_ci(below) else below
         found = {}
 
-        def put(key, crate, waits, call):
-            found[key] = waits, crate.count(rb"\n"), rt.need(crate), call
+        def put(key, crate, seconds, waits, call):
+            found[key] = waits, seconds, rt.need(crate), call
 
         for crate in built:
             waits = [(it.name, "library") for it in crate.below()]
-            put((crate.name, "library"), crate, waits, lambda given, jobs, it=crate, on=waits: (
+            put((crate.name, "library"), crate, seconds_of(crate.name, 0)[0], waits, lambda given, jobs, it=crate, on=waits: (
                 all(given[other] for other in on) and self.build(it, jobs)))
         for crate in needed:
-            waits = [(it.name, "library") for it in crate.below() if it in built]
-            put((crate.name, "proof"), crate, waits, lambda given, jobs, it=crate.name: self.prove(it, jobs))
-            for at, group in enumerate(in_groups(self.wanted[crate.name].now, MOST)):
-                put((crate.name, "edits", at), crate, [(crate.name, "proof")], lambda given, jobs, it=crate.name, of=group: (
-                    given[it, "proof"] and self.attempt(it, *of)))
+            it, proof = self.wanted[crate.name], (crate.name, "proof")
+            waits = [(below.name, "library") for below in crate.below() if below in built]
+            put(proof, crate, it.seconds_of_proof(), waits, lambda given, jobs, name=crate.name: self.prove(name, jobs))
+            if it.now:
+                put((crate.name, "right"), crate, it.seconds_of(it.now) // 2, [proof], lambda given, jobs, on=proof: (
+                    given[on] and self.is_right(on[0])))
+            for at, group in enumerate(in_groups(it.now, self.most)):
+                put((crate.name, "edits", at), crate, it.seconds_of(group[0]), [proof], lambda given, jobs, on=proof, of=group: (
+                    given[on] and self.attempt(on[0], *of)))
         return found
 
     def write_times(self):
