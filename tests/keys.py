@@ -10,10 +10,10 @@ A key is a sum of
   a field; those files of proofs/ whole that an invariant cites, and that these cite;
 - what the names of all these texts stand for, where their files import them.
 
-All are read without comments, in the crate and those below it. A name may stand for several things: then each counts.
-An edit of more than bodies has a key of all files of these crates but their tests. Lemmas of proofs/ are in no key, but
-where an invariant's file has them: with another lemma the same search might end otherwise, yet what the wrong body does
-not meet is in the key.
+All are read without comments, in the crate and those below it, and without saying who may name an item. A name may
+stand for several things: then each counts. An edit of more than bodies, or that the types refuse, has a key of all
+files of these crates but their tests. Lemmas of proofs/ are in no key, but where an invariant's file has them: with
+another lemma the same search might end otherwise, yet what the wrong body does not meet is in the key.
 """
 import functools
 import hashlib
@@ -24,6 +24,7 @@ from edits import FUNCTION, IMPL, TOP, opens_at, path_of
 from reading import BIND, TESTS, all_files, cited, imports
 
 DECLARED = re.compile(r"(?:pub(?:\([a-z]+\))? )?(?:struct|enum|trait|const|static|type|macro_rules!) (\w+)")
+VISIBLE = re.compile(r"(?m)^( *)pub(?:\([a-z]+\))? (?=(?:const|unsafe|fn|trait|struct|enum|static|type)\b)")
 USE = re.compile(r"(?m)^ *(?:pub(?:\([a-z]+\))? )?(?:ghost )?use (?=\w)")
 RULES = ("trial.py", "edits.py")
 
@@ -142,7 +143,7 @@ class Source:
     def __init__(self, folder, path):
         text, self.file = path.read_text(encoding="utf-8"), str(path.relative_to(folder))
         self.folder, self.names, self.uses, self.parts, self.functions = folder, imports(text), uses(text), [], {}
-        for chunk in chunks(without("//", text), ""):
+        for chunk in chunks(without("//", VISIBLE.sub(r"\1", text)), ""):
             if not chunk[0].startswith("#[cfg(test)]"):
                 self.put(chunk)
 
@@ -269,7 +270,7 @@ class Tree:
 
     def key(self, edit, crates, logic):
         """The key of an edit of the last of these crates, which has the others below it, in this logic."""
-        texts = sorted({*self.counted(edit, crates)}) if edit.is_body else [self.sum_of(it) for it in crates]
+        texts = sorted({*self.counted(edit, crates)}) if edit.is_shared else [self.sum_of(it) for it in crates]
         whole = [logic, self.rules, edit.path.read_text(encoding="utf-8"), crates, texts]
         return hashlib.sha256(repr(whole).encode()).hexdigest()[:32]
 

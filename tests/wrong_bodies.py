@@ -14,10 +14,10 @@ counts only if that commit has it, too. The others are taken by record, but for 
 groups of a crate at a time. One in turn that is refused at another goal than its row says has failed, and keeps its row,
 unless another release of the toolchain wrote it: that may have searched in another order.
 
-Each crate of which an edit is tried is proved once more, into its out/incremental, since rt ci keeps its proofs for
-itself. It stands on the libraries that rt ci left; where there are none, they are built. In the gate the library for C
-is always among these crates: its proof here is also what builds it, crates/pikhsen_c/out/libpikhsen_c.a, for
-tests/c_face.py.
+Of each crate of which an edit is tried the functions that these edits change are proved once more as they are, into its
+out/incremental, since rt ci keeps its proofs for itself; the whole crate is, where an edit changes more than bodies.
+It stands on the libraries that rt ci left; where there are none, they are built. In the gate the library for C is
+always proved as a whole, because that proof also builds it, crates/pikhsen_c/out/libpikhsen_c.a, for tests/c_face.py.
 """
 import copy
 import math
@@ -35,7 +35,7 @@ import record
 import trials
 from edits import TOP, Edit, in_groups
 from keys import Tree, sum_of
-from trial import MOST, is_right, rt, tried
+from trial import MOST, changed, is_right, rt, tried
 
 LEVEL = "x86-64-v2"  # what the gate builds for
 CHECKS = 3  # for each processor, where so few edits are tried that their checks would not fill all processors
@@ -64,10 +64,19 @@ class Wanted:
         self.keys = {it: tree.key(it, self.below, trials.LOGIC) for it in self.edits}
         self.sums = {it: tree.sum_of(it) for it in self.below} if self.edits else {}
         self.now, self.seconds, self.proof, self.is_right = list(self.edits), 0, None, False
+        self.is_built = asked.is_gate and crate.is_static  # by its proof
 
-    def seconds_of_proof(self):
-        """The seconds that the proof of the crate is likely to take."""
-        return seconds_of(self.name, 0)[0]
+    def proved_for(self, edits):
+        """The functions that are proved for a trial of these, and none where it is the whole crate. What the types refuse
+        is refused before anything is proved."""
+        is_whole = self.is_built or not all(it.is_shared or it.types for it in edits)
+        return [] if is_whole else changed(edits)
+
+    def seconds_of_proof(self, edits):
+        """The seconds that what is proved for a trial of these is likely to take."""
+        functions = self.proved_for(edits)
+        part = len(functions) / len(changed(self.edits)) if functions else 1
+        return math.ceil(seconds_of(self.name, 0)[0] * part)
 
     def seconds_of(self, edits):
         """The seconds that a check of these is likely to take."""
@@ -79,13 +88,13 @@ class Wanted:
 
     def units(self):
         """What is in turn together, by its name, with its seconds: one group where the crate is proved once more at each
-        turn, and else so many that this proof is worth it."""
+        turn, and else so many that what is proved for all of them is worth it."""
         groups = [edits for edits, _ in in_groups(self.edits, MOST)]
-        proof, trial = seconds_of(self.name, len(self.edits))
-        most = math.ceil(len(groups) / max(1, math.ceil(trial * len(self.edits) / TOGETHER)))
-        most, proof = (1, 0) if self.crate.is_static else (max(most, 1), proof)
+        seconds = self.seconds_of(self.edits)
+        most = 1 if self.is_built else max(1, math.ceil(len(groups) / max(1, math.ceil(seconds / TOGETHER))))
         parts = [sum(groups[at:at + most], []) for at in range(0, len(groups), most)]
-        return {f"{self.name} {at}": (part, proof + round(trial * len(part))) for at, part in enumerate(parts, 1)}
+        costs = [self.seconds_of(part) + (0 if self.is_built else self.seconds_of_proof(part)) for part in parts]
+        return {f"{self.name} {at}": it for at, it in enumerate(zip(parts, costs), 1)}
 
 
 def choose(wanted, asked):
@@ -117,7 +126,7 @@ class Run:
         self.passed, self.failed, self.done, self.lock = 0, [], 0, threading.Lock()
         self.all = sum(len(it.now) for it in wanted)
         self.most = max(1, min(MOST, math.ceil(self.all / (CHECKS * rt.processors()))))
-        self.proofs = sum(it.seconds_of_proof() for it in wanted)
+        self.proofs = sum(it.seconds_of_proof(it.now) for it in wanted)
 
     def say(self, text):
         print(text, flush=True)
@@ -129,23 +138,26 @@ class Run:
                 self.say(said)
         return not said
 
-    def check(self, crate, jobs):
-        """What a check of the crate as it is answers and prints, into out/incremental; in the gate the library for C is
-        built by it."""
-        flags, archive = ["--jobs", str(jobs)], f"{crate.folder}/out/lib{crate.name}.a"
-        if not (self.asked.is_gate and crate.is_static):
-            ran = rt.checked(crate, {}, flags, f"{crate.folder}/out/incremental")
+    def check(self, it, jobs):
+        """What a check of the crate as it is answers and prints, or of what is proved of it for its edits, into
+        out/incremental; in the gate the library for C is built by it."""
+        crate, flags = it.crate, ["--jobs", str(jobs)]
+        archive = f"{crate.folder}/out/lib{crate.name}.a"
+        if not it.is_built:
+            only = [f"--only={place}" for place in it.proved_for(it.now)]
+            ran = rt.checked(crate, {}, [*flags, *only], f"{crate.folder}/out/incremental")
             return ran.returncode, ran.stdout
         os.makedirs(os.path.dirname(archive), exist_ok=True)
         pathlib.Path(archive).unlink(missing_ok=True)
         return told(crate, lambda it: it.build_static([*flags, "--cpu", LEVEL]))
 
     def prove(self, name, jobs):
-        """Whether the crate is proved as it is, into out/incremental, so that a check proves again what edits change
-        alone. It gets as many jobs as there are idle processors, or its share of all where that is more."""
+        """Whether the crate is proved as it is, or what its edits change, into out/incremental, so that a check proves
+        again what edits change alone. It gets as many jobs as there are idle processors, or its share of all where that
+        is more."""
         it, begun = self.wanted[name], time.monotonic()
-        share = round(rt.processors() * it.seconds_of_proof() / max(self.proofs, 1))
-        status, said = self.check(it.crate, max(jobs, share) if rt.free() > share * rt.need(it.crate) else jobs)
+        share = round(rt.processors() * it.seconds_of_proof(it.now) / max(self.proofs, 1))
+        status, said = self.check(it, max(jobs, share) if rt.free() > share * rt.need(it.crate) else jobs)
         loaded, checked = map(int, (COUNTS.findall(said) or [(0, 0)])[-1])
         it.proof = loaded, checked, time.monotonic() - begun
         said = f"{name}: {loaded} modules loaded, {checked} checked, {it.proof[2]:.0f} s" if status == 0 else said[-2000:]
@@ -228,7 +240,7 @@ class Run:
         for crate in needed:
             it, proof = self.wanted[crate.name], (crate.name, "proof")
             waits = [(below.name, "library") for below in crate.below() if below in built]
-            put(proof, crate, it.seconds_of_proof(), waits, lambda given, jobs, name=crate.name: self.prove(name, jobs))
+            put(proof, crate, it.seconds_of_proof(it.now), waits, lambda given, jobs, name=crate.name: self.prove(name, jobs))
             if it.now:
                 put((crate.name, "right"), crate, it.seconds_of(it.now) // 2, [proof], lambda given, jobs, on=proof: (
                     given[on] and self.is_right(on[0])))
@@ -255,7 +267,7 @@ def main():
     if unknown:
         sys.exit(f"no crate has these wrong bodies: {', '.join(sorted(unknown))}")
     in_turn = choose(wanted, asked) if asked.is_gate else ""
-    needed = [it for it in wanted if it.now or asked.is_gate and it.crate.is_static]
+    needed = [it for it in wanted if it.now or it.is_built]
     with tempfile.TemporaryDirectory(prefix="wrong-bodies-") as room:
         run = Run(needed, asked, room)
         rt.in_lanes(run.tasks(crates))
@@ -263,7 +275,7 @@ def main():
         run.write_times()
         proofs = [it.proof for it in needed if it.proof]
         loaded, checked = (sum(it[at] for it in proofs) for at in (0, 1))
-        print(f"{len(proofs)} crates proved once more: {loaded} modules loaded, {checked} checked")
+        print(f"{len(proofs)} crates proved once more, or what is tried of them: {loaded} modules loaded, {checked} checked")
         by_record = trials.by_record(wanted)
         print(f"{run.all} tried, {by_record}, in {time.monotonic() - begun:.0f} s" + f"; {in_turn}" * bool(in_turn))
     print("".join(f"FAILED: {name}\n" for name in run.failed) + f"{run.passed} passed, {len(run.failed)} failed")

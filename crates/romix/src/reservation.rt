@@ -1,19 +1,20 @@
-//! Where the lists of a workspace come from. A test puts a source that refuses in its place.
+//! Where the lists of a workspace come from.
 ghost use Rattle.std.specs.Prelude.{◌≡◌, ℕ, IfOk, vec_len};
 
 use std::alloc::{AllocError, Global};
 
-/// A source of lists of zeros. Contracts see how many are asked for, and of what length.
-pub(crate) trait Reservation {
+/// A source of the lists of words, all 0, that a workspace holds. The allocator is one; a caller's own may
+/// count what it is asked for, or refuse it. Contracts see how many lists are asked for, and of what length.
+pub trait Reservation {
     // What a request for so many words leaves of the source, granted or not.
     ghost after_words: { Self → ℕ → Self };
 
-    /// So many words, all 0.
+    /// So many words of four bytes, all 0, or the fault of a source that has no such list.
     fn zero_words(&mut self, len: usize) -> Result<Vec<u32>, AllocError>
         ensures len { IfOk result (λ words. vec_len words ≡ len) }
         ensures asked { self.new ≡ after_words self.old len };
 
-    /// No words, for which nothing is asked for.
+    /// A list of no words, for which nothing is asked for.
     fn no_words(&self) -> Vec<u32>
         ensures none { vec_len result ≡ 0 };
 }

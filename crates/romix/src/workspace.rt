@@ -52,8 +52,10 @@ impl Model for Workspace {
     }) };
 }
 
-// The memory of derivations of these costs, from this source.
-pub(crate) fn reserve_from<R: Reservation>(
+/// The memory of derivations of these costs, as [`Workspace::reserve`] takes it, from this source. The table
+/// is asked for first, and then two rows of 32 * r words each, three if S is above 1. After a refusal
+/// nothing more is asked for, and nothing stays reserved.
+pub fn reserve_from<R: Reservation>(
     source: &mut R,
     sparse: &Sparse,
 ) -> Result<Workspace, AllocError>

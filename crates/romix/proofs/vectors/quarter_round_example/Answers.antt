@@ -1,7 +1,0 @@
-use Rattle.std.proofs.Common.{refl}
-use Rattle.romix.specs.Salsa20.{quarter_round}
-use Rattle.romix.proofs.vectors.quarter_round_example.Goals as goal
-
-pub returns : goal.returns
-unfolding quarter_round
-returns c = record { words = refl }

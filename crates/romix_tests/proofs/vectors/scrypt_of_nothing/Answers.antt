@@ -1,0 +1,13 @@
+use Rattle.std.proofs.Common.{refl}
+use Rattle.sha2.specs.Sha256.{compress, digest_bytes, first_words, hash_after, rounds, schedule, sha256}
+use Rattle.macs.specs.HmacSha256.{hmac_sha256, key_block}
+use Rattle.macs.specs.Pbkdf2.{joined_blocks, pbkdf2}
+use Rattle.romix.specs.BlockMix.{block_mix, chain_block, every_second_output}
+use Rattle.romix.specs.Romix.{integerify, romix, row_after, table_row}
+use Rattle.romix.specs.Salsa20.{double_rounds, quarter_round, quarter_round_at, quarter_rounds, salsa20_8}
+use Rattle.romix.specs.Scrypt.{mixed_parts, scrypt, words_of}
+use Rattle.romix_tests.proofs.vectors.scrypt_of_nothing.Goals as goal
+
+pub returns : goal.returns
+unfolding first_words schedule rounds compress hash_after digest_bytes sha256 key_block hmac_sha256 joined_blocks pbkdf2 quarter_round quarter_round_at quarter_rounds double_rounds salsa20_8 chain_block every_second_output block_mix integerify table_row row_after romix words_of mixed_parts scrypt
+returns c = record { key = refl }
