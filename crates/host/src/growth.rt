@@ -1,11 +1,17 @@
-//! Where the memory of a host in memory comes from: the heap, or what a test puts in its place to refuse it.
+//! Where the memory of a host in memory comes from: the heap, or a source of one's own.
 ghost use Rattle.std.specs.Prelude.{◌≡◌, ◌∷◌, ◌++◌, [], IfOk, OnOk, OnErr, string_bytes};
 
 use crate::named_secret::NamedSecret;
 use std::alloc::{AllocError, Global};
 
-/// The growths of a host in memory.
-pub(crate) trait Growth {
+/// A source of memory for the growths of a host in memory.
+///
+/// The heap, `Global`, is one, and grants what the system grants. Write another to bound what a
+/// [`MemoryHost`](crate::MemoryHost) takes, or to refuse a growth of it at will: `set_env_with`,
+/// `set_file_with`, `open_input_with`, `open_output_with`, `push_with` and `say_with` take their memory
+/// from it. Each method is one growth, which is done whole, or is refused by `AllocError` and changes
+/// nothing.
+pub trait Growth {
     /// A copy of the text.
     fn copy_of(&mut self, text: &str) -> Result<String, AllocError>
         ensures text { IfOk result (λ copy. string_bytes copy ≡ text.now) };

@@ -16,17 +16,15 @@
 #![tactic(auto)]
 
 mod asked;
-#[cfg(test)]
-mod fixtures;
 mod growth;
 mod host;
 mod memory;
 mod named_secret;
-#[cfg(test)]
-mod vectors;
 mod writing;
 
 pub use asked::{Asked, Name};
+pub use growth::Growth;
 pub use host::{Host, HostFault, Source};
 pub use memory::MemoryHost;
+pub use named_secret::NamedSecret;
 pub use writing::{push_all, refuse, write_output};

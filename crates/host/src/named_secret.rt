@@ -6,7 +6,8 @@ use crate::growth::Growth;
 use std::alloc::AllocError;
 use std::marker::Model;
 
-/// The bytes of a secret and its name. Contracts see an `Entry`.
+/// The bytes of a secret and its name, as a [`MemoryHost`](crate::MemoryHost) keeps it. A source of memory
+/// of one's own passes it on as it is: [`Growth::add_first`]. Contracts see an `Entry`.
 #[derive(Drop)]
 pub struct NamedSecret {
     name: String,

@@ -1,13 +1,10 @@
 //! Each growth of a host in memory refused in turn.
-ghost use Rattle.std.specs.Prelude.{◌^◌};
+ghost use Rattle.std.specs.Prelude.{◌≡◌, ◌+◌, ◌^◌, None};
 ghost use Rattle.host.specs.Faults.{AreBelow};
 ghost use Rattle.host.specs.Memory.{memory_faults};
 
-use super::MemoryHost;
 use crate::fixtures::{list, new_host, text};
-use crate::growth::Growth;
-use crate::host::Host;
-use crate::named_secret::{NamedSecret, find, put_first};
+use host::{Growth, Host, MemoryHost, NamedSecret, Source};
 use std::alloc::{AllocError, Global};
 
 // Grants all requests but one, which is counted from 1.
@@ -71,19 +68,27 @@ enum Call {
     Say,
 }
 
-// Whether a secret is put under `pw`, with this growth.
-fn put(growth: &mut Refusing, entries: &mut Vec<NamedSecret>) -> bool {
-    let (name, bytes) = (text(growth.alloc, "pw"), list(growth.alloc, b"secret"));
-    put_first(growth, entries, name, bytes).is_ok()
+// The name `pw`, and the bytes of a secret.
+fn secret(alloc: Global) -> (String, Vec<u8>) {
+    (text(alloc, "pw"), list(alloc, b"secret"))
 }
 
 // Whether a call of a host is done, with this growth.
 fn is_done(host: &mut MemoryHost, growth: &mut Refusing, call: Call) -> bool
     requires room { AreBelow (2 ^ 63) (memory_faults host.old) }
+    requires unasked { host.old.asked ≡ None }
+    ensures room { AreBelow (2 ^ 63 + 1) (memory_faults host.new) }
+    ensures unasked { host.new.asked ≡ None }
 {
     match call {
-        Call::SetVariable => put(growth, &mut host.variables),
-        Call::SetFile => put(growth, &mut host.files),
+        Call::SetVariable => {
+            let (name, bytes) = secret(growth.alloc);
+            host.set_env_with(growth, name, bytes).is_ok()
+        }
+        Call::SetFile => {
+            let (name, bytes) = secret(growth.alloc);
+            host.set_file_with(growth, name, bytes).is_ok()
+        }
         Call::OpenInput => host.open_input_with(growth, Some("in")).is_ok(),
         Call::OpenOutput => host.open_output_with(growth, Some("out")).is_ok(),
         Call::Push => host.push_with(growth, b"text").is_ok(),
@@ -92,10 +97,13 @@ fn is_done(host: &mut MemoryHost, growth: &mut Refusing, call: Call) -> bool
 }
 
 // Whether a host tells of a call that is done.
-fn is_seen(host: &MemoryHost, call: Call) -> bool {
+fn is_seen(host: &mut MemoryHost, call: Call) -> bool
+    requires room { AreBelow (2 ^ 63 + 1) (memory_faults host.old) }
+    requires unasked { host.old.asked ≡ None }
+{
     match call {
-        Call::SetVariable => find(&host.variables, "pw").is_some(),
-        Call::SetFile => find(&host.files, "pw").is_some(),
+        Call::SetVariable => host.secret(Source::Env("pw"), &mut [0; 6]) == Ok(6),
+        Call::SetFile => host.secret(Source::File("pw"), &mut [0; 6]) == Ok(6),
         Call::OpenInput => host.input_name() == Some(Some("in")),
         Call::OpenOutput => host.output_name() == Some(Some("out")),
         Call::Push => host.output() == b"text".as_slice(),
@@ -119,7 +127,7 @@ fn told_of(alloc: Global, call: Call, refused: u32) -> Told {
     };
     let mut host = new_host(alloc, b"", b"");
     let is_done = is_done(&mut host, &mut growth, call);
-    let is_seen = is_seen(&host, call);
+    let is_seen = is_seen(&mut host, call);
     drop(host);
     Told {
         is_done,

@@ -4,7 +4,7 @@ ghost use Rattle.std.specs.Prelude.{◌≡◌, ◌^◌, None, false};
 ghost use Rattle.host.specs.Faults.{AreBelow};
 ghost use Rattle.host.specs.Memory.{memory_faults};
 
-use crate::memory::MemoryHost;
+use host::MemoryHost;
 use std::alloc::Global;
 
 /// These bytes.

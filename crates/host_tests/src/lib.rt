@@ -1,0 +1,9 @@
+//! Tests of `host`, and vectors of its definitions, apart from it, so that it is proved once.
+#![tactic(auto)]
+
+#[cfg(test)]
+mod fixtures;
+#[cfg(test)]
+mod tests;
+#[cfg(test)]
+mod vectors;
