@@ -86,6 +86,3 @@ fn text_of(bytes: Vec<u8>) -> Result<Option<String>, WordsFault>
         Err(_) => Err(WordsFault::NotText),
     }
 }
-
-#[cfg(test)]
-mod tests;

@@ -9,7 +9,11 @@ use crate::streams::read_full;
 use crate::system::{Reading, System};
 use host::{HostFault, Source};
 
-/// The first bytes of a secret source: all of them, or as many as fit, in however many pieces they come.
+/// The first bytes of a secret source: all of them, or as many as fit, in however many pieces they come;
+/// and how many they are. A source that is not there, that cannot be opened or that fails at a read is a
+/// fault, after which some bytes may have been read.
+///
+/// This is how a host over a system reads its secret: once, and before an output is asked for.
 pub fn read_secret<S: System>(
     system: &mut S,
     source: Source<'_>,
@@ -48,7 +52,10 @@ fn read_opened<S: System>(
     read_full(system, Reading::Secret, buf)
 }
 
-/// A salt of random bytes. A source that ends before 32 of them is a fault.
+/// A salt of random bytes: the first 32 of `/dev/urandom`. A source that cannot be opened, that fails at a
+/// read or that ends before 32 of them is a fault.
+///
+/// This is how a host over a system takes its salt: once, and before an output is asked for.
 pub fn read_salt<S: System>(system: &mut S, out: &mut [u8; 32]) -> Result<(), HostFault>
     requires once { IsTrue S.tells → (S.world system.old).random.opened ≡ None }
     requires early { IsTrue S.tells → (S.world system.old).output_asked ≡ None }
@@ -63,6 +70,3 @@ pub fn read_salt<S: System>(system: &mut S, out: &mut [u8; 32]) -> Result<(), Ho
         Err(HostFault)
     }
 }
-
-#[cfg(test)]
-mod tests;

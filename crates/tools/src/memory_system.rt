@@ -440,6 +440,3 @@ impl System for MemorySystem {
         self.lines.push(kept).map_err(|_| HostFault)
     }
 }
-
-#[cfg(test)]
-mod tests;

@@ -8,7 +8,9 @@ use host::HostFault;
 
 /// Opens an output, and empties it where it is a regular file that was opened by its name. One of the
 /// files that are read is a fault, and holds what it held. Which files they are is asked once the output
-/// is opened, since that can copy a file.
+/// is opened, since that can copy a file. A call of the system that fails is a fault, too.
+///
+/// This is how a host over a system opens its output: once.
 pub fn open_apart<S: System>(system: &mut S, name: Option<&str>) -> Result<(), HostFault>
     requires once { IsTrue S.tells → (S.world system.old).output_asked ≡ None }
     ensures asks { IsTrue S.tells → AsksOutput (option_map (λ n. n.now) name.entry)
@@ -35,6 +37,3 @@ pub fn open_apart<S: System>(system: &mut S, name: Option<&str>) -> Result<(), H
     }
     system.empty()
 }
-
-#[cfg(test)]
-mod tests;

@@ -36,10 +36,13 @@ pub enum OutputStage {
     Opened,
 }
 
-/// A system, and how far a run over it has come. What the system must not be asked for is a fault: a
-/// stream before it is opened, and one that is opened once an output was asked for.
+/// A system, and how far a run over it has come: what a [`SystemHost`](crate::SystemHost) does, without its
+/// counts of faults. What the system must not be asked for is a fault: a stream before it is opened, and
+/// one that is opened once an output was asked for.
 ///
-/// Contracts see a `Held`.
+/// The input and an output are opened once each, one secret source is asked, and one salt is taken: that is
+/// a condition of these calls, and `may_open_input`, `may_open_output`, `may_ask_for_secret` and
+/// `may_ask_for_salt` tell whether it holds. Contracts see a `Held`.
 #[derive(Drop)]
 pub struct Run<S: System> {
     system: S,
@@ -88,6 +91,34 @@ impl<S: System> Run<S> {
         ensures same { S.world result.now ≡ self.now.world }
     {
         &self.system
+    }
+
+    /// Whether the input may be opened: it was not yet.
+    pub fn may_open_input(&self) -> bool
+        ensures granted { result ≡ self.now.grants.input }
+    {
+        matches!(self.input, InputStage::Unopened)
+    }
+
+    /// Whether an output may be asked for: none was yet.
+    pub fn may_open_output(&self) -> bool
+        ensures granted { result ≡ self.now.grants.output }
+    {
+        matches!(self.output, OutputStage::Unasked)
+    }
+
+    /// Whether a secret source may be asked: none was yet.
+    pub fn may_ask_for_secret(&self) -> bool
+        ensures granted { result ≡ self.now.grants.secret }
+    {
+        self.asked.is_none()
+    }
+
+    /// Whether a salt may be asked for: none was yet.
+    pub fn may_ask_for_salt(&self) -> bool
+        ensures granted { result ≡ self.now.grants.salt }
+    {
+        !self.salted
     }
 
     /// Opens the input, if no output was asked for.
@@ -206,6 +237,3 @@ impl<S: System> Run<S> {
         self.system.line(line)
     }
 }
-
-#[cfg(test)]
-mod tests;

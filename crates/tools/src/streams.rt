@@ -10,7 +10,11 @@ use std::io::ErrorKind;
 // How often an interrupted read or write is asked again.
 const TRIES: usize = 16;
 
-/// One read, asked again where a signal interrupts it, at most 16 times. After a fault nothing was read.
+/// One read, asked again where a signal interrupts it, at most 16 times. It says how many bytes came: 0
+/// only at the end. A read that fails otherwise, or is interrupted once more, is a fault, after which
+/// nothing was read.
+///
+/// This is how a host over a system pulls from its input.
 pub fn read_some<S: System>(
     system: &mut S,
     reading: Reading,
@@ -35,8 +39,10 @@ pub fn read_some<S: System>(
     Err(HostFault)
 }
 
-/// Reads until the buffer is full or the end has come: as many bytes as there are and as fit. After a
-/// fault some bytes may have been read.
+/// Reads until the buffer is full or the end has come: as many bytes as there are and as fit. It says how
+/// many came. Each read is one of [`read_some`]; after a fault of one some bytes may have been read.
+///
+/// This is how a host over a system reads a secret and a salt.
 pub fn read_full<S: System>(
     system: &mut S,
     reading: Reading,
@@ -60,8 +66,11 @@ pub fn read_full<S: System>(
 }
 
 /// One write, asked again where a signal interrupts it, at most 16 times: a beginning of the bytes, of at
-/// least one where there is one. Writing nothing where there is something is a fault. After a fault
+/// least one where there is one. It says how many bytes were written. A write that fails otherwise, that
+/// is interrupted once more, or that takes nothing where there is something, is a fault, after which
 /// nothing was written.
+///
+/// This is how a host over a system pushes to its output.
 pub fn write_some<S: System>(system: &mut S, bytes: &[u8]) -> Result<usize, HostFault>
     requires apart { IsTrue S.tells → IsApart (S.files system.old) }
     requires new { IsTrue S.tells → (S.world system.old).is_new ≡ true }
@@ -86,6 +95,3 @@ pub fn write_some<S: System>(system: &mut S, bytes: &[u8]) -> Result<usize, Host
     }
     Err(HostFault)
 }
-
-#[cfg(test)]
-mod tests;

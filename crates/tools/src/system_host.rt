@@ -53,6 +53,14 @@ impl<S: System> SystemHost<S> {
     {
         self.run.system()
     }
+
+    /// How many lines could not be said. Each such line is a fault, whose caller may pass it over, as
+    /// [`refuse`](host::refuse) does.
+    pub fn line_faults(&self) -> u64
+        ensures count { result ≡ (⟦<SystemHost<S> as Host>⟧.faults self.now).lines }
+    {
+        self.line_faults
+    }
 }
 
 // Passes an outcome on, and counts it where it is a fault.
@@ -118,6 +126,3 @@ impl<S: System> Host for SystemHost<S> {
         counted(&mut self.line_faults, said)
     }
 }
-
-#[cfg(test)]
-mod tests;

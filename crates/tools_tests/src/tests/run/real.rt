@@ -1,11 +1,10 @@
 //! Runs over the system's own files and its random bytes.
 
 use super::{open_input, open_output, salt, secret};
-use crate::real::Real;
-use crate::run::Run;
 use host::Source;
 use std::fs;
 use std::os::unix::fs::symlink;
+use tools::{Real, Run};
 
 // A run over the system.
 fn real(rt: HostRuntime) -> Run<Real> {

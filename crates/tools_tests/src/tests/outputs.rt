@@ -2,13 +2,9 @@
 ghost use Rattle.std.specs.Prelude.{◌≡◌, None};
 ghost use Rattle.tools.specs.World.{IsUnused};
 
-use super::*;
-use crate::contents::Identities;
 use crate::fixtures::{put, with_standard};
-use crate::identity::FileIdentity;
-use crate::memory_system::MemorySystem;
-use crate::system::Reading;
 use std::alloc::Global;
+use tools::{FileIdentity, Identities, MemorySystem, Reading, System, open_apart};
 
 // The output in most cases, another file on its device, and one of its number on another device.
 const THIS: Option<FileIdentity> = Some(FileIdentity {

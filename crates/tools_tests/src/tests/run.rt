@@ -1,11 +1,10 @@
 //! Whole runs over a system in memory.
 mod real;
 
-use super::*;
-use crate::contents::Identities;
 use crate::fixtures::{put, with_standard};
-use crate::memory_system::MemorySystem;
+use host::{HostFault, Source};
 use std::alloc::Global;
+use tools::{Identities, MemorySystem, Run, System};
 
 // A run of which nothing was used, over five bytes of standard input, which are the input, and random bytes. This call
 // of its system fails.
@@ -38,18 +37,18 @@ fn count(outcome: Result<usize, HostFault>) -> u8 {
 
 // Opens the input, if it was not opened.
 fn open_input<S: System>(run: &mut Run<S>, name: Option<&str>) -> u8 {
-    match run.input {
-        InputStage::Unopened => done(run.open_input(name)),
-        _ => b'F',
+    if !run.may_open_input() {
+        return b'F';
     }
+    done(run.open_input(name))
 }
 
 // Opens an output, if none was asked for.
 fn open_output<S: System>(run: &mut Run<S>, name: Option<&str>) -> u8 {
-    match run.output {
-        OutputStage::Unasked => done(run.open_output(name)),
-        _ => b'F',
+    if !run.may_open_output() {
+        return b'F';
     }
+    done(run.open_output(name))
 }
 
 // Pulls at most so many bytes, up to four.
@@ -64,15 +63,15 @@ fn push(run: &mut Run<MemorySystem>, bytes: &[u8]) -> u8 {
 
 // Reads a secret, if none was asked for.
 fn secret<S: System>(run: &mut Run<S>, source: Source<'_>) -> u8 {
-    match run.asked {
-        None => count(run.secret(source, &mut [0; 4])),
-        Some(_) => b'F',
+    if !run.may_ask_for_secret() {
+        return b'F';
     }
+    count(run.secret(source, &mut [0; 4]))
 }
 
 // Takes a salt, if none was asked for.
 fn salt<S: System>(run: &mut Run<S>, out: &mut [u8; 32]) -> u8 {
-    if run.salted {
+    if !run.may_ask_for_salt() {
         return b'F';
     }
     done(run.salt(out))
@@ -98,7 +97,7 @@ fn answers(run: &mut Run<MemorySystem>) -> [u8; 9] {
 fn is_row(alloc: Global, (failing, marks, is_emptied, lines): (u64, [u8; 9], bool, usize)) -> bool {
     let mut run = begun(alloc, failing);
     let answers = answers(&mut run);
-    let left = (run.system.is_emptied(), run.system.lines().len());
+    let left = (run.system().is_emptied(), run.system().lines().len());
     drop(run);
     answers == marks && left == (is_emptied, lines)
 }
@@ -154,7 +153,7 @@ fn pulls(run: &mut Run<MemorySystem>) -> [u8; 6] {
 // Whether the system was asked no more once the end was found.
 fn ends_once(alloc: Global) -> bool {
     let mut run = begun(alloc, 0);
-    let (pulls, tries) = (pulls(&mut run), run.system.tries());
+    let (pulls, tries) = (pulls(&mut run), run.system().tries());
     drop(run);
     pulls == *b".04100" && tries == 3
 }
@@ -177,7 +176,7 @@ fn late(run: &mut Run<MemorySystem>) -> [u8; 4] {
 // Whether these are the answers where this call of the system fails, and how often it was called.
 fn is_late(alloc: Global, (failing, marks, calls): (u64, [u8; 4], u64)) -> bool {
     let mut run = begun(alloc, failing);
-    let late = (late(&mut run), run.system.calls());
+    let late = (late(&mut run), run.system().calls());
     drop(run);
     late == (marks, calls)
 }

@@ -1,12 +1,12 @@
 //! Streams that are interrupted, that fail in the middle, and that take or give little.
 ghost use Rattle.std.specs.Prelude.{◌≡◌, None, false};
 
-use super::*;
-use crate::contents::Identities;
 use crate::fixtures::with_standard;
-use crate::memory_system::MemorySystem;
-use crate::outputs::open_apart;
+use host::HostFault;
 use std::alloc::Global;
+use tools::{
+    Identities, MemorySystem, Reading, System, open_apart, read_full, read_some, write_some,
+};
 
 // How many bytes come or go at a time, how often each read or write is interrupted, and which of them fails,
 // counted from 1; 0 is none.

@@ -1,8 +1,8 @@
 //! What no contract says of a system in memory.
 
-use super::*;
-use crate::contents::Identities;
 use crate::fixtures::{put, with_standard};
+use std::alloc::Global;
+use tools::{Identities, Reading, System};
 
 // Whether the input stands under this name, and is opened under that one.
 fn opens(alloc: Global, given: Option<&str>, name: Option<&str>) -> (bool, bool) {

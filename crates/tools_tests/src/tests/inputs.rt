@@ -1,11 +1,10 @@
 //! Secrets and salts whose bytes come in pieces.
 ghost use Rattle.tools.specs.World.{IsUnused};
 
-use super::*;
-use crate::contents::Identities;
 use crate::fixtures::{put, put_variable, with_standard};
-use crate::memory_system::MemorySystem;
+use host::{HostFault, Source};
 use std::alloc::Global;
+use tools::{Identities, MemorySystem, read_salt, read_secret};
 
 // A system where each source gives so many sevens, at most 40, two at a time.
 fn sevens(alloc: Global, count: usize) -> MemorySystem

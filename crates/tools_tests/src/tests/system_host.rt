@@ -2,12 +2,10 @@
 ghost use Rattle.std.specs.Prelude.{◌≡◌};
 ghost use Rattle.host.specs.Faults.{no_faults};
 
-use super::*;
-use crate::contents::Identities;
 use crate::fixtures::with_standard;
-use crate::memory_system::MemorySystem;
-use host::refuse;
+use host::{Host, refuse};
 use std::alloc::Global;
+use tools::{Identities, MemorySystem, SystemHost};
 
 // A host over a system that gives nothing, and of whose calls this one fails.
 fn failing(alloc: Global, call: u64) -> SystemHost<MemorySystem>
@@ -28,7 +26,7 @@ fn refused(alloc: Global, call: u64) -> (u8, u64, bool) {
     let mut host = failing(alloc, call);
     let status = refuse(&mut host, "a refusal");
     let is_said = is_said(host.system().lines(), "a refusal");
-    let faults = host.line_faults;
+    let faults = host.line_faults();
     drop(host);
     (status, faults, is_said)
 }
