@@ -1,5 +1,7 @@
 -- The command argon2: what it writes, and what a run comes to.
 pub mod Output
 pub mod Asking
+pub mod RunAsking
+pub mod Work
 pub mod Run
 pub mod Inside

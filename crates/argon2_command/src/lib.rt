@@ -10,10 +10,8 @@ mod output;
 mod password;
 mod room;
 mod run;
-#[cfg(test)]
-mod tests;
-#[cfg(test)]
-mod vectors;
 
 pub use argon2_words::Argon2Refusal;
-pub use run::argon2;
+pub use bytes::Bytes;
+pub use room::Room;
+pub use run::{argon2, attempt};

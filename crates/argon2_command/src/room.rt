@@ -1,4 +1,4 @@
-//! Where the memory of a run comes from: the heap, or what a test puts in its place to refuse it.
+//! Where the memory of a run comes from: the heap, or what a caller puts in its place.
 ghost use Rattle.std.specs.Prelude.{◌≡◌, ℕ, Bool, Ok, IfOk, is_ok, length, true};
 ghost use Rattle.argon.specs.Argon2.{Parameters};
 ghost use Rattle.argon.specs.Range.{admission};
@@ -13,7 +13,8 @@ use argon::{Matrix, Params};
 use argon2_words::{Request, Settings};
 use std::alloc::{AllocError, Global};
 
-/// The requests for memory of a run, which has no other source. All of them are made before the hash.
+/// The requests for memory of a run, which has no other source: the heap (`Global`), or a type of the
+/// caller's that counts requests or refuses some. All of them are made before the hash.
 /// Contracts see how many there are, of what, and which of them are granted. What is given cannot grow,
 /// and hands on no heap.
 pub trait Room {

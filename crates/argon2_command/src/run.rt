@@ -5,9 +5,9 @@ ghost use Rattle.host.specs.Grants.{GrantsAll, with_secret_asked};
 ghost use Rattle.host.specs.Lines.{SaysOneLine};
 ghost use Rattle.host.specs.Seen.{IsFresh};
 ghost use Rattle.argon2_command.specs.Asking.{asking};
-ghost use Rattle.argon2_command.specs.Inside.RunAsking.{RunGranted, RunRefused};
+ghost use Rattle.argon2_command.specs.RunAsking.{RunGranted, RunRefused};
 ghost use Rattle.argon2_command.specs.Output.{argon2_output};
-ghost use Rattle.argon2_command.specs.Inside.Work.{request_work};
+ghost use Rattle.argon2_command.specs.Work.{request_work};
 ghost use Rattle.argon2_words.specs.Refusal.{IsEarly, counted_by, line_of};
 ghost use Rattle.argon2_words.specs.Request.{argon2_request};
 ghost use Rattle.argon2_command.specs.Run.{IsRefused, IsToldForSome, Refuses, Succeeds, SucceedsForSome, password_asked};
@@ -65,8 +65,22 @@ fn prepare<R: Room, H: Host>(
     Ok(line)
 }
 
-// All of a run but the line of a refusal.
-pub(super) fn attempt<R: Room, H: Host>(
+/// Does a run of `argon2` with memory from `room`: all of it but the line of a refusal, which is not
+/// said. `words` leaves out the program's name. Nothing was asked of the host yet, and its sources and
+/// outputs can still be asked for.
+///
+/// The faults are those of [`Argon2Refusal`], in this order: of the words, of the password (which is
+/// the whole standard input, 1 to 127 bytes), of the parameters (RFC 9106, 3.1), of the limits in KiB
+/// and in block functions, then `OutOfMemory`, then `OutputFault`. Standard output is not asked for
+/// before every other is ruled out; what was written before `OutputFault` stays written.
+///
+/// All memory comes from `room`, which is asked for the tag, its line and one matrix, in this order and
+/// each once, up to the first that is refused: then the fault is `OutOfMemory`, which is told there
+/// alone. A fault that comes before leaves `room` as it was.
+///
+/// `ticks` counts the block functions: none where a fault comes before the output, and the work of the
+/// request's hash after success or `OutputFault`.
+pub fn attempt<R: Room, H: Host>(
     room: &mut R,
     words: &[String],
     host: &mut H,

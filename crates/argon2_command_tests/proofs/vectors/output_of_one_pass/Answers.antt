@@ -3,7 +3,7 @@ use Rattle.argon_text.specs.EncodedText.{encoded_text}
 use Rattle.argon_text.specs.Value.{Value}
 use Rattle.argon_text.specs.Vectors.{known_value}
 use Rattle.argon_text.proofs.KnownText.{text_of_known_value}
-use Rattle.argon2_command.proofs.vectors.output_of_one_pass.Goals as goal
+use Rattle.argon2_command_tests.proofs.vectors.output_of_one_pass.Goals as goal
 
 pub returns : goal.returns
 returns c = record {

@@ -8,10 +8,8 @@ ghost use Rattle.host.specs.Memory.{memory_faults, memory_seen};
 ghost use Rattle.host.specs.Seen.{IsFresh};
 
 use self::refusing::{Asked, Refusing};
-use super::argon2;
-use super::run::attempt;
 use argon::Ticks;
-use argon2_words::Argon2Refusal;
+use argon2_command::{Argon2Refusal, argon2, attempt};
 use host::MemoryHost;
 use std::alloc::Global;
 

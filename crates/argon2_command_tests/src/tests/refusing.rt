@@ -1,10 +1,9 @@
 //! A source of memory that refuses one request.
 ghost use Rattle.std.specs.Prelude.{◌≡◌, ◌-◌, Some};
-ghost use Rattle.argon2_command.specs.declared.tests.refusing.Asked.TheVariants as asked;
+ghost use Rattle.argon2_command_tests.specs.declared.tests.refusing.Asked.TheVariants as asked;
 
-use crate::bytes::Bytes;
-use crate::room::Room;
 use argon::{Matrix, Params};
+use argon2_command::{Bytes, Room};
 use argon2_words::{Request, Settings};
 use std::alloc::{AllocError, Global};
 
