@@ -1,7 +1,7 @@
 #!/usr/bin/env python3
 """Which texts near an encoded text are encoded texts, by a regular expression and Python's base64.
 
-Prints the tables of crates/argon_text/src/tests/near_misses.rt: for each byte of the known text, what reading
+Prints the tables of crates/argon_text_tests/src/tests/near_misses.rt: for each byte of the known text, what reading
 answers where another byte stands in its place; of that and of the short text, where a byte is left out, where it
 comes twice, and of each prefix.
 0: it is read; 1: it is not in the grammar; 2: a value is out of range. With that file's name it prints nothing, and

@@ -247,13 +247,15 @@ def checks_what_changed(checks, tree):
     for words in (["init", "-q"], ["add", "-A"], ["commit", "-q", "-m", "all"]):
         subprocess.run([*git, *words], cwd=tree.top, env=tree.environment, check=True)
     tree.write("argon_text", "changed\n")
+    tree.write("argon_tool", "changed\n")
     status, said = tree.make("check")
     touched = ["argon_text", "argon2_command", "command", "argon_tool", "pikhsen_c"]
     checks.that("make check", status, 0)
     checks.that("make check: how many", any(it.startswith(f"{len(touched)} crates to prove") for it in said), True)
-    checks.that("make check: begun", tree.begun(), sorted([*touched, "argon_text"]))
-    checks.that("make check: tests", [it[1] for it in tree.noted("begin") if "test" in it[2]], ["argon_text"])
-    checks.that("make check: the lines", len([it for it in said if LINE.fullmatch(it)]), 23)
+    tests = ["argon_text_tests", "argon_tool"]
+    checks.that("make check: begun", tree.begun(), sorted([*touched, *tests]))
+    checks.that("make check: tests", sorted(it[1] for it in tree.noted("begin") if "test" in it[2]), tests)
+    checks.that("make check: the lines", len([it for it in said if LINE.fullmatch(it)]), 24)
     subprocess.run([*git, "commit", "-q", "-a", "-m", "argon_text"], cwd=tree.top, env=tree.environment, check=True)
     tree.write("scrypt_command", "changed\n")
     status, said = tree.make("check")

@@ -29,6 +29,11 @@ PAGES = [*sorted(TOP.glob("*.md")), *(it for it in sorted((TOP / "docs").glob("*
 MADE = re.compile(r"^<!-- made by (\S+): ([^\n]*) -->\n(.*?)^<!-- end -->\n", re.MULTILINE | re.DOTALL)
 MOST_BY_HAND = 1700
 PRINTED = ratios.read(TOP / "docs/benchmarks.tsv")[1]
+# What the faults of the toolchain's libraries say.
+OF_THE_TOOLCHAIN = {
+    "AllocError": "a request for memory was refused",
+    "DecodeAllocError": "the symbols are no base64, or a request for memory was refused",
+}
 
 
 def rows(name, kind=None):
@@ -82,7 +87,7 @@ def faults():
                 called.append(f"calls of `{owner}`")
             else:
                 called += [f"`{owner.removesuffix('::')}::{it}`" for it in names]
-        said = ["a row of the table of scrypt"] if name == "ScryptRefusal" else said or ["a request for memory was refused"]
+        said = ["a row of the table of scrypt"] if name == "ScryptRefusal" else said or [OF_THE_TOOLCHAIN[name]]
         words = "; ".join(re.sub(r"\.$", "", it) for it in said)
         lines.append([f"`{crate}::{name}`" if crate else f"`{name}`", words, ", ".join(called)])
     return table(["fault", "what it says", "calls"], lines)

@@ -161,9 +161,9 @@ compare 50c5f6a67a99faf204f64f79e456976cf61323cfd5b4110226e0c64b0bef41a0 crates/
 compare d18f42d50d03421d9b23cd0e56050613778ec6371eddee7887e272ade6f69bdc crates/argon2_command/src/bytes.rt
 compare e7cbb65a747c159f80f65fb01374e95c1b0389396d383e4bac663a68e85e132e crates/argon2_command/src/line.rt
 compare 7d3dc1b3eea0508bb0be62cb014654feb9119cfeaa93e8dd80e6c85d09bbc733 crates/argon2_command/src/room.rt
-compare 1d39eeb3f8dc83e08cb2923cd170bc794bbdd7cfed2d59b3f5bf262a08bd9fa2 crates/argon_text/src/read_room.rt
+compare d4e7ec34341d7a6817f48d79d9e2ce5d6527b70a31b816621736445a26702592 crates/argon_text/src/read_room.rt
 compare 0718e36ffe70d272a0a6b73aba7e9fef2fa7764476b1d37b1c674c9033809646 crates/argon_text/src/room.rt
-compare c6234a04aca9f064647504f1045cc33af2c8af430f53ff6a583a83d85d28fd07 crates/argon_text/src/text_room.rt
+compare 50a6af06f1848ac1af58182b15162c01fe175a8ec12a83a2a9b56c243488e022 crates/argon_text/src/text_room.rt
 compare 71379740175d79a7bebf6a946526f623252ee63cd94b630fbda8926aebcc8d4d crates/pikhsen_c/src/heap.rt
 compare 3a1324cba20a5a03fbb4015d8da8bd52dffebec8c00f221b7f16718dd0e8a79b crates/pikhsen_c/src/reading.rt
 compare 9b460b315d4860e9eca8bc2e229a0912a4cfc94bc96eb8b0c52a4ac5928deaba crates/pikhsen_c/src/text.rt
@@ -188,7 +188,7 @@ for text in '==' '!=' '.eq(' '.ne(' '.cmp(' '.starts_with(' '.position('; do
 done
 expect_below crates/pikhsen_c 'are_same(' "what tests a password for C compares nothing itself"
 
-tests/encoded_texts.py crates/argon_text/src/tests/near_misses.rt || status=1
+tests/encoded_texts.py crates/argon_text_tests/src/tests/near_misses.rt || status=1
 
 test $status != 0 || printf '%s\n' "compared whole:$compared" "$functions"
 

@@ -5,11 +5,12 @@ use Rattle.std.specs.declared.result.Result.TheVariants.{Ok, Err}
 use Rattle.std.specs.Result.{MatchResult}
 use Rattle.std.proofs.lemmas.Option.{same_Some}
 use Rattle.base64.specs.GeneralPurpose.{IsBytes}
-use Rattle.argon_text.specs.Inside.Answer.{IsAnswerOf, IsBase64Fault, IsFaultOf}
+use Rattle.argon_text.specs.Answer.{IsAnswerOf, IsFaultOf}
+use Rattle.argon_text.specs.Inside.Base64Fault.{IsBase64Fault}
 use Rattle.argon_text.specs.Base64.{is_base64}
 use Rattle.argon_text.specs.EncodedText.{IsTextOf, base64_text}
 use Rattle.argon_text.specs.Grammar.{Fields, HasFields, IsText, IsTextInRange, value_of_fields, value_with}
-use Rattle.argon_text.specs.Inside.Reading.{fields_at}
+use Rattle.argon_text.specs.Reading.{fields_at}
 use Rattle.argon_text.specs.Value.{Value, IsValue, is_in_range}
 use Rattle.argon_text.specs.View.{value_of}
 use Rattle.argon_text.specs.declared.encoded.Encoded.{Encoded}

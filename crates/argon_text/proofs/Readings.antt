@@ -7,7 +7,7 @@ use Rattle.base64.specs.GeneralPurpose.{IsBytes}
 use Rattle.argon_text.specs.Base64.{base64_bytes, is_base64}
 use Rattle.argon_text.specs.EncodedText.{IsTextOf, base64_text, encoded_text, short_text}
 use Rattle.argon_text.specs.Grammar.{AreNumbers, Fields, HasFields, IsTextInRange, fields_of_value, fields_with, is_number, number_value, value_of_fields, value_with, version_said}
-use Rattle.argon_text.specs.Inside.Reading.{fields_at}
+use Rattle.argon_text.specs.Reading.{fields_at}
 use Rattle.argon_text.specs.Value.{Value, IsValue, is_in_range}
 use Rattle.argon_text.proofs.Numbers.{decimal_is_number, decimal_of_value, value_of_decimal}
 use Rattle.argon_text.proofs.Symbols.{base64_form, base64_free, bytes_of_text, text_of_bytes}

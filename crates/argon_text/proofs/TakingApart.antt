@@ -11,7 +11,7 @@ use Rattle.argon.specs.declared.kind.Kind.{Kind}
 use Rattle.argon.specs.declared.kind.Kind.TheVariants.{D, I, Id}
 use Rattle.argon_text.specs.EncodedText.{kind_name, text_of_fields}
 use Rattle.argon_text.specs.Grammar.{AreNumbers, Fields, is_number, text_of, version_part}
-use Rattle.argon_text.specs.Inside.Reading.{◌>>=◌, after, cut, fields_at, kind_at, kind_named, number_at, version_at}
+use Rattle.argon_text.specs.Reading.{◌>>=◌, after, cut, fields_at, kind_at, kind_named, number_at, version_at}
 use Rattle.argon_text.proofs.Cutting.{IsFree, free_by, not_mark, after_gives, after_at, cut_gives, cut_at}
 
 bind_some : {A B : Type 0} (found : Option A) (f : A → Option B) (y : B) → (found >>= f) ≡ Some y → (x : A) × (found ≡ Some x) × (f x ≡ Some y)

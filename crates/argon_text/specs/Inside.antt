@@ -1,5 +1,5 @@
 -- Definitions that private contracts and proofs cite; no public contract reaches them.
-pub mod Answer
+pub mod Base64Fault
 pub mod Capped
 pub mod FieldsRead
-pub mod Reading
+pub mod Steps

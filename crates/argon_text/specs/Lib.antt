@@ -4,7 +4,9 @@ pub mod Value
 pub mod EncodedText
 pub mod Base64
 pub mod Grammar
+pub mod Reading
 pub mod View
+pub mod Answer
 pub mod Verifying
 pub mod Settings
 pub mod Vectors

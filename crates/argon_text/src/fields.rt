@@ -3,7 +3,8 @@ ghost use Rattle.std.specs.Prelude.{◌≡◌, ◌==◌, MatchOption, codes, opt
 ghost use Rattle.std.specs.List.{list_all, position};
 ghost use Rattle.std.specs.Char.{is_ascii_digit};
 ghost use Rattle.argon_text.specs.Grammar.{is_number};
-ghost use Rattle.argon_text.specs.Inside.Reading.{Steps, after, cut, fields_at, kind_at, kind_named, number_at, version_at};
+ghost use Rattle.argon_text.specs.Inside.Steps.{Steps};
+ghost use Rattle.argon_text.specs.Reading.{after, cut, fields_at, kind_at, kind_named, number_at, version_at};
 ghost use Rattle.argon_text.specs.Inside.FieldsRead.{fields_of};
 
 use argon::Kind;
@@ -58,7 +59,7 @@ impl<'a> Reader<'a> {
     }
 
     // The digits of a number between a label and the byte `mark`.
-    #[tactic(auto, unfolding(crate::specs::Inside::Reading::number_at))]
+    #[tactic(auto, unfolding(crate::specs::Reading::number_at))]
     fn number(&mut self, label: &[u8], mark: u8) -> Option<&'a [u8]>
         ensures found { Steps (λ digits. digits.now) result self.new
             (number_at label.now mark self.old) }
@@ -73,7 +74,7 @@ impl<'a> Reader<'a> {
     }
 
     // The type, which stands first.
-    #[tactic(auto, unfolding(crate::specs::Inside::Reading::kind_at))]
+    #[tactic(auto, unfolding(crate::specs::Reading::kind_at))]
     fn kind(&mut self) -> Option<Kind>
         ensures found { Steps (λ kind. kind) result self.new (kind_at self.old) }
     {
@@ -83,7 +84,7 @@ impl<'a> Reader<'a> {
     }
 
     // The digits of the version, where the text has one.
-    #[tactic(auto, unfolding(crate::specs::Inside::Reading::version_at))]
+    #[tactic(auto, unfolding(crate::specs::Reading::version_at))]
     fn version(&mut self) -> Option<Option<&'a [u8]>>
         ensures found { Steps (option_map (λ digits. digits.now)) result self.new (version_at self.old) }
     {
@@ -173,7 +174,7 @@ fn are_digits(text: &[u8]) -> bool
 }
 
 /// The fields of a text, which is the whole of `text`. None where it has no such fields.
-#[tactic(auto, unfolding(crate::specs::Inside::Reading::fields_at))]
+#[tactic(auto, unfolding(crate::specs::Reading::fields_at))]
 pub(crate) fn fields_in(text: &[u8]) -> Option<Fields<'_>>
     ensures fields { MatchOption result (fields_at text.now ≡ None)
         (λ fields. fields_at text.now ≡ Some (fields_of fields)) }

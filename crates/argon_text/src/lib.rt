@@ -27,24 +27,21 @@ mod claim;
 mod encoded;
 mod fault;
 mod fields;
-#[cfg(test)]
-mod laws;
 mod range;
 mod read;
 mod read_room;
 mod room;
 mod settings;
-#[cfg(test)]
-mod tests;
 mod text_room;
-#[cfg(test)]
-mod vectors;
 mod verify_password;
 
 pub use claim::Claim;
 pub use encoded::{Encoded, put_tag};
 pub use fault::{ReadFault, VerifyFault};
 pub use range::{RangeFault, range_fault};
+pub use read::read_from;
+pub use read_room::ReadRoom;
 pub use room::Room;
 pub use settings::Settings;
+pub use text_room::TextRoom;
 pub use verify_password::{verify, verify_keyed};

@@ -2,10 +2,11 @@
 ghost use Rattle.std.specs.Prelude.{◌≡◌, ◌≤◌, ◌+◌, ◌^◌, ◌⊎◌, true, false, length, None, IfSome, IfOk, IfErr, OnOk, OnErr, IsErrOf, MatchOption, MatchResult};
 ghost use Rattle.std.specs.Char.{is_ascii_digit};
 ghost use Rattle.base64.specs.GeneralPurpose.{IsBytes};
-ghost use Rattle.argon_text.specs.Inside.Answer.{IsAnswerOf, IsBase64Fault};
+ghost use Rattle.argon_text.specs.Answer.{IsAnswerOf};
+ghost use Rattle.argon_text.specs.Inside.Base64Fault.{IsBase64Fault};
 ghost use Rattle.argon_text.specs.EncodedText.{IsTextOf, base64_text};
 ghost use Rattle.argon_text.specs.Grammar.{AreNumbers, HasNumbers, IsText, IsTextInRange, is_number, number_value, value_with};
-ghost use Rattle.argon_text.specs.Inside.Reading.{fields_at};
+ghost use Rattle.argon_text.specs.Reading.{fields_at};
 ghost use Rattle.argon_text.specs.Value.{IsValue, Value, are_in_range, is_in_range};
 ghost use Rattle.argon_text.specs.View.{value_of};
 ghost use Rattle.argon_text.specs.Inside.FieldsRead.{fields_of};
@@ -43,8 +44,16 @@ impl Encoded {
     }
 }
 
-/// Reads an encoded text, with memory from `room`.
-pub(crate) fn read_from<R: ReadRoom>(room: &mut R, text: &[u8]) -> Result<Encoded, ReadFault>
+/// Reads an encoded text as [`Encoded::read`] does, with memory from `room`: the heap (`Global`), or a
+/// source of the caller's.
+///
+/// For a text whose labels, type or numbers are wrong `room` is asked for nothing. For any other it is
+/// asked for the bytes of the salt, and then, unless that was refused or its symbols are no base64, for
+/// those of the tag.
+///
+/// The faults, by their numbers: 1 where the bytes are no encoded text, 2 where they are one with a
+/// value out of range (`Encoded` has the ranges), 3 where memory was refused.
+pub fn read_from<R: ReadRoom>(room: &mut R, text: &[u8]) -> Result<Encoded, ReadFault>
     ensures answer { IsAnswerOf text.now result }
     // Nothing is asked of the source of memory for a text whose fields are not found.
     ensures unasked { fields_at text.now ≡ None → room.new ≡ room.old }

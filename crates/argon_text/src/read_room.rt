@@ -1,4 +1,4 @@
-//! Where the memory of a value that is read comes from: the heap, or what a test puts in its place to refuse it.
+//! Where the memory of a value that is read comes from: the heap, or what a caller puts in its place.
 ghost use Rattle.std.specs.Prelude.{◌≡◌, ℕ, List, IfOk, IfErr};
 ghost use Rattle.base64.specs.Engines.{standard_no_pad};
 ghost use Rattle.base64.specs.GeneralPurpose.{IsBytes, IsDecodeFailure};
@@ -8,12 +8,15 @@ use base64::DecodeAllocError;
 use base64::engine::general_purpose::STANDARD_NO_PAD;
 use std::alloc::Global;
 
-/// The requests for memory of `Encoded::read`. Contracts see how many there are, and of what.
-pub(crate) trait ReadRoom {
+/// Where `read_from` takes the memory of a value that is read: the heap (`Global`), or a type of the caller's that
+/// counts requests or refuses some. Contracts see how many there are, and of what.
+pub trait ReadRoom {
     // What a request for the bytes of these symbols leaves of the source, granted or not.
     ghost after_decoded: { Self → List ℕ → Self };
 
-    /// The bytes that the symbols of base64 stand for. Takes three bytes for each four symbols begun.
+    /// The bytes that the symbols of base64 stand for, in the standard alphabet, without padding (RFC 4648, 4
+    /// and 3.2). Takes three bytes for each four symbols begun. The fault says why the symbols are no base64, or
+    /// that memory was refused.
     fn decoded(&mut self, symbols: &[u8]) -> Result<Vec<u8>, DecodeAllocError>
         ensures bytes { IfOk result (λ bytes. IsBytes bytes.items) }
         ensures text { IfOk result (λ bytes. symbols.now ≡ base64_text bytes.items) }

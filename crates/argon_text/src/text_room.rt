@@ -1,4 +1,4 @@
-//! Where the memory of a text comes from: the heap, or what a test puts in its place to refuse it.
+//! Where the memory of a text comes from: the heap, or what a caller puts in its place.
 ghost use Rattle.std.specs.Prelude.{◌≡◌, ◌++◌, [], IfOk, OnOk, OnErr, string_bytes};
 ghost use Rattle.std.specs.Fmt.{decimal};
 ghost use Rattle.argon_text.specs.EncodedText.{base64_text};
@@ -6,8 +6,9 @@ ghost use Rattle.argon_text.specs.EncodedText.{base64_text};
 use base64::engine::general_purpose::STANDARD_NO_PAD;
 use std::alloc::{AllocError, Global};
 
-/// The requests for memory of `Encoded::write`.
-pub(crate) trait TextRoom {
+/// Where `Encoded::write_in` takes the memory of a text: the heap (`Global`), or a type of the caller's that counts
+/// requests or refuses some.
+pub trait TextRoom {
     /// A text of no bytes, for which nothing is asked for.
     fn no_text(&self) -> String
         ensures none { string_bytes result ≡ [] };

@@ -1,5 +1,5 @@
 use Rattle.std.proofs.Common.{◌≡◌, ◌∙◌, true, Err, ap, sym, subst, rules}
-use Rattle.argon_text.specs.Inside.Answer.{IsAnswerOf}
+use Rattle.argon_text.specs.Answer.{IsAnswerOf}
 use Rattle.argon_text.specs.EncodedText.{IsTextOf}
 use Rattle.argon_text.specs.Grammar.{value_with}
 use Rattle.argon_text.specs.Value.{Value, IsValue, is_in_range}

@@ -1,7 +1,7 @@
 use Rattle.std.proofs.Common.{◌≡◌, ◌∙◌, ◌+◌, ◌-◌, ◌==◌, ℕ, List, Some, length, take, drop, ap, sym}
 use Rattle.std.specs.Option.{option_map}
 use Rattle.std.specs.List.{position}
-use Rattle.argon_text.specs.Inside.Reading.{cut}
+use Rattle.argon_text.specs.Reading.{cut}
 use Rattle.argon_text.proofs.Cutting.{after_first}
 use Rattle.argon_text.proofs.fields.Reader.until.Goals as goal
 

@@ -1,6 +1,6 @@
 use Rattle.std.proofs.Common.{refl}
 use Rattle.argon_text.specs.Base64.{base64_bytes, is_base64, symbol_value}
-use Rattle.argon_text.proofs.vectors.base64_of_the_standard.Goals as goal
+use Rattle.argon_text_tests.proofs.vectors.base64_of_the_standard.Goals as goal
 
 pub returns : goal.returns
 unfolding is_base64 base64_bytes symbol_value

@@ -1,7 +1,7 @@
 //! Texts that other programs made of the reference library of Argon2, with salts, lengths and passwords of their own.
 use super::verifying::fits;
-use crate::Encoded;
 use argon::Kind;
+use argon_text::Encoded;
 use std::alloc::Global;
 use std::test::Fail;
 

@@ -1,5 +1,5 @@
 use Rattle.argon_text.proofs.Readings.{fields_of_encoded, one_form, one_value, text_in_range, text_of_its_value, value_of_its_text}
-use Rattle.argon_text.proofs.laws.one_value.Goals as goal
+use Rattle.argon_text_tests.proofs.laws.one_value.Goals as goal
 
 pub returns : goal.returns
 returns c = record {

@@ -1,6 +1,5 @@
 -- What reading may answer.
-use Rattle.std.specs.Prelude.{◌≢◌, ℕ, List, Result, Ok, Err, ⊤, true}
-use Rattle.argon_text.specs.Base64.{is_base64}
+use Rattle.std.specs.Prelude.{ℕ, List, Result, Ok, Err}
 use Rattle.argon_text.specs.Value.{IsValue}
 use Rattle.argon_text.specs.EncodedText.{IsTextOf}
 use Rattle.argon_text.specs.Grammar.{HasNumbers, IsText, IsTextInRange}
@@ -20,9 +19,3 @@ IsFaultOf s OutOfMemory = HasNumbers s
 abbrev pub IsAnswerOf : List ℕ → Result Encoded ReadFault → Type 0
 IsAnswerOf s (Ok e) = IsValue (value_of e) × IsTextOf (value_of e) s
 IsAnswerOf s (Err f) = IsFaultOf s f
-
--- why base64 isn't decoded
-abbrev pub IsBase64Fault : List ℕ → ReadFault → Type 0
-IsBase64Fault s NotInGrammar = is_base64 s ≢ true
-IsBase64Fault s OutOfRange = ⊥
-IsBase64Fault s OutOfMemory = ⊤

@@ -1,10 +1,8 @@
 //! Sources of memory that refuse one request.
 ghost use Rattle.std.specs.Prelude.{◌≡◌, ◌-◌};
 
-use crate::read_room::ReadRoom;
-use crate::room::Room;
-use crate::text_room::TextRoom;
 use argon::{Matrix, Params};
+use argon_text::{ReadRoom, Room, TextRoom};
 use base64::DecodeAllocError;
 use std::alloc::{AllocError, Global};
 

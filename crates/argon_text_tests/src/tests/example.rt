@@ -1,6 +1,6 @@
-//! The example at the head of the crate.
-use crate::{Claim, Encoded, verify};
+//! The example at the head of `argon_text`.
 use argon::Ticks;
+use argon_text::{Claim, Encoded, verify};
 use std::test::Fail;
 
 #[test]

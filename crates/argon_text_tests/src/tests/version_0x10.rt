@@ -1,8 +1,8 @@
 //! Texts of version 0x10, with the version and without it.
 use super::reference_texts::KNOWN;
 use super::verifying::fits;
-use crate::Encoded;
 use argon::Kind;
+use argon_text::Encoded;
 use std::alloc::{AllocError, Global};
 use std::test::Fail;
 

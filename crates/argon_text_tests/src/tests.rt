@@ -13,8 +13,8 @@ mod verifying;
 mod version_0x10;
 
 use self::refusing::RefusingText;
-use crate::{Encoded, put_tag};
 use argon::Kind;
+use argon_text::{Encoded, put_tag};
 use std::alloc::{AllocError, Global};
 use std::test::Fail;
 

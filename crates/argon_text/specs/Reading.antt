@@ -1,5 +1,5 @@
 -- How a text is taken apart, field by field, before base64 is decoded.
-use Rattle.std.specs.Prelude.{◌≡◌, ℕ, ◌+◌, ◌==◌, if◌then◌else◌, List, length, take, drop, codes, Option, Some, None}
+use Rattle.std.specs.Prelude.{ℕ, ◌+◌, ◌==◌, if◌then◌else◌, List, length, take, drop, codes, Option, Some, None}
 use Rattle.std.specs.Str.{bytes_eq}
 use Rattle.std.specs.Option.{option_map}
 use Rattle.std.specs.List.{position}
@@ -12,11 +12,6 @@ infixl 10 ◌>>=◌
 abbrev pub ◌>>=◌ : {A B : Type 0} → Option A → (A → Option B) → Option B
 None >>= f = None
 (Some x) >>= f = f x
-
--- what a function returned, seen by view, and the bytes that it left are what the step finds
-abbrev pub Steps : {X Y : Type 0} → (X → Y) → Option X → List ℕ → Option (Y × List ℕ) → Type 0
-Steps view None left step = step ≡ None
-Steps view (Some x) left step = step ≡ Some (view x, left)
 
 -- what stands after a label
 abbrev pub after : List ℕ → List ℕ → Option (List ℕ)

@@ -1,8 +1,8 @@
 //! Passwords against texts of the reference program, and the faults in their order.
 use super::reference_texts::{KNOWN, ROWS};
 use super::refusing::Refusing;
-use crate::{Claim, Encoded, ReadFault, VerifyFault, verify, verify_keyed};
 use argon::Ticks;
+use argon_text::{Claim, Encoded, ReadFault, VerifyFault, verify, verify_keyed};
 use std::alloc::Global;
 use std::test::Fail;
 

@@ -7,8 +7,7 @@ use super::near_misses::{
 use super::reference_texts::{KNOWN, ROWS, Row};
 use super::refusing::Refusing;
 use super::version_0x10::SHORT;
-use crate::read::read_from;
-use crate::{Encoded, ReadFault};
+use argon_text::{Encoded, ReadFault, read_from};
 use std::alloc::{AllocError, Global};
 use std::test::Fail;
 
