@@ -190,7 +190,7 @@ impl MemoryHost {
     }
 
     /// The input that is left: what no pull has given.
-    pub fn input(&self) -> &[u8]
+    pub fn unread_input(&self) -> &[u8]
         ensures value { result.now ≡ self.now.input }
     {
         &self.input[self.taken..]

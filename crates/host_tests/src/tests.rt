@@ -147,7 +147,7 @@ fn is_left_whole(host: &mut MemoryHost) -> bool
     host.input_name() == Some(Some("in"))
         && host.pull(&mut buf) == Err(HostFault)
         && buf == [0; 4]
-        && host.input() == b"in".as_slice()
+        && host.unread_input() == b"in".as_slice()
 }
 
 // Whether each call of the input fails so.

@@ -56,7 +56,7 @@ impl<S: System> SystemHost<S> {
 
     /// How many lines could not be said. Each such line is a fault, whose caller may pass it over, as
     /// [`refuse`](host::refuse) does.
-    pub fn line_faults(&self) -> u64
+    pub fn unsaid_lines(&self) -> u64
         ensures count { result ≡ (⟦<SystemHost<S> as Host>⟧.faults self.now).lines }
     {
         self.line_faults

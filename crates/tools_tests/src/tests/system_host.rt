@@ -26,7 +26,7 @@ fn refused(alloc: Global, call: u64) -> (u8, u64, bool) {
     let mut host = failing(alloc, call);
     let status = refuse(&mut host, "a refusal");
     let is_said = is_said(host.system().lines(), "a refusal");
-    let faults = host.line_faults();
+    let faults = host.unsaid_lines();
     drop(host);
     (status, faults, is_said)
 }
