@@ -54,6 +54,18 @@ def exported(crate):
     return about, names, others
 
 
+def names_in(crate, path, names):
+    """The public names of a file, each as it is called: by the name that lib.rt hands out, or with its module's, where that
+    is public."""
+    text = (TOP / "crates" / crate / "src/lib.rt").read_text(encoding="utf-8")
+    found = {it: it for it in names}
+    if re.search(rf"^pub mod {path.stem};", text, re.MULTILINE):
+        for inside, public, _, name in ITEM.findall(path.read_text(encoding="utf-8")):
+            if public and not inside:
+                found.setdefault(name, f"{path.stem}::{name}")
+    return found
+
+
 def clauses_of(lines, start):
     """The clauses after a signature, each with its kind, its name and its text; and the signature itself."""
     head, found, at = [lines[start].strip()], [], start
@@ -103,6 +115,7 @@ def items(crate):
     found = []
     for path in sources(crate):
         lines, owner, kind = path.read_text(encoding="utf-8").splitlines(), None, ""
+        called = names_in(crate, path, names)
         for at, line in enumerate(lines):
             if line.startswith("}"):
                 owner, kind = None, ""
@@ -113,12 +126,12 @@ def items(crate):
                 continue
             inside, public, what, name = item.groups()
             comment = comment_above(lines, at)
-            if inside and owner in names and (public or kind == "trait") and what == "fn":
+            if inside and owner in called and (public or kind == "trait") and what == "fn":
                 signature, clauses = clauses_of(lines, at)
-                found.append(Item(f"{owner}::{name}", comment, signature, clauses))
-            elif not inside and public and name in names:
+                found.append(Item(f"{called[owner]}::{name}", comment, signature, clauses))
+            elif not inside and public and name in called:
                 signature, clauses = clauses_of(lines, at) if what == "fn" else (body_of(lines, at), [])
-                found.append(Item(name, comment, line.rstrip(" {") if what == "trait" else signature, clauses))
+                found.append(Item(called[name], comment, line.rstrip(" {") if what == "trait" else signature, clauses))
     return found
 
 

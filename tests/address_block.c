@@ -1,4 +1,4 @@
-/* Prints the word J of `word_of_the_second_address_block` (crates/argon/src/vectors.rt) as the reference implementation
+/* Prints the word J of `word_of_the_second_address_block` (crates/argon_tests/src/vectors.rt) as the reference implementation
  * makes it, which Debian's libargon2-dev has as a library:
  *
  *     gcc -O1 -o bin/address_block tests/address_block.c -static -largon2 -lpthread

@@ -157,7 +157,7 @@ compare fd72d58f020e62464528b85c0313b937310d5f45d00dd62f1a495d89e964cc97 crates/
 compare 10cd5b39cfdf89c939a2f8bba840c7f608433a105dd98231b48621fce5838759 crates/scrypt_tool/src/main.rt
 # Of the heap neither: that it is asked for what a clause says, once, and that want of memory is reported where the heap
 # refused and nowhere else. So the files in which the heap is the source of memory are compared whole, too.
-compare 50c5f6a67a99faf204f64f79e456976cf61323cfd5b4110226e0c64b0bef41a0 crates/argon/src/room.rt
+compare bfde3ca64682406e501b3b9c85bf6459a0a576fd2ff946211dc50a1da301e96e crates/argon/src/room.rt
 compare d18f42d50d03421d9b23cd0e56050613778ec6371eddee7887e272ade6f69bdc crates/argon2_command/src/bytes.rt
 compare e7cbb65a747c159f80f65fb01374e95c1b0389396d383e4bac663a68e85e132e crates/argon2_command/src/line.rt
 compare 7d3dc1b3eea0508bb0be62cb014654feb9119cfeaa93e8dd80e6c85d09bbc733 crates/argon2_command/src/room.rt

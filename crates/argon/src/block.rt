@@ -11,8 +11,9 @@ ghost use Rattle.argon.specs.Inside.FourWords.{pair_places, words_by_rows};
 use crate::permutation::Sixteen;
 use std::simd::{u64x2, u64x4};
 
-/// A block: 128 words of 64 bits, 1,024 bytes.
-pub(crate) type Block = [u64; 128];
+/// A block: 128 words of 64 bits, 1,024 bytes. The register R\_i of RFC 9106, section 3.5, is words 2 i and 2 i + 1; in
+/// bytes the lowest byte of a word comes first.
+pub type Block = [u64; 128];
 
 // Four words that stand together.
 #[inline(always)]
@@ -110,9 +111,11 @@ fn xor(first: u64x4, second: u64x4) -> u64x4
     first ^ second
 }
 
-/// Writes the xor of two blocks.
+/// Writes the xor of two blocks; what stood in `out` does not matter. Of the two blocks of a
+/// [`Scratch`](crate::compression::Scratch) it is what the compression function G made, as the first pass stores it (RFC
+/// 9106, section 3.2, step 5).
 #[inline(always)]
-pub(crate) fn write_xor(first: &Block, second: &Block, out: &mut Block)
+pub fn write_xor(first: &Block, second: &Block, out: &mut Block)
     ensures value { out.new ≡ xored_words first.now second.now }
 {
     'words: for i in 0..32 {
@@ -120,9 +123,10 @@ pub(crate) fn write_xor(first: &Block, second: &Block, out: &mut Block)
     }
 }
 
-/// Xors the xor of two blocks into a third.
+/// Xors the xor of two blocks into a third, as the passes after the first store what the compression function G made (RFC
+/// 9106, section 3.2, step 6), but those of version 0x10, which overwrite.
 #[inline(always)]
-pub(crate) fn write_xor_over(first: &Block, second: &Block, out: &mut Block)
+pub fn write_xor_over(first: &Block, second: &Block, out: &mut Block)
     ensures value { out.new ≡ xored_words (xored_words first.now second.now) out.old }
 {
     'words: for i in 0..32 {

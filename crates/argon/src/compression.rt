@@ -10,18 +10,20 @@ use crate::block::{Block, column, put_column, put_row, row, write_xor};
 use crate::permutation::permute;
 use crate::ticks::Ticks;
 
-/// The two blocks that G works in. They are made once for many calls, since making a block costs
-/// time, and what stood in them does not matter.
+/// The two blocks that [`compression`] works in, and leaves its value in: G is their xor. They are made once for many calls,
+/// since making a block costs time, and what stood in them does not matter. They keep what the last call left, and are not
+/// overwritten when they are dropped.
 #[derive(Drop)]
-pub(crate) struct Scratch {
-    // R, the xor of the two blocks that are taken in.
-    pub(crate) xored: Block,
-    // Z, which is R after its rows and its columns.
-    pub(crate) permuted: Block,
+pub struct Scratch {
+    /// R, the xor of the two blocks that are taken in (RFC 9106, section 3.5).
+    pub xored: Block,
+    /// Z, which is R after its rows and its columns.
+    pub permuted: Block,
 }
 
 impl Scratch {
-    pub(crate) fn new() -> Scratch {
+    /// Two blocks of zeros.
+    pub fn new() -> Scratch {
         Scratch {
             xored: [0; 128],
             permuted: [0; 128],
@@ -72,9 +74,10 @@ fn permute_columns(block: &mut Block)
     }
 }
 
-/// The block function: leaves in the scratch blocks R and Z, whose xor is G of the two blocks, and
-/// counts one.
-pub(crate) fn compression(first: &Block, second: &Block, scratch: &mut Scratch, ticks: &mut Ticks)
+/// The block function, which is the compression function G (RFC 9106, section 3.5): leaves in the scratch blocks R and Z,
+/// whose xor is G of the two blocks, and counts one. [`write_xor`](crate::write_xor) writes that xor where it is wanted,
+/// and [`write_xor_over`](crate::write_xor_over) xors it into a block. Any two blocks are taken, one block twice too.
+pub fn compression(first: &Block, second: &Block, scratch: &mut Scratch, ticks: &mut Ticks)
     ensures value { xored_words scratch.new.permuted scratch.new.xored
         ≡ compression first.now second.now }
     ensures count { ticks.new ≡ ticks.old + 1 }

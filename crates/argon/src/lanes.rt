@@ -33,8 +33,10 @@ impl Model for Lanes {
     ghost invariant = { IsForLanes };
 }
 
-/// Lanes whose memory comes from `room`: a number for each, and a block for each unless that was refused.
-pub(crate) fn reserve_from<R: Room>(room: &mut R, params: &Params) -> Result<Lanes, AllocError>
+/// Takes the memory for the lanes of these parameters from a source of your own: a number of four bytes for each, and then
+/// a block of 1,024 bytes for each, unless the first request is refused. `AllocError` where one is refused, and then
+/// nothing is held.
+pub fn reserve_from<R: Room>(room: &mut R, params: &Params) -> Result<Lanes, AllocError>
     ensures parameters { IfOk result (λ lanes. lanes ≡ params.now) }
     ensures asked { OnOk result (room.new
         ≡ R.after_blocks (R.after_numbers room.old params.now.lanes) params.now.lanes) }

@@ -32,21 +32,25 @@
 //! weave.close()
 //! ```
 //!
-//! [`plan_segment`] tells in advance which blocks a segment of independent addressing reads.
+//! [`plan_segment`] tells in advance which blocks a segment of independent addressing reads;
+//! [`Params::is_independent`] says which segments these are.
+//!
+//! [`compression::compression`] is the compression function G alone, on any two blocks, and [`Matrix::blocks`] are those of
+//! the matrix. What has a source of memory of its own, a [`Room`], takes a matrix from it by [`matrix::reserve_from`], and
+//! lanes by [`lanes::reserve_from`].
 #![tactic(auto)]
 
 mod addresses;
 mod block;
 mod blocks;
-mod compression;
+pub mod compression;
 mod fault;
 mod first_columns;
 mod held;
 mod inputs;
 mod kind;
-mod lanes;
-mod laws;
-mod matrix;
+pub mod lanes;
+pub mod matrix;
 mod params;
 mod permutation;
 mod places;
@@ -58,6 +62,7 @@ mod tag;
 mod ticks;
 mod weave;
 
+pub use block::{Block, write_xor, write_xor_over};
 pub use fault::ParamFault;
 pub use inputs::Inputs;
 pub use kind::Kind;
@@ -66,10 +71,6 @@ pub use matrix::Matrix;
 pub use params::Params;
 pub use places::Place;
 pub use plan::plan_segment;
+pub use room::Room;
 pub use ticks::Ticks;
 pub use weave::Weave;
-
-#[cfg(test)]
-mod tests;
-#[cfg(test)]
-mod vectors;

@@ -7,7 +7,6 @@ ghost use Rattle.argon.specs.Inputs.{AreInputsOf, inputs_of};
 ghost use Rattle.argon.specs.Parameters.{block_count};
 ghost use Rattle.argon.specs.Woven.{with_next_slice};
 
-#[cfg(test)]
 use crate::block::Block;
 use crate::blocks::Blocks;
 use crate::first_columns::{first_hash, put_first_columns};
@@ -48,8 +47,10 @@ impl Model for Matrix {
     ghost invariant = { IsMatrix };
 }
 
-/// A matrix whose blocks come from `room`, in one request for m' of them.
-pub(crate) fn reserve_from<R: Room>(room: &mut R, params: &Params) -> Result<Matrix, AllocError>
+/// Takes the memory of a hash with these parameters from a source of your own: m' blocks of 1,024 bytes (RFC 9106, section
+/// 3.2, step 2), in one request. `AllocError` where it is refused, and then nothing is held. The matrix is not started,
+/// whatever stands in the blocks.
+pub fn reserve_from<R: Room>(room: &mut R, params: &Params) -> Result<Matrix, AllocError>
     ensures asked { room.new ≡ R.after_blocks room.old (block_count params.now) }
     ensures parameters { IfOk result (λ matrix. matrix.parameters ≡ params.now) }
     ensures size { IfOk result (λ matrix. length matrix.blocks ≡ block_count params.now) }
@@ -137,9 +138,12 @@ impl Matrix {
         self.slices_made += 1;
     }
 
-    // The blocks, lane after lane.
-    #[cfg(test)]
-    pub(crate) fn blocks(&self) -> &[Block] {
+    /// The blocks B\[i\]\[j\] (RFC 9106, section 3.2), lane after lane: m' of them, of which the block of column j of lane
+    /// i is at the place i * (m'/p) + j. They are as secret as the password: the tag can be computed from them, and a guess
+    /// be tested against the first of them.
+    pub fn blocks(&self) -> &[Block]
+        ensures value { result.now ≡ self.now.blocks }
+    {
         self.blocks.held.blocks()
     }
 

@@ -219,8 +219,10 @@ impl Params {
         }
     }
 
-    // Whether the words J of a slice come from the position alone.
-    pub(crate) fn is_independent(&self, pass: u32, slice: u32) -> bool
+    /// Whether the words J of a slice, 0 to 3, of a pass, from 0, come from the position alone, and not from the password
+    /// (RFC 9106, section 3.4.1): with these [`plan_segment`](crate::plan_segment) plans its segments. In Argon2d it is no
+    /// slice, in Argon2i each, and in Argon2id the first two of pass 0.
+    pub fn is_independent(&self, pass: u32, slice: u32) -> bool
         ensures value { result ≡ is_independent self.now pass slice }
     {
         match self.kind {

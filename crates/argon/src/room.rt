@@ -1,23 +1,26 @@
-//! Where the memory of a matrix and of lanes comes from: the heap, or what a test puts in its place to refuse it.
+//! Where the memory of a matrix and of lanes comes from: the heap, or a source of the caller's own.
 ghost use Rattle.std.specs.Prelude.{◌≡◌, ℕ, IfOk, vec_len};
 
 use crate::block::Block;
 use std::alloc::{AllocError, Global};
 
-/// The requests for memory of `Matrix::reserve` and `Lanes::reserve`. Contracts see how many there are, and of what size.
-pub(crate) trait Room {
+/// A source of the memory of a matrix and of lanes: the heap, which `Matrix::reserve` and `Lanes::reserve` use, or one of
+/// your own, which counts requests, say, or refuses some. [`matrix::reserve_from`](crate::matrix::reserve_from) and
+/// [`lanes::reserve_from`](crate::lanes::reserve_from) take it. Contracts see how many requests there are, and of what
+/// size.
+pub trait Room {
     // What a request for so many blocks leaves of the source, granted or not.
     ghost after_blocks: { Self → ℕ → Self };
 
     // The same of numbers.
     ghost after_numbers: { Self → ℕ → Self };
 
-    /// So many blocks of zeros.
+    /// So many blocks of 1,024 bytes, of zeros. `AllocError` where they are refused, and then nothing is held.
     fn blocks(&mut self, count: usize) -> Result<Vec<Block>, AllocError>
         ensures size { IfOk result (λ blocks. vec_len blocks ≡ count) }
         ensures asked { self.new ≡ after_blocks self.old count };
 
-    /// So many numbers, all 0.
+    /// So many numbers of four bytes, all 0. `AllocError` where they are refused, and then nothing is held.
     fn numbers(&mut self, count: usize) -> Result<Vec<u32>, AllocError>
         ensures size { IfOk result (λ numbers. vec_len numbers ≡ count) }
         ensures asked { self.new ≡ after_numbers self.old count };
