@@ -1,4 +1,4 @@
--- Bytes side by side in eight planes. Only private functions cite this.
+-- Bytes side by side in eight planes. Public contracts cite `AreKeyPlanes` alone of this.
 use Rattle.std.specs.Prelude.{◌≡◌, ℕ, ◌+◌, ◌*◌, ◌<◌, List, [], drop, length, map, slice_index, slice_index_or}
 use Rattle.std.specs.Int.{bit_at}
 use Rattle.std.specs.Simd.Lanes.{Each1}

@@ -45,8 +45,9 @@ impl Aes256 {
         cipher(&self.words, u8x16::from_array(*block)).to_array()
     }
 
-    // The key schedule in planes.
-    pub(crate) fn key_planes(&self) -> KeyPlanes
+    /// The key schedule (FIPS 197, 5.2) in planes, which [`xor_blocks`](crate::xor_blocks) takes. It is made once for many
+    /// calls, and is as secret as the key.
+    pub fn key_planes(&self) -> KeyPlanes
         ensures planes { AreKeyPlanes (key_schedule self.now) result }
     {
         key_planes(&self.words)

@@ -9,8 +9,9 @@ use crate::planes::{Planes, joined, xor_planes};
 use crate::sub_bytes::by_bit;
 use std::simd::prelude::*;
 
-// Eight planes for each of the 15 round keys.
-pub(crate) type KeyPlanes = [[u8; 16]; 120];
+/// The key schedule in the form that sixteen blocks at once are encrypted with: eight planes for each of the 15 round keys,
+/// of which plane k has in each bit of a lane the bit k of the key's byte in that place.
+pub type KeyPlanes = [[u8; 16]; 120];
 
 // All bits of a lane are bit k of the key's byte.
 #[inline(always)]

@@ -111,8 +111,11 @@ fn xor_single_blocks(aes: &Aes256, number: u64, bytes: &mut [u8])
     }
 }
 
-// Xors whole blocks with the key stream from the block of that number on. The planes are those of the key.
-pub(crate) fn xor_blocks(aes: &Aes256, planes: &KeyPlanes, number: u64, bytes: &mut [u8])
+/// Xors whole blocks with the key stream of the Counter mode (NIST SP 800-38A, 6.5) from the block of that number on, as
+/// [`Ctr`](crate::Ctr) does after as many blocks. The first block has the number 0. The planes are those of the key, by
+/// [`Aes256::key_planes`]. Any number of whole blocks of 16 bytes is taken whose end in the key stream, in bytes, is below
+/// 2^64; none is refused.
+pub fn xor_blocks(aes: &Aes256, planes: &KeyPlanes, number: u64, bytes: &mut [u8])
     requires planes { AreKeyPlanes (key_schedule aes.now) planes.now }
     requires whole_blocks { length bytes.old % 16 ≡ 0 }
     requires room { 16 * number + length bytes.old < 2 ^ 64 }

@@ -18,7 +18,7 @@
 //! assert_eq!(rt; decryption.position(), 25);
 //! ```
 //!
-//! `tests.rt` runs these lines.
+//! The tests run these lines. [`xor_blocks`] does the same to whole blocks, from the block of any number on.
 #![tactic(auto)]
 
 mod add_round_key;
@@ -29,8 +29,6 @@ mod counter_mode;
 mod key_expansion;
 mod key_planes;
 mod key_stream;
-#[cfg(test)]
-mod laws;
 mod mix_columns;
 mod mix_planes;
 mod planes;
@@ -39,11 +37,9 @@ mod shift_planes;
 mod shift_rows;
 mod sub_bytes;
 mod sub_planes;
-#[cfg(test)]
-mod tests;
 mod transposition;
-#[cfg(test)]
-mod vectors;
 
 pub use block_cipher::Aes256;
 pub use counter_mode::Ctr;
+pub use key_planes::KeyPlanes;
+pub use key_stream::xor_blocks;

@@ -1,6 +1,5 @@
 //! The vectors of the standards, and the bodies beside one another.
-use crate::key_stream::xor_blocks;
-use crate::{Aes256, Ctr};
+use aes_ctr::{Aes256, Ctr, xor_blocks};
 use std::process::Abort;
 
 // The key 00 01 .. 1f of FIPS 197, C.3.
