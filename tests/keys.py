@@ -24,7 +24,7 @@ from edits import FUNCTION, IMPL, TOP, opens_at, path_of
 from reading import BIND, TESTS, all_files, cited, imports
 
 DECLARED = re.compile(r"(?:pub(?:\([a-z]+\))? )?(?:struct|enum|trait|const|static|type|macro_rules!) (\w+)")
-VISIBLE = re.compile(r"(?m)^( *)pub(?:\([a-z]+\))? (?=(?:const|unsafe|fn|trait|struct|enum|static|type)\b)")
+VISIBLE = re.compile(r"(?m)^( *)pub(?:\([a-z]+\))? (?!use\b|mod\b)")
 USE = re.compile(r"(?m)^ *(?:pub(?:\([a-z]+\))? )?(?:ghost )?use (?=\w)")
 RULES = ("trial.py", "edits.py")
 

@@ -35,9 +35,9 @@
 //! [`plan_segment`] tells in advance which blocks a segment of independent addressing reads;
 //! [`Params::is_independent`] says which segments these are.
 //!
-//! [`compression::compression`] is the compression function G alone, on any two blocks, and [`Matrix::blocks`] are those of
-//! the matrix. What has a source of memory of its own, a [`Room`], takes a matrix from it by [`matrix::reserve_from`], and
-//! lanes by [`lanes::reserve_from`].
+//! [`compression::compression`] is the compression function G alone, on any two blocks, and [`Matrix::as_blocks`] are
+//! those of the matrix. Who has a source of memory of their own, a [`Room`], takes a matrix from it by
+//! [`matrix::reserve_from`], and lanes by [`lanes::reserve_from`].
 #![tactic(auto)]
 
 mod addresses;

@@ -141,7 +141,7 @@ impl Matrix {
     /// The blocks B\[i\]\[j\] (RFC 9106, section 3.2), lane after lane: m' of them, of which the block of column j of lane
     /// i is at the place i * (m'/p) + j. They are as secret as the password: the tag can be computed from them, and a guess
     /// be tested against the first of them.
-    pub fn blocks(&self) -> &[Block]
+    pub fn as_blocks(&self) -> &[Block]
         ensures value { result.now ≡ self.now.blocks }
     {
         self.blocks.held.blocks()

@@ -663,7 +663,7 @@ fn tally_matrix(alloc: Global, kind: Kind, password: &[u8; 8]) -> Result<Tally, 
         let Some((pass, slice)) = matrix.next() else {
             return Ok(all);
         };
-        let before = matrix.blocks().to_vec(alloc)?;
+        let before = matrix.as_blocks().to_vec(alloc)?;
         matrix.slice(&mut Ticks::new(alloc));
         for lane in 0..params.lanes() {
             if pass < params.passes() && slice < 4 && params.is_independent(pass, slice) {
@@ -674,7 +674,7 @@ fn tally_matrix(alloc: Global, kind: Kind, password: &[u8; 8]) -> Result<Tally, 
                     slice,
                     lane,
                     &before,
-                    matrix.blocks(),
+                    matrix.as_blocks(),
                 )?;
                 all.along = all.along.wrapping_add(tally.along);
                 all.left = all.left.wrapping_add(tally.left);
