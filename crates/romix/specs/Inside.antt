@@ -2,5 +2,4 @@
 pub mod Diagonals
 pub mod Lanes
 pub mod Table
-pub mod Requests
 pub mod Held

@@ -3,6 +3,7 @@ pub mod BlockMix
 pub mod Costs
 pub mod Faults
 pub mod FirstOf
+pub mod Requests
 pub mod Romix
 pub mod Salsa20
 pub mod Scrypt

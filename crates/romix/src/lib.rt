@@ -2,10 +2,11 @@
 //!
 //! [`Costs`] are the parameters, and [`Sparse`] says besides how many rows of the table are kept: with
 //! S above 1 a derivation takes 1/S of the table's memory, and up to (1 + S) / 2 times the work. The
-//! key is the same. [`Workspace::reserve`] takes all the memory of a derivation, and [`reserve_from`] does
-//! from a [`Reservation`] of the caller's; nothing in it grows with p. No other call takes any, and none but [`Costs::new`], [`Sparse::new`] and `admitted` of both
-//! refuses its arguments. Each call that applies the core counts that in a [`Ticks`], which contracts
-//! see and which has no bytes.
+//! key is the same. [`Workspace::reserve`] takes all the memory of a derivation, and [`reserve_from`] takes
+//! it from a [`Reservation`] of the caller's; nothing in it grows with p. No other call takes any, and none
+//! but [`Costs::new`], [`Sparse::new`] and `admitted` of both refuses its arguments. Each call that applies
+//! the core counts that in a [`Ticks`], which contracts see and which has no bytes. [`salsa8`], [`block_mix`]
+//! and [`romix::romix`] are the steps alone.
 //!
 //! The third vector of RFC 7914, section 12, whose table has 16 MiB, in 1 MiB:
 //!
@@ -33,7 +34,7 @@ mod lanes;
 mod limits;
 mod parts;
 mod reservation;
-mod romix;
+pub mod romix;
 mod salsa20;
 mod sparse;
 mod table;
@@ -46,7 +47,6 @@ pub use costs::Costs;
 pub use fault::CostFault;
 pub use limits::Limits;
 pub use reservation::Reservation;
-pub use romix::romix as scrypt_romix;
 pub use salsa20::salsa8;
 pub use sparse::Sparse;
 pub use ticks::Ticks;

@@ -5,7 +5,7 @@ ghost use Rattle.romix.specs.Scrypt.{scrypt};
 ghost use Rattle.romix.specs.Sparse.{sparse_cores};
 ghost use Rattle.romix.specs.SparseCosts.{SparseFitsMemory, cores_bound};
 ghost use Rattle.romix.specs.Workspace.{HasLengths};
-ghost use Rattle.romix.specs.Inside.Requests.{after_rows};
+ghost use Rattle.romix.specs.Requests.{after_rows};
 
 use crate::held::Held;
 use crate::parts::mix_parts;

@@ -9,7 +9,8 @@ mod example;
 mod plain;
 mod sparse;
 
-use romix::{Costs, Limits, Sparse, Ticks, Workspace, block_mix, salsa8, scrypt_romix};
+use romix::romix::romix;
+use romix::{Costs, Limits, Sparse, Ticks, Workspace, block_mix, salsa8};
 use std::alloc::Global;
 use std::test::Fail;
 
@@ -382,7 +383,7 @@ fn romix_vector(rt: HostRuntime) {
     let mut other = [0u32; 32];
     let mut table = [0u32; 512];
     let mut spare = [0u32; 0];
-    scrypt_romix(
+    romix(
         &mut row,
         &mut other,
         &mut spare,
