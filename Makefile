@@ -44,9 +44,9 @@ test: $(filter bin/x86-64-v3/%,$(wildcard $(LEVELS:%=bin/%/scrypt))) ## the gate
 	@install -D -m 755 crates/argon_tool/out/argon_tool bin/x86-64-v2/argon2
 	@install -D -m 755 crates/scrypt_tool/out/scrypt_tool bin/x86-64-v2/scrypt
 	@test -f bin/level && test "$$(cat bin/level)" != x86-64-v2 || packaging/chosen.sh x86-64-v2
-	@tests/steps.py 'tests/wrong_bodies.py $(SINCE:%=--since %)'
+	@tests/steps.py 'tests/wrong_bodies.py $(SINCE:%=--since %)' \
+		$(foreach it,$(LEVELS),$(if $(filter x86-64-v2,$(it))$(wildcard bin/$(it)/scrypt),'tests/outside.sh bin/$(it)'))
 	@tests/steps.py 'tests/wrong_definitions.py $(SINCE:%=--since %)' tests/c_face.py \
-		$(foreach it,$(LEVELS),$(if $(filter x86-64-v2,$(it))$(wildcard bin/$(it)/scrypt),'tests/outside.sh bin/$(it)')) \
 		'tests/outside_plants.py $(SINCE:%=--since %)'
 	@tests/steps.py 'tests/builds.py --check'
 	@tests/steps.py --all
