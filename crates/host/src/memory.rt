@@ -130,8 +130,8 @@ impl MemoryHost {
         put_first(&mut growth, &mut self.variables, name, bytes)
     }
 
-    /// Gives an environment variable a value, as [`MemoryHost::set_env`] does, with memory from `growth`:
-    /// one growth, of the variables. Where it is refused no value is given, and the answer is `AllocError`.
+    /// Gives an environment variable a value, as [`MemoryHost::set_env`] does, with memory from `growth`.
+    /// Where that is refused no value is given, and the answer is `AllocError`.
     pub fn set_env_with<G: Growth>(
         &mut self,
         growth: &mut G,
@@ -156,8 +156,8 @@ impl MemoryHost {
         put_first(&mut growth, &mut self.files, name, bytes)
     }
 
-    /// Gives a secret file its bytes, as [`MemoryHost::set_file`] does, with memory from `growth`: one
-    /// growth, of the files. Where it is refused no bytes are given, and the answer is `AllocError`.
+    /// Gives a secret file its bytes, as [`MemoryHost::set_file`] does, with memory from `growth`. Where
+    /// that is refused no bytes are given, and the answer is `AllocError`.
     pub fn set_file_with<G: Growth>(
         &mut self,
         growth: &mut G,
@@ -246,9 +246,8 @@ impl MemoryHost {
         self.calls == self.failing
     }
 
-    /// Opens the input, as [`Host::open_input`] does, with memory from `growth`: one growth where there
-    /// is a name, which is kept, and else none. A refused growth is a fault, which is counted; the input
-    /// is not opened then.
+    /// Opens the input, as [`Host::open_input`] does, with memory from `growth` for its name. A refusal is
+    /// a fault, which is counted; the input is not opened then.
     pub fn open_input_with<G: Growth>(
         &mut self,
         growth: &mut G,
@@ -274,9 +273,8 @@ impl MemoryHost {
         Err(HostFault)
     }
 
-    /// Opens the output, as [`Host::open_output`] does, with memory from `growth`: one growth where there
-    /// is a name, which is kept, and else none. A refused growth is a fault, which is counted; the output
-    /// was asked for then, and is not opened.
+    /// Opens the output, as [`Host::open_output`] does, with memory from `growth` for its name. A refusal
+    /// is a fault, which is counted; the output was asked for then, and is not opened.
     pub fn open_output_with<G: Growth>(
         &mut self,
         growth: &mut G,
@@ -303,8 +301,8 @@ impl MemoryHost {
         Err(HostFault)
     }
 
-    /// Takes a beginning of the bytes, as [`Host::push`] does, with memory from `growth`: one growth, of
-    /// the output. A refused growth is a fault, which is counted; no byte is taken then.
+    /// Takes a beginning of the bytes, as [`Host::push`] does, with memory from `growth`. A refusal is a
+    /// fault, which is counted; no byte is taken then.
     pub fn push_with<G: Growth>(&mut self, growth: &mut G, bytes: &[u8]) -> Result<usize, HostFault>
         requires room { AreBelow (2 ^ 64 - 1) (memory_faults self.old) }
         ensures bound { IfOk result (λ n. n ≤ length bytes.now) }
@@ -324,8 +322,8 @@ impl MemoryHost {
         Ok(n)
     }
 
-    /// Says a line, as [`Host::say`] does, with memory from `growth`: two growths, a copy of the line and
-    /// a place for it. If either is refused, that is a fault, which is counted; the line is not said then.
+    /// Says a line, as [`Host::say`] does, with memory from `growth`. A refusal is a fault, which is
+    /// counted; the line is not said then.
     pub fn say_with<G: Growth>(&mut self, growth: &mut G, line: &str) -> Result<(), HostFault>
         requires room { AreBelow (2 ^ 64 - 1) (memory_faults self.old) }
         ensures counts { OnOk result (memory_faults self.new ≡ memory_faults self.old) }
