@@ -23,6 +23,7 @@ CRATE = "macs"
 TESTS = f"../{CRATE}_tests"
 ALL = {path.stem for path in record.edits_of(CRATE, record.BODIES)}
 ALL_DEFINITIONS = {path.stem for path in record.edits_of(CRATE, record.DEFINITIONS)}
+OPENED = "\nfn key_block(", "\npub fn key_block("
 # A text that stands in a file of the crate once, what is put in its place, and the edits that then have other keys.
 CHANGES = (
     ("a body", "src/hmac.rt", "        xored[i] = ", "        xored[0] = ", set()),
@@ -42,6 +43,7 @@ CHANGES = (
         "blocks-from-zero", "index-low-byte-first", "pair-blocks-from-zero", "pair-key-a-byte-short", "pair-of-half-a-key",
         "salt-as-password"}),
     ("a comment", "src/hmac.rt", "/// The code of the message", "/// The code", set()),
+    ("who may name a function", "src/hmac.rt", *OPENED, set()),
     ("the edit", "wrong-bodies/salt-as-password.edit", "new: ", "new:  ", {"salt-as-password"}),
 )
 # The same, and the wrong definitions that then have other keys.
@@ -98,6 +100,12 @@ def keys_change(checks, folder):
         checks.that(f"keys: {what}", other(folder, f"crates/{CRATE}/{file}", old, new), expected)
     checks.that("keys: a rule of the trial", other(folder, "tests/trial.py", "MOST = 9", "MOST = 8"), ALL)
     checks.that("keys: a comment on a rule", other(folder, "tests/edits.py", "\nclass ", "\n# That is:\nclass "), set())
+    path = folder / f"crates/{CRATE}/{record.BODIES}/long-key-cut.edit"
+    text = path.read_text(encoding="utf-8")
+    path.write_text(f"{text}types: an error\n", encoding="utf-8")
+    found = other(folder, f"crates/{CRATE}/src/hmac.rt", *OPENED)
+    checks.that("keys: who may name a function, where the types refuse", found, {"long-key-cut"})
+    path.write_text(text, encoding="utf-8")
     checks.that("keys: the toolchain's logic", {*keys(folder).items()} & {*keys(folder, "another").items()}, set())
 
 
