@@ -19,6 +19,7 @@ for folder in ("bench", "packaging"):
     sys.path.insert(0, str(pathlib.Path(__file__).resolve().parent.parent / folder))
 import definitions_page
 import doc
+import edited
 import gate_page
 import outside_plants
 import pages
@@ -237,6 +238,9 @@ for crate in SOURCES:
         expect(row.by == edit.row, file, f"{path.stem}: the equation that its edit names")
     for name in rows:
         expect(False, file, f"{name}: an edit of this name")
+for crate in doc.libraries():
+    for name in edited.without_edit(crate):
+        expect(False, f"crates/{crate}/wrong-bodies", f"a wrong body of {name}, or another of which tests/edited.py knows")
 tables_made = record.page() == record.PAGE.read_text(encoding="utf-8")
 expect(tables_made, "WRONG_BODIES.md", "the tables that the records make (each run of tests/wrong_bodies.py writes them)")
 

@@ -45,7 +45,7 @@ DOES = {
     "only in the places that the script lists; functions that have the heap, or in `argon_text` a list "
     "(`tests/heap_in_reach.py`), and files that call the system, are those that were read",
     "tests/documents.py": "crates.txt lists for each crate the libraries that it names; what the pages name exists: "
-    "files, definitions, tests, clauses, a row for each wrong body; "
+    "files, definitions, tests, clauses; exported functions have wrong bodies, and these have rows; "
     "pictures and tables are what scripts make of the sources and the data; the pages are short enough",
     "tests/values.py": "options, ranges, defaults, messages and numbers are those of docs/values.tsv in the sources, the "
     "manual pages, the completions, header, module and pages; the functions and fields of `libpikhsen` are the same in "

@@ -22,7 +22,7 @@ pub struct Scratch {
 }
 
 impl Scratch {
-    /// Two blocks of zeros.
+    /// The two blocks, whatever stands in them.
     pub fn new() -> Scratch {
         Scratch {
             xored: [0; 128],

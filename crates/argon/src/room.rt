@@ -15,12 +15,13 @@ pub trait Room {
     // The same of numbers.
     ghost after_numbers: { Self → ℕ → Self };
 
-    /// So many blocks of 1,024 bytes, of zeros. `AllocError` where they are refused, and then nothing is held.
+    /// So many blocks of 1,024 bytes, whatever stands in them. `AllocError` where they are refused, and then nothing is
+    /// held.
     fn blocks(&mut self, count: usize) -> Result<Vec<Block>, AllocError>
         ensures size { IfOk result (λ blocks. vec_len blocks ≡ count) }
         ensures asked { self.new ≡ after_blocks self.old count };
 
-    /// So many numbers of four bytes, all 0. `AllocError` where they are refused, and then nothing is held.
+    /// So many numbers of four bytes, whatever they are. `AllocError` where they are refused, and then nothing is held.
     fn numbers(&mut self, count: usize) -> Result<Vec<u32>, AllocError>
         ensures size { IfOk result (λ numbers. vec_len numbers ≡ count) }
         ensures asked { self.new ≡ after_numbers self.old count };

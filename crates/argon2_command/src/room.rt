@@ -27,7 +27,7 @@ pub trait Room {
     // The same of the matrix of a hash with these parameters.
     ghost after_matrix: { Self → Parameters → Bool → Self };
 
-    /// So many bytes of zero.
+    /// So many bytes, whatever they are: the heap gives zeros.
     fn zeros(&mut self, count: usize) -> Result<Bytes, AllocError>
         ensures size { IfOk result (λ bytes. length bytes.list.items ≡ count) }
         ensures asked { self.new ≡ after_zeros self.old count (is_ok result) };

@@ -3,13 +3,14 @@ ghost use Rattle.std.specs.Prelude.{◌≡◌, ℕ, IfOk, vec_len};
 
 use std::alloc::{AllocError, Global};
 
-/// A source of the lists of words, all 0, that a workspace holds. The allocator is one; a caller's own may
-/// count what it is asked for, or refuse it. Contracts see how many lists are asked for, and of what length.
+/// A source of the lists of words that a workspace holds. The allocator is one; a caller's own may count what
+/// it is asked for, or refuse it. Contracts see how many lists are asked for, and of what length; what stands
+/// in them does not matter.
 pub trait Reservation {
     // What a request for so many words leaves of the source, granted or not.
     ghost after_words: { Self → ℕ → Self };
 
-    /// So many words of four bytes, all 0, or the fault of a source that has no such list.
+    /// So many words of four bytes, whatever they are, or the fault of a source that has no such list.
     fn zero_words(&mut self, len: usize) -> Result<Vec<u32>, AllocError>
         ensures len { IfOk result (λ words. vec_len words ≡ len) }
         ensures asked { self.new ≡ after_words self.old len };
