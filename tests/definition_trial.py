@@ -6,8 +6,7 @@ tried again. What is printed, and what is tried when, stands in tests/wrong_defi
 That a vector's proof fails would show little: a name may be gone, or an answer no longer fit. So its equation is
 turned round. In a copy of the crate with the wrong definition, into which the crate's vectors are put where they stand
 apart, the checker must prove that the two sides differ: then the value from outside refuses the definition, and no code
-takes part. With the right definitions rt ci proves the
-equation itself, so that they cannot be refused so.
+takes part. With the right definitions rt ci proves the equation itself, so that they cannot be refused so.
 
 Where the vector has an answer that computes (`CLAUSE = refl`), the two sides are handed to a comparison, which must
 compute to false with the same definitions opened. Of what is neither a number nor a list of numbers the edit says in
@@ -60,6 +59,13 @@ def with_names(text):
     return text
 
 
+def beside_its_tests(crate, tests):
+    """The crate with the toolchain's libraries that the crate of its tests names, which answers of its vectors cite."""
+    crate, apart = copy.copy(crate), rt.rtlib.Crate(str(tests), rt.rtlib.root_above(str(tests)), {})
+    crate.of_kit = [*dict.fromkeys([*crate.of_kit, *apart.of_kit])]
+    return crate
+
+
 def tried(crate, edits, folder, kept):
     """What refuses each edit of a group, or None, and what else there is to say."""
     texts, names = {}, [f"wrong_{edit.path.stem.replace('-', '_')}" for edit in edits]
@@ -68,9 +74,10 @@ def tried(crate, edits, folder, kept):
     tests = reading.folder_of_tests(crate.folder)
     texts[VECTORS] = with_names(text_of(tests, VECTORS, {}))
     if tests != pathlib.Path(crate.folder):
+        texts[VECTORS] = re.sub(rf"(?m)^use {crate.name}::", "use crate::", texts[VECTORS])
         texts[ROOT] = f"{text_of(crate.folder, ROOT, texts)}\n#[cfg(test)]\nmod vectors;\n"
     shutil.rmtree(folder, ignore_errors=True)
-    whole, crate = crate, copy.copy(crate)
+    whole, crate = crate, beside_its_tests(crate, tests)
     crate.folder = shutil.copytree(crate.folder, folder, ignore=shutil.ignore_patterns("out"))
     for edit, name in zip(edits, names):
         function, answers = turned(edit, name)
