@@ -157,17 +157,17 @@ compare fd72d58f020e62464528b85c0313b937310d5f45d00dd62f1a495d89e964cc97 crates/
 compare 10cd5b39cfdf89c939a2f8bba840c7f608433a105dd98231b48621fce5838759 crates/scrypt_tool/src/main.rt
 # Of the heap neither: that it is asked for what a clause says, once, and that want of memory is reported where the heap
 # refused and nowhere else. So the files in which the heap is the source of memory are compared whole, too.
-compare bfde3ca64682406e501b3b9c85bf6459a0a576fd2ff946211dc50a1da301e96e crates/argon/src/room.rt
+compare 52c2436ec549b7a5bfa19aa1228f4db42d44c164de0f1c711ca0698f27a847f1 crates/argon/src/room.rt
 compare d18f42d50d03421d9b23cd0e56050613778ec6371eddee7887e272ade6f69bdc crates/argon2_command/src/bytes.rt
 compare e7cbb65a747c159f80f65fb01374e95c1b0389396d383e4bac663a68e85e132e crates/argon2_command/src/line.rt
 compare 7d3dc1b3eea0508bb0be62cb014654feb9119cfeaa93e8dd80e6c85d09bbc733 crates/argon2_command/src/room.rt
-compare d4e7ec34341d7a6817f48d79d9e2ce5d6527b70a31b816621736445a26702592 crates/argon_text/src/read_room.rt
+compare 59cb45b19577aead6a56a6f27d15e590e3245cd4ce4aeafedc03dd7d41f426a5 crates/argon_text/src/read_room.rt
 compare 0718e36ffe70d272a0a6b73aba7e9fef2fa7764476b1d37b1c674c9033809646 crates/argon_text/src/room.rt
 compare 50a6af06f1848ac1af58182b15162c01fe175a8ec12a83a2a9b56c243488e022 crates/argon_text/src/text_room.rt
 compare 71379740175d79a7bebf6a946526f623252ee63cd94b630fbda8926aebcc8d4d crates/pikhsen_c/src/heap.rt
 compare 3a1324cba20a5a03fbb4015d8da8bd52dffebec8c00f221b7f16718dd0e8a79b crates/pikhsen_c/src/reading.rt
 compare 9b460b315d4860e9eca8bc2e229a0912a4cfc94bc96eb8b0c52a4ac5928deaba crates/pikhsen_c/src/text.rt
-compare e4f6c1b3b3c8cf6e1140f403562835a935dcedea95315e7200d47d2ad89a329b crates/romix/src/reservation.rt
+compare edaf946efc6fd2415e234ab920a7659acd078e5fcf3a3269dd0a7be68a564cfa crates/romix/src/reservation.rt
 compare b7c9cf4e2e2bdf886fcc59c19cecdc1ac5c414c77aba9a0904ec74736accbc1a crates/scrypt_run/src/line.rt
 compare 266c1125320cd467b012655480d8b345a1f6f7c5ada451d46ed82e1413a73f58 crates/scrypt_run/src/room.rt
 expect 'set_permissions' "a file keeps the permissions that it has or is made with"

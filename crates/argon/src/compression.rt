@@ -78,6 +78,7 @@ fn permute_columns(block: &mut Block)
 /// whose xor is G of the two blocks, and counts one. [`write_xor`](crate::write_xor) writes that xor where it is wanted,
 /// and [`write_xor_over`](crate::write_xor_over) xors it into a block. Any two blocks are taken, one block twice too.
 pub fn compression(first: &Block, second: &Block, scratch: &mut Scratch, ticks: &mut Ticks)
+    ensures xored { scratch.new.xored ≡ xored_words first.now second.now }
     ensures value { xored_words scratch.new.permuted scratch.new.xored
         ≡ compression first.now second.now }
     ensures count { ticks.new ≡ ticks.old + 1 }

@@ -1,5 +1,5 @@
 //! What each lane holds beside the matrix while a slice is made by lanes in any order.
-ghost use Rattle.std.specs.Prelude.{◌≡◌, ◌⊎◌, IfOk, OnErr, OnOk};
+ghost use Rattle.std.specs.Prelude.{◌≡◌, ◌⊎◌, false, true, IfOk, OnErr, OnOk};
 
 use crate::blocks::Blocks;
 use crate::held::Held;
@@ -39,9 +39,9 @@ impl Model for Lanes {
 pub fn reserve_from<R: Room>(room: &mut R, params: &Params) -> Result<Lanes, AllocError>
     ensures parameters { IfOk result (λ lanes. lanes ≡ params.now) }
     ensures asked { OnOk result (room.new
-        ≡ R.after_blocks (R.after_numbers room.old params.now.lanes) params.now.lanes) }
-    ensures refused { OnErr result ((room.new ≡ R.after_numbers room.old params.now.lanes)
-        ⊎ (room.new ≡ R.after_blocks (R.after_numbers room.old params.now.lanes) params.now.lanes)) }
+        ≡ R.after_blocks (R.after_numbers room.old params.now.lanes true) params.now.lanes true) }
+    ensures refused { OnErr result ((room.new ≡ R.after_numbers room.old params.now.lanes false)
+        ⊎ (room.new ≡ R.after_blocks (R.after_numbers room.old params.now.lanes true) params.now.lanes false)) }
 {
     let count = params.lanes() as usize;
     let left = room.numbers(count)?;

@@ -1,5 +1,5 @@
 //! The matrix B (RFC 9106, section 3.2), in one buffer that later passes overwrite.
-ghost use Rattle.std.specs.Prelude.{◌≡◌, ◌+◌, ◌*◌, ◌/◌, ◌%◌, true, false, ◌↔◌, length, IfOk, IsSome};
+ghost use Rattle.std.specs.Prelude.{◌≡◌, ◌+◌, ◌*◌, ◌/◌, ◌%◌, true, false, ◌↔◌, is_ok, length, IfOk, IsSome};
 ghost use Rattle.argon.specs.Argon2.{argon2_tag, first_hash, tag_by_first_hash};
 ghost use Rattle.argon.specs.Counts.{slice_work, work};
 ghost use Rattle.argon.specs.Filling.{HasNext, IsDone, IsNewest, next_slice};
@@ -51,7 +51,7 @@ impl Model for Matrix {
 /// 3.2, step 2), in one request. `AllocError` where it is refused, and then nothing is held. The matrix is not started,
 /// whatever stands in the blocks.
 pub fn reserve_from<R: Room>(room: &mut R, params: &Params) -> Result<Matrix, AllocError>
-    ensures asked { room.new ≡ R.after_blocks room.old (block_count params.now) }
+    ensures asked { room.new ≡ R.after_blocks room.old (block_count params.now) (is_ok result) }
     ensures parameters { IfOk result (λ matrix. matrix.parameters ≡ params.now) }
     ensures size { IfOk result (λ matrix. length matrix.blocks ≡ block_count params.now) }
     ensures started { IfOk result (λ matrix. matrix.is_started ≡ false) }

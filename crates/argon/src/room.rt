@@ -1,36 +1,36 @@
 //! Where the memory of a matrix and of lanes comes from: the heap, or a source of the caller's own.
-ghost use Rattle.std.specs.Prelude.{◌≡◌, ℕ, IfOk, vec_len};
+ghost use Rattle.std.specs.Prelude.{◌≡◌, ℕ, Bool, IfOk, is_ok, vec_len};
 
 use crate::block::Block;
 use std::alloc::{AllocError, Global};
 
 /// A source of the memory of a matrix and of lanes: the heap, which `Matrix::reserve` and `Lanes::reserve` use, or one of
 /// your own, which counts requests, say, or refuses some. [`matrix::reserve_from`](crate::matrix::reserve_from) and
-/// [`lanes::reserve_from`](crate::lanes::reserve_from) take it. Contracts see how many requests there are, and of what
-/// size.
+/// [`lanes::reserve_from`](crate::lanes::reserve_from) take it. Contracts see how many requests there are, of what size, and
+/// which of them are granted.
 pub trait Room {
-    // What a request for so many blocks leaves of the source, granted or not.
-    ghost after_blocks: { Self → ℕ → Self };
+    // What a request for so many blocks leaves of the source, granted or refused.
+    ghost after_blocks: { Self → ℕ → Bool → Self };
 
     // The same of numbers.
-    ghost after_numbers: { Self → ℕ → Self };
+    ghost after_numbers: { Self → ℕ → Bool → Self };
 
     /// So many blocks of 1,024 bytes, whatever stands in them. `AllocError` where they are refused, and then nothing is
     /// held.
     fn blocks(&mut self, count: usize) -> Result<Vec<Block>, AllocError>
         ensures size { IfOk result (λ blocks. vec_len blocks ≡ count) }
-        ensures asked { self.new ≡ after_blocks self.old count };
+        ensures asked { self.new ≡ after_blocks self.old count (is_ok result) };
 
     /// So many numbers of four bytes, whatever they are. `AllocError` where they are refused, and then nothing is held.
     fn numbers(&mut self, count: usize) -> Result<Vec<u32>, AllocError>
         ensures size { IfOk result (λ numbers. vec_len numbers ≡ count) }
-        ensures asked { self.new ≡ after_numbers self.old count };
+        ensures asked { self.new ≡ after_numbers self.old count (is_ok result) };
 }
 
 impl Room for Global {
-    ghost after_blocks = { λ room _. room };
+    ghost after_blocks = { λ room _ _. room };
 
-    ghost after_numbers = { λ room _. room };
+    ghost after_numbers = { λ room _ _. room };
 
     fn blocks(&mut self, count: usize) -> Result<Vec<Block>, AllocError> {
         vec![in *self; [0; 128]; count]

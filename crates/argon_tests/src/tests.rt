@@ -444,28 +444,30 @@ fn slice_by_slice(rt: HostRuntime) -> Result<(), Fail> {
     Ok(())
 }
 
-// Refuses the request after so many.
+// Grants so many requests and refuses the others. Of ten it counts how many are not made.
 #[derive(Drop)]
 struct Refusing {
     alloc: Global,
     left: u32,
+    unasked: u32,
 }
 
 impl Refusing {
     // Whether a request is granted.
     fn grants(&mut self) -> bool
-        ensures left { self.new ≡ record self.old { left = self.old.left - 1 } }
+        ensures left { self.new ≡ record self.old { left = self.old.left - 1; unasked = self.old.unasked - 1 } }
     {
         let grants = self.left > 0;
         self.left = self.left.saturating_sub(1);
+        self.unasked = self.unasked.saturating_sub(1);
         grants
     }
 }
 
 impl Room for Refusing {
-    ghost after_blocks = { λ room _. record room { left = room.left - 1 } };
+    ghost after_blocks = { λ room _ _. record room { left = room.left - 1; unasked = room.unasked - 1 } };
 
-    ghost after_numbers = { λ room _. record room { left = room.left - 1 } };
+    ghost after_numbers = { λ room _ _. record room { left = room.left - 1; unasked = room.unasked - 1 } };
 
     fn blocks(&mut self, count: usize) -> Result<Vec<Block>, AllocError> {
         if !self.grants() {
@@ -492,10 +494,11 @@ fn the_one_request_is_refused(rt: HostRuntime) {
         let mut room = Refusing {
             alloc: rt.alloc(),
             left,
+            unasked: 10,
         };
         let reserved = reserve_from(&mut room, &params);
         assert_eq!(rt; reserved.is_ok(), left == 1);
-        assert_eq!(rt; room.left, 0);
+        assert_eq!(rt; room.unasked, 9);
     }
     assert!(rt; Matrix::reserve(rt.alloc(), &params).is_ok());
 }
@@ -506,14 +509,15 @@ fn each_request_for_lanes_is_refused(rt: HostRuntime) {
         assert!(rt; false);
         return;
     };
-    for left in [0u32, 1, 2] {
+    for (left, unasked) in [(0u32, 9u32), (1, 8), (2, 8)] {
         let mut room = Refusing {
             alloc: rt.alloc(),
             left,
+            unasked: 10,
         };
         let reserved = lanes::reserve_from(&mut room, &params);
         assert_eq!(rt; reserved.is_ok(), left == 2);
-        assert_eq!(rt; room.left, 0);
+        assert_eq!(rt; room.unasked, unasked);
     }
     assert!(rt; Lanes::reserve(rt.alloc(), &params).is_ok());
 }

@@ -48,9 +48,9 @@ impl Encoded {
     }
 
     /// Appends the encoded text as `write` does, with memory from `room`: the heap (`Global`), or a source of
-    /// the caller's. It has 21 requests at most: two for the symbols of salt and tag, two for the name of the
-    /// type, three for each of the four numbers, two for each of the two parts after them, and one for `out`.
-    /// None is made after one that was refused, and then `out` is unchanged.
+    /// the caller's. After a refusal `out` is unchanged. Contracts see no request; tests count them: 21 at most,
+    /// two for the symbols of salt and tag, two for the name of the type, three for each of the four numbers,
+    /// two for each of the two parts after them, and one for `out`, and none after one that was refused.
     pub fn write_in<R: TextRoom>(&self, room: &mut R, out: &mut Vec<u8>) -> Result<(), AllocError>
         ensures ok { OnOk result (out.new.items ≡ out.old.items ++ encoded_text (value_of self.now)) }
         ensures err { OnErr result (out.new.items ≡ out.old.items) }

@@ -1,5 +1,5 @@
 //! How an encoded text is read.
-ghost use Rattle.std.specs.Prelude.{◌≡◌, ◌≤◌, ◌+◌, ◌^◌, ◌⊎◌, true, false, length, None, IfSome, IfOk, IfErr, OnOk, OnErr, IsErrOf, MatchOption, MatchResult};
+ghost use Rattle.std.specs.Prelude.{◌≡◌, ◌≤◌, ◌+◌, ◌^◌, ◌⊎◌, true, false, is_ok, length, None, IfSome, IfOk, IfErr, OnOk, OnErr, IsErrOf, MatchOption, MatchResult};
 ghost use Rattle.std.specs.Char.{is_ascii_digit};
 ghost use Rattle.base64.specs.GeneralPurpose.{IsBytes};
 ghost use Rattle.argon_text.specs.Answer.{IsAnswerOf};
@@ -59,10 +59,12 @@ pub fn read_from<R: ReadRoom>(room: &mut R, text: &[u8]) -> Result<Encoded, Read
     ensures unasked { fields_at text.now ≡ None → room.new ≡ room.old }
     // For any other the bytes of the salt are asked for, and then, unless that was refused, those of the tag.
     ensures asked { IfSome (fields_at text.now) (λ fields. OnOk result
-        (room.new ≡ R.after_decoded (R.after_decoded room.old fields.salt) fields.tag)) }
+        (room.new ≡ R.after_decoded (R.after_decoded room.old fields.salt true) fields.tag true)) }
+    // A fault is that of the salt's bytes, or of the tag's, or a value out of range, for which both were given.
     ensures refused { IfSome (fields_at text.now) (λ fields. OnErr result
-        ((room.new ≡ R.after_decoded room.old fields.salt)
-        ⊎ (room.new ≡ R.after_decoded (R.after_decoded room.old fields.salt) fields.tag))) }
+        ((room.new ≡ R.after_decoded room.old fields.salt false)
+        ⊎ (room.new ≡ R.after_decoded (R.after_decoded room.old fields.salt true) fields.tag false)
+        ⊎ (room.new ≡ R.after_decoded (R.after_decoded room.old fields.salt true) fields.tag true))) }
 {
     let Some(fields) = fields_in(text) else {
         return Err(ReadFault::NotInGrammar);
@@ -80,7 +82,7 @@ fn decoded<R: ReadRoom>(room: &mut R, symbols: &[u8]) -> Result<Vec<u8>, ReadFau
     ensures bytes { IfOk result (λ bytes. IsBytes bytes.items) }
     ensures text { IfOk result (λ bytes. symbols.now ≡ base64_text bytes.items) }
     ensures err { IfErr result (IsBase64Fault symbols.now) }
-    ensures asked { room.new ≡ R.after_decoded room.old symbols.now }
+    ensures asked { room.new ≡ R.after_decoded room.old symbols.now (is_ok result) }
 {
     match room.decoded(symbols) {
         Ok(bytes) => Ok(bytes),

@@ -10,7 +10,7 @@ use std::alloc::{AllocError, Global};
 /// [`MemoryHost`](crate::MemoryHost) takes, or to refuse a growth of it at will: `set_env_with`,
 /// `set_file_with`, `open_input_with`, `open_output_with`, `push_with` and `say_with` take their memory
 /// from it. Each method is one growth, which is done whole, or is refused by `AllocError` and changes
-/// nothing. How many of them a call makes is not in its contract.
+/// nothing. Which of them a call makes, and how many, is not in its contract: tests count them.
 pub trait Growth {
     /// A copy of the text.
     fn copy_of(&mut self, text: &str) -> Result<String, AllocError>

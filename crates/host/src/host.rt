@@ -7,8 +7,9 @@ ghost use Rattle.host.specs.Seen.{Seen, after_ask, after_pull, after_push, after
 
 use thiserror::Error;
 
-/// The host could not do what it was asked. Its count of such failures has risen by one, and
-/// nothing else has changed, but that an output, a secret source or a salt was asked for.
+/// The host could not do what it was asked. After a call of a [`Host`] its count of such failures has
+/// risen by one, and nothing else has changed, but that an output, a secret source or a salt was asked
+/// for.
 #[derive(Clone, Copy, Debug, PartialEq, Eq, Error)]
 #[error("the host failed")]
 pub struct HostFault;

@@ -179,8 +179,8 @@ fn romix_by_diagonals(
 }
 
 /// Replaces the row by its ROMix (RFC 7914, section 5), for N = 2^log_n, where 1 <= log_n < 64. A row is
-/// 2 * r blocks of 16 words. `other` is as long, and so is `spare`, if `keep` is above 1; both and the table are
-/// overwritten. The table has the N / `keep` rows of V whose number `keep` divides, and `keep` divides N.
+/// 2 * r blocks of 16 words. `other` is as long, and so is `spare`, if `keep` is above 1; what stands in them and in the
+/// table afterwards is not said. The table has the N / `keep` rows of V whose number `keep` divides, and `keep` divides N.
 pub fn romix(
     row: &mut [u32],
     other: &mut [u32],

@@ -1,5 +1,5 @@
 //! The memory of a derivation, and the derivation.
-ghost use Rattle.std.specs.Prelude.{◌≡◌, ◌+◌, ◌-◌, ◌*◌, ◌^◌, ◌<◌, ◌≤◌, ◌⊎◌, length, IfOk, OnOk, OnErr};
+ghost use Rattle.std.specs.Prelude.{◌≡◌, ◌+◌, ◌-◌, ◌*◌, ◌^◌, ◌<◌, ◌≤◌, ◌⊎◌, false, true, length, IfOk, OnOk, OnErr};
 ghost use Rattle.romix.specs.Costs.{cores};
 ghost use Rattle.romix.specs.Scrypt.{scrypt};
 ghost use Rattle.romix.specs.Sparse.{sparse_cores};
@@ -63,13 +63,13 @@ pub fn reserve_from<R: Reservation>(
     ensures sparse { IfOk result (λ w. w.sparse ≡ sparse.now) }
     ensures lengths { IfOk result (λ w. HasLengths w) }
     // The table and two rows are asked for, each once, and one row more if not every row is kept.
-    ensures two_rows { sparse.now.keep ≡ 1 → OnOk result (source.new ≡ after_rows R.after_words sparse.now source.old 2) }
-    ensures three_rows { 1 < sparse.now.keep → OnOk result (source.new ≡ after_rows R.after_words sparse.now source.old 3) }
-    // After a refusal a beginning of these was asked for.
-    ensures refused { OnErr result ((source.new ≡ after_rows R.after_words sparse.now source.old 0)
-        ⊎ (source.new ≡ after_rows R.after_words sparse.now source.old 1)
-        ⊎ (source.new ≡ after_rows R.after_words sparse.now source.old 2)
-        ⊎ ((1 < sparse.now.keep) × (source.new ≡ after_rows R.after_words sparse.now source.old 3))) }
+    ensures two_rows { sparse.now.keep ≡ 1 → OnOk result (source.new ≡ after_rows R.after_words sparse.now source.old 2 true) }
+    ensures three_rows { 1 < sparse.now.keep → OnOk result (source.new ≡ after_rows R.after_words sparse.now source.old 3 true) }
+    // After a refusal a beginning of these was asked for, of which the last was refused and no other.
+    ensures refused { OnErr result ((source.new ≡ after_rows R.after_words sparse.now source.old 0 false)
+        ⊎ (source.new ≡ after_rows R.after_words sparse.now source.old 1 false)
+        ⊎ (source.new ≡ after_rows R.after_words sparse.now source.old 2 false)
+        ⊎ ((1 < sparse.now.keep) × (source.new ≡ after_rows R.after_words sparse.now source.old 3 false))) }
 {
     let row_len = 32 * sparse.costs().r() as usize;
     let table = source.zero_words((sparse.table_bytes() / 4) as usize)?;

@@ -1,6 +1,7 @@
 //! What is read from its beginning: secrets and salts.
-ghost use Rattle.std.specs.Prelude.{◌≡◌, ◌≤◌, None, length, option_map, IfOk, OnOk, IsTrue};
+ghost use Rattle.std.specs.Prelude.{◌≡◌, ◌≤◌, ℕ, List, None, length, option_map, IfOk, OnOk, IsTrue};
 ghost use Rattle.host.specs.Secret.{IsBeginning, source_of};
+ghost use Rattle.host.specs.Seen.{env};
 ghost use Rattle.tools.specs.Held.{salt_of, secret_in};
 ghost use Rattle.tools.specs.World.{LeavesAllBut, stands_at};
 ghost use Rattle.tools.specs.declared.system.Reading.TheVariants as reading;
@@ -11,7 +12,7 @@ use host::{HostFault, Source};
 
 /// The first bytes of a secret source: all of them, or as many as fit, in however many pieces they come;
 /// and how many they are. A source that is not there, that cannot be opened or that fails at a read is a
-/// fault, after which some bytes may have been read.
+/// fault, after which some bytes may have been read. For a variable nothing of the system changes.
 ///
 /// This is how a host over a system reads its secret: once, and before an output is asked for.
 pub fn read_secret<S: System>(
@@ -26,6 +27,8 @@ pub fn read_secret<S: System>(
         LeavesAllBut reading.Secret (S.world system.old) (S.world system.new) }
     ensures bytes { IsTrue S.tells → IfOk result (λ n.
         IsBeginning (secret_in (S.world system.old) (source_of source.entry)) n buf.new) }
+    ensures variable { (name : List ℕ) → source_of source.entry ≡ env name → IsTrue S.tells →
+        S.world system.new ≡ S.world system.old }
 {
     match source {
         Source::StdinOnce => read_opened(system, None, buf),

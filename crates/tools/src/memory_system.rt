@@ -39,6 +39,8 @@ const NO_FILES: OpenedFiles = OpenedFiles {
 /// A system that is all in memory, and tells its bytes: files and variables under their names, standard
 /// input, and which regular files they and standard output are. It takes and gives its bytes in pieces
 /// of given sizes, is interrupted before each piece as often as it is told, and fails at a given call.
+/// What comes of these sizes, interruptions and failures, that the input is opened under its name alone,
+/// and which files the opened streams are is tested, and is in no contract.
 ///
 /// What stands under a name stays: what is written is kept apart, as the output. A growth of memory
 /// that is refused is a failure of the call. Contracts see a `Memory`.
@@ -208,8 +210,8 @@ impl MemorySystem {
         self.interruptions = times;
     }
 
-    /// Names the call of the system that is to fail, counted from 1 over all its calls; 0 is none. The
-    /// counter stays at 2^64-1 once it is there.
+    /// Names the call of the system that is to fail, counted from 1 over all its calls but `word`, which
+    /// never fails so; 0 is none. The counter stays at 2^64-1 once it is there.
     pub fn fail_at(&mut self, call: u64)
         ensures same { self.new ≡ self.old }
     {
@@ -244,7 +246,7 @@ impl MemorySystem {
         self.tries.shown()
     }
 
-    /// How many calls the system was asked for, or 2^64-1 where it was more.
+    /// How many calls but `word` the system was asked for, or 2^64-1 where it was more.
     pub fn calls(&self) -> u64 {
         self.calls.get()
     }

@@ -1,9 +1,9 @@
 //! A run over a system: the system, and how far the run has come.
-ghost use Rattle.std.specs.Prelude.{◌≡◌, ◌<◌, ◌≤◌, None, [], length, option_map, take, IfOk, OnOk, OnErr, IsTrue, true, false};
+ghost use Rattle.std.specs.Prelude.{◌≡◌, ◌<◌, ◌≤◌, ℕ, List, None, [], length, option_map, take, IfOk, OnOk, OnErr, IsTrue, true, false};
 ghost use Rattle.host.specs.Asked.{asked_source};
 ghost use Rattle.host.specs.Grants.{nothing_asked, with_input_opened, with_output_asked, with_output_opened, with_salt_asked, with_secret_asked};
 ghost use Rattle.host.specs.Secret.{IsBeginning, secret_of, source_of};
-ghost use Rattle.host.specs.Seen.{after_ask, after_ask_output, after_open_input, after_open_output, after_pull, after_push, after_salt, after_say};
+ghost use Rattle.host.specs.Seen.{after_ask, after_ask_output, after_open_input, after_open_output, after_pull, after_push, after_salt, after_say, env};
 ghost use Rattle.tools.specs.Held.{host_seen};
 ghost use Rattle.tools.specs.World.{IsUnused};
 
@@ -124,6 +124,7 @@ impl<S: System> Run<S> {
     /// Opens the input, if no output was asked for.
     pub fn open_input(&mut self, name: Option<&str>) -> Result<(), HostFault>
         requires unopened { self.old.grants.input ≡ true }
+        ensures early { OnOk result (self.old.grants.output ≡ true) }
         ensures kept { IsTrue S.tells → OnErr result (host_seen self.new ≡ host_seen self.old) }
         ensures opened { IsTrue S.tells → OnOk result (host_seen self.new
             ≡ after_open_input (option_map (λ n. n.now) name.entry) (host_seen self.old)) }
@@ -138,7 +139,8 @@ impl<S: System> Run<S> {
         Ok(())
     }
 
-    /// Opens an output that is no regular file that is read, and empties it where it is a regular file.
+    /// Opens an output that is no regular file that is read, and empties it where it is a regular file that
+    /// was opened by its name.
     pub fn open_output(&mut self, name: Option<&str>) -> Result<(), HostFault>
         requires unasked { self.old.grants.output ≡ true }
         ensures asks { IsTrue S.tells → OnErr result (host_seen self.new
@@ -196,14 +198,18 @@ impl<S: System> Run<S> {
         write_some(&mut self.system, bytes)
     }
 
-    /// The first bytes of a secret source, if no output was asked for.
+    /// The first bytes of a secret source, if no output was asked for. For a variable nothing of the system
+    /// changes.
     pub fn secret(&mut self, source: Source<'_>, buf: &mut [u8]) -> Result<usize, HostFault>
         requires unasked { self.old.grants.secret ≡ true }
+        ensures early { OnOk result (self.old.grants.output ≡ true) }
         ensures bound { IfOk result (λ n. n ≤ length buf.old) }
         ensures asks { IsTrue S.tells →
             host_seen self.new ≡ after_ask (source_of source.entry) (host_seen self.old) }
         ensures bytes { IsTrue S.tells → IfOk result (λ n.
             IsBeginning (secret_of source.entry (host_seen self.old)) n buf.new) }
+        ensures variable { (name : List ℕ) → source_of source.entry ≡ env name → IsTrue S.tells →
+            self.new.world ≡ self.old.world }
         ensures granted { self.new.grants ≡ with_secret_asked self.old.grants }
     {
         self.asked = Some(Asked::of(&source));
@@ -216,6 +222,7 @@ impl<S: System> Run<S> {
     /// A salt, if no output was asked for.
     pub fn salt(&mut self, out: &mut [u8; 32]) -> Result<(), HostFault>
         requires unsalted { self.old.grants.salt ≡ true }
+        ensures early { OnOk result (self.old.grants.output ≡ true) }
         ensures salts { IsTrue S.tells → host_seen self.new ≡ after_salt (host_seen self.old) }
         ensures bytes { IsTrue S.tells → OnOk result (out.new ≡ (host_seen self.old).salt) }
         ensures granted { self.new.grants ≡ with_salt_asked self.old.grants }

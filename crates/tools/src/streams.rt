@@ -1,5 +1,5 @@
 //! Reading and writing what signals may interrupt.
-ghost use Rattle.std.specs.Prelude.{◌≡◌, ◌+◌, ◌<◌, ◌≤◌, ℕ, Some, false, true, take, length, IfOk, OnErr, IsTrue};
+ghost use Rattle.std.specs.Prelude.{◌≡◌, ◌+◌, ◌<◌, ◌≤◌, ℕ, Some, false, true, drop, take, length, IfOk, OnErr, IsTrue};
 ghost use Rattle.host.specs.Secret.{IsBeginning};
 ghost use Rattle.tools.specs.World.{IsApart, Reads, TakesFrom, after_write, source_at};
 
@@ -40,7 +40,7 @@ pub fn read_some<S: System>(
 }
 
 /// Reads until the buffer is full or the end has come: as many bytes as there are and as fit. It says how
-/// many came. Each read is one of [`read_some`]; after a fault of one some bytes may have been read.
+/// many came, and takes no more from the stream. After a fault some bytes may have been read.
 ///
 /// This is how a host over a system reads a secret and a salt.
 pub fn read_full<S: System>(
@@ -50,9 +50,12 @@ pub fn read_full<S: System>(
 ) -> Result<usize, HostFault>
     requires going { IsTrue S.tells → (source_at reading (S.world system.old)).is_ended ≡ false }
     ensures bound { IfOk result (λ n. n ≤ length buf.old) }
-    ensures taken { IsTrue S.tells → TakesFrom reading (S.world system.old) (S.world system.new) }
     ensures whole { IsTrue S.tells → IfOk result (λ n.
         IsBeginning (Some (source_at reading (S.world system.old)).left) n buf.new) }
+    ensures left { IsTrue S.tells → IfOk result (λ n. (source_at reading (S.world system.new)).left
+        ≡ drop n (source_at reading (S.world system.old)).left) }
+    ensures taken { IsTrue S.tells → TakesFrom reading (S.world system.old) (S.world system.new) }
+    ensures same_files { IsTrue S.tells → S.files system.new ≡ S.files system.old }
 {
     let mut at = 0;
     while at < buf.len() {

@@ -13,9 +13,10 @@ use host::{Host, HostFault, Source};
 ///
 /// A named output is made, or emptied where it is there; one that is the opened input or the secret's
 /// file, under whatever name or as standard output, is a fault and stays as it is. A push is written at
-/// once. A read or a write that a signal interrupts is asked again at most 16 times, and a write of no
-/// bytes is a fault; after the end of the input the system is not asked for more. What is read is opened
-/// before the output is asked for, and is a fault afterwards.
+/// once. A read or a write that a signal interrupts is asked again at most 16 times; the bound is that of
+/// [`read_some`](crate::read_some) and [`write_some`](crate::write_some), whose clause `tries` has it. A
+/// write of no bytes is a fault; after the end of the input the system is not asked for more. What is
+/// read is opened before the output is asked for, and is a fault afterwards.
 ///
 /// It tells its bytes where the system does. Of every system contracts see how often each kind of call
 /// has failed, and which calls are granted.

@@ -543,19 +543,27 @@ fn longest_text(rt: HostRuntime) -> Result<(), Fail> {
     Ok(())
 }
 
-// Salt and tag are the two requests. Before them no fault of a field costs memory.
+// Salt and tag are the two requests, and after one that is refused there is none. Before them no fault of a field costs
+// memory.
 #[test]
 fn each_request_is_refused(rt: HostRuntime) {
-    for (left, text, fault) in [
-        (0, KNOWN, Some(ReadFault::OutOfMemory)),
-        (1, KNOWN, Some(ReadFault::OutOfMemory)),
-        (2, KNOWN, None),
-        (0, b"$argon2i$v=019$m=256", Some(ReadFault::NotInGrammar)),
+    for (left, text, fault, unasked) in [
+        (0, KNOWN, Some(ReadFault::OutOfMemory), 9),
+        (1, KNOWN, Some(ReadFault::OutOfMemory), 8),
+        (2, KNOWN, None, 8),
+        (
+            0,
+            b"$argon2i$v=019$m=256",
+            Some(ReadFault::NotInGrammar),
+            10,
+        ),
     ] {
         let mut room = Refusing {
             alloc: rt.alloc(),
             left,
+            unasked: 10,
         };
         assert!(rt; read_from(&mut room, text).err() == fault, "{left}");
+        assert_eq!(rt; room.unasked, unasked);
     }
 }

@@ -6,26 +6,28 @@ use argon_text::{ReadRoom, Room, TextRoom};
 use base64::DecodeAllocError;
 use std::alloc::{AllocError, Global};
 
-/// Grants so many requests, and refuses the next.
+/// Grants so many requests and refuses the others. Of ten it counts how many are not made.
 #[derive(Drop)]
 pub struct Refusing {
     pub alloc: Global,
     pub left: u32,
+    pub unasked: u32,
 }
 
 impl Refusing {
     // Whether a request is granted.
     fn grants(&mut self) -> bool
-        ensures left { self.new ≡ record self.old { left = self.old.left - 1 } }
+        ensures left { self.new ≡ record self.old { left = self.old.left - 1; unasked = self.old.unasked - 1 } }
     {
         let grants = self.left > 0;
         self.left = self.left.saturating_sub(1);
+        self.unasked = self.unasked.saturating_sub(1);
         grants
     }
 }
 
 impl ReadRoom for Refusing {
-    ghost after_decoded = { λ room _. record room { left = room.left - 1 } };
+    ghost after_decoded = { λ room _ _. record room { left = room.left - 1; unasked = room.unasked - 1 } };
 
     fn decoded(&mut self, symbols: &[u8]) -> Result<Vec<u8>, DecodeAllocError> {
         if !self.grants() {
@@ -37,7 +39,7 @@ impl ReadRoom for Refusing {
 }
 
 impl Room for Refusing {
-    ghost after_matrix = { λ room _ _ _ _. record room { left = room.left - 1 } };
+    ghost after_matrix = { λ room _ _ _ _. record room { left = room.left - 1; unasked = room.unasked - 1 } };
 
     fn matrix(
         &mut self,

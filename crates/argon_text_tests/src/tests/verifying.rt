@@ -155,7 +155,11 @@ fn each_byte_of_the_tag_counts(rt: HostRuntime) -> Result<(), Fail> {
 // The matrix is the one request, and comes after the limits.
 fn answered_with(alloc: Global, left: u32, max_ops: u64) -> Result<u8, Fail> {
     let encoded = Encoded::read(alloc, KNOWN)?;
-    let mut room = Refusing { alloc, left };
+    let mut room = Refusing {
+        alloc,
+        left,
+        unasked: 10,
+    };
     let found = verify(
         &mut room,
         &Claim::of(&encoded),

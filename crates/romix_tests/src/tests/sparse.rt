@@ -161,7 +161,7 @@ impl Refusing {
 }
 
 impl Reservation for Refusing {
-    ghost after_words = { λ source len. record source
+    ghost after_words = { λ source len _. record source
         { granted = source.granted - 1; unasked = source.unasked - 1; last = len } };
 
     fn zero_words(&mut self, len: usize) -> Result<Vec<u32>, AllocError> {

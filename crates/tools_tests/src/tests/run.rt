@@ -7,8 +7,8 @@ use std::alloc::Global;
 use tools::{Identities, MemorySystem, Run, System};
 
 // A run of which nothing was used, over five bytes of standard input, which are the input, and random bytes. This call
-// of its system fails.
-fn begun(alloc: Global, failing: u64) -> Run<MemorySystem> {
+// of its system fails, and each read and write is interrupted so often.
+fn begun(alloc: Global, failing: u64, interruptions: u64) -> Run<MemorySystem> {
     let mut system = with_standard(alloc, b"hello", Identities::NONE, Identities::NONE);
     put(
         alloc,
@@ -19,6 +19,7 @@ fn begun(alloc: Global, failing: u64) -> Run<MemorySystem> {
     );
     let _ = system.set_input(None);
     system.fail_at(failing);
+    system.interrupt(interruptions);
     Run::new(system)
 }
 
@@ -95,7 +96,7 @@ fn answers(run: &mut Run<MemorySystem>) -> [u8; 9] {
 // Whether they answer this, with this call of the system failing; and whether the output was emptied then, and a line
 // was said.
 fn is_row(alloc: Global, (failing, marks, is_emptied, lines): (u64, [u8; 9], bool, usize)) -> bool {
-    let mut run = begun(alloc, failing);
+    let mut run = begun(alloc, failing, 0);
     let answers = answers(&mut run);
     let left = (run.system().is_emptied(), run.system().lines().len());
     drop(run);
@@ -138,6 +139,29 @@ fn each_call_fails(rt: HostRuntime) {
     }
 }
 
+// How often each read and write is interrupted, what the calls answer, and how many reads and writes are tried for it.
+static INTERRUPTED: [(u64, [u8; 9], u64); 3] = [
+    (0, *b".4104..4.", 6),
+    (16, *b".4104..4.", 102),
+    (u64::MAX, *b".FFFFF.F.", 102),
+];
+
+// Whether they answer this after so many tries.
+fn is_tried_so_often(alloc: Global, (interruptions, marks, tries): (u64, [u8; 9], u64)) -> bool {
+    let mut run = begun(alloc, 0, interruptions);
+    let answers = answers(&mut run);
+    let tried = run.system().tries();
+    drop(run);
+    answers == marks && tried == tries
+}
+
+#[test]
+fn each_read_and_write_is_tried_17_times_at_most(rt: HostRuntime) {
+    for row in &INTERRUPTED {
+        assert!(rt; is_tried_so_often(rt.alloc(), *row), "{}", row.0);
+    }
+}
+
 // What pulls answer, the first of which has no room.
 fn pulls(run: &mut Run<MemorySystem>) -> [u8; 6] {
     [
@@ -152,7 +176,7 @@ fn pulls(run: &mut Run<MemorySystem>) -> [u8; 6] {
 
 // Whether the system was asked no more once the end was found.
 fn ends_once(alloc: Global) -> bool {
-    let mut run = begun(alloc, 0);
+    let mut run = begun(alloc, 0, 0);
     let (pulls, tries) = (pulls(&mut run), run.system().tries());
     drop(run);
     pulls == *b".04100" && tries == 3
@@ -175,7 +199,7 @@ fn late(run: &mut Run<MemorySystem>) -> [u8; 4] {
 
 // Whether these are the answers where this call of the system fails, and how often it was called.
 fn is_late(alloc: Global, (failing, marks, calls): (u64, [u8; 4], u64)) -> bool {
-    let mut run = begun(alloc, failing);
+    let mut run = begun(alloc, failing, 0);
     let late = (late(&mut run), run.system().calls());
     drop(run);
     late == (marks, calls)
@@ -204,7 +228,7 @@ fn going_on(run: &mut Run<MemorySystem>) -> [u8; 5] {
 
 // Whether what was opened is read and written on.
 fn goes_on(alloc: Global) -> bool {
-    let mut run = begun(alloc, 0);
+    let mut run = begun(alloc, 0, 0);
     let answers = going_on(&mut run);
     drop(run);
     answers == *b"..440"
