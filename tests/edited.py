@@ -1,7 +1,7 @@
 """Whether each exported function has a wrong body: so that no contract that a caller relies on is one that nothing broke.
 
-An edit of the function itself counts, or of the private function that does its work, which BY_ANOTHER names. A function
-without a clause promises nothing that a wrong body could break, nor does one of ALONE.
+An edit of the function itself counts, or of the function that does its work, which BY_ANOTHER names. A function without
+a clause promises nothing that a wrong body could break, nor does one of ALONE.
 """
 import doc
 import record
