@@ -215,8 +215,9 @@ for heading, cells in tables("EXAMPLES.md"):
 
 # Wrong bodies: what each replaces stands in its place once, each has a row in its crate's record, each row names a goal
 # that is there, and the page is made from these rows.
-for file in sorted(TOP.glob("crates/*/*/*.edit")):
-    expect(Edit(file).texts, file.relative_to(TOP), "the text that it replaces, once")
+for crate in SOURCES:
+    for file in (it for folder in (*record.FOLDERS, record.DEFINITIONS) for it in record.edits_of(crate, folder)):
+        expect(Edit(file).texts, f"{crate}/{file.stem}", "the text that it replaces, once")
 for crate in SOURCES:
     rows, file = record.rows_of(crate), record.file_of(crate)
     named = [path.stem for folder in record.FOLDERS for path in record.edits_of(crate, folder)]
@@ -232,7 +233,7 @@ for crate in SOURCES:
     rows, file = record.rows_of(crate, folder=record.DEFINITIONS), record.file_of(crate, record.DEFINITIONS)
     for path in record.edits_of(crate, record.DEFINITIONS):
         edit = WrongDefinition(path, definitions_page.ALL)
-        expect(not edit.wrong, path.relative_to(TOP), edit.wrong)
+        expect(not edit.wrong, edit.name, edit.wrong)
         expect(path.stem in rows, file, f"{path.stem}: a row of its trial (tests/wrong_definitions.py {edit.name} writes it)")
         row = rows.pop(path.stem, record.Row("", edit.row))
         expect(row.by == edit.row, file, f"{path.stem}: the equation that its edit names")
@@ -241,17 +242,18 @@ for crate in SOURCES:
 for crate in doc.libraries():
     for name in edited.without_edit(crate):
         expect(False, f"crates/{crate}/wrong-bodies", f"a wrong body of {name}, or another of which tests/edited.py knows")
-tables_made = record.page() == record.PAGE.read_text(encoding="utf-8")
-expect(tables_made, "WRONG_BODIES.md", "the tables that the records make (each run of tests/wrong_bodies.py writes them)")
+for crate in SOURCES:
+    for path, text in (*record.marked(crate).items(), *record.marked(crate, record.DEFINITIONS).items()):
+        expect(path.read_text(encoding="utf-8") == text, path.relative_to(TOP), "what the record says that refused each edit")
 
 tables_made = definitions_page.page() == definitions_page.PAGE.read_text(encoding="utf-8")
 expect(tables_made, "DEFINITIONS.md", "the tables that the records make (each run of tests/wrong_definitions.py writes them)")
 
 # Wrong lines outside the proofs: what each replaces stands there once, and each has a row.
 rows = outside_plants.rows_of_record()
-for file in sorted(outside_plants.FOLDER.glob("*.edit")):
-    expect(outside_plants.Plant(file).texts(TOP), file.relative_to(TOP), "the text that it replaces, once")
-    expect(file.stem in rows, outside_plants.RECORD.relative_to(TOP), f"{file.stem}: a row of its trial")
+for plant in outside_plants.all_plants():
+    expect(plant.texts(TOP), f"outside-plants: {plant.name}", "the text that it replaces, once")
+    expect(plant.name in rows, outside_plants.RECORD.relative_to(TOP), f"{plant.name}: a row of its trial")
 
 # Counts and seconds of the gate.
 tables_made = gate_page.page() == gate_page.PAGE.read_text(encoding="utf-8")

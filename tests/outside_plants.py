@@ -25,6 +25,7 @@ import sys
 import tempfile
 import time
 
+import edit_files
 import record
 import turns
 
@@ -43,6 +44,8 @@ TESTS = {
     "tests/c_face.py": (["--header", "LIB"], 6), "tests/sources.sh": ([], 2),
     "tests/story.py": (["--recipes", "bin/x86-64-v2"], 25), "tests/steps_test.py": ([], 4),
 }
+# The tables that a module reads.
+READS = {"tests/values_table.py": "docs/values.tsv", "tests/heap_in_reach.py": "tests/heap_in_reach.tsv"}
 # What a test needs beside Python: without it, it finds nothing.
 NEEDS = {"tests/build_scripts.py": ["gcc", "dpkg-deb"], "tests/python_module.py": ["gcc"],
          "tests/c_face.py": ["gcc", "g++"], "tests/packages.py": ["gcc", "dpkg-deb", TOP / "bin/x86-64-v2/scrypt"],
@@ -95,9 +98,13 @@ class Plant:
         return hashlib.sha256(repr([self.text, texts]).encode()).hexdigest()[:32]
 
 
+def all_plants():
+    return [Plant(it) for it in edit_files.edits_of(FOLDER)]
+
+
 def read_by(test):
     """The files that a test is made of: what it imports, the C that it compiles, what a script of the shell runs, and the
-    table of values where it reads that."""
+    tables that these read."""
     found, left = [], [test]
     while left:
         name = left.pop()
@@ -108,7 +115,7 @@ def read_by(test):
             left += [f"{folder}/{it}.py" for it in modules for folder in ("tests", "packaging", "bench")]
             left += [f"tests/{it}" for it in re.findall(r"\b\w+\.c\b", text)]
             left += re.findall(r"\btests/\w+\.(?:py|sh)\b", text) if name.endswith(".sh") else []
-    return sorted(found) + (["docs/values.tsv"] if "tests/values_table.py" in found else [])
+    return sorted(found) + [table for module, table in READS.items() if module in found]
 
 
 def rows_of_record(commit=None):
@@ -220,7 +227,7 @@ def main():
     given, begun = parser.parse_args(), time.monotonic()
     if given.since and not record.git("rev-parse", "--verify", "--quiet", given.since + "^{commit}"):
         parser.error(f"there is no commit {given.since}")
-    plants = [Plant(it) for it in sorted(FOLDER.glob("*.edit"))]
+    plants = all_plants()
     wrong = [it.name for it in plants if it.test not in TESTS] + [
         it for it in given.names if it not in [plant.name for plant in plants]]
     if wrong:

@@ -24,7 +24,7 @@ import ratios  # noqa: E402
 import values_table  # noqa: E402
 
 # Pages that scripts write whole.
-WHOLE = {"WRONG_BODIES.md", "VECTORS.md"}
+WHOLE = {"VECTORS.md"}
 PAGES = [*sorted(TOP.glob("*.md")), *(it for it in sorted((TOP / "docs").glob("*.md")) if it.name not in WHOLE)]
 MADE = re.compile(r"^<!-- made by (\S+): ([^\n]*) -->\n(.*?)^<!-- end -->\n", re.MULTILINE | re.DOTALL)
 MOST_BY_HAND = 1700

@@ -1,8 +1,7 @@
 """The record of wrong bodies, and that of wrong definitions: under which key each was tried, and what refused it.
 
 crates/CRATE/wrong-bodies/record has a row for each edit that was tried: its name, its key (tests/keys.py), the goal,
-and the release of the toolchain that tried it, with tabs between. The tables of docs/WRONG_BODIES.md are made from these
-files.
+and the release of the toolchain that tried it, with tabs between; the edit itself says below its lines what refused it.
 crates/CRATE/wrong-definitions/record has the same of wrong definitions, with a key by tests/definitions.py, and the
 equation; docs/DEFINITIONS.md has their tables.
 """
@@ -10,10 +9,10 @@ import pathlib
 import subprocess
 import typing
 
+import edit_files
 from edits import TOP
 
-PAGE = TOP / "docs" / "WRONG_BODIES.md"
-FOLDERS = {"must-fail": "**`{}`**", "wrong-bodies": "`{}`"}  # and how the page names an edit of each
+FOLDERS = ("must-fail", "wrong-bodies")
 BODIES, DEFINITIONS = "wrong-bodies", "wrong-definitions"  # the folders that have a record
 
 
@@ -47,8 +46,9 @@ def below():
 
 
 def edits_of(crate, folder):
-    """The edits that a folder of a crate holds."""
-    return sorted((TOP / "crates" / crate / folder).glob("*.edit"))
+    """The edits that a folder of a crate holds, by their names; rt must-fail wants a file for each of its own."""
+    folder = TOP / "crates" / crate / folder
+    return edit_files.edits_of(folder) or sorted(folder.glob("*.edit"))
 
 
 def file_of(crate, folder=BODIES):
@@ -75,15 +75,12 @@ def write(crate, rows, folder=BODIES):
         path.write_text("".join(lines), encoding="utf-8")
     elif path.exists():
         path.unlink()
+    for path, text in marked(crate, folder).items():
+        path.write_text(text, encoding="utf-8")
 
 
-def page():
-    """docs/WRONG_BODIES.md with its tables as the records have them."""
-    made = [PAGE.read_text(encoding="utf-8").partition("\n## ")[0]]
-    for crate in below():
-        rows = rows_of(crate)
-        named = [(form, it.stem) for folder, form in FOLDERS.items() for it in edits_of(crate, folder) if it.stem in rows]
-        lines = [f"| {form.format(name)} | {rows[name].by} |\n" for form, name in named]
-        if lines:
-            made.append(f"\n## {crate}\n\n| wrong body | refused at |\n|---|---|\n" + "".join(lines))
-    return "".join(made)
+def marked(crate, folder=BODIES):
+    """The files of edits of a crate, with what its rows say that refused each: their texts, by their paths."""
+    refused = {name: row.by for name, row in rows_of(crate, folder=folder).items()}
+    files = sorted((TOP / "crates" / crate / folder).glob("*.edits"))
+    return {path: edit_files.marked(path.read_text(encoding="utf-8"), refused) for path in files}

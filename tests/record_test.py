@@ -9,6 +9,7 @@ import shutil
 import tempfile
 
 import definitions
+import edit_files
 import keys as bodies
 import outside_plants
 import record
@@ -44,7 +45,8 @@ CHANGES = (
         "salt-as-password"}),
     ("a comment", "src/hmac.rt", "/// The code of the message", "/// The code", set()),
     ("who may name a function", "src/hmac.rt", *OPENED, set()),
-    ("the edit", "wrong-bodies/salt-as-password.edit", "new: ", "new:  ", {"salt-as-password"}),
+    ("the edit", "wrong-bodies/pbkdf2_sha256.edits", "new: block_after_salt(&salted_mac(salt", "new:  block_after_salt(&salted_mac(salt", {
+        "salt-as-password"}),
 )
 # The same, and the wrong definitions that then have other keys.
 OF_33_BYTES = {"blocks-from-0", "whole-blocks-alone"}
@@ -57,7 +59,7 @@ CHANGES_OF_DEFINITIONS = (
     ("an equation", f"{TESTS}/src/vectors.rt", "0x49 ∷ [] }", "0x4A ∷ [] }", OF_33_BYTES),
     ("another equation", f"{TESTS}/src/vectors.rt", "0x83 ∷ [] }", "0x84 ∷ [] }", set()),
     ("an answer", f"{TESTS}/proofs/vectors/pbkdf2_of_33_bytes/Answers.antt", "key_block joined", "joined", OF_33_BYTES),
-    ("the edit", "wrong-definitions/whole-blocks-alone.edit", "new: ", "new:  ", {"whole-blocks-alone"}),
+    ("the edit", "wrong-definitions/Pbkdf2.edits", "new: (n / 32)", "new:  (n / 32)", {"whole-blocks-alone"}),
 )
 
 
@@ -74,14 +76,14 @@ def tree_of(room):
 def keys(folder, logic="a logic"):
     """The key of each of the crate's wrong bodies in this copy, by the edit's name."""
     tree = Tree(folder)
-    edits = sorted((folder / "crates" / CRATE / record.BODIES).glob("*.edit"))
+    edits = edit_files.edits_of(folder / "crates" / CRATE / record.BODIES)
     return {path.stem: tree.key(Edit(path), [CRATE], logic) for path in edits}
 
 
 def keys_of_definitions(folder, logic="a logic"):
     """The same of its wrong definitions."""
     tree, found = Tree(folder), Definitions(folder)
-    edits = sorted((folder / "crates" / CRATE / record.DEFINITIONS).glob("*.edit"))
+    edits = edit_files.edits_of(folder / "crates" / CRATE / record.DEFINITIONS)
     return {path.stem: WrongDefinition(path, found).key(tree, [CRATE], logic) for path in edits}
 
 
@@ -100,9 +102,9 @@ def keys_change(checks, folder):
         checks.that(f"keys: {what}", other(folder, f"crates/{CRATE}/{file}", old, new), expected)
     checks.that("keys: a rule of the trial", other(folder, "tests/trial.py", "MOST = 9", "MOST = 8"), ALL)
     checks.that("keys: a comment on a rule", other(folder, "tests/edits.py", "\nclass ", "\n# That is:\nclass "), set())
-    path = folder / f"crates/{CRATE}/{record.BODIES}/long-key-cut.edit"
+    path = folder / f"crates/{CRATE}/{record.BODIES}/hmac.edits"
     text = path.read_text(encoding="utf-8")
-    path.write_text(f"{text}types: an error\n", encoding="utf-8")
+    path.write_text(text.replace("\nlong-key-cut\n", "\nlong-key-cut\ntypes: an error\n"), encoding="utf-8")
     found = other(folder, f"crates/{CRATE}/src/hmac.rt", *OPENED)
     checks.that("keys: who may name a function, where the types refuse", found, {"long-key-cut"})
     path.write_text(text, encoding="utf-8")
@@ -142,14 +144,14 @@ def searches_are_read(checks):
     """The key of a wrong line of the sources has in it each script that searches them."""
     read = outside_plants.read_by("tests/sources.sh")
     expected = ["tests/edits.py", *(f"tests/{it}.py" for it in ("encoded_texts", "heap_in_reach", "uncommented"))]
-    checks.that("keys of lines: the searches", read, sorted([*expected, "tests/sources.sh"]))
+    checks.that("keys of lines: the searches", read, [*sorted([*expected, "tests/sources.sh"]), "tests/heap_in_reach.tsv"])
     read = outside_plants.read_by("tests/build_scripts.py")
     checks.that("keys of lines: a module of packaging/", "packaging/prove.py" in read, True)
 
 
 def rows_count_since(checks):
     """A wrong line whose row the commit has otherwise, or not at all, is tried."""
-    plants = [outside_plants.Plant(it) for it in sorted(outside_plants.FOLDER.glob("*.edit"))]
+    plants = outside_plants.all_plants()
     rows, git = outside_plants.RECORD.read_text(encoding="utf-8").splitlines(keepends=True), record.git
 
     def tried(since, had=()):

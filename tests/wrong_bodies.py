@@ -7,7 +7,7 @@
 
 crates/CRATE/wrong-bodies/NAME.edit is written as the edits of must-fail/, which rt ci tries one at a time: here those are
 tried by name and by --audit alone. tests/trial.py says what a refusal is. Each that is refused gets its row in
-crates/CRATE/wrong-bodies/record and in docs/WRONG_BODIES.md.
+crates/CRATE/wrong-bodies/record, and the goal below its lines.
 
 An edit is new where its row has another key than the tree gives (tests/keys.py), or there is none; with --since a row
 counts only if that commit has it, too. The others are taken by record, but for those in turn (tests/turns.py): a few
@@ -187,7 +187,6 @@ class Run:
         """Writes the rows of a crate, if they count."""
         if it.is_right:
             record.write(it.name, it.rows)
-            record.PAGE.write_text(record.page(), encoding="utf-8")
 
     def attempt(self, name, edits, texts):
         """Tries a group, and writes what came of it."""
