@@ -34,28 +34,27 @@ bin/lib/libpikhsen.so.0: $(SOURCES) packaging/lib.sh packaging/pikhsen.map
 check: ## proves what differs from the last commit and what stands on it, and runs the tests of the crates that changed
 	tests/changed.py
 
-# What was built for another level is tested, too, and built anew before, if the sources changed. With SINCE=COMMIT, a
-# commit that the gate passed, a wrong body, definition or line is taken by record only where that commit has its row.
+# What was built for another level is tested, too, and built anew before, if the sources changed.
 test: $(filter bin/x86-64-v3/%,$(wildcard $(LEVELS:%=bin/%/scrypt))) ## the gate: proofs, tests, wrong bodies, definitions and lines that are new or in turn, the built programs
 	@rm -rf bin/gate.tsv bin/rooms
-	@tests/steps.py tests/sources.sh tests/documents.py tests/values.py 'tests/reading.py --check' tests/record_test.py \
+	@tests/steps.py tests/sources.sh tests/documents.py tests/values.py 'tests/reading.py --check' tests/choice_test.py \
 		tests/first_run.py tests/build_scripts.py tests/steps_test.py
 	@tests/steps.py 'rt ci'
 	@install -D -m 755 crates/argon_tool/out/argon_tool bin/x86-64-v2/argon2
 	@install -D -m 755 crates/scrypt_tool/out/scrypt_tool bin/x86-64-v2/scrypt
 	@test -f bin/level && test "$$(cat bin/level)" != x86-64-v2 || packaging/chosen.sh x86-64-v2
-	@tests/steps.py 'tests/wrong_bodies.py $(SINCE:%=--since %)' \
+	@tests/steps.py tests/refusals.py \
 		$(foreach it,$(LEVELS),$(if $(filter x86-64-v2,$(it))$(wildcard bin/$(it)/scrypt),'tests/outside.sh bin/$(it)'))
-	@tests/steps.py 'tests/wrong_definitions.py $(SINCE:%=--since %)' tests/c_face.py \
-		'tests/outside_plants.py $(SINCE:%=--since %)'
+	@tests/steps.py tests/c_face.py tests/wrong_lines.py
 	@tests/steps.py 'tests/builds.py --check'
 	@tests/steps.py --all
 
-# A wrong line may need the programs or the library to be found.
-audit: bin/x86-64-v2/scrypt bin/lib/libpikhsen.so.0 ## tries each wrong body, wrong definition and wrong line outside the proofs, whatever the records say, and writes them anew
-	tests/wrong_bodies.py --audit
-	tests/wrong_definitions.py --audit
-	tests/outside_plants.py --audit
+# A wrong line may need the programs or the library to be found. docs/audit says of which commit the last audit was.
+audit: bin/x86-64-v2/scrypt bin/lib/libpikhsen.so.0 ## tries each wrong body, wrong definition and wrong line, and writes the commit into docs/audit
+	@tests/choice.py >bin/audit
+	tests/refusals.py --audit
+	tests/wrong_lines.py --audit
+	@tests/choice.py | cmp -s - bin/audit && mv bin/audit docs/audit
 
 map: ## draws docs/proof-map.svg and docs/proof-map-small.svg anew: which promise stands on what
 	tests/proof_map.py docs/proof-map.svg docs/proof-map-small.svg

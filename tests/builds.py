@@ -32,10 +32,9 @@ import subprocess
 import sys
 import tempfile
 
-import keys
-import record
 from checking import Checks
-from edits import TOP
+from reading import TESTS
+from tree import TOP, below, git
 
 TABLE = TOP / "docs/builds.tsv"
 HEAD = """# What the sources of this version build, written by tests/builds.py: which toolchain and tools made it, the time of
@@ -56,13 +55,21 @@ def sha256(path):
     return hashlib.sha256(pathlib.Path(path).read_bytes()).hexdigest()
 
 
+def sum_of(folder):
+    """A sum of all files that the crate of this folder is proved from, as they are now, without its tests."""
+    files = sorted(it for part in ("src", "specs", "proofs") for it in (folder / part).rglob("*") if it.is_file())
+    texts = [(it.relative_to(folder), it.read_bytes()) for it in files]
+    texts = [(str(path), text) for path, text in texts if not TESTS & {*path.parts}]
+    return hashlib.sha256(repr(texts).encode()).hexdigest()
+
+
 def crates_of(crate):
-    return [*record.below()[crate], crate]
+    return [*below()[crate], crate]
 
 
 def sum_of_crates(crate):
     """A sum of the sources of a crate and of all below it."""
-    sums = [(it, keys.sum_of(TOP / "crates" / it)) for it in crates_of(crate)]
+    sums = [(it, sum_of(TOP / "crates" / it)) for it in crates_of(crate)]
     return hashlib.sha256(repr(sums).encode()).hexdigest()[:32]
 
 
@@ -178,7 +185,7 @@ def main():
     if sys.argv[1:] not in ([], ["--check"]):
         raise SystemExit(__doc__)
     table = rows_of_table()
-    epoch = table.get(("time",)) if sys.argv[1:] else record.git("log", "-1", "--format=%ct")
+    epoch = table.get(("time",)) if sys.argv[1:] else git("log", "-1", "--format=%ct")
     with tempfile.TemporaryDirectory() as folder:
         found = built(folder, epoch or "0")
     made = made_of(epoch)

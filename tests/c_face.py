@@ -3,7 +3,7 @@
 both ways to link, keys that a call leaves in memory and vector registers, what docs/LIBRARY.md and the manual page show,
 all of tests/python_module.py and, of what is installed and packaged, of tests/packages.py.
 
-    tests/c_face.py              takes crates/pikhsen_c/out/libpikhsen_c.a as tests/wrong_bodies.py or make lib left it,
+    tests/c_face.py              takes crates/pikhsen_c/out/libpikhsen_c.a as tests/refusals.py or make lib left it,
                                  and the library for x86-64-v3 as make lib left it in bin/lib, if it is of these sources
     tests/c_face.py --prove      proves the crates and builds that static library before
     tests/c_face.py --header FOLDER      calls the library in this folder from C and C++ alone, under no other program
@@ -23,10 +23,10 @@ import binaries
 import comparisons
 import packages
 import python_module
-import record
 from checking import Checks, is_there, said
 from library_texts import HEADER, TOP, numbers_of_header, prototypes
 from shown import INCLUDE, compile_c, page_runs, library_runs
+from tree import below
 
 CRATE = "pikhsen_c"
 STRICT = ["-std=c89", "-pedantic", "-Wall", "-Wextra", "-Werror", "-D_POSIX_C_SOURCE=200112L"]
@@ -37,7 +37,7 @@ STRICT = ["-std=c89", "-pedantic", "-Wall", "-Wextra", "-Werror", "-D_POSIX_C_SO
 
 def is_of_sources(archive):
     """Whether the static library is there, and newer than all that it is proved from."""
-    folders = [TOP / "crates" / it / part for it in [*record.below()[CRATE], CRATE] for part in ("src", "specs", "proofs")]
+    folders = [TOP / "crates" / it / part for it in [*below()[CRATE], CRATE] for part in ("src", "specs", "proofs")]
     newest = max(it.stat().st_mtime for folder in folders for it in [folder, *folder.rglob("*")] if it.exists())
     return archive.is_file() and archive.stat().st_mtime > newest
 

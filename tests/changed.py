@@ -37,7 +37,7 @@ def main():
     base = sys.argv[1] if len(sys.argv) > 1 else "HEAD"
     paths = [pathlib.PurePath(line).parts for line in changed_files(base)]
     inside = [parts for parts in paths if parts[0] == "crates" and len(parts) > 2]
-    named = {name for _, name, part, *_ in inside if part not in ("must-fail", "wrong-bodies", "wrong-definitions")}
+    named = {name for _, name, part, *_ in inside if part not in ("wrong-bodies", "wrong-definitions")}
     uses = prove.uses_of()
     changed = [name for name in uses if name in named]
     touched = [name for name in uses if named & {name, *uses[name]} and not name.endswith(APART)]

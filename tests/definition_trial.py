@@ -1,7 +1,4 @@
-"""How a wrong definition is tried: what counts as its refusal.
-
-Each key of these records has the text of this file and of tests/definitions.py in it, so a change here lets all be
-tried again. What is printed, and what is tried when, stands in tests/wrong_definitions.py.
+"""How a wrong definition is tried: what counts as its refusal. tests/refusals.py runs the trials.
 
 That a vector's proof fails would show little: a name may be gone, or an answer no longer fit. So its equation is
 turned round. In a copy of the crate with the wrong definition, into which the crate's vectors are put where they stand
@@ -19,8 +16,8 @@ import shutil
 
 import reading
 from definitions import VECTORS
-from edits import text_of
-from trial import ALONE, rt
+from functions import text_of
+from toolchain import ALONE, rt
 
 NUMBER = re.compile(r"0x[0-9A-F]+|[\d ^*+()-]+")
 NAMES = {"Prelude": ("◌≢◌", "false", "nat_eq"), "Str": ("bytes_eq",)}  # which a turned equation cites
@@ -68,7 +65,7 @@ def beside_its_tests(crate, tests):
 
 def tried(crate, edits, folder, kept):
     """What refuses each edit of a group, or None, and what else there is to say."""
-    texts, names = {}, [f"wrong_{edit.path.stem.replace('-', '_')}" for edit in edits]
+    texts, names = {}, [f"wrong_{edit.stem.replace('-', '_')}" for edit in edits]
     for edit in edits:
         texts = edit.put(texts)[0]
     tests = reading.folder_of_tests(crate.folder)
@@ -88,9 +85,9 @@ def tried(crate, edits, folder, kept):
     ran = rt.checked(crate, texts, [*ALONE, "--test", *(f"--only=vectors::{name}" for name in names)], kept)
     lines = ran.stdout.split("\n")
     proved = [f"fn {crate.name}::vectors::{name}: proved" in lines for name in names]
-    found = [edit.row if it else None for edit, it in zip(edits, proved)]
+    found = [edit.goal if it else None for edit, it in zip(edits, proved)]
     if len(edits) > 1:
         return [(row, "") if row else tried(whole, [edit], folder, kept)[0] for row, edit in zip(found, edits)]
     said = "\n".join(it for it in lines if it and not NO_MATTER.match(it))
-    why = "" if proved[0] else f"it is not proved that the sides of {edits[0].row} differ:\n{said[:2000]}"
+    why = "" if proved[0] else f"it is not proved that the sides of {edits[0].goal} differ:\n{said[:2000]}"
     return [(found[0], why)]

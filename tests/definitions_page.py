@@ -3,24 +3,22 @@
 docs/definitions.tsv, with the files of specs/ in which they stand; and the wrong definitions, each with the equation that
 refuses it.
 
-    tests/definitions_page.py      writes them anew, as each run of tests/wrong_definitions.py does
+    tests/definitions_page.py      writes them anew
 """
 import re
 
 import pages
 import reading
 import reading_kit
-import record
-from definitions import Definitions, WrongDefinition
-from edits import TOP
+from definitions import Definitions, wrong_definitions_of
+from tree import TOP, below
 
 PAGE = TOP / "docs" / "DEFINITIONS.md"
 ABOUT = """
 A wrong definition is an edit of `specs/` that a hasty reader of the standard might have written
 (`crates/*/wrong-definitions/`). With each the checker proves that the two sides of an equation of `src/vectors.rt`
 differ: then the value from outside refuses the definition, and no code takes part. tests/definition_trial.py has the
-rules; tests/wrong_definitions.py makes these tables, and in the gate it tries those that are new, and a tenth of the
-others.
+rules; tests/refusals.py tries them.
 
 """
 
@@ -54,7 +52,7 @@ def calls():
 def definitions():
     """The table of each crate's definitions, under its name."""
     tables = []
-    for crate in record.below():
+    for crate in below():
         lines = []
         for names, meaning, source, vector in pages.rows("definitions.tsv", crate):
             files = ", ".join(f"`{it}`" for it in files_of(crate, re.findall(r"`([^`]+)`", names)))
@@ -65,24 +63,22 @@ def definitions():
 
 
 def rows(crate):
-    """Of each wrong definition of a crate: what it changes, its name, and the equation that refused it, if one did."""
-    refused = record.rows_of(crate, folder=record.DEFINITIONS)
-    for path in record.edits_of(crate, record.DEFINITIONS):
-        edit = WrongDefinition(path, ALL)
+    """Of each wrong definition of a crate: what it changes, its name, and the equation that refuses it."""
+    for edit in wrong_definitions_of(crate, ALL):
         names = dict.fromkeys(item for module, item in sorted(edit.changes, key=str) if item)
-        yield ", ".join(f"`{it}`" for it in names), path.stem, refused.get(path.stem, record.Row("", "")).by
+        yield ", ".join(f"`{it}`" for it in names), edit.stem, edit.goal
 
 
 def wrong_definitions():
-    """The tables of wrong definitions, as the records have them."""
-    tables, tried, changed = "", [], set()
-    for crate in record.below():
+    """The tables of wrong definitions."""
+    tables, tried, changed = "", 0, set()
+    for crate in below():
         if found := sorted(rows(crate)):
             tables += f"\n### Of {crate}\n\n| wrong | how | falls |\n|---|---|---|\n"
-            tables += "".join(f"| {what} | `{name}` | {by or 'none yet'} |\n" for what, name, by in found)
-            tried += [bool(by) for _, _, by in found]
+            tables += "".join(f"| {what} | `{name}` | {by} |\n" for what, name, by in found)
+            tried += len(found)
             changed |= {(crate, what) for what, _, _ in found}
-    share = f"Of {len(tried)} wrong definitions, of {len(changed)} definitions, {sum(tried)} are refused.\n"
+    share = f"There are {tried}, of {len(changed)} definitions.\n"
     return ABOUT.lstrip("\n") + share + tables
 
 

@@ -12,10 +12,9 @@ import re
 import sys
 
 import reading
-import record
-from definitions import CLAUSE, VECTOR, WrongDefinition
+from definitions import CLAUSE, VECTOR, wrong_definitions_of
 from definitions_page import ALL
-from edits import TOP
+from tree import TOP, below
 
 PAGE = TOP / "docs" / "VECTORS.md"
 # Quantified clauses are laws, and tell no value.
@@ -83,13 +82,10 @@ def told():
 def refused():
     """By each definition the equations that refused a wrong one."""
     found = {}
-    for crate in record.below():
-        rows = record.rows_of(crate, folder=record.DEFINITIONS)
-        for path in record.edits_of(crate, record.DEFINITIONS):
-            edit = WrongDefinition(path, ALL)
-            if path.stem in rows:
-                for item in edit.changes:
-                    found.setdefault(item, {})[rows[path.stem].by] = None
+    for crate in below():
+        for edit in wrong_definitions_of(crate, ALL):
+            for item in edit.changes:
+                found.setdefault(item, {})[edit.goal] = None
     return found
 
 
@@ -113,7 +109,7 @@ def reached():
         for item in reading.reached_by(call, files):
             if item[1]:
                 items.setdefault(item, set()).add(call)
-    order = list(record.below())
+    order = list(below())
     return sorted(items, key=lambda it: (order.index(it[0].split(".")[0]), it[0])), files
 
 

@@ -1,7 +1,7 @@
 #!/usr/bin/env python3
 """Whether crates.txt lists for each crate the libraries that it names, and what the documents name is there: files,
 links, definitions, tests, clauses and calls; whether the pictures in docs/ are drawn from them as they are, and the
-tables that scripts make of records and data are what they make now; whether README's first screen, its words, and all
+tables that scripts make of data are what they make now; whether README's first screen, its words, and all
 lines that are written by hand are few enough; whether the figures of speed on the pages are those of
 docs/benchmarks.tsv; and whether all of them name one version. What they say of options, messages and numbers is
 compared by tests/values.py.
@@ -21,14 +21,12 @@ import definitions_page
 import doc
 import edited
 import gate_page
-import outside_plants
 import pages
 import promises
 import ratios
-import record
-from definitions import WrongDefinition
+from definitions import wrong_definitions_of
 from definitions_page import is_definition
-from edits import Edit
+from edits import BODIES, LINES, edits_in, edits_of
 from proof_map import drawn, small
 
 TOP = pathlib.Path(__file__).resolve().parent.parent
@@ -213,47 +211,26 @@ for heading, cells in tables("EXAMPLES.md"):
             for name in named:
                 expect(any(is_function(name, crate) for crate in owner), "EXAMPLES.md", f"row {cells[0]}: {name}")
 
-# Wrong bodies: what each replaces stands in its place once, each has a row in its crate's record, each row names a goal
-# that is there, and the page is made from these rows.
+# Edits that must fail: what each replaces stands in its place once, and the goal that refuses it is there.
 for crate in SOURCES:
-    for file in (it for folder in (*record.FOLDERS, record.DEFINITIONS) for it in record.edits_of(crate, folder)):
-        expect(Edit(file).texts, f"{crate}/{file.stem}", "the text that it replaces, once")
-for crate in SOURCES:
-    rows, file = record.rows_of(crate), record.file_of(crate)
-    named = [path.stem for folder in record.FOLDERS for path in record.edits_of(crate, folder)]
-    for name in sorted({*named} - {*rows}):
-        expect(False, file, f"{name}: a row of its trial (tests/wrong_bodies.py {crate}/{name} writes it)")
-    for name, goal in ((name, row.by) for name, row in rows.items()):
-        expect(named.count(name) == 1, file, f"{name}: one edit of this name")
-        told = GOAL.fullmatch(goal)
-        clause = told and re.search(r"-clause-(\w+)`", goal)
+    for edit in edits_of(crate, BODIES):
+        expect(edit.texts, edit.name, "the text that it replaces, once")
+        told = GOAL.fullmatch(edit.goal)
+        clause = told and re.search(r"-clause-(\w+)`", edit.goal)
         is_ours = clause and re.search(rf"\b(?:ensures|requires)\*? {clause[1]}\b", ALL_SOURCES)
         is_there = told and (not clause or is_ours or clause[1] in CLAUSES_OF_THE_LIBRARY)
-        expect(is_there, file, f"{name}: {goal}: the goal that refuses it")
-    rows, file = record.rows_of(crate, folder=record.DEFINITIONS), record.file_of(crate, record.DEFINITIONS)
-    for path in record.edits_of(crate, record.DEFINITIONS):
-        edit = WrongDefinition(path, definitions_page.ALL)
+        expect(is_there, edit.name, f"refused: {edit.goal}: the goal that refuses it (tests/refusals.py --told {edit.name} writes it)")
+    for edit in wrong_definitions_of(crate, definitions_page.ALL):
         expect(not edit.wrong, edit.name, edit.wrong)
-        expect(path.stem in rows, file, f"{path.stem}: a row of its trial (tests/wrong_definitions.py {edit.name} writes it)")
-        row = rows.pop(path.stem, record.Row("", edit.row))
-        expect(row.by == edit.row, file, f"{path.stem}: the equation that its edit names")
-    for name in rows:
-        expect(False, file, f"{name}: an edit of this name")
+for edit in edits_in(LINES):
+    expect(edit.texts, edit.name, "the text that it replaces, once")
+    expect(edit.goal, edit.name, f"what finds it (tests/wrong_lines.py --told {edit.name} writes it)")
 for crate in doc.libraries():
     for name in edited.without_edit(crate):
         expect(False, f"crates/{crate}/wrong-bodies", f"a wrong body of {name}, or another of which tests/edited.py knows")
-for crate in SOURCES:
-    for path, text in (*record.marked(crate).items(), *record.marked(crate, record.DEFINITIONS).items()):
-        expect(path.read_text(encoding="utf-8") == text, path.relative_to(TOP), "what the record says that refused each edit")
 
 tables_made = definitions_page.page() == definitions_page.PAGE.read_text(encoding="utf-8")
-expect(tables_made, "DEFINITIONS.md", "the tables that the records make (each run of tests/wrong_definitions.py writes them)")
-
-# Wrong lines outside the proofs: what each replaces stands there once, and each has a row.
-rows = outside_plants.rows_of_record()
-for plant in outside_plants.all_plants():
-    expect(plant.texts(TOP), f"outside-plants: {plant.name}", "the text that it replaces, once")
-    expect(plant.name in rows, outside_plants.RECORD.relative_to(TOP), f"{plant.name}: a row of its trial")
+expect(tables_made, "DEFINITIONS.md", "the tables that tests/definitions_page.py makes (each run of it writes them)")
 
 # Counts and seconds of the gate.
 tables_made = gate_page.page() == gate_page.PAGE.read_text(encoding="utf-8")

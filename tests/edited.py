@@ -4,8 +4,9 @@ An edit of the function itself counts, or of the function that does its work, wh
 a clause promises nothing that a wrong body could break, nor does one of ALONE.
 """
 import doc
-import record
-from edits import FUNCTION, IMPL, TOP, Edit, function_at, path_of, text_of
+from edits import BODIES, edits_of
+from functions import FUNCTION, IMPL, function_at, path_of, text_of
+from tree import TOP
 
 # Exported functions that pass on what another one does, which has the wrong body.
 BY_ANOTHER = {
@@ -43,7 +44,7 @@ def exported(crate):
 def edited(crate):
     """The functions of a crate in which its wrong bodies change something, be it in a body or above it."""
     found = set()
-    for edit in (Edit(it) for folder in record.FOLDERS for it in record.edits_of(crate, folder)):
+    for edit in edits_of(crate, BODIES):
         for file, old, _ in edit.pairs:
             text = text_of(edit.folder, file, {})
             found.add(function_at(edit.folder, file, text, text.count("\n", 0, text.find(old))))

@@ -1,72 +1,61 @@
-"""Edits that the prover must refuse: what each puts in the place of what, and the functions that it changes."""
+"""Edits that must fail: what each puts in the place of what, what that changes, and the goal that refuses it.
+
+    a wrong body         crates/CRATE/wrong-bodies/        the prover must refuse it (tests/body_trial.py)
+    a wrong definition   crates/CRATE/wrong-definitions/   a vector must refuse it (tests/definition_trial.py)
+    a wrong line         tests/wrong-lines/                a test must find it (tests/wrong_lines.py)
+
+They stand many to a file, NAME.edits, one file for each source, definition or test that they are about:
+
+    file: src/costs.rt                 what each edit of this file has, to the first blank line
+
+    log-n-of-64                        the name of an edit, and below it its own lines, to the next blank line
+    old: if log_n == 0 || log_n > 63
+    new: if log_n == 0 || log_n > 64
+    refused: `returns-else-fault`      its goal, which `--told` writes: what refuses it
+
+`old:` must stand in the file once. A line `and: TEXT` is the next line of the text above it. An edit that names a file
+itself is of that file. A `test:` at the head is the test that must find each.
+"""
+import functools
 import pathlib
-import re
 
-TOP = pathlib.Path(__file__).resolve().parent.parent
-FUNCTION = re.compile(r'( *)(?:pub(?:\([a-z]+\))? )?(?:const )?(?:unsafe )?(?:extern "C" )?fn (\w+)')
-IMPL = re.compile(r"impl(?:<[^>]*>)? (?:(\w+(?:<.*>)?) for )?(\w+)")
+from functions import function_at, text_of
+from tree import TOP
 
-
-def text_of(folder, file, texts):
-    """The text of a crate's file, of these or as it stands there; empty where there is none."""
-    path = pathlib.Path(folder, file)
-    return texts.get(file) or (path.read_text(encoding="utf-8") if path.is_file() else "")
-
-
-def path_of(folder, file, impl, name):
-    """The path, as the prover prints it, of a function in this block of a source, if it stands in one."""
-    trait, kind = impl.groups() if impl else (None, None)
-    if kind and not trait:
-        declared = re.compile(rf"^pub.* (?:struct|enum) {kind}\b|^(?:struct|enum) {kind}\b", re.MULTILINE)
-        sources = sorted(pathlib.Path(folder, "src").rglob("*.rt"))
-        file = next(it.relative_to(folder) for it in sources if declared.search(it.read_text(encoding="utf-8")))
-    module = [it for it in pathlib.PurePath(file).with_suffix("").parts[1:] if it != "lib"]
-    of_trait = re.sub(r"\W", "", trait or "").removeprefix("Drop")
-    return "::".join([*module, *([kind + of_trait] if kind else []), name])
-
-
-def opens_at(lines, start, indent):
-    """The line that opens the body of a function, or ends one without a body; its clauses stand deeper."""
-    own = re.compile(rf"{indent}(?=\S).*(?:{{|{{}}|;)$|.*}};$")
-    return next(at for at in range(start, len(lines)) if own.match(lines[at]))
-
-
-def function_at(folder, file, text, line, body=False):
-    """The path of the function that holds this line of a source, in its body, if asked."""
-    lines = text.split("\n")
-    for start, found in enumerate(map(FUNCTION.match, lines)):
-        if found:
-            opens = opens_at(lines, start, found[1])
-            ends = lines.index(found[1] + "}", opens) if lines[opens].endswith("{") else opens
-            while lines[start - 1].lstrip().startswith("#["):
-                start -= 1
-            if (opens if body else start) <= line <= ends:
-                above = [it for it in map(IMPL.match, lines[:start]) if it and found[1]]
-                return path_of(folder, file, above[-1] if above else None, found[2])
-    return None
+BODIES, DEFINITIONS, LINES = "wrong-bodies", "wrong-definitions", TOP / "tests" / "wrong-lines"
+FIRST = ("types", "vector", "gives")  # what an edit says before it names a file
+GOAL = "\nrefused: "
 
 
 class Edit:
-    """A wrong body: what it puts in the place of what, and the functions that it changes."""
-    def __init__(self, path):
-        self.path, self.folder = path, path.parent.parent
-        self.name = f"{self.folder.name}/{path.stem}"
-        self.pairs, said = [], {}
-        for word, _, rest in (line.partition(":") for line in path.read_text(encoding="utf-8").split("\n")):
-            said[word] = rest.removeprefix(" ")
-            if word == "new":
-                self.pairs.append((said["file"].strip(), said["old"], said["new"]))
-        self.types = said.get("types", "").strip()  # the error of the types that refuses it, where it names one
-        self.texts, self.places = self.put({}) or ({}, {None})
-        self.is_body = all(self.places)
-        self.is_shared = self.is_body and not self.types  # whether it can be tried beside others
+    """What an edit puts in the place of what, in files below a folder, and the goal that refuses it, where it has one."""
 
-    def put(self, texts):
+    def __init__(self, path, stem, lines):
+        self.path, self.stem, self.lines, self.is_line = path, stem, lines, path.parent == LINES
+        self.folder = TOP if self.is_line else path.parent.parent
+        self.name = stem if self.is_line else f"{self.folder.name}/{stem}"
+        self.pairs, said, last = [], {}, None
+        for word, _, rest in (line.partition(":") for line in lines):
+            rest = rest.removeprefix(" ")
+            if word == "and":
+                said[last] += f"\n{rest}"
+            else:
+                said[word], last = rest, word
+            if word == "new":
+                self.pairs.append([said["file"].strip(), said["old"], ""])
+            if last == "new":
+                self.pairs[-1][2] = said["new"]
+        self.goal, self.test = said.get("refused", ""), said.get("test", "").strip()
+        self.types = said.get("types", "").strip()  # the error of the types that refuses it, where it names one
+        self.vector, self.gives = said.get("vector", "").strip(), said.get("gives")
+        self.files = sorted({file for file, _, _ in self.pairs})
+
+    def put(self, texts, folder=None):
         """The texts with this edit, and what it changes; or none where what it replaces does not stand there once."""
         made, places = dict(texts), set()
         for file, old, new in self.pairs:
-            text = text_of(self.folder, file, made)
-            if text.count(old) != 1:
+            text = text_of(folder or self.folder, file, made)
+            if text.count(old) != 1 or old == new:
                 return None
             line = text.count("\n", 0, text.find(old))
             is_source = file.startswith("src/")
@@ -74,6 +63,17 @@ class Edit:
             made[file] = text.replace(old, new)
         return made, places
 
+    @functools.cached_property
+    def alone(self):
+        return self.put({}) or ({}, {None})
+
+    texts = property(lambda self: self.alone[0])  # of the files that it changes; none where it does not fit them
+    places = property(lambda self: self.alone[1])  # the functions in whose bodies it changes something; None is elsewhere
+
+    @property
+    def is_shared(self):
+        """Whether it can be tried beside others: it changes bodies alone, and the types let it through."""
+        return all(self.places) and not self.types
 
     def puts(self, file, line):
         """Whether this line of a file, as the edit makes it, is one that it puts there."""
@@ -81,15 +81,40 @@ class Edit:
         return line < len(lines) and any(it[0] == file and it[2].strip() in lines[line] for it in self.pairs)
 
 
-def in_groups(edits, most):
-    """Pairs of edits and the texts that they make: no two edits of a group change one function."""
-    groups = []
-    for edit in edits:
-        for group in groups if edit.is_shared else []:
-            made = edit.put(group[1]) if group[0][0].is_shared and len(group[0]) < most else None
-            if made and not any(it.places & edit.places for it in group[0]):
-                group[:] = [*group[0], edit], made[0]
-                break
-        else:
-            groups.append([[edit], edit.texts])
-    return groups
+def word_of(line):
+    return line.partition(":")[0]
+
+
+def sections(text):
+    """The edits of a file's text, in its order: the name of each, and its lines with those of the head."""
+    head, *others = [it.split("\n") for it in text.strip("\n").split("\n\n")]
+    of_file, of_test = ([it for it in head if word_of(it) == word] for word in ("file", "test"))
+    for name, *own in others:
+        if ":" in name or not own:
+            raise ValueError(f"the name of an edit and its lines are expected at {name!r}")
+        at = next(at for at, line in enumerate(own) if word_of(line) not in FIRST)
+        file = [] if word_of(own[at]) == "file" else of_file
+        yield name, [*own[:at], *file, *own[at:], *of_test]
+
+
+def edits_in(folder, kind=Edit):
+    """The edits that a folder holds, by their names."""
+    files = sorted(pathlib.Path(folder).glob("*.edits"))
+    found = [kind(path, *it) for path in files for it in sections(path.read_text(encoding="utf-8"))]
+    if len({it.stem for it in found}) < len(found):
+        raise ValueError(f"{folder}: two edits have one name")
+    return sorted(found, key=lambda it: it.stem)
+
+
+def edits_of(crate, folder, kind=Edit):
+    return edits_in(TOP / "crates" / crate / folder, kind)
+
+
+def write_goal(edit, goal):
+    """Writes the goal that refuses an edit below its lines, or takes that away where there is none."""
+    head, *others = edit.path.read_text(encoding="utf-8").rstrip("\n").split("\n\n")
+    for at, text in enumerate(others):
+        if text.partition("\n")[0] == edit.stem:
+            others[at] = text.partition(GOAL)[0] + (f"{GOAL}{goal}" if goal else "")
+    edit.path.write_text("\n\n".join([head, *others]) + "\n", encoding="utf-8")
+    edit.goal = goal

@@ -10,7 +10,7 @@ Steps are those of the Makefile, in its order; functions, tests and edits are co
 docs/gate.tsv, by steps, and in docs/crates.tsv, by crates; the first lines of both say of which run. They come from
 
 - gate.tsv of a whole make test, which has each step;
-- wrong-bodies.tsv of a run of tests/wrong_bodies.py that tried each edit, as make audit does;
+- wrong-bodies.tsv of a run of tests/refusals.py that tried each wrong body, as make audit does;
 - logs/ of a run of packaging/prove.py that proved each crate anew, as after make clean
 
       packaging/prove.py argon_tool scrypt_tool command pikhsen_c
@@ -26,10 +26,10 @@ import sys
 import textwrap
 
 import pages
-import record
-from edits import TOP
-from keys import Source
+from edits import BODIES, DEFINITIONS, edits_of
+from functions import functions_of
 from reading import TESTS, folder_of_tests
+from tree import TOP, below, git
 
 PAGE, STEPS, CRATES = TOP / "docs" / "GATE.md", TOP / "docs" / "gate.tsv", TOP / "docs" / "crates.tsv"
 COLUMNS = ("check", "bodies")
@@ -45,25 +45,23 @@ DOES = {
     "only in the places that the script lists; functions that have the heap, or in `argon_text` a list "
     "(`tests/heap_in_reach.py`), and files that call the system, are those that were read",
     "tests/documents.py": "crates.txt lists for each crate the libraries that it names; what the pages name exists: "
-    "files, definitions, tests, clauses; exported functions have wrong bodies, and these have rows; "
+    "files, definitions, tests, clauses; exported functions have wrong bodies, and edits fit and have goals; "
     "pictures and tables are what scripts make of the sources and the data; the pages are short enough",
     "tests/values.py": "options, ranges, defaults, messages and numbers are those of docs/values.tsv in the sources, the "
     "manual pages, the completions, header, module and pages; the functions and fields of `libpikhsen` are the same in "
     "header, sources, module and page",
     "tests/reading.py --check": "docs/reading/ and docs/VECTORS.md are what scripts make of the sources; each definition "
     "that a public contract reaches has an equation or a reason; `specs/Inside/` has what none reaches, and nothing else",
-    "tests/record_test.py": "a change of a text gives the right wrong bodies a new key, turns cost about the "
-    "same, and a body that the types refuse is tried alone",
+    "tests/choice_test.py": "which edits are tried after which changes, over a small tree",
     "tests/first_run.py": "`make run`, `make lib` and `make check` over a stand-in for `rt`: their order, their "
     "lines, and what they leave behind if a proof fails or they are stopped",
     "tests/build_scripts.py": "packaging/build.sh, chosen.sh, lib.sh and deb.sh over stand-ins: what they make, and that "
     "they leave no older program, library or package if they fail or are stopped",
     "tests/steps_test.py": "what runs these steps stops where one fails or is killed, and says so",
-    "rt ci": "proves every crate and its tests, tries the edits of `must-fail/`, and runs each test, and the programs as "
+    "rt ci": "proves every crate and its tests, and runs each test, and the programs as "
     "built by two compilers; what it proved before on the same machine, of the same bytes, it takes from /opt/rattle-kept",
-    "tests/wrong_bodies.py": "tries the edits of `wrong-bodies/` that are new, and a tenth of the others; builds the "
-    "parts of `libpikhsen`",
-    "tests/wrong_definitions.py": "tries the edits of `wrong-definitions/` that are new, and a tenth of the others",
+    "tests/refusals.py": "tries wrong bodies and wrong definitions: those of each crate that differs from the last audit, and "
+    "a tenth of the others; builds the parts of `libpikhsen`",
     "tests/outside.sh": "the built programs: arguments, files and streams, each form of a damaged file, memory and calls "
     "refused in turn, memory that is freed, a stack of 64 KiB, comparisons that go on to their end, the story of README.md and "
     "the manual pages' examples",
@@ -71,8 +69,8 @@ DOES = {
     "buffers; what is installed; the packages for Debian, file by file; how programs and library are linked",
     "tests/builds.py --check": "programs, library and packages are the bytes that docs/builds.tsv has, if the sources are "
     "those of which it was made",
-    "tests/outside_plants.py": "puts wrong lines into copies of what stands outside the proofs, those that are new and a "
-    "tenth of the others; the test that each names must fail",
+    "tests/wrong_lines.py": "puts wrong lines into copies of what stands outside the proofs: those of files and tests that "
+    "differ from the last audit, and a tenth of the others; the test that each names must fail",
 }
 
 
@@ -116,7 +114,7 @@ def seconds_of_crates():
 
 def crates():
     """The crates, lowest first, without those that have only the tests of one."""
-    return [it for it in record.below() if not it.endswith("_tests")]
+    return [it for it in below() if not it.endswith("_tests")]
 
 
 def sources(crate):
@@ -129,7 +127,7 @@ def functions(crate):
     """How many functions a crate has, laws among them, without tests and vectors."""
     left_out = TESTS | {"vectors.rt"}
     found = [at for at in sources(crate) if not left_out & {*at[1].relative_to(at[0]).parts}]
-    return sum(len(Source(*at).functions) for at in found)
+    return sum(len(functions_of(*at)) for at in found)
 
 
 def tests(crate):
@@ -170,7 +168,7 @@ def table_of_crates():
     seconds, runs, rows = seconds_of_crates(), runs_of(CRATES), []
     taken = [it for it in COLUMNS if any(row.get(it) for row in seconds.values())]
     for crate in crates():
-        edits = [len(record.edits_of(crate, folder)) for folder in (*record.FOLDERS, record.DEFINITIONS)]
+        edits = [len(edits_of(crate, folder)) for folder in (BODIES, DEFINITIONS)]
         cells = [seconds.get(crate, {}).get(column, "") for column in taken]
         rows.append([f"`{crate}`", functions(crate), tests(crate), *edits, *cells])
     text = ["Functions include laws, but not tests, vectors and what macros write. Edits are counted by their folder. The last "
@@ -178,7 +176,7 @@ def table_of_crates():
     for column in taken:
         head, what = HEADS[column]
         text.append(f"{head[0].upper()}{head[1:]}: {what}, in {runs[column]}.")
-    folders = [f"`{it}/`" for it in (*record.FOLDERS, record.DEFINITIONS)]
+    folders = [f"`{it}/`" for it in (BODIES, DEFINITIONS)]
     return said(" ".join(text)) + table(["crate", "functions", "tests", *folders, *(HEADS[it][0] for it in taken)], rows)
 
 
@@ -190,10 +188,10 @@ def page():
 
 def commit_of(path):
     """The last commit before this file was written, and if it is the last one now, whether the sources differ."""
-    of_tree = ["-C", record.git("-C", str(path.parent), "rev-parse", "--show-toplevel")]
-    commit = record.git(*of_tree, "rev-list", "-1", f"--before={int(path.stat().st_mtime)}", "HEAD")
-    is_last = commit == record.git(*of_tree, "rev-parse", "HEAD")
-    changes = record.git(*of_tree, "status", "--porcelain", "--", ":!docs", ":!crates/*/record")
+    of_tree = ["-C", git("-C", str(path.parent), "rev-parse", "--show-toplevel")]
+    commit = git(*of_tree, "rev-list", "-1", f"--before={int(path.stat().st_mtime)}", "HEAD")
+    is_last = commit == git(*of_tree, "rev-parse", "HEAD")
+    changes = git(*of_tree, "status", "--porcelain", "--", ":!docs")
     return f"commit {commit[:7]}" + " with changes" * bool(is_last and changes)
 
 
@@ -206,8 +204,8 @@ def run_of(path, load):
 
 
 def tried_in(path):
-    """How many edits of each crate a run of tests/wrong_bodies.py tried, and what they took."""
-    return {name: (int(tried), seconds) for name, *_, tried, seconds in rows_of(path)[1:]}
+    """How many wrong bodies of each crate a run of tests/refusals.py tried, and what they took."""
+    return {name: (int(tried), seconds) for name, tried, seconds in rows_of(path)[1:]}
 
 
 def take_steps(folder, load):
@@ -217,7 +215,7 @@ def take_steps(folder, load):
     if lacking:
         return f"{path}: not taken, since it lacks {', '.join(lacking)}"
     if bodies.is_file() and bodies.stat().st_mtime <= path.stat().st_mtime:
-        edits = sum(len(record.edits_of(it, "wrong-bodies")) for it in record.below())
+        edits = sum(len(edits_of(it, BODIES)) for it in below())
         load += f", {sum(tried for tried, _ in tried_in(bodies).values())} of {edits} edits tried"
     rows = ["\t".join(it) for it in rows_of(path)]
     STEPS.write_text("\n".join([f"# run: {run_of(path, load)}", *rows]) + "\n", encoding="utf-8")
@@ -241,7 +239,7 @@ def take_bodies(folder, load):
     """Takes what all wrong bodies of each crate took, of a run that tried them all."""
     path = folder / "wrong-bodies.tsv"
     found = tried_in(path)
-    left = [it for it in record.below() if found.get(it, (0, ""))[0] < len(record.edits_of(it, "wrong-bodies"))]
+    left = [it for it in below() if found.get(it, (0, ""))[0] < len(edits_of(it, BODIES))]
     why = f"it did not try each edit of {', '.join(left)}" if left else ""
     return take_column("bodies", path, {it: seconds for it, (tried, seconds) in found.items() if tried}, why, load)
 

@@ -18,7 +18,8 @@ import pathlib
 import re
 import sys
 
-from edits import FUNCTION, IMPL, TOP, opens_at, path_of
+from functions import FUNCTION, IMPL, opens_at, path_of
+from tree import TOP
 from uncommented import without_comments
 
 # Files that have no part in a program, or that tests/sources.sh compares whole.
