@@ -3,7 +3,8 @@
 
     tests/reading.py CALL..     prints them, file by file, with their lines
     tests/reading.py --check    fails where docs/reading/ or docs/VECTORS.md are not what the scripts make, where what is
-                                public reaches a definition of specs/Inside/, and where it doesn't reach one outside
+                                public reaches a definition of specs/Inside/, and where it doesn't reach one outside, and
+                                where a line of specs/ belongs to no item
 
 What is public: calls, traits and what they are for a type, what contracts see of types, laws and vectors. A call is
 written CRATE::FUNCTION or CRATE::TRAIT. Lines of comments and imports, and blank ones, are not counted. What the
@@ -54,10 +55,12 @@ def imports(text):
 
 
 class File:
-    """A file of specs/: the lines of each item, what it imports, and the item of each constructor and of each field."""
+    """A file of specs/: the lines of each item, what it imports, and the item of each constructor and of each field; and
+    lines that begin no item and go on none, behind which the prover could see an item that is not seen here."""
 
     def __init__(self, text):
         self.imports, self.items, self.owners, self.fields, item, is_record = imports(text), {}, {}, {}, "", False
+        self.strange = []
         for line in text.split("\n"):
             if not line.strip() or line.lstrip().startswith("--") or re.match(r"#|((pub )?(use|mod) )", line):
                 continue
@@ -67,6 +70,8 @@ class File:
                 item, is_record = begun[1], " record " in f" {line}"
             elif part := PART.match(line):
                 (self.fields if is_record else self.owners)[part[1]] = item
+            elif not item or not line.startswith((" ", "}")) and item.strip("◌") not in line.split(" = ")[0].split():
+                self.strange.append(line)
             self.items.setdefault(item, []).append(line)
 
 
@@ -185,7 +190,8 @@ def main():
     if sys.argv[1:] == ["--check"]:
         import reading_page  # which stands on this file
 
-        said = [*reading_page.differing(), *misplaced(files)]
+        said = [f"{module}: a line of no item: {line}" for module, file in files.items() for line in file.strange]
+        said += [*reading_page.differing(), *misplaced(files)]
         print("\n".join(said), end="\n" if said else "", file=sys.stderr)
         return 1 if said else 0
     for call in sys.argv[1:]:

@@ -40,6 +40,12 @@ refuse() {
 refuse macro_rules "a macro may make code of what the searches take for text"
 refuse '#\[path|\binclude(_str|_bytes)?!' "a file is read under a name that is not its own"
 refuse '\br#[A-Za-z_]' "a raw name is not found by its name"
+# What reads sources and definitions by their lines, for pages, edits and the searches below, sees what the prover sees:
+# no comment goes over lines, and a module is a file, but for tests. (tests/reading.py --check looks at specs/ by lines.)
+found=$(find crates -name out -prune -o \( -name '*.rt' -o -name '*.antt' \) -exec grep -nE '/\*|\{-' /dev/null {} + || :)
+test -z "$found" || fail "a comment may hide lines, or show some that are none: $found"
+! found=$(cd "$code" && grep -roHE '(#\[cfg\(test\)\])?[a-z()]*\s?\bmod \w+\{' crates | grep -vF ':#[cfg(test)]mod tests{') ||
+    fail "a module stands inside a file: $found"
 refuse '\b(Room|ReadRoom|TextRoom|Source)::[a-z_]+\(|\bMatrix::(start|hash)\(' "a call by its path is not counted"
 begins='(^|[];{}])(pub |pub\([^)]*\))?'
 refuse "${begins}use [^;]* as _*[A-Za-z0-9]" "a name stands for a different one: calls by it are not counted"
@@ -60,12 +66,15 @@ expect_below() {
 expect() {
     expect_below crates "$@"
 }
-expect '.tick()' "the counters tick in the one block function and the one core" \
-    crates/argon/src/compression.rt crates/romix/src/salsa20.rt
+expect 'tick(' "the counters tick in the one block function and the one core" \
+    crates/argon/src/compression.rt crates/argon/src/ticks.rt crates/romix/src/salsa20.rt crates/romix/src/ticks.rt
 expect 'Count::new()' "argon and romix count, each in its own counter" \
     crates/argon/src/ticks.rt crates/romix/src/ticks.rt
-expect '.plus_one()' "argon, romix and the heap of the functions for C count, each in its own counter" \
-    crates/argon/src/ticks.rt crates/romix/src/ticks.rt crates/pikhsen_c/src/heap.rt crates/pikhsen_c/src/heap.rt
+expect 'plus_one(' "argon, romix and the heap of the functions for C count, each in its own counter" \
+    crates/argon/src/ticks.rt crates/counter/src/lib.rt crates/pikhsen_c/src/heap.rt crates/pikhsen_c/src/heap.rt \
+    crates/romix/src/ticks.rt
+expect 'self.count=self.count.plus_one()' "a count goes up in its place, and makes no other" \
+    crates/argon/src/ticks.rt crates/romix/src/ticks.rt
 
 # Memory is reserved, and work begun, in one place for each way to it, where contracts say what was tested before.
 expect '::reserve(' "only a source of memory reserves, on the condition that limits admit the work" \
@@ -88,7 +97,8 @@ expect_below crates/pikhsen_c '.write(' "a text is written where the heap is" cr
 grows='append|clone\w*|extend\w*|from_elem|insert\w*|push\w*|(try_)?reserve\w*|(try_)?resize\w*|shrink\w*|sort\w*'
 grows="$grows|splice\w*|split_off"
 ! found=$(cd "$code/crates" && grep -roHE "(\.|::)($grows)\(|\bBox::new\(" \
-    argon2_command command pikhsen_c scrypt_command scrypt_run | grep -vE '/(heap|line|room)\.rt:') ||
+    argon argon2_command command pikhsen_c romix scrypt_command scrypt_run |
+    grep -vE '/(heap|line|room)\.rt:|^romix/src/(reservation\.rt:|workspace\.rt:::reserve\($)') ||
     fail "memory is asked for by what is not a source of memory: $found"
 # The functions for C get what has a list in types that keep it to themselves.
 ! found=$(cd "$code" && grep -rlE '\b(Vec|String|Encoded)\b' crates/pikhsen_c | grep -vE '/(heap|reading|text)\.rt$') ||
@@ -155,6 +165,18 @@ compare 8a4250968e40c078f6e24ee22868d9d6c804e22344261c42f76e34fe841cced2 crates/
 compare 27ab446a5ed92bf7fbb468982580077c327db7e9fbc8780f5c76c96b0f983535 crates/tools/src/placeholders.rt
 compare fd72d58f020e62464528b85c0313b937310d5f45d00dd62f1a495d89e964cc97 crates/argon_tool/src/main.rt
 compare 10cd5b39cfdf89c939a2f8bba840c7f608433a105dd98231b48621fce5838759 crates/scrypt_tool/src/main.rt
+# Which of them `tools` hands to the programs is compared, too. Nothing else takes the runtime or names the system's calls,
+# or is a system. What a `drop` does comes after the end of a run, of which alone the contract of `run` speaks: no type
+# has one but two that hold no system.
+compare 89cd4523427d1d91331d2d2e9e994b8390fed8424fc9952cf4c407b81f8c3689 crates/tools/src/lib.rt
+! found=$(cd "$code" && grep -roHE '\b(HostRuntime|std::(fs|env|process|net))\b' crates | sort -u | grep -v _tests/ |
+    grep -vE '^crates/(tools/src/(real|identity|placeholders)|(argon|scrypt)_tool/src/main|comparison/src/lib)\.rt:' |
+    grep -vxF crates/scrypt_request/src/refusal.rt:HostRuntime) || # which its test takes
+    fail "the system is named in a file that is not compared whole: $found"
+expect 'System for ' "the systems are the real one and the one in memory" \
+    crates/tools/src/memory_system.rt crates/tools/src/real.rt
+expect 'Drop for ' "a drop runs after the end of which contracts speak" \
+    crates/argon/src/blocks.rt crates/romix/src/words.rt
 # Of the heap neither: that it is asked for what a clause says, once, and that want of memory is reported where the heap
 # refused and nowhere else. So the files in which the heap is the source of memory are compared whole, too.
 compare 52c2436ec549b7a5bfa19aa1228f4db42d44c164de0f1c711ca0698f27a847f1 crates/argon/src/room.rt

@@ -28,7 +28,7 @@ from tree import TOP
 COPIED = ("completions", "docs", "include", "man", "packaging", "python", "tests")
 SHARED = ("bench", "bin/x86-64-v2")
 # Tests of the sources: of the crates, which the others share, these have what they read in a copy.
-OF_SOURCES = ("tests/sources.sh",)
+OF_SOURCES = ("tests/sources.sh", "tests/reading.py")
 # The words after each test that an edit may name (LIB is a folder with a built library), how long it takes, and what it
 # needs beside Python: without that, it finds nothing.
 SCRYPT = TOP / "bin/x86-64-v2/scrypt"
@@ -37,7 +37,7 @@ TESTS = {
     "tests/build_scripts.py": ([], 20, ["gcc", "dpkg-deb"]), "tests/python_module.py": (["LIB"], 6, ["gcc"]),
     "tests/packages.py": (["LIB"], 9, ["gcc", "dpkg-deb", SCRYPT]), "tests/c_face.py": (["--header", "LIB"], 6, ["gcc", "g++"]),
     "tests/sources.sh": ([], 2, []), "tests/story.py": (["--recipes", "bin/x86-64-v2"], 25, ["bash", "dash", SCRYPT]),
-    "tests/steps_test.py": ([], 4, []),
+    "tests/steps_test.py": ([], 4, []), "tests/reading.py": (["--check"], 8, []),
 }
 # What a test says of what it finds: a comparison that fails, a name that is not there, or how it ended.
 SAID = re.compile(r"^(?:FAILED|not there:) (.*)$|^(\w*(?:Error|Exception)\b.*)$", re.MULTILINE)
@@ -47,11 +47,11 @@ SAID_OF_SOURCES = re.compile(r"^(?!(?:crates/\S+:)?\d+:)(.+)$()", re.MULTILINE)
 VARIES = re.compile(r"[0-9a-f]{16,}|/tmp/\S*/")
 
 
-def sources():
-    """What tests of the sources read of the crates: code and definitions, and where a proof is written by hand."""
+def sources(test):
+    """What a test of the sources reads of the crates: all, or code and definitions, and where a proof is written by hand."""
     for folder, folders, files in os.walk(TOP / "crates"):
         folders[:] = [it for it in folders if it != "out"]
-        read = (it for it in files if it.endswith(".rt") or it == "Proof.antt" or "/specs" in folder)
+        read = (it for it in files if test != "tests/sources.sh" or it.endswith(".rt") or it == "Proof.antt" or "/specs" in folder)
         yield from (pathlib.Path(folder, it) for it in read)
 
 
@@ -63,7 +63,7 @@ def copy_of(folder, test):
     for file in TOP.iterdir():
         if file.is_file():
             shutil.copy(file, top)
-    for path in sources() if test in OF_SOURCES else ():
+    for path in sources(test) if test in OF_SOURCES else ():
         to = top / path.relative_to(TOP)
         to.parent.mkdir(parents=True, exist_ok=True)
         shutil.copyfile(path, to)
