@@ -32,38 +32,38 @@ bin/lib/libpikhsen.so.0: $(SOURCES) packaging/lib.sh packaging/pikhsen.map
 	@packaging/lib.sh bin/lib $(filter-out x86-64-v2,$(LEVELS)) x86-64-v2
 
 check: ## proves what differs from the last commit and what stands on it, and runs the tests of the crates that changed
-	tests/changed.py
+	tests/build/changed.py
 
 # What was built for another level is tested, too, and built anew before, if the sources changed.
 test: $(filter bin/x86-64-v3/%,$(wildcard $(LEVELS:%=bin/%/scrypt))) ## the gate: proofs, tests, wrong bodies, definitions and lines that are new or in turn, the built programs
 	@rm -rf bin/gate.tsv bin/rooms
-	@tests/steps.py tests/sources.sh tests/documents.py tests/values.py 'tests/reading.py --check' tests/choice_test.py \
-		tests/first_run.py tests/build_scripts.py tests/steps_test.py
-	@tests/steps.py 'rt ci'
+	@tests/build/steps.py tests/sources/sources.sh tests/pages/documents.py tests/pages/values.py 'tests/pages/definitions_told.py --check' tests/edits/choice_test.py \
+		tests/build/first_run.py tests/build/build_scripts.py tests/build/steps_test.py
+	@tests/build/steps.py 'rt ci'
 	@install -D -m 755 crates/argon_tool/out/argon_tool bin/x86-64-v2/argon2
 	@install -D -m 755 crates/scrypt_tool/out/scrypt_tool bin/x86-64-v2/scrypt
 	@test -f bin/level && test "$$(cat bin/level)" != x86-64-v2 || packaging/chosen.sh x86-64-v2
-	@tests/steps.py tests/refusals.py \
-		$(foreach it,$(LEVELS),$(if $(filter x86-64-v2,$(it))$(wildcard bin/$(it)/scrypt),'tests/outside.sh bin/$(it)'))
-	@tests/steps.py tests/c_face.py tests/wrong_lines.py
-	@tests/steps.py 'tests/builds.py --check'
-	@tests/steps.py --all
+	@tests/build/steps.py tests/edits/refusals.py \
+		$(foreach it,$(LEVELS),$(if $(filter x86-64-v2,$(it))$(wildcard bin/$(it)/scrypt),'tests/programs/outside.sh bin/$(it)'))
+	@tests/build/steps.py tests/library/c_face.py tests/edits/wrong_lines.py
+	@tests/build/steps.py 'tests/build/builds.py --check'
+	@tests/build/steps.py --all
 
 # A wrong line may need the programs or the library to be found. docs/audit says of which commit the last audit was.
 audit: bin/x86-64-v2/scrypt bin/lib/libpikhsen.so.0 ## tries each wrong body, wrong definition and wrong line, and writes the commit into docs/audit
-	@tests/choice.py >bin/audit
-	tests/refusals.py --audit
-	tests/wrong_lines.py --audit
-	@tests/choice.py | cmp -s - bin/audit && mv bin/audit docs/audit
+	@tests/edits/choice.py >bin/audit
+	tests/edits/refusals.py --audit
+	tests/edits/wrong_lines.py --audit
+	@tests/edits/choice.py | cmp -s - bin/audit && mv bin/audit docs/audit
 
 map: ## draws docs/proof-map.svg and docs/proof-map-small.svg anew: which promise stands on what
-	tests/proof_map.py docs/proof-map.svg docs/proof-map-small.svg
+	tests/pages/proof_map.py docs/proof-map.svg docs/proof-map-small.svg
 
 doc: ## writes bin/doc/index.html: the public items of each crate, with their comments and clauses
 	packaging/doc.py
 
 reading: ## makes bin/reading/: what a reader has to find right to believe a call, to be printed and signed (CALL=command::scrypt; both commands)
-	tests/reading_page.py $(CALL)
+	tests/pages/reading_page.py $(CALL)
 
 install: | bin/argon2 bin/scrypt ## puts what was built, with pages, completions and documents, below PREFIX
 	@PIKHSEN_SAY=1 PREFIX='$(PREFIX)' packaging/install.sh install '$(DESTDIR)$(PREFIX)' bin $(patsubst %/libpikhsen.a,%,$(wildcard bin/lib/libpikhsen.a)) >&2

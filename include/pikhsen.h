@@ -9,7 +9,7 @@
  *    what it says. After any other answer what it writes is as it was before the call, but for what stands at the
  *    function. 0 is yes: compare an answer with PIKHSEN_OK.
  *  - Bytes are a pointer and a length. A length may be 0; the pointer is then never read, and may be null. That null
- *    will do is seen, and not proved: tests/c_face.c calls each function so, as a slice of Go or an empty Buffer of
+ *    will do is seen, and not proved: tests/library/c_face.c calls each function so, as a slice of Go or an empty Buffer of
  *    Node passes it. A length is below 2^63. Other pointers are not null, and aligned as their types are.
  *  - MEMORY THAT A FUNCTION WRITES OVERLAPS NOTHING ELSE THAT IS PASSED TO IT, and no other thread touches it during
  *    the call. The library cannot see an overlap: it answers PIKHSEN_OK all the same, and what it wrote is wrong.

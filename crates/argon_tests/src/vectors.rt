@@ -293,7 +293,7 @@ fn first_hash_of_the_standard()
 {}
 
 // The word J of a column that the second address block of its segment has, in the third pass, the second lane and the
-// last slice, as tests/address_block.c prints it of Debian's libargon2 0~20171227, the reference implementation.
+// last slice, as tests/library/address_block.c prints it of Debian's libargon2 0~20171227, the reference implementation.
 fn word_of_the_second_address_block()
     ensures word { reference_words two_lanes 2 1 3 200 [] ≡ 0xC5D6A329209A6F59 }
 {}

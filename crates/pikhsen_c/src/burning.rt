@@ -16,7 +16,7 @@ pub struct Told {
 
 /// Puts zeros where the frames of a call were that has returned, and hands its answer on. No contract sees these bytes,
 /// and the compiler may leave out a write that nothing reads. So they are read again, and the answer hangs on it: want of
-/// memory is told if one is not 0, which is proved never to be. tests/c_face.py looks at the stack of a program.
+/// memory is told if one is not 0, which is proved never to be. tests/library/c_face.py looks at the stack of a program.
 #[inline(never)]
 pub(crate) fn burn(told: u32, machine: Machine) -> Told
     ensures same { result.status ≡ told }
@@ -28,7 +28,7 @@ pub(crate) fn burn(told: u32, machine: Machine) -> Told
 }
 
 // Puts zeros over the words, and answers whether all of them are there. On the way vector registers are filled with
-// zeros, too, in the place of what the call left in them. No contract sees that: tests/c_face.py looks at them.
+// zeros, too, in the place of what the call left in them. No contract sees that: tests/library/c_face.py looks at them.
 #[inline(never)]
 fn wipe(room: &mut [u64]) -> bool
     ensures zeros { room.new ≡ replicate (length room.old) 0 }

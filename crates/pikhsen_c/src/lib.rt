@@ -2,7 +2,7 @@
 //! numbers and bytes. include/pikhsen.h describes them for C.
 //!
 //! Each answers a number of `status`: 0 where it did what it says, and otherwise why not. All memory that
-//! a call takes is freed before it answers. They are tested from C and from Python, by tests/c_face.py.
+//! a call takes is freed before it answers. They are tested from C and from Python, by tests/library/c_face.py.
 #![tactic(auto)]
 
 mod argon2;

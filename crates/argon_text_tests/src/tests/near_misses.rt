@@ -1,4 +1,4 @@
-//! Texts near the known text, byte by byte. `tests/encoded_texts.py` prints these answers, by a
+//! Texts near the known text, byte by byte. `tests/sources/encoded_texts.py` prints these answers, by a
 //! regular expression and Python's base64: 0 where a text is read, 1 where it is not in the grammar,
 //! 2 where a value is out of range. The nth digit stands for place n of the text.
 

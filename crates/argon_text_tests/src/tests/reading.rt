@@ -122,7 +122,7 @@ static CHANGED: [(u8, &str); 62] = [
         1,
         "$argon2im=256,t=2,p=1$c29tZXNhbHQ$iekCn0Y3spW+sCcFanM2xBT63UP2sghkUoHLIUpWRS8",
     ),
-    // near the field of version 16, and near a text without one (the answers of tests/encoded_texts.py)
+    // near the field of version 16, and near a text without one (the answers of tests/sources/encoded_texts.py)
     (
         1,
         "$argon2i$v=16$v=16$m=256,t=2,p=1$c29tZXNhbHQ$/U3YPXYsSb3q9XxHvc0MLxur+GP960kN9j7emXX8zwY",

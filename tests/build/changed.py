@@ -1,0 +1,56 @@
+#!/usr/bin/env python3
+"""Proves what changed and runs the tests of the crates that changed: for the daily loop, not for the gate.
+
+    tests/build/changed.py [COMMIT]
+
+What differs from the commit (HEAD), files that are not committed too, names the crates that changed. Each of them is
+proved and tested, also where its tests stand apart, in CRATE_tests, and each crate that stands on one of them is proved,
+side by side, as packaging/prove.py does it. No wrong body or definition is tried; that the text which each replaces
+stands in its file once is checked.
+"""
+import pathlib
+import subprocess
+import sys
+
+TOP = pathlib.Path(__file__).resolve().parents[2]
+sys.path.insert(0, str(TOP / "packaging"))
+sys.dont_write_bytecode = True
+import prove  # noqa: E402
+
+APART = "_tests"  # how the crate is called that has a crate's tests, if they stand apart
+
+
+def changed_files(base):
+    named = ["git", "diff", "--name-only", base], ["git", "ls-files", "--others", "--exclude-standard"]
+    return [line for words in named for line in subprocess.check_output(words, cwd=TOP, text=True).splitlines()]
+
+
+def steps_for(touched, tested):
+    """The steps that prove the crates that are touched, with what they and the tests stand on, and run these tests."""
+    uses, apart = prove.uses_of(), [name for name in tested if name.endswith(APART)]
+    below = [it for name in apart for it in uses[name]]
+    tests = [prove.Step(f"{name}-tests", name, ["test"], uses[name] if name in apart else [name]) for name in tested]
+    return prove.steps_for([*touched, *below]) + tests
+
+
+def main():
+    base = sys.argv[1] if len(sys.argv) > 1 else "HEAD"
+    paths = [pathlib.PurePath(line).parts for line in changed_files(base)]
+    inside = [parts for parts in paths if parts[0] == "crates" and len(parts) > 2]
+    named = {name for _, name, part, *_ in inside if part not in ("wrong-bodies", "wrong-definitions")}
+    uses = prove.uses_of()
+    changed = [name for name in uses if name in named]
+    touched = [name for name in uses if named & {name, *uses[name]} and not name.endswith(APART)]
+    tested = list(dict.fromkeys(name + APART if name + APART in uses else name for name in changed))
+    if changed:
+        steps = steps_for(touched, tested)
+        prove.say(f"{len(touched)} crates to prove, changed since {base} or above one that is: {', '.join(touched)}.")
+        prove.say(f"{len(tested)} to test: {', '.join(tested)}. With what all of these stand on, {len(steps)} steps:")
+        prove.prove_or_exit(steps)
+    for script in ("tests/sources/sources.sh", "tests/pages/documents.py"):
+        if subprocess.run([script], cwd=TOP).returncode != 0:
+            sys.exit(f"{script} failed")
+    prove.say(f"{len(touched)} crates are proved, the tests of {len(tested)} pass, and sources and pages agree.")
+
+
+main()

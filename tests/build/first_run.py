@@ -1,0 +1,290 @@
+#!/usr/bin/env python3
+"""Runs make run, make lib and make check in a copy of the tree, over a stand-in for rt that proves nothing.
+
+    tests/build/first_run.py
+
+Each crate is begun once, and only after all that it stands on; each has its line when it is proved. A failure stops
+what stands on it alone, is told with its last lines, and leaves no program and no library of older sources, nor does a
+run that is stopped, which ends all that it began.
+"""
+import os
+import pathlib
+import re
+import shutil
+import signal
+import subprocess
+import sys
+import tempfile
+import time
+
+sys.path += map(str, pathlib.Path(__file__).resolve().parents[1].iterdir())  # the other folders of tests/
+from checking import Checks
+
+TOP = pathlib.Path(__file__).resolve().parents[2]
+sys.path.insert(0, str(TOP / "packaging"))
+sys.dont_write_bytecode = True
+import prove  # noqa: E402
+
+LINE = re.compile(r" ?(\d+) of (\d+) ([\w-]+), (\d+ s|as it was proved before)(?:; under way: (.*))?")
+LEVEL = "x86-64-v2"
+PROGRAMS = ("bin/argon2", "bin/scrypt", f"bin/{LEVEL}/argon2", f"bin/{LEVEL}/scrypt")
+NO_PROGRAM = ["pikhsen_c", "command", *(it for it in prove.listed() if it.endswith("_tests"))]  # what no program stands on
+SCRYPT = ["scrypt_run", "scrypt_command", "argon_tool", "scrypt_tool"]
+# Says that a crate is proved whose text has not the word "broken", after a minute where it has the word "slow". Like rt
+# it lets no other run work in the crate and in what it stands on, keeps a library, and then says nothing.
+STAND_IN = f"#!{sys.executable} -IS" + r'''
+import fcntl, os, shutil, sys, time
+here, words = os.getcwd(), sys.argv[1:]
+crates, name = os.path.split(here)
+text_of = lambda path: open(path).read() if os.path.isfile(path) else ""
+def write(path, text):
+    os.makedirs(os.path.dirname(path), exist_ok=True)
+    open(path, "w").write(text)
+def note(what):
+    open(os.environ["JOURNAL"], "a").write(f"{what} {name} {os.getpid()} {' '.join(words)}\n")
+lines = [it.partition(":") for it in text_of(crates + "/../crates.txt").splitlines()]
+uses = {it.split()[0]: others.split() for it, _, others in lines}
+def below(crate):
+    return {it for other in uses[crate] if other in uses for it in [other, *below(other)]}
+held = [os.open(f"{crates}/{it}", os.O_RDONLY) for it in below(name) | {name}]
+for it in held:
+    fcntl.flock(it, fcntl.LOCK_EX | fcntl.LOCK_NB)
+is_program, stamp = os.path.isfile("src/main.rt"), "out/rlib/stamp"
+source = text_of("src/main.rt") + text_of("src/lib.rt")
+libraries = [text_of(f"{crates}/{it}/{stamp}") for it in sorted(below(name))]
+text, is_library = source + "".join(libraries), not is_program and name != "pikhsen_c"
+if words[0] == "lib" and is_library and text_of(stamp) == text:
+    note("kept")
+    sys.exit()
+write(f"out/incremental/{words[0]}", text)
+note("begin")
+if not all(libraries):
+    sys.exit("a library below is not there")
+time.sleep(60 if "slow" in source else 0.06)
+if "broken" in source:
+    print("\n".join(f"line {at}" for at in range(100)), flush=True)
+    sys.exit(f"{name}::there: no proof")
+print("logic=proved")
+if words[0] == "lib":
+    write(stamp if is_library else f"out/lib{name}.a", text)
+if words[0] == "lib" and not is_library and os.environ.get("ARCHIVE"):
+    os.replace(shutil.copy(os.environ["ARCHIVE"], f"out/lib{name}.a.new"), f"out/lib{name}.a")
+if words[0] == "run":
+    write(f"out/{name}", f"#!/bin/sh\necho {name} {len(text)}\n")
+    os.chmod(f"out/{name}", 0o755)
+note("end")
+sys.exit(words[0] == "run")
+'''
+
+
+class Tree:
+    """A copy of the tree with one line of text in each crate."""
+
+    def __init__(self, folder):
+        self.top, self.journal = pathlib.Path(folder, "tree"), pathlib.Path(folder, "journal")
+        self.top.mkdir()
+        for name in ("Makefile", "crates.txt", "VERSION"):
+            shutil.copy(TOP / name, self.top)
+        shutil.copytree(TOP / "packaging", self.top / "packaging", ignore=shutil.ignore_patterns("__pycache__"))
+        for name in prove.listed():
+            (self.top / "crates" / name / "src").mkdir(parents=True)
+            self.write(name, "as it was\n")
+        for name in ("build", "pages", "sources"):
+            (self.top / "tests" / name).mkdir(parents=True)
+        shutil.copy(TOP / "tests/build/changed.py", self.top / "tests/build")
+        stand_ins = [pathlib.Path(folder, "rt"), self.top / "tests/sources/sources.sh", self.top / "tests/pages/documents.py"]
+        for path, text in zip(stand_ins, [STAND_IN, "#!/bin/sh\n", "#!/bin/sh\n"]):
+            path.write_text(text, encoding="utf-8")
+            path.chmod(0o755)
+        self.environment = {"PATH": f"{folder}:{os.environ['PATH']}", "JOURNAL": str(self.journal), "HOME": str(folder)}
+
+    def write(self, crate, text):
+        is_program = (TOP / "crates" / crate / "src/main.rt").is_file()
+        (self.top / "crates" / crate / "src" / ("main.rt" if is_program else "lib.rt")).write_text(text)
+
+    def start(self, *words):
+        self.journal.write_text("")
+        how = {"cwd": self.top, "env": self.environment, "text": True, "start_new_session": True}
+        # a shell has what runs in its background ignore ctrl-C
+        how["preexec_fn"] = lambda: signal.signal(signal.SIGINT, signal.SIG_DFL)
+        return subprocess.Popen(words, stdout=subprocess.PIPE, stderr=subprocess.STDOUT, **how)
+
+    def make(self, *words):
+        """The status of make with these words, and what it said."""
+        running = self.start("make", *words)
+        said, _ = running.communicate(timeout=60)
+        return running.returncode, said.splitlines()
+
+    def noted(self, what=None):
+        """Of each line of the journal what came to pass, the crate, and the words after rt."""
+        lines = [it.split() for it in self.journal.read_text().splitlines()]
+        return [(it[0], it[1], it[3:]) for it in lines if what in (None, it[0])]
+
+    def begun(self):
+        return sorted(it[1] for it in self.noted("begin"))
+
+    def there(self, names):
+        return [it for it in names if (self.top / it).exists()]
+
+
+def look_at_order(checks, name, tree, crates, most):
+    """Each crate was begun once, after the end of all that it stands on, and at most so many were under way."""
+    uses, ended, under_way, largest = prove.uses_of(), set(), 0, 0
+    checks.that(f"{name}: each crate, once", tree.begun(), sorted(crates))
+    for what, crate, _ in tree.noted():
+        if what == "begin":
+            checks.that(f"{name}: {crate} after what it stands on", ended.issuperset(uses[crate]), True)
+        ended.update([crate] if what != "begin" else [])
+        under_way += {"begin": 1, "end": -1}.get(what, 0)
+        largest = max(largest, under_way)
+    checks.that(f"{name}: under way at a time", largest <= most, True)
+
+
+def look_at_lines(checks, name, said, total, kept=0):
+    """There is a line for each crate, numbered, and the last one has nothing under way."""
+    found = [it for it in map(LINE.fullmatch, said) if it]
+    checks.that(f"{name}: numbers", [int(it[1]) for it in found], list(range(1, total + 1)))
+    checks.that(f"{name}: of all", {int(it[2]) for it in found}, {total})
+    checks.that(f"{name}: kept", sum(it[4] == "as it was proved before" for it in found), kept)
+    checks.that(f"{name}: under way at the end", found[-1][5] if found else "", None)
+    named = {other for it in found for other in (it[5] or "").split(", ") if other}
+    checks.that(f"{name}: what is under way is named", bool(named) and named <= {it[3] for it in found}, True)
+
+
+def shares(checks):
+    """A crate gets more processes the fewer others run or could, and the one that leads goes first."""
+    for processors, found in (("1", [1, 1, 1, 1]), ("2", [2, 1, 1, 1]), ("4", [4, 2, 1, 1]), ("64", [4, 4, 4, 4])):
+        os.environ["JOBS"] = processors
+        checks.that(f"processes, of {processors}", [prove.jobs_for(100, others) for others in range(4)], found)
+    checks.that("a small crate", prove.jobs_for(19, 0), 1)
+    step = prove.Step("romix", "romix", ["lib"], [])
+    checks.that("the one that leads", step.command(4, True), ["rt", "lib", "--jobs", "4"])
+    checks.that("one beside it", step.command(2, False), ["nice", "-n", "10", "rt", "lib", "--jobs", "2"])
+
+
+def succeeds(checks, tree):
+    crates = [it for it in prove.listed() if it not in NO_PROGRAM]
+    status, said = tree.make("run", f"CPU={LEVEL}", "JOBS=2")
+    checks.that("make run", (status, tree.there(PROGRAMS)), (0, list(PROGRAMS)))
+    checks.that("make run: its end", said[-1].split()[0], "argon_tool")
+    look_at_order(checks, "make run", tree, crates, 2)
+    look_at_lines(checks, "make run", said, len(crates))
+    words = {crate: words for _, crate, words in tree.noted("begin")}
+    checks.that("the level", words["scrypt_tool"][:3], ["run", "--cpu", LEVEL])
+    checks.that("no tests", any("test" in it for it in words.values()), False)
+    checks.that("processes for a crate", words["romix"][:2], ["lib", "--jobs"])
+    tree.make("run", f"CPU={LEVEL}")
+    checks.that("nothing changed", tree.noted(), [])
+
+
+def proves_what_changed(checks, tree):
+    tree.write("scrypt_run", "other\n")
+    status, said = tree.make("run", f"CPU={LEVEL}", "JOBS=3")
+    checks.that("a change", status, 0)
+    look_at_order(checks, "a change", tree, SCRYPT, 3)
+    look_at_lines(checks, "a change", said, 21, kept=21 - len(SCRYPT))
+
+
+def fails(checks, tree):
+    (tree.top / "bin/x86-64-v3").mkdir()
+    older = [*PROGRAMS, "bin/x86-64-v3/scrypt"]
+    shutil.copy(tree.top / "bin/scrypt", tree.top / older[-1])
+    checks.that("older programs", tree.there(older), older)
+    tree.write("scrypt_run", "broken\n")
+    tree.write("tools", "other\n")
+    status, said = tree.make("run", f"CPU={LEVEL}")
+    checks.that("a failure", (status != 0, tree.there([*older, "bin/level"])), (True, []))
+    checks.that("a failure: begun", tree.begun(), ["argon_tool", "scrypt_run", "tools"])
+    checks.that("a failure: why", "| scrypt_run::there: no proof" in said and "| line 99" in said, True)
+    checks.that("a failure: no more than its end", "| line 10" in said, False)
+    checks.that("a failure: the log", "scrypt_run FAILED. The end of bin/logs/scrypt_run:" in said, True)
+    left = "Left out, since they stand on it: scrypt_command, scrypt_tool."
+    checks.that("a failure: the last line", any(it.startswith(f"Failed: scrypt_run. {left}") for it in said), True)
+    status, said = tree.make("install", f"CPU={LEVEL}", f"PREFIX={tree.top}/to")
+    checks.that("a failure: nothing is installed", (status != 0, tree.there(["to"])), (True, []))
+    tree.write("scrypt_run", "mended\n")
+    status, said = tree.make("run", f"CPU={LEVEL}")
+    checks.that("mended", (status, tree.begun(), tree.there(PROGRAMS)), (0, sorted(SCRYPT), list(PROGRAMS)))
+
+
+def library_fails(checks, tree):
+    libraries = ["bin/lib/libpikhsen.a", "bin/lib/libpikhsen.so.0", "crates/pikhsen_c/out/libpikhsen_c.a"]
+    for name in libraries:
+        (tree.top / name).parent.mkdir(parents=True, exist_ok=True)
+        (tree.top / name).write_text("older")
+    tree.write("pikhsen_c", "broken\n")
+    status, said = tree.make("lib")
+    checks.that("a library that fails", (status != 0, tree.there(libraries)), (True, []))
+    checks.that("a library that fails: begun", tree.begun(), ["pikhsen_c"])
+    checks.that("a library that fails: why", "| pikhsen_c::there: no proof" in said, True)
+    checks.that("a library that fails: the programs stay", tree.there(PROGRAMS), list(PROGRAMS))
+
+
+def is_stopped(checks, tree):
+    """Ctrl-C reaches all that runs; a signal to end comes to the one process that it is sent to."""
+    ways = {"ctrl-C": (["make", "run", f"CPU={LEVEL}"], os.killpg, signal.SIGINT)}
+    ways["a signal"] = ["packaging/prove.py", "host"], os.kill, signal.SIGTERM
+    for name, (words, send, number) in ways.items():
+        tree.write("host", f"slow, {name}\n")
+        running = tree.start(*words)
+        until = time.monotonic() + 30
+        while time.monotonic() < until and tree.begun() != ["host"]:
+            time.sleep(0.02)
+        checks.that(f"{name}: programs under way", tree.there(PROGRAMS), [])
+        pids = [int(it.split()[2]) for it in tree.journal.read_text().splitlines() if it.startswith("begin")]
+        send(running.pid, number)
+        said, _ = running.communicate(timeout=30)
+        checks.that(name, (running.returncode != 0, "Stopped. What was proved is kept." in said), (True, True))
+        checks.that(f"{name}: what was begun", [it for it in pids if os.path.exists(f"/proc/{it}")], [])
+        checks.that(f"{name}: programs", tree.there(PROGRAMS), [])
+        kept = "crates/host/out/incremental/lib"
+        checks.that(f"{name}: what was kept", tree.there([kept, "bin/rooms"]), [kept])
+
+
+def checks_what_changed(checks, tree):
+    git = ["git", "-c", "user.name=A", "-c", "user.email=a@localhost", "-c", "init.defaultBranch=main"]
+    (tree.top / ".gitignore").write_text("out/\n/bin/\n__pycache__/\n")
+    tree.write("host", "as it was\n")
+    tree.write("pikhsen_c", "as it was\n")
+    for words in (["init", "-q"], ["add", "-A"], ["commit", "-q", "-m", "all"]):
+        subprocess.run([*git, *words], cwd=tree.top, env=tree.environment, check=True)
+    tree.write("argon_text", "changed\n")
+    tree.write("argon_tool", "changed\n")
+    status, said = tree.make("check")
+    touched = ["argon_text", "argon2_command", "command", "argon_tool", "pikhsen_c"]
+    checks.that("make check", status, 0)
+    checks.that("make check: how many", any(it.startswith(f"{len(touched)} crates to prove") for it in said), True)
+    tests = ["argon_text_tests", "argon_tool"]
+    checks.that("make check: begun", tree.begun(), sorted([*touched, *tests]))
+    checks.that("make check: tests", sorted(it[1] for it in tree.noted("begin") if "test" in it[2]), tests)
+    checks.that("make check: the lines", len([it for it in said if LINE.fullmatch(it)]), 24)
+    subprocess.run([*git, "commit", "-q", "-a", "-m", "argon_text"], cwd=tree.top, env=tree.environment, check=True)
+    tree.write("scrypt_command", "changed\n")
+    status, said = tree.make("check")
+    checks.that("make check, tests apart", status, 0)
+    begun = [(it[1], it[2][0]) for it in tree.noted("begin")]
+    expected = [("command", "lib"), ("scrypt_command", "lib"), ("scrypt_command_tests", "test"), ("scrypt_tool", "check")]
+    checks.that("make check, tests apart: begun", sorted(begun), expected)
+    tree.write("scrypt_command_tests", "changed\n")
+    tree.write("scrypt_command", "as it was\n")
+    status, said = tree.make("check")
+    checks.that("make check, tests alone", status, 0)
+    checks.that("make check, tests alone: tested", any(it.startswith("1 to test: scrypt_command_tests.") for it in said), True)
+    tree.write("scrypt_command_tests", "as it was\n")
+    tree.write("argon_text", "broken\n")
+    status, said = tree.make("check")
+    checks.that("make check fails", (status != 0, tree.begun()), (True, ["argon_text"]))
+
+
+def main():
+    checks = Checks("make")
+    shares(checks)
+    with tempfile.TemporaryDirectory(prefix="pikhsen-first-run-") as folder:
+        tree = Tree(folder)
+        for test in (succeeds, proves_what_changed, fails, library_fails, is_stopped, checks_what_changed):
+            test(checks, tree)
+    checks.end()
+
+
+if __name__ == "__main__":
+    main()

@@ -1,0 +1,74 @@
+#!/usr/bin/env python3
+"""The choice: which edits that must fail are tried. Those of what differs from the last audit, and a tenth of the others.
+
+docs/audit names the commit at which `make audit` saw each edit refused at its goal, and the toolchain that it had. An edit
+is tried if its own lines are not those of that commit, or a file that its trial is over differs from that commit, be it
+committed or not. Of the others a tenth is tried, which the hash of the commit that is tested chooses: a group of edits that
+share a check as a whole. Every edit is tried where that commit is not known (a shallow clone, a copy without git) or is no
+ancestor, where the toolchain's logic is another, or what decides over refusals (RULES) differs.
+
+    tests/edits/choice.py    prints what docs/audit has after an audit of the tree; fails if the tree is not as committed
+"""
+import hashlib
+import math
+import sys
+import pathlib
+
+sys.path += map(str, pathlib.Path(__file__).resolve().parents[1].iterdir())  # the other folders of tests/
+from edits import sections
+from tree import TOP, git
+
+AUDIT, PART = "docs/audit", 10
+RULES = [*(f"tests/edits/{it}.py" for it in ("body_trial", "choice", "definition_trial", "definitions", "edits", "refusals",
+                                             "toolchain", "wrong_lines")), "tests/sources/functions.py"]
+
+
+class Choice:
+    """What differs from the last audit, and the commit that chooses among the others."""
+
+    def __init__(self, logic, top=TOP):
+        path, self.top, self.head = top / AUDIT, top, git("rev-parse", "HEAD", top=top) or ""
+        words = path.read_text(encoding="utf-8").split(maxsplit=2) if path.is_file() else []
+        self.commit, *toolchain = words if len(words) == 3 else ["none", "", ""]
+        self.differing, self.every = set(), ""
+        if git("merge-base", "--is-ancestor", self.commit, "HEAD", top=top) is None:
+            self.every = f"the commit of the last audit, {self.commit}, is not known here"
+        elif logic and toolchain[1].strip() != logic:
+            self.every = f"the toolchain's logic is another than in the last audit, at {self.commit}"
+        else:
+            words = ["diff", "--name-only", "--no-renames", self.commit], ["ls-files", "--others", "--exclude-standard"]
+            self.differing = {line for it in words for line in git("-c", "core.quotepath=off", *it, top=top).splitlines()}
+            if self.differs(RULES):
+                self.every = f"what decides over refusals differs from that of the last audit, at {self.commit}"
+
+    def differs(self, places):
+        """Whether a file that is one of these, or below one, is another than at the audit."""
+        return any(f"{file}/".startswith(f"{place}/") for place in places for file in self.differing)
+
+    def is_edited(self, edit):
+        """Whether the edit, with its goal, stands otherwise in its file than at the audit, or not at all."""
+        file = str(edit.path.relative_to(self.top))
+        if file not in self.differing:
+            return False
+        text = git("show", f"{self.commit}:{file}", top=self.top)
+        return dict(sections(text) if text else ()).get(edit.stem) != edit.lines
+
+    def is_new(self, edit, places):
+        """Whether an edit is tried whatever its turn, where its trial is over the files at or below these places."""
+        return bool(self.every) or self.differs(places) or self.is_edited(edit)
+
+    def tenth(self, units):
+        """A tenth of these names, which the commit chooses."""
+        order = sorted(units, key=lambda it: hashlib.sha256(f"{it} {self.head}".encode()).digest())
+        return order[:math.ceil(len(order) / PART)]
+
+    def said(self):
+        return self.every or f"since the audit at {self.commit[:12]} {len(self.differing)} files differ"
+
+
+if __name__ == "__main__":
+    from toolchain import LOGIC, RELEASE
+
+    if git("status", "--porcelain") != "":
+        sys.exit("an audit is of a commit: the tree is not as committed")
+    print(git("rev-parse", "HEAD"), RELEASE, LOGIC)

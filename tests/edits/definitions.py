@@ -1,0 +1,99 @@
+"""Wrong definitions: which equation is to refuse each, and what that equation reaches.
+
+Such an edit changes specs/ alone, and its line `vector: NAME CLAUSE` names its goal, an equation of src/vectors.rt in the
+crate or in CRATE_tests. tests/edits/definition_trial.py says how it is tried. Edits of a crate share a check where no equation
+of one reaches a definition that another changes.
+"""
+import copy
+import pathlib
+import re
+
+import reading
+from edits import DEFINITIONS, Edit, edits_of
+from functions import text_of
+from tree import TOP
+
+MOST = 8  # edits that share a check
+VECTORS = "src/vectors.rt"
+VECTOR = re.compile(r"(?m)^((?:#\[.*\]\n)*)fn (\w+)\(\)\n((?:    .*\n)+)\{\}$")
+CLAUSE = re.compile(r"(?ms)^    ensures (\w+) \{ (.*?) \}$(?=\n    ensures|\n?\Z)")
+
+
+def equations(text):
+    """The equations of a file of vectors, by vector and clause: the attributes, and the two sides."""
+    found = {}
+    for attributes, name, clauses in VECTOR.findall(text):
+        for clause, said in CLAUSE.findall(clauses):
+            sides = re.split(r"\s+≡\s+", said)
+            if len(sides) == 2:
+                found[name, clause] = attributes, *sides
+    return found
+
+
+class Definitions:
+    """The definitions of all crates."""
+
+    def __init__(self, top=TOP):
+        self.top, self.files = pathlib.Path(top), reading.all_files(pathlib.Path(top) / "crates")
+
+    def with_edit(self, edit):
+        """The same with an edit, and the items that it changes."""
+        made, changed = copy.copy(self), set()
+        made.files = dict(self.files)
+        for path, text in edit.texts.items():
+            module = ".".join([edit.folder.name, *pathlib.PurePath(path).with_suffix("").parts])
+            before, file = self.files[module], reading.File(text)
+            made.files[module] = file
+            items = {*before.items, *file.items}
+            changed |= {(module, it) for it in items if before.items.get(it) != file.items.get(it)}
+        return made, changed
+
+    def reached(self, text, names):
+        return reading.reached([(text, names)], self.files)
+
+
+class WrongDefinition(Edit):
+    """A wrong definition: its equation, what it changes, and what that equation reaches."""
+
+    def __init__(self, path, stem, lines, definitions):
+        super().__init__(path, stem, lines)
+        self.vector, _, self.clause = self.vector.partition(" ")
+        self.goal = f"`{self.vector}`: `{self.clause}`"
+        tests = reading.folder_of_tests(self.folder)
+        text = text_of(tests, VECTORS, {})
+        self.equation, names = equations(text).get((self.vector, self.clause)), reading.imports(text)
+        answer = text_of(tests, f"proofs/vectors/{self.vector}/Answers.antt", {})
+        self.answer = answer if re.search(rf"\b{self.clause} = refl\b", answer) else ""
+        self.changes, self.wrong = set(), "it changes what is not a definition"
+        if self.texts and all(file.startswith("specs/") for file in self.texts) and self.equation:
+            made, self.changes = definitions.with_edit(self)
+            cited = "\n".join(self.equation[1:])
+            items = definitions.reached(cited, names)
+            self.reach = {*items, *made.reached(cited, names)}
+            self.wrong = "" if self.changes & {*items} else "its equation does not reach what it changes"
+        elif not self.texts or not self.equation:
+            self.wrong = "what it replaces does not stand there once" if self.equation else f"there is no {self.goal}"
+
+    def goes_with(self, other):
+        return not (self.changes & other.reach or other.changes & self.reach)
+
+
+def wrong_definitions_of(crate, definitions):
+    """The wrong definitions of a crate, by their names."""
+    return edits_of(crate, DEFINITIONS, lambda *it: WrongDefinition(*it, definitions))
+
+
+def in_groups(edits):
+    """The edits in groups that share a check."""
+    groups = []
+    for edit in edits:
+        for group in groups:
+            made = {}
+            for it in [*group, edit]:
+                made = made if made is None else (it.put(made) or [None])[0]
+            if len(group) < MOST and made and all(edit.goes_with(it) for it in group):
+                group.append(edit)
+                break
+        else:
+            groups.append([edit])
+    return groups

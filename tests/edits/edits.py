@@ -1,0 +1,120 @@
+"""Edits that must fail: what each puts in the place of what, what that changes, and the goal that refuses it.
+
+    a wrong body         crates/CRATE/wrong-bodies/        the prover must refuse it (body_trial.py)
+    a wrong definition   crates/CRATE/wrong-definitions/   a vector must refuse it (definition_trial.py)
+    a wrong line         tests/edits/wrong-lines/          a test must find it (wrong_lines.py)
+
+They stand many to a file, NAME.edits, one file for each source, definition or test that they are about:
+
+    file: src/costs.rt                 what each edit of this file has, to the first blank line
+
+    log-n-of-64                        the name of an edit, and below it its own lines, to the next blank line
+    old: if log_n == 0 || log_n > 63
+    new: if log_n == 0 || log_n > 64
+    refused: `returns-else-fault`      its goal, which `--told` writes: what refuses it
+
+`old:` must stand in the file once. A line `and: TEXT` is the next line of the text above it. An edit that names a file
+itself is of that file. A `test:` at the head is the test that must find each.
+"""
+import functools
+import pathlib
+
+from functions import function_at, text_of
+from tree import TOP
+
+BODIES, DEFINITIONS, LINES = "wrong-bodies", "wrong-definitions", TOP / "tests" / "edits" / "wrong-lines"
+FIRST = ("types", "vector", "gives")  # what an edit says before it names a file
+GOAL = "\nrefused: "
+
+
+class Edit:
+    """What an edit puts in the place of what, in files below a folder, and the goal that refuses it, where it has one."""
+
+    def __init__(self, path, stem, lines):
+        self.path, self.stem, self.lines, self.is_line = path, stem, lines, path.parent == LINES
+        self.folder = TOP if self.is_line else path.parent.parent
+        self.name = stem if self.is_line else f"{self.folder.name}/{stem}"
+        self.pairs, said, last = [], {}, None
+        for word, _, rest in (line.partition(":") for line in lines):
+            rest = rest.removeprefix(" ")
+            if word == "and":
+                said[last] += f"\n{rest}"
+            else:
+                said[word], last = rest, word
+            if word == "new":
+                self.pairs.append([said["file"].strip(), said["old"], ""])
+            if last == "new":
+                self.pairs[-1][2] = said["new"]
+        self.goal, self.test = said.get("refused", ""), said.get("test", "").strip()
+        self.types = said.get("types", "").strip()  # the error of the types that refuses it, where it names one
+        self.vector, self.gives = said.get("vector", "").strip(), said.get("gives")
+        self.files = sorted({file for file, _, _ in self.pairs})
+
+    def put(self, texts, folder=None):
+        """The texts with this edit, and what it changes; or none where what it replaces does not stand there once."""
+        made, places = dict(texts), set()
+        for file, old, new in self.pairs:
+            text = text_of(folder or self.folder, file, made)
+            if text.count(old) != 1 or old == new:
+                return None
+            line = text.count("\n", 0, text.find(old))
+            is_source = file.startswith("src/")
+            places.add(function_at(self.folder, file, text, line, body=True) if is_source else None)
+            made[file] = text.replace(old, new)
+        return made, places
+
+    @functools.cached_property
+    def alone(self):
+        return self.put({}) or ({}, {None})
+
+    texts = property(lambda self: self.alone[0])  # of the files that it changes; none where it does not fit them
+    places = property(lambda self: self.alone[1])  # the functions in whose bodies it changes something; None is elsewhere
+
+    @property
+    def is_shared(self):
+        """Whether it can be tried beside others: it changes bodies alone, and the types let it through."""
+        return all(self.places) and not self.types
+
+    def puts(self, file, line):
+        """Whether this line of a file, as the edit makes it, is one that it puts there."""
+        lines = self.texts.get(file, "").split("\n")
+        return line < len(lines) and any(it[0] == file and it[2].strip() in lines[line] for it in self.pairs)
+
+
+def word_of(line):
+    return line.partition(":")[0]
+
+
+def sections(text):
+    """The edits of a file's text, in its order: the name of each, and its lines with those of the head."""
+    head, *others = [it.split("\n") for it in text.strip("\n").split("\n\n")]
+    of_file, of_test = ([it for it in head if word_of(it) == word] for word in ("file", "test"))
+    for name, *own in others:
+        if ":" in name or not own:
+            raise ValueError(f"the name of an edit and its lines are expected at {name!r}")
+        at = next(at for at, line in enumerate(own) if word_of(line) not in FIRST)
+        file = [] if word_of(own[at]) == "file" else of_file
+        yield name, [*own[:at], *file, *own[at:], *of_test]
+
+
+def edits_in(folder, kind=Edit):
+    """The edits that a folder holds, by their names."""
+    files = sorted(pathlib.Path(folder).glob("*.edits"))
+    found = [kind(path, *it) for path in files for it in sections(path.read_text(encoding="utf-8"))]
+    if len({it.stem for it in found}) < len(found):
+        raise ValueError(f"{folder}: two edits have one name")
+    return sorted(found, key=lambda it: it.stem)
+
+
+def edits_of(crate, folder, kind=Edit):
+    return edits_in(TOP / "crates" / crate / folder, kind)
+
+
+def write_goal(edit, goal):
+    """Writes the goal that refuses an edit below its lines, or takes that away where there is none."""
+    head, *others = edit.path.read_text(encoding="utf-8").rstrip("\n").split("\n\n")
+    for at, text in enumerate(others):
+        if text.partition("\n")[0] == edit.stem:
+            others[at] = text.partition(GOAL)[0] + (f"{GOAL}{goal}" if goal else "")
+    edit.path.write_text("\n\n".join([head, *others]) + "\n", encoding="utf-8")
+    edit.goal = goal

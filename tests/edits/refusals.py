@@ -1,0 +1,257 @@
+#!/usr/bin/env python3
+"""Tries wrong bodies and wrong definitions, several of one crate in one check: each must be refused at its goal.
+
+    tests/edits/refusals.py                             as in the gate: what tests/edits/choice.py chooses
+    tests/edits/refusals.py --audit                     every one
+    tests/edits/refusals.py [--told] CRATE | CRATE/NAME ..   these; with --told, what refused each is written as its goal
+
+What a refusal is, say tests/edits/body_trial.py and tests/edits/definition_trial.py; how edits are written, tests/edits/edits.py. One that is
+not refused has failed, and so has one that is refused at another goal than the one below its lines, unless with --told.
+
+Of each crate of which a body is tried the functions that these edits change are proved once more as they are, into its
+out/incremental, since rt ci keeps its proofs for itself; the whole crate is, where an edit changes more than bodies.
+It stands on the libraries that rt ci left; where there are none, they are built. Without words the library for C is
+always proved as a whole, because that proof also builds it, crates/pikhsen_c/out/libpikhsen_c.a, for tests/library/c_face.py.
+Of a crate of which a definition is tried no code is proved.
+"""
+import argparse
+import math
+import os
+import pathlib
+import shutil
+import sys
+import tempfile
+import threading
+import time
+
+sys.path += map(str, pathlib.Path(__file__).resolve().parents[1].iterdir())  # the other folders of tests/
+import body_trial
+import definition_trial
+import gate_page
+from choice import Choice
+from definitions import Definitions, wrong_definitions_of
+from definitions import in_groups as definitions_in_groups
+from edits import BODIES, edits_of, write_goal
+from toolchain import LOGIC, build, left_by_ci, rt, told
+from tree import TOP
+
+LEVEL = "x86-64-v2"  # what the gate builds for
+CHECKS = 3  # for each processor, where so few bodies are tried that their checks would not fill all processors
+UNKNOWN = 60, 15  # the seconds of a proof, and of the trial of a body, where docs/crates.tsv has none
+TIMES = TOP / "bin" / "wrong-bodies.tsv"
+
+
+def arguments():
+    parser = argparse.ArgumentParser()
+    parser.add_argument("--audit", action="store_true")
+    parser.add_argument("--told", action="store_true")
+    parser.add_argument("asked", nargs="*")
+    return parser.parse_args()
+
+
+class Crate:
+    """The edits of a crate, and those of them that are tried now."""
+
+    def __init__(self, crate, definitions):
+        self.crate, self.name, self.seconds, self.is_built = crate, crate.name, 0, False
+        self.bodies, self.definitions = edits_of(crate.name, BODIES), wrong_definitions_of(crate.name, definitions)
+        row = gate_page.seconds_of_crates().get(crate.name, {})
+        self.of_proof, of_bodies = int(row.get("check") or UNKNOWN[0]), row.get("bodies")
+        self.of_body = int(of_bodies or UNKNOWN[1] * len(self.bodies)) / max(1, len(self.bodies))
+        self.keep([*self.bodies, *self.definitions])
+
+    def keep(self, edits):
+        """Leaves these to be tried."""
+        self.now = [it for it in self.bodies if it in edits], [it for it in self.definitions if it in edits]
+
+    def places(self):
+        """What the trials of its edits are over: the crate, its vectors, and the definitions of those below. What a call
+        below promises is not among it, beyond these definitions."""
+        of_own = [f"crates/{it}/{part}" for it in (self.name, f"{self.name}_tests") for part in ("src", "specs", "proofs")]
+        return of_own + [f"crates/{it.name}/specs" for it in self.crate.below()]
+
+    def proved(self):
+        """The functions that are proved for a trial of what is tried now, and none where it is the whole crate. What the
+        types refuse is refused before anything is proved."""
+        is_whole = self.is_built or not all(it.is_shared or it.types for it in self.now[0])
+        return [] if is_whole else body_trial.changed(self.now[0])
+
+    def seconds_of_proof(self):
+        """The seconds that this proof is likely to take."""
+        functions = self.proved()
+        part = len(functions) / len(body_trial.changed(self.bodies)) if functions else 1
+        return math.ceil(self.of_proof * part) if self.now[0] or self.is_built else 0
+
+
+def choose(crates, choice):
+    """Leaves of each crate's edits those that are tried in the gate, and says which are in turn: groups that share a check."""
+    new, units = set(), {}
+    for it in crates:
+        places = it.places()
+        new |= {edit for edit in [*it.bodies, *it.definitions] if choice.is_new(edit, places)}
+        groups = [edits for edits, _ in body_trial.in_groups([edit for edit in it.bodies if edit not in new])]
+        groups += definitions_in_groups([edit for edit in it.definitions if edit not in new])
+        units.update({f"{group[0].name} ({len(group)})": group for group in groups})
+    tenth = choice.tenth(units)
+    for it in crates:
+        it.keep(new.union(*(units[name] for name in tenth)))
+    return f"{choice.said()}: {len(new)} edits are new; in turn by {choice.head[:12]}: {', '.join(sorted(tenth))}"
+
+
+class Run:
+    """Trials side by side: what came of them."""
+
+    def __init__(self, crates, asked, room):
+        self.crates, self.asked, self.room = {it.name: it for it in crates}, asked, room
+        self.passed, self.failed, self.done, self.lock = 0, [], 0, threading.Lock()
+        bodies, definitions = (sum(len(it.now[at]) for it in crates) for at in (0, 1))
+        self.all = bodies + definitions
+        self.most = max(1, min(body_trial.MOST, math.ceil(bodies / (CHECKS * rt.processors()))))
+        self.proofs = sum(it.seconds_of_proof() for it in crates)
+
+    def say(self, text):
+        print(text, flush=True)
+
+    def fail(self, name, said):
+        with self.lock:
+            self.failed.append(name)
+            self.say(f"{name}: {said}")
+
+    def build(self, crate, jobs):
+        """Whether the library is built, over those below it."""
+        if said := build(crate, jobs):
+            with self.lock:
+                self.say(said)
+        return not said
+
+    def check(self, it, jobs):
+        """What a check of the crate as it is answers and prints, or of what is proved of it for its edits, into
+        out/incremental; where it is built, the library for C is made by it."""
+        crate, flags = it.crate, ["--jobs", str(jobs)]
+        archive = f"{crate.folder}/out/lib{crate.name}.a"
+        if not it.is_built:
+            ran = rt.checked(crate, {}, [*flags, *(f"--only={place}" for place in it.proved())], f"{crate.folder}/out/incremental")
+            return ran.returncode, ran.stdout
+        os.makedirs(os.path.dirname(archive), exist_ok=True)
+        pathlib.Path(archive).unlink(missing_ok=True)
+        return told(crate, lambda it: it.build_static([*flags, "--cpu", LEVEL]))
+
+    def prove(self, name, jobs):
+        """Whether the crate is proved as it is, or what its edits change, so that a check proves again what edits change
+        alone. It gets as many jobs as there are idle processors, or its share of all where that is more."""
+        it, begun = self.crates[name], time.monotonic()
+        share = round(rt.processors() * it.seconds_of_proof() / max(self.proofs, 1))
+        status, said = self.check(it, max(jobs, share) if rt.free() > share * rt.need(it.crate) else jobs)
+        if status:
+            self.fail(name, said[-2000:])
+        else:
+            with self.lock:
+                self.say(f"{name}: proved as it is, {time.monotonic() - begun:.0f} s")
+        return status == 0
+
+    def is_right(self, name):
+        """Whether a shared check of the right bodies of what a crate's edits change leaves nothing open."""
+        it, begun = self.crates[name], time.monotonic()
+        right = f"{self.room}/right/{name}"
+        shutil.copytree(f"{it.crate.folder}/out/incremental", f"{right}/out")
+        is_well = body_trial.is_right(it.crate, it.now[0], f"{right}/sources", f"{right}/out")
+        shutil.rmtree(right)
+        it.seconds += time.monotonic() - begun
+        if not is_well:
+            self.fail(name, "with an answer that belongs to no goal its right bodies leave some open")
+        return is_well
+
+    def attempt(self, name, edits, call):
+        """Tries a group over what the crate keeps, and judges what came of it."""
+        it, begun = self.crates[name], time.monotonic()
+        lane, kept = f"{self.room}/lane-{threading.get_ident()}", f"{it.crate.folder}/out/incremental"
+        if not os.path.isdir(f"{lane}/{name}"):
+            shutil.rmtree(lane, ignore_errors=True)
+            os.makedirs(lane)
+            if os.path.isdir(kept):
+                shutil.copytree(kept, f"{lane}/{name}")
+        answers = call(it.crate, edits, f"{lane}/sources", f"{lane}/{name}")
+        with self.lock:
+            for edit, answer in zip(edits, answers):
+                self.judge(edit, *answer)
+            it.seconds += (time.monotonic() - begun) * (edits[0] in it.bodies)
+            self.done += len(edits)
+            self.say(f"{name}: {len(edits)} tried, {time.monotonic() - begun:.0f} s ({self.done} of {self.all})")
+
+    def judge(self, edit, goal, said=""):
+        """Whether an edit is refused at its goal; with --told the goal that refuses it becomes that."""
+        if goal and goal != edit.goal and self.asked.told:
+            write_goal(edit, goal)
+        if goal and goal == edit.goal:
+            self.passed += 1
+        else:
+            self.failed.append(edit.name)
+            said = f"refused at {goal}, and its line says: refused: {edit.goal}" if goal else said
+        if self.asked.told or goal != edit.goal:
+            self.say(f"{edit.name}: {said or f'refused at {goal}'}")
+
+    def tasks(self, crates):
+        """What is done, for the toolchain's scheduler: proofs after the libraries below them, bodies after the proof."""
+        needed = [it for it in crates if it.name in self.crates]
+        below = [it for it in crates if any(it in other.below() for other in needed)]
+        built, found = [] if left_by_ci(below) else below, {}
+
+        def put(key, crate, seconds, waits, call):
+            found[key] = waits, math.ceil(seconds), rt.need(crate), lambda given, jobs: (
+                all(given[it] for it in waits) and call(jobs))
+
+        for crate in built:
+            waits = [(it.name, "library") for it in crate.below()]
+            put((crate.name, "library"), crate, 60, waits, lambda jobs, it=crate: self.build(it, jobs))
+        for crate in needed:
+            it, name, proof = self.crates[crate.name], crate.name, (crate.name, "proof")
+            waits = [(below.name, "library") for below in crate.below() if below in built]
+            if it.now[0] or it.is_built:
+                put(proof, crate, it.seconds_of_proof(), waits, lambda jobs, name=name: self.prove(name, jobs))
+            if it.now[0]:
+                put((name, "right"), crate, it.of_body * len(it.now[0]) / 2, [proof], lambda jobs, name=name: self.is_right(name))
+            for at, (group, texts) in enumerate(body_trial.in_groups(it.now[0], self.most)):
+                def call(crate, edits, folder, kept, texts=texts):
+                    return body_trial.tried(crate, edits, texts, folder, kept)
+                put((name, "edits", at), crate, it.of_body * len(group), [proof], lambda jobs, name=name, group=group, call=call: (
+                    self.attempt(name, group, call)))
+            after = [proof] if proof in found else waits
+            for at, group in enumerate(definitions_in_groups([edit for edit in it.now[1] if not edit.wrong])):
+                put((name, "edits", f"definitions {at}"), crate, UNKNOWN[1], after, lambda jobs, name=name, group=group: (
+                    self.attempt(name, group, definition_trial.tried)))
+        return found
+
+
+def main():
+    asked, begun = arguments(), time.monotonic()
+    every, definitions = rt.rtlib.crates_below(str(TOP)), Definitions()
+    crates, said = [Crate(it, definitions) for it in every], ""
+    unknown = {*asked.asked} - {name for it in crates for edit in [*it.bodies, *it.definitions] for name in (it.name, edit.name)}
+    if unknown:
+        sys.exit(f"no crate has these edits: {', '.join(sorted(unknown))}")
+    for it in crates if asked.asked else ():
+        it.keep([edit for edit in [*it.bodies, *it.definitions] if {it.name, edit.name} & {*asked.asked}])
+    if not asked.asked and not asked.audit:
+        said = choose(crates, Choice(LOGIC))
+    for it in crates:
+        it.is_built = not asked.asked and it.crate.is_static
+    with tempfile.TemporaryDirectory(prefix="refusals-") as room:
+        run = Run([it for it in crates if any(it.now) or it.is_built], asked, room)
+        if said:
+            run.say(said)
+        for edit in (edit for it in crates for edit in it.now[1] if edit.wrong):
+            run.judge(edit, None, edit.wrong)
+        rt.in_lanes(run.tasks(every))
+    if not asked.asked:
+        rows = [f"{it.name}\t{len(it.now[0])}\t{it.seconds:.0f}" for it in crates]
+        TIMES.parent.mkdir(exist_ok=True)
+        TIMES.write_text("\n".join(["crate\ttried\tseconds", *rows]) + "\n", encoding="utf-8")
+    of_all = sum(len(it.bodies) + len(it.definitions) for it in crates)
+    print(f"{run.all} of {of_all} tried, in {time.monotonic() - begun:.0f} s")
+    print("".join(f"FAILED: {name}\n" for name in run.failed) + f"{run.passed} passed, {len(run.failed)} failed")
+    return 1 if run.failed or run.passed < run.all else 0
+
+
+if __name__ == "__main__":
+    os.chdir(TOP)
+    sys.exit(main())

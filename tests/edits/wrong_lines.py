@@ -1,0 +1,161 @@
+#!/usr/bin/env python3
+"""Puts wrong lines into what stands outside the proofs, in copies: module, header, pages, completions, packaging, and
+sources where no contract sees what they do. A test must find each.
+
+    tests/edits/wrong_lines.py                  as in the gate: what tests/edits/choice.py chooses
+    tests/edits/wrong_lines.py --audit          every one
+    tests/edits/wrong_lines.py [--told] NAME..  these; with --told what the test said of each is written as its goal
+
+How edits are written, says tests/edits/edits.py: `test:` names the test that must fail, and `refused:` has the first that it
+must then say. A test that fails over an unchanged copy finds nothing.
+"""
+import argparse
+import concurrent.futures
+import os
+import pathlib
+import re
+import shutil
+import subprocess
+import sys
+import tempfile
+import time
+
+sys.path += map(str, pathlib.Path(__file__).resolve().parents[1].iterdir())  # the other folders of tests/
+from choice import Choice
+from edits import LINES, edits_in, write_goal
+from tree import TOP
+
+# What a copy has of its own, and what it shares with this tree, since no edit changes it.
+COPIED = ("completions", "docs", "include", "man", "packaging", "python", "tests")
+SHARED = ("bench", "bin/x86-64-v2")
+# Tests of the sources: of the crates, which the others share, these have what they read in a copy.
+OF_SOURCES = ("tests/sources/sources.sh", "tests/pages/definitions_told.py")
+# The words after each test that an edit may name (LIB is a folder with a built library), how long it takes, and what it
+# needs beside Python: without that, it finds nothing.
+SCRYPT = TOP / "bin/x86-64-v2/scrypt"
+TESTS = {
+    "tests/pages/values.py": ([], 1, ["bash"]), "tests/pages/documents.py": ([], 5, []), "tests/build/first_run.py": ([], 8, []),
+    "tests/build/build_scripts.py": ([], 20, ["gcc", "dpkg-deb"]), "tests/library/python_module.py": (["LIB"], 6, ["gcc"]),
+    "tests/library/packages.py": (["LIB"], 9, ["gcc", "dpkg-deb", SCRYPT]), "tests/library/c_face.py": (["--header", "LIB"], 6, ["gcc", "g++"]),
+    "tests/sources/sources.sh": ([], 2, []), "tests/programs/story.py": (["--recipes", "bin/x86-64-v2"], 25, ["bash", "dash", SCRYPT]),
+    "tests/build/steps_test.py": ([], 4, []), "tests/pages/definitions_told.py": (["--check"], 8, []),
+}
+# What a test says of what it finds: a comparison that fails, a name that is not there, or how it ended.
+SAID = re.compile(r"^(?:FAILED|not there:) (.*)$|^(\w*(?:Error|Exception)\b.*)$", re.MULTILINE)
+# A test of the sources: each line but those of the sources themselves, which it shows with their numbers.
+SAID_OF_SOURCES = re.compile(r"^(?!(?:crates/\S+:)?\d+:)(.+)$()", re.MULTILINE)
+# What is another each time: a sum, and a folder that was made for the trial.
+VARIES = re.compile(r"[0-9a-f]{16,}|/tmp/\S*/")
+
+
+def sources(test):
+    """What a test of the sources reads of the crates: all, or code and definitions, and where a proof is written by hand."""
+    for folder, folders, files in os.walk(TOP / "crates"):
+        folders[:] = [it for it in folders if it != "out"]
+        read = (it for it in files if test != "tests/sources/sources.sh" or it.endswith(".rt") or it == "Proof.antt" or "/specs" in folder)
+        yield from (pathlib.Path(folder, it) for it in read)
+
+
+def copy_of(folder, test):
+    """A copy of what edits of this test change, with links to the rest."""
+    top = pathlib.Path(folder)
+    for name in COPIED:
+        shutil.copytree(TOP / name, top / name, ignore=shutil.ignore_patterns("__pycache__", LINES.name))
+    for file in TOP.iterdir():
+        if file.is_file():
+            shutil.copy(file, top)
+    for path in sources(test) if test in OF_SOURCES else ():
+        to = top / path.relative_to(TOP)
+        to.parent.mkdir(parents=True, exist_ok=True)
+        shutil.copyfile(path, to)
+    for name in SHARED if test in OF_SOURCES else (*SHARED, "crates"):
+        (top / name).parent.mkdir(parents=True, exist_ok=True)
+        if (TOP / name).exists():
+            os.symlink(TOP / name, top / name)
+    return top
+
+
+def said_by(test, lib, edit=None):
+    """The first that a test finds wrong in a copy with an edit, or without one; None where it finds nothing."""
+    with tempfile.TemporaryDirectory(prefix="pikhsen-line-") as folder:
+        top = copy_of(folder, test)
+        made = edit.put({}, top) if edit else ({},)
+        for file, text in made[0].items() if made else ():
+            (top / file).write_text(text, encoding="utf-8")
+        words = [str(lib) if it == "LIB" else it for it in TESTS[test][0]]
+        ran = subprocess.run([top / test, *words], cwd=top, env={**os.environ, "PYTHONDONTWRITEBYTECODE": "1"},
+                             stdout=subprocess.PIPE, stderr=subprocess.STDOUT, text=True)
+        if ran.returncode == 0 or not made:
+            return None
+        said = SAID_OF_SOURCES if test in OF_SOURCES else SAID
+        found = [failed or ended for failed, ended in said.findall(ran.stdout)]
+        first = (found or [f"status {ran.returncode}"])[0].replace("\t", " ").replace(str(top), "..")
+        return VARIES.sub(lambda it: "" if "/" in it[0] else "..", first)[:120].rstrip()
+
+
+def that_can_be_tried(edits):
+    """Those whose test has what it needs here; of the others what is missing is said."""
+    lacking = {test: [it for it in needs if not shutil.which(it)] for test, (_, _, needs) in TESTS.items()}
+    for test in sorted({it.test for it in edits if lacking[it.test]}):
+        print(f"{', '.join(map(str, lacking[test]))}: not there, so edits of {test} are not tried")
+    return [it for it in edits if not lacking[it.test]]
+
+
+def library_for(edits, folder):
+    """A folder with the built library, where a test of these needs one."""
+    if any("LIB" in TESTS[it.test][0] for it in edits):
+        subprocess.run([TOP / "packaging/lib.sh", folder], check=True)
+        # in the place of that for the higher level, whose code no test of an edit looks at
+        higher = pathlib.Path(folder, "glibc-hwcaps/x86-64-v3")
+        higher.mkdir(parents=True)
+        shutil.copy(f"{folder}/libpikhsen.so.0", higher)
+    return pathlib.Path(folder)
+
+
+def trial(edits, lib):
+    """What its test says of each edit, where that finds nothing in a copy without one."""
+    tests = sorted({it.test for it in edits}, key=lambda it: -TESTS[it][1])
+    with concurrent.futures.ThreadPoolExecutor(int(os.environ.get("JOBS") or len(os.sched_getaffinity(0)))) as pool:
+        right = {it: pool.submit(said_by, it, lib) for it in tests}
+        found = {it: pool.submit(said_by, it.test, lib, it) for it in sorted(edits, key=lambda it: -TESTS[it.test][1])}
+    for test in tests:
+        if right[test].result():
+            print(f"{test} without an edit: {right[test].result()}")
+    return {it: None if right[it.test].result() else found[it].result() for it in edits}
+
+
+def main():
+    parser = argparse.ArgumentParser()
+    parser.add_argument("--audit", action="store_true")
+    parser.add_argument("--told", action="store_true")
+    parser.add_argument("names", nargs="*", metavar="NAME")
+    asked, begun, said = parser.parse_args(), time.monotonic(), ""
+    edits = edits_in(LINES)
+    wrong = [it.name for it in edits if it.test not in TESTS] + sorted({*asked.names} - {it.name for it in edits})
+    if wrong:
+        sys.exit(f"no edit of this name, or its test is none of these: {', '.join(wrong)}")
+    wanted = [it for it in edits if it.name in asked.names or not asked.names]
+    if not asked.names and not asked.audit:
+        # no toolchain has a part in these trials
+        choice = Choice(None)
+        new = {it.name for it in edits if choice.is_new(it, [*it.files, str(pathlib.PurePath(it.test).parent)])}
+        tenth = choice.tenth({it.name for it in edits} - new)
+        wanted, said = [it for it in edits if it.name in {*new, *tenth}], f"{choice.said()}: {len(new)} lines are new"
+    now = that_can_be_tried(wanted)
+    with tempfile.TemporaryDirectory(prefix="pikhsen-lines-") as folder:
+        found = trial(now, library_for(now, folder))
+    lost = [it for it in now if found[it] != it.goal]
+    for edit in lost if asked.told else ():
+        if found[edit]:
+            write_goal(edit, found[edit])
+    lost = [it for it in lost if found[it] != it.goal]
+    for edit in now if asked.told else lost:
+        print(f"{'FAILED ' * (edit in lost)}{edit.name}: {found[edit] or 'not found, or what it replaces does not stand there once'}")
+    left_out = len(wanted) - len(now)
+    print(said, f"{len(now)} of {len(edits)} tried" + f", {left_out} left out" * bool(left_out) + f", in {time.monotonic() - begun:.0f} s")
+    print(f"{len(now) - len(lost)} passed, {len(lost)} failed")
+    sys.exit(1 if lost or left_out and asked.audit else 0)
+
+
+if __name__ == "__main__":
+    main()

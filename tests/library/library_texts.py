@@ -1,0 +1,229 @@
+#!/usr/bin/env python3
+"""Reads what is written of libpikhsen, and compares it: header, sources, module for Python and manual page have the
+same functions, parameters, fields and versions. Their numbers and sentences are compared by tests/pages/values.py, which
+calls this.
+
+    tests/library/library_texts.py
+"""
+import os
+import pathlib
+import re
+import subprocess
+import sys
+
+sys.path += map(str, pathlib.Path(__file__).resolve().parents[1].iterdir())  # the other folders of tests/
+from checking import Checks, is_there, said
+
+TOP = pathlib.Path(__file__).resolve().parents[2]
+HEADER = (TOP / "include/pikhsen.h").read_text(encoding="utf-8")
+MODULE = (TOP / "python/pikhsen.py").read_text(encoding="utf-8")
+PAGE = (TOP / "man/pikhsen.3").read_text(encoding="utf-8")
+SOURCES = {it.stem: it.read_text(encoding="utf-8") for it in sorted((TOP / "crates/pikhsen_c/src").glob("*.rt"))}
+# How the parameter NAME of a type of the sources is written in C.
+IN_C = {
+    "Machine": (),
+    "Told": ("unsigned int NAME",),
+    "u32": ("unsigned int NAME",),
+    "u64": ("pikhsen_u64 NAME",),
+    "usize": ("size_t NAME",),
+    "&[u8]": ("const unsigned char *NAME", "size_t NAME_len"),
+    "&mut [u8]": ("unsigned char *NAME", "size_t NAME_len"),
+    "&mut usize": ("size_t *NAME",),
+    "&mut u32": ("unsigned int *NAME",),
+    "&mut PikhsenScryptCosts": ("struct pikhsen_scrypt_costs *NAME",),
+    "&PikhsenArgon2Settings": ("const struct pikhsen_argon2_settings *NAME",),
+    "&mut PikhsenArgon2Settings": ("struct pikhsen_argon2_settings *NAME",),
+}
+# The exports that want no memory, and derive and hash nothing.
+NO_MACHINE = ["pikhsen_message", "pikhsen_scrypt_info", "pikhsen_version"]
+# The faults whose numbers have names of their own in the header.
+RENAMED = {
+    "CostFault::Memory": "MEMORY_LIMIT",
+    "CostFault::Work": "WORK_LIMIT",
+    "HeaderFault::Version": "FORMAT_VERSION",
+    "HeaderFault::CostsOutOfRange": "FILE_COSTS",
+    "ReadFault::NotInGrammar": "NOT_ENCODED",
+    "RangeFault::Version": "TEXT_VERSION",
+    "RangeFault::Passes": "TEXT_PASSES",
+    "RangeFault::Lanes": "TEXT_LANES",
+    "RangeFault::Memory": "TEXT_MEMORY",
+    "RangeFault::TagLength": "TEXT_TAG_LENGTH",
+    "RangeFault::SaltLength": "TEXT_SALT_LENGTH",
+}
+
+
+def declared_exports():
+    """The exported functions of the sources, each with its parameters and its result."""
+    form = r'#\[unsafe\(no_mangle\)\]\npub extern "C" fn (\w+)\(([^)]*)\) -> (\w+)\n'
+    return re.findall(form, "\n".join(SOURCES.values()))
+
+
+def exports():
+    """The same, with result and parameters as the header must have them."""
+    found = {}
+    for name, parameters, result in declared_exports():
+        pairs = [it.strip().split(": ") for it in parameters.split(",") if it.strip()]
+        words = [word.replace("NAME", called) for called, kind in pairs for word in IN_C[kind]]
+        found[name] = (IN_C[result][0].replace(" NAME", ""), words or ["void"])
+    return found
+
+
+def prototypes(text):
+    """The functions that a text in C declares, in the same form."""
+    attributes = r"^PIKHSEN_MUST_CHECK(?: PIKHSEN_NOT_NULL\(\d+\))*\n"
+    bare = re.sub(rf"/\*.*?\*/|{attributes}", "", text, flags=re.DOTALL | re.MULTILINE)
+    found = {}
+    for result, name, parameters in re.findall(r"^(unsigned int) (\w+)\(([^)]*)\);", bare, re.MULTILINE):
+        found[name] = (result, [" ".join(it.split()) for it in parameters.split(",")])
+    return found
+
+
+def never_null(parameters):
+    """The places of pointers without a length, counted from 1: only these may not be null."""
+    plain = [it.removeprefix("const ") for it in parameters]
+    return [at for at, it in enumerate(plain, 1) if "*" in it and not it.startswith("unsigned char *")]
+
+
+def numbers_of_sources():
+    """The numbers of `status`, by the names that the header gives them."""
+    constants = dict(re.findall(r"const (\w+): u32 = (\d+);", SOURCES["status"]))
+    numbers = {name: int(number) for name, number in constants.items()}
+    for kind, fault, number in re.findall(r"(\w+Fault)::(\w+) => (\w+),", SOURCES["status"]):
+        name = RENAMED.get(f"{kind}::{fault}") or re.sub(r"(?<!^)(?=[A-Z])", "_", fault).upper()
+        value = int(constants.get(number, number)) if not number.isdigit() else int(number)
+        if numbers.setdefault(name, value) != value:
+            numbers[name] = None
+    return numbers
+
+
+def numbers_of_header():
+    """The numbers and what they say."""
+    table = HEADER.split("enum pikhsen_status {")[1].split("}")[0]
+    found = re.findall(r"PIKHSEN_(\w+) = (\d+),? */\* (.*) \*/", table)
+    return {name: (int(number), says) for name, number, says in found}
+
+
+def numbers_of_module():
+    table = MODULE.split("class Status(")[1].split("\nclass ")[0]
+    numbers = dict(re.findall(r"^    (\w+) = (\d+)$", table, re.MULTILINE))
+    says = dict(re.findall(r"^    Status\.(\w+): ['\"](.*)['\"],$", MODULE, re.MULTILINE))
+    return {name: (int(number), says.get(name)) for name, number in numbers.items()}
+
+
+def numbers_of_page():
+    found = re.findall(r"^(\d+)\tPIKHSEN_(\w+)\tT\{\n(.*)\nT\}", PAGE.replace("\\-", "-"), re.MULTILINE)
+    return {name: (int(number), says) for number, name, says in found}
+
+
+def kinds():
+    """The numbers of Argon2's types: of the sources, the header and the module."""
+    sources = re.findall(r"^        (\d) => Some\(Kind::(\w+)\),", SOURCES["argon2"], re.MULTILINE)
+    header = re.findall(r"PIKHSEN_ARGON2(\w+) = (\d)", HEADER.split("enum pikhsen_kind {")[1].split("}")[0])
+    module = re.findall(r"^    (\w+) = (\d)$", MODULE.split("class Kind(")[1].split("class ")[0], re.MULTILINE)
+    return [{name.upper(): int(it) for it, name in sources}, *(
+        {name: int(it) for name, it in each} for each in (header, module)
+    )]
+
+
+def sentences():
+    """What each number says: in the sources, and in the definitions that their contracts cite; and what others say."""
+    defined = (TOP / "crates/pikhsen_c/specs/Message.antt").read_text(encoding="utf-8")
+    found = []
+    for form, other, text in ((r'^        (\d+) => "(.*)",$', r'^        _ => "(.*)",$', SOURCES["message"]),
+                              (r'if status == (\d+) then codes "(.*)"$', r'^    else codes "(.*)"$', defined)):
+        table = {int(number): says.replace('\\"', '"') for number, says in re.findall(form, text, re.MULTILINE)}
+        found.append((table, re.findall(other, text, re.MULTILINE)))
+    return found
+
+
+def fields(file, rust, c, python):
+    """The fields of what is told, in their order: of the sources, the header and the module."""
+    sources = re.search(rf"\npub struct {rust} \{{\n(.*?)\n\}}", SOURCES[file], re.DOTALL)[1]
+    header = re.search(rf"struct {c} \{{\n(.*?)\n\}};", HEADER, re.DOTALL)[1]
+    lines = re.findall(r"\t(\w[\w ]*?) (\w+(?:, \w+)*);", header)
+    module = re.search(rf"class {python}\(ctypes.Structure\):\n    _fields_ = \[(.*?)\]\n", MODULE, re.DOTALL)[1]
+    in_c, in_python = {"unsigned int": "u32", "size_t": "usize"}, {"c_uint": "u32", "c_size_t": "usize"}
+    return [re.findall(r"pub (\w+): (\w+),", sources),
+            [(it, in_c.get(kind)) for kind, names in lines for it in names.split(", ")],
+            [(it, in_python.get(kind)) for it, kind in re.findall(r'\("(\w+)", (\w+)\)', module)]]
+
+
+def compare_texts(checks):
+    of_costs = fields("file", "PikhsenScryptCosts", "pikhsen_scrypt_costs", "_Costs")
+    checks.that("fields of the costs", of_costs, [[("log_n", "u32"), ("r", "u32"), ("p", "u32")]] * 3)
+    of_settings = fields("settings", "PikhsenArgon2Settings", "pikhsen_argon2_settings", "_Settings")
+    numbers = [(it, "u32") for it in ("kind", "version", "passes", "memory_kib", "lanes")]
+    checks.that("fields of settings", of_settings, [[*numbers, ("salt_len", "usize"), ("tag_len", "usize")]] * 3)
+    of_header = dict(numbers_of_header().values())
+    others = ["unknown number"]
+    checks.that("sentences of the sources and of their contracts", sentences(), [(of_header, others)] * 2)
+    room = int(re.search(r"\n#define PIKHSEN_MESSAGE_ROOM (\d+)\n", HEADER)[1])
+    short = f"    ensures room {{ {room} ≤ length out.old → result ≡ 0 }}\n"
+    checks.that("room of a sentence, of the header and the contract", short in SOURCES["message"], True)
+    form = r"^PIKHSEN_MUST_CHECK((?: PIKHSEN_NOT_NULL\(\d+\))*)\nunsigned int (\w+)"
+    found = re.findall(form, HEADER, re.MULTILINE)
+    must_check = {name: [int(place) for place in re.findall(r"\d+", attributes)] for attributes, name in found}
+    checks.that("answers that must be looked at", sorted([*must_check, "pikhsen_version"]), sorted(exports()))
+    declared = prototypes(HEADER)
+    for name, places in must_check.items():
+        checks.that(f"header: what may not be null of {name}", places, never_null(declared[name][1]))
+    checks.that("names of header and exports", sorted(declared), sorted(exports()))
+    for name, form in exports().items():
+        checks.that(f"header: {name}", declared.get(name), form)
+    for name, parameters, result in declared_exports():
+        # `burn` alone makes a `Told`, of a machine
+        expected = (0, "u32") if name in NO_MACHINE else (1, "Told")
+        checks.that(f"{name}: machines, and what it returns", (parameters.count(": Machine"), result), expected)
+    synopsis = re.sub(r"\n +", " ", PAGE.split("\n.SH ")[2])
+    checks.that("prototypes of the manual page", prototypes(synopsis), declared)
+    overheads = [re.findall(form, text) for form, text in (
+        (r"\n#define PIKHSEN_FILE_OVERHEAD (\d+)\n", HEADER), (r"PIKHSEN_FILE_OVERHEAD ,\n(\d+), bytes longer", PAGE)
+    )]
+    checks.that("overhead of a file, of the header and the manual page", overheads, [["128"]] * 2)
+    version = (TOP / "VERSION").read_text(encoding="utf-8").strip()
+    first_lines = PAGE.split("\n")[:2]
+    checks.that("the manual page asks for tbl", first_lines[0], "'\\\" t")
+    checks.that("version of the manual page", f'"Pikhsen {version}"' in first_lines[1], True)
+    if is_there("mandoc", "the manual page is not looked at"):
+        checks.that("manual page", said("mandoc", "-T", "lint", str(TOP / "man/pikhsen.3"), check=False), "")
+    if is_there("mypy", "types of the Python module are not looked at"):
+        checks.that("types of the Python module and of its callers", types(MYPYPATH=str(TOP / "python")), (0, ""))
+    first, second, third = map(int, version.split("."))
+    number = 10000 * first + 100 * second + third
+    checks.that("version of the header", re.findall(r"PIKHSEN_VERSION (\d+)u", HEADER), [str(number)])
+    checks.that("version of the sources", f"\n    {number}\n}}" in SOURCES["version"], True)
+
+
+# What passes bytes in some forms, and a text: mypy says so where it need not be told to leave that error out.
+CALLER = """import array
+import mmap
+import pikhsen
+
+
+def costs(file: pikhsen.BytesLike) -> int:
+    return pikhsen.info(file).log_n
+
+
+with mmap.mmap(-1, 128) as file:
+    print(costs(file), pikhsen.decrypt(file, array.array("B", b"pw"), keep=2), pikhsen.verify("text", bytearray(b"pw")))
+pikhsen.info("file")  # type: ignore[arg-type]
+"""
+
+
+def types(*words, **environment):
+    """What mypy says of a caller of the module, and of the module."""
+    # the oldest Python that docs/LIBRARY.md promises
+    strict = ["mypy", "--strict", "--python-version", "3.9", "--no-error-summary", "--cache-dir=/dev/null"]
+    ran = subprocess.run([*strict, *words, "-c", CALLER], env={"PATH": os.environ["PATH"], **environment},
+                         stdout=subprocess.PIPE, stderr=subprocess.STDOUT, text=True)
+    return ran.returncode, ran.stdout
+
+
+def main():
+    checks = Checks("none")
+    compare_texts(checks)
+    checks.end()
+
+
+if __name__ == "__main__":
+    main()

@@ -1,0 +1,300 @@
+#!/usr/bin/env python3
+"""Whether crates.txt lists for each crate the libraries that it names, and what the documents name is there: files,
+links, definitions, tests, clauses and calls; whether the pictures in docs/ are drawn from them as they are, and the
+tables that scripts make of data are what they make now; whether README's first screen, its words, and all
+lines that are written by hand are few enough; whether the figures of speed on the pages are those of
+docs/benchmarks.tsv; and whether all of them name one version. What they say of options, messages and numbers is
+compared by tests/pages/values.py.
+
+Reads README.md and the other pages, docs/ and man/ against crates/, prints each name that it does not find, and fails
+where there is one.
+"""
+import pathlib
+import re
+import shutil
+import subprocess
+import sys
+
+for folder in ("bench", "packaging"):
+    sys.path.insert(0, str(pathlib.Path(__file__).resolve().parents[2] / folder))
+sys.path += map(str, pathlib.Path(__file__).resolve().parents[1].iterdir())  # the other folders of tests/
+import definitions_page
+import doc
+import edited
+import gate_page
+import pages
+import promises
+import ratios
+from definitions import wrong_definitions_of
+from definitions_page import is_definition
+from edits import BODIES, LINES, edits_in, edits_of
+from proof_map import drawn, small
+
+TOP = pathlib.Path(__file__).resolve().parents[2]
+PAGES = sorted(TOP.glob("*.md"))
+MANUALS = sorted((TOP / "man").glob("*.1"))
+DOCUMENTS = [*PAGES, *sorted((TOP / "docs").glob("*.md")), *MANUALS]
+IN_BACKTICKS = re.compile(r"`([^`]+)`")
+# How a goal is called: of a return, a call, a loop or a type; or it is a lemma's, or an error of the types. That a number
+# fits is no contract's.
+GOAL = re.compile(
+    r"`(?:returns|\S+-requires|loop-\S+|\S+-(?:init|preserved|smaller)|invariant_of-)[^`]*`"
+    r"(?:, at its answer)?|the lemma \w+|the types: .+"
+)
+CLAUSES_OF_THE_LIBRARY = {"steps"}  # of Iterator::next
+missing = []
+
+
+def texts(crate, folder, ending):
+    """The texts of the crate's files below this folder, by their paths in it."""
+    base = TOP / "crates" / crate / folder
+    return {str(file.relative_to(base)): file.read_text(encoding="utf-8") for file in sorted(base.rglob("*" + ending))}
+
+
+CRATES = promises.CRATES
+SOURCES = {crate: "\n".join(texts(crate, "src", ".rt").values()) for crate in CRATES}
+ALL_SOURCES = "\n".join(SOURCES.values())
+SPECS = {crate: "\n".join(texts(crate, "specs", ".antt").values()) for crate in CRATES}
+
+
+def is_function(name, crate):
+    """Whether a crate, or that of its tests, has this function."""
+    return any(re.search(rf"\bfn {re.escape(name)}\b", SOURCES.get(it, "")) for it in (crate, f"{crate}_tests"))
+
+
+def tables(document):
+    """The rows of a page's tables as lists of cells, each with the heading that it stands under."""
+    heading = ""
+    for line in (TOP / "docs" / document).read_text(encoding="utf-8").splitlines():
+        if line.startswith("#"):
+            heading = line.lstrip("# ")
+        elif line.startswith("|") and not line.startswith("|---"):
+            yield heading, [cell.strip() for cell in re.split(r"(?<!\\)\|", line)[1:-1]]
+
+
+def expect(is_there, document, name):
+    if not is_there:
+        missing.append(f"{document.name if hasattr(document, 'name') else document}: {name}")
+
+
+# What a crate stands on, with what its tests alone name: rt ci would miss it only after all below is proved.
+for crate, listed in CRATES.items():
+    proofs = "\n".join([SPECS[crate], *texts(crate, "proofs", ".antt").values()])
+    code = re.sub(r"//.*", "", SOURCES[crate]) + re.sub(r"--.*", "", proofs)
+    named = re.findall(r"(?<![\w:])(\w+)::", code) + re.findall(r"\bRattle\.(\w+)\.", code)
+    named = set(named) & {*CRATES, *sum(CRATES.values(), [])} - {crate}
+    expect(named == set(listed), "crates.txt", f"{crate} with what it names alone: {', '.join(sorted(named))}")
+    expect(not any(it.endswith("_tests") for it in listed), "crates.txt", f"{crate} with no crate of tests below it")
+
+# Files.
+for document in DOCUMENTS:
+    named = r"\b(?:crates|docs|tests|bench|man|packaging|completions)/[\w./]*[\w]\.\w+"
+    for path in re.findall(named, document.read_text(encoding="utf-8")):
+        expect((TOP / path).exists(), document, path)
+
+
+def anchors(file):
+    """What a page's headings are called in links, as GitHub makes it."""
+    text = re.sub(r"^```.*?^```$", "", file.read_text(encoding="utf-8"), flags=re.MULTILINE | re.DOTALL)
+    for title in re.findall(r"^#+ (.*)$", text, re.MULTILINE):
+        yield re.sub(r"[^\w\- ]", "", title.lower()).replace(" ", "-")
+
+
+# Links, to files and to headings. What is installed, README, CHANGELOG and docs/, links to what is installed alone, and
+# README to manual pages, which are installed elsewhere.
+for document in [*PAGES, *sorted((TOP / "docs").glob("*.md"))]:
+    for path, anchor in re.findall(r"\]\((?!https?:)([^)#\s]*)(?:#([^)\s]*))?\)", document.read_text(encoding="utf-8")):
+        target = (document.parent / path).resolve() if path else document
+        is_installed = target.parent == TOP / "docs" or target.name in ("README.md", "CHANGELOG.md")
+        is_installed = is_installed or document.name == "README.md" and target.parent == TOP / "man"
+        is_there = target.exists() and (is_installed or document.name == "CONTRIBUTING.md")
+        expect(is_there, document, f"the link to {path}")
+        if is_there and anchor:
+            expect(anchor in anchors(target), document, f"the link to {path}#{anchor}")
+
+# Figures of speed, each sentence as docs/benchmarks.tsv gives it, and some as docs/measured.tsv does.
+MEASURED = ratios.read(TOP / "docs/benchmarks.tsv")[1]
+KEPT = {(log_n, keep): (float(peak), float(seconds)) for log_n, keep, peak, seconds in pages.rows("measured.tsv", "keep")}
+# What huge pages take off the time of a work, in percent, at the levels, the least first.
+LESS = {work: sorted(round(100 - 100 * float(with_huge) / float(plain)) for plain, with_huge in (times[:2], times[2:]))
+        for work, *times in pages.rows("measured.tsv", "pages")}
+PYTHON = [[work, float(ours) / float(other)] for work, _, ours, other in pages.rows("measured.tsv", "python")]
+
+
+def seconds(work, size, level="x86-64-v3", digits=1):
+    """What a work takes here, rounded."""
+    return f"{float(MEASURED[work, size, level]['ours']):.{digits}g}"
+
+
+def between(works, sizes, level="", column="ratio", beside="theirs"):
+    """The least and the greatest ratio of these rows, as pages write it; with `beside` v2 those of v3 to v2."""
+    found = []
+    for (work, size, at), row in MEASURED.items():
+        if work.startswith(works) and (not sizes or size in sizes) and level in at:
+            found.append(float(row[column]) if beside == "theirs" else
+                         float(row["ours"]) / float(MEASURED[work, size, "x86-64-v2"]["ours"]))
+    return sorted(f"{ratio:.2f}" for ratio in found)
+
+
+HASHES, FILES = ("argon2 ", ("16", "18")), (("enc", "dec"), None)
+KEYS, BACKUPS = ("key", None), (("enc", "dec"), ("100",))
+hashes, keys, files = between(*HASHES), between(*KEYS), between(*FILES)
+levels = {level: [between(*rows, level) for rows in (HASHES, KEYS, BACKUPS)] for level in ("v2", "v3")}
+to_v2 = [between(*rows, "v3", beside="v2") for rows in (HASHES, KEYS, FILES)]
+lanes = between(tuple(f"argon2 -{kind} -t {passes} -p 4" for kind in ("d", "i", "id") for passes in (1, 3)),
+                ("12", "16", "18"), column="ratio_elapsed")
+of_threads = [f"{float(it):.1f}" for it in (lanes[0], lanes[-1])]
+lanes = [f"{1 / float(lanes[-1]):.2f}", f"{1 / float(lanes[0]):.2f}"]
+BENCHMARKS = " ".join((TOP / "docs/BENCHMARKS.md").read_text(encoding="utf-8").split())
+(slower,) = re.findall(r"ours, which cannot, took (\S+ to \S+) times as long", BENCHMARKS)
+LIBRARIES = ("libsodium", "OpenSSL")
+beside = {it: [between(it, None, level) for level in ("v2", "v3")] for it in LIBRARIES}
+LOGIN, KEY = ("argon2 -id -t 3 -p 4 -m", "16"), "key, -r 8 -p 1, --logN"
+keys_of = {log_n: seconds(KEY, log_n) for log_n in ("14", "17", "20")}
+less = [f"{float(row['theirs_MiB']) - float(row['ours_MiB']):.1f}" for (work, _, _), row in MEASURED.items()
+        if not work.startswith(LIBRARIES)]
+less.sort(key=float)
+python = {it: sorted(f"{ratio:.2f}" for work, ratio in PYTHON if work.startswith(it)) for it in ("Argon2", "scrypt")}
+SENTENCES = [
+    ("README.md", f"hashes {hashes[0]} to {hashes[-1]}, keys {keys[0]} to {keys[-1]}, files {files[0]} to {files[-1]}"),
+    ("README.md", f"hashes from 4 MiB on, `-p 4` | 1 (threads) | {of_threads[0]} to {of_threads[1]} |"),
+    ("README.md", f"SHA instructions | 1 | {slower} |"),
+    ("README.md", f"with `--keep 16`: {KEPT['20', '16'][0]:.0f} MiB, and "
+                  f"{KEPT['20', '16'][1] / KEPT['20', '1'][1]:.1f} times the time"),
+    ("README.md", f"takes 1 GiB and {keys_of['20']} seconds"),
+    ("README.md", f"takes 64 MiB and {seconds(*LOGIN, digits=2)} to {seconds(*LOGIN, 'x86-64-v2', digits=2)} seconds"),
+    *(("man/scrypt.1", f"{memory} and {keys_of[log_n]} seconds")
+      for log_n, memory in (("14", "16 MiB"), ("17", "128 MiB"), ("20", "1 GiB"))),
+    ("man/scrypt.1", "{} to {} percent off the processor time of a key of 128 MiB".format(
+        *LESS["a key of N = 2^17, r = 8, p = 1"])),
+    ("man/argon2.1", "{} to {} percent off the processor time of three passes over 64 MiB".format(
+        *LESS["`argon2 -id -t 3 -m 16`"])),
+    ("man/argon2.1", "{} to {} percent off that of one pass over 256 MiB".format(*LESS["`argon2 -id -t 1 -m 18`"])),
+    ("man/argon2.1", f"64 MiB, and {seconds(*LOGIN, digits=2)} to {seconds(*LOGIN, 'x86-64-v2', digits=2)} seconds"),
+    ("man/argon2.1", f"took {to_v2[0][0]} to {to_v2[0][-2]} of the processor time of those for v2 in "
+                     f"{len(to_v2[0]) - 1} of {len(to_v2[0])} settings, and {to_v2[0][-1]} in one"),
+    ("man/scrypt.1", f"took {to_v2[1][0]} to {to_v2[1][-1]} of the processor time of those for v2 for a key, and "
+                     f"{to_v2[2][0]} to {to_v2[2][-1]} for a file"),
+    ("docs/BENCHMARKS.md", f"`argon2` took {levels['v2'][0][0]} to {levels['v2'][0][-1]} of the time of Debian's if built for "
+                           f"x86-64-v2, and {levels['v3'][0][0]} to {levels['v3'][0][-1]} if built for x86-64-v3"),
+    ("docs/BENCHMARKS.md", f"{levels['v2'][1][0]} to {levels['v2'][1][-1]} for x86-64-v2, and {levels['v3'][1][0]} to "
+                           f"{levels['v3'][1][-1]} for x86-64-v3"),
+    ("docs/BENCHMARKS.md", f"{' and '.join(levels['v2'][2])} for x86-64-v2, {' and '.join(levels['v3'][2])} for x86-64-v3"),
+    *(("docs/BENCHMARKS.md", f"{v2[0]} to {v2[-1]} of the time of {it} for x86-64-v2, and {v3[0]} to {v3[-1]} for x86-64-v3")
+      for it, (v2, v3) in beside.items()),
+    ("docs/BENCHMARKS.md", f"has all {len(MEASURED)} rows"),
+    ("docs/BENCHMARKS.md", f"hashes took {python['Argon2'][0]} to {python['Argon2'][-1]} of the time of argon2-cffi, and keys "
+                           f"{python['scrypt'][0]} to {python['scrypt'][-1]} of that of `hashlib.scrypt`"),
+    ("docs/BENCHMARKS.md", f"**Memory**: {less[0]} to {less[-1]} MiB less"),
+    ("docs/BENCHMARKS.md", f"with `-p 4` it took {lanes[0]} to {lanes[1]} of our time, from 4 MiB on"),
+]
+for name, sentence in SENTENCES:
+    text = " ".join((TOP / name).read_text(encoding="utf-8").split())
+    expect(sentence in text, name, f"'{sentence}', as docs/benchmarks.tsv has it")
+
+# Definitions, each in the file of specs/ that its row names.
+for crate, cells in tables("DEFINITIONS.md"):
+    if crate in SPECS and len(cells) == 5 and cells[0] != "definition":
+        files = [f"{file}.antt" for file in IN_BACKTICKS.findall(cells[2])]
+        held = texts(crate, "specs", ".antt")
+        for file in files:
+            expect(file in held, "DEFINITIONS.md", f"{crate}: {file}")
+        text = "\n".join(held.get(file, "") for file in files)
+        for name in IN_BACKTICKS.findall(cells[0]):
+            expect(is_definition(name, text), "DEFINITIONS.md", f"{crate}: {name}")
+
+# Tests: those of a row's own crate, or of the two commands.
+for heading, cells in tables("EXAMPLES.md"):
+    if len(cells) == 4 and cells[0].isdigit():
+        for part in cells[3].split(";"):
+            named = [name for name in IN_BACKTICKS.findall(part) if " " not in name]
+            owner = [named.pop(0)] if named and named[0] in SOURCES else ["argon2_command", "scrypt_command"]
+            for name in named:
+                expect(any(is_function(name, crate) for crate in owner), "EXAMPLES.md", f"row {cells[0]}: {name}")
+
+# Edits that must fail: what each replaces stands in its place once, and the goal that refuses it is there.
+for crate in SOURCES:
+    for edit in edits_of(crate, BODIES):
+        expect(edit.texts, edit.name, "the text that it replaces, once")
+        told = GOAL.fullmatch(edit.goal)
+        clause = told and re.search(r"-clause-(\w+)`", edit.goal)
+        is_ours = clause and re.search(rf"\b(?:ensures|requires)\*? {clause[1]}\b", ALL_SOURCES)
+        is_there = told and (not clause or is_ours or clause[1] in CLAUSES_OF_THE_LIBRARY)
+        expect(is_there, edit.name, f"refused: {edit.goal}: the goal that refuses it (tests/edits/refusals.py --told {edit.name} writes it)")
+    for edit in wrong_definitions_of(crate, definitions_page.ALL):
+        expect(not edit.wrong, edit.name, edit.wrong)
+for edit in edits_in(LINES):
+    expect(edit.texts, edit.name, "the text that it replaces, once")
+    expect(edit.goal, edit.name, f"what finds it (tests/edits/wrong_lines.py --told {edit.name} writes it)")
+for crate in doc.libraries():
+    for name in edited.without_edit(crate):
+        expect(False, f"crates/{crate}/wrong-bodies", f"a wrong body of {name}, or another of which tests/pages/edited.py knows")
+
+tables_made = definitions_page.page() == definitions_page.PAGE.read_text(encoding="utf-8")
+expect(tables_made, "DEFINITIONS.md", "the tables that tests/pages/definitions_page.py makes (each run of it writes them)")
+
+# Counts and seconds of the gate.
+tables_made = gate_page.page() == gate_page.PAGE.read_text(encoding="utf-8")
+expect(tables_made, "GATE.md", "the tables that tests/pages/gate_page.py makes (each run of it writes them)")
+
+# Tables that are made of data, and how much is written by hand.
+for document in pages.PAGES:
+    text = document.read_text(encoding="utf-8")
+    expect(pages.page(text) == text, document, "the tables that tests/pages/pages.py makes (each run of it writes them)")
+made = [name for it in pages.PAGES for _, name, _ in pages.MADE.findall(it.read_text(encoding="utf-8"))]
+for name in sorted({*pages.PARTS}):
+    expect(made.count(name) == 1, "docs", f"the table '{name}', which tests/pages/pages.py makes, once")
+README = (TOP / "README.md").read_text(encoding="utf-8")
+expect(len(README.split()) < 1900, "README.md", f"fewer than 1,900 words: there are {len(README.split())}")
+screen = README.partition("\n# Using the programs\n")[0].count("\n")
+expect(screen < 45, "README.md", f"a first screen of fewer than 45 lines: there are {screen}")
+lines_by_hand = sum(pages.counted().values())
+expect(lines_by_hand <= pages.MOST_BY_HAND, "pages", f"at most {pages.MOST_BY_HAND} lines by hand: there are {lines_by_hand}")
+
+# Calls and clauses that carry a promise, and the picture of what they stand on; the definitions of each run.
+bars = ratios.drawn(TOP / "docs/benchmarks.tsv"), [f"bars that are seen: {it}" for it in ratios.faint()]
+for name, (picture, wrong), by in (
+    ("docs/proof-map.svg", drawn(), "make map"), ("docs/proof-map-small.svg", small(), "make map"),
+    ("docs/benchmarks.svg", bars, "bench/ratios.py"),
+):
+    missing += wrong
+    if not (TOP / name).exists() or picture != (TOP / name).read_text(encoding="utf-8"):
+        missing.append(f"{name} as it would be drawn now ({by})")
+for heading, cells in tables("PROMISES.md"):
+    if heading == "scrypt" and len(cells) == 3 and cells[0] != "the run":
+        for name in IN_BACKTICKS.findall(cells[2]):
+            found = any(is_definition(name, SPECS[crate]) for crate in ("scrypt_run", "scrypt_command", "encfile"))
+            expect(found, "PROMISES.md", name)
+
+
+# Public items, each with a comment.
+missing += [f"a comment of {name} (make doc shows them)" for name in doc.without_comment()]
+
+# The type of the manual pages.
+for manual in MANUALS:
+    if shutil.which("mandoc"):
+        lint = subprocess.run(["mandoc", "-T", "lint", manual], stdout=subprocess.PIPE, text=True).stdout
+        missing.extend(lint.splitlines())
+
+# One version.
+VERSION = (TOP / "VERSION").read_text(encoding="utf-8").strip()
+for manual in MANUALS:
+    expect(f'"Pikhsen {VERSION}"' in manual.read_text(encoding="utf-8").splitlines()[0], manual, f"version {VERSION}")
+expect(f"\n## {VERSION}" in (TOP / "CHANGELOG.md").read_text(encoding="utf-8"), "CHANGELOG.md", f"version {VERSION}")
+expect(f"pikhsen_{VERSION}_amd64.deb" in (TOP / "README.md").read_text(encoding="utf-8"), "README.md", f"version {VERSION}")
+
+# No mark that a merge left.
+for document in DOCUMENTS:
+    marks = re.findall(r"^(?:<{7}|={7}|>{7})(?: .*)?$", document.read_text(encoding="utf-8"), re.MULTILINE)
+    expect(not marks, document, f"the text that a merge decides on, in the place of {marks[:1]}")
+
+# Lines that fit a screen, but for tables in docs/, whose rows cannot be cut.
+for document in [*PAGES, *sorted((TOP / "docs").glob("*.md"))]:
+    for number, line in enumerate(document.read_text(encoding="utf-8").splitlines(), 1):
+        is_row = document not in PAGES and line.startswith("|")
+        expect(len(line) <= 120 or is_row, document, f"line {number} has {len(line)} columns")
+
+print(f"pages: {lines_by_hand} lines by hand, of {pages.MOST_BY_HAND} at most")
+for line in missing:
+    print(f"not there: {line}", file=sys.stderr)
+sys.exit(1 if missing else 0)

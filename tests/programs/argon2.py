@@ -1,0 +1,229 @@
+#!/usr/bin/env python3
+"""Runs the built argon2 from the outside: words, standard streams, statuses, and Debian's argon2 where it is installed.
+
+    tests/programs/argon2.py PROGRAM
+
+Expected hashes are those of Debian's argon2 (package argon2, version 0~20171227) and of RFC 9106's reference values.
+"""
+import os
+import re
+import shutil
+import subprocess
+import sys
+import tempfile
+import pathlib
+
+sys.path += map(str, pathlib.Path(__file__).resolve().parents[1].iterdir())  # the other folders of tests/
+import pages
+from checking import Checks
+
+USAGE = (
+    b"argon2: usage: argon2 salt [-i|-d|-id] [-t N] [-m N | -k N] [-p N] [-l N] [-v VERSION]"
+    b" [--maxmem KIB] [--maxops N] (-e|-r)\n"
+)
+FIRST = b"$argon2d$v=19$m=8,t=1,p=1$c29tZXNhbHQ$xRnmA6xgPsGutbcexEpheePzl1sUwMl+ORTHnmNj4Xg\n"
+I_256 = b"$argon2i$v=19$m=256,t=2,p=1$c29tZXNhbHQ$iekCn0Y3spW+sCcFanM2xBT63UP2sghkUoHLIUpWRS8\n"
+I_256_10 = b"$argon2i$v=16$m=256,t=2,p=1$c29tZXNhbHQ$/U3YPXYsSb3q9XxHvc0MLxur+GP960kN9j7emXX8zwY\n"
+ID_256 = b"$argon2id$v=19$m=256,t=2,p=1$c29tZXNhbHQ$nf65EOgLrQMR/uIPnA4rEsF5h7TKyQwu9U1bMCHGi/4\n"
+ID_RAW = b"6d093c501fd5999645e0ea3bf620d7b8be7fd2db59c20d9fff9539da2bf57037\n"
+
+
+def refused(line):
+    return (1, b"", b"argon2: " + line + b"\n")
+
+
+def hashed(text):
+    return (0, text, b"")
+
+
+# name, words, standard input, (status, standard output, standard error)
+TABLE = [
+    ("first run", "somesalt -d -t 1 -k 8 -e", b"password", hashed(FIRST)),
+    ("kind i is the default", "somesalt -t 2 -m 8 -e", b"password", hashed(I_256)),
+    ("hexadecimal, two lanes", "somesalt -t 2 -m 8 -id -p 2 -r", b"password", hashed(ID_RAW)),
+    ("the last type counts", "somesalt -d -i -id -t 2 -k 256 -e", b"password", hashed(ID_256)),
+    ("work at its limit", "somesalt -d -t 1 -k 8 -e --maxops 6", b"password", hashed(FIRST)),
+    ("work above its limit", "somesalt -d -t 1 -k 8 -e --maxops 5", b"password", refused(b"more work needed than --maxops allows")),
+    ("memory at its limit", "somesalt -t 2 -m 8 -e --maxmem 256", b"password", hashed(I_256)),
+    ("memory above its limit", "somesalt -t 2 -m 8 -e --maxmem 255", b"password", refused(b"more memory needed than --maxmem allows")),
+    ("no words", "", b"password", (1, b"", USAGE)),
+    ("help", "-h", b"password", (1, b"", USAGE)),
+    ("help after the salt", "somesalt -e -h", b"password", (1, b"", USAGE)),
+    ("an unknown word", "somesalt -e -q", b"password", refused(b"unknown word")),
+    ("a missing value", "somesalt -e -t", b"password", refused(b"missing value")),
+    ("the first fault decides", "somesalt -t x -q", b"password", refused(b"bad number")),
+    ("version 10", "somesalt -t 2 -m 8 -v 10 -e", b"password", hashed(I_256_10)),
+    ("version 10 in decimal", "somesalt -v 16 -e", b"password", refused(b"bad number")),
+    ("no form of output", "somesalt", b"password", refused(b"exactly one of -e and -r is needed")),
+    ("both forms of output", "somesalt -e -r", b"password", refused(b"exactly one of -e and -r is needed")),
+    ("a short salt", "seven77 -e", b"password", refused(b"salt length out of range")),
+    ("little memory", "somesalt -k 15 -p 2 -e", b"password", refused(b"memory out of range")),
+    ("no passes", "somesalt -t 0 -e", b"password", refused(b"passes out of range")),
+    ("no lanes", "somesalt -p 0 -e", b"password", refused(b"lanes out of range")),
+    ("a short tag", "somesalt -l 3 -e", b"password", refused(b"tag length out of range")),
+    ("no password", "somesalt -e", b"", refused(b"password is empty")),
+    ("a long password", "somesalt -e", b"p" * 128, refused(b"password is longer than 127 bytes")),
+]
+
+# more than 64 MiB, and the longest tag, by Debian's argon2
+D_64_MIB = b"6c51226ce388e165ceaa1c9b5e0646e1bd532392cbf72680d8a8e71c00a35c2f\n"
+LONGEST_TAG = (
+    b"11164024bbb98e6e90b14957a1d51417df657057e0c245f9359366d794eb5f63",
+    b"b4e4162facc1fd3b88e73741e49c9fa04069973a7ee3fb65bcfef1cd394250e0\n",
+)
+
+# what is compared with the installed program, with the password of each
+COMPARED = [
+    ("somesalt -d -t 1 -k 8 -l 4096 -e", b"password"),
+    ("somesalt -id -t 1 -k 262144 -p 2 -v 10 -e", b"password"),
+    ("somesalt -d -t 1 -k 8 -r", b"password"),
+    ("somesalt -i -t 3 -m 12 -r", b"password\n"),
+    ("somesalt -id -t 2 -k 1000 -p 3 -e", b"p" * 127),
+    ("somesalt -d -t 4 -k 77 -p 2 -l 65 -e", b"\x00\xff password"),
+    ("saltsaltsaltsalt -id -t 1 -m 16 -p 4 -l 64 -e", b"x"),
+    ("somesalt -i -t 1 -k 2100 -l 4 -r", b"password"),
+    *[
+        (f"somesalt -{kind} -t {passes} -k {memory} -p {lanes} -v 10 {form}", b"password")
+        for kind in ("i", "d", "id")
+        for passes, memory, form in ((1, 64, "-e"), (2, 1000, "-r"), (3, 77, "-e"), (4, 40, "-r"))
+        for lanes in (1, 2, 3, 4)
+    ],
+]
+
+
+def examples(checks):
+    """The rows of docs/EXAMPLES.md that are one command with one line of output."""
+    rows = [row for group in ("argon2", "version 0x10") for row in pages.rows("examples.tsv", group)]
+    found = [(number, re.fullmatch(r"`argon2 ([^`]*)`", command), re.fullmatch(r"`([^` ]*)`(?:, status 0|: the first run)?", said))
+             for number, command, said, _ in rows]
+    run = [(number, command[1], said[1]) for number, command, said in found if command and said]
+    checks.that("examples that are one command", [number for number, *_ in run], ["1", "2", "3", "12", "40"])
+    for number, words, said in run:
+        checks.that(f"example {number}", checks.run(words.split(), b"password"), hashed(said.encode() + b"\n"))
+
+
+def standard_streams(checks):
+    words = "somesalt -d -t 1 -k 8 -e"
+    unread = refused(b"password cannot be read")
+    unwritten = refused(b"output cannot be written")
+    checks.that("a closed standard input", checks.shell(f'"$0" {words} <&-', b"password"), unread)
+    checks.that("a folder as standard input", checks.shell(f'"$0" {words} </', b"password"), unread)
+    checks.that("a closed standard output", checks.shell(f'"$0" {words} >&-', b"password"), unwritten)
+    checks.that("a full device", checks.shell(f'"$0" {words} >/dev/full', b"password"), unwritten)
+    checks.that("a closed standard error", checks.shell('"$0" somesalt 2>&-', b"password"), (1, b"", b""))
+    checks.that("all streams closed", checks.shell(f'"$0" {words} <&- >&- 2>&-', b"password"), (1, b"", b""))
+
+
+def closed_pipe(checks):
+    """Nobody reads the output any more: a fault like any other, and no signal."""
+    found = checks.unread_pipe("somesalt -d -t 1 -k 8 -e".split(), b"password")
+    checks.that("a pipe that nobody reads", found, (1, b"argon2: output cannot be written\n"))
+
+
+def slow_input(checks):
+    """The password comes byte by byte."""
+    found = checks.slowly("somesalt -d -t 1 -k 8 -e".split(), b"password", 0.01)
+    checks.that("a password in pieces", found, hashed(FIRST))
+
+
+def words_of_bytes(checks):
+    checks.that("a word that is no text", checks.run([b"somesalt", b"-e", b"\xff"], b"password"), (1, b"", USAGE))
+    found = checks.run("somesalt -d -t 1 -k 8 -e".split(), b"password", program=b"\xff", executable=checks.program)
+    checks.that("a program's name that is no text", found, hashed(FIRST))
+    checks.that("an empty salt", checks.run(["", "-e"], b"password"), refused(b"salt length out of range"))
+    checks.that("a long salt", checks.run(["s" * 256, "-e"], b"password"), refused(b"salt length out of range"))
+
+
+def large(checks):
+    checks.that("more than 64 MiB", checks.run("somesalt -d -t 1 -k 65540 -r".split(), b"password"), hashed(D_64_MIB))
+    status, output, line = checks.run("somesalt -d -t 1 -k 8 -l 4096 -r".split(), b"password")
+    checks.that("the longest tag", (status, len(output), output[:64], output[-65:], line), (0, 8193, *LONGEST_TAG, b""))
+
+
+# Grants requests for memory up to the first of a size (the matrix), and refuses each one after it.
+REFUSING_AFTER = r"""
+#define _GNU_SOURCE
+#include <dlfcn.h>
+#include <stdlib.h>
+static int taken;
+static int refused(size_t size) {
+    if (taken) return 1;
+    if (size >= MATRIX) taken = 1;
+    return 0;
+}
+void *malloc(size_t size) {
+    static void *(*next)(size_t);
+    if (!next) next = dlsym(RTLD_NEXT, "malloc");
+    return refused(size) ? NULL : next(size);
+}
+void *realloc(void *old, size_t size) {
+    static void *(*next)(void *, size_t);
+    if (!next) next = dlsym(RTLD_NEXT, "realloc");
+    return refused(size) ? NULL : next(old, size);
+}
+"""
+
+
+def memory_before_the_hash(checks):
+    """Once the matrix of 1 MiB is taken each further request is refused, and the run doesn't notice."""
+    compiler = shutil.which("cc")
+    if compiler is None:
+        print("skipped: no C compiler to refuse memory with")
+        return
+    with tempfile.TemporaryDirectory() as folder:
+        library = os.path.join(folder, "refusing.so")
+        command = [compiler, "-shared", "-fPIC", "-DMATRIX=1048576", "-x", "c", "-", "-o", library]
+        subprocess.run(command, input=REFUSING_AFTER.encode(), check=True)
+        for form in ("-e", "-r"):
+            words = f"somesalt -d -t 1 -k 1024 {form}".split()
+            expected = checks.run(words, b"password")
+            found = checks.shell(f'LD_PRELOAD={library} "$0" {" ".join(words)}', b"password")
+            checks.that(f"memory refused after the matrix, {form}", found, expected)
+
+
+def standard_output_that_is_read(checks):
+    """The file of the password is not written, and another file is, after what it held."""
+    with tempfile.TemporaryDirectory() as folder:
+        password, other = os.path.join(folder, "password"), os.path.join(folder, "other")
+        for path in (password, other):
+            with open(path, "wb") as file:
+                file.write(b"password")
+        for path, expected, after in (
+            (password, refused(b"output cannot be written"), b"password"),
+            (other, hashed(b""), b"password" + FIRST),
+        ):
+            found = checks.shell(f'"$0" somesalt -d -t 1 -k 8 -e <{password} >>{path}')
+            with open(path, "rb") as file:
+                checks.that(f"standard output that is {os.path.basename(path)}", (found, file.read()), (expected, after))
+
+
+def beside_the_installed(checks):
+    other = shutil.which("argon2")
+    if other is None:
+        print("skipped: no argon2 is installed to compare with")
+        return
+    for words, password in COMPARED:
+        ran = subprocess.run([other, *words.split()], input=password, stdout=subprocess.PIPE, stderr=subprocess.PIPE)
+        checks.that(f"as {other} {words}", checks.run(words.split(), password), (0, ran.stdout, b""))
+
+
+def main():
+    if len(sys.argv) != 2:
+        raise SystemExit(__doc__)
+    checks = Checks(sys.argv[1])
+    for name, words, given, expected in TABLE:
+        checks.that(name, checks.run(words.split(), given), expected)
+    examples(checks)
+    standard_streams(checks)
+    closed_pipe(checks)
+    slow_input(checks)
+    words_of_bytes(checks)
+    large(checks)
+    memory_before_the_hash(checks)
+    standard_output_that_is_read(checks)
+    beside_the_installed(checks)
+    checks.end()
+
+
+if __name__ == "__main__":
+    main()

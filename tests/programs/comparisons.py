@@ -1,0 +1,132 @@
+#!/usr/bin/env python3
+"""Whether a comparison stops at the first difference: counts, by valgrind, the instructions of runs that differ in the
+place of a wrong byte alone. Each code and each tag is compared over all its bytes, so the counts are the same. No
+contract sees that, and of time nothing is promised.
+
+    tests/programs/comparisons.py SCRYPT             the codes of an encrypted file: of its header, and of the whole
+    tests/programs/comparisons.py --library FOLDER   the tags of texts of hashes, with the libpikhsen.a in this folder
+"""
+import os
+import pathlib
+import re
+import subprocess
+import sys
+import tempfile
+
+sys.path += map(str, pathlib.Path(__file__).resolve().parents[1].iterdir())  # the other folders of tests/
+from checking import Checks, is_there
+from scrypt_files import F5, FROM_PW, LINES
+from shown import compile_c
+
+PLACES = (0, 1, 15, 16, 31)
+# A hash of Debian's argon2 (package argon2, version 0~20171227), of the password `password`, without its tag.
+TEXT = "$argon2d$v=19$m=8,t=1,p=1$c29tZXNhbHQ$"
+TAG = "xRnmA6xgPsGutbcexEpheePzl1sUwMl+ORTHnmNj4Xg"
+
+# Compares two files, to the first byte that differs or over all.
+COMPARES = """
+#include <stdio.h>
+int main(int count, char **words) {
+    int whole = count > 3, difference = 0, left, right;
+    FILE *first = fopen(words[1], "rb"), *second = fopen(words[2], "rb");
+    while ((left = getc(first)) != EOF) {
+        right = getc(second);
+        difference |= left ^ right;
+        if (!whole && difference) break;
+    }
+    return difference ? 1 : 0;
+}
+"""
+VERIFIES = """
+#include "pikhsen.h"
+#include <string.h>
+int main(int count, char **words) {
+    const unsigned char password[] = "password";
+    const unsigned char *text = (const unsigned char *)words[count - 1];
+    return (int)pikhsen_argon2_verify(text, strlen(words[count - 1]), password, 8, 8, 99);
+}
+"""
+
+
+def can_count():
+    return is_there("valgrind", "the instructions of comparisons are not counted")
+
+
+def counted(words, folder):
+    """Status, standard error and the count of instructions of a run, which sees no variable."""
+    log = os.path.join(folder, "log")
+    begin = ["valgrind", "--tool=callgrind", "--callgrind-out-file=/dev/null", f"--log-file={log}"]
+    ran = subprocess.run([*begin, *words], cwd=folder, env={"PATH": os.environ["PATH"]}, stdout=subprocess.DEVNULL,
+                         stderr=subprocess.PIPE, check=False)
+    found = re.search(r"Collected : (\d+)", pathlib.Path(log).read_text(encoding="utf-8"))
+    return ran.returncode, ran.stderr, int(found[1]) if found else None
+
+
+def same(checks, name, runs, status, line=b""):
+    """All runs end so, after the same number of instructions."""
+    checks.that(f"{name}: how it ends", {it[:2] for it in runs}, {(status, line)})
+    checks.that(f"{name}: how many counts there are", (len({it[2] for it in runs}), None in {it[2] for it in runs}),
+                (1, False))
+
+
+def changed(text, place):
+    return text[:place] + bytes([text[place] ^ 1]) + text[place + 1:]
+
+
+def codes_of_files(checks, program, folder):
+    pathlib.Path(folder, "pw").write_bytes(b"pw\n")
+    for name, begin, line in (("header", 64, "S10"), ("file", len(F5) - 32, "S11")):
+        runs = []
+        for place in PLACES:
+            pathlib.Path(folder, "file").write_bytes(changed(F5, begin + place))
+            runs.append(counted([program, "dec", *FROM_PW.split(), "file"], folder))
+        same(checks, f"the code of a {name}", runs, 1, LINES[line])
+
+
+def tags_of_texts(checks, library, folder):
+    """The tags of texts of hashes, by the library in this folder."""
+    if not can_count():
+        return
+    source, program = pathlib.Path(folder, "verifies.c"), os.path.join(folder, "verifies")
+    source.write_text(VERIFIES, encoding="utf-8")
+    checks.that("verifies.c, compiled", compile_c(source, library, program, True), (0, ""))
+    checks.that("the right tag", counted([program, TEXT + TAG], folder)[0], 0)
+    # one symbol is another small letter
+    runs, small = [], [it for it in range(len(TAG) - 1) if TAG[it].islower()]
+    for place in (small[0], small[len(small) // 2], small[-1]):
+        letter = "a" if TAG[place] != "a" else "b"
+        runs.append(counted([program, TEXT + TAG[:place] + letter + TAG[place + 1:]], folder))
+    same(checks, "the tag of a text", runs, 16)
+
+
+def sees_what_stops(checks, folder):
+    """The counts of a program that stops at the first difference are seen to differ."""
+    if not is_there("cc", "no program that stops at a difference is looked at"):
+        return
+    source, program = pathlib.Path(folder, "compares.c"), os.path.join(folder, "compares")
+    source.write_text(COMPARES, encoding="utf-8")
+    subprocess.run(["cc", "-O1", source, "-o", program], check=True)
+    for words, differ in (([], True), (["whole"], False)):
+        counts = set()
+        for place in PLACES:
+            pathlib.Path(folder, "left").write_bytes(bytes(32))
+            pathlib.Path(folder, "right").write_bytes(changed(bytes(32), place))
+            counts.add(counted([program, "left", "right", *words], folder)[2])
+        checks.that(f"counts of a comparison of files {' '.join(words)}", len(counts) > 1, differ)
+
+
+def main():
+    if len(sys.argv) not in (2, 3) or len(sys.argv) == 3 and sys.argv[1] != "--library":
+        raise SystemExit(__doc__)
+    checks = Checks(sys.argv[-1])
+    with tempfile.TemporaryDirectory() as folder:
+        if len(sys.argv) == 3:
+            tags_of_texts(checks, os.path.abspath(sys.argv[2]), folder)
+        elif can_count():
+            codes_of_files(checks, checks.program, folder)
+            sees_what_stops(checks, folder)
+    checks.end()
+
+
+if __name__ == "__main__":
+    main()

@@ -1,0 +1,453 @@
+#!/usr/bin/env python3
+"""Runs the built programs over a system that refuses: each request for memory, alone and from there on, each that is too large, all
+memory above a limit, and each call that opens, looks at, reads, writes or empties a file, which fails, is interrupted, or comes short.
+And looks at the memory of a hash or a key when it is freed: it holds zeros.
+
+    tests/programs/hostile.py ARGON2 SCRYPT
+
+hostile_system.c, which stands between a program and the system, is compiled here. Without a C compiler only the memory
+of the whole process is limited, and its calls are looked at. Expected hashes are those of Debian's argon2
+(package argon2, version 0~20171227) and of RFC 9106's reference program; scrypt_files.py says where its files come from.
+"""
+import concurrent.futures
+import hashlib
+import hmac
+import os
+import resource
+import shutil
+import subprocess
+import sys
+import tempfile
+import threading
+from dataclasses import dataclass
+import pathlib
+
+sys.path += map(str, pathlib.Path(__file__).resolve().parents[1].iterdir())  # the other folders of tests/
+import argon2
+import scrypt
+from checking import Checks
+from scrypt_files import COSTS, ENVIRONMENT, F0, F5, FILES, FIXED, FROM_PW, HEADER, LINES, SALT, header_of
+
+
+@dataclass
+class Run:
+    """A run, what it writes, to standard output or to the file `out`, the refusal in which it ends, if it does, and its calls.
+
+    Of each call: what it is, the refusal when it fails (None: the run goes on), and how many bytes were written before, None where
+    no output is opened yet.
+    """
+
+    program: str
+    words: str
+    given: bytes
+    output: bytes
+    calls: list
+    refusal: str = None
+    to_file: bool = False
+
+    def after(self, refusal, written):
+        """Status, standard output, standard error and the content of `out` where it ends so, with so many bytes written."""
+        line = b"" if refusal is None else LINES[refusal]
+        front = b"" if written is None else self.output[:written]
+        status = 0 if refusal is None else 1
+        if self.to_file:
+            return status, b"", line, None if written is None else front
+        return status, front, line, None
+
+    def plain(self):
+        return self.after(self.refusal, self.opened_output())
+
+    def opened_output(self):
+        opened = any(written is not None for _, _, written in self.calls)
+        return len(self.output) if opened else None
+
+
+START = [("open /", None, None)] * 3
+
+
+def calls(*rows):
+    return START + [row if len(row) == 3 else (*row, None) for row in rows]
+
+
+def password(*rows):
+    return calls(("read standard input", "A8a"), ("read standard input", "A8a"), *rows)
+
+
+# Standard output, which is a pipe here: so what is read is not looked at.
+LOOKED = ("look at /proc/self/fd/1", None)
+WRITTEN = [LOOKED, ("write standard output", "A9", 0)]
+LINE = ("write standard error", "no line")
+
+
+def opened_out(*read):
+    """The opening of `out`: what is read is looked at while it is open, and before it is emptied."""
+    return [("open out", "S13"), ("look at out", "S13", 0), *((f"look at {name}", refusal, 0) for name, refusal in read),
+            ("empty out", "S13", 0)]
+
+
+def read_twice(name, refusal):
+    return [(f"read {name}", refusal)] * 2
+
+
+def enc_body(source, target):
+    return [
+        (f"write {target}", "S13", 0),
+        (f"read {source}", "S12", 96),
+        (f"write {target}", "S13", 96),
+        (f"read {source}", "S12", 101),
+        (f"write {target}", "S13", 101),
+    ]
+
+
+ENC_HELLO_OUT = calls(
+    ("open hello", "S12"), ("open pw", "S4a"), *read_twice("pw", "S4a"), *opened_out(("hello", "S13"), ("pw", "S13")),
+    *enc_body("hello", "out"),
+)
+DEC_F5 = calls(
+    ("open F5", "S12"), ("read F5", "S12"), ("open pw", "S4a"), *read_twice("pw", "S4a"), LOOKED, ("read F5", "S12", 0), ("write standard output", "S13", 0), ("read F5", "S12", 5),
+)
+
+
+RUNS = [
+    Run(
+        "argon2", "somesalt -d -t 1 -k 8 -e", b"password",
+        b"$argon2d$v=19$m=8,t=1,p=1$c29tZXNhbHQ$xRnmA6xgPsGutbcexEpheePzl1sUwMl+ORTHnmNj4Xg\n", password(*WRITTEN),
+    ),
+    Run(
+        "argon2", "somesalt -t 2 -m 8 -e", b"password",
+        b"$argon2i$v=19$m=256,t=2,p=1$c29tZXNhbHQ$iekCn0Y3spW+sCcFanM2xBT63UP2sghkUoHLIUpWRS8\n", password(*WRITTEN),
+    ),
+    Run(
+        "argon2", "somesalt -t 2 -m 8 -id -p 2 -r", b"password",
+        b"6d093c501fd5999645e0ea3bf620d7b8be7fd2db59c20d9fff9539da2bf57037\n", password(*WRITTEN),
+    ),
+    Run(
+        "argon2", "somesalt -t 2 -m 8 -v 10 -r", b"password",
+        b"fd4dd83d762c49bdeaf57c47bdcd0c2f1babf863fdeb490df63ede9975fccf06\n", password(*WRITTEN),
+    ),
+    Run("argon2", "seven77 -e", b"password", b"", password(LINE), "A6.5"),
+    Run("argon2", "somesalt -e", b"", b"", calls(("read standard input", "A8a"), LINE), "A8b"),
+    Run("argon2", "somesalt -t x -q", b"password", b"", calls(LINE), "A4"),
+    Run(
+        "scrypt", f"enc {FIXED} {FROM_PW} -", b"", F0,
+        calls(
+            ("open pw", "S4a"), *read_twice("pw", "S4a"), LOOKED, ("write standard output", "S13", 0), ("read standard input", "S12", 96), ("write standard output", "S13", 96),
+        ),
+    ),
+    Run("scrypt", f"enc {FIXED} {FROM_PW} hello out", b"", F5, ENC_HELLO_OUT, to_file=True),
+    *(Run("scrypt", f"enc {FIXED} --keep {keep} {FROM_PW} hello out", b"", F5, ENC_HELLO_OUT, to_file=True)
+      for keep in (2, 4)),
+    Run(
+        "scrypt", f"enc {FIXED} -P hello", b"pw", F5,
+        calls(
+            ("open hello", "S12"), *read_twice("standard input", "S4a"), LOOKED, *enc_body("hello", "standard output"),
+        ),
+    ),
+    Run("scrypt", f"dec {FROM_PW} F5", b"", b"hello", DEC_F5),
+    *(Run("scrypt", f"dec --keep {keep} {FROM_PW} F5", b"", b"hello", DEC_F5) for keep in (2, 16)),
+    Run(
+        "scrypt", "dec -P F5 out", b"pw\n", b"hello",
+        calls(
+            ("open F5", "S12"), ("read F5", "S12"), *read_twice("standard input", "S4a"),
+            *opened_out(("F5", "S13"), ("/proc/self/fd/0", None)), ("read F5", "S12", 0), ("write out", "S13", 0), ("read F5", "S12", 5),
+        ),
+        to_file=True,
+    ),
+    Run(
+        "scrypt", "dec --passphrase env:PW -", F5, b"hello",
+        calls(
+            ("read standard input", "S12"), LOOKED, ("read standard input", "S12", 0), ("write standard output", "S13", 0), ("read standard input", "S12", 5),
+        ),
+    ),
+    Run(
+        "scrypt", "info F5", b"", b"N = 16; r = 1; p = 1; memory = 2048; cores = 64\n",
+        calls(("open F5", "S12"), ("read F5", "S12"), LOOKED, ("write standard output", "S13", 0)),
+    ),
+    Run(
+        "scrypt", "dec --passphrase file:other-pw F5 out", b"", b"",
+        calls(("open F5", "S12"), ("read F5", "S12"), ("open other-pw", "S4a"), *read_twice("other-pw", "S4a"), LINE), "S10", to_file=True,
+    ),
+    Run(
+        "scrypt", f"dec {FROM_PW} F5-cut-127 out", b"", b"",
+        calls(
+            ("open F5-cut-127", "S12"), ("read F5-cut-127", "S12"), ("open pw", "S4a"), *read_twice("pw", "S4a"),
+            *opened_out(("F5-cut-127", "S13"), ("pw", "S13")), ("read F5-cut-127", "S12", 0),
+            ("read F5-cut-127", "S12", 0), ("write standard error", "no line", 0),
+        ),
+        "S11", to_file=True,
+    ),
+]
+
+
+class System:
+    """Both programs, over a system that may be hostile, each thread in a folder of its own below this one."""
+
+    def __init__(self, programs, below, library):
+        self.programs = programs
+        self.below = below
+        self.library = library
+        self.threads = threading.local()
+
+    def folder(self):
+        if not hasattr(self.threads, "folder"):
+            self.threads.folder = tempfile.mkdtemp(dir=self.below)
+            for name, content in FILES.items():
+                with open(os.path.join(self.threads.folder, name), "wb") as file:
+                    file.write(content)
+        return self.threads.folder
+
+    def run(self, run, hostile=None, **more):
+        """Status, standard output, standard error and the content of `out` after this run."""
+        out = os.path.join(self.folder(), "out")
+        if os.path.exists(out):
+            os.remove(out)
+        environment = ENVIRONMENT if hostile is None else {**ENVIRONMENT, "LD_PRELOAD": self.library, **hostile}
+        ran = subprocess.run(
+            [self.programs[run.program], *run.words.split()], input=run.given, stdout=subprocess.PIPE, stderr=subprocess.PIPE,
+            cwd=self.folder(), env=environment, timeout=60, **more
+        )
+        content = None
+        if os.path.exists(out):
+            with open(out, "rb") as file:
+                content = file.read()
+        return ran.returncode, ran.stdout, ran.stderr, content
+
+    def logged(self, run, **hostile):
+        """What it does over a system that refuses nothing, its calls, and how often it asks for memory."""
+        reading, writing = os.pipe()
+        with os.fdopen(reading) as log:
+            try:
+                done = self.run(run, {"HOSTILE_LOG": str(writing), **hostile}, pass_fds=[writing])
+            finally:
+                os.close(writing)
+            *called, memory = log.read().splitlines()
+        return done, called, int(memory.split()[1])
+
+
+def memory(system, run, from_there_on=True):
+    """Each request for memory is refused, alone and from there on: how many did no harm, and what was found where it is not the
+    line of want of memory."""
+    _, _, requests = system.logged(run)
+    refused = run.after("A10" if run.program == "argon2" else "S15", None)
+    harmless, wrong = 0, []
+    for number in range(1, requests + 1):
+        for last in (number, 1 << 40) if from_there_on else (number,):
+            found = system.run(run, {"HOSTILE_MEMORY": f"{number}-{last}"})
+            if last == number and found == run.plain():
+                harmless += 1
+            elif found != refused:
+                wrong.append((number, last, found))
+    past = system.run(run, {"HOSTILE_MEMORY": f"{requests + 1}-{1 << 40}"})
+    if past != run.plain():
+        wrong.append(("past the last", past))
+    return requests > 0, harmless, wrong
+
+
+def worked_rows(checks, system, threads):
+    """The same of each row of tests/programs/argon2.py and tests/programs/scrypt.py that ends well."""
+    def refused(run):
+        return [each for each in memory(system, run, False)[1:] if each]
+
+    rows = [Run(program, words, given, expected[1], calls(*WRITTEN))
+            for program, table in (("argon2", argon2.TABLE), ("scrypt", scrypt.TABLE))
+            for _, words, given, expected in table if expected[0] == 0]
+    for run, found in [(run, threads.submit(refused, run)) for run in rows]:
+        checks.that(f"memory refused, request by request: {run.program} {run.words}", found.result(), [])
+
+
+def file_of_no_text(log_n):
+    """The file of no text under the passphrase pw, with r and p of 1, by Python's hashlib and hmac."""
+    front = header_of(log_n, 1, 1)[:64]
+    keys = hashlib.scrypt(b"pw", salt=bytes(range(32)), n=1 << log_n, r=1, p=1, maxmem=1 << 26, dklen=64)
+    head = front + hmac.digest(keys[32:], front, "sha256")
+    return head + hmac.digest(keys[32:], head, "sha256")
+
+
+# Words, what is given and written, and the bytes of the matrix or of the table: 128 N, or 128 N / S.
+F_MIB = file_of_no_text(13)
+LARGE_REQUESTS = [
+    (
+        Run(
+            "argon2", "somesalt -d -t 1 -k 1024 -e", b"password",
+            b"$argon2d$v=19$m=1024,t=1,p=1$c29tZXNhbHQ$Li5eBf5XrCz0cuzQRe9oflYqmA/VAzmzichw4ZYrvEU\n", password(*WRITTEN),
+        ),
+        1 << 20,
+    ),
+    (
+        Run(
+            "argon2", "somesalt -id -t 2 -k 1024 -p 2 -e", b"password",
+            b"$argon2id$v=19$m=1024,t=2,p=2$c29tZXNhbHQ$kEfNQbPvk6Q7hokW6Jrvn1Mjb9kdT/I7OXVDKsviazk\n", password(*WRITTEN),
+        ),
+        1 << 20,
+    ),
+    *((Run("scrypt", f"enc --logN 13 -r 1 -p 1 --salt {SALT} {keep} {FROM_PW} -", b"", F_MIB, calls(LINE)), table)
+      for keep, table in (("", 1 << 20), ("--keep 4", 1 << 18))),
+    *((Run("scrypt", f"dec {keep} {FROM_PW} -", F_MIB, b"", calls(LINE)), table)
+      for keep, table in (("", 1 << 20), ("--keep 4", 1 << 18))),
+]
+
+
+INFO = Run("scrypt", "info -", F_MIB, b"N = 8192; r = 1; p = 1; memory = 1048576; cores = 32768\n", calls(LINE))
+
+
+def largest_requests(checks, system):
+    """No request is for more than 65,536 bytes above those of the matrix or the table, and one is for no fewer; `info` of a file
+    asks for no table."""
+    found = system.run(INFO, {"HOSTILE_LARGEST": "65536"})
+    checks.that(f"no table: {INFO.program} {INFO.words}", found, (0, INFO.output, b"", None))
+    for run, size in LARGE_REQUESTS:
+        name = f"{run.program} {run.words}"
+        found = system.run(run, {"HOSTILE_LARGEST": str(size + 65536)})
+        checks.that(f"no larger request: {name}", found, (0, run.output, b"", None))
+        found = system.run(run, {"HOSTILE_LARGEST": str(size - 1)})
+        checks.that(f"a request as large: {name}", found, run.after("A10" if run.program == "argon2" else "S15", None))
+
+
+# A file is refused for its passphrase, once its table of 1 MiB was filled.
+WRONG_PASSPHRASE = (Run("scrypt", "dec --passphrase file:other-pw -", F_MIB, b"", calls(LINE), "S10"), 1 << 20)
+
+
+def freed_blocks(checks, system):
+    """Matrix and table hold zeros when they are freed, after a refusal, too."""
+    for run, size in [*LARGE_REQUESTS, WRONG_PASSPHRASE]:
+        done, called, _ = system.logged(run, HOSTILE_FREED=str(size))
+        expected = (0, run.output, b"", None) if run.refusal is None else run.plain()
+        checks.that(f"over a system that looks: {run.program} {run.words}", done, expected)
+        found = [call for call in called if call.startswith("free ")]
+        checks.that(f"freed: {run.program} {run.words}", found, ["free zeros"])
+    # a program that frees what it holds as it is: so the look at a block sees more than zeros
+    system.programs["python"] = sys.executable
+    _, called, _ = system.logged(Run("python", "-c b=b'7'*(1<<20);del(b)", b"", b"", []), HOSTILE_FREED=str(1 << 20))
+    checks.that("freed: a block of sevens", "free what is there" in called, True)
+
+
+# In bytes; a limit below which the loader starts no program is passed over.
+LIMITS = range(2 << 20, 7 << 19, 1 << 16)
+
+
+def limits(system, run):
+    """The size of the whole process is limited: either it ends as ever, or for want of memory."""
+    refused = run.after("A10" if run.program == "argon2" else "S15", None)
+    found = []
+    for limit in LIMITS:
+        ended = system.run(run, preexec_fn=lambda: resource.setrlimit(resource.RLIMIT_AS, (limit, limit)))
+        if ended[0] == 127 or ended[0] < 0 and not found:
+            continue
+        found.append("refused" if ended == refused else "plain" if ended == run.plain() else ended)
+    return found[-1:], [each for each in found if each not in ("refused", "plain")]
+
+
+def failing_calls(system, run):
+    """Each call fails, is interrupted once, as often as it is asked again and once more, or comes short."""
+    done, called, _ = system.logged(run)
+    wrong = []
+    if (done, called) != (run.plain(), [call for call, _, _ in run.calls]):
+        return [("what it does", done, called)]
+    for number, (call, refusal, written) in enumerate(run.calls, 1):
+        if refusal is None:
+            failed = run.plain()
+        elif refusal == "no line":
+            status, out, _, content = run.plain()
+            failed = (status, out, b"", content)
+        else:
+            failed = run.after(refusal, written)
+        expected = [("fails", 1, failed)]
+        if not call.startswith("look"):
+            expected.append(("interrupted", 1, run.plain()))
+        if call.startswith(("read", "write")):
+            expected += [("interrupted", 16, run.plain()), ("short", 1, run.plain())]
+            if refusal != "no line":
+                expected.append(("interrupted", 17, failed))
+        for way, times, wanted in expected:
+            found = system.run(run, {"HOSTILE_CALLS": f"{number}-{number + times - 1}", "HOSTILE_WAY": way})
+            if found != wanted:
+                wrong.append((number, call, way, times, found, wanted))
+    return wrong
+
+
+def salts(checks, system):
+    """The random bytes of a salt cannot be had, come in pieces, or end too soon."""
+    front = calls(("open hello", "S12"), ("open pw", "S4a"), *read_twice("pw", "S4a"))
+    run = Run("scrypt", f"enc {COSTS} {FROM_PW} hello", b"", b"", front)
+    _, called, _ = system.logged(run)
+    at = called.index("open /dev/urandom") + 1
+    checks.that("random bytes are opened and read", called[at - 1:at + 1], ["open /dev/urandom", "read /dev/urandom"])
+    for number in (at, at + 1):
+        found = system.run(run, {"HOSTILE_CALLS": f"{number}-{number}", "HOSTILE_WAY": "fails"})
+        checks.that(f"call {number} fails", found, run.after("S5b", None))
+    for way in ("interrupted", "short"):
+        status, made, said, _ = system.run(run, {"HOSTILE_CALLS": f"{at + 1}-{at + 1}", "HOSTILE_WAY": way})
+        checks.that(f"random bytes: {way}", (status, len(made), said), (0, len(F5), b""))
+        checks.that(f"a whole salt: {way}", len(set(made[16:48])) > 8 and made[16:48] != HEADER[16:48], True)
+
+
+def lines(checks, system):
+    """The line of a refusal goes out in one write."""
+    for run in RUNS:
+        if run.refusal:
+            _, called, _ = system.logged(run)
+            checks.that(f"one write: {run.program} {run.words}", called.count("write standard error"), 1)
+
+
+KINDS = {"open": "open", "openat": "open", "read": "read", "write": "write", "statx": "look at", "ftruncate": "empty"}
+# Calls that change files, and that no run makes.
+NEVER = """unlink unlinkat rename renameat renameat2 truncate fallocate chmod fchmod fchmodat chown fchown fchownat link linkat
+    symlink symlinkat mkdir mkdirat mknod mknodat rmdir copy_file_range sendfile splice pwrite64 pwritev writev creat""".split()
+
+
+def no_other_calls(checks, system):
+    """The calls that hostile_system.c sees are all that the system sees of their kinds, once the program began."""
+    strace = shutil.which("strace")
+    if strace is None:
+        print("skipped: the calls that the system sees, for which strace is needed")
+        return
+    for run in RUNS:
+        log = os.path.join(system.folder(), "trace")
+        calls = f"trace={','.join([*KINDS, *NEVER])}"
+        words = [strace, "-qq", "-e", calls, "-o", log, system.programs[run.program], *run.words.split()]
+        subprocess.run(words, input=run.given, stdout=subprocess.PIPE, stderr=subprocess.PIPE, cwd=system.folder(), env=ENVIRONMENT)
+        with open(log, encoding="ascii", errors="replace") as file:
+            traced = file.read().splitlines()
+        begun = [number for number, line in enumerate(traced) if '"/", ' in line]
+        names = [line.split("(")[0] for line in traced[begun[0]:]] if begun else traced
+        found = [KINDS.get(name, name) for name in names]
+        expected = [next(kind for kind in KINDS.values() if call.startswith(kind)) for call, _, _ in run.calls]
+        checks.that(f"no other calls: {run.program} {run.words}", found, expected)
+
+
+def over_the_library(checks, system, threads):
+    """All that is refused by hostile_system.c."""
+    tables = [(run, *(threads.submit(test, system, run) for test in (failing_calls, memory))) for run in RUNS]
+    for run, called, requested in tables:
+        name = f"{run.program} {run.words}"
+        checks.that(f"a call refused: {name}", called.result(), [])
+        checks.that(f"memory refused: {name}", requested.result(), (True, 0, []))
+    worked_rows(checks, system, threads)
+    largest_requests(checks, system)
+    freed_blocks(checks, system)
+    salts(checks, system)
+    lines(checks, system)
+
+
+def main():
+    if len(sys.argv) != 3:
+        raise SystemExit(__doc__)
+    compiler = shutil.which("cc")
+    checks = Checks(sys.argv[1])
+    programs = dict(zip(("argon2", "scrypt"), map(os.path.abspath, sys.argv[1:])))
+    with tempfile.TemporaryDirectory() as folder, concurrent.futures.ThreadPoolExecutor(os.cpu_count()) as threads:
+        library = os.path.join(folder, "hostile_system.so")
+        system = System(programs, folder, library)
+        if compiler is None:
+            print("skipped: requests for memory and calls that are refused one by one, for which a C compiler is needed")
+        else:
+            source = os.path.join(os.path.dirname(os.path.abspath(__file__)), "hostile_system.c")
+            subprocess.run([compiler, "-O1", "-shared", "-fPIC", "-o", library, source], check=True)
+            over_the_library(checks, system, threads)
+        for run, limited in [(run, threads.submit(limits, system, run)) for run in RUNS]:
+            checks.that(f"memory limited: {run.program} {run.words}", limited.result(), (["plain"], []))
+        no_other_calls(checks, system)
+    checks.end()
+
+
+main()

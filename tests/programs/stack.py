@@ -1,0 +1,254 @@
+#!/usr/bin/env python3
+"""Runs the built programs with a stack of 64 KiB and with one of 8 MiB: status, output and line are the same, and no
+run ends by a signal. No contract sees the stack, so a body that takes 64 MiB of it at one length of the password would
+be proved.
+
+    tests/programs/stack.py ARGON2 SCRYPT
+    tests/programs/stack.py --frames PROGRAM..      the largest frames of these programs, or libraries, by their object code
+
+The runs go over every length of a password, of a passphrase and of a salt, texts about the length of a piece, lengths
+of tags and costs that work otherwise, 0 to 40 words, and words and variables of up to 100,000 bytes. Those lie above
+the stack and count in its limit, so their bytes are added to it.
+"""
+import concurrent.futures
+import dataclasses
+import os
+import pathlib
+import re
+import subprocess
+import sys
+import tempfile
+
+sys.path += map(str, pathlib.Path(__file__).resolve().parents[1].iterdir())  # the other folders of tests/
+from checking import Checks, is_there, said
+from scrypt_files import FROM_PW, SALT
+
+# In KiB. The limit counts what lies above the stack, too, and the up to 8 KiB by which Linux moves its beginning.
+# docs/DECISIONS.md says what the programs take of it.
+SMALL, LARGE = 64, 8192
+# In bytes. The largest is that of a run of scrypt, into which the compiler puts what it calls.
+LARGEST_FRAME = 32768
+CHEAP = "--logN 1 -r 1 -p 1"
+PIECES = (*range(301), 4095, 4096, 4097, 8191, 8192, 8193)
+
+
+@dataclasses.dataclass(frozen=True)
+class Run:
+    """What is run: a program, its words as a shell reads them, the file on its standard input, variables before it, and
+    how many bytes these have beyond some hundred."""
+
+    name: str
+    program: str
+    words: str
+    given: str = "/dev/null"
+    variables: str = ""
+    more: int = 0
+
+    def line(self, number, small):
+        """A line of a shell, which itself keeps the stack that it has."""
+        limit = (SMALL if small else LARGE) + -(-self.more // 1024)
+        export = f"export {self.variables}; " if self.variables else ""
+        command = f'ulimit -Ss {limit}; {export}exec "${self.program}" {self.words} <{self.given}'
+        return f"({command}); printf '\\nended {number} %s\\n' $?\n"
+
+
+def runs_of_argon2():
+    for length in range(131):
+        for kind in ("-d", "-i", "-id"):
+            words = f"somesalt {kind} -t 1 -k 8 -e"
+            yield Run(f"a password of {length} bytes, {kind}", "argon2", words, f"p-{length}")
+    for length in range(258):
+        yield Run(f"a salt of {length} bytes", "argon2", f"'{'s' * length}' -t 1 -k 8 -e", "p-8")
+    for length in (*range(3, 131), 255, 256, 257, 1023, 1024, 1025, 2048, 4032, 4095, 4096, 4097):
+        form = "-er"[length % 2 + 1]
+        yield Run(f"a tag of {length} bytes", "argon2", f"somesalt -t 1 -k 8 -l {length} -{form}", "p-8")
+    for lanes in (1, 2, 3, 4, 5, 8, 16, 64):
+        for kind in ("-d", "-i", "-id"):
+            for version in (10, 13):
+                words = f"somesalt {kind} -t 2 -k {8 * lanes + 3} -p {lanes} -v {version} -e"
+                yield Run(words, "argon2", words, "p-127")
+    for memory in (1024, 4096):
+        yield Run(f"{memory} KiB", "argon2", f"somesalt -id -t 1 -k {memory} -e", "p-8")
+    for count in range(41):
+        words = " ".join(["somesalt", "-e", *["-t 1", "-k 8", "-d"] * 14][: count + 1]) if count else ""
+        yield Run(f"{count} words for argon2", "argon2", " ".join(words.split()[:count]), "p-8")
+        yield Run(f"{count} unknown words for argon2", "argon2", " ".join(["x"] * count), "p-8")
+    for place, words in (("the salt", "{} -e"), ("a number", "somesalt -e -t {}"), ("a word", "somesalt -e {}")):
+        long = words.format("1" * 100000)
+        yield Run(f"100,000 bytes for {place} of argon2", "argon2", long, "p-8", more=100000)
+
+
+def runs_of_scrypt():
+    new = f"enc {CHEAP} --salt {SALT}"
+    for length in range(2051):
+        yield Run(f"a passphrase of {length} bytes", "scrypt", f"{new} --passphrase file:p-{length} /dev/null")
+    for length in (*range(0, 2051, 50), 2047, 2048, 2049):
+        yield Run(f"{length} bytes on standard input", "scrypt", f"{new} -P /dev/null", f"p-{length}")
+        yield Run(f"{length} bytes of a variable", "scrypt", f"{new} --passphrase env:PW /dev/null",
+                  variables=f"PW={'p' * length}", more=length)
+    for length in PIECES:
+        yield Run(f"a text of {length} bytes", "scrypt", f"{new} {FROM_PW} p-{length}")
+        yield Run(f"a text of {length} bytes from a pipe", "scrypt", f"{new} {FROM_PW} -", f"p-{length}")
+    for costs in ("2 1 1", "4 1 1", "4 2 3", "4 8 1", "7 8 2", "5 9 1", "5 33 1", "4 128 2", "10 1 1", "10 8 1"):
+        log_n, r, p = costs.split()
+        for keep in (1, 2, 4, 16):
+            words = f"enc --logN {log_n} -r {r} -p {p} --keep {keep} --salt {SALT} {FROM_PW} hello"
+            yield Run(words, "scrypt", words)
+    yield Run("a salt of its own", "scrypt", f"enc {CHEAP} {FROM_PW} hello >own")
+    for count in range(41):
+        yield Run(f"{count} unknown words for scrypt", "scrypt", " ".join(["x"] * count))
+        words = [new, "-M 4096", "--maxops 99", "--keep 1", "-P", "hello", *["x"] * 40]
+        yield Run(f"{count} words for scrypt", "scrypt", " ".join(" ".join(words).split()[:count]))
+    for place, words in (
+        ("the command", "{}"), ("a cost", f"enc --logN {{}} {FROM_PW} hello"), ("an option", "enc --{} hello"),
+        ("a secret's name", "dec --passphrase file:{} hello"), ("a variable's name", "dec --passphrase env:{} hello"),
+        ("the salt", f"enc {CHEAP} --salt {{}} {FROM_PW} hello"), ("the infile", f"dec {FROM_PW} {{}}"),
+        ("the outfile", f"dec {FROM_PW} file {{}}"), ("a word too many", f"dec {FROM_PW} file out {{}}"),
+    ):
+        yield Run(f"100,000 bytes for {place}", "scrypt", words.format("7" * 100000), more=100000)
+    yield Run("100,000 bytes of a variable", "scrypt", "dec --passphrase env:PW file",
+              variables=f"PW={'p' * 100000}", more=100000)
+
+
+def runs_over_files():
+    """Files that `text`, a run before, made, and that are damaged."""
+    for length in PIECES:
+        yield Run(f"a file of a text of {length} bytes", "scrypt", f"dec {FROM_PW} file-{length}")
+        yield Run(f"such a file of {length} bytes from a pipe", "scrypt", f"dec {FROM_PW} -", f"file-{length}")
+    for length in (*range(0, 140, 3), 4224, 8320):
+        yield Run(f"a file cut to {length} bytes", "scrypt", f"dec {FROM_PW} cut-{length}")
+        yield Run(f"info of a file cut to {length} bytes", "scrypt", f"info cut-{length}")
+    yield Run("another passphrase", "scrypt", "dec --passphrase file:p-3 file-8")
+
+
+def run_all(runs, folder, programs, small):
+    """What each run ends with, status and output, by its name; the shells that run them go side by side."""
+    count = len(os.sched_getaffinity(0))
+
+    def part(chosen):
+        text = "".join(run.line(number, small) for number, run in chosen)
+        ran = subprocess.run(["sh", "-s"], input=text.encode(), stdout=subprocess.PIPE, stderr=subprocess.STDOUT,
+                             cwd=folder, env=programs, check=False)
+        pieces = re.split(rb"\nended (\d+) (\d+)\n", ran.stdout)
+        return {int(number): (int(status), out)
+                for out, number, status in zip(pieces[0::3], pieces[1::3], pieces[2::3])}
+
+    numbered = [*enumerate(runs)]
+    with concurrent.futures.ThreadPoolExecutor(count) as pool:
+        found = {}
+        for some in pool.map(part, [numbered[turn::count] for turn in range(count)]):
+            found.update(some)
+    return [found.get(number) for number, _ in numbered]
+
+
+def compare(runs, folder, programs):
+    """The runs that end otherwise with a small stack, or by a signal; and what each ends with."""
+    large, small = (run_all(runs, folder, programs, it) for it in (False, True))
+    wrong = [(run.name, few, many) for run, few, many in zip(runs, small, large)
+             if few != many or few is None or few[0] not in (0, 1)]
+    return wrong, large
+
+
+def make_files(folder):
+    for length in {*range(2051), *PIECES}:
+        pathlib.Path(folder, f"p-{length}").write_bytes(b"p" * length)
+    for name, text in (("pw", b"pw\n"), ("hello", b"hello")):
+        pathlib.Path(folder, name).write_bytes(text)
+
+
+def make_encrypted(folder, runs, ended):
+    """The files of texts, as runs wrote them."""
+    made = {int(run.name.split()[3]): out for run, (_, out) in zip(runs, ended)
+            if re.fullmatch(r"a text of \d+ bytes", run.name)}
+    for length, out in made.items():
+        pathlib.Path(folder, f"file-{length}").write_bytes(out)
+    for length in (*range(0, 140, 3), 4224, 8320):
+        pathlib.Path(folder, f"cut-{length}").write_bytes(made[8193][:length])
+    pathlib.Path(folder, "file").write_bytes(made[5])
+
+
+# Takes 64 MiB of the stack at one length of what it reads, and writes nothing.
+DEEP = """
+#include <unistd.h>
+static int deep(void) {
+    volatile char room[64 << 20];
+    for (unsigned long at = sizeof room; at > 4096; at -= 4096) room[at - 1] = 1;
+    return room[8191] - 1;
+}
+int main(void) { char room[256]; return read(0, room, sizeof room) == 77 ? deep() : 0; }
+"""
+
+
+def finds_what_is_deep(checks, folder):
+    """A program that is as wrong as this can find: so the comparison is seen to fail."""
+    if not is_there("cc", "no program that takes 64 MiB of stack is looked at"):
+        return
+    program = os.path.join(folder, "deep")
+    subprocess.run(["cc", "-O0", "-x", "c", "-", "-o", program], input=DEEP.encode(), check=True)
+    runs = [it for it in runs_of_argon2() if it.name.startswith("a password of ")]
+    wrong, _ = compare(runs, folder, {"argon2": program})
+    checks.that("64 MiB of stack at one length of the password", [it[0] for it in wrong],
+                [f"a password of 77 bytes, {it}" for it in ("-d", "-i", "-id")])
+
+
+# A function takes a large frame in parts, and writes to each; a larger one in a loop, down to what r11 says.
+PART = re.compile(r"\tsub +\$0x([0-9a-f]{1,8}),%rsp$")
+IN_A_LOOP = re.compile(r"\tsub +\$0x([0-9a-f]{1,8}),%r11$|\tlea +-0x([0-9a-f]{1,8})\(%rsp\),%r11$")
+BETWEEN = re.compile(r"\t(?:movq +\$0x0|orq +\$0x0),(?:0x[0-9a-f]+)?\(%rsp\)$|\tcmp +%r11,%rsp$|\tjne ")
+
+
+def frames(program):
+    """The frames of a program's functions in bytes, the largest first."""
+    found, function, taken, is_loop = {}, None, 0, False
+    for line in said("objdump", "-d", "--no-show-raw-insn", program).splitlines():
+        if begins := re.match(r"^[0-9a-f]+ <(.+)>:$", line):
+            function, taken = begins[1], 0
+        elif whole := IN_A_LOOP.search(line):
+            taken, is_loop = int(whole[1] or whole[2], 16), True
+        elif part := PART.search(line):
+            taken += 0 if is_loop else int(part[1], 16)
+        elif BETWEEN.search(line):
+            is_loop = is_loop and "\tjne" not in line
+        else:
+            taken, is_loop = 0, False
+        if taken:
+            found[function] = max(found.get(function, 0), taken)
+    return sorted(((size, name) for name, size in found.items()), reverse=True)
+
+
+def largest_frames(checks, programs):
+    if not is_there("objdump", "the largest frames are not looked at"):
+        return
+    for name, program in programs.items():
+        size, function = frames(program)[0]
+        print(f"{name}: the largest frame has {size} bytes, in {function}")
+        checks.that(f"{name}: no larger frame than {LARGEST_FRAME} bytes", size <= LARGEST_FRAME, True)
+
+
+def main():
+    if sys.argv[1:2] == ["--frames"]:
+        for program in sys.argv[2:]:
+            print("\n".join(f"{size}\t{function}" for size, function in frames(program)[:8]))
+        return
+    if len(sys.argv) != 3:
+        raise SystemExit(__doc__)
+    programs = dict(zip(("argon2", "scrypt"), map(os.path.abspath, sys.argv[1:])))
+    checks = Checks(sys.argv[1])
+    with tempfile.TemporaryDirectory() as folder:
+        make_files(folder)
+        runs = [*runs_of_argon2(), *runs_of_scrypt()]
+        wrong, ended = compare(runs, folder, programs)
+        make_encrypted(folder, runs, ended)
+        over_files = [*runs_over_files()]
+        wrong += compare(over_files, folder, programs)[0]
+        checks.passed += len(runs) + len(over_files) - len(wrong)
+        for name, small, large in wrong:
+            checks.that(f"with a stack of {SMALL} KiB: {name}", small, large)
+        statuses = [it[0] for it in ended if it]
+        checks.that("some runs end well, and some do not", (0 in statuses, 1 in statuses), (True, True))
+        finds_what_is_deep(checks, folder)
+    largest_frames(checks, programs)
+    checks.end()
+
+
+main()

@@ -1,0 +1,399 @@
+#!/usr/bin/env python3
+"""Types the commands of README.md's first screen and its story in an empty folder and compares what comes. The login of
+docs/LIBRARY.md's Rust program is that of a test, and the text that it enrols is what the built argon2 writes. Then the
+examples of both manual pages, in each shell that they are for, also where a command before a pipe fails, a password is
+wrong, and the stored text is empty; and what checks a stored text in Python, where the library is built.
+
+    tests/programs/story.py FOLDER               in which the programs argon2 and scrypt lie
+    tests/programs/story.py --recipes FOLDER     the first screen, what is typed, and the examples of argon2's page, alone
+    tests/programs/story.py --prove              proves, builds and runs that Rust program over the crates (some minutes)
+"""
+import os
+import pathlib
+import re
+import shutil
+import subprocess
+import sys
+import tempfile
+
+sys.path += map(str, pathlib.Path(__file__).resolve().parents[1].iterdir())  # the other folders of tests/
+from checking import Checks
+
+TOP = pathlib.Path(__file__).resolve().parents[2]
+README = (TOP / "README.md").read_text(encoding="utf-8")
+LIBRARY = (TOP / "docs/LIBRARY.md").read_text(encoding="utf-8")
+SHARED = TOP / "bin/lib/libpikhsen.so.0"
+END = "-- end of the command --"
+
+
+def story():
+    """The commands below the heading "A story", in their order, each with what it prints."""
+    section = README.split("\n## A story\n")[1].split("\n## ")[0]
+    typed = []
+    for line in re.findall(r"^    (.*)$", section, re.MULTILINE):
+        if line.startswith("$ "):
+            typed.append((line[2:], []))
+        else:
+            typed[-1][1].append(line)
+    return [(command, "".join(line + "\n" for line in lines)) for command, lines in typed]
+
+
+def printed(commands, folder):
+    """What one shell prints for each command, on both streams, in an empty folder and with the programs on its path."""
+    script = "exec 2>&1\n" + "".join(f"{command}\necho '{END}'\n" for command in commands)
+    environment = {**os.environ, "PATH": f"{os.path.abspath(folder)}:{os.environ['PATH']}", "LC_ALL": "C"}
+    with tempfile.TemporaryDirectory() as room:
+        ran = subprocess.run(
+            ["bash", "-c", script], stdin=subprocess.DEVNULL, stdout=subprocess.PIPE, cwd=room, env=environment
+        )
+    return ran.stdout.decode().split(END + "\n")[:-1]
+
+
+def examples(page, heading="EXAMPLES"):
+    """The examples in a section of a manual page, in their order, as they are typed, and what the page says that they print."""
+    section = (TOP / "man" / page).read_text(encoding="utf-8").split(f"\n.SH {heading}\n")[1].split("\n.SH ")[0]
+    found = []
+    for text in re.findall(r"^\.nf\n(.*?)^\.fi$", section, re.MULTILINE | re.DOTALL):
+        for written, meant in ((r"\-", "-"), (r"\(aq", "'"), (r"\e", "\\")):
+            text = text.replace(written, meant)
+        lines = text.splitlines(keepends=True)
+        if not any(line.startswith("$ ") for line in lines):
+            found.append((text, ""))
+            continue
+        typed = [line.removeprefix("$ ") for line in lines if line.startswith(("$ ", "    "))]
+        found.append(("".join(typed), "".join(line for line in lines if not line.startswith(("$ ", "    ")))))
+    return found
+
+
+class Shell:
+    """A shell with the programs on its path, in an empty folder."""
+
+    def __init__(self, name, programs, room):
+        self.name, self.room = name, room
+        self.environment = {**os.environ, "PATH": f"{os.path.abspath(programs)}:{os.environ['PATH']}", "LC_ALL": "C"}
+
+    def run(self, text, given=b"", **variables):
+        """Status and what is printed on both streams."""
+        ran = subprocess.run(
+            [self.name, "-c", text], input=given, stdout=subprocess.PIPE, stderr=subprocess.STDOUT, cwd=self.room,
+            env={**self.environment, **variables},
+        )
+        return ran.returncode, ran.stdout.decode()
+
+
+def typed_passphrases(expect, shell, encrypt, decrypt):
+    """What encrypts a text under a passphrase that is typed twice, and what decrypts the file. A file gets its name only
+    after its whole content was written, and the shell keeps no passphrase. The costs are those for such a passphrase;
+    what runs here has a smaller table."""
+    expect("the costs of what is typed", re.findall(r"--logN.*-p \d+", encrypt), costs_of_typed())
+    encrypt = encrypt.replace("--logN 20", "--logN 10")
+    (text, part), (of_file, text_part) = (re.search(r"-P ([\w.]+) ([\w.]+)", it).groups() for it in (encrypt, decrypt))
+    file, said = re.search(r"mv \S+ (\S+)", encrypt)[1], re.search(r"echo '(.*)' >&2", encrypt)[1]
+    once, twice, words = "Passphrase: \n", "Passphrase: \nThe same again: \n", b" wor\\ds of  ours \n"
+    shell.run(f"echo Dear >{text}; cp {text} kept; rm -f {file} {part}")
+    expect("the file that is made, and the one that is opened", of_file, file)
+    left = f's=$?; ls {file} {part} 2>/dev/null; echo "<$typed$again>"; exit $s'
+    for name, given in (("other words", b"words\nwords.\n"), ("the same and more", b"words\nwords \n"), ("an empty line", b"\n\n"),
+                        ("words and an empty line", b"words\n\n"), ("words once", b"words\n"), ("nothing", b"")):
+        expect(f"typed twice, {name}", shell.run(encrypt + left, given), (1, f"{twice}{said}\n<>\n"))
+    broken = f"scrypt() {{ echo begun >{part}; return 1; }}\n"
+    expect("typed twice, a run that breaks off", shell.run(broken + encrypt + left, words * 2), (1, f"{twice}{part}\n<>\n"))
+    expect("typed twice", shell.run(encrypt + left, words * 2), (0, f"{twice}{file}\n<>\n"))
+    status, said = shell.run(f"cp {file} made; rm {text}\n{encrypt}s=$?; cmp {file} made; exit $s", words * 2)
+    expect("typed twice, and no text: the file stays", (status, "cannot be opened" in said, "differ" in said), (1, True, False))
+    expect("typed to open it", shell.run(f"{decrypt}cmp {text} kept", words), (0, once))
+    for name, given in (("other words", b"words\n"), ("nothing", b"")):
+        found = shell.run(f"{decrypt}s=$?; cmp {text} kept; exit $s", given)
+        expect(f"typed to open it, {name}: the text stays", found, (1, f"{once}scrypt: wrong passphrase\n"))
+    found = shell.run(f"head -c 130 made >{file}\n{decrypt}s=$?; cmp {text} kept; exit $s", words)
+    expect("typed to open it, damaged: the text stays", found, (1, f"{once}scrypt: input is damaged or cut short\n"))
+    shell.run(f"mv made {file}; rm -f {part} {text_part} kept")
+
+
+def costs_of_typed():
+    """What README recommends for a passphrase that a person remembers."""
+    return re.findall(r"passphrase that you remember\*\*: `(.*?)`", README)
+
+
+def in_shells(checks, programs, names, page, run):
+    """Runs what is for these shells in each, in an empty folder."""
+    for name in names:
+        if shutil.which(name) is None:
+            print(f"skipped: the examples of {page} in {name}, which is not there")
+            continue
+        with tempfile.TemporaryDirectory() as room:
+            run(checks, Shell(name, programs, room))
+
+
+def typed_of_readme(checks, shell):
+    encrypt, decrypt = blocks_of_readme("Typing a passphrase")
+
+    def expect(name, found, expected):
+        checks.that(f"README in {shell.name}: {name}", found, expected)
+
+    typed_passphrases(expect, shell, encrypt, decrypt)
+
+
+def blocks_of_readme(heading):
+    """The blocks of code below a heading of README."""
+    part = README.split(f"\n## {heading}\n")[1].split("\n## ")[0]
+    return [re.sub(r"^    ", "", it, flags=re.MULTILINE) for it in re.findall(r"(?:^    .*\n)+", part, re.MULTILINE)]
+
+
+def scrypt_examples(checks, shell):
+    backup, look, opened, whole, again, typed, typed_again, small, keep = examples("scrypt.1")
+    guard_of_a_file, guard = examples("scrypt.1", "SECURITY")
+    (costs,) = examples("scrypt.1", "COSTS")
+
+    def expect(name, found, expected):
+        checks.that(f"scrypt.1 in {shell.name}: {name}", found, expected)
+
+    status, said = shell.run("set -e\n" + costs[0].replace("14 15 16 17 18 19 20", "4 5"))
+    expect("costs are timed", (status, re.findall(r"^--logN \d+$", said, re.MULTILINE)), (0, ["--logN 4", "--logN 5"]))
+    status, _ = shell.run(backup[0])
+    expect("a backup of what is not there fails", status != 0, True)
+    for name in ("head", "base64"):
+        shell.run("rm -f letters.enc backup-key")
+        status, _ = shell.run(f"{name}() {{ return 1; }}; {backup[0]}")
+        expect(f"a backup without a key, since {name} fails, is none", (status != 0, shell.run("ls letters.enc")[0] != 0), (True, True))
+    shell.run("rm -f backup-key")
+    shell.run("mkdir letters; echo 'Dear Ada' >letters/to-ada; head -c 32 /dev/urandom | base64 >new-key")
+    expect("a backup", shell.run(backup[0]), (0, ""))
+    status, _ = shell.run("cp letters.enc saved\n" + backup[0].replace("letters |", "letters nothere |"))
+    kept = shell.run("cmp letters.enc saved; rm saved letters.new")
+    expect("a backup of which a part is not there fails, and the older one stays", (status != 0, kept), (True, (0, "")))
+    status, said = shell.run(f"cp backup-key first; {backup[0]}cmp backup-key first && rm first")
+    expect("a backup again keeps the key", (status, "backup-key" in said), (0, True))
+    expect("look at it", shell.run(look[0]), (0, look[1]))
+    expect("open it", shell.run(opened[0]), (0, ""))
+    expect("what was opened", shell.run("tar -tf letters.tar"), (0, "letters/\nletters/to-ada\n"))
+    expect("is it whole", shell.run(whole[0]), (0, "whole\n"))
+    shell.run("cp letters.enc saved; head -c 500 saved >letters.enc; cp letters.enc cut")
+    status, _ = shell.run(again[0])
+    kept = shell.run("cmp cut letters.enc; test ! -e letters.new && mv saved letters.enc")
+    expect("a new passphrase for a damaged file fails, and the file stays", (status != 0, kept), (True, (0, "")))
+    expect("a new passphrase", shell.run(again[0]), (0, ""))
+    expect("with it", shell.run(whole[0].replace("backup-key", "new-key")), (0, "whole\n"))
+    expect("without it", shell.run(whole[0]), (1, "scrypt: wrong passphrase\n"))
+    expect("no text was left", shell.run("ls")[1].split(), ["backup-key", "cut", "letters", "letters.enc", "letters.tar", "new-key"])
+    shell.run("cp letters.tar saved")
+    typed_passphrases(expect, shell, typed[0], typed_again[0])
+    shell.run("mv saved letters.tar")
+    shell.run("echo Dear >in")
+    for held in ("", r"\n", r"\nwords", r"\r\n", r"\rwords", r"\0", r"\0\0\n"):
+        for name, of, given in (("a file", guard_of_a_file, f"printf '{held}' >key"), ("a command", guard, f"pass() {{ printf '{held}'; }}")):
+            found = shell.run(f"{given}; {of[0]}s=$?; ls out; exit $s")
+            expect(f"the guard and {name} of '{held}'", (found[0], "No such file" in found[1]), (1, True))
+        status, said = shell.run(f"printf '{held}' >new-key.empty; " + again[0].replace("new-key", "new-key.empty"))
+        kept = shell.run("scrypt dec --passphrase file:new-key letters.enc | cmp - letters.tar; test ! -e letters.new")
+        expect(f"a new passphrase of '{held}' fails, and the file stays", (status, said, kept), (1, "", (0, "")))
+    for name, command in (("fails", "false"), ("prints and fails", "{ echo words; false; }")):
+        found = shell.run(f"pass() {{ {command}; }}; {guard[0]}s=$?; ls out; exit $s")
+        expect(f"the guard and a command that {name}", (found[0], "No such file" in found[1]), (1, True))
+    for name, of, given in (("a file", guard_of_a_file, "echo words >key"), ("a command", guard, "pass() { echo words; }")):
+        line = f"{given}; {of[0]}echo words | scrypt dec -P out && rm out"
+        expect(f"the guard of {name}", shell.run(line), (0, "Dear\n"))
+    shell.run("rm -f key new-key.empty")
+    expect("an empty passphrase after a pipe", shell.run("false | scrypt enc -P in open; scrypt dec -P open </dev/null"), (0, "Dear\n"))
+    key = {"KEY": "words of ours"}
+    expect("a small machine", shell.run(small[0], **key), (0, small[1]))
+    status, _ = shell.run(small[0].splitlines(keepends=True)[1] + small[0].splitlines(keepends=True)[2])
+    expect("a small machine without the variable fails", status, 1)
+    expect("what it made", shell.run("scrypt info small.enc; scrypt dec --passphrase env:KEY small.enc | cmp - letters.tar", **key),
+           (0, "N = 32768; r = 8; p = 2; memory = 33554432; cores = 2097152\n"))
+    made = "scrypt enc --passphrase env:KEY letters.tar letters.enc; "
+    expect("rows kept in part", shell.run(made + keep[0] + "cmp letters.part letters.tar", **key), (0, ""))
+
+
+def argon2_examples(checks, shell):
+    """A hash of a typed password, and its check; or, in a shell that cannot hide what is typed, without the line that asks,
+    and with the password in a variable, as the page says of scripts."""
+    enrol, check, python, key = (text for text, _ in examples("argon2.1"))
+    asks = r"^  printf '(.*: )' >&2; IFS= read -rs password; echo >&2\n"
+    prompts = [re.search(asks, it, re.MULTILINE)[1] + "\n" for it in (enrol, check)]
+    if shell.name == "dash":
+        enrol, check, prompts = *(re.sub(asks, "", it, flags=re.MULTILINE) for it in (enrol, check)), ["", ""]
+    new, asked = prompts
+
+    def expect(name, found, expected):
+        checks.that(f"argon2.1 in {shell.name}: {name}", found, expected)
+
+    def enter(text, password):
+        if shell.name == "dash":
+            return shell.run(text, password=password)
+        return shell.run(text, password.encode() + b"\n")
+
+    right = "correct horse"
+    expect("a hash to keep", enter(enrol, right), (0, new))
+    for password in ("", "x" * 128):
+        status, said = enter("cp stored before; " + enrol, password)
+        kept = shell.run("cmp before stored")
+        expect(f"a hash of {len(password)} bytes is refused, and what was stored stays", (status, kept), (1, (0, "")))
+    expect("the right password", enter(check, right), (0, f"{asked}welcome\n"))
+    for password in ("battery staple", "correct horse ", " correct horse", "correct\\\\horse"):
+        expect(f"the password '{password}'", enter(check, password), (1, f"{asked}not you\n"))
+    for password in ("", "x" * 200):
+        status, said = enter(check, password)
+        expect(f"the password '{password}'", (status, "argon2: password is" in said, said[-8:]), (1, True, "not you\n"))
+    if shell.name != "dash":
+        left = 'echo "<$password$kind$v$m$t$p$salt$tag$again>"'
+        expect("nothing stays in the shell", enter(f"{enrol}{left}", right), (0, f"{new}<>\n"))
+        expect("nothing stays after a check", enter(f"{check}{left}", right), (0, f"{asked}welcome\n<>\n"))
+    # a text of any settings; and texts that somebody else wrote, which run nothing, with what argon2 says of them
+    for words in ("'s,l$t = \u00e4' -i -t 2 -k 100 -p 3 -l 30 -v 10", "'ends in a line\n\n' -d -t 1 -k 8 -l 64"):
+        found = enter(f"printf %s other | argon2 {words} -e >stored\n{check}", "other")
+        expect(f"a text of {words}", found, (0, f"{asked}welcome\n"))
+    commands = "path[`touch run`]"
+    for text, said in (
+        (f"$argon2id$v={commands}$m=8,t=1,p=1$c29tZXNhbHQ$AAAAAA", "bad number"),
+        (f"$argon2{commands}$v={commands}$m={commands},t={commands},p={commands}${commands}${commands}", "usage"),
+        ("$argon2id$v=19$m=1048580,t=1,p=1$c29tZXNhbHQ$AAAAAA", "more memory needed than --maxmem allows"),
+        ("$argon2id$v=19$m=1048576,t=9,p=1$c29tZXNhbHQ$AAAAAA", "more work needed than --maxops allows"),
+        ("$argon2id$m=8,t=1,p=1$c29tZXNhbHQ$AAAAAA", "bad number"),
+        ("$argon2id$v=19$m=8,t=1,p=1$8PHy8/T19vf4+fr7/P3+/w$AAAAAA", "usage"),
+    ):
+        (pathlib.Path(shell.room) / "stored").write_text(text + "\n", encoding="utf-8")
+        status, found = enter(check, right)
+        run = (pathlib.Path(shell.room) / "run").exists()
+        expect(f"the text {text}", (status != 0, f"argon2: {said}" in found, "welcome" in found, run), (True, True, False, False))
+    enter(enrol, right)
+    if SHARED.exists():
+        (pathlib.Path(shell.room) / "check.py").write_text(python, encoding="utf-8")
+        for password, said in ((b"correct horse", "welcome\n"), (b"battery staple", "not you\n")):
+            found = shell.run("python3 check.py", password, PYTHONPATH=str(TOP / "python"), PIKHSEN_LIBRARY=str(SHARED))
+            expect(f"the password {password} in Python", found, (0, said))
+    for name, stored in (("empty", ": >stored"), ("of a line feed", "echo >stored"), ("that is missing", "rm stored")):
+        shell.run(stored)
+        for password in ("anything", "correct horse", ""):
+            status, said = enter(check, password)
+            expect(f"a stored text {name}, and the password '{password}'", (status != 0, "welcome" in said), (True, False))
+    status, said = shell.run(key, salt="a salt that is kept", password=right)
+    expect("a key", (status, len(bytes.fromhex(said))), (0, 64))
+    expect("a key without a salt", shell.run(key, password=right), (1, "argon2: salt length out of range\n"))
+
+
+def first_screen(checks, shell):
+    """The commands of README's first screen, pasted as they stand into an empty folder; once more, with the same key; and
+    with an empty key, under which nothing is encrypted."""
+    first = README.partition("\n[^speed]:")[0]
+    commands = re.findall(r"^    (.*)$", first, re.MULTILINE)
+    expected = r"Dear Ada\n\$argon2id\$v=19\$m=65536,t=3,p=4\$[\w+/]+\$[\w+/]{43}\n"
+    pasted = "\n".join(commands)
+    for name, given, begin in (("", pasted, ""), (", again", f"cp key kept\n{pasted}\ncmp key kept", r"[^\n]*\bkey\b[^\n]*\n")):
+        status, said = shell.run(given)
+        found = status, re.sub(f"^{begin}{expected}$", "a text and a hash", said)
+        checks.that(f"README in {shell.name}: the first screen{name}", found, (0, "a text and a hash"))
+    status, said = shell.run(f"rm letter.scrypt; : >key\n{pasted}\nls letter.scrypt")
+    checks.that(f"README in {shell.name}: nothing under an empty key", (status != 0, "Dear Ada" in said), (True, False))
+
+
+def compare_recipes(checks, programs):
+    in_shells(checks, programs, ("bash", "zsh"), "README.md", first_screen)
+    in_shells(checks, programs, ("bash", "zsh"), "README.md", typed_of_readme)
+    in_shells(checks, programs, ("bash", "dash", "zsh"), "argon2.1", argon2_examples)
+
+
+def compare_parts(checks, programs):
+    """The loop that times costs, for small ones, and the check of a stored text in Python. Each shell is bash or zsh, as
+    README says."""
+    (loop,) = blocks_of_readme("Which costs")
+    stored = README.split("\n## Checking a stored hash\n")[1].split("\n# ")[0]
+    (python,) = re.findall(r"^```python\n(.*?)^```", stored, re.MULTILINE | re.DOTALL)
+    for name in filter(shutil.which, ("bash", "zsh")):
+        with tempfile.TemporaryDirectory() as room:
+            shell = Shell(name, programs, room)
+            status, said = shell.run("set -e\n" + loop.replace("14 15 16 17 18 19 20", "4 5"))
+            checks.that(f"README in {name}: costs are timed", (status, re.findall(r"^--logN \d+$", said, re.MULTILINE)), (0, ["--logN 4", "--logN 5"]))
+            if SHARED.exists():
+                pathlib.Path(room, "check.py").write_text(python, encoding="utf-8")
+                (text,) = re.findall(r"^    (\$argon2id\$\S+\n)", README, re.MULTILINE)  # of the story
+                pathlib.Path(room, "stored").write_text(text, encoding="utf-8")
+                found = shell.run("python3 check.py", PYTHONPATH=str(TOP / "python"), PIKHSEN_LIBRARY=str(SHARED))
+                checks.that("README: a stored text in Python", found, (0, "True\n"))
+            else:
+                print("skipped: a stored text in Python, since bin/lib/libpikhsen.so.0 is not built")
+
+
+def compare_login(checks, programs, typed):
+    """The login of the story lets nobody in where the stored text is empty, and argon2 refuses the password."""
+    (encoded,) = [command for command, _ in typed if command.startswith("encoded()")]
+    (login,) = [command for command, answer in typed if answer == "welcome\n"]
+    with tempfile.TemporaryDirectory() as room:
+        shell = Shell("bash", programs, room)
+        for stored in (": >stored", "echo >stored", "rm stored"):
+            for password in ("''", "$(printf %200d 0)", "'correct horse'"):
+                status, said = shell.run(f"{stored}; {encoded}\n" + login.replace("'correct horse'", password))
+                checks.that(f"README: {password} after {stored}", (status != 0, "welcome" in said), (True, False))
+
+
+def rust_program():
+    (program,) = re.findall(r"^```rust\n(.*?)^```", LIBRARY, re.MULTILINE | re.DOTALL)
+    after = LIBRARY.split("```rust\n" + program)[1]
+    shown = re.search(r"It prints:\n\n((?:    .*\n)+)", after)[1]
+    return program, re.sub(r"^    ", "", shown, flags=re.MULTILINE)
+
+
+def functions(text):
+    """The functions of a Rust text that begin at the left, by their names."""
+    return {found[2]: found[1] for found in re.finditer(r"^(fn (\w+)\(.*?^\}\n)", text, re.MULTILINE | re.DOTALL)}
+
+
+def compare_functions(checks):
+    tested = {}
+    for file in sorted(TOP.glob("crates/*/src/**/*.rt")):
+        if "tests" in file.parts[-2:] or file.name == "tests.rt":
+            tested.update(functions(file.read_text(encoding="utf-8")))
+    shown = functions(rust_program()[0])
+    checks.that("LIBRARY's login is a test's", "may_enter" in shown and "may_enter" in tested, True)
+    for name in sorted(shown.keys() & tested.keys() - {"main"}):
+        checks.that(f"LIBRARY's {name} is that of a test", shown[name], tested[name])
+
+
+def compare_enrolled(checks, folder):
+    """The first line that the Rust program prints, by the program argon2 with the password, salt and settings that stand there."""
+    program, shown = rust_program()
+    password, salt = re.findall(r'enrol\(alloc, b"(.*)", b"(.*)"\)', program)[0]
+    passes, lanes, memory = re.findall(r"Params::new\(Kind::Id, 0x13, (\d+), (\d+), ([\d_]+), 32,", program)[0]
+    words = [salt, "-id", "-t", passes, "-p", lanes, "-k", memory.replace("_", ""), "-e"]
+    found = checks.run(words, password.encode(), program=os.path.abspath(os.path.join(folder, "argon2")))
+    checks.that("LIBRARY's enrolled text", found, (0, shown.splitlines(keepends=True)[0].encode(), b""))
+
+
+def prove():
+    sys.path.insert(0, str(TOP / "bench"))
+    from scratch import built
+
+    program, shown = rust_program()
+    with tempfile.TemporaryDirectory() as room:
+        text = pathlib.Path(room) / "main.rt"
+        text.write_text(program, encoding="utf-8")
+        ran = subprocess.run([built("accounts", "argon argon_text", str(text))], stdout=subprocess.PIPE)
+    if (ran.returncode, ran.stdout.decode()) != (0, shown):
+        raise SystemExit(f"LIBRARY's program prints {ran.stdout!r}")
+
+
+def main():
+    if len(sys.argv) == 3 and sys.argv[1] == "--recipes":
+        checks = Checks(os.path.join(sys.argv[2], "scrypt"))
+        compare_recipes(checks, sys.argv[2])
+        return checks.end()
+    if len(sys.argv) != 2:
+        raise SystemExit(__doc__)
+    if sys.argv[1] == "--prove":
+        return prove()
+    checks = Checks(os.path.join(sys.argv[1], "scrypt"))
+    compare_functions(checks)
+    compare_enrolled(checks, sys.argv[1])
+    typed = story()
+    found = printed([command for command, _ in typed], sys.argv[1])
+    checks.that("as many answers as commands", len(found), len(typed))
+    for (command, expected), answer in zip(typed, found):
+        checks.that(f"README: {command}", answer, expected)
+    compare_login(checks, sys.argv[1], typed)
+    compare_parts(checks, sys.argv[1])
+    compare_recipes(checks, sys.argv[1])
+    in_shells(checks, sys.argv[1], ("bash", "zsh"), "scrypt.1", scrypt_examples)
+    checks.end()
+
+
+main()

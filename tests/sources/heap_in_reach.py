@@ -1,0 +1,114 @@
+#!/usr/bin/env python3
+"""Compares whole each function that has the heap in reach, and in argon_text each that has a list.
+
+The heap (`Global`) can be copied, and no contract sees what is requested of it: a function that has it could take
+memory, or make a counter and work on that, beside what its clauses say. So the others get a source of memory, whose
+requests contracts count. Each function with `Global` or any other `Allocator` in its head, or that takes the heap out of
+a list, has its row in tests/sources/heap_in_reach.tsv with a sum of its body, as it was read: it passes the heap on, once, and does nothing else with it. White
+space and comments do not count, and these words stand nowhere else, except in `use` lines. A list keeps its allocator,
+and can grow: so where a password is tested, in argon_text, each function with a list (a `Vec`, a `String`, an `Encoded`)
+in its head has its row there, too. Left out are files that tests/sources/sources.sh compares whole, tests, and the host and the
+system in memory, which no program uses.
+
+    tests/sources/heap_in_reach.py          fails if a body differs, if one is missing here, or if the heap is named elsewhere
+    tests/sources/heap_in_reach.py --told   prints the rows of these functions as they are now: read the bodies before you copy them
+"""
+import hashlib
+import pathlib
+import re
+import sys
+
+sys.path += map(str, pathlib.Path(__file__).resolve().parents[1].iterdir())  # the other folders of tests/
+from functions import FUNCTION, IMPL, opens_at, path_of
+from tree import TOP
+from uncommented import without_comments
+
+# Files that have no part in a program, or that tests/sources/sources.sh compares whole.
+OTHERS = {"host/src/growth.rt", "host/src/memory.rt", "tools/src/memory_system.rt", "tools/src/memory_source.rt"}
+WHOLE = re.compile(r"^compare \w+ crates/(\S+)$", re.MULTILINE)
+TEST_MODULE = re.compile(r"(?:pub(?:\([^)]*\))? )?mod (?:tests|fixtures|refusing)\b")
+TEST_MODULE_ANYWHERE = re.compile(r"\bmod\s+(?:tests|fixtures|refusing)\b")
+TESTS = re.compile(r"(^|/)(tests|fixtures|refusing)(/|\.rt$)")
+HEAP = re.compile(r"\b(Global|Allocator|AllocGlobal|allocator)\b")
+LIST = re.compile(r"\b(Vec|String|Encoded)\b")
+READ = TOP / "tests/sources/heap_in_reach.tsv"
+
+
+def functions_of(path):
+    """The functions of a file that have the heap, by their paths, each with its body; and whether the heap is named
+    elsewhere."""
+    crate = path.relative_to(TOP / "crates").parts[0]
+    file = str(path.relative_to(TOP / "crates" / crate))
+    lines, found = without_comments(path.read_text(encoding="utf-8")), {}
+    tests = [at for at, line in enumerate(lines) if TEST_MODULE.match(line) and lines[at - 1] == "#[cfg(test)]"]
+    for at in reversed(tests):
+        del lines[at:lines.index("}", at) + 1 if lines[at].endswith("{") else at + 1]
+    others = [line for line in lines if HEAP.search(line) and not re.fullmatch(r"use [^;]*;?", line)]
+    # this script and tests/sources/sources.sh would not look at what is in such a module, or behind such a head
+    others += TEST_MODULE_ANYWHERE.findall("\n".join(lines))
+    others += [line for line in lines if re.search(r"\bfn +\w|\bfn$", line) and not FUNCTION.match(line)]
+    for start, head in enumerate(map(FUNCTION.match, lines)):
+        if not head:
+            continue
+        if re.search(r"[^{]}$", lines[start]):
+            others.append(lines[start])  # on one line, which no layout here has
+            continue
+        opens = opens_at(lines, start, head[1])
+        ends = lines.index(head[1] + "}", opens) if lines[opens].endswith("{") else opens
+        named = [line for line in lines[start:opens + 1] if HEAP.search(line)]
+        named += [line for line in lines[opens + 1:ends] if re.search(r"\ballocator\b", line)]
+        above = [it for it in map(IMPL.match, lines[:start]) if it and head[1]]
+        if named or crate == "argon_text" and has_list("\n".join(lines[start:opens + 1]), above):
+            name = path_of(TOP / "crates" / crate, file, above[-1] if above else None, head[2])
+            if f"{crate}::{name}" in found:
+                others.append(lines[start])  # one of two of this name would not be looked at
+            found[f"{crate}::{name}"] = "\n".join(lines[opens + 1:ends])
+            for line in named:
+                others.remove(line)
+    return found, others
+
+
+def has_list(head, above):
+    """Whether a function with this head, in the last of these blocks, has a list."""
+    return LIST.search(head) or (re.search(r"\b[sS]elf\b", head) and above and above[-1][2] == "Encoded")
+
+
+def sum_of(body):
+    """A sum of a body without white space, and without commas before a bracket that closes."""
+    return hashlib.sha256(re.sub(r",(?=[\])}])", "", re.sub(r"\s+", "", body)).encode()).hexdigest()
+
+
+def read_all():
+    """All functions that have the heap, and the lines that name it elsewhere."""
+    whole = {*WHOLE.findall((TOP / "tests/sources/sources.sh").read_text(encoding="utf-8"))} | OTHERS
+    found, others = {}, []
+    for path in sorted((TOP / "crates").glob("*/src/**/*.rt")):
+        name = str(path.relative_to(TOP / "crates"))
+        if name not in whole and not TESTS.search(name):
+            functions, lines = functions_of(path)
+            found.update(functions)
+            others += [f"crates/{name}: {line.strip()}" for line in lines]
+    return found, others
+
+
+def main():
+    found, others = read_all()
+    now = {name: sum_of(body) for name, body in found.items()}
+    if sys.argv[1:] == ["--told"]:
+        print("".join(f"{name}\t{it}\n" for name, it in sorted(now.items())), end="")
+        return 0
+    then = dict(line.split("\t") for line in READ.read_text(encoding="utf-8").splitlines())
+    wrong = [f"{line}: the heap is named there, or this cannot be compared" for line in others]
+    for name in sorted({*now, *then}):
+        if name not in then:
+            wrong.append(f"{name} has the heap, or a list, and no row in {READ.name}")
+        elif name not in now:
+            wrong.append(f"{name} has neither the heap nor a list any more, and a row in {READ.name}")
+        elif now[name] != then[name]:
+            wrong.append(f"{name} is not what was read when its row was put into {READ.name}; its sum is {now[name]}")
+    print("\n".join(wrong) or f"functions that have the heap, or in argon_text a list, compared whole: {len(now)}")
+    return 1 if wrong else 0
+
+
+if __name__ == "__main__":
+    sys.exit(main())

@@ -1,0 +1,217 @@
+#!/bin/sh
+# What a reader of the sources relies on, beside the proofs: proofs by hand are all listed in docs/GATE.md; each counter
+# ticks in one place; what has the heap, and so could take memory or make a counter, is compared whole; memory is
+# reserved where contracts say what was tested before. Tables that another program made are what it makes.
+set -eu
+cd "$(dirname "$0")/../.."
+status=0
+fail() {
+    echo "$1" >&2
+    status=1
+}
+
+for proof in $(find crates -name out -prune -o -name Proof.antt -print | sort); do
+    grep -qF "$proof" docs/GATE.md || fail "$proof is a proof by hand that docs/GATE.md does not list"
+done
+for proof in $(grep -o 'crates/[A-Za-z0-9_/]*/Proof\.antt' docs/GATE.md | sort -u); do
+    test -f "$proof" || fail "docs/GATE.md lists $proof, which is not there"
+done
+
+# The code of the crates, without comments and tests, and in one form: white space between words alone, no comma
+# before a bracket that closes, `f(` for `f::<T>(`, and `T::f` for `<T>::f`. So neither layout nor a type hides a
+# call.
+export LC_ALL=C
+code=$(mktemp -d)
+trap 'rm -rf "$code"' EXIT
+one_form='s/  +/ /g; s/ ?([^A-Za-z0-9_ ]) ?/\1/g; s/,([])}])/\1/g
+    :types; s/::<([^<>()]|<[^<>()]*>)*>//; ttypes; :paths; s/<([A-Za-z0-9_:]+)>::/\1::/; tpaths'
+in_one_form() { sed -E "$one_form"; }
+files=$(find crates -name out -prune -o -name tests -prune -o -name '*.rt' ! -name tests.rt -print)
+strings=$(tests/sources/uncommented.py "$code" $files) || fail "$strings"
+find "$code" -name '*.rt' -exec sed -s -i -E "$one_form" {} +
+# The files of this code below a folder that have this text, each as often as it has it.
+places() {
+    (cd "$code" && grep -roHF -- "$(printf %s "$2" | in_one_form)" "$1" | cut -d: -f1 | sort)
+}
+# refuse PATTERN REASON: no code has what this pattern says.
+refuse() {
+    ! found=$(cd "$code" && grep -roHE -- "$1" crates) || fail "$2: $found"
+}
+refuse macro_rules "a macro may make code of what the searches take for text"
+refuse '#\[path|\binclude(_str|_bytes)?!' "a file is read under a name that is not its own"
+refuse '\br#[A-Za-z_]' "a raw name is not found by its name"
+# What reads sources and definitions by their lines, for pages, edits and the searches below, sees what the prover sees:
+# no comment goes over lines, and a module is a file, but for tests. (tests/pages/definitions_told.py --check looks at specs/ by lines.)
+found=$(find crates -name out -prune -o \( -name '*.rt' -o -name '*.antt' \) -exec grep -nE '/\*|\{-' /dev/null {} + || :)
+test -z "$found" || fail "a comment may hide lines, or show some that are none: $found"
+! found=$(cd "$code" && grep -roHE '(#\[cfg\(test\)\])?[a-z()]*\s?\bmod \w+\{' crates | grep -vF ':#[cfg(test)]mod tests{') ||
+    fail "a module stands inside a file: $found"
+refuse '\b(Room|ReadRoom|TextRoom|Source)::[a-z_]+\(|\bMatrix::(start|hash)\(' "a call by its path is not counted"
+begins='(^|[];{}])(pub |pub\([^)]*\))?'
+refuse "${begins}use [^;]* as _*[A-Za-z0-9]" "a name stands for a different one: calls by it are not counted"
+counted='Ticks|Count|Matrix|Workspace|Lanes|Encoded|Enc|Dec|Vec|String|Box|Global'
+refuse "${begins}type \w+(<[^=;]*>)?=[^;]*\\b($counted)\\b" \
+    "a type's name stands for a different one: calls by it are not counted"
+refuse "\\b($counted)::[a-z_]+[];,)}]" "a function that is counted stands as a value"
+refuse '[=(,](reserve|are_same)[;,)]' "a function that is counted stands as a value"
+# expect_below FOLDER TEXT REASON FILE..: below the folder the text stands once in each of these files, twice where it
+# is named twice, and nowhere else.
+expect_below() {
+    folder=$1 text=$2 reason=$3
+    shift 3
+    test "$(places "$folder" "$text")" = "$(test $# = 0 || printf '%s\n' "$@" | sort)" ||
+        fail "'$text' stands elsewhere: $reason"
+}
+# expect TEXT REASON FILE..: the same of all crates.
+expect() {
+    expect_below crates "$@"
+}
+expect 'tick(' "the counters tick in the one block function and the one core" \
+    crates/argon/src/compression.rt crates/argon/src/ticks.rt crates/romix/src/salsa20.rt crates/romix/src/ticks.rt
+expect 'Count::new()' "argon and romix count, each in its own counter" \
+    crates/argon/src/ticks.rt crates/romix/src/ticks.rt
+expect 'plus_one(' "argon, romix and the heap of the functions for C count, each in its own counter" \
+    crates/argon/src/ticks.rt crates/counter/src/lib.rt crates/pikhsen_c/src/heap.rt crates/pikhsen_c/src/heap.rt \
+    crates/romix/src/ticks.rt
+expect 'self.count=self.count.plus_one()' "a count goes up in its place, and makes no other" \
+    crates/argon/src/ticks.rt crates/romix/src/ticks.rt
+
+# Memory is reserved, and work begun, in one place for each way to it, where contracts say what was tested before.
+expect '::reserve(' "only a source of memory reserves, on the condition that limits admit the work" \
+    crates/argon_text/src/room.rt crates/argon2_command/src/room.rt crates/pikhsen_c/src/heap.rt \
+    crates/pikhsen_c/src/heap.rt crates/scrypt_run/src/room.rt
+# Each function that has the heap is compared whole, and of argon_text each that has a list.
+functions=$(tests/sources/heap_in_reach.py) || fail "$functions"
+expect '.decode(' "a salt or a tag is decoded once" crates/argon_text/src/read_room.rt
+expect '.allocator()' "no function takes the heap out of what it is lent, but the writing of a text" \
+    crates/argon_text/src/encoded.rt
+expect 'vec![in' "lists of a given length are made by the sources of memory, and for the words of the process" \
+    crates/argon/src/room.rt crates/argon/src/room.rt crates/argon2_command/src/bytes.rt \
+    crates/pikhsen_c/src/heap.rt crates/romix/src/reservation.rt crates/tools/src/arguments.rt
+expect 'with_capacity(' "room for a given length is asked for by the sources of memory alone, which use lists"
+expect_below crates/argon_text '.hash(' "a hash is made once" crates/argon_text/src/verify_password.rt
+expect '.start(' "a hash is begun where it is made: its first steps are not counted" crates/argon/src/matrix.rt
+expect_below crates/argon2_command '.hash(' "a hash is made once" crates/argon2_command/src/output.rt
+# A list, which keeps its allocator, does not grow where a hash is made or a key derived, but in the sources of memory.
+expect_below crates/pikhsen_c '.write(' "a text is written where the heap is" crates/pikhsen_c/src/heap.rt
+grows='append|clone\w*|extend\w*|from_elem|insert\w*|push\w*|(try_)?reserve\w*|(try_)?resize\w*|shrink\w*|sort\w*'
+grows="$grows|splice\w*|split_off"
+! found=$(cd "$code/crates" && grep -roHE "(\.|::)($grows)\(|\bBox::new\(" \
+    argon argon2_command command pikhsen_c romix scrypt_command scrypt_run |
+    grep -vE '/(heap|line|room)\.rt:|^romix/src/(reservation\.rt:|workspace\.rt:::reserve\($)') ||
+    fail "memory is asked for by what is not a source of memory: $found"
+# The functions for C get what has a list in types that keep it to themselves.
+! found=$(cd "$code" && grep -rlE '\b(Vec|String|Encoded)\b' crates/pikhsen_c | grep -vE '/(heap|reading|text)\.rt$') ||
+    fail "a list, which has an allocator, stands where it is not kept from others: $found"
+# Each asks its source in these places.
+in_c() {
+    text=$1 reason=$2
+    shift 2
+    for file in "$@"; do set -- "$@" "crates/pikhsen_c/src/$file.rt" && shift; done
+    expect_below crates/pikhsen_c "$text" "$reason" "$@"
+}
+in_c 'source.matrix(&params, settings.max_kib, settings.max_ops)' "a matrix is for a hash" argon2 encoded
+in_c '.matrix(' "a matrix is for a hash" argon2 encoded
+in_c '.text(' "a text is for the text of a hash" encoded
+in_c '.workspace(' "the memory of a derivation is taken in one place" scrypt
+in_c '.read(' "a text is read for its settings and for the test of a password" settings settings verifying
+# Nothing comes after the zeros over the stack.
+! found=$(cd "$code" && sed 's/burn(told,machine)}//g' crates/pikhsen_c/src/[!b]*.rt | grep -oE '.{0,40}\bburn\(.{0,40}') ||
+    fail "something comes after zeros were put over the stack: $found"
+for text in 'forget' 'ManuallyDrop' 'leak(' 'into_raw('; do
+    expect "$text" "all memory that is taken is freed"
+done
+# What comes from a password stands in lists that `Held::free` alone lets go of, on the condition that they hold zeros:
+# the type has no Drop and no further function, and its list is its module's. The other lists are zeros, or public.
+for name in 'argon:Block:new blocks blocks_mut free' 'romix:u32:new words free'; do
+    file=crates/${name%%:*}/src/held.rt item=${name#*:}
+    grep -qxF "    list: Vec<${item%%:*}>," "$file" || fail "$file: the list is lent by its module alone"
+    grep -qF '        requires wiped { self.list.items ≡ replicate ' "$file" ||
+        fail "$file: a list is freed when it holds zeros"
+    test "$(grep -oE '\bfn \w+' "$file" | cut -c4- | tr '\n' ' ')" = "${item#*:} " ||
+        fail "$file: a list is made, lent and freed by these functions alone"
+    if grep -nE 'Drop|derive|Clone|mem::' "$file" | grep -vE '^[0-9]+: *//'; then
+        fail "$file: a list is let go of by Held::free alone"
+    fi
+done
+for text in 'clone(' 'Clone::' '.to_vec(' 'to_owned(' 'collect(' 'try_take(' 'allocator(' 'Box'; do
+    expect_below crates/romix "$text" "a list of words stands once until it is wiped"
+    expect_below crates/argon "$text" "a list of blocks stands once until it is wiped"
+done
+expect_below crates/romix 'Vec::' "a list of words is made by the source of memory alone" \
+    crates/romix/src/reservation.rt
+expect_below crates/argon 'Vec::' "a list of blocks is made by the source of memory alone"
+expect_below crates/romix 'Vec<' "a list of words is not wiped" crates/romix/src/held.rt crates/romix/src/held.rt \
+    crates/romix/src/reservation.rt crates/romix/src/reservation.rt crates/romix/src/reservation.rt \
+    crates/romix/src/reservation.rt
+expect_below crates/argon 'Vec<' "a list of blocks is not wiped" crates/argon/src/held.rt crates/argon/src/held.rt \
+    crates/argon/src/lanes.rt crates/argon/src/room.rt crates/argon/src/room.rt crates/argon/src/room.rt \
+    crates/argon/src/room.rt crates/argon/src/weave.rt
+expect_below crates/scrypt_run 'Enc::start(' "a derivation for a new file is begun once" \
+    crates/scrypt_run/src/encrypt.rt
+expect_below crates/scrypt_run 'Dec::open(' "a derivation for a file that is read is begun once" \
+    crates/scrypt_run/src/decrypt.rt
+
+# Of the system no contract knows a byte. So the files that call it, and what hands the system to the programs, are
+# compared whole, without comments and white space, by their sums: who changes one reads it again, and puts its new sum here.
+compared=
+compare() {
+    compared="$compared $2"
+    sum=$(grep -vE '^ *//' "$2" | tr -d ' \n' | sha256sum | cut -c1-64)
+    test "$sum" = "$1" || fail "$2 is not what was read when its sum was put here; its sum is $sum"
+}
+compare 1d804d1995a484dd0678e343a795020b6d3b97d6b986b6977adee401fa4ba8a7 crates/tools/src/real.rt
+compare 8a4250968e40c078f6e24ee22868d9d6c804e22344261c42f76e34fe841cced2 crates/tools/src/identity.rt
+compare 27ab446a5ed92bf7fbb468982580077c327db7e9fbc8780f5c76c96b0f983535 crates/tools/src/placeholders.rt
+compare fd72d58f020e62464528b85c0313b937310d5f45d00dd62f1a495d89e964cc97 crates/argon_tool/src/main.rt
+compare 10cd5b39cfdf89c939a2f8bba840c7f608433a105dd98231b48621fce5838759 crates/scrypt_tool/src/main.rt
+# Which of them `tools` hands to the programs is compared, too. Nothing else takes the runtime or names the system's calls,
+# or is a system. What a `drop` does comes after the end of a run, of which alone the contract of `run` speaks: no type
+# has one but two that hold no system.
+compare 89cd4523427d1d91331d2d2e9e994b8390fed8424fc9952cf4c407b81f8c3689 crates/tools/src/lib.rt
+! found=$(cd "$code" && grep -roHE '\b(HostRuntime|std::(fs|env|process|net))\b' crates | sort -u | grep -v _tests/ |
+    grep -vE '^crates/(tools/src/(real|identity|placeholders)|(argon|scrypt)_tool/src/main|comparison/src/lib)\.rt:' |
+    grep -vxF crates/scrypt_request/src/refusal.rt:HostRuntime) || # which its test takes
+    fail "the system is named in a file that is not compared whole: $found"
+expect 'System for ' "the systems are the real one and the one in memory" \
+    crates/tools/src/memory_system.rt crates/tools/src/real.rt
+expect 'Drop for ' "a drop runs after the end of which contracts speak" \
+    crates/argon/src/blocks.rt crates/romix/src/words.rt
+# Of the heap neither: that it is asked for what a clause says, once, and that want of memory is reported where the heap
+# refused and nowhere else. So the files in which the heap is the source of memory are compared whole, too.
+compare 52c2436ec549b7a5bfa19aa1228f4db42d44c164de0f1c711ca0698f27a847f1 crates/argon/src/room.rt
+compare d18f42d50d03421d9b23cd0e56050613778ec6371eddee7887e272ade6f69bdc crates/argon2_command/src/bytes.rt
+compare e7cbb65a747c159f80f65fb01374e95c1b0389396d383e4bac663a68e85e132e crates/argon2_command/src/line.rt
+compare 7d3dc1b3eea0508bb0be62cb014654feb9119cfeaa93e8dd80e6c85d09bbc733 crates/argon2_command/src/room.rt
+compare 59cb45b19577aead6a56a6f27d15e590e3245cd4ce4aeafedc03dd7d41f426a5 crates/argon_text/src/read_room.rt
+compare 0718e36ffe70d272a0a6b73aba7e9fef2fa7764476b1d37b1c674c9033809646 crates/argon_text/src/room.rt
+compare 50a6af06f1848ac1af58182b15162c01fe175a8ec12a83a2a9b56c243488e022 crates/argon_text/src/text_room.rt
+compare 71379740175d79a7bebf6a946526f623252ee63cd94b630fbda8926aebcc8d4d crates/pikhsen_c/src/heap.rt
+compare 3a1324cba20a5a03fbb4015d8da8bd52dffebec8c00f221b7f16718dd0e8a79b crates/pikhsen_c/src/reading.rt
+compare 9b460b315d4860e9eca8bc2e229a0912a4cfc94bc96eb8b0c52a4ac5928deaba crates/pikhsen_c/src/text.rt
+compare edaf946efc6fd2415e234ab920a7659acd078e5fcf3a3269dd0a7be68a564cfa crates/romix/src/reservation.rt
+compare b7c9cf4e2e2bdf886fcc59c19cecdc1ac5c414c77aba9a0904ec74736accbc1a crates/scrypt_run/src/line.rt
+compare 266c1125320cd467b012655480d8b345a1f6f7c5ada451d46ed82e1413a73f58 crates/scrypt_run/src/room.rt
+expect 'set_permissions' "a file keeps the permissions that it has or is made with"
+expect 'PermissionsExt' "a file keeps the permissions that it has or is made with"
+
+# A comparison that ends at the first byte that differs tells by its time where that is, and no contract sees time.
+expect 'are_same(tag, claim.tag)' "tags are compared over all their bytes" crates/argon_text/src/verify_password.rt
+expect '!are_same(&front[64..], ' "the code of a header is compared over all its bytes" crates/encfile/src/dec.rt
+expect 'are_same(&self.bytes, code)' "the final code is compared over all its bytes" crates/encfile/src/held.rt
+expect 'difference |= left[i] ^ right[i];' "the comparison looks at every byte" crates/comparison/src/lib.rt
+compare fb4363fe3d8f4754cafa6a15c5c1d3a150f77cd070cfa0065e07306138c5f572 crates/comparison/src/lib.rt
+compare 73e8068b5e2372ec631f8eb42d7afce95fc89541c66f2a76578b05058eb9e2bf crates/pikhsen_c/src/burning.rt
+for text in '==' '!=' '.eq(' '.ne(' '.cmp(' '.starts_with(' '.position('; do
+    for file in pikhsen_c/src/heap pikhsen_c/src/keyed pikhsen_c/src/reading pikhsen_c/src/source \
+        pikhsen_c/src/verifying argon_text/src/verify_password; do
+        expect_below "crates/$file.rt" "$text" "what tests a password compares by are_same alone"
+    done
+done
+expect_below crates/pikhsen_c 'are_same(' "what tests a password for C compares nothing itself"
+
+tests/sources/encoded_texts.py crates/argon_text_tests/src/tests/near_misses.rt || status=1
+
+test $status != 0 || printf '%s\n' "compared whole:$compared" "$functions"
+
+exit $status
