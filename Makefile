@@ -36,18 +36,8 @@ check: ## proves what differs from the last commit and what stands on it, and ru
 
 # What was built for another level is tested, too, and built anew before, if the sources changed.
 test: $(filter bin/x86-64-v3/%,$(wildcard $(LEVELS:%=bin/%/scrypt))) ## the gate: proofs, tests, wrong bodies, definitions and lines that are new or in turn, the built programs
-	@rm -rf bin/gate.tsv bin/rooms
-	@tests/build/steps.py tests/sources/sources.sh tests/pages/documents.py tests/pages/values.py 'tests/pages/definitions_told.py --check' tests/edits/choice_test.py \
-		tests/build/first_run.py tests/build/build_scripts.py tests/build/steps_test.py
-	@tests/build/steps.py 'rt ci'
-	@install -D -m 755 crates/argon_tool/out/argon_tool bin/x86-64-v2/argon2
-	@install -D -m 755 crates/scrypt_tool/out/scrypt_tool bin/x86-64-v2/scrypt
-	@test -f bin/level && test "$$(cat bin/level)" != x86-64-v2 || packaging/chosen.sh x86-64-v2
-	@tests/build/steps.py tests/edits/refusals.py \
-		$(foreach it,$(LEVELS),$(if $(filter x86-64-v2,$(it))$(wildcard bin/$(it)/scrypt),'tests/programs/outside.sh bin/$(it)'))
-	@tests/build/steps.py tests/library/c_face.py tests/edits/wrong_lines.py
-	@tests/build/steps.py 'tests/build/builds.py --check'
-	@tests/build/steps.py --all
+	@rm -rf bin/rooms && mkdir -p bin && printf '# begun:\t%s\n' $$(date +%s) >bin/gate.tsv
+	@$(MAKE) --no-print-directory -f tests/build/gate.mk -j -O gate LEVELS='$(LEVELS)'
 
 # A wrong line may need the programs or the library to be found. docs/audit says of which commit the last audit was.
 audit: bin/x86-64-v2/scrypt bin/lib/libpikhsen.so.0 ## tries each wrong body, wrong definition and wrong line, and writes the commit into docs/audit

@@ -38,7 +38,7 @@ TESTS = {
     "tests/build/build_scripts.py": ([], 20, ["gcc", "dpkg-deb"]), "tests/library/python_module.py": (["LIB"], 6, ["gcc"]),
     "tests/library/packages.py": (["LIB"], 9, ["gcc", "dpkg-deb", SCRYPT]), "tests/library/c_face.py": (["--header", "LIB"], 6, ["gcc", "g++"]),
     "tests/sources/sources.sh": ([], 2, []), "tests/programs/story.py": (["--recipes", "bin/x86-64-v2"], 25, ["bash", "dash", SCRYPT]),
-    "tests/build/steps_test.py": ([], 4, []), "tests/pages/definitions_told.py": (["--check"], 8, []),
+    "tests/pages/definitions_told.py": (["--check"], 8, []),
 }
 # What a test says of what it finds: a comparison that fails, a name that is not there, or how it ended.
 SAID = re.compile(r"^(?:FAILED|not there:) (.*)$|^(\w*(?:Error|Exception)\b.*)$", re.MULTILINE)

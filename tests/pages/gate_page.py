@@ -6,7 +6,7 @@
     tests/pages/gate_page.py --take LOAD [FOLDER]  takes the seconds of runs before that, from FOLDER or from bin/; LOAD is
                                              what else the machine did, as "quiet"
 
-Steps are those of the Makefile, in its order; functions, tests and edits are counted in the sources. Seconds stand in
+Steps are those of tests/build/gate.mk, in its order; functions, tests and edits are counted in the sources. Seconds stand in
 docs/gate.tsv, by steps, and in docs/crates.tsv, by crates; the first lines of both say of which run. They come from
 
 - gate.tsv of a whole make test, which has each step;
@@ -40,7 +40,7 @@ HEADS = {
     "check": ("check", "of the processor, for the proof of the crate from nothing"),
     "bodies": ("wrong bodies", "by the clock, for all its edits, where checks that run side by side are added up"),
 }
-# What each step does, by its words in the Makefile.
+# What each step does, by its words.
 DOES = {
     "tests/sources/sources.sh": "proofs by hand are those listed below; a counter ticks, and memory is reserved, wiped and freed, "
     "only in the places that the script lists; functions that have the heap, or in `argon_text` a list "
@@ -59,7 +59,6 @@ DOES = {
     "lines, and what they leave behind if a proof fails or they are stopped",
     "tests/build/build_scripts.py": "packaging/build.sh, chosen.sh, lib.sh and deb.sh over stand-ins: what they make, and that "
     "they leave no older program, library or package if they fail or are stopped",
-    "tests/build/steps_test.py": "what runs these steps stops where one fails or is killed, and says so",
     "rt ci": "proves every crate and its tests, and runs each test, and the programs as "
     "built by two compilers; what it proved before on the same machine, of the same bytes, it takes from /opt/rattle-kept",
     "tests/edits/refusals.py": "tries wrong bodies and wrong definitions: those of each crate that differs from the last audit, and "
@@ -77,10 +76,10 @@ DOES = {
 
 
 def steps():
-    """The steps of the gate in their order: those of the Makefile after tests/build/steps.py."""
-    recipe = (TOP / "Makefile").read_text(encoding="utf-8").partition("\ntest:")[2].partition("\n\n")[0]
-    calls = " ".join(re.findall(r"tests/build/steps\.py ((?:.*\\\n)*.*)", recipe))
-    return re.findall(r"(?<![\w/])((?:tests/\w+/\w+\.(?:py|sh)|rt)(?: ci| --check)?)", calls)
+    """The steps of the gate in their order."""
+    made = (TOP / "tests/build/gate.mk").read_text(encoding="utf-8")
+    calls = re.findall(r"\(call step,(\S+(?: ci| --check)?)", made)
+    return [it.rstrip(")") for it in calls]
 
 
 def rows_of(path):

@@ -1,0 +1,33 @@
+# The steps of the gate, each after those that have to end well before it: make test runs `make -f tests/build/gate.mk -j -O`.
+# Steps run side by side where they may. What one printed is printed when it ended (that of `rt ci` at once), with its
+# seconds by the clock and of the processors, which bin/gate.tsv keeps. After one has failed, none begins.
+SHELL := /bin/bash
+LEVELS := x86-64-v2
+step = @{ t=$$({ TIMEFORMAT='%0R %0U %0S'; time $(1) >&3 2>&4; } 2>&1); r=$$?; } 3>&1 4>&2; set -- $$t; \
+	said="$$1"$$'\t'"$$(($$2 + $$3))"$$'\t'"$(1)"; echo "== $$said"; echo "$$said" >>bin/gate.tsv; exit $$r
+outside := $(foreach it,$(LEVELS),$(if $(filter x86-64-v2,$(it))$(wildcard bin/$(it)/scrypt),outside-$(it)))
+
+gate: builds
+	@awk -F '\t' -v now=$$(date +%s) 'NR == 1 {begun = $$2} NR > 1 {all += $$2} END {print now - begun "\t" all "\tall"}' \
+		bin/gate.tsv >bin/gate.all && cat bin/gate.all >>bin/gate.tsv && rm bin/gate.all
+	@cat bin/gate.tsv
+
+.PHONY: gate sources documents values told choice first_run scripts proved refusals c_face lines builds
+sources:   ; $(call step,tests/sources/sources.sh)
+documents: ; $(call step,tests/pages/documents.py)
+values:    ; $(call step,tests/pages/values.py)
+told:      ; $(call step,tests/pages/definitions_told.py --check)
+choice:    ; $(call step,tests/edits/choice_test.py)
+first_run: ; $(call step,tests/build/first_run.py)
+scripts:   ; $(call step,tests/build/build_scripts.py)
+proved: sources documents values told choice first_run scripts
+	+$(call step,rt ci)
+	@install -D -m 755 crates/argon_tool/out/argon_tool bin/x86-64-v2/argon2
+	@install -D -m 755 crates/scrypt_tool/out/scrypt_tool bin/x86-64-v2/scrypt
+	@test -f bin/level && test "$$(cat bin/level)" != x86-64-v2 || packaging/chosen.sh x86-64-v2
+refusals: proved  ; $(call step,tests/edits/refusals.py)
+outside-%: proved ; $(call step,tests/programs/outside.sh bin/$*)
+c_face lines: refusals $(outside)
+c_face:           ; $(call step,tests/library/c_face.py)
+lines:            ; $(call step,tests/edits/wrong_lines.py)
+builds: c_face lines ; $(call step,tests/build/builds.py --check)
