@@ -44,7 +44,7 @@ audit: bin/x86-64-v2/scrypt bin/lib/libpikhsen.so.0 ## tries each wrong body, wr
 	@tests/edits/choice.py >bin/audit
 	tests/edits/refusals.py --audit
 	tests/edits/wrong_lines.py --audit
-	@tests/edits/choice.py | cmp -s - bin/audit && mv bin/audit docs/audit
+	@tests/edits/choice.py | cmp - bin/audit && mv bin/audit docs/audit
 
 map: ## draws docs/proof-map.svg and docs/proof-map-small.svg anew: which promise stands on what
 	tests/pages/proof_map.py docs/proof-map.svg docs/proof-map-small.svg

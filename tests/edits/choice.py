@@ -3,16 +3,16 @@
 
 docs/audit names the commit at which `make audit` saw each edit refused at its goal, and the toolchain that it had. An edit
 is tried if its own lines are not those of that commit, or a file that its trial is over differs from that commit, be it
-committed or not. Of the others a tenth is tried, which the hash of the commit that is tested chooses: a group of edits that
-share a check as a whole. Every edit is tried where that commit is not known (a shallow clone, a copy without git) or is no
-ancestor, where the toolchain's logic is another, or what decides over refusals (RULES) differs.
+committed or not. Of the others a tenth is tried, which the hash of the commit that is tested chooses. Every edit is tried
+where that commit is not known (a shallow clone, a copy without git) or is no ancestor, where the toolchain's logic is
+another, or what decides over refusals (RULES) differs.
 
     tests/edits/choice.py    prints what docs/audit has after an audit of the tree; fails if the tree is not as committed
 """
 import hashlib
 import math
-import sys
 import pathlib
+import sys
 
 sys.path += map(str, pathlib.Path(__file__).resolve().parents[1].iterdir())  # the other folders of tests/
 from edits import sections
@@ -57,9 +57,9 @@ class Choice:
         """Whether an edit is tried whatever its turn, where its trial is over the files at or below these places."""
         return bool(self.every) or self.differs(places) or self.is_edited(edit)
 
-    def tenth(self, units):
+    def tenth(self, names):
         """A tenth of these names, which the commit chooses."""
-        order = sorted(units, key=lambda it: hashlib.sha256(f"{it} {self.head}".encode()).digest())
+        order = sorted(names, key=lambda it: hashlib.sha256(f"{it} {self.head}".encode()).digest())
         return order[:math.ceil(len(order) / PART)]
 
     def said(self):

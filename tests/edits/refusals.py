@@ -1,12 +1,12 @@
 #!/usr/bin/env python3
 """Tries wrong bodies and wrong definitions, several of one crate in one check: each must be refused at its goal.
 
-    tests/edits/refusals.py                             as in the gate: what tests/edits/choice.py chooses
-    tests/edits/refusals.py --audit                     every one
+    tests/edits/refusals.py                                  as in the gate: what choice.py chooses
+    tests/edits/refusals.py --audit                          every one
     tests/edits/refusals.py [--told] CRATE | CRATE/NAME ..   these; with --told, what refused each is written as its goal
 
-What a refusal is, say tests/edits/body_trial.py and tests/edits/definition_trial.py; how edits are written, tests/edits/edits.py. One that is
-not refused has failed, and so has one that is refused at another goal than the one below its lines, unless with --told.
+What a refusal is, say body_trial.py and definition_trial.py; how edits are written, edits.py. One that is not refused has
+failed, and so has one that is refused at another goal than the one below its lines, unless with --told.
 
 Of each crate of which a body is tried the functions that these edits change are proved once more as they are, into its
 out/incremental, since rt ci keeps its proofs for itself; the whole crate is, where an edit changes more than bodies.
@@ -84,18 +84,13 @@ class Crate:
 
 
 def choose(crates, choice):
-    """Leaves of each crate's edits those that are tried in the gate, and says which are in turn: groups that share a check."""
-    new, units = set(), {}
+    """Leaves of each crate's edits those that are tried in the gate, and says how many are new, and how many in turn."""
+    every = {f"{edit.path.parent.name} {edit.name}": edit for it in crates for edit in [*it.bodies, *it.definitions]}
+    new = {edit for it in crates for edit in [*it.bodies, *it.definitions] if choice.is_new(edit, it.places())}
+    in_turn = {every[name] for name in choice.tenth(name for name, edit in every.items() if edit not in new)}
     for it in crates:
-        places = it.places()
-        new |= {edit for edit in [*it.bodies, *it.definitions] if choice.is_new(edit, places)}
-        groups = [edits for edits, _ in body_trial.in_groups([edit for edit in it.bodies if edit not in new])]
-        groups += definitions_in_groups([edit for edit in it.definitions if edit not in new])
-        units.update({f"{group[0].name} ({len(group)})": group for group in groups})
-    tenth = choice.tenth(units)
-    for it in crates:
-        it.keep(new.union(*(units[name] for name in tenth)))
-    return f"{choice.said()}: {len(new)} edits are new; in turn by {choice.head[:12]}: {', '.join(sorted(tenth))}"
+        it.keep(new | in_turn)
+    return f"{choice.said()}: {len(new)} edits are new, and {len(in_turn)} in turn by {choice.head[:12]}"
 
 
 class Run:

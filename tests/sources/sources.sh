@@ -98,7 +98,7 @@ grows='append|clone\w*|extend\w*|from_elem|insert\w*|push\w*|(try_)?reserve\w*|(
 grows="$grows|splice\w*|split_off"
 ! found=$(cd "$code/crates" && grep -roHE "(\.|::)($grows)\(|\bBox::new\(" \
     argon argon2_command command pikhsen_c romix scrypt_command scrypt_run |
-    grep -vE '/(heap|line|room)\.rt:|^romix/src/(reservation\.rt:|workspace\.rt:::reserve\($)') ||
+    grep -vE '/(heap|line|room|reservation)\.rt:') ||
     fail "memory is asked for by what is not a source of memory: $found"
 # The functions for C get what has a list in types that keep it to themselves.
 ! found=$(cd "$code" && grep -rlE '\b(Vec|String|Encoded)\b' crates/pikhsen_c | grep -vE '/(heap|reading|text)\.rt$') ||
@@ -169,7 +169,8 @@ compare 10cd5b39cfdf89c939a2f8bba840c7f608433a105dd98231b48621fce5838759 crates/
 # or is a system. What a `drop` does comes after the end of a run, of which alone the contract of `run` speaks: no type
 # has one but two that hold no system.
 compare 89cd4523427d1d91331d2d2e9e994b8390fed8424fc9952cf4c407b81f8c3689 crates/tools/src/lib.rt
-! found=$(cd "$code" && grep -roHE '\b(HostRuntime|std::(fs|env|process|net))\b' crates | sort -u | grep -v _tests/ |
+! found=$(cd "$code" && grep -roHE '\bHostRuntime\b|\bstd::((env|fs|net|os|process)\b|[{*])|\b(libc|os)::' crates |
+    sort -u | grep -v _tests/ |
     grep -vE '^crates/(tools/src/(real|identity|placeholders)|(argon|scrypt)_tool/src/main|comparison/src/lib)\.rt:' |
     grep -vxF crates/scrypt_request/src/refusal.rt:HostRuntime) || # which its test takes
     fail "the system is named in a file that is not compared whole: $found"
