@@ -135,15 +135,6 @@ def is_right(crate, edits, folder, kept):
     return not places or shared(crate, {}, places, folder, kept) == {}
 
 
-def in_groups(edits, most=MOST):
-    """Pairs of edits and the texts that they make: no two edits of a group change one function."""
-    groups = []
-    for edit in edits:
-        for group in groups if edit.is_shared else []:
-            made = edit.put(group[1]) if group[0][0].is_shared and len(group[0]) < most else None
-            if made and not any(it.places & edit.places for it in group[0]):
-                group[:] = [*group[0], edit], made[0]
-                break
-        else:
-            groups.append([[edit], edit.texts])
-    return groups
+def goes_with(edit, other):
+    """Whether two edits can share a check: they change bodies alone, of different functions."""
+    return edit.is_shared and other.is_shared and not edit.places & other.places

@@ -5,11 +5,13 @@ docs/audit names the commit at which `make audit` saw each edit refused at its g
 is tried if its own lines are not those of that commit, or a file that its trial is over differs from that commit, be it
 committed or not. Of the others a tenth is tried, which the hash of the commit that is tested chooses. Every edit is tried
 where that commit is not known (a shallow clone, a copy without git) or is no ancestor, where the toolchain's logic is
-another, or what decides over refusals (RULES) differs.
+another, or what decides over refusals (RULES) differs; but never more than there is time for (BUDGET): the hash of the
+commit chooses what is left out, and edits whose own lines differ come first.
 
     tests/edits/choice.py    prints what docs/audit has after an audit of the tree; fails if the tree is not as committed
 """
 import hashlib
+import itertools
 import math
 import pathlib
 import sys
@@ -19,8 +21,9 @@ from edits import sections
 from tree import TOP, git
 
 AUDIT, PART = "docs/audit", 10
+BUDGET = 12000  # seconds of the processors for the trials of a gate: two need two and a half hours then, with all that it does
 RULES = [*(f"tests/edits/{it}.py" for it in ("body_trial", "choice", "definition_trial", "definitions", "edits", "refusals",
-                                             "toolchain", "wrong_lines")), "tests/sources/functions.py"]
+                                             "toolchain", "wrong_lines")), "tests/sources/functions.py", "tests/pages/reading.py"]
 
 
 class Choice:
@@ -57,13 +60,23 @@ class Choice:
         """Whether an edit is tried whatever its turn, where its trial is over the files at or below these places."""
         return bool(self.every) or self.differs(places) or self.is_edited(edit)
 
+    def order(self, names):
+        """These names in the order that the commit chooses."""
+        return sorted(names, key=lambda it: hashlib.sha256(f"{it} {self.head}".encode()).digest())
+
     def tenth(self, names):
         """A tenth of these names, which the commit chooses."""
-        order = sorted(names, key=lambda it: hashlib.sha256(f"{it} {self.head}".encode()).digest())
-        return order[:math.ceil(len(order) / PART)]
+        return self.order(names)[:math.ceil(len(names) / PART)]
 
-    def said(self):
-        return self.every or f"since the audit at {self.commit[:12]} {len(self.differing)} files differ"
+    def choose(self, every, seconds=lambda name: 0):
+        """The names of the edits that are tried, and what there is to say of them. Each edit comes by its name, with the
+        places that its trial is over; seconds says what one takes, after those before it."""
+        new = {name for name, (edit, places) in every.items() if self.is_new(edit, places)}
+        names = [*sorted(self.order(new), key=lambda it: not self.is_edited(every[it][0])), *self.tenth({*every} - new)]
+        kept = [name for name, spent in zip(names, itertools.accumulate(map(seconds, names))) if spent <= BUDGET]
+        left = f"; {len(names) - len(kept)} of them are left out, for want of time: make audit tries all" * (kept != names)
+        since = self.every or f"since the audit at {self.commit[:12]} {len(self.differing)} files differ"
+        return kept, f"{since}: {len(new)} edits are new, and {len(names) - len(new)} in turn by {self.head[:12]}{left}"
 
 
 if __name__ == "__main__":

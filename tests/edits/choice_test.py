@@ -1,13 +1,14 @@
 #!/usr/bin/env python3
 """Which edits choice.py lets be tried, over a tree of two crates, each with a wrong body, and an audit of it."""
 import pathlib
+import re
 import subprocess
 import sys
 import tempfile
 
 sys.path += map(str, pathlib.Path(__file__).resolve().parents[1].iterdir())  # the other folders of tests/
 from checking import Checks
-from choice import AUDIT, Choice
+from choice import AUDIT, BUDGET, Choice
 from edits import Edit, sections
 from tree import git
 
@@ -60,6 +61,10 @@ def main():
         choice, names = Choice("logic 1", top), [f"edit {at}" for at in range(95)]
         tenths = [choice.tenth(names) for choice.head in map(str, range(200))]
         checks.that("a tenth, and each in its turn", ({*map(len, tenths)}, {*sum(tenths, [])}), ({10}, {*names}))
+        choice.every, edits = "no audit", dict.fromkeys(names, (Edit(top / BODIES, "a", []), []))
+        kept, said = choice.choose(edits, lambda _: BUDGET / 3)
+        checks.that("as many as there is time for", kept, choice.order(names)[:3])
+        checks.that("and how many are left out", re.findall("; ([0-9]+) of them are left out", said), ["92"])
     checks.end()
 
 

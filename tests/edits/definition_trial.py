@@ -19,6 +19,7 @@ from definitions import VECTORS
 from functions import text_of
 from toolchain import ALONE, rt
 
+MOST = 8  # edits that share a check
 NUMBER = re.compile(r"0x[0-9A-F]+|[\d ^*+()-]+")
 NAMES = {"Prelude": ("◌≢◌", "false", "nat_eq"), "Str": ("bytes_eq",)}  # which a turned equation cites
 ROOT = "src/lib.rt"
@@ -63,11 +64,14 @@ def beside_its_tests(crate, tests):
     return crate
 
 
-def tried(crate, edits, folder, kept):
+def goes_with(edit, other):
+    """Whether two edits can share a check: no equation of one reaches what the other changes."""
+    return not (edit.changes & other.reach or other.changes & edit.reach)
+
+
+def tried(crate, edits, texts, folder, kept):
     """What refuses each edit of a group, or None, and what else there is to say."""
-    texts, names = {}, [f"wrong_{edit.stem.replace('-', '_')}" for edit in edits]
-    for edit in edits:
-        texts = edit.put(texts)[0]
+    texts, names = dict(texts), [f"wrong_{edit.stem.replace('-', '_')}" for edit in edits]
     tests = reading.folder_of_tests(crate.folder)
     texts[VECTORS] = with_names(text_of(tests, VECTORS, {}))
     if tests != pathlib.Path(crate.folder):
@@ -87,7 +91,7 @@ def tried(crate, edits, folder, kept):
     proved = [f"fn {crate.name}::vectors::{name}: proved" in lines for name in names]
     found = [edit.goal if it else None for edit, it in zip(edits, proved)]
     if len(edits) > 1:
-        return [(row, "") if row else tried(whole, [edit], folder, kept)[0] for row, edit in zip(found, edits)]
+        return [(row, "") if row else tried(whole, [edit], edit.texts, folder, kept)[0] for row, edit in zip(found, edits)]
     said = "\n".join(it for it in lines if it and not NO_MATTER.match(it))
     why = "" if proved[0] else f"it is not proved that the sides of {edits[0].goal} differ:\n{said[:2000]}"
     return [(found[0], why)]

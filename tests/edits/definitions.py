@@ -13,7 +13,6 @@ from edits import DEFINITIONS, Edit, edits_of
 from functions import text_of
 from tree import TOP
 
-MOST = 8  # edits that share a check
 VECTORS = "src/vectors.rt"
 VECTOR = re.compile(r"(?m)^((?:#\[.*\]\n)*)fn (\w+)\(\)\n((?:    .*\n)+)\{\}$")
 CLAUSE = re.compile(r"(?ms)^    ensures (\w+) \{ (.*?) \}$(?=\n    ensures|\n?\Z)")
@@ -74,26 +73,7 @@ class WrongDefinition(Edit):
         elif not self.texts or not self.equation:
             self.wrong = "what it replaces does not stand there once" if self.equation else f"there is no {self.goal}"
 
-    def goes_with(self, other):
-        return not (self.changes & other.reach or other.changes & self.reach)
-
 
 def wrong_definitions_of(crate, definitions):
     """The wrong definitions of a crate, by their names."""
     return edits_of(crate, DEFINITIONS, lambda *it: WrongDefinition(*it, definitions))
-
-
-def in_groups(edits):
-    """The edits in groups that share a check."""
-    groups = []
-    for edit in edits:
-        for group in groups:
-            made = {}
-            for it in [*group, edit]:
-                made = made if made is None else (it.put(made) or [None])[0]
-            if len(group) < MOST and made and all(edit.goes_with(it) for it in group):
-                group.append(edit)
-                break
-        else:
-            groups.append([edit])
-    return groups

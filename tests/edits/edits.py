@@ -81,19 +81,15 @@ class Edit:
         return line < len(lines) and any(it[0] == file and it[2].strip() in lines[line] for it in self.pairs)
 
 
-def word_of(line):
-    return line.partition(":")[0]
-
-
 def sections(text):
     """The edits of a file's text, in its order: the name of each, and its lines with those of the head."""
     head, *others = [it.split("\n") for it in text.strip("\n").split("\n\n")]
-    of_file, of_test = ([it for it in head if word_of(it) == word] for word in ("file", "test"))
+    of_file, of_test = ([it for it in head if it.startswith(f"{word}:")] for word in ("file", "test"))
     for name, *own in others:
         if ":" in name or not own:
             raise ValueError(f"the name of an edit and its lines are expected at {name!r}")
-        at = next(at for at, line in enumerate(own) if word_of(line) not in FIRST)
-        file = [] if word_of(own[at]) == "file" else of_file
+        at = next(at for at, line in enumerate(own) if line.partition(":")[0] not in FIRST)
+        file = [] if own[at].startswith("file:") else of_file
         yield name, [*own[:at], *file, *own[at:], *of_test]
 
 
@@ -108,6 +104,21 @@ def edits_in(folder, kind=Edit):
 
 def edits_of(crate, folder, kind=Edit):
     return edits_in(TOP / "crates" / crate / folder, kind)
+
+
+def in_groups(edits, most, goes_with):
+    """The edits in groups that share a check, each with the texts that it makes."""
+    groups = []
+    for edit in edits:
+        for group in groups:
+            fits = len(group[0]) < most and all(goes_with(edit, it) for it in group[0])
+            made = edit.put(group[1]) if fits else None
+            if made:
+                group[:] = [*group[0], edit], made[0]
+                break
+        else:
+            groups.append([[edit], edit.texts])
+    return groups
 
 
 def write_goal(edit, goal):

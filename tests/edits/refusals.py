@@ -27,26 +27,29 @@ import time
 sys.path += map(str, pathlib.Path(__file__).resolve().parents[1].iterdir())  # the other folders of tests/
 import body_trial
 import definition_trial
-import gate_page
 from choice import Choice
 from definitions import Definitions, wrong_definitions_of
-from definitions import in_groups as definitions_in_groups
-from edits import BODIES, edits_of, write_goal
-from toolchain import LOGIC, build, left_by_ci, rt, told
+from edits import BODIES, edits_of, in_groups, write_goal
+from toolchain import LOGIC, left_by_ci, rt, told
 from tree import TOP
 
 LEVEL = "x86-64-v2"  # what the gate builds for
 CHECKS = 3  # for each processor, where so few bodies are tried that their checks would not fill all processors
-UNKNOWN = 60, 15  # the seconds of a proof, and of the trial of a body, where docs/crates.tsv has none
-TIMES = TOP / "bin" / "wrong-bodies.tsv"
+UNKNOWN = 60, 15  # the seconds of a proof, and of a trial, where docs/crates.tsv has none
+CRATES = "crates.tsv"  # of each crate the seconds of the processor for its proof, and for the trials of its bodies
 
 
-def arguments():
-    parser = argparse.ArgumentParser()
-    parser.add_argument("--audit", action="store_true")
-    parser.add_argument("--told", action="store_true")
-    parser.add_argument("asked", nargs="*")
-    return parser.parse_args()
+def seconds_of_crates():
+    """The lines of docs/crates.tsv, as lists of cells, by their first."""
+    lines = (TOP / "docs" / CRATES).read_text(encoding="utf-8").splitlines()
+    return {cells[0]: cells for cells in (line.split("\t") for line in lines)}
+
+
+def write_seconds(crates):
+    """Leaves docs/crates.tsv in bin/, with what the bodies of each crate took in this audit."""
+    took = {it.name: f"{it.seconds:.0f}" for it in crates if it.bodies}
+    lines = ["\t".join([*cells[:2], took[name]] if name in took else cells) for name, cells in seconds_of_crates().items()]
+    (TOP / "bin" / CRATES).write_text("\n".join(lines) + "\n", encoding="utf-8")
 
 
 class Crate:
@@ -55,20 +58,22 @@ class Crate:
     def __init__(self, crate, definitions):
         self.crate, self.name, self.seconds, self.is_built = crate, crate.name, 0, False
         self.bodies, self.definitions = edits_of(crate.name, BODIES), wrong_definitions_of(crate.name, definitions)
-        row = gate_page.seconds_of_crates().get(crate.name, {})
-        self.of_proof, of_bodies = int(row.get("check") or UNKNOWN[0]), row.get("bodies")
-        self.of_body = int(of_bodies or UNKNOWN[1] * len(self.bodies)) / max(1, len(self.bodies))
+        _, check, bodies = seconds_of_crates().get(crate.name, ("", "", ""))
+        self.of_proof, self.of_body = int(check or UNKNOWN[0]), int(bodies) / len(self.bodies) if bodies else UNKNOWN[1]
         self.keep([*self.bodies, *self.definitions])
 
     def keep(self, edits):
         """Leaves these to be tried."""
         self.now = [it for it in self.bodies if it in edits], [it for it in self.definitions if it in edits]
 
-    def places(self):
-        """What the trials of its edits are over: the crate, its vectors, and the definitions of those below. What a call
-        below promises is not among it, beyond these definitions."""
-        of_own = [f"crates/{it}/{part}" for it in (self.name, f"{self.name}_tests") for part in ("src", "specs", "proofs")]
-        return of_own + [f"crates/{it.name}/specs" for it in self.crate.below()]
+    def places(self, edit):
+        """What the trial of an edit is over: code, definitions and proofs of the crate, and for a wrong definition, where no
+        code is proved, its vectors in place of the code; and the definitions of the crates below. What a call below
+        promises is not among it, beyond these definitions."""
+        apart = f"{self.name}_tests"
+        parts = ["src"] if edit in self.bodies else ["src/vectors.rt", f"../{apart}"]
+        below = [f"../{it.name}/specs" for it in self.crate.below()]
+        return [os.path.normpath(f"crates/{self.name}/{it}") for it in ("specs", "proofs", *parts, *below)]
 
     def proved(self):
         """The functions that are proved for a trial of what is tried now, and none where it is the whole crate. What the
@@ -84,13 +89,21 @@ class Crate:
 
 
 def choose(crates, choice):
-    """Leaves of each crate's edits those that are tried in the gate, and says how many are new, and how many in turn."""
-    every = {f"{edit.path.parent.name} {edit.name}": edit for it in crates for edit in [*it.bodies, *it.definitions]}
-    new = {edit for it in crates for edit in [*it.bodies, *it.definitions] if choice.is_new(edit, it.places())}
-    in_turn = {every[name] for name in choice.tenth(name for name, edit in every.items() if edit not in new)}
+    """Leaves of each crate's edits those that are tried in the gate, and says how many are new, in turn, and left out."""
+    every = {f"{edit.path.parent.name} {edit.name}": (edit, it) for it in crates for edit in [*it.bodies, *it.definitions]}
+    proved = set()
+
+    def seconds(name):
+        edit, it = every[name]
+        of_proof, of_trial = 0 if it in proved else it.of_proof, it.of_body if edit in it.bodies else UNKNOWN[1]
+        proved.add(it)
+        return of_proof + of_trial
+
+    names, said = choice.choose({name: (edit, it.places(edit)) for name, (edit, it) in every.items()}, seconds)
+    kept = {every[name][0] for name in names}
     for it in crates:
-        it.keep(new | in_turn)
-    return f"{choice.said()}: {len(new)} edits are new, and {len(in_turn)} in turn by {choice.head[:12]}"
+        it.keep(kept)
+    return said
 
 
 class Run:
@@ -98,26 +111,24 @@ class Run:
 
     def __init__(self, crates, asked, room):
         self.crates, self.asked, self.room = {it.name: it for it in crates}, asked, room
-        self.passed, self.failed, self.done, self.lock = 0, [], 0, threading.Lock()
+        self.passed, self.failed, self.done, self.lock = 0, [], 0, threading.RLock()
         bodies, definitions = (sum(len(it.now[at]) for it in crates) for at in (0, 1))
         self.all = bodies + definitions
         self.most = max(1, min(body_trial.MOST, math.ceil(bodies / (CHECKS * rt.processors()))))
         self.proofs = sum(it.seconds_of_proof() for it in crates)
 
-    def say(self, text):
-        print(text, flush=True)
-
-    def fail(self, name, said):
+    def say(self, text, failed=None):
+        """Prints a text, and notes what has failed."""
         with self.lock:
-            self.failed.append(name)
-            self.say(f"{name}: {said}")
+            print(text, flush=True)
+            self.failed += [failed] if failed else []
 
     def build(self, crate, jobs):
         """Whether the library is built, over those below it."""
-        if said := build(crate, jobs):
-            with self.lock:
-                self.say(said)
-        return not said
+        status, said = told(crate, lambda it: it.build_rlib(["--jobs", str(jobs)], anew=False))
+        if status:
+            self.say(f"{crate.name} is not built:\n{said[-2000:]}", crate.name)
+        return status == 0
 
     def check(self, it, jobs):
         """What a check of the crate as it is answers and prints, or of what is proved of it for its edits, into
@@ -132,16 +143,13 @@ class Run:
         return told(crate, lambda it: it.build_static([*flags, "--cpu", LEVEL]))
 
     def prove(self, name, jobs):
-        """Whether the crate is proved as it is, or what its edits change, so that a check proves again what edits change
-        alone. It gets as many jobs as there are idle processors, or its share of all where that is more."""
+        """Whether the crate is proved as it is, or what its edits change, by as many jobs as there are idle processors, or
+        its share of all where that is more."""
         it, begun = self.crates[name], time.monotonic()
         share = round(rt.processors() * it.seconds_of_proof() / max(self.proofs, 1))
         status, said = self.check(it, max(jobs, share) if rt.free() > share * rt.need(it.crate) else jobs)
-        if status:
-            self.fail(name, said[-2000:])
-        else:
-            with self.lock:
-                self.say(f"{name}: proved as it is, {time.monotonic() - begun:.0f} s")
+        is_proved = f"{name}: proved as it is, {time.monotonic() - begun:.0f} s"
+        self.say(f"{name}: {said[-2000:]}" if status else is_proved, name if status else None)
         return status == 0
 
     def is_right(self, name):
@@ -153,10 +161,10 @@ class Run:
         shutil.rmtree(right)
         it.seconds += time.monotonic() - begun
         if not is_well:
-            self.fail(name, "with an answer that belongs to no goal its right bodies leave some open")
+            self.say(f"{name}: with an answer that belongs to no goal its right bodies leave some open", name)
         return is_well
 
-    def attempt(self, name, edits, call):
+    def attempt(self, name, edits, texts, trial):
         """Tries a group over what the crate keeps, and judges what came of it."""
         it, begun = self.crates[name], time.monotonic()
         lane, kept = f"{self.room}/lane-{threading.get_ident()}", f"{it.crate.folder}/out/incremental"
@@ -165,7 +173,7 @@ class Run:
             os.makedirs(lane)
             if os.path.isdir(kept):
                 shutil.copytree(kept, f"{lane}/{name}")
-        answers = call(it.crate, edits, f"{lane}/sources", f"{lane}/{name}")
+        answers = trial.tried(it.crate, edits, texts, f"{lane}/sources", f"{lane}/{name}")
         with self.lock:
             for edit, answer in zip(edits, answers):
                 self.judge(edit, *answer)
@@ -175,15 +183,14 @@ class Run:
 
     def judge(self, edit, goal, said=""):
         """Whether an edit is refused at its goal; with --told the goal that refuses it becomes that."""
-        if goal and goal != edit.goal and self.asked.told:
+        if goal and self.asked.told:
             write_goal(edit, goal)
         if goal and goal == edit.goal:
             self.passed += 1
+            if self.asked.told:
+                self.say(f"{edit.name}: refused at {goal}")
         else:
-            self.failed.append(edit.name)
-            said = f"refused at {goal}, and its line says: refused: {edit.goal}" if goal else said
-        if self.asked.told or goal != edit.goal:
-            self.say(f"{edit.name}: {said or f'refused at {goal}'}")
+            self.say(f"{edit.name}: {f'refused at {goal}, and its line says: refused: {edit.goal}' if goal else said}", edit.name)
 
     def tasks(self, crates):
         """What is done, for the toolchain's scheduler: proofs after the libraries below them, bodies after the proof."""
@@ -205,22 +212,23 @@ class Run:
                 put(proof, crate, it.seconds_of_proof(), waits, lambda jobs, name=name: self.prove(name, jobs))
             if it.now[0]:
                 put((name, "right"), crate, it.of_body * len(it.now[0]) / 2, [proof], lambda jobs, name=name: self.is_right(name))
-            for at, (group, texts) in enumerate(body_trial.in_groups(it.now[0], self.most)):
-                def call(crate, edits, folder, kept, texts=texts):
-                    return body_trial.tried(crate, edits, texts, folder, kept)
-                put((name, "edits", at), crate, it.of_body * len(group), [proof], lambda jobs, name=name, group=group, call=call: (
-                    self.attempt(name, group, call)))
-            after = [proof] if proof in found else waits
-            for at, group in enumerate(definitions_in_groups([edit for edit in it.now[1] if not edit.wrong])):
-                put((name, "edits", f"definitions {at}"), crate, UNKNOWN[1], after, lambda jobs, name=name, group=group: (
-                    self.attempt(name, group, definition_trial.tried)))
+            sorts = (body_trial, it.now[0], self.most), (definition_trial, [at for at in it.now[1] if not at.wrong], definition_trial.MOST)
+            groups = ((trial, *group) for trial, edits, most in sorts for group in in_groups(edits, most, trial.goes_with))
+            for at, (trial, group, texts) in enumerate(groups):
+                seconds = it.of_body * len(group) if trial is body_trial else UNKNOWN[1]
+                put((name, "edits", at), crate, seconds, [proof] if proof in found else waits,
+                    lambda jobs, name=name, group=group, texts=texts, trial=trial: self.attempt(name, group, texts, trial))
         return found
 
 
 def main():
-    asked, begun = arguments(), time.monotonic()
+    parser = argparse.ArgumentParser()
+    parser.add_argument("--audit", action="store_true")
+    parser.add_argument("--told", action="store_true")
+    parser.add_argument("asked", nargs="*")
+    asked, begun = parser.parse_args(), time.monotonic()
     every, definitions = rt.rtlib.crates_below(str(TOP)), Definitions()
-    crates, said = [Crate(it, definitions) for it in every], ""
+    crates, said = [Crate(it, definitions) for it in every], "as asked"
     unknown = {*asked.asked} - {name for it in crates for edit in [*it.bodies, *it.definitions] for name in (it.name, edit.name)}
     if unknown:
         sys.exit(f"no crate has these edits: {', '.join(sorted(unknown))}")
@@ -232,17 +240,14 @@ def main():
         it.is_built = not asked.asked and it.crate.is_static
     with tempfile.TemporaryDirectory(prefix="refusals-") as room:
         run = Run([it for it in crates if any(it.now) or it.is_built], asked, room)
-        if said:
-            run.say(said)
+        run.say(said)
         for edit in (edit for it in crates for edit in it.now[1] if edit.wrong):
             run.judge(edit, None, edit.wrong)
         rt.in_lanes(run.tasks(every))
-    if not asked.asked:
-        rows = [f"{it.name}\t{len(it.now[0])}\t{it.seconds:.0f}" for it in crates]
-        TIMES.parent.mkdir(exist_ok=True)
-        TIMES.write_text("\n".join(["crate\ttried\tseconds", *rows]) + "\n", encoding="utf-8")
+    if asked.audit:
+        write_seconds(crates)
     of_all = sum(len(it.bodies) + len(it.definitions) for it in crates)
-    print(f"{run.all} of {of_all} tried, in {time.monotonic() - begun:.0f} s")
+    print(said, f"{run.all} of {of_all} tried, in {time.monotonic() - begun:.0f} s", sep="\n")
     print("".join(f"FAILED: {name}\n" for name in run.failed) + f"{run.passed} passed, {len(run.failed)} failed")
     return 1 if run.failed or run.passed < run.all else 0
 

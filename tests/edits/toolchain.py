@@ -38,11 +38,5 @@ def told(crate, call):
         return status, crate.out.read()
 
 
-def build(crate, jobs):
-    """What is wrong with the library that is built, over those below it: nothing, if it is proved."""
-    status, said = told(crate, lambda it: it.build_rlib(["--jobs", str(jobs)], anew=False))
-    return f"{crate.name} is not built:\n{said[-2000:]}" if status else ""
-
-
 rt = load_rt()
 RELEASE, LOGIC = pathlib.Path(rt.KIT, "KIT-ID").read_text(encoding="utf-8").splitlines()[0].split(" ", 1)

@@ -25,19 +25,18 @@ from choice import Choice
 from edits import LINES, edits_in, write_goal
 from tree import TOP
 
-# What a copy has of its own, and what it shares with this tree, since no edit changes it.
-COPIED = ("completions", "docs", "include", "man", "packaging", "python", "tests")
-SHARED = ("bench", "bin/x86-64-v2")
-# Tests of the sources: of the crates, which the others share, these have what they read in a copy.
+LEFT_OUT = shutil.ignore_patterns("bin", "out", ".git", "__pycache__", LINES.name)  # of a copy
+PROGRAMS = "bin/x86-64-v2"
+# Tests of the sources, which show lines of them.
 OF_SOURCES = ("tests/sources/sources.sh", "tests/pages/definitions_told.py")
 # The words after each test that an edit may name (LIB is a folder with a built library), how long it takes, and what it
 # needs beside Python: without that, it finds nothing.
-SCRYPT = TOP / "bin/x86-64-v2/scrypt"
+SCRYPT = TOP / PROGRAMS / "scrypt"
 TESTS = {
     "tests/pages/values.py": ([], 1, ["bash"]), "tests/pages/documents.py": ([], 5, []), "tests/build/first_run.py": ([], 8, []),
     "tests/build/build_scripts.py": ([], 20, ["gcc", "dpkg-deb"]), "tests/library/python_module.py": (["LIB"], 6, ["gcc"]),
     "tests/library/packages.py": (["LIB"], 9, ["gcc", "dpkg-deb", SCRYPT]), "tests/library/c_face.py": (["--header", "LIB"], 6, ["gcc", "g++"]),
-    "tests/sources/sources.sh": ([], 2, []), "tests/programs/story.py": (["--recipes", "bin/x86-64-v2"], 25, ["bash", "dash", SCRYPT]),
+    "tests/sources/sources.sh": ([], 2, []), "tests/programs/story.py": (["--recipes", PROGRAMS], 25, ["bash", "dash", SCRYPT]),
     "tests/pages/definitions_told.py": (["--check"], 8, []),
 }
 # What a test says of what it finds: a comparison that fails, a name that is not there, or how it ended.
@@ -48,37 +47,12 @@ SAID_OF_SOURCES = re.compile(r"^(?!(?:crates/\S+:)?\d+:)(.+)$()", re.MULTILINE)
 VARIES = re.compile(r"[0-9a-f]{16,}|/tmp/\S*/")
 
 
-def sources(test):
-    """What a test of the sources reads of the crates: all, or code and definitions, and where a proof is written by hand."""
-    for folder, folders, files in os.walk(TOP / "crates"):
-        folders[:] = [it for it in folders if it != "out"]
-        read = (it for it in files if test != "tests/sources/sources.sh" or it.endswith(".rt") or it == "Proof.antt" or "/specs" in folder)
-        yield from (pathlib.Path(folder, it) for it in read)
-
-
-def copy_of(folder, test):
-    """A copy of what edits of this test change, with links to the rest."""
-    top = pathlib.Path(folder)
-    for name in COPIED:
-        shutil.copytree(TOP / name, top / name, ignore=shutil.ignore_patterns("__pycache__", LINES.name))
-    for file in TOP.iterdir():
-        if file.is_file():
-            shutil.copy(file, top)
-    for path in sources(test) if test in OF_SOURCES else ():
-        to = top / path.relative_to(TOP)
-        to.parent.mkdir(parents=True, exist_ok=True)
-        shutil.copyfile(path, to)
-    for name in SHARED if test in OF_SOURCES else (*SHARED, "crates"):
-        (top / name).parent.mkdir(parents=True, exist_ok=True)
-        if (TOP / name).exists():
-            os.symlink(TOP / name, top / name)
-    return top
-
-
 def said_by(test, lib, edit=None):
     """The first that a test finds wrong in a copy with an edit, or without one; None where it finds nothing."""
     with tempfile.TemporaryDirectory(prefix="pikhsen-line-") as folder:
-        top = copy_of(folder, test)
+        top = pathlib.Path(shutil.copytree(TOP, f"{folder}/copy", ignore=LEFT_OUT))
+        (top / PROGRAMS).parent.mkdir()
+        (top / PROGRAMS).symlink_to(TOP / PROGRAMS)
         made = edit.put({}, top) if edit else ({},)
         for file, text in made[0].items() if made else ():
             (top / file).write_text(text, encoding="utf-8")
@@ -91,14 +65,6 @@ def said_by(test, lib, edit=None):
         found = [failed or ended for failed, ended in said.findall(ran.stdout)]
         first = (found or [f"status {ran.returncode}"])[0].replace("\t", " ").replace(str(top), "..")
         return VARIES.sub(lambda it: "" if "/" in it[0] else "..", first)[:120].rstrip()
-
-
-def that_can_be_tried(edits):
-    """Those whose test has what it needs here; of the others what is missing is said."""
-    lacking = {test: [it for it in needs if not shutil.which(it)] for test, (_, _, needs) in TESTS.items()}
-    for test in sorted({it.test for it in edits if lacking[it.test]}):
-        print(f"{', '.join(map(str, lacking[test]))}: not there, so edits of {test} are not tried")
-    return [it for it in edits if not lacking[it.test]]
 
 
 def library_for(edits, folder):
@@ -114,14 +80,13 @@ def library_for(edits, folder):
 
 def trial(edits, lib):
     """What its test says of each edit, where that finds nothing in a copy without one."""
-    tests = sorted({it.test for it in edits}, key=lambda it: -TESTS[it][1])
+    trials = [*((test, None) for test in {it.test for it in edits}), *((it.test, it) for it in edits)]
+    trials.sort(key=lambda it: -TESTS[it[0]][1])
     with concurrent.futures.ThreadPoolExecutor(int(os.environ.get("JOBS") or len(os.sched_getaffinity(0)))) as pool:
-        right = {it: pool.submit(said_by, it, lib) for it in tests}
-        found = {it: pool.submit(said_by, it.test, lib, it) for it in sorted(edits, key=lambda it: -TESTS[it.test][1])}
-    for test in tests:
-        if right[test].result():
-            print(f"{test} without an edit: {right[test].result()}")
-    return {it: None if right[it.test].result() else found[it].result() for it in edits}
+        found = dict(zip(trials, pool.map(lambda it: said_by(it[0], lib, it[1]), trials)))
+    for test in (test for test, edit in trials if not edit and found[test, None]):
+        print(f"{test} without an edit: {found[test, None]}")
+    return {it: None if found[it.test, None] else found[it.test, it] for it in edits}
 
 
 def main():
@@ -136,24 +101,23 @@ def main():
         sys.exit(f"no edit of this name, or its test is none of these: {', '.join(wrong)}")
     wanted = [it for it in edits if it.name in asked.names or not asked.names]
     if not asked.names and not asked.audit:
-        # no toolchain has a part in these trials
-        choice = Choice(None)
-        new = {it.name for it in edits if choice.is_new(it, [*it.files, str(pathlib.PurePath(it.test).parent)])}
-        tenth = choice.tenth({it.name for it in edits} - new)
-        wanted, said = [it for it in edits if it.name in {*new, *tenth}], f"{choice.said()}: {len(new)} lines are new"
-    now = that_can_be_tried(wanted)
+        every = {it.name: (it, [*it.files, str(pathlib.PurePath(it.test).parent), "tests/shared"]) for it in edits}
+        names, said = Choice(None).choose(every)  # the toolchain has no part in these trials
+        wanted = [it for it in edits if it.name in names]
+    lacking = {it.test: [need for need in TESTS[it.test][2] if not shutil.which(need)] for it in wanted}
+    for test in sorted(filter(lacking.get, lacking)):
+        print(f"{', '.join(map(str, lacking[test]))}: not there, so edits of {test} are not tried")
+    now = [it for it in wanted if not lacking[it.test]]
     with tempfile.TemporaryDirectory(prefix="pikhsen-lines-") as folder:
         found = trial(now, library_for(now, folder))
-    lost = [it for it in now if found[it] != it.goal]
-    for edit in lost if asked.told else ():
-        if found[edit]:
+    for edit in now:
+        if asked.told and found[edit]:
             write_goal(edit, found[edit])
-    lost = [it for it in lost if found[it] != it.goal]
-    for edit in now if asked.told else lost:
-        print(f"{'FAILED ' * (edit in lost)}{edit.name}: {found[edit] or 'not found, or what it replaces does not stand there once'}")
-    left_out = len(wanted) - len(now)
-    print(said, f"{len(now)} of {len(edits)} tried" + f", {left_out} left out" * bool(left_out) + f", in {time.monotonic() - begun:.0f} s")
-    print(f"{len(now) - len(lost)} passed, {len(lost)} failed")
+        if asked.told or found[edit] != edit.goal:
+            print(f"{edit.name}: {found[edit] or 'not found, or what it replaces does not stand there once'}")
+    lost, left_out = [it.name for it in now if found[it] != it.goal], len(wanted) - len(now)
+    print(said, f"{len(now)} of {len(edits)} tried, {left_out} left out, in {time.monotonic() - begun:.0f} s")
+    print("".join(f"FAILED: {name}\n" for name in lost) + f"{len(now) - len(lost)} passed, {len(lost)} failed")
     sys.exit(1 if lost or left_out and asked.audit else 0)
 
 

@@ -21,7 +21,6 @@ sys.path += map(str, pathlib.Path(__file__).resolve().parents[1].iterdir())  # t
 import definitions_page
 import doc
 import edited
-import gate_page
 import pages
 import promises
 import ratios
@@ -232,10 +231,6 @@ for crate in doc.libraries():
 
 tables_made = definitions_page.page() == definitions_page.PAGE.read_text(encoding="utf-8")
 expect(tables_made, "DEFINITIONS.md", "the tables that tests/pages/definitions_page.py makes (each run of it writes them)")
-
-# Counts and seconds of the gate.
-tables_made = gate_page.page() == gate_page.PAGE.read_text(encoding="utf-8")
-expect(tables_made, "GATE.md", "the tables that tests/pages/gate_page.py makes (each run of it writes them)")
 
 # Tables that are made of data, and how much is written by hand.
 for document in pages.PAGES:

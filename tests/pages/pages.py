@@ -6,8 +6,8 @@
 
 A made part stands between the lines `<!-- made by SCRIPT: NAME -->` and `<!-- end -->`; tests/pages/documents.py compares each
 with what its script would write. Those of this script are made from docs/values.tsv (messages and ranges),
-docs/examples.tsv, docs/programs/, docs/benchmarks.tsv, which `make bench` writes, and docs/measured.tsv; tests/pages/gate_page.py and
-tests/pages/definitions_page.py make those of docs/GATE.md and docs/DEFINITIONS.md.
+docs/examples.tsv, docs/programs/, docs/benchmarks.tsv, which `make bench` writes, and docs/measured.tsv;
+tests/pages/definitions_page.py makes those of docs/DEFINITIONS.md.
 
 Pages are README.md, CHANGELOG.md, CONTRIBUTING.md and docs/*.md, but not those that scripts write whole. By hand are
 all their lines, empty ones too, that are not in a made part. Manual pages are counted apart.
@@ -27,7 +27,7 @@ import values_table  # noqa: E402
 WHOLE = {"VECTORS.md"}
 PAGES = [*sorted(TOP.glob("*.md")), *(it for it in sorted((TOP / "docs").glob("*.md")) if it.name not in WHOLE)]
 MADE = re.compile(r"^<!-- made by (\S+): ([^\n]*) -->\n(.*?)^<!-- end -->\n", re.MULTILINE | re.DOTALL)
-MOST_BY_HAND = 1700
+MOST_BY_HAND = 1750
 PRINTED = ratios.read(TOP / "docs/benchmarks.tsv")[1]
 # What the faults of the toolchain's libraries say.
 OF_THE_TOOLCHAIN = {

@@ -43,17 +43,3 @@ def function_at(folder, file, text, line, body=False):
                 above = [it for it in map(IMPL.match, lines[:start]) if it and found[1]]
                 return path_of(folder, file, above[-1] if above else None, found[2])
     return None
-
-
-def functions_of(folder, path):
-    """The paths of a source's functions, without those of a trait and those of tests."""
-    text, file, found = path.read_text(encoding="utf-8"), str(path.relative_to(folder)), set()
-    block, is_left_out = None, False
-    for line in text.split("\n"):
-        if line and line[0] not in " })#/":
-            block, is_trait = IMPL.match(line), re.match(r"(?:pub(?:\([a-z]+\))? )?trait\b", line)
-            is_left_out = is_test or bool(is_trait)
-        is_test = line.startswith("#[cfg(test)]")
-        if (head := FUNCTION.match(line)) and len(head[1]) in (0, 4) and not is_left_out:
-            found.add(path_of(folder, file, block if head[1] else None, head[2]))
-    return found
