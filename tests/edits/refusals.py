@@ -227,7 +227,7 @@ def main():
     parser.add_argument("--told", action="store_true")
     parser.add_argument("asked", nargs="*")
     asked, begun = parser.parse_args(), time.monotonic()
-    every, definitions = rt.rtlib.crates_below(str(TOP)), Definitions()
+    every, definitions = rt.rtlib.crates_below(f"{TOP}/crates"), Definitions()
     crates, said = [Crate(it, definitions) for it in every], "as asked"
     unknown = {*asked.asked} - {name for it in crates for edit in [*it.bodies, *it.definitions] for name in (it.name, edit.name)}
     if unknown:
