@@ -52,8 +52,9 @@ map: ## draws docs/proof-map.svg and docs/proof-map-small.svg anew: which promis
 doc: ## writes bin/doc/index.html: the public items of each crate, with their comments and clauses
 	packaging/doc.py
 
-reading: ## makes bin/reading/: what a reader has to find right to believe a call, to be printed and signed (CALL=command::scrypt; both commands)
+reading: ## makes bin/reading/: what a reader has to judge to believe a call, to be printed and signed (CALL=command::scrypt; both commands), and VECTORS.md
 	tests/pages/reading_page.py $(CALL)
+	tests/pages/definitions_told.py
 
 install: | bin/argon2 bin/scrypt ## puts what was built, with pages, completions and documents, below PREFIX
 	@PIKHSEN_SAY=1 PREFIX='$(PREFIX)' packaging/install.sh install '$(DESTDIR)$(PREFIX)' bin $(patsubst %/libpikhsen.a,%,$(wildcard bin/lib/libpikhsen.a)) >&2

@@ -183,7 +183,7 @@ class Run:
 
     def judge(self, edit, goal, said=""):
         """Whether an edit is refused at its goal; with --told the goal that refuses it becomes that."""
-        if goal and self.asked.told:
+        if goal and goal != edit.goal and self.asked.told:
             write_goal(edit, goal)
         if goal and goal == edit.goal:
             self.passed += 1
@@ -228,7 +228,7 @@ def main():
     parser.add_argument("asked", nargs="*")
     asked, begun = parser.parse_args(), time.monotonic()
     every, definitions = rt.rtlib.crates_below(f"{TOP}/crates"), Definitions()
-    crates, said = [Crate(it, definitions) for it in every], "as asked"
+    crates, said = [Crate(it, definitions) for it in every], "every edit" if asked.audit else "as asked"
     unknown = {*asked.asked} - {name for it in crates for edit in [*it.bodies, *it.definitions] for name in (it.name, edit.name)}
     if unknown:
         sys.exit(f"no crate has these edits: {', '.join(sorted(unknown))}")

@@ -1,10 +1,10 @@
 #!/usr/bin/env python3
 """Whether crates.txt lists for each crate the libraries that it names, and what the documents name is there: files,
-links, definitions, tests, clauses and calls; whether the pictures in docs/ are drawn from them as they are, and the
-tables that scripts make of data are what they make now; whether README's first screen, its words, and all
-lines that are written by hand are few enough; whether the figures of speed on the pages are those of
-docs/benchmarks.tsv; and whether all of them name one version. What they say of options, messages and numbers is
-compared by tests/pages/values.py.
+links, definitions, tests, clauses and calls; whether tests/README.md lists what stands below tests/; whether the pictures in
+docs/, and the parts that tests/pages/pages.py makes of data, are what would be made now; whether README's first screen, its
+words, the words of all pages and those that are written by hand are few enough; whether the figures of speed on the pages
+are those of docs/benchmarks.tsv; and whether all of them name one version. What they say of options, messages and numbers
+is compared by tests/pages/values.py.
 
 Reads README.md and the other pages, docs/ and man/ against crates/, prints each name that it does not find, and fails
 where there is one.
@@ -18,21 +18,21 @@ import sys
 for folder in ("bench", "packaging"):
     sys.path.insert(0, str(pathlib.Path(__file__).resolve().parents[2] / folder))
 sys.path += map(str, pathlib.Path(__file__).resolve().parents[1].iterdir())  # the other folders of tests/
-import definitions_page
 import doc
 import edited
 import pages
 import promises
 import ratios
-from definitions import wrong_definitions_of
-from definitions_page import is_definition
+from definitions import Definitions, wrong_definitions_of
 from edits import BODIES, LINES, edits_in, edits_of
+from pages import is_definition
 from proof_map import drawn, small
 
 TOP = pathlib.Path(__file__).resolve().parents[2]
 PAGES = sorted(TOP.glob("*.md"))
 MANUALS = sorted((TOP / "man").glob("*.1"))
 DOCUMENTS = [*PAGES, *sorted((TOP / "docs").glob("*.md")), *MANUALS]
+TEXTS = {it: it.read_text(encoding="utf-8") for it in DOCUMENTS}
 IN_BACKTICKS = re.compile(r"`([^`]+)`")
 # How a goal is called: of a return, a call, a loop or a type; or it is a lemma's, or an error of the types. That a number
 # fits is no contract's.
@@ -41,6 +41,7 @@ GOAL = re.compile(
     r"(?:, at its answer)?|the lemma \w+|the types: .+"
 )
 CLAUSES_OF_THE_LIBRARY = {"steps"}  # of Iterator::next
+MOST_WORDS, MOST_BY_HAND = 36000, 25000  # of README.md, CONTRIBUTING.md and docs/*.md
 missing = []
 
 
@@ -64,7 +65,7 @@ def is_function(name, crate):
 def tables(document):
     """The rows of a page's tables as lists of cells, each with the heading that it stands under."""
     heading = ""
-    for line in (TOP / "docs" / document).read_text(encoding="utf-8").splitlines():
+    for line in TEXTS[TOP / "docs" / document].splitlines():
         if line.startswith("#"):
             heading = line.lstrip("# ")
         elif line.startswith("|") and not line.startswith("|---"):
@@ -91,31 +92,39 @@ for crate, listed in CRATES.items():
     expect(named == set(listed), "crates.txt", f"{crate} with what it names alone: {', '.join(sorted(named))}")
     expect(not any(it.endswith("_tests") for it in listed), "crates.txt", f"{crate} with no crate of tests below it")
 
-# Files.
-for document in DOCUMENTS:
-    named = r"\b(?:crates|docs|tests|bench|man|packaging|completions)/[\w./]*[\w]\.\w+"
-    for path in re.findall(named, document.read_text(encoding="utf-8")):
-        expect((TOP / path).exists(), document, path)
+# The index of tests/.
+INDEX = (TOP / "tests/README.md").read_text(encoding="utf-8")
+scripts = {it.name for it in (TOP / "tests").glob("*/*.*")}
+for name in sorted(scripts ^ {*re.findall(r"`(\w+\.\w+)`", INDEX)}):
+    expect(False, "tests/README.md", f"{name}, as it stands below tests/")
 
 
-def anchors(file):
+def anchors(text):
     """What a page's headings are called in links, as GitHub makes it."""
-    text = re.sub(r"^```.*?^```$", "", file.read_text(encoding="utf-8"), flags=re.MULTILINE | re.DOTALL)
+    text = re.sub(r"^```.*?^```$", "", text, flags=re.MULTILINE | re.DOTALL)
     for title in re.findall(r"^#+ (.*)$", text, re.MULTILINE):
         yield re.sub(r"[^\w\- ]", "", title.lower()).replace(" ", "-")
 
 
-# Links, to files and to headings. What is installed, README, CHANGELOG and docs/, links to what is installed alone, and
+# Files; the text that a merge decides on; lines that fit a screen, but for tables in docs/, whose rows cannot be cut; and
+# links, to files and to headings. What is installed, README, CHANGELOG and docs/, links to what is installed alone, and
 # README to manual pages, which are installed elsewhere.
-for document in [*PAGES, *sorted((TOP / "docs").glob("*.md"))]:
-    for path, anchor in re.findall(r"\]\((?!https?:)([^)#\s]*)(?:#([^)\s]*))?\)", document.read_text(encoding="utf-8")):
+for document, text in TEXTS.items():
+    for path in re.findall(r"\b(?:crates|docs|tests|bench|man|packaging|completions)/[\w./]*[\w]\.\w+", text):
+        expect((TOP / path).exists(), document, path)
+    marks = re.findall(r"^(?:<{7}|={7}|>{7})(?: .*)?$", text, re.MULTILINE)
+    expect(not marks, document, f"the text that a merge decides on, in the place of {marks[:1]}")
+    for number, line in enumerate([] if document in MANUALS else text.splitlines(), 1):
+        is_row = document not in PAGES and line.startswith("|")
+        expect(len(line) <= 120 or is_row, document, f"line {number} has {len(line)} columns")
+    for path, anchor in re.findall(r"\]\((?!https?:)([^)#\s]*)(?:#([^)\s]*))?\)", text):
         target = (document.parent / path).resolve() if path else document
         is_installed = target.parent == TOP / "docs" or target.name in ("README.md", "CHANGELOG.md")
         is_installed = is_installed or document.name == "README.md" and target.parent == TOP / "man"
         is_there = target.exists() and (is_installed or document.name == "CONTRIBUTING.md")
         expect(is_there, document, f"the link to {path}")
         if is_there and anchor:
-            expect(anchor in anchors(target), document, f"the link to {path}#{anchor}")
+            expect(anchor in anchors(target.read_text(encoding="utf-8")), document, f"the link to {path}#{anchor}")
 
 # Figures of speed, each sentence as docs/benchmarks.tsv gives it, and some as docs/measured.tsv does.
 MEASURED = ratios.read(TOP / "docs/benchmarks.tsv")[1]
@@ -150,7 +159,7 @@ lanes = between(tuple(f"argon2 -{kind} -t {passes} -p 4" for kind in ("d", "i", 
                 ("12", "16", "18"), column="ratio_elapsed")
 of_threads = [f"{float(it):.1f}" for it in (lanes[0], lanes[-1])]
 lanes = [f"{1 / float(lanes[-1]):.2f}", f"{1 / float(lanes[0]):.2f}"]
-BENCHMARKS = " ".join((TOP / "docs/BENCHMARKS.md").read_text(encoding="utf-8").split())
+BENCHMARKS = " ".join(TEXTS[TOP / "docs/BENCHMARKS.md"].split())
 (slower,) = re.findall(r"ours, which cannot, took (\S+ to \S+) times as long", BENCHMARKS)
 LIBRARIES = ("libsodium", "OpenSSL")
 beside = {it: [between(it, None, level) for level in ("v2", "v3")] for it in LIBRARIES}
@@ -194,19 +203,13 @@ SENTENCES = [
     ("docs/BENCHMARKS.md", f"with `-p 4` it took {lanes[0]} to {lanes[1]} of our time, from 4 MiB on"),
 ]
 for name, sentence in SENTENCES:
-    text = " ".join((TOP / name).read_text(encoding="utf-8").split())
-    expect(sentence in text, name, f"'{sentence}', as docs/benchmarks.tsv has it")
+    expect(sentence in " ".join(TEXTS[TOP / name].split()), name, f"'{sentence}', as docs/benchmarks.tsv has it")
 
-# Definitions, each in the file of specs/ that its row names.
-for crate, cells in tables("DEFINITIONS.md"):
-    if crate in SPECS and len(cells) == 5 and cells[0] != "definition":
-        files = [f"{file}.antt" for file in IN_BACKTICKS.findall(cells[2])]
-        held = texts(crate, "specs", ".antt")
-        for file in files:
-            expect(file in held, "DEFINITIONS.md", f"{crate}: {file}")
-        text = "\n".join(held.get(file, "") for file in files)
-        for name in IN_BACKTICKS.findall(cells[0]):
-            expect(is_definition(name, text), "DEFINITIONS.md", f"{crate}: {name}")
+# Definitions: a row names none that specs/ lacks. The files of those that it has are made beside them.
+for crate, spec in SPECS.items():
+    for names, *_ in pages.rows("definitions.tsv", crate):
+        for name in IN_BACKTICKS.findall(names):
+            expect(is_definition(name, spec), "docs/definitions.tsv", f"{crate}: {name}")
 
 # Tests: those of a row's own crate, or of the two commands.
 for heading, cells in tables("EXAMPLES.md"):
@@ -218,6 +221,7 @@ for heading, cells in tables("EXAMPLES.md"):
                 expect(any(is_function(name, crate) for crate in owner), "EXAMPLES.md", f"row {cells[0]}: {name}")
 
 # Edits that must fail: what each replaces stands in its place once, and the goal that refuses it is there.
+DEFINITIONS = Definitions()
 for crate in SOURCES:
     for edit in edits_of(crate, BODIES):
         expect(edit.texts, edit.name, "the text that it replaces, once")
@@ -226,7 +230,7 @@ for crate in SOURCES:
         is_ours = clause and re.search(rf"\b(?:ensures|requires)\*? {clause[1]}\b", ALL_SOURCES)
         is_there = told and (not clause or is_ours or clause[1] in CLAUSES_OF_THE_LIBRARY)
         expect(is_there, edit.name, f"refused: {edit.goal}: the goal that refuses it (tests/edits/refusals.py --told {edit.name} writes it)")
-    for edit in wrong_definitions_of(crate, definitions_page.ALL):
+    for edit in wrong_definitions_of(crate, DEFINITIONS):
         expect(not edit.wrong, edit.name, edit.wrong)
 for edit in edits_in(LINES):
     expect(edit.texts, edit.name, "the text that it replaces, once")
@@ -235,22 +239,21 @@ for crate in doc.libraries():
     for name in edited.without_edit(crate):
         expect(False, f"crates/{crate}/wrong-bodies", f"a wrong body of {name}, or another of which tests/pages/edited.py knows")
 
-tables_made = definitions_page.page() == definitions_page.PAGE.read_text(encoding="utf-8")
-expect(tables_made, "DEFINITIONS.md", "the tables that tests/pages/definitions_page.py makes (each run of it writes them)")
-
-# Tables that are made of data, and how much is written by hand.
-for document in pages.PAGES:
-    text = document.read_text(encoding="utf-8")
+# Parts that are made of data, each once, and how many words there are beside them.
+of_pages = {it: TEXTS[it] for it in pages.PAGES}
+for document, text in of_pages.items():
     expect(pages.page(text) == text, document, "the tables that tests/pages/pages.py makes (each run of it writes them)")
-made = [name for it in pages.PAGES for _, name, _ in pages.MADE.findall(it.read_text(encoding="utf-8"))]
+made = [name for text in of_pages.values() for name, _ in pages.MADE.findall(text)]
 for name in sorted({*pages.PARTS}):
     expect(made.count(name) == 1, "docs", f"the table '{name}', which tests/pages/pages.py makes, once")
-README = (TOP / "README.md").read_text(encoding="utf-8")
+words = sum(len(it.split()) for it in of_pages.values())
+by_hand = sum(len(pages.MADE.sub("", it).split()) for it in of_pages.values())
+expect(words <= MOST_WORDS, "pages", f"at most {MOST_WORDS:,} words")
+expect(by_hand <= MOST_BY_HAND, "pages", f"at most {MOST_BY_HAND:,} words by hand")
+README = TEXTS[TOP / "README.md"]
 expect(len(README.split()) < 1900, "README.md", f"fewer than 1,900 words: there are {len(README.split())}")
 screen = README.partition("\n# Using the programs\n")[0].count("\n")
 expect(screen < 45, "README.md", f"a first screen of fewer than 45 lines: there are {screen}")
-lines_by_hand = sum(pages.counted().values())
-expect(lines_by_hand <= pages.MOST_BY_HAND, "pages", f"at most {pages.MOST_BY_HAND} lines by hand: there are {lines_by_hand}")
 
 # Calls and clauses that carry a promise, and the picture of what they stand on; the definitions of each run.
 bars = ratios.drawn(TOP / "docs/benchmarks.tsv"), [f"bars that are seen: {it}" for it in ratios.faint()]
@@ -280,22 +283,11 @@ for manual in MANUALS:
 # One version.
 VERSION = (TOP / "VERSION").read_text(encoding="utf-8").strip()
 for manual in MANUALS:
-    expect(f'"Pikhsen {VERSION}"' in manual.read_text(encoding="utf-8").splitlines()[0], manual, f"version {VERSION}")
-expect(f"\n## {VERSION}" in (TOP / "CHANGELOG.md").read_text(encoding="utf-8"), "CHANGELOG.md", f"version {VERSION}")
-expect(f"pikhsen_{VERSION}_amd64.deb" in (TOP / "README.md").read_text(encoding="utf-8"), "README.md", f"version {VERSION}")
+    expect(f'"Pikhsen {VERSION}"' in TEXTS[manual].splitlines()[0], manual, f"version {VERSION}")
+expect(f"\n## {VERSION}" in TEXTS[TOP / "CHANGELOG.md"], "CHANGELOG.md", f"version {VERSION}")
+expect(f"pikhsen_{VERSION}_amd64.deb" in README, "README.md", f"version {VERSION}")
 
-# No mark that a merge left.
-for document in DOCUMENTS:
-    marks = re.findall(r"^(?:<{7}|={7}|>{7})(?: .*)?$", document.read_text(encoding="utf-8"), re.MULTILINE)
-    expect(not marks, document, f"the text that a merge decides on, in the place of {marks[:1]}")
-
-# Lines that fit a screen, but for tables in docs/, whose rows cannot be cut.
-for document in [*PAGES, *sorted((TOP / "docs").glob("*.md"))]:
-    for number, line in enumerate(document.read_text(encoding="utf-8").splitlines(), 1):
-        is_row = document not in PAGES and line.startswith("|")
-        expect(len(line) <= 120 or is_row, document, f"line {number} has {len(line)} columns")
-
-print(f"pages: {lines_by_hand} lines by hand, of {pages.MOST_BY_HAND} at most")
+print(f"pages: {words:,} words, of {MOST_WORDS:,} at most; {by_hand:,} by hand, of {MOST_BY_HAND:,}")
 for line in missing:
     print(f"not there: {line}", file=sys.stderr)
 sys.exit(1 if missing else 0)

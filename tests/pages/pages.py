@@ -1,33 +1,25 @@
 #!/usr/bin/env python3
-"""Writes the tables of docs/ that are made from data, and counts the lines of the pages that are written by hand.
+"""Writes the parts of README.md and docs/ that are made from data, each between `<!-- made by .. -->` and `<!-- end -->`.
 
-    tests/pages/pages.py            writes the tables anew
-    tests/pages/pages.py --count    prints how many lines of each page are written by hand
+    tests/pages/pages.py
 
-A made part stands between the lines `<!-- made by SCRIPT: NAME -->` and `<!-- end -->`; tests/pages/documents.py compares each
-with what its script would write. Those of this script are made from docs/values.tsv (messages and ranges),
-docs/examples.tsv, docs/programs/, docs/benchmarks.tsv, which `make bench` writes, and docs/measured.tsv;
-tests/pages/definitions_page.py makes those of docs/DEFINITIONS.md.
-
-Pages are README.md, CHANGELOG.md, CONTRIBUTING.md and docs/*.md, but not those that scripts write whole. By hand are
-all their lines, empty ones too, that are not in a made part. Manual pages are counted apart.
+tests/pages/documents.py compares each with what would be written now, and looks at how many words are written by hand. The data
+are docs/values.tsv (messages and ranges), docs/definitions.tsv, docs/examples.tsv, docs/programs/, docs/benchmarks.tsv, which
+`make bench` writes, docs/measured.tsv, and the sources, from which come the faults of the libraries, and the file of a definition.
 """
 import pathlib
 import re
 import sys
 
 TOP = pathlib.Path(__file__).resolve().parents[2]
-sys.path.insert(0, str(TOP / "bench"))
-sys.path.insert(0, str(TOP / "packaging"))
-import doc  # noqa: E402
-import ratios  # noqa: E402
-import values_table  # noqa: E402
+sys.path += [str(TOP / "bench"), str(TOP / "packaging"), str(TOP / "tests/shared")]
+import doc
+import ratios
+import values_table
+from tree import below
 
-# Pages that scripts write whole.
-WHOLE = {"VECTORS.md"}
-PAGES = [*sorted(TOP.glob("*.md")), *(it for it in sorted((TOP / "docs").glob("*.md")) if it.name not in WHOLE)]
-MADE = re.compile(r"^<!-- made by (\S+): ([^\n]*) -->\n(.*?)^<!-- end -->\n", re.MULTILINE | re.DOTALL)
-MOST_BY_HAND = 1750
+PAGES = [TOP / "README.md", TOP / "CONTRIBUTING.md", *sorted((TOP / "docs").glob("*.md"))]
+MADE = re.compile(r"^<!-- made by tests/pages/pages.py: ([^\n]*) -->\n(.*?)^<!-- end -->\n", re.MULTILINE | re.DOTALL)
 PRINTED = ratios.read(TOP / "docs/benchmarks.tsv")[1]
 # What the faults of the toolchain's libraries say.
 OF_THE_TOOLCHAIN = {
@@ -61,7 +53,39 @@ def in_words(text):
     return re.sub(r"\b\d{4,}\b", lambda it: as_read(it[0]), text)
 
 
-# ---- refusals, ranges, examples
+# ---- refusals, ranges, examples, definitions
+
+
+def is_definition(name, text):
+    """Whether the definition, or the field of a record, stands in the text."""
+    return re.search(rf"^(?:  )?(?:[a-z]+ )*{re.escape(name)}(?: :|\s*\(|\s*\{{|$)", text, re.MULTILINE) is not None
+
+
+def files_of(crate, names):
+    """The files of a crate's specs/ that have these definitions, in their order. Where several files have one of a name, it
+    is that of the file with the others."""
+    base = TOP / "crates" / crate / "specs"
+    texts = {str(it.relative_to(base).with_suffix("")): it.read_text(encoding="utf-8")
+             for it in sorted(base.rglob("*.antt")) if it.stem != "Lib"}
+    places = [[file for file, text in texts.items() if is_definition(name, text)] for name in names]
+    sure = {file for found in places if len(found) == 1 for file in found}
+    meant = [[it for it in found if it in sure] or found for found in places]
+    return [*dict.fromkeys(it for found in meant for it in found)]
+
+
+def definitions():
+    """The table of each crate's definitions, under its name."""
+    tables = []
+    for crate in below():
+        lines = []
+        for names, meaning, source, vector in rows("definitions.tsv", crate):
+            files = ", ".join(f"`{it}`" for it in files_of(crate, re.findall(r"`([^`]+)`", names)))
+            lines.append([names, meaning, files, source, vector])
+        if lines:
+            shown = 5 if any(source or vector for *_, source, vector in lines) else 3
+            head = ["definition", "what it is", "file", "source", "vector"]
+            tables.append(f"## {crate}\n\n" + table(head[:shown], [it[:shown] for it in lines]))
+    return "\n".join(tables)
 
 
 def refusals(program):
@@ -87,9 +111,10 @@ def faults():
                 called.append(f"calls of `{owner}`")
             else:
                 called += [f"`{owner.removesuffix('::')}::{it}`" for it in names]
-        said = ["a row of the table of scrypt"] if name == "ScryptRefusal" else said or [OF_THE_TOOLCHAIN[name]]
-        words = "; ".join(re.sub(r"\.$", "", it) for it in said)
-        lines.append([f"`{crate}::{name}`" if crate else f"`{name}`", words, ", ".join(called)])
+        said = [f"a row of the table of {name[:-7].lower()}"] if name.endswith("Refusal") else said or [OF_THE_TOOLCHAIN[name]]
+        words = "; ".join(re.sub(r"\.$", "", it) for it in said) if len(said) > 1 else said[0].rstrip(".").partition(". ")[0]
+        calls_ = ", ".join(called) if len(called) < 13 else "many, by their signatures (`make doc`)"
+        lines.append([f"`{crate}::{name}`" if crate else f"`{name}`", words, calls_])
     return table(["fault", "what it says", "calls"], lines)
 
 
@@ -119,7 +144,7 @@ def ratio(ours, theirs):
 
 
 def of_time(number):
-    return ratios.seconds(f"{number}")
+    return f"{float(number):.3f}"
 
 
 def programs():
@@ -130,7 +155,7 @@ def programs():
         if v2 and v3:
             cells = [it for row in (v2, v3) for it in (of_time(row["ours"]), row["ratio"])]
             lines.append([said, of_time(v2["theirs"]), *cells, v2["ours_MiB"], v2["theirs_MiB"]])
-    return table(["work", "other", "x86-64-v2", "ratio", "x86-64-v3", "ratio", "MiB", "MiB, other"], lines)
+    return table(["work, in seconds", "other", "x86-64-v2", "ratio", "x86-64-v3", "ratio", "MiB", "MiB, other"], lines)
 
 
 def least_and_most(level, works, sizes=None):
@@ -155,72 +180,44 @@ def kept():
     for log_n, keep, peak, seconds in rows("measured.tsv", "keep"):
         beside = ratio(seconds, first.setdefault(log_n, seconds))
         cores = 16 * (1 << int(log_n)) * (1 + int(keep))
-        lines.append([f"2^{log_n}", keep, f"{(1 << int(log_n) - 10) // int(keep):,} MiB", f"{float(peak):,} MiB", f"{seconds} s",
-                      beside, f"{cores:,}"])
-    return table(["N", "S", "table", "memory in all", "time", "beside S = 1", "cores at most"], lines)
+        lines.append([f"2^{log_n}", keep, f"{(1 << int(log_n) - 10) // int(keep):,}", f"{float(peak):,}", seconds, beside, f"{cores:,}"])
+    return table(["N", "S", "table, MiB", "memory in all, MiB", "seconds", "beside S = 1", "cores at most"], lines)
 
 
 def logins():
-    lines = [[f"{passes}, {int(kib):,}", *(f"{it} ms" for it in (other, ours)), ratio(ours, other), f"{kept_} ms",
-              ratio(kept_, other), ", ".join(f"{int(it):,}" for it in faults)]
+    lines = [[f"{passes}, {int(kib):,}", other, ours, ratio(ours, other), kept_, ratio(kept_, other),
+              ", ".join(f"{int(it):,}" for it in faults)]
              for passes, kib, other, ours, kept_, *faults in rows("measured.tsv", "login")]
-    return table(["passes, KiB", "libargon2", "`verify`", "ratio", "kept matrix", "ratio", "page faults of the three"], lines)
+    return table(["passes, KiB", "libargon2, ms", "`verify`, ms", "ratio", "kept matrix, ms", "ratio", "page faults of the three"], lines)
 
 
 def from_python():
-    lines = [[work, beside, f"{ours} ms", f"{other} ms", ratio(ours, other)]
-             for work, beside, ours, other in rows("measured.tsv", "python")]
-    return table(["work", "beside", "`libpikhsen`", "other", "ratio"], lines)
+    lines = [[work, beside, ours, other, ratio(ours, other)] for work, beside, ours, other in rows("measured.tsv", "python")]
+    return table(["work", "beside", "`libpikhsen`, ms", "other, ms", "ratio"], lines)
 
 
 def huge_pages():
-    lines = [[work, *(it for pair in ((first, second), (third, fourth)) for it in (f"{pair[0]} s", f"{pair[1]} s", ratio(*pair[::-1])))]
+    lines = [[work, first, second, ratio(second, first), third, fourth, ratio(fourth, third)]
              for work, first, second, third, fourth in rows("measured.tsv", "pages")]
-    return table(["work", "x86-64-v2", "with huge pages", "ratio", "x86-64-v3", "with huge pages", "ratio"], lines)
+    return table(["work, in seconds", "x86-64-v2", "with huge pages", "ratio", "x86-64-v3", "with huge pages", "ratio"], lines)
 
 
 PARTS = {
     "refusals of argon2": lambda: refusals("argon2"), "refusals of scrypt": lambda: refusals("scrypt"),
-    "faults of the libraries": faults, "ranges": ranges, "a program in Rattle": lambda: program("accounts.txt", "rust"),
-    "a program in C": lambda: program("login.c", "c"), "a program in Python": lambda: program("login.py", "python"),
+    "faults of the libraries": faults, "ranges": ranges, "definitions": definitions,
+    "a program in Rattle": lambda: program("accounts.txt", "rust"), "a program in C": lambda: program("login.c", "c"),
+    "a program in Python": lambda: program("login.py", "python"),
     "times of the programs": programs, "machines": machines, "rows that are kept": kept,
     "logins": logins, "the library from Python": from_python, "huge pages": huge_pages,
     **{f"examples, {it}": lambda it=it: examples(it) for it in ("argon2", "scrypt", "version 0x10", "hostile use")},
 }
 
 
-def marked(script, name, made):
-    return f"<!-- made by {script}: {name} -->\n{made}<!-- end -->\n"
-
-
-def page(text, script="tests/pages/pages.py", parts=PARTS):
-    """A page with the parts of a script as they would be made now."""
-    def made(found):
-        owner, name, _ = found.groups()
-        return marked(script, name, f"\n{parts[name]()}\n") if owner == script else found[0]
-
-    return MADE.sub(made, text)
-
-
-def by_hand(text):
-    """How many lines of a page are written by hand."""
-    return MADE.sub("", text).count("\n")
-
-
-def counted():
-    """By each page, how many of its lines are written by hand."""
-    return {it.relative_to(TOP): by_hand(it.read_text(encoding="utf-8")) for it in PAGES}
-
-
-def main():
-    if "--count" in sys.argv:
-        found = counted()
-        print("".join(f"{lines:6} {name}\n" for name, lines in found.items()) + f"{sum(found.values()):6} of {MOST_BY_HAND}")
-        return
-    for path in PAGES:
-        text = path.read_text(encoding="utf-8")
-        path.write_text(page(text), encoding="utf-8")
+def page(text):
+    """A page with its made parts as they would be made now."""
+    return MADE.sub(lambda it: f"<!-- made by tests/pages/pages.py: {it[1]} -->\n\n{PARTS[it[1]]()}\n<!-- end -->\n", text)
 
 
 if __name__ == "__main__":
-    main()
+    for path in PAGES:
+        path.write_text(page(path.read_text(encoding="utf-8")), encoding="utf-8")

@@ -25,7 +25,7 @@ FUNCTION = re.compile(
 )
 BLOCK = re.compile(r"(?ms)^(?:pub trait (\w+)|impl\b[^\n]* for \w+).*?^\}$")
 TESTS = {"tests", "tests.rt", "testing.rt", "fixtures.rt"}
-# The calls of which docs/DEFINITIONS.md says how much has to be read: programs, commands, a login, and the functions for C.
+# The calls whose definitions have to be told: of programs, commands, a login, and the functions for C.
 OURS = ["scrypt_tool::run", "argon_tool::run", "command::scrypt", "command::argon2", "scrypt_run::run", "argon_text::verify"]
 FOR_C = re.findall(r"\bpikhsen_(?!version)\w+", (CRATES / "pikhsen_c" / "src" / "lib.rt").read_text(encoding="utf-8").partition("pub use")[2])
 CALLS = [*OURS, *(f"pikhsen_c::{name}" for name in FOR_C)]

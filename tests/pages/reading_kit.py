@@ -89,12 +89,3 @@ def kept():
     text = ROWS.read_text(encoding="utf-8") if ROWS.is_file() else ""
     parted = [line.split("\t") for line in text.splitlines()[1:]]
     return [(call, module, int(lines), items.split()) for call, module, lines, items in parted]
-
-
-def sizes():
-    """By each call how many definitions of the toolchain it reaches, in how many lines, as docs/kit.tsv has it."""
-    found = {}
-    for call, _, lines, items in kept():
-        before = found.get(call, (0, 0))
-        found[call] = before[0] + len(items), before[1] + lines
-    return found
