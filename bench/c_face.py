@@ -18,12 +18,12 @@ os.environ.setdefault("PIKHSEN_LIBRARY", str(TOP / "bin/lib/libpikhsen.so.0"))
 sys.dont_write_bytecode = True
 sys.path.insert(0, str(TOP / "python"))
 import pikhsen  # noqa: E402
+from scratch import Least, rounds  # noqa: E402
 
 try:
     from argon2.low_level import Type, hash_secret_raw
 except ImportError:
     hash_secret_raw = None
-ROUNDS = int(sys.argv[1]) if len(sys.argv) > 1 else 7
 PASSWORD, SALT, TEXT = b"correct horse", b"sixteen bytes...", bytes(1 << 24)
 
 
@@ -35,40 +35,30 @@ def spent(work):
     return after.ru_utime + after.ru_stime - before.ru_utime - before.ru_stime, answer
 
 
-def argon2_rows():
-    for kib, passes, lanes in ((64, 3, 1), (4096, 3, 1), (65536, 3, 4), (262144, 1, 1)):
-        def ours(kib=kib, passes=passes, lanes=lanes):
-            return pikhsen.hash(PASSWORD, SALT, passes=passes, memory_kib=kib, lanes=lanes)
-
-        def other(kib=kib, passes=passes, lanes=lanes):
-            return hash_secret_raw(PASSWORD, SALT, passes, kib, lanes, 32, Type.ID)
-
-        yield f"argon2id, {kib} KiB, {passes} passes, {lanes} lanes, beside argon2-cffi", ours, other
-
-
-def scrypt_rows():
+def rows():
+    """Of each row its name, and the same work by ours and by the other."""
+    for kib, passes, lanes in ((64, 3, 1), (4096, 3, 1), (65536, 3, 4), (262144, 1, 1)) if hash_secret_raw else ():
+        yield (f"argon2id, {kib} KiB, {passes} passes, {lanes} lanes, beside argon2-cffi",
+               lambda: pikhsen.hash(PASSWORD, SALT, passes=passes, memory_kib=kib, lanes=lanes),
+               lambda: hash_secret_raw(PASSWORD, SALT, passes, kib, lanes, 32, Type.ID))
     for log_n in (10, 14, 17):
-        def ours(log_n=log_n):
-            return pikhsen.scrypt(PASSWORD, SALT, log_n=log_n)
-
-        def other(log_n=log_n):
-            return hashlib.scrypt(PASSWORD, salt=SALT, n=1 << log_n, r=8, p=1, maxmem=1 << 30)
-
-        yield f"scrypt, N = 2^{log_n}, r = 8, beside hashlib.scrypt", ours, other
+        yield (f"scrypt, N = 2^{log_n}, r = 8, beside hashlib.scrypt", lambda: pikhsen.scrypt(PASSWORD, SALT, log_n=log_n),
+               lambda: hashlib.scrypt(PASSWORD, salt=SALT, n=1 << log_n, r=8, p=1, maxmem=1 << 30))
 
 
 def main():
     print(f"load {os.getloadavg()[0]:.1f}")
-    for name, ours, other in [*(argon2_rows() if hash_secret_raw else []), *scrypt_rows()]:
-        least = [float("inf"), float("inf")]
-        for _ in range(ROUNDS):
+    for name, ours, other in rows():
+        least = Least()
+        for _ in range(rounds()):
             (mine, answer), (theirs, expected) = spent(ours), spent(other)
             if answer != expected:
                 sys.exit(f"{name}: they differ")
-            least = [min(least[0], mine), min(least[1], theirs)]
-        print(f"{name}: {least[0] * 1e3:.2f} ms, {least[1] * 1e3:.2f} ms, {least[0] / least[1]:.2f}")
+            least.note("ours", mine)
+            least.note("other", theirs)
+        print(f"{name}: {least['ours'] * 1e3:.2f} ms, {least['other'] * 1e3:.2f} ms, {least['ours'] / least['other']:.2f}")
     file = pikhsen.encrypt(TEXT, PASSWORD, log_n=10)
-    both = [min(spent(it)[0] for _ in range(ROUNDS)) for it in (
+    both = [min(spent(it)[0] for _ in range(rounds())) for it in (
         lambda: pikhsen.encrypt(TEXT, PASSWORD, log_n=10), lambda: pikhsen.decrypt(file, PASSWORD))]
     print(f"a file of 16 MiB: encrypted in {both[0] * 1e3:.0f} ms, decrypted in {both[1] * 1e3:.0f} ms")
 

@@ -21,10 +21,8 @@ import random
 import re
 import resource
 import subprocess
-import sys
-import tempfile
 
-from scratch import built
+from scratch import Least, built, head, rounds, used
 
 # What a hash may take: 256 blocks of 1 KiB, and as many block functions as Argon2d of that memory in four passes.
 MAX_KIB, MAX_OPS = 256, 4 * 256 - 2
@@ -35,9 +33,7 @@ COUNT, PART = 10_000, 1_000
 ROWS = [(64, 1, 4000), (64, 2, 2000), (64, 3, 2000), (4096, 3, 30), (19456, 2, 12), (65536, 3, 6)]
 MORE_THAN_LIMITS = (1 << 32) - 1
 NUMBER = rb"(0|[1-9][0-9]*)"
-TEXT = re.compile(
-    rb"\$argon2(d|i|id)(?:\$v=N)?\$m=N,t=N,p=N\$([A-Za-z0-9+/]*)\$([A-Za-z0-9+/]*)".replace(b"N", NUMBER)
-)
+TEXT = re.compile(rb"\$argon2(d|i|id)(?:\$v=N)?\$m=N,t=N,p=N\$([A-Za-z0-9+/]*)\$([A-Za-z0-9+/]*)".replace(b"N", NUMBER))
 
 library = ctypes.CDLL("libargon2.so.1") if ctypes.util.find_library("argon2") else None
 made = random.Random(1)
@@ -45,12 +41,9 @@ made = random.Random(1)
 
 def tag_of(kind, version, memory, passes, lanes, salt, password, length):
     """The tag, by libargon2."""
-    tag = ctypes.create_string_buffer(length)
-    status = library.argon2_hash(
-        ctypes.c_uint32(passes), ctypes.c_uint32(memory), ctypes.c_uint32(lanes), password,
-        ctypes.c_size_t(len(password)), salt, ctypes.c_size_t(len(salt)), tag, ctypes.c_size_t(length), None,
-        ctypes.c_size_t(0), KINDS.index(kind), ctypes.c_uint32(version),
-    )  # fmt: skip
+    tag, size, u32 = ctypes.create_string_buffer(length), ctypes.c_size_t, ctypes.c_uint32
+    status = library.argon2_hash(u32(passes), u32(memory), u32(lanes), password, size(len(password)), salt, size(len(salt)), tag,
+                                 size(length), None, size(0), KINDS.index(kind), u32(version))
     if status != 0:
         raise SystemExit(f"libargon2 answers {status}")
     return tag.raw
@@ -63,8 +56,7 @@ def symbols(data):
 def text_of(kind, version, memory, passes, lanes, salt, tag):
     """The text, without its version where that is None."""
     said = "" if version is None else f"$v={version}"
-    front = f"$argon2{kind}{said}$m={memory},t={passes},p={lanes}$"
-    return front.encode() + symbols(salt) + b"$" + symbols(tag)
+    return f"$argon2{kind}{said}$m={memory},t={passes},p={lanes}$".encode() + symbols(salt) + b"$" + symbols(tag)
 
 
 def honest_text(password, kind="id", version=0x13, memory=64, passes=1, lanes=1, salt_len=SALT_LEN, tag_len=TAG_LEN):
@@ -98,14 +90,8 @@ def answer_due(password, text):
         return "1"
     # a number of more digits than ten is out of each range, and Python refuses to read one of more than 4,300
     version, memory, passes, lanes = (int(digits[:11]) for digits in (found[2] or b"16", *found.group(3, 4, 5)))
-    if not (
-        version in (0x10, 0x13)
-        and 1 <= passes < 2**32
-        and 1 <= lanes < 2**24
-        and 8 * lanes <= memory < 2**32
-        and 8 <= len(salt) <= 255
-        and 4 <= len(tag) <= 4096
-    ):
+    if not (version in (0x10, 0x13) and 1 <= passes < 2**32 and 1 <= lanes < 2**24 and 8 * lanes <= memory < 2**32
+            and 8 <= len(salt) <= 255 and 4 <= len(tag) <= 4096):
         return "2"
     kind = found[1].decode()
     if not 1 <= len(password) <= 127:
@@ -175,10 +161,8 @@ def hostile():
 
 def honest(memory, passes, texts):
     """Honest logins of the service's own settings, over so many texts, each with its password and with another."""
-    kept = []
-    for place in range(texts):
-        password = b"password%04d" % place
-        kept.append((password, honest_text(password, memory=memory, passes=passes)))
+    passwords = [b"password%04d" % place for place in range(texts)]
+    kept = [(password, honest_text(password, memory=memory, passes=passes)) for password in passwords]
     while True:
         for password, text in kept:
             yield password, text
@@ -186,9 +170,7 @@ def honest(memory, passes, texts):
 
 
 def packed(logins):
-    return b"".join(
-        len(password).to_bytes(1, "big") + len(text).to_bytes(2, "big") + password + text for password, text in logins
-    )
+    return b"".join(bytes([len(password)]) + len(text).to_bytes(2, "big") + password + text for password, text in logins)
 
 
 def high_water(process):
@@ -210,33 +192,16 @@ def judge_all(name, words, logins):
         if len(answers) != len(part):
             raise SystemExit(f"{name}: {len(answers)} answers to {len(part)} logins")
         for (password, text), answer in zip(part, answers):
-            if answer != answer_due(password, text):
-                due = answer_due(password, text)
+            if answer != (due := answer_due(password, text)):
                 raise SystemExit(f"{name}: {answer} and not {due} for {password!r}, {text[:200]!r}")
         counts.update(answers)
     running.stdin.close()
     if running.wait() != 0:
         raise SystemExit(f"{name} ended with {running.returncode}")
-    answers = ", ".join(f"{key} {counts[key]}" for key in sorted(counts))
-    print(f"{name}: {len(logins)} logins, every answer right: {answers}")
-    growth = f"{sizes[0]} KiB after {PART}, {sizes[-1]} KiB after {len(logins)}"
-    print(f"{name}: greatest resident size {growth}", flush=True)
+    print(f"{name}: {len(logins)} logins, every answer right: {', '.join(f'{key} {counts[key]}' for key in sorted(counts))}")
+    print(f"{name}: greatest resident size {sizes[0]} KiB after {PART}, {sizes[-1]} KiB after {len(logins)}", flush=True)
     if sizes[-1] > sizes[0]:
         raise SystemExit(f"{name}: it grows: {sizes}")
-
-
-def usage_of(words, given):
-    """User and system time in seconds and the page faults of one run, and what it printed."""
-    with tempfile.TemporaryFile() as source:
-        source.write(given)
-        source.seek(0)
-        running = subprocess.Popen(words, stdin=source, stdout=subprocess.PIPE)
-        printed = running.stdout.read()
-        _, status, usage = os.wait4(running.pid, 0)
-    running.returncode = os.waitstatus_to_exitcode(status)
-    if running.returncode != 0:
-        raise SystemExit(f"{words} ended with {running.returncode}")
-    return usage.ru_utime + usage.ru_stime, usage.ru_minflt, printed
 
 
 def by_libargon2(logins):
@@ -250,45 +215,41 @@ def by_libargon2(logins):
     return cpu, after.ru_minflt - before.ru_minflt, answers
 
 
-def race(program, rounds, memory, passes, count):
+def race(program, times, memory, passes, count):
     source = honest(memory, passes, min(count // 2, 50))
     logins = [next(source) for _ in range(count)]
-    given, due = packed(logins), b"yn" * (count // 2)
     limits = [str(memory), "4294967295"]
     runs = {"verify": [program, *limits], "kept matrix": [program, *limits, str(memory), str(passes)]}
-    cpu, faults = {}, {}
+    cpu, faults = Least(), Least()
 
     def note(name, time, pages):
-        cpu[name] = min(time, cpu.get(name, time))
-        faults[name] = min(pages, faults.get(name, pages))
+        cpu.note(name, time)
+        faults.note(name, pages)
 
-    for _ in range(rounds):
+    for _ in range(times):
         time, pages, answers = by_libargon2(logins)
         if answers != [0, -35] * (count // 2):
             raise SystemExit(f"libargon2 answers {answers[:10]}")
         note("libargon2", time, pages)
         for name, words in runs.items():
-            note(name + ", start", *usage_of(words, b"")[:2])
-            time, pages, printed = usage_of(words, given)
-            if printed != due:
-                raise SystemExit(f"{name}: the answers are {printed[:20]!r}")
-            note(name, time, pages)
+            start, run = used(words), used(words, packed(logins))
+            if run.printed != b"yn" * (count // 2):
+                raise SystemExit(f"{name}: the answers are {run.printed[:20]!r}")
+            note(name + ", start", start.cpu, start.faults)
+            note(name, run.cpu, run.faults)
     base = cpu["libargon2"] / count
     for name in ("libargon2", *runs):
-        one = (cpu[name] - cpu.get(name + ", start", 0)) / count
-        pages = (faults[name] - faults.get(name + ", start", 0)) / count
-        ratio = f"{one * 1e6:9.1f} us  {one / base:4.2f}"
-        print(f"-id -t {passes} -k {memory:5}: {name:12} {ratio}  {pages:8.1f} page faults a login", flush=True)
+        one, pages = ((least[name] - least.get(name + ", start", 0)) / count for least in (cpu, faults))
+        times = f"{one * 1e6:9.1f} us  {one / base:4.2f}"
+        print(f"-id -t {passes} -k {memory:5}: {name:12} {times}  {pages:8.1f} page faults a login", flush=True)
 
 
 def main():
-    rounds = int(sys.argv[1]) if len(sys.argv) > 1 else 7
     if library is None:
         print("skipped: no libargon2 is installed to say what is due")
         return
     program = built("logins_bench", "argon argon_text comparison", "logins.txt")
-    load = os.getloadavg()[0]
-    print(f"processors {os.cpu_count()}, load {load:.1f}; user and system time, least of {rounds}", flush=True)
+    head(f"user and system time, least of {rounds()}")
     bad, good = hostile(), honest(64, 1, 500)
     logins = []
     for _ in range(COUNT // PART):
@@ -298,7 +259,7 @@ def main():
     judge_all("verify", [program, str(MAX_KIB), str(MAX_OPS)], logins)
     judge_all("kept matrix", [program, str(MAX_KIB), str(MAX_OPS), "64", "1"], logins)
     for row in ROWS:
-        race(program, rounds, *row)
+        race(program, rounds(), *row)
     print(f"load at the end {os.getloadavg()[0]:.1f}")
 
 

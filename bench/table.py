@@ -13,17 +13,20 @@ bench/openssl.c), and a line says which instructions they use. --small has the r
 whole one as PATH.svg (bench/ratios.py).
 """
 import argparse
+import collections
 import ctypes.util
 import datetime
 import hashlib
+import itertools
 import os
+import pathlib
 import random
 import shutil
 import subprocess
 import tempfile
-import time
 
 import ratios
+from scratch import Least, used
 
 TIMES = "ours theirs ratio ours_elapsed theirs_elapsed ratio_elapsed".split()
 COLUMNS = ["work", "size", "level", *TIMES, "ours_MiB", "theirs_MiB", "rounds", "load"]
@@ -32,27 +35,17 @@ COSTS = ["--logN", "14", "-r", "8", "-p", "1"]
 LIBRARIES = {"libsodium": ("libsodium.c", "sodium"), "OpenSSL": ("openssl.c", "crypto")}
 
 
-class Row:
-    """One piece of work: a program with its arguments and its input, the status that is wanted, and the library beside
-    which it stands, if that isn't the installed program."""
-
-    def __init__(self, work, size, program, words, given=b"", status=0, seconds=0.1, library=None):
-        self.work, self.size, self.program, self.words = work, size, program, words
-        self.given, self.status, self.seconds, self.library = given, status, seconds, library
-
-    def name(self):
-        return f"{self.work} {self.size}"
+# A piece of work: a program with its arguments and its input, the status that is wanted, about how many seconds it takes, and
+# the library beside which it stands, if that isn't the installed program.
+Row = collections.namedtuple("Row", "work size program words given status seconds library", defaults=(b"", 0, 0.1, None))
 
 
 def argon2_rows():
-    for log_memory in (3, 12, 16, 18):
-        for kind in ("d", "i", "id"):
-            for passes in (1, 3):
-                for lanes in (1, 4):
-                    memory = ["-k", str(8 * lanes)] if log_memory == 3 else ["-m", str(log_memory)]
-                    words = ["somesalt", f"-{kind}", "-t", str(passes), "-p", str(lanes), *memory, "-r"]
-                    work, seconds = f"argon2 -{kind} -t {passes} -p {lanes} -m", passes * 2.0 ** (log_memory - 19)
-                    yield Row(work, log_memory, "argon2", words, b"password", 0, seconds)
+    for log_memory, kind, passes, lanes in itertools.product((3, 12, 16, 18), ("d", "i", "id"), (1, 3), (1, 4)):
+        memory = ["-k", str(8 * lanes)] if log_memory == 3 else ["-m", str(log_memory)]
+        words = ["somesalt", f"-{kind}", "-t", str(passes), "-p", str(lanes), *memory, "-r"]
+        work, seconds = f"argon2 -{kind} -t {passes} -p {lanes} -m", passes * 2.0 ** (log_memory - 19)
+        yield Row(work, log_memory, "argon2", words, b"password", 0, seconds)
 
 
 def scrypt_rows():
@@ -85,82 +78,57 @@ def compiled(name, folder):
     """The program over a library, where that and a compiler are installed. It prints which library that is."""
     source, known_as = LIBRARIES[name]
     file, program = ctypes.util.find_library(known_as), os.path.join(folder, name)
-    words = ["cc", "-O2", "-o", program, os.path.join(os.path.dirname(os.path.abspath(__file__)), source)]
-    there = file is not None and shutil.which("cc") is not None
-    if not there or subprocess.run([*words, f"-l:{file}"], stderr=subprocess.DEVNULL).returncode != 0:
+    words = ["cc", "-O2", "-o", program, pathlib.Path(__file__).with_name(source), f"-l:{file}"]
+    if not file or not shutil.which("cc") or subprocess.run(words, stderr=subprocess.DEVNULL).returncode != 0:
         print(f"{name} or a compiler is not installed: its rows are left out")
         return None
-    print(subprocess.run([program], stdout=subprocess.PIPE, check=True).stdout.decode().strip())
+    print(subprocess.run([program], stdout=subprocess.PIPE, check=True, text=True).stdout.strip())
     return program
 
 
 def run(words, row, folder):
-    """User and system time, elapsed time, and the hash or the decrypted file that came."""
-    began = time.monotonic()
-    environment = {**os.environ, "PW": "pw"}
-    with open(os.path.join(folder, "given"), "wb+") as given:
-        given.write(row.given)
-        given.seek(0)
-        running = subprocess.Popen(
-            words, cwd=folder, env=environment, stdin=given, stdout=subprocess.PIPE, stderr=subprocess.DEVNULL
-        )
-        printed = running.stdout.read()
-        running.stdout.close()
-        _, status, usage = os.wait4(running.pid, 0)
-    running.returncode = os.waitstatus_to_exitcode(status)
-    if running.returncode != row.status:
-        raise SystemExit(f"{' '.join(words)} ended with {running.returncode}")
-    elapsed = time.monotonic() - began
-    return usage.ru_utime + usage.ru_stime, elapsed, result(row, folder, printed)
+    return used(words, row.given, row.status, cwd=folder, stderr=subprocess.DEVNULL)
 
 
 def memory_of(words, row, folder):
     """The greatest resident set in KiB; None without GNU time: a process that this one starts has at least this one's."""
-    timing = shutil.which("time")
+    timing, told = shutil.which("time"), pathlib.Path(folder, "memory")
     if timing is None:
         return None
-    told = os.path.join(folder, "memory")
     run([timing, "-q", "-f", "%M", "-o", told, *words], row, folder)
-    with open(told, encoding="utf-8") as file:
-        return int(file.read().split()[-1])
+    return int(told.read_text().split()[-1])
 
 
 def result(row, folder, printed):
     """What all programs must have in common: a hash, a decrypted file."""
     if row.words[0] != "dec":
         return printed if row.program == "argon2" and row.status == 0 else None
-    digest = hashlib.sha256()
     with open(os.path.join(folder, "made"), "rb") as made:
-        while piece := made.read(1 << 16):
-            digest.update(piece)
-    return digest.digest()
+        return hashlib.file_digest(made, "sha256").digest()
 
 
 def measure(row, programs, rounds, folder):
     """The least times and the memory of each program, by its name."""
-    best = {}
-    found = set()
-    for _ in range(rounds):
-        for name, program in programs.items():
-            cpu, elapsed, made = run([program, *row.words], row, folder)
-            old = best.get(name, (cpu, elapsed))
-            best[name] = (min(cpu, old[0]), min(elapsed, old[1]))
-            found.add(made)
+    cpu, elapsed, found = Least(), Least(), set()
+    for name, program in [*programs.items()] * rounds:
+        ran = run([program, *row.words], row, folder)
+        cpu.note(name, ran.cpu)
+        elapsed.note(name, ran.elapsed)
+        found.add(result(row, folder, ran.printed))
     if len(found) != 1:
-        raise SystemExit(f"{row.name()}: the programs differ in what they make")
-    return {name: (*best[name], memory_of([program, *row.words], row, folder)) for name, program in programs.items()}
+        raise SystemExit(f"{row.work} {row.size}: the programs differ in what they make")
+    return {name: (cpu[name], elapsed[name], memory_of([it, *row.words], row, folder)) for name, it in programs.items()}
 
 
 def make_files(rows, scrypt, folder):
     """The texts that the rows encrypt, and those that they decrypt."""
-    open(os.path.join(folder, "empty"), "wb").close()
+    pathlib.Path(folder, "empty").touch()
     made = random.Random(1)
     for size in {row.size for row in rows if "text-" in " ".join(row.words)}:
         with open(os.path.join(folder, f"text-{size}"), "wb") as file:
             for _ in range(size):
                 file.write(made.randbytes(1 << 20))
-        encrypting = [scrypt, "enc", *COSTS, "--passphrase", "env:PW", f"text-{size}", f"text-{size}.enc"]
-        subprocess.run(encrypting, cwd=folder, env={**os.environ, "PW": "pw"}, check=True)
+        used([scrypt, "enc", *COSTS, "--passphrase", "env:PW", f"text-{size}", f"text-{size}.enc"], cwd=folder)
 
 
 def values(row, level, best, rounds):
@@ -192,45 +160,38 @@ def main():
     asked.add_argument("--out")
     given = asked.parse_args()
     greatest = 0.2 if given.small else 100 if given.large else 5
-    rows = [*argon2_rows(), *scrypt_rows(), *library_rows()]
-    rows = [row for row in rows if row.seconds <= greatest and given.only in row.name()]
+    rows = [row for row in (*argon2_rows(), *scrypt_rows(), *library_rows())
+            if row.seconds <= greatest and given.only in f"{row.work} {row.size}"]
     levels = {os.path.basename(os.path.abspath(folder)): os.path.abspath(folder) for folder in given.folders}
     load = f"load {os.getloadavg()[0]:.1f} at the start"
     title = f"{processor()}; {load}; {datetime.date.today()}; least of {given.rounds} rounds"
     print(title)
     print("seconds of processor time and elapsed, MiB of memory; a ratio is ours to that of the other program or library")
-    print("  ".join(f"{name:>{width(name)}}" for name in COLUMNS), flush=True)
+    print(shown(COLUMNS), flush=True)
     lines = []
     with tempfile.TemporaryDirectory(prefix="pikhsen-bench-") as folder:
         libraries = {name: compiled(name, folder) for name in LIBRARIES if any(row.library == name for row in rows)}
         make_files(rows, os.path.join(next(iter(levels.values())), "scrypt"), folder)
         for row in rows:
             programs = {level: os.path.join(place, row.program) for level, place in levels.items()}
-            installed = shutil.which(row.program, path="/usr/bin:/usr/local/bin")
-            if row.library:
-                installed = libraries[row.library]
-                if not installed:
-                    continue
-            if installed:
-                programs["installed"] = installed
-            best = measure(row, programs, given.rounds, folder)
+            other = libraries[row.library] if row.library else shutil.which(row.program, path="/usr/bin:/usr/local/bin")
+            if row.library and not other:
+                continue
+            best = measure(row, {**programs, **({"installed": other} if other else {})}, given.rounds, folder)
             for level in levels:
                 lines.append(values(row, level, best, given.rounds))
-                print("  ".join(f"{cell:>{width(name)}}" for name, cell in zip(COLUMNS, lines[-1])), flush=True)
+                print(shown(lines[-1]), flush=True)
     if given.out:
-        write(given.out, title, lines)
+        text = f"# {title}\n" + "".join("\t".join(line) + "\n" for line in [COLUMNS, *lines])
+        pathlib.Path(f"{given.out}.tsv").write_text(text, encoding="utf-8")
         if not given.only:
-            with open(f"{given.out}.svg", "w", encoding="utf-8") as file:
-                file.write(ratios.drawn(f"{given.out}.tsv"))
+            pathlib.Path(f"{given.out}.svg").write_text(ratios.drawn(f"{given.out}.tsv"), encoding="utf-8")
 
 
-def width(name):
-    return {"work": 26, "level": 9}.get(name, max(7, len(name)))
-
-
-def write(path, title, lines):
-    with open(f"{path}.tsv", "w", encoding="utf-8") as file:
-        file.write(f"# {title}\n" + "".join("\t".join(line) + "\n" for line in [COLUMNS, *lines]))
+def shown(cells):
+    """Cells of a line, each as wide as its column."""
+    widths = ({"work": 26, "level": 9}.get(name, max(7, len(name))) for name in COLUMNS)
+    return "  ".join(f"{cell:>{width}}" for cell, width in zip(cells, widths))
 
 
 main()

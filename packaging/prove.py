@@ -144,26 +144,14 @@ def linked(source, to):
         shutil.copy2(source, to)
 
 
-def link_all(source, to, but=()):
-    """Makes a folder with links to all files of another one, but for some names at its top."""
-    to.mkdir(parents=True, exist_ok=True)
-    for path in source.iterdir() if source.is_dir() else ():
-        if path.name in but:
-            continue
-        if path.is_dir():
-            shutil.copytree(path, to / path.name, copy_function=linked)
-        else:
-            linked(path, to / path.name)
-
-
 def furnish(room, crate, uses):
-    """Makes a room in which a crate can be proved: a repository of it and of what it stands on. What earlier proofs of
-    the crate kept moves there."""
+    """Makes a room in which a crate can be proved: a repository of links to it and to what it stands on. What earlier
+    proofs of the crate kept moves there."""
     names, lines = [*uses[crate], crate], listed()
     for name in names:
-        link_all(CRATES / name, room / "crates" / name, but=["out"])
+        shutil.copytree(CRATES / name, room / "crates" / name, copy_function=linked, ignore=shutil.ignore_patterns("out"))
         if (CRATES / name / "out/rlib").is_dir():
-            link_all(CRATES / name / "out/rlib", room / "crates" / name / "out/rlib")
+            shutil.copytree(CRATES / name / "out/rlib", room / "crates" / name / "out/rlib", copy_function=linked)
     (room / "crates.txt").write_text("".join(f"{lines[name]}\n" for name in names), encoding="utf-8")
     if (CRATES / crate / "out/incremental").is_dir():
         (room / "crates" / crate / "out").mkdir(exist_ok=True)

@@ -4,10 +4,10 @@ small picture of the same, with a box for each crate, which fits a screen.
 
     tests/pages/proof_map.py docs/proof-map.svg docs/proof-map-small.svg
 
-What they say is read from crates.txt, the sources, README.md and docs/ (ARCHITECTURE.md, PROMISES.md, DEFINITIONS.md);
+What they say is read from crates.txt, the sources, README.md and docs/ (ARCHITECTURE.md, PROMISES.md, definitions.tsv);
 promises.py has the reading of promises. It fails where docs/PROMISES.md names a call or a clause that the sources lack,
-or where an arrow, or the place of a box in the small picture, and those pages do not agree. Only the places of boxes
-and arrows, and a few words for each crate of the small picture, stand here.
+or where an arrow, or the place of a box in the small picture, and those pages do not agree. The places of boxes and
+arrows, and a few words for each crate of the small picture, are in docs/proof-map.tsv.
 """
 import pathlib
 import re
@@ -17,61 +17,24 @@ from xml.sax.saxutils import escape
 from promises import CRATES, ROOT, code, promises, read
 
 WIDTH, COLUMNS = 1200, [(30, 372), (446, 336), (826, 344)]
-PLACES = [["scrypt_command", "scrypt_words", "scrypt_run", "encfile", "aes_ctr"],
-          ["command_words", "host", "tools", "comparison", "counter", "romix", "macs"],
-          ["argon2_command", "argon2_words", "argon_text", "argon", "blake"]]
 # Crates without a promise that are not drawn: lemmas, what words and run of scrypt share, and the programs.
 UNDRAWN = ["four_words", "scrypt_request", "argon_tool", "scrypt_tool"]
 # The box of the functions for C leaves room at both sides for the arrows of the commands.
 FOR_C = (240, 734)
-# Each standard as docs/DEFINITIONS.md names it, below the column of the crates that restate it.
-STANDARDS = [{"FORMAT": "scrypt's file", "SP 800-38A": "CTR mode", "FIPS 197": "AES", "FIPS 180-4": "SHA-256"},
-             {"RFC 2104": "HMAC", "RFC 8018": "PBKDF2", "RFC 7914": "scrypt"},
-             {"RFC 4648": "base64", "RFC 7693": "BLAKE2b", "RFC 9106": "Argon2"}]
 SYSTEM = "the system's calls"
-STRAIGHT = [("command", "scrypt_command"), ("command", "argon2_command"), ("scrypt_command", "scrypt_words"),
-            ("command_words", "host"), ("argon2_command", "argon2_words"), ("scrypt_run", "encfile"),
-            ("encfile", "aes_ctr"), ("aes_ctr", "FORMAT"), ("aes_ctr", "SP 800-38A"), ("aes_ctr", "FIPS 197"),
-            ("tools", "host"), ("tools", SYSTEM), ("romix", "counter"), ("romix", "macs"), ("macs", "RFC 2104"), ("macs", "RFC 8018"),
-            ("macs", "RFC 7914"), ("argon_text", "argon"), ("argon", "blake"), ("blake", "RFC 7693"), ("blake", "RFC 9106")]
-# The other arrows, each with the x on which it goes down.
-ASIDE = {("scrypt_command", "scrypt_run"): 20, ("scrypt_words", "command_words"): 430, ("scrypt_words", "host"): 430,
-         ("scrypt_words", "romix"): 424, ("scrypt_run", "host"): 430, ("argon2_words", "command_words"): 797,
-         ("argon2_words", "host"): 797, ("argon2_words", "argon"): 1192, ("argon2_command", "argon_text"): 1179,
-         ("encfile", "comparison"): 418, ("encfile", "romix"): 418, ("encfile", "FIPS 180-4"): 418,
-         ("macs", "FIPS 180-4"): 430, ("encfile", "FORMAT"): 14, ("romix", "RFC 7914"): 797, ("argon_text", "comparison"): 811,
-         ("argon_text", "RFC 4648"): 811, ("argon_text", "RFC 9106"): 1186, ("argon", "RFC 9106"): 1186,
-         ("argon", "counter"): 804}
-# Those that begin at the lower edge of their box.
-FROM_BELOW = {("pikhsen_c", "encfile"): 410, ("pikhsen_c", "argon_text"): 818}
-# The small picture: rows of crates for argon2, for both, and for scrypt, each crate with a few words. A crate stands on
-# crates of lower rows, of its own column or of the middle one; what stands in the middle, on those of all columns.
-SMALL = [
-    [{"argon_tool": "the program argon2"}, {"pikhsen_c": "the functions for C"}, {"scrypt_tool": "the program scrypt"}],
-    [{}, {"command": "both commands", "tools": "the system's host"}, {}],
-    [{"argon2_command": "the run of argon2"}, {}, {"scrypt_command": "the run of scrypt"}],
-    [{"argon2_words": "arguments of argon2"}, {}, {"scrypt_words": "arguments of scrypt", "scrypt_run": "enc, dec and info"}],
-    [{"argon_text": "texts of stored hashes"}, {"command_words": "arguments of both"},
-     {"scrypt_request": "what is asked for", "encfile": "encrypted files"}],
-    [{"argon": "Argon2, RFC 9106"}, {"host": "what commands see"}, {"romix": "scrypt, RFC 7914"}],
-    [{"blake": "BLAKE2b, RFC 7693"}, {"comparison": "of codes", "counter": "of work", "four_words": "lemmas"},
-     {"macs": "HMAC, PBKDF2", "aes_ctr": "AES-256"}],
-]
-# Colours for a light page and for a dark one: page, box, line, text, soft text, code, headline, standards.
-LIGHT = "#fff #f6f8fa #818b98 #1f2328 #59636e #0550ae #ddf4ff #fff8c5".split()
-DARK = "#0d1117 #161b22 #7d8590 #e6edf3 #9198a1 #79c0ff #12283d #2e2a14".split()
-COLOURS = """.page{fill:%s;stroke:none} rect{fill:%s;stroke:%s} text{fill:%s} .soft{fill:%s} .code{fill:%s} .mark{fill:%s}
-.base{fill:%s} .head{fill:%s} .way{stroke:%s}"""
-STYLE = """text{font:11.5px Helvetica,Arial,"Liberation Sans",sans-serif} .name,.number{font-size:14px;font-weight:bold}
-.number{font-size:12.5px} .soft{font-size:10.5px} .code{font:10.5px "DejaVu Sans Mono","Liberation Mono",monospace}
-.trusted{stroke-dasharray:5 3} .way{fill:none;stroke-width:1.4}
-""" + "\n".join(begin + COLOURS % (*colours, colours[2], colours[2]) + end for begin, colours, end in [
-    ("", LIGHT, ""), ("@media (prefers-color-scheme:dark){", DARK, "}")])
 
 
+def rows(kind):
+    return [line.split("\t")[1:] for line in read("docs/proof-map.tsv").splitlines() if line.startswith(f"{kind}\t")]
+
+
+STANDARDS = [dict(it.split(": ") for it in row) for row in rows("standards")]
+ARROWS = {(start, end): way for start, end, way in rows("arrow")}
+SMALL = [[dict(it.split(": ") for it in cell.split("; ") if it != "-") for cell in row] for row in rows("small")]
+STYLE = pathlib.Path(__file__).with_suffix(".css").read_text(encoding="utf-8").rstrip("\n")
 # How wide letters are, in parts of their height: those of DejaVu Sans, or somewhat more, which is wider than Arial.
-WIDE = {**dict.fromkeys("ijl'", 0.29), **dict.fromkeys("ft.,:;()-r ", 0.4), **dict.fromkeys("mwMW=+%@", 0.98),
-        **dict.fromkeys("ABCDEFGHKLNOPQRSTUVXYZ", 0.75)}
+WIDE = {letter: width for letters, width in (("ijl'", 0.29), ("ft.,:;()-r ", 0.4), ("mwMW=+%@", 0.98), ("ABCDEFGHKLNOPQRSTUVXYZ", 0.75))
+        for letter in letters}
 
 
 def width_of(text, size, fixed=False, bold=False):
@@ -83,15 +46,13 @@ def wrapped(text, width, size=11.5, fixed=False):
     lines = [""]
     for word in text.split():
         longer = f"{lines[-1]} {word}".strip()
-        fits = width_of(longer, size, fixed) <= width
-        lines[-1:] = [longer] if fits or not lines[-1] else [lines[-1], word]
+        lines[-1:] = [longer] if width_of(longer, size, fixed) <= width or not lines[-1] else [lines[-1], word]
     return lines
 
 
 class Picture:
-    def __init__(self, width=WIDTH, title="Which promise stands on what"):
-        self.boxes, self.texts, self.arrows = {}, [], []
-        self.width, self.title = width, title
+    def __init__(self, width, title):
+        self.boxes, self.texts, self.arrows, self.width, self.title = {}, [], [], width, title
 
     def text(self, x, y, lines, kind="text", step=14):
         """Lines from this y on; the y after them."""
@@ -129,29 +90,28 @@ class Picture:
         self.boxes[name] = (x, y, width, end - y)
         return end
 
-    def arrow(self, start, end, way=None, below=False):
+    def arrow(self, start, end, way):
         """From box to box: straight where one is above the other, else aside, down on this x, and back; or from the
         lower edge, down on this x, and aside."""
         (x, y, width, height), (to_x, to_y, to_width, to_height) = self.boxes[start], self.boxes[end]
-        if below:
-            points = [(way, y + height), (way, to_y + 16), (to_x + (to_width if way > to_x else 0), to_y + 16)]
-        elif way is None:
-            middle = to_x + to_width // 2 if to_width < width else x + width // 2
-            points = [(middle, y + height), (middle, to_y)] if y < to_y else [(middle, y), (middle, to_y + to_height)]
+        down = int(way.strip("!-") or (to_x + to_width // 2 if to_width < width else x + width // 2))
+        begun, ended = (left + (wide if down > left else 0) for left, wide in ((x, width), (to_x, to_width)))
+        if way == "-":
+            points = [(down, y + height), (down, to_y)] if y < to_y else [(down, y), (down, to_y + to_height)]
         else:
-            sides = [left + (wide if way > left else 0) for left, wide in ((x, width), (to_x, to_width))]
-            points = [(sides[0], y + 16), (way, y + 16), (way, to_y + 16), (sides[1], to_y + 16)]
+            points = [(down, y + height)] if "!" in way else [(begun, y + 16), (down, y + 16)]
+            points += [(down, to_y + 16), (ended, to_y + 16)]
         path = "M" + " L".join(f"{across} {down}" for across, down in points)
         self.arrows.append(f'<path class="way" d="{path}" marker-end="url(#head)"><title>{start} stands on {end}</title></path>')
 
     def svg(self, height):
-        frame = f'viewBox="0 0 {self.width} {height}" width="{self.width}" height="{height}"'
-        marker = '<marker id="head" markerWidth="8" markerHeight="8" refX="7" refY="4" orient="auto">'
-        title = f"<title>{self.title}</title>"
-        parts = [f'<svg xmlns="http://www.w3.org/2000/svg" {frame}>', f"{title}<style>{STYLE}</style>",
-                 f'<defs>{marker}<path class="head" d="M0 0 L8 4 L0 8z"/></marker></defs>',
-                 f'<rect class="page" width="{self.width}" height="{height}"/>', *self.arrows, *self.texts, "</svg>"]
-        return "\n".join(parts) + "\n"
+        size = f'width="{self.width}" height="{height}"'
+        return "\n".join([
+            f'<svg xmlns="http://www.w3.org/2000/svg" viewBox="0 0 {self.width} {height}" {size}>',
+            f"<title>{self.title}</title><style>{STYLE}</style>",
+            '<defs><marker id="head" markerWidth="8" markerHeight="8" refX="7" refY="4" orient="auto">'
+            '<path class="head" d="M0 0 L8 4 L0 8z"/></marker></defs>',
+            f'<rect class="page" {size}/>', *self.arrows, *self.texts, "</svg>\n"])
 
 
 def notes(crate):
@@ -159,42 +119,38 @@ def notes(crate):
     named = {}
     for owner, many, one in re.findall(r"^(?:pub )?use (\w+)::(?:\{(.*)\}|(\w+));", "\n".join(code(crate)), re.MULTILINE):
         named.setdefault(owner, set()).update((many or one).split(", "))
-    kit = [each for each in CRATES[crate] if each not in CRATES]
+    kit = ", ".join(each for each in CRATES[crate] if each not in CRATES)
     lines = [f"uses {each}: {', '.join(sorted(named[each]))}" for each in CRATES[crate] if each in CRATES and each in named]
-    return lines + ([f"of the kit: {', '.join(kit)}"] if kit else [])
+    return lines + [f"of the kit: {kit}"] * bool(kit)
 
 
 def standards(crate):
-    """The standards that the tables of docs/DEFINITIONS.md name for the crate, and that of the kit's sha2 where it cites it."""
-    section = re.search(rf"^## {crate}\n(.*?)(?=^## |\Z)", read("docs/DEFINITIONS.md"), re.MULTILINE | re.DOTALL)
-    sources = " ".join(line.split("|")[4] for line in (section[1] if section else "").splitlines() if line.count("|") > 4)
+    """The standards that docs/definitions.tsv names for the crate, and that of the kit's sha2 where it cites it."""
+    lines = (line.split("\t") for line in read("docs/definitions.tsv").splitlines())
     cites = any("use Rattle.sha2." in file.read_text("utf-8") for file in (ROOT / "crates" / crate / "specs").rglob("*.antt"))
-    sources += " FIPS 180-4" if cites else ""
+    sources = " ".join([*(cells[3] for cells in lines if cells[0] == crate), *["FIPS 180-4"] * cites])
     return {name for row in STANDARDS for name in row if re.search(rf"\b{name}\b", sources)}
 
 
 def disagreements():
     """Arrows that no page gives, and what a page gives that no way of arrows says."""
-    arrows = {*STRAIGHT, *ASIDE, *FROM_BELOW}
     given = {(crate, below) for crate in CRATES for below in [*CRATES[crate], *standards(crate)]
              if crate not in UNDRAWN and not crate.endswith("_tests")}
-    reached = set(arrows)
+    reached = {*ARROWS}
     for _ in CRATES:
-        reached |= {(start, end) for start, middle in reached for other, end in arrows if middle == other}
-    said = {(start, end) for start, end in given if end in {end for _, end in arrows}}
-    return [f"arrow {start} to {end}" for start, end in sorted((arrows - given - {("tools", SYSTEM)}) | (said - reached))]
+        reached |= {(start, end) for start, middle in reached for other, end in ARROWS if middle == other}
+    said = {(start, end) for start, end in given if end in {end for _, end in ARROWS}}
+    return [f"arrow {start} to {end}" for start, end in sorted(({*ARROWS} - given - {("tools", SYSTEM)}) | (said - reached))]
 
 
 def drawn():
     """The picture, and what is wrong with what it is drawn from."""
-    held, wrong = promises()
-    picture = Picture()
+    (held, wrong), picture = promises(), Picture(WIDTH, "Which promise stands on what")
     roles = dict(re.findall(r"^\| `(\w+)` \| (.*?) \| .* \|$", read("docs/ARCHITECTURE.md").split("\n## Layers\n")[1], re.MULTILINE))
     headline = " ".join(re.findall(r"^> (.*)$", read("docs/PROMISES.md"), re.MULTILINE))
 
     def crate_box(crate, x, y, width, columns=1):
-        role = roles[crate].replace("`", "")
-        lines = notes(crate) if columns == 1 else ["; ".join(notes(crate))]
+        role, lines = roles[crate].replace("`", ""), notes(crate) if columns == 1 else ["; ".join(notes(crate))]
         return picture.box(crate, f"{crate}: {role}", x, y, width, role, held[crate], lines, columns=columns)
 
     end = picture.box("The headline", "What the whole promises", 30, 14, WIDTH - 60, "", [(headline, [])],
@@ -203,9 +159,9 @@ def drawn():
                        " out. Each promise is here by its first sentence, and whole where the pointer rests on it."], "mark")
     end = crate_box("command", 30, end + 14, WIDTH - 60, 3)
     top, ends = crate_box("pikhsen_c", FOR_C[0], end + 22, FOR_C[1], 2), []
-    for (x, width), names in zip(COLUMNS, PLACES):
+    for (x, width), names in zip(COLUMNS, rows("crates")):
         end = top
-        for name in names:
+        for name in names[0].split():
             end = crate_box(name, x, end + 30, width)
             if name == "tools":
                 role = "files, variables, streams, random bytes: no contract knows what they hold; tests run them"
@@ -217,14 +173,9 @@ def drawn():
         for number, (name, subject) in enumerate(row.items()):
             ends.append(picture.box(name, f"{name}: {subject}", x + number * share, top, share - 8, subject, kind="base"))
     end = picture.box("Of every function", "Beside its own clauses", 30, max(ends) + 26, WIDTH - 60, "", held["all"], kind="mark")
-    end = picture.box("Trusted, under all of it", "What no proof shows", 30, end + 12, WIDTH - 60, "",
-                      [(each, []) for each in trusted()], kind="trusted", columns=3)
-    for arrow in STRAIGHT:
-        picture.arrow(*arrow)
-    for arrow, way in ASIDE.items():
+    end = picture.box("Trusted, under all of it", "What no proof shows", 30, end + 12, WIDTH - 60, "", trusted(), (), "trusted", 3)
+    for arrow, way in ARROWS.items():
         picture.arrow(*arrow, way)
-    for arrow, way in FROM_BELOW.items():
-        picture.arrow(*arrow, way, below=True)
     return picture.svg(end + 14), wrong + disagreements()
 
 
@@ -234,23 +185,20 @@ def plain(text):
 
 
 def trusted():
-    """What README trusts, item by item."""
+    """What README trusts, item by item, which nothing carries."""
     section = read("README.md").split("\n**Trusted**:\n\n")[1].split("\n\n")[0]
-    return [plain(each) for each in re.findall(r"^- (.*(?:\n  .*)*)", section, re.MULTILINE)]
+    return [(plain(each), []) for each in re.findall(r"^- (.*(?:\n  .*)*)", section, re.MULTILINE)]
 
 
 def misplaced():
     """Crates that the small picture lacks, and those that stand on one that is not below them there."""
     places = {crate: (number, column) for number, row in enumerate(SMALL) for column, cell in enumerate(row) for crate in cell}
-    wanted = {crate for crate in CRATES if not crate.endswith("_tests")}
-    wrong = [f"the small picture: {crate}" for crate in sorted(wanted ^ {*places})]
-    for crate, below in CRATES.items():
-        for other in below:
-            if other in places and crate in places:
-                (row, column), (lower, beside) = places[crate], places[other]
-                if lower <= row or 1 not in (column, beside) and column != beside:
-                    wrong.append(f"the small picture: {other} below {crate}")
-    return wrong
+    wrong = sorted({crate for crate in CRATES if not crate.endswith("_tests")} ^ {*places})
+    for crate, other in ((crate, other) for crate, below in CRATES.items() for other in below if {crate, other} <= {*places}):
+        (row, column), (lower, beside) = places[crate], places[other]
+        if lower <= row or 1 not in (column, beside) and column != beside:
+            wrong.append(f"{other} below {crate}")
+    return [f"the small picture: {it}" for it in wrong]
 
 
 SMALL_WIDTH, SMALL_COLUMNS = 960, [(20, 250), (286, 388), (690, 250)]
@@ -259,11 +207,10 @@ SMALL_WIDTH, SMALL_COLUMNS = 960, [(20, 250), (286, 388), (690, 250)]
 def small():
     """The small picture, and what is wrong with the places of its boxes."""
     picture = Picture(SMALL_WIDTH, "Which crate stands on which, under the headline and over what is trusted")
-    quoted = " ".join(re.findall(r"^> (.*)$", read("README.md").split("\n# Using the programs\n")[0], re.MULTILINE))
-    y = picture.box("Proved", "The headline", 20, 12, SMALL_WIDTH - 40, "", [(plain(quoted), [])], kind="mark") + 22
+    quoted = plain(" ".join(re.findall(r"^> (.*)$", read("README.md").split("\n# Using the programs\n")[0], re.MULTILINE)))
+    y = picture.box("Proved", "The headline", 20, 12, SMALL_WIDTH - 40, "", [(quoted, [])], kind="mark") + 32
     for (x, width), title in zip(SMALL_COLUMNS, ("argon2", "both", "scrypt")):
-        picture.texts.append(f'<text x="{x + width // 2}" y="{y}" class="name" text-anchor="middle">{title}</text>')
-    y += 10
+        picture.texts.append(f'<text x="{x + width // 2}" y="{y - 10}" class="name" text-anchor="middle">{title}</text>')
     for row in SMALL:
         for (x, width), cell in zip(SMALL_COLUMNS, row):
             share = (width + 8) // max(len(cell), 1)
@@ -279,16 +226,15 @@ def small():
         y += 50
     note = "A crate uses only crates below it: of its own column or the middle one; a crate of the middle, of any."
     y = picture.text(20, y + 12, [note], "soft") + 2
-    end = picture.box("Trusted", "What no proof shows", 20, y, SMALL_WIDTH - 40, "",
-                      [(each, []) for each in trusted()], kind="trusted", columns=2)
+    end = picture.box("Trusted", "What no proof shows", 20, y, SMALL_WIDTH - 40, "", trusted(), (), "trusted", 2)
     return picture.svg(end + 12), misplaced()
 
 
 if __name__ == "__main__":
     if len(sys.argv) != 3:
         raise SystemExit(__doc__)
-    (svg, wrong), (small_svg, misplacements) = drawn(), small()
-    if wrong + misplacements:
-        raise SystemExit("\n".join(wrong + misplacements))
-    pathlib.Path(sys.argv[1]).write_text(svg, encoding="utf-8")
-    pathlib.Path(sys.argv[2]).write_text(small_svg, encoding="utf-8")
+    made = drawn(), small()
+    if any(wrong for _, wrong in made):
+        raise SystemExit("\n".join(it for _, wrong in made for it in wrong))
+    for name, (svg, _) in zip(sys.argv[1:], made):
+        pathlib.Path(name).write_text(svg, encoding="utf-8")

@@ -112,18 +112,9 @@ def standard_streams(checks):
     checks.that("a full device", checks.shell(f'"$0" {words} >/dev/full', b"password"), unwritten)
     checks.that("a closed standard error", checks.shell('"$0" somesalt 2>&-', b"password"), (1, b"", b""))
     checks.that("all streams closed", checks.shell(f'"$0" {words} <&- >&- 2>&-', b"password"), (1, b"", b""))
-
-
-def closed_pipe(checks):
-    """Nobody reads the output any more: a fault like any other, and no signal."""
-    found = checks.unread_pipe("somesalt -d -t 1 -k 8 -e".split(), b"password")
-    checks.that("a pipe that nobody reads", found, (1, b"argon2: output cannot be written\n"))
-
-
-def slow_input(checks):
-    """The password comes byte by byte."""
-    found = checks.slowly("somesalt -d -t 1 -k 8 -e".split(), b"password", 0.01)
-    checks.that("a password in pieces", found, hashed(FIRST))
+    # nobody reads the output any more: a fault like any other, and no signal
+    checks.that("a pipe that nobody reads", checks.unread_pipe(words.split(), b"password"), (1, unwritten[2]))
+    checks.that("a password in pieces", checks.slowly(words.split(), b"password", 0.01), hashed(FIRST))
 
 
 def words_of_bytes(checks):
@@ -146,21 +137,14 @@ REFUSING_AFTER = r"""
 #include <dlfcn.h>
 #include <stdlib.h>
 static int taken;
-static int refused(size_t size) {
-    if (taken) return 1;
-    if (size >= MATRIX) taken = 1;
-    return 0;
-}
-void *malloc(size_t size) {
-    static void *(*next)(size_t);
-    if (!next) next = dlsym(RTLD_NEXT, "malloc");
-    return refused(size) ? NULL : next(size);
-}
-void *realloc(void *old, size_t size) {
-    static void *(*next)(void *, size_t);
-    if (!next) next = dlsym(RTLD_NEXT, "realloc");
-    return refused(size) ? NULL : next(old, size);
-}
+#define GRANT(NAME, TYPES, ...) \
+    static void *(*next) TYPES; \
+    if (!next) next = dlsym(RTLD_NEXT, NAME); \
+    if (taken) return NULL; \
+    taken = size >= MATRIX; \
+    return next(__VA_ARGS__);
+void *malloc(size_t size) { GRANT("malloc", (size_t), size) }
+void *realloc(void *old, size_t size) { GRANT("realloc", (void *, size_t), old, size) }
 """
 
 
@@ -184,17 +168,12 @@ def memory_before_the_hash(checks):
 def standard_output_that_is_read(checks):
     """The file of the password is not written, and another file is, after what it held."""
     with tempfile.TemporaryDirectory() as folder:
-        password, other = os.path.join(folder, "password"), os.path.join(folder, "other")
-        for path in (password, other):
-            with open(path, "wb") as file:
-                file.write(b"password")
-        for path, expected, after in (
-            (password, refused(b"output cannot be written"), b"password"),
-            (other, hashed(b""), b"password" + FIRST),
-        ):
+        password, other = pathlib.Path(folder, "password"), pathlib.Path(folder, "other")
+        for path, expected, after in ((password, refused(b"output cannot be written"), b"password"),
+                                      (other, hashed(b""), b"password" + FIRST)):
+            path.write_bytes(b"password")
             found = checks.shell(f'"$0" somesalt -d -t 1 -k 8 -e <{password} >>{path}')
-            with open(path, "rb") as file:
-                checks.that(f"standard output that is {os.path.basename(path)}", (found, file.read()), (expected, after))
+            checks.that(f"standard output that is {path.name}", (found, path.read_bytes()), (expected, after))
 
 
 def beside_the_installed(checks):
@@ -215,8 +194,6 @@ def main():
         checks.that(name, checks.run(words.split(), given), expected)
     examples(checks)
     standard_streams(checks)
-    closed_pipe(checks)
-    slow_input(checks)
     words_of_bytes(checks)
     large(checks)
     memory_before_the_hash(checks)

@@ -74,26 +74,22 @@ class Program:
     """The program, each thread in a folder of its own."""
 
     def __init__(self, path, folder):
-        self.path = path
-        self.folder = folder
-        self.threads = threading.local()
+        self.path, self.folder, self.threads = path, folder, threading.local()
 
     def file(self, name):
         if not hasattr(self.threads, "folder"):
             self.threads.folder = tempfile.mkdtemp(dir=self.folder)
-            with open(os.path.join(self.threads.folder, "pw"), "wb") as file:
-                file.write(b"pw\n")
-        return os.path.join(self.threads.folder, name)
+            pathlib.Path(self.threads.folder, "pw").write_bytes(b"pw\n")
+        return pathlib.Path(self.threads.folder, name)
 
     def decrypted(self, file, size):
         """Status, line and what stands in the output, where the file comes in pieces of this size: each is sent when the one
         before was read."""
         out = self.file("out")
-        with open(out, "wb") as before:
-            before.write(BEFORE)
+        out.write_bytes(BEFORE)
         ours, theirs = socket.socketpair(socket.AF_UNIX, socket.SOCK_STREAM)
         words = [self.path, "dec", *FROM_PW.split(), "-", "out"]
-        running = subprocess.Popen(words, stdin=theirs, stderr=subprocess.PIPE, cwd=os.path.dirname(out), env={})
+        running = subprocess.Popen(words, stdin=theirs, stderr=subprocess.PIPE, cwd=out.parent, env={})
         for begin in range(0, len(file), size):
             latest = time.monotonic() + TIME_LIMIT
             while running.poll() is None and unread(theirs):
@@ -104,8 +100,7 @@ class Program:
         ours.close()
         _, said = running.communicate(timeout=TIME_LIMIT)
         theirs.close()
-        with open(out, "rb") as after:
-            return running.returncode, said, after.read()
+        return running.returncode, said, out.read_bytes()
 
 
 def main():

@@ -47,19 +47,19 @@ class Run:
 
     def after(self, refusal, written):
         """Status, standard output, standard error and the content of `out` where it ends so, with so many bytes written."""
-        line = b"" if refusal is None else LINES[refusal]
-        front = b"" if written is None else self.output[:written]
-        status = 0 if refusal is None else 1
-        if self.to_file:
-            return status, b"", line, None if written is None else front
-        return status, front, line, None
+        status, line = (0, b"") if refusal is None else (1, LINES[refusal])
+        front = None if written is None else self.output[:written]
+        return (status, b"", line, front) if self.to_file else (status, front or b"", line, None)
 
     def plain(self):
-        return self.after(self.refusal, self.opened_output())
+        is_opened = any(written is not None for _, _, written in self.calls)
+        return self.after(self.refusal, len(self.output) if is_opened else None)
 
-    def opened_output(self):
-        opened = any(written is not None for _, _, written in self.calls)
-        return len(self.output) if opened else None
+    def without_memory(self):
+        return self.after("A10" if self.program == "argon2" else "S15", None)
+
+    def name(self):
+        return f"{self.program} {self.words}"
 
 
 START = [("open /", None, None)] * 3
@@ -90,92 +90,48 @@ def read_twice(name, refusal):
 
 
 def enc_body(source, target):
-    return [
-        (f"write {target}", "S13", 0),
-        (f"read {source}", "S12", 96),
-        (f"write {target}", "S13", 96),
-        (f"read {source}", "S12", 101),
-        (f"write {target}", "S13", 101),
-    ]
+    write, read = f"write {target}", f"read {source}"
+    return [(write, "S13", 0), (read, "S12", 96), (write, "S13", 96), (read, "S12", 101), (write, "S13", 101)]
 
 
-ENC_HELLO_OUT = calls(
-    ("open hello", "S12"), ("open pw", "S4a"), *read_twice("pw", "S4a"), *opened_out(("hello", "S13"), ("pw", "S13")),
-    *enc_body("hello", "out"),
-)
-DEC_F5 = calls(
-    ("open F5", "S12"), ("read F5", "S12"), ("open pw", "S4a"), *read_twice("pw", "S4a"), LOOKED, ("read F5", "S12", 0), ("write standard output", "S13", 0), ("read F5", "S12", 5),
-)
+def hash_of(words, output):
+    return Run("argon2", words, b"password", output, password(*WRITTEN))
 
 
+def file_of(words, given, output, *called, **more):
+    return Run("scrypt", words, given, output, calls(*called), **more)
+
+
+PW = [("open pw", "S4a"), *read_twice("pw", "S4a")]
+OUT = "write standard output", "S13"
+INPUT = "read standard input", "S12"
+OPEN_F5 = [("open F5", "S12"), ("read F5", "S12")]
+ENC_HELLO_OUT = [("open hello", "S12"), *PW, *opened_out(("hello", "S13"), ("pw", "S13")), *enc_body("hello", "out")]
+DEC_F5 = [*OPEN_F5, *PW, LOOKED, ("read F5", "S12", 0), (*OUT, 0), ("read F5", "S12", 5)]
 RUNS = [
-    Run(
-        "argon2", "somesalt -d -t 1 -k 8 -e", b"password",
-        b"$argon2d$v=19$m=8,t=1,p=1$c29tZXNhbHQ$xRnmA6xgPsGutbcexEpheePzl1sUwMl+ORTHnmNj4Xg\n", password(*WRITTEN),
-    ),
-    Run(
-        "argon2", "somesalt -t 2 -m 8 -e", b"password",
-        b"$argon2i$v=19$m=256,t=2,p=1$c29tZXNhbHQ$iekCn0Y3spW+sCcFanM2xBT63UP2sghkUoHLIUpWRS8\n", password(*WRITTEN),
-    ),
-    Run(
-        "argon2", "somesalt -t 2 -m 8 -id -p 2 -r", b"password",
-        b"6d093c501fd5999645e0ea3bf620d7b8be7fd2db59c20d9fff9539da2bf57037\n", password(*WRITTEN),
-    ),
-    Run(
-        "argon2", "somesalt -t 2 -m 8 -v 10 -r", b"password",
-        b"fd4dd83d762c49bdeaf57c47bdcd0c2f1babf863fdeb490df63ede9975fccf06\n", password(*WRITTEN),
-    ),
+    hash_of("somesalt -d -t 1 -k 8 -e", b"$argon2d$v=19$m=8,t=1,p=1$c29tZXNhbHQ$xRnmA6xgPsGutbcexEpheePzl1sUwMl+ORTHnmNj4Xg\n"),
+    hash_of("somesalt -t 2 -m 8 -e", b"$argon2i$v=19$m=256,t=2,p=1$c29tZXNhbHQ$iekCn0Y3spW+sCcFanM2xBT63UP2sghkUoHLIUpWRS8\n"),
+    hash_of("somesalt -t 2 -m 8 -id -p 2 -r", b"6d093c501fd5999645e0ea3bf620d7b8be7fd2db59c20d9fff9539da2bf57037\n"),
+    hash_of("somesalt -t 2 -m 8 -v 10 -r", b"fd4dd83d762c49bdeaf57c47bdcd0c2f1babf863fdeb490df63ede9975fccf06\n"),
     Run("argon2", "seven77 -e", b"password", b"", password(LINE), "A6.5"),
     Run("argon2", "somesalt -e", b"", b"", calls(("read standard input", "A8a"), LINE), "A8b"),
     Run("argon2", "somesalt -t x -q", b"password", b"", calls(LINE), "A4"),
-    Run(
-        "scrypt", f"enc {FIXED} {FROM_PW} -", b"", F0,
-        calls(
-            ("open pw", "S4a"), *read_twice("pw", "S4a"), LOOKED, ("write standard output", "S13", 0), ("read standard input", "S12", 96), ("write standard output", "S13", 96),
-        ),
-    ),
-    Run("scrypt", f"enc {FIXED} {FROM_PW} hello out", b"", F5, ENC_HELLO_OUT, to_file=True),
-    *(Run("scrypt", f"enc {FIXED} --keep {keep} {FROM_PW} hello out", b"", F5, ENC_HELLO_OUT, to_file=True)
-      for keep in (2, 4)),
-    Run(
-        "scrypt", f"enc {FIXED} -P hello", b"pw", F5,
-        calls(
-            ("open hello", "S12"), *read_twice("standard input", "S4a"), LOOKED, *enc_body("hello", "standard output"),
-        ),
-    ),
-    Run("scrypt", f"dec {FROM_PW} F5", b"", b"hello", DEC_F5),
-    *(Run("scrypt", f"dec --keep {keep} {FROM_PW} F5", b"", b"hello", DEC_F5) for keep in (2, 16)),
-    Run(
-        "scrypt", "dec -P F5 out", b"pw\n", b"hello",
-        calls(
-            ("open F5", "S12"), ("read F5", "S12"), *read_twice("standard input", "S4a"),
+    file_of(f"enc {FIXED} {FROM_PW} -", b"", F0, *PW, LOOKED, (*OUT, 0), (*INPUT, 96), (*OUT, 96)),
+    *(file_of(f"enc {FIXED} {keep}{FROM_PW} hello out", b"", F5, *ENC_HELLO_OUT, to_file=True)
+      for keep in ("", "--keep 2 ", "--keep 4 ")),
+    file_of(f"enc {FIXED} -P hello", b"pw", F5, ("open hello", "S12"), *read_twice("standard input", "S4a"), LOOKED,
+            *enc_body("hello", "standard output")),
+    *(file_of(f"dec {keep}{FROM_PW} F5", b"", b"hello", *DEC_F5) for keep in ("", "--keep 2 ", "--keep 16 ")),
+    file_of("dec -P F5 out", b"pw\n", b"hello", *OPEN_F5, *read_twice("standard input", "S4a"),
             *opened_out(("F5", "S13"), ("/proc/self/fd/0", None)), ("read F5", "S12", 0), ("write out", "S13", 0), ("read F5", "S12", 5),
-        ),
-        to_file=True,
-    ),
-    Run(
-        "scrypt", "dec --passphrase env:PW -", F5, b"hello",
-        calls(
-            ("read standard input", "S12"), LOOKED, ("read standard input", "S12", 0), ("write standard output", "S13", 0), ("read standard input", "S12", 5),
-        ),
-    ),
-    Run(
-        "scrypt", "info F5", b"", b"N = 16; r = 1; p = 1; memory = 2048; cores = 64\n",
-        calls(("open F5", "S12"), ("read F5", "S12"), LOOKED, ("write standard output", "S13", 0)),
-    ),
-    Run(
-        "scrypt", "dec --passphrase file:other-pw F5 out", b"", b"",
-        calls(("open F5", "S12"), ("read F5", "S12"), ("open other-pw", "S4a"), *read_twice("other-pw", "S4a"), LINE), "S10", to_file=True,
-    ),
-    Run(
-        "scrypt", f"dec {FROM_PW} F5-cut-127 out", b"", b"",
-        calls(
-            ("open F5-cut-127", "S12"), ("read F5-cut-127", "S12"), ("open pw", "S4a"), *read_twice("pw", "S4a"),
-            *opened_out(("F5-cut-127", "S13"), ("pw", "S13")), ("read F5-cut-127", "S12", 0),
-            ("read F5-cut-127", "S12", 0), ("write standard error", "no line", 0),
-        ),
-        "S11", to_file=True,
-    ),
+            to_file=True),
+    file_of("dec --passphrase env:PW -", F5, b"hello", INPUT, LOOKED, (*INPUT, 0), (*OUT, 0), (*INPUT, 5)),
+    file_of("info F5", b"", b"N = 16; r = 1; p = 1; memory = 2048; cores = 64\n", *OPEN_F5, LOOKED, (*OUT, 0)),
+    file_of("dec --passphrase file:other-pw F5 out", b"", b"", *OPEN_F5, ("open other-pw", "S4a"), *read_twice("other-pw", "S4a"), LINE,
+            refusal="S10", to_file=True),
+    file_of(f"dec {FROM_PW} F5-cut-127 out", b"", b"", ("open F5-cut-127", "S12"), ("read F5-cut-127", "S12"), *PW,
+            *opened_out(("F5-cut-127", "S13"), ("pw", "S13")), *[("read F5-cut-127", "S12", 0)] * 2, (*LINE, 0),
+            refusal="S11", to_file=True),
 ]
 
 
@@ -192,25 +148,19 @@ class System:
         if not hasattr(self.threads, "folder"):
             self.threads.folder = tempfile.mkdtemp(dir=self.below)
             for name, content in FILES.items():
-                with open(os.path.join(self.threads.folder, name), "wb") as file:
-                    file.write(content)
+                pathlib.Path(self.threads.folder, name).write_bytes(content)
         return self.threads.folder
 
     def run(self, run, hostile=None, **more):
         """Status, standard output, standard error and the content of `out` after this run."""
-        out = os.path.join(self.folder(), "out")
-        if os.path.exists(out):
-            os.remove(out)
+        out = pathlib.Path(self.folder(), "out")
+        out.unlink(missing_ok=True)
         environment = ENVIRONMENT if hostile is None else {**ENVIRONMENT, "LD_PRELOAD": self.library, **hostile}
         ran = subprocess.run(
             [self.programs[run.program], *run.words.split()], input=run.given, stdout=subprocess.PIPE, stderr=subprocess.PIPE,
             cwd=self.folder(), env=environment, timeout=60, **more
         )
-        content = None
-        if os.path.exists(out):
-            with open(out, "rb") as file:
-                content = file.read()
-        return ran.returncode, ran.stdout, ran.stderr, content
+        return ran.returncode, ran.stdout, ran.stderr, out.read_bytes() if out.exists() else None
 
     def logged(self, run, **hostile):
         """What it does over a system that refuses nothing, its calls, and how often it asks for memory."""
@@ -228,14 +178,13 @@ def memory(system, run, from_there_on=True):
     """Each request for memory is refused, alone and from there on: how many did no harm, and what was found where it is not the
     line of want of memory."""
     _, _, requests = system.logged(run)
-    refused = run.after("A10" if run.program == "argon2" else "S15", None)
     harmless, wrong = 0, []
     for number in range(1, requests + 1):
         for last in (number, 1 << 40) if from_there_on else (number,):
             found = system.run(run, {"HOSTILE_MEMORY": f"{number}-{last}"})
             if last == number and found == run.plain():
                 harmless += 1
-            elif found != refused:
+            elif found != run.without_memory():
                 wrong.append((number, last, found))
     past = system.run(run, {"HOSTILE_MEMORY": f"{requests + 1}-{1 << 40}"})
     if past != run.plain():
@@ -252,7 +201,7 @@ def worked_rows(checks, system, threads):
             for program, table in (("argon2", argon2.TABLE), ("scrypt", scrypt.TABLE))
             for _, words, given, expected in table if expected[0] == 0]
     for run, found in [(run, threads.submit(refused, run)) for run in rows]:
-        checks.that(f"memory refused, request by request: {run.program} {run.words}", found.result(), [])
+        checks.that(f"memory refused, request by request: {run.name()}", found.result(), [])
 
 
 def file_of_no_text(log_n):
@@ -266,45 +215,31 @@ def file_of_no_text(log_n):
 # Words, what is given and written, and the bytes of the matrix or of the table: 128 N, or 128 N / S.
 F_MIB = file_of_no_text(13)
 LARGE_REQUESTS = [
-    (
-        Run(
-            "argon2", "somesalt -d -t 1 -k 1024 -e", b"password",
-            b"$argon2d$v=19$m=1024,t=1,p=1$c29tZXNhbHQ$Li5eBf5XrCz0cuzQRe9oflYqmA/VAzmzichw4ZYrvEU\n", password(*WRITTEN),
-        ),
-        1 << 20,
-    ),
-    (
-        Run(
-            "argon2", "somesalt -id -t 2 -k 1024 -p 2 -e", b"password",
-            b"$argon2id$v=19$m=1024,t=2,p=2$c29tZXNhbHQ$kEfNQbPvk6Q7hokW6Jrvn1Mjb9kdT/I7OXVDKsviazk\n", password(*WRITTEN),
-        ),
-        1 << 20,
-    ),
-    *((Run("scrypt", f"enc --logN 13 -r 1 -p 1 --salt {SALT} {keep} {FROM_PW} -", b"", F_MIB, calls(LINE)), table)
-      for keep, table in (("", 1 << 20), ("--keep 4", 1 << 18))),
-    *((Run("scrypt", f"dec {keep} {FROM_PW} -", F_MIB, b"", calls(LINE)), table)
+    (hash_of("somesalt -d -t 1 -k 1024 -e",
+             b"$argon2d$v=19$m=1024,t=1,p=1$c29tZXNhbHQ$Li5eBf5XrCz0cuzQRe9oflYqmA/VAzmzichw4ZYrvEU\n"), 1 << 20),
+    (hash_of("somesalt -id -t 2 -k 1024 -p 2 -e",
+             b"$argon2id$v=19$m=1024,t=2,p=2$c29tZXNhbHQ$kEfNQbPvk6Q7hokW6Jrvn1Mjb9kdT/I7OXVDKsviazk\n"), 1 << 20),
+    *((file_of(f"{words} {keep} {FROM_PW} -", given, made, LINE), table)
+      for words, given, made in ((f"enc --logN 13 -r 1 -p 1 --salt {SALT}", b"", F_MIB), ("dec", F_MIB, b""))
       for keep, table in (("", 1 << 20), ("--keep 4", 1 << 18))),
 ]
-
-
-INFO = Run("scrypt", "info -", F_MIB, b"N = 8192; r = 1; p = 1; memory = 1048576; cores = 32768\n", calls(LINE))
+INFO = file_of("info -", F_MIB, b"N = 8192; r = 1; p = 1; memory = 1048576; cores = 32768\n", LINE)
 
 
 def largest_requests(checks, system):
     """No request is for more than 65,536 bytes above those of the matrix or the table, and one is for no fewer; `info` of a file
     asks for no table."""
     found = system.run(INFO, {"HOSTILE_LARGEST": "65536"})
-    checks.that(f"no table: {INFO.program} {INFO.words}", found, (0, INFO.output, b"", None))
+    checks.that(f"no table: {INFO.name()}", found, (0, INFO.output, b"", None))
     for run, size in LARGE_REQUESTS:
-        name = f"{run.program} {run.words}"
         found = system.run(run, {"HOSTILE_LARGEST": str(size + 65536)})
-        checks.that(f"no larger request: {name}", found, (0, run.output, b"", None))
+        checks.that(f"no larger request: {run.name()}", found, (0, run.output, b"", None))
         found = system.run(run, {"HOSTILE_LARGEST": str(size - 1)})
-        checks.that(f"a request as large: {name}", found, run.after("A10" if run.program == "argon2" else "S15", None))
+        checks.that(f"a request as large: {run.name()}", found, run.without_memory())
 
 
 # A file is refused for its passphrase, once its table of 1 MiB was filled.
-WRONG_PASSPHRASE = (Run("scrypt", "dec --passphrase file:other-pw -", F_MIB, b"", calls(LINE), "S10"), 1 << 20)
+WRONG_PASSPHRASE = (file_of("dec --passphrase file:other-pw -", F_MIB, b"", LINE, refusal="S10"), 1 << 20)
 
 
 def freed_blocks(checks, system):
@@ -312,9 +247,9 @@ def freed_blocks(checks, system):
     for run, size in [*LARGE_REQUESTS, WRONG_PASSPHRASE]:
         done, called, _ = system.logged(run, HOSTILE_FREED=str(size))
         expected = (0, run.output, b"", None) if run.refusal is None else run.plain()
-        checks.that(f"over a system that looks: {run.program} {run.words}", done, expected)
+        checks.that(f"over a system that looks: {run.name()}", done, expected)
         found = [call for call in called if call.startswith("free ")]
-        checks.that(f"freed: {run.program} {run.words}", found, ["free zeros"])
+        checks.that(f"freed: {run.name()}", found, ["free zeros"])
     # a program that frees what it holds as it is: so the look at a block sees more than zeros
     system.programs["python"] = sys.executable
     _, called, _ = system.logged(Run("python", "-c b=b'7'*(1<<20);del(b)", b"", b"", []), HOSTILE_FREED=str(1 << 20))
@@ -327,13 +262,12 @@ LIMITS = range(2 << 20, 7 << 19, 1 << 16)
 
 def limits(system, run):
     """The size of the whole process is limited: either it ends as ever, or for want of memory."""
-    refused = run.after("A10" if run.program == "argon2" else "S15", None)
     found = []
     for limit in LIMITS:
         ended = system.run(run, preexec_fn=lambda: resource.setrlimit(resource.RLIMIT_AS, (limit, limit)))
         if ended[0] == 127 or ended[0] < 0 and not found:
             continue
-        found.append("refused" if ended == refused else "plain" if ended == run.plain() else ended)
+        found.append("refused" if ended == run.without_memory() else "plain" if ended == run.plain() else ended)
     return found[-1:], [each for each in found if each not in ("refused", "plain")]
 
 
@@ -386,7 +320,7 @@ def lines(checks, system):
     for run in RUNS:
         if run.refusal:
             _, called, _ = system.logged(run)
-            checks.that(f"one write: {run.program} {run.words}", called.count("write standard error"), 1)
+            checks.that(f"one write: {run.name()}", called.count("write standard error"), 1)
 
 
 KINDS = {"open": "open", "openat": "open", "read": "read", "write": "write", "statx": "look at", "ftruncate": "empty"}
@@ -402,26 +336,23 @@ def no_other_calls(checks, system):
         print("skipped: the calls that the system sees, for which strace is needed")
         return
     for run in RUNS:
-        log = os.path.join(system.folder(), "trace")
-        calls = f"trace={','.join([*KINDS, *NEVER])}"
-        words = [strace, "-qq", "-e", calls, "-o", log, system.programs[run.program], *run.words.split()]
+        log = pathlib.Path(system.folder(), "trace")
+        words = [strace, "-qq", "-e", f"trace={','.join([*KINDS, *NEVER])}", "-o", log, system.programs[run.program], *run.words.split()]
         subprocess.run(words, input=run.given, stdout=subprocess.PIPE, stderr=subprocess.PIPE, cwd=system.folder(), env=ENVIRONMENT)
-        with open(log, encoding="ascii", errors="replace") as file:
-            traced = file.read().splitlines()
+        traced = log.read_text(encoding="ascii", errors="replace").splitlines()
         begun = [number for number, line in enumerate(traced) if '"/", ' in line]
         names = [line.split("(")[0] for line in traced[begun[0]:]] if begun else traced
         found = [KINDS.get(name, name) for name in names]
         expected = [next(kind for kind in KINDS.values() if call.startswith(kind)) for call, _, _ in run.calls]
-        checks.that(f"no other calls: {run.program} {run.words}", found, expected)
+        checks.that(f"no other calls: {run.name()}", found, expected)
 
 
 def over_the_library(checks, system, threads):
     """All that is refused by hostile_system.c."""
     tables = [(run, *(threads.submit(test, system, run) for test in (failing_calls, memory))) for run in RUNS]
     for run, called, requested in tables:
-        name = f"{run.program} {run.words}"
-        checks.that(f"a call refused: {name}", called.result(), [])
-        checks.that(f"memory refused: {name}", requested.result(), (True, 0, []))
+        checks.that(f"a call refused: {run.name()}", called.result(), [])
+        checks.that(f"memory refused: {run.name()}", requested.result(), (True, 0, []))
     worked_rows(checks, system, threads)
     largest_requests(checks, system)
     freed_blocks(checks, system)
@@ -445,7 +376,7 @@ def main():
             subprocess.run([compiler, "-O1", "-shared", "-fPIC", "-o", library, source], check=True)
             over_the_library(checks, system, threads)
         for run, limited in [(run, threads.submit(limits, system, run)) for run in RUNS]:
-            checks.that(f"memory limited: {run.program} {run.words}", limited.result(), (["plain"], []))
+            checks.that(f"memory limited: {run.name()}", limited.result(), (["plain"], []))
         no_other_calls(checks, system)
     checks.end()
 

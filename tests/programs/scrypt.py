@@ -43,15 +43,8 @@ TABLE = [
     ("a salt in capitals", f"enc {COSTS} --salt {SALT.upper()} {FROM_PW} hello", b"", done(F5)),
     ("info", "info F5", b"", done(b"N = 16; r = 1; p = 1; memory = 2048; cores = 64\n")),
     ("info of standard input", "info -", F5, done(b"N = 16; r = 1; p = 1; memory = 2048; cores = 64\n")),
-    (
-        "info of the greatest N",
-        "info huge",
-        b"",
-        done(
-            b"N = 9223372036854775808; r = 1; p = 1; memory = 1180591620717411303424;"
-            b" cores = 36893488147419103232\n"
-        ),
-    ),
+    ("info of the greatest N", "info huge", b"", done(
+        b"N = 9223372036854775808; r = 1; p = 1; memory = 1180591620717411303424; cores = 36893488147419103232\n")),
     # damaged files
     ("cut in the last code", f"dec {FROM_PW} F5-cut-130", b"", refused("S11", b"he")),
     ("cut in the last code to its first byte", f"dec {FROM_PW} F5-cut-127", b"", refused("S11")),

@@ -68,4 +68,4 @@ ENVIRONMENT = {
     "PW": "pw", "PW_LINE": "pw\nmore", "PW_LONG": "pw\n" + "x" * 5000, "PW_2049": "p" * 2049, "PW_BYTES": PASSPHRASE_OF_BYTES
 }
 
-LINES = values_table.lines()
+LINES = {number: line.encode() + b"\n" for _, number, _, line, _ in values_table.rows("message")}

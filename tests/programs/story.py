@@ -38,17 +38,6 @@ def story():
     return [(command, "".join(line + "\n" for line in lines)) for command, lines in typed]
 
 
-def printed(commands, folder):
-    """What one shell prints for each command, on both streams, in an empty folder and with the programs on its path."""
-    script = "exec 2>&1\n" + "".join(f"{command}\necho '{END}'\n" for command in commands)
-    environment = {**os.environ, "PATH": f"{os.path.abspath(folder)}:{os.environ['PATH']}", "LC_ALL": "C"}
-    with tempfile.TemporaryDirectory() as room:
-        ran = subprocess.run(
-            ["bash", "-c", script], stdin=subprocess.DEVNULL, stdout=subprocess.PIPE, cwd=room, env=environment
-        )
-    return ran.stdout.decode().split(END + "\n")[:-1]
-
-
 def examples(page, heading="EXAMPLES"):
     """The examples in a section of a manual page, in their order, as they are typed, and what the page says that they print."""
     section = (TOP / "man" / page).read_text(encoding="utf-8").split(f"\n.SH {heading}\n")[1].split("\n.SH ")[0]
@@ -66,25 +55,33 @@ def examples(page, heading="EXAMPLES"):
 
 
 class Shell:
-    """A shell with the programs on its path, in an empty folder."""
+    """A shell with the programs on its path, in an empty folder, in which what a page says is tried."""
 
-    def __init__(self, name, programs, room):
-        self.name, self.room = name, room
+    def __init__(self, checks, name, programs, room, page="README"):
+        self.checks, self.name, self.room, self.page = checks, name, pathlib.Path(room), page.removesuffix(".md")
         self.environment = {**os.environ, "PATH": f"{os.path.abspath(programs)}:{os.environ['PATH']}", "LC_ALL": "C"}
 
     def run(self, text, given=b"", **variables):
         """Status and what is printed on both streams."""
-        ran = subprocess.run(
-            [self.name, "-c", text], input=given, stdout=subprocess.PIPE, stderr=subprocess.STDOUT, cwd=self.room,
-            env={**self.environment, **variables},
-        )
+        ran = subprocess.run([self.name, "-c", text], input=given, stdout=subprocess.PIPE, stderr=subprocess.STDOUT, cwd=self.room,
+                             env={**self.environment, **variables})
         return ran.returncode, ran.stdout.decode()
 
+    def expect(self, name, found, expected):
+        self.checks.that(f"{self.page} in {self.name}: {name}", found, expected)
 
-def typed_passphrases(expect, shell, encrypt, decrypt):
+    def checked_in_python(self, name, program, given, expected):
+        """What checks a stored text in Python, where the library is built."""
+        (self.room / "check.py").write_text(program, encoding="utf-8")
+        found = self.run("python3 check.py", given, PYTHONPATH=str(TOP / "python"), PIKHSEN_LIBRARY=str(SHARED))
+        self.expect(name, found, (0, expected))
+
+
+def typed_passphrases(shell, encrypt, decrypt):
     """What encrypts a text under a passphrase that is typed twice, and what decrypts the file. A file gets its name only
     after its whole content was written, and the shell keeps no passphrase. The costs are those for such a passphrase;
     what runs here has a smaller table."""
+    expect = shell.expect
     expect("the costs of what is typed", re.findall(r"--logN.*-p \d+", encrypt), costs_of_typed())
     encrypt = encrypt.replace("--logN 20", "--logN 10")
     (text, part), (of_file, text_part) = (re.search(r"-P ([\w.]+) ([\w.]+)", it).groups() for it in (encrypt, decrypt))
@@ -122,16 +119,11 @@ def in_shells(checks, programs, names, page, run):
             print(f"skipped: the examples of {page} in {name}, which is not there")
             continue
         with tempfile.TemporaryDirectory() as room:
-            run(checks, Shell(name, programs, room))
+            run(Shell(checks, name, programs, room, page))
 
 
-def typed_of_readme(checks, shell):
-    encrypt, decrypt = blocks_of_readme("Typing a passphrase")
-
-    def expect(name, found, expected):
-        checks.that(f"README in {shell.name}: {name}", found, expected)
-
-    typed_passphrases(expect, shell, encrypt, decrypt)
+def typed_of_readme(shell):
+    typed_passphrases(shell, *blocks_of_readme("Typing a passphrase"))
 
 
 def blocks_of_readme(heading):
@@ -140,16 +132,18 @@ def blocks_of_readme(heading):
     return [re.sub(r"^    ", "", it, flags=re.MULTILINE) for it in re.findall(r"(?:^    .*\n)+", part, re.MULTILINE)]
 
 
-def scrypt_examples(checks, shell):
+def costs_timed(shell, loop):
+    """The loop that times costs, for small ones."""
+    status, said = shell.run("set -e\n" + loop.replace("14 15 16 17 18 19 20", "4 5"))
+    shell.expect("costs are timed", (status, re.findall(r"^--logN \d+$", said, re.MULTILINE)), (0, ["--logN 4", "--logN 5"]))
+
+
+def scrypt_examples(shell):
     backup, look, opened, whole, again, typed, typed_again, small, keep = examples("scrypt.1")
     guard_of_a_file, guard = examples("scrypt.1", "SECURITY")
     (costs,) = examples("scrypt.1", "COSTS")
-
-    def expect(name, found, expected):
-        checks.that(f"scrypt.1 in {shell.name}: {name}", found, expected)
-
-    status, said = shell.run("set -e\n" + costs[0].replace("14 15 16 17 18 19 20", "4 5"))
-    expect("costs are timed", (status, re.findall(r"^--logN \d+$", said, re.MULTILINE)), (0, ["--logN 4", "--logN 5"]))
+    expect = shell.expect
+    costs_timed(shell, costs[0])
     status, _ = shell.run(backup[0])
     expect("a backup of what is not there fails", status != 0, True)
     for name in ("head", "base64"):
@@ -177,7 +171,7 @@ def scrypt_examples(checks, shell):
     expect("without it", shell.run(whole[0]), (1, "scrypt: wrong passphrase\n"))
     expect("no text was left", shell.run("ls")[1].split(), ["backup-key", "cut", "letters", "letters.enc", "letters.tar", "new-key"])
     shell.run("cp letters.tar saved")
-    typed_passphrases(expect, shell, typed[0], typed_again[0])
+    typed_passphrases(shell, typed[0], typed_again[0])
     shell.run("mv saved letters.tar")
     shell.run("echo Dear >in")
     for held in ("", r"\n", r"\nwords", r"\r\n", r"\rwords", r"\0", r"\0\0\n"):
@@ -205,7 +199,7 @@ def scrypt_examples(checks, shell):
     expect("rows kept in part", shell.run(made + keep[0] + "cmp letters.part letters.tar", **key), (0, ""))
 
 
-def argon2_examples(checks, shell):
+def argon2_examples(shell):
     """A hash of a typed password, and its check; or, in a shell that cannot hide what is typed, without the line that asks,
     and with the password in a variable, as the page says of scripts."""
     enrol, check, python, key = (text for text, _ in examples("argon2.1"))
@@ -213,10 +207,7 @@ def argon2_examples(checks, shell):
     prompts = [re.search(asks, it, re.MULTILINE)[1] + "\n" for it in (enrol, check)]
     if shell.name == "dash":
         enrol, check, prompts = *(re.sub(asks, "", it, flags=re.MULTILINE) for it in (enrol, check)), ["", ""]
-    new, asked = prompts
-
-    def expect(name, found, expected):
-        checks.that(f"argon2.1 in {shell.name}: {name}", found, expected)
+    (new, asked), expect = prompts, shell.expect
 
     def enter(text, password):
         if shell.name == "dash":
@@ -252,16 +243,13 @@ def argon2_examples(checks, shell):
         ("$argon2id$m=8,t=1,p=1$c29tZXNhbHQ$AAAAAA", "bad number"),
         ("$argon2id$v=19$m=8,t=1,p=1$8PHy8/T19vf4+fr7/P3+/w$AAAAAA", "usage"),
     ):
-        (pathlib.Path(shell.room) / "stored").write_text(text + "\n", encoding="utf-8")
+        (shell.room / "stored").write_text(text + "\n", encoding="utf-8")
         status, found = enter(check, right)
-        run = (pathlib.Path(shell.room) / "run").exists()
-        expect(f"the text {text}", (status != 0, f"argon2: {said}" in found, "welcome" in found, run), (True, True, False, False))
+        found = status != 0, f"argon2: {said}" in found, "welcome" in found, (shell.room / "run").exists()
+        expect(f"the text {text}", found, (True, True, False, False))
     enter(enrol, right)
-    if SHARED.exists():
-        (pathlib.Path(shell.room) / "check.py").write_text(python, encoding="utf-8")
-        for password, said in ((b"correct horse", "welcome\n"), (b"battery staple", "not you\n")):
-            found = shell.run("python3 check.py", password, PYTHONPATH=str(TOP / "python"), PIKHSEN_LIBRARY=str(SHARED))
-            expect(f"the password {password} in Python", found, (0, said))
+    for password, said in ((b"correct horse", "welcome\n"), (b"battery staple", "not you\n")) if SHARED.exists() else ():
+        shell.checked_in_python(f"the password {password} in Python", python, password, said)
     for name, stored in (("empty", ": >stored"), ("of a line feed", "echo >stored"), ("that is missing", "rm stored")):
         shell.run(stored)
         for password in ("anything", "correct horse", ""):
@@ -272,7 +260,7 @@ def argon2_examples(checks, shell):
     expect("a key without a salt", shell.run(key, password=right), (1, "argon2: salt length out of range\n"))
 
 
-def first_screen(checks, shell):
+def first_screen(shell):
     """The commands of README's first screen, pasted as they stand into an empty folder; once more, with the same key; and
     with an empty key, under which nothing is encrypted."""
     first = README.partition("\n[^speed]:")[0]
@@ -282,9 +270,9 @@ def first_screen(checks, shell):
     for name, given, begin in (("", pasted, ""), (", again", f"cp key kept\n{pasted}\ncmp key kept", r"[^\n]*\bkey\b[^\n]*\n")):
         status, said = shell.run(given)
         found = status, re.sub(f"^{begin}{expected}$", "a text and a hash", said)
-        checks.that(f"README in {shell.name}: the first screen{name}", found, (0, "a text and a hash"))
+        shell.expect(f"the first screen{name}", found, (0, "a text and a hash"))
     status, said = shell.run(f"rm letter.scrypt; : >key\n{pasted}\nls letter.scrypt")
-    checks.that(f"README in {shell.name}: nothing under an empty key", (status != 0, "Dear Ada" in said), (True, False))
+    shell.expect("nothing under an empty key", (status != 0, "Dear Ada" in said), (True, False))
 
 
 def compare_recipes(checks, programs):
@@ -293,25 +281,17 @@ def compare_recipes(checks, programs):
     in_shells(checks, programs, ("bash", "dash", "zsh"), "argon2.1", argon2_examples)
 
 
-def compare_parts(checks, programs):
-    """The loop that times costs, for small ones, and the check of a stored text in Python. Each shell is bash or zsh, as
-    README says."""
-    (loop,) = blocks_of_readme("Which costs")
+def parts_of_readme(shell):
+    """The loop that times costs, and the check of a stored text in Python."""
+    costs_timed(shell, *blocks_of_readme("Which costs"))
     stored = README.split("\n## Checking a stored hash\n")[1].split("\n# ")[0]
     (python,) = re.findall(r"^```python\n(.*?)^```", stored, re.MULTILINE | re.DOTALL)
-    for name in filter(shutil.which, ("bash", "zsh")):
-        with tempfile.TemporaryDirectory() as room:
-            shell = Shell(name, programs, room)
-            status, said = shell.run("set -e\n" + loop.replace("14 15 16 17 18 19 20", "4 5"))
-            checks.that(f"README in {name}: costs are timed", (status, re.findall(r"^--logN \d+$", said, re.MULTILINE)), (0, ["--logN 4", "--logN 5"]))
-            if SHARED.exists():
-                pathlib.Path(room, "check.py").write_text(python, encoding="utf-8")
-                (text,) = re.findall(r"^    (\$argon2id\$\S+\n)", README, re.MULTILINE)  # of the story
-                pathlib.Path(room, "stored").write_text(text, encoding="utf-8")
-                found = shell.run("python3 check.py", PYTHONPATH=str(TOP / "python"), PIKHSEN_LIBRARY=str(SHARED))
-                checks.that("README: a stored text in Python", found, (0, "True\n"))
-            else:
-                print("skipped: a stored text in Python, since bin/lib/libpikhsen.so.0 is not built")
+    if SHARED.exists():
+        (text,) = re.findall(r"^    (\$argon2id\$\S+\n)", README, re.MULTILINE)  # of the story
+        (shell.room / "stored").write_text(text, encoding="utf-8")
+        shell.checked_in_python("a stored text in Python", python, b"", "True\n")
+    else:
+        print("skipped: a stored text in Python, since bin/lib/libpikhsen.so.0 is not built")
 
 
 def compare_login(checks, programs, typed):
@@ -319,7 +299,7 @@ def compare_login(checks, programs, typed):
     (encoded,) = [command for command, _ in typed if command.startswith("encoded()")]
     (login,) = [command for command, answer in typed if answer == "welcome\n"]
     with tempfile.TemporaryDirectory() as room:
-        shell = Shell("bash", programs, room)
+        shell = Shell(checks, "bash", programs, room)
         for stored in (": >stored", "echo >stored", "rm stored"):
             for password in ("''", "$(printf %200d 0)", "'correct horse'"):
                 status, said = shell.run(f"{stored}; {encoded}\n" + login.replace("'correct horse'", password))
@@ -385,12 +365,14 @@ def main():
     compare_functions(checks)
     compare_enrolled(checks, sys.argv[1])
     typed = story()
-    found = printed([command for command, _ in typed], sys.argv[1])
+    with tempfile.TemporaryDirectory() as room:
+        script = "".join(f"{command}\necho '{END}'\n" for command, _ in typed)
+        found = Shell(checks, "bash", sys.argv[1], room).run(script)[1].split(END + "\n")[:-1]
     checks.that("as many answers as commands", len(found), len(typed))
     for (command, expected), answer in zip(typed, found):
         checks.that(f"README: {command}", answer, expected)
     compare_login(checks, sys.argv[1], typed)
-    compare_parts(checks, sys.argv[1])
+    in_shells(checks, sys.argv[1], ("bash", "zsh"), "README.md", parts_of_readme)
     compare_recipes(checks, sys.argv[1])
     in_shells(checks, sys.argv[1], ("bash", "zsh"), "scrypt.1", scrypt_examples)
     checks.end()

@@ -24,7 +24,7 @@ class Checks:
             self.passed += 1
         else:
             self.failed += 1
-            print(f"FAILED {name}\n  found    {shortened(found)}\n  expected {shortened(expected)}")
+            print(f"FAILED {name}", *(f"  {said:8} {shortened(it)}" for said, it in difference(found, expected)), sep="\n")
 
     def run(self, words, given=b"", program=None, **more):
         """Status, standard output and standard error of the program with these words and this standard input."""
@@ -36,11 +36,7 @@ class Checks:
 
     def shell(self, text, given=b""):
         """The same of a shell's line, in which the program is $0."""
-        ran = subprocess.run(
-            ["sh", "-c", f"ulimit -f {FILE_LIMIT}; {text}", self.program], input=given, stdout=subprocess.PIPE,
-            stderr=subprocess.PIPE, cwd=self.folder, env=self.environment, timeout=TIME_LIMIT
-        )
-        return ran.returncode, ran.stdout, ran.stderr
+        return self.run(["-c", f"ulimit -f {FILE_LIMIT}; {text}", self.program], given, "sh")
 
     def start(self, words, **streams):
         """The program, running; the streams that are not given are pipes."""
@@ -88,6 +84,16 @@ class Checks:
         """Says how many passed and failed, and ends the process."""
         print(f"{self.passed} passed, {self.failed} failed")
         raise SystemExit(1 if self.failed else 0)
+
+
+def difference(found, expected):
+    """What is said of a comparison that fails: of two lists, or tables, what one alone has, where there is any; else both."""
+    pair = [list(it.items()) if isinstance(it, dict) else it for it in (found, expected)]
+    if all(isinstance(it, (list, set)) for it in pair):
+        alone = [[it for it in one if it not in other] for one, other in (pair, pair[::-1])]
+        if any(alone):
+            return zip(("too many", "missing"), alone)
+    return ("found", found), ("expected", expected)
 
 
 def shortened(found):
