@@ -11,7 +11,7 @@ CPU ?= $(lastword $(LEVELS))
 
 .DELETE_ON_ERROR:
 .NOTPARALLEL:
-.PHONY: help run lib check test audit map doc reading install uninstall deb bench clean
+.PHONY: help run lib check test audit map doc reading install prefix uninstall deb bench clean
 
 help: ## prints these lines
 	@sed -n 's/^\([a-z]*\):.*## /make \1\t/p' Makefile | expand -t 16
@@ -56,12 +56,18 @@ reading: ## makes bin/reading/: what a reader has to judge to believe a call, to
 	tests/pages/reading_page.py $(CALL)
 	tests/pages/definitions_told.py
 
-install: | bin/argon2 bin/scrypt ## puts what was built, with pages, completions and documents, below PREFIX
-	@PIKHSEN_SAY=1 PREFIX='$(PREFIX)' packaging/install.sh install '$(DESTDIR)$(PREFIX)' bin $(patsubst %/libpikhsen.a,%,$(wildcard bin/lib/libpikhsen.a)) >&2
+# By the environment, since a prefix may have any sign in it. The script looks at PREFIX itself before it touches anything,
+# and before programs are built.
+install uninstall: export PREFIX := $(PREFIX)
+install: | prefix bin/argon2 bin/scrypt ## puts what was built, with pages, completions and documents, below PREFIX
+	@PIKHSEN_SAY=1 packaging/install.sh install "$$DESTDIR$$PREFIX" bin $(patsubst %/libpikhsen.a,%,$(wildcard bin/lib/libpikhsen.a)) >&2
 	@echo "argon2 and scrypt are built for $$(cat bin/level)" >&2
 
-uninstall: ## takes away what make install put below PREFIX
-	@packaging/install.sh uninstall '$(DESTDIR)$(PREFIX)'
+prefix:
+	@packaging/install.sh check "$$DESTDIR$$PREFIX"
+
+uninstall: ## takes away what make install put below PREFIX, and has not been changed since
+	@packaging/install.sh uninstall "$$DESTDIR$$PREFIX"
 
 # The level for which one more package of the programs is made: CPU, where it is given.
 HIGHER := $(if $(filter file,$(origin CPU)),,$(filter-out x86-64-v2,$(CPU)))

@@ -31,6 +31,8 @@ modules=lib/python3/dist-packages
 
 PREFIX=/usr PIKHSEN_LIB=$libraries PIKHSEN_PYTHON=$modules PIKHSEN_ZSH=share/zsh/vendor-completions \
     packaging/install.sh install "$work/usr" bin/x86-64-v2 "$library"
+# dpkg has a list of its own, with the sums of pages that are packed.
+rm "$work/usr/share/doc/pikhsen/installed.sha256"
 gzip -9n "$work"/usr/share/man/man*/*
 
 # contents PACKAGE FILE..: these files, or folders, are the package's.

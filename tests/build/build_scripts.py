@@ -1,14 +1,17 @@
 #!/usr/bin/env python3
-"""Runs packaging/build.sh, chosen.sh, lib.sh and deb.sh in a copy of the tree, over a stand-in for rt that proves
-nothing, and for the library over one in C.
+"""Runs packaging/build.sh, chosen.sh, lib.sh, deb.sh and install.sh in a copy of the tree, over a stand-in for rt that
+proves nothing, and for the library over one in C.
 
     tests/build/build_scripts.py
 
 What they make is what rt left, with its permissions under each umask; a proof that fails, a program that is not there,
-a linker that fails or a signal leaves no older program, library or package.
+a linker that fails or a signal leaves no older program, library or package. What `make install` put below a prefix,
+and nothing else, `make uninstall` takes away.
 """
+import hashlib
 import os
 import pathlib
+import shlex
 import shutil
 import signal
 import subprocess
@@ -19,10 +22,11 @@ import time
 sys.path += map(str, pathlib.Path(__file__).resolve().parents[1].iterdir())  # the other folders of tests/
 import binaries
 from checking import Checks, is_there
-from first_run import LEVEL, PROGRAMS, STAND_IN, Tree
+from first_run import LEVEL, PROGRAMS, STAND_IN, TOP, Tree
 from library_texts import HEADER, prototypes
 
 OTHER = "x86-64-v3"
+OTHERS = [f"bin/{OTHER}/argon2", f"bin/{OTHER}/scrypt"]
 HIGHER = f"glibc-hwcaps/{OTHER}/libpikhsen.so.0"
 LIBRARIES = ["bin/lib/libpikhsen.a", "bin/lib/libpikhsen.so.0", f"bin/lib/{HIGHER}"]
 PACKAGE = "bin/pikhsen_0.0.1_amd64.deb"
@@ -32,6 +36,26 @@ void *taken_by_the_kit(size_t size);
 void *taken_by_the_kit(size_t size) { return malloc(size); }
 """
 BODY = "unsigned int {}(void) {{ return taken_by_the_kit(1) != 0; }}\n"
+# What is installed from where, beside docs/.
+INSTALLED = {
+    **{it: it for it in PROGRAMS[:2]}, **{it.removeprefix("bin/"): it for it in LIBRARIES}, "include/pikhsen.h": "include/pikhsen.h",
+    "share/man/man1/argon2.1": "man/argon2.1", "share/man/man1/scrypt.1": "man/scrypt.1", "share/man/man3/pikhsen.3": "man/pikhsen.3",
+    **{f"share/bash-completion/completions/{it}": f"completions/bash/{it}" for it in ("argon2", "scrypt")},
+    **{f"share/zsh/site-functions/_{it}": f"completions/zsh/_{it}" for it in ("argon2", "scrypt")},
+    **{f"share/doc/pikhsen/{it}": it for it in ("README.md", "CHANGELOG.md")},
+    "share/pikhsen/pikhsen/__init__.py": "python/pikhsen.py", "share/pikhsen/pikhsen/py.typed": "/dev/null",
+}
+FLAGS = """prefix={}
+libdir=${{prefix}}/{}
+includedir=${{prefix}}/include
+
+Name: pikhsen
+Description: Argon2, scrypt and scrypt's encrypted files, from proved libraries
+Version: {}
+Libs: -L"${{libdir}}" -lpikhsen
+Cflags: -I"${{includedir}}"
+"""
+LIST, SUM_OF_ANOTHERS = "share/doc/pikhsen/installed.sha256", hashlib.sha256(b"another's").hexdigest()
 
 
 class Room(Tree):
@@ -42,8 +66,13 @@ class Room(Tree):
         self.kit, self.folder = pathlib.Path(folder, "kit"), pathlib.Path(folder)
         (self.kit / "bin").mkdir(parents=True)
         shutil.move(f"{folder}/rt", self.kit / "bin/rt")
-        self.environment["PATH"] = f"{self.kit}/bin:{os.environ['PATH']}"
-        self.environment["ARCHIVE"] = str(self.folder / "functions.a")
+        (self.folder / "tmp").mkdir()
+        self.environment.update(PATH=f"{self.kit}/bin:{os.environ['PATH']}", ARCHIVE=f"{folder}/functions.a", TMPDIR=f"{folder}/tmp")
+        self.journal.write_text("")
+        for name in ("completions", "docs", "include", "man", "python"):
+            shutil.copytree(TOP / name, self.top / name, ignore=shutil.ignore_patterns("__pycache__"))
+        for name in ("README.md", "CHANGELOG.md"):
+            shutil.copy(TOP / name, self.top)
 
     def compile_library(self):
         """Makes the static libraries, as rt and the kit have them: with names of their own, and for any place."""
@@ -63,39 +92,29 @@ class Room(Tree):
             path.write_text(text, encoding="utf-8")
             path.chmod(0o755)
 
-    def older(self, names):
-        """Puts older files where these are made."""
-        for name in names:
-            (self.top / name).parent.mkdir(parents=True, exist_ok=True)
-            (self.top / name).write_text("older", encoding="utf-8")
-            (self.top / name).chmod(0o755)
-
-    def run(self, *words, umask=0o022, **environment):
-        """The status of a script with these words, and what it said."""
-        ran = subprocess.run(words, cwd=self.top, env={**self.environment, **environment}, text=True, timeout=60,
-                             stdout=subprocess.PIPE, stderr=subprocess.STDOUT, preexec_fn=lambda: os.umask(umask))
-        return ran.returncode, ran.stdout
+    def leaves(self, checks, name, there, *words):
+        """What a script said that fails, and leaves none of these."""
+        status, said = self.run(*words)
+        checks.that(name, (status != 0, self.there(there)), (True, []))
+        return said
 
     def modes(self, names):
         return [oct((self.top / it).stat().st_mode & 0o7777) for it in names if (self.top / it).exists()]
 
-    def text(self, name):
-        path = self.top / name
-        return path.read_text(encoding="utf-8", errors="replace") if path.exists() else None
+    def texts(self, *names):
+        return [it.read_text(encoding="utf-8", errors="replace") if it.exists() else None for it in map(self.top.joinpath, names)]
 
 
 def programs_are_built(checks, room, level):
     """The programs are those that rt built for the level, and all can run them; a change during the proof is newer."""
-    before, here = time.time(), room.there(["bin/level"]) and [room.text(it) for it in PROGRAMS[:2]]
-    room.journal.write_text("")
+    before, here = time.time(), room.there(["bin/level"]) and room.texts(*PROGRAMS[:2])
     room.write("tools", f"for {level}\n")
     status, _ = room.run("packaging/build.sh", level, umask=0o077)
     built = [f"bin/{level}/argon2", f"bin/{level}/scrypt"]
     checks.that(f"build.sh {level}", (status, room.modes(built)), (0, ["0o755", "0o755"]))
-    outs = [room.text(f"crates/{it}/out/{it}") for it in ("argon_tool", "scrypt_tool")]
-    checks.that(f"build.sh {level}: the programs", [room.text(it) for it in built], outs)
-    checks.that(f"build.sh {level}: those in bin/ stay", here, room.there(["bin/level"]) and
-                [room.text(it) for it in PROGRAMS[:2]])
+    outs = room.texts("crates/argon_tool/out/argon_tool", "crates/scrypt_tool/out/scrypt_tool")
+    checks.that(f"build.sh {level}: the programs", room.texts(*built), outs)
+    checks.that(f"build.sh {level}: those in bin/ stay", here, room.there(["bin/level"]) and room.texts(*PROGRAMS[:2]))
     begun = {(room.top / it).stat().st_mtime for it in [*built, f"bin/{level}/began"]}
     checks.that(f"build.sh {level}: as old as the beginning of the proof", len(begun), 1)
     checks.that(f"build.sh {level}: no older than its beginning", before - 2 <= begun.pop() <= time.time(), True)
@@ -103,11 +122,10 @@ def programs_are_built(checks, room, level):
     levels = [words[it][words[it].index("--cpu") + 1] for it in ("argon_tool", "scrypt_tool")]
     checks.that(f"build.sh {level}: the level", levels, [level, level])
     status, _ = room.run("packaging/chosen.sh", level, umask=0o077)
-    checks.that(f"chosen.sh {level}", (status, room.modes(["bin/argon2", "bin/scrypt"])), (0, ["0o755", "0o755"]))
-    checks.that(f"chosen.sh {level}: the level", room.text("bin/level"), f"{level}\n")
-    checks.that(f"chosen.sh {level}: the programs", [room.text("bin/argon2"), room.text("bin/scrypt")], outs)
-    links = [it for it in ("bin/argon2", "bin/scrypt") if (room.top / it).is_symlink()]
-    checks.that(f"chosen.sh {level}: copies", links, [])
+    checks.that(f"chosen.sh {level}", (status, room.modes(PROGRAMS[:2])), (0, ["0o755", "0o755"]))
+    checks.that(f"chosen.sh {level}: the level", room.texts("bin/level"), [f"{level}\n"])
+    checks.that(f"chosen.sh {level}: the programs", room.texts(*PROGRAMS[:2]), outs)
+    checks.that(f"chosen.sh {level}: copies", [it for it in PROGRAMS[:2] if (room.top / it).is_symlink()], [])
 
 
 def both_levels_are_built(checks, room):
@@ -115,12 +133,8 @@ def both_levels_are_built(checks, room):
         programs_are_built(checks, room, level)
     # a level that is chosen is built anew: its older programs go before, in bin/ too
     room.write("scrypt_tool", "slow\n")
-    running = room.start("packaging/build.sh", OTHER)
-    until = time.monotonic() + 30
-    while time.monotonic() < until and "scrypt_tool" not in room.begun():
-        time.sleep(0.02)
-    older = ["bin/argon2", "bin/scrypt", "bin/level", f"bin/{OTHER}/argon2", f"bin/{OTHER}/scrypt"]
-    checks.that("build.sh: older programs of the level, while it proves", room.there(older), [])
+    running = room.start_at("scrypt_tool", "packaging/build.sh", OTHER)
+    checks.that("build.sh: older programs of the level, while it proves", room.there([*PROGRAMS[:2], "bin/level", *OTHERS]), [])
     os.killpg(running.pid, signal.SIGTERM)
     running.communicate(timeout=30)
     room.write("scrypt_tool", "as it was\n")
@@ -132,37 +146,32 @@ def both_levels_are_built(checks, room):
 
 def a_level_without_programs(checks, room):
     """chosen.sh changes nothing where a program of the level is missing."""
-    there = [f"bin/{it}/{name}" for it in (LEVEL, OTHER) for name in ("argon2", "scrypt")]
-    for missing in (f"bin/{OTHER}/argon2", f"bin/{OTHER}/scrypt"):
-        room.older([*there, "bin/argon2", "bin/scrypt"])
-        for name in (f"bin/{OTHER}/argon2", f"bin/{OTHER}/scrypt"):
-            (room.top / name).write_text("other", encoding="utf-8")
-        (room.top / "bin/level").write_text(f"{LEVEL}\n", encoding="utf-8")
+    there = [*PROGRAMS[:2], "bin/level"]
+    for missing in OTHERS:
+        room.older([*there, *OTHERS])
         (room.top / missing).unlink()
         status, _ = room.run("packaging/chosen.sh", OTHER)
-        found = status != 0, room.text("bin/argon2"), room.text("bin/scrypt"), room.text("bin/level")
-        checks.that(f"chosen.sh without {missing}", found, (True, "older", "older", f"{LEVEL}\n"))
+        checks.that(f"chosen.sh without {missing}", (status != 0, room.texts(*there)), (True, [f"older {it}" for it in there]))
 
 
 def proofs_fail(checks, room):
     """A proof that fails, whichever it is, leaves no program of any level, and no package."""
-    there = [*PROGRAMS, f"bin/{OTHER}/argon2", f"bin/{OTHER}/scrypt", "bin/level", PACKAGE]
+    there = [*PROGRAMS, *OTHERS, "bin/level", PACKAGE]
     for crate in ("scrypt_tool", "argon_tool"):
         room.older([*there, "crates/argon_tool/out/argon_tool", "crates/scrypt_tool/out/scrypt_tool"])
         room.write(crate, "broken\n")
-        status, said = room.run("packaging/build.sh", LEVEL)
-        checks.that(f"{crate} fails", (status != 0, f"{crate} FAILED" in said, room.there(there)), (True, True, []))
+        said = room.leaves(checks, f"{crate} fails", there, "packaging/build.sh", LEVEL)
+        checks.that(f"{crate} fails, and is named", f"{crate} FAILED" in said, True)
         room.write(crate, f"as it was, {crate}\n")
     # rt that says that all is well, and makes no program
     room.older(there)
     room.write("scrypt_tool", "another\n")
     room.stand_in("rt", STAND_IN.replace('if words[0] == "run":', 'if words[0] == "run" and name != "scrypt_tool":'))
-    status, _ = room.run("packaging/build.sh", LEVEL)
-    checks.that("no program is made", (status != 0, room.there(there)), (True, []))
+    room.leaves(checks, "no program is made", there, "packaging/build.sh", LEVEL)
     room.stand_in("rt", STAND_IN)
     # programs are there once more, and a whole run goes before this
     room.run("packaging/build.sh", LEVEL)
-    checks.that("mended", room.there(there), [f"bin/{LEVEL}/argon2", f"bin/{LEVEL}/scrypt"])
+    checks.that("mended", room.there(there), [*PROGRAMS[2:]])
 
 
 def is_stopped(checks, room):
@@ -174,10 +183,7 @@ def is_stopped(checks, room):
         for number in (signal.SIGTERM, signal.SIGINT):
             room.older(there)
             room.write(crate, f"slow {script} {number}\n")
-            running = room.start(f"packaging/{script}", *words)
-            until = time.monotonic() + 30
-            while time.monotonic() < until and crate not in room.begun():
-                time.sleep(0.02)
+            running = room.start_at(crate, f"packaging/{script}", *words)
             checks.that(f"{script}: what it makes, while it proves", room.there(makes), [])
             os.killpg(running.pid, number)
             running.communicate(timeout=30)
@@ -196,18 +202,16 @@ def library_is_made(checks, room):
         if not all(it.is_file() for it in files):
             print(said)
             return
+        levels = [words[words.index("--cpu") + 1] for _, crate, words in room.noted("begin") if crate == "pikhsen_c"]
+        checks.that("lib.sh: the levels", levels, [] if made else [OTHER, LEVEL])
         made.append([it.read_bytes() for it in files])
     checks.that("lib.sh: the same bytes in another folder", made[0] == made[1], True)
-    proved = [words for _, crate, words in room.noted("begin") if crate == "pikhsen_c"]
-    levels = [words[words.index("--cpu") + 1] for words in proved]
-    checks.that("lib.sh: the levels", levels, [OTHER, LEVEL])
     # the stand-in for rt has one library for all levels
     higher = room.top / LIBRARIES[2]
     checks.that("lib.sh: the higher level", higher.is_file() and higher.read_bytes() == made[0][1], True)
     beside = sorted(it.name for it in higher.parent.iterdir()) if higher.parent.is_dir() else []
     checks.that("lib.sh: what is made for the higher level", beside, ["libpikhsen.so.0"])
     checks.that("lib.sh, of the static library as it is", (room.top / "bin/another folder/glibc-hwcaps").exists(), False)
-    room.journal.write_text("")
     shared, static = str(room.top / LIBRARIES[1]), str(room.top / LIBRARIES[0])
     binaries.library(checks, shared, static, sorted(prototypes(HEADER)))
     left = [it.name for it in pathlib.Path(room.environment["TMPDIR"]).iterdir()]
@@ -216,53 +220,187 @@ def library_is_made(checks, room):
 
 def libraries_fail(checks, room):
     """A proof, a linker or a compiler that fails leaves no library, neither in place of the new one nor beside it."""
-    there = [*LIBRARIES, PACKAGE]
-    room.older([*there, "crates/pikhsen_c/out/libpikhsen_c.a"])
+    there, archive = [*LIBRARIES, PACKAGE], "crates/pikhsen_c/out/libpikhsen_c.a"
+    room.older([*there, archive])
     room.write("pikhsen_c", "broken\n")
-    status, _ = room.run("packaging/lib.sh", "bin/lib", OTHER, LEVEL)
-    checks.that("lib.sh, a proof that fails", (status != 0, room.there(there)), (True, []))
+    room.leaves(checks, "lib.sh, a proof that fails", there, "packaging/lib.sh", "bin/lib", OTHER, LEVEL)
     room.write("pikhsen_c", "as it was\n")
     room.run("packaging/lib.sh", "bin/lib", LEVEL)
     checks.that("lib.sh, mended", room.there(LIBRARIES), LIBRARIES[:2])
     for program in ("ld", "objcopy", "ar", "ranlib", "cc"):
         room.older(there)
         room.stand_in(program, "#!/bin/sh\nexit 1\n")
-        status, _ = room.run("packaging/lib.sh", "bin/lib")
+        room.leaves(checks, f"lib.sh, {program} fails", there, "packaging/lib.sh", "bin/lib")
         room.stand_in(program, None)
-        checks.that(f"lib.sh, {program} fails", (status != 0, room.there(there)), (True, []))
     room.older(there)
-    os.rename(room.top / "crates/pikhsen_c/out/libpikhsen_c.a", room.folder / "away")
-    status, _ = room.run("packaging/lib.sh", "bin/lib")
-    os.rename(room.folder / "away", room.top / "crates/pikhsen_c/out/libpikhsen_c.a")
-    checks.that("lib.sh without what rt left", (status != 0, room.there(there)), (True, []))
+    os.rename(room.top / archive, room.folder / "away")
+    room.leaves(checks, "lib.sh without what rt left", there, "packaging/lib.sh", "bin/lib")
+    os.rename(room.folder / "away", room.top / archive)
 
 
 def packages_fail(checks, room):
     """Where one of the packages cannot be made, none is left, of older ones neither."""
     version = (room.top / "VERSION").read_text(encoding="utf-8").strip()
-    there = [f"bin/{name}_{version}_{on}.deb" for name, on in (
-        ("pikhsen", "amd64"), ("libpikhsen0", "amd64"), ("libpikhsen-dev", "amd64"), ("python3-pikhsen", "all"))]
-    there.append(f"bin/pikhsen_{version}+v3_amd64.deb")
+    names = ("pikhsen_{}_amd64", "libpikhsen0_{}_amd64", "libpikhsen-dev_{}_amd64", "python3-pikhsen_{}_all", "pikhsen_{}+v3_amd64")
+    there = [f"bin/{name.format(version)}.deb" for name in names]
     for program in ("dpkg-deb", "objdump", "gzip"):
-        room.older([*there, f"bin/{LEVEL}/argon2", f"bin/{LEVEL}/scrypt", *LIBRARIES])
+        room.older([*there, *PROGRAMS[2:], *LIBRARIES])
         room.stand_in(program, "#!/bin/sh\nexit 1\n")
-        status, _ = room.run("packaging/deb.sh")
+        room.leaves(checks, f"deb.sh, {program} fails", there, "packaging/deb.sh")
         room.stand_in(program, None)
-        checks.that(f"deb.sh, {program} fails", (status != 0, room.there(there)), (True, []))
+
+
+# ---- what is installed, and taken away
+
+
+def below(folder):
+    """What lies below a folder: by each path what a file holds, or where a link leads; nothing of a folder."""
+    paths = {str(it.relative_to(folder)): it for it in folder.rglob("*")}
+    return {name: os.readlink(it) if it.is_symlink() else it.read_bytes() if it.is_file() else None for name, it in paths.items()}
+
+
+def to_be_installed(room, prefix):
+    """What is to lie below a prefix beside the list: manual pages name documents by where they are installed."""
+    docs = {f"share/doc/pikhsen/docs/{it.name}": f"docs/{it.name}" for it in (room.top / "docs").iterdir() if it.is_file()}
+    held = {to: (room.top / file).read_bytes() for to, file in {**INSTALLED, **docs}.items()}
+    for to in held:
+        if "/man/" in to:
+            held[to] = held[to].replace(b"/usr/local/share/doc/", f"{prefix}/share/doc/".encode())
+    flags = FLAGS.format(prefix, "lib", room.texts("VERSION")[0].strip()).encode()
+    return {**held, "lib/libpikhsen.so": "libpikhsen.so.0", "lib/pkgconfig/pikhsen.pc": flags}
+
+
+def is_installed(checks, room):
+    """Each file is there with its bytes and its permissions, whatever the umask is, and no other is; and all is listed."""
+    to, another = room.folder / "this & that|other", room.folder / "another"
+    for folder in ("lib", "bin"):
+        (to / folder).mkdir(parents=True)
+    another.write_text("another's")
+    (to / "bin/scrypt").symlink_to(another)
+    room.older([*PROGRAMS[:2], "bin/level", *LIBRARIES])
+    checks.that("make install", room.run("make", "install", f"PREFIX={to}", umask=0o077)[0], 0)
+    checks.that("a link in the place of a program", another.read_text(), "another's")
+    wanted, found = to_be_installed(room, to), {name: text for name, text in below(to).items() if text is not None}
+    checks.that("files, installed", sorted(found), sorted([*wanted, LIST]))
+    checks.that("files, installed, and what they hold", [it for it in wanted if found.get(it) != wanted[it]], [])
+    modes = {it: oct((to / it).stat().st_mode & 0o7777) for it in found}
+    checks.that("permissions, installed", {it: mode for it, mode in modes.items() if mode != ("0o755" if "bin/" in it else "0o644")}, {})
+    checks.that("folders, installed", {oct(it.stat().st_mode & 0o7777) for it in to.rglob("*") if it.is_dir()}, {"0o755"})
+    listed = [it.split("  ")[1] for it in found[LIST].decode().splitlines() if not it.startswith("# folder  ")]
+    checks.that("what is listed", sorted(listed), sorted(wanted))
+    ran = subprocess.run(["sha256sum", "--strict", "--quiet", "-c", LIST], cwd=to, stdout=subprocess.PIPE, stderr=subprocess.STDOUT)
+    checks.that("sums that are listed", (ran.returncode, ran.stdout), (0, b""))
+    if is_there("pkg-config", "what it says of the library is not looked at"):
+        environment = {"PATH": os.environ["PATH"], "PKG_CONFIG_PATH": f"{to}/lib/pkgconfig"}
+        for word, flags in (("--cflags", [f"-I{to}/include"]), ("--libs", [f"-L{to}/lib", "-lpikhsen"])):
+            ran = subprocess.run(["pkg-config", word, "pikhsen"], env=environment, stdout=subprocess.PIPE, text=True)
+            checks.that(f"pkg-config {word}", shlex.split(ran.stdout), flags)
+
+
+def is_taken_away(checks, room):
+    """What was put there goes, with the folders that were made for it; what is another's, or was changed since, stays."""
+    prefix, lib = "/a \\b&c|d", "lib/e&f|g"
+    to, words = pathlib.Path(f"{room.folder}/stage{prefix}"), (f"DESTDIR={room.folder}/stage", f"PREFIX={prefix}")
+    (to / "include").mkdir(parents=True)
+    checks.that("make install, into DESTDIR", room.run("make", "install", *words, PIKHSEN_LIB=lib)[0], 0)
+    flags = (to / lib / "pkgconfig/pikhsen.pc").read_text(encoding="utf-8")
+    checks.that("a prefix with signs of sed's", flags, FLAGS.format(prefix, lib, room.texts("VERSION")[0].strip()))
+    why = dict.fromkeys(["bin/scrypt", f"{lib}/libpikhsen.so", "share/doc/pikhsen/README.md"], "was changed since")
+    why["share/man/man1/scrypt.1"] = "is not there"
+    for name in why:
+        (to / name).unlink()
+    (to / lib / "libpikhsen.so").symlink_to("libpikhsen.so.7")
+    (to / "share/pikhsen/pikhsen/__pycache__").mkdir()
+    (to / "share/pikhsen/pikhsen/__pycache__/__init__.cpython-39.pyc").touch()
+    left = dict.fromkeys(["bin/scrypt", "share/doc/pikhsen/README.md", "share/zsh/another"], b"another's")
+    for name, text in left.items():
+        (to / name).write_bytes(text)
+    left[f"{lib}/libpikhsen.so"] = "libpikhsen.so.7"
+    left.update(dict.fromkeys(["bin", "include", "lib", lib, "share", "share/doc", "share/doc/pikhsen", "share/zsh"]))
+    lines = [f"packaging/install.sh: left {name} below {to}: it {it}\n" for name, it in why.items()]
+    checks.that("make uninstall", room.run("make", "uninstall", *words), (0, "".join(lines)))
+    checks.that("what uninstall leaves", below(to), left)
+    status, said = room.run("packaging/install.sh", "uninstall", to)
+    checks.that("uninstall without a list", (status, said.count("\n"), below(to) == left), (2, 1, True))
+
+
+def another_is_installed_over_it(checks, room):
+    """What an older one put there and this does not goes, as at uninstall; where an install fails, all of both is listed."""
+    stage = f"DESTDIR={room.folder}/over"
+    to = room.folder / "over/usr/local"
+    room.run("make", "install", stage)
+    (to / "include/pikhsen.h").write_bytes(b"edited")
+    (to / "bin/scrypt").write_bytes(b"edited")
+    status, said = room.run("packaging/install.sh", "install", to, "bin")
+    told = f"packaging/install.sh: left include/pikhsen.h below {to}: it was changed since\n"
+    checks.that("install, over an older one", (status, said), (0, told))
+    left = {"include": None, "include/pikhsen.h": b"edited"}
+    checks.that("what is left of the older one", {it: text for it, text in below(to).items() if it.startswith(("lib/l", "include"))}, left)
+    checks.that("the new one", (to / "bin/scrypt").read_bytes(), b"older bin/scrypt")
+    checks.that("make uninstall, after both", (room.run("make", "uninstall", stage), below(to)), ((0, ""), left))
+    room.run("make", "install", stage)
+    room.stand_in("cp", '#!/bin/sh\ncase $* in *README.md) exit 1 ;; esac\nexec /bin/cp "$@"\n')
+    room.older(["README.md"])
+    status, _ = room.run("packaging/install.sh", "install", to, "bin", PIKHSEN_ZSH="share/other")
+    room.stand_in("cp", None)
+    shutil.copy(TOP / "README.md", room.top)
+    checks.that("an install that fails", (status != 0, room.run("make", "uninstall", stage)[0], below(to)), (True, 0, {"include": None}))
+
+
+def a_list_leads_out(checks, room):
+    """What is not below the folder stays, where a list names it by dots, with a slash, by a link or on two lines."""
+    to, outside = room.folder / "hostile", room.folder / "outside"
+    for folder in (to / "bin", to / "share/doc/pikhsen", outside / "empty"):
+        folder.mkdir(parents=True)
+    (to / "link").symlink_to(outside)
+    for name in ("file", "two\nlines"):
+        (outside / name).write_bytes(b"another's")
+    names = ["../outside/file", "bin/../../outside/file", f"{outside}/file", "link/file", "../outside/two\nlines", "../outside/two\\nlines"]
+    lines = [f"{SUM_OF_ANOTHERS}  {it}" for it in names] + [f"\\{SUM_OF_ANOTHERS}  ../outside/two\\nlines"]
+    lines += [f"# folder  {it}" for it in ("../outside/empty", f"{outside}/empty", "link/empty")] + ["", "bin"]
+    before = below(outside)
+    for what in ("uninstall", "install"):
+        (to / "bin/argon2").write_bytes(b"another's")
+        (to / LIST).write_text("\n".join([*lines, f"{SUM_OF_ANOTHERS}  bin/argon2"]), encoding="utf-8")
+        status, said = room.run("packaging/install.sh", what, to, "bin")
+        checks.that(f"{what}, over a list that leads out", (status, below(outside) == before), (0, True))
+        checks.that(f"{what}, over a list that leads out: what is said", said.count("packaging/install.sh: left "), 10)
+        checks.that(f"{what}, over a list that leads out: what is below", (to / "bin/argon2").exists(), what == "install")
+    (to / "share/zsh").rename(outside / "zsh")
+    (to / "share/zsh").symlink_to(outside / "zsh")
+    before = below(to)
+    status, said = room.run("packaging/install.sh", "install", to, "bin")
+    checks.that("install, where a link leads out", (status, said.count("\n"), below(to) == before), (2, 1, True))
+
+
+def prefixes_are_refused(checks, room):
+    """A prefix that is empty, does not begin with a slash or has a newline is refused before anything is touched or built."""
+    to, tools = room.folder / "nowhere", ("mktemp", "mkdir", "install", "cp", "rm", "rmdir")
+    for name in PROGRAMS[:2]:
+        (room.top / name).unlink(missing_ok=True)
+    for name in tools:
+        room.stand_in(name, "#!/bin/sh\nexit 1\n")
+    for what in ("install", "uninstall"):
+        for prefix, why in (("", "begin with /"), ("a/b", "begin with /"), ("/a\nb", "newline")):
+            found = room.run("packaging/install.sh", what, prefix, "bin"), room.run("packaging/install.sh", what, to, "bin", PREFIX=prefix)
+            checks.that(f"{what}, {prefix!r}", [(it, said.count("\n"), why in said) for it, said in found], [(2, 1, True)] * 2)
+            for words in ([], [f"DESTDIR={to}"]):
+                status, said = room.run("make", what, f"PREFIX={prefix}", *words)
+                checks.that(f"make {what}, {prefix!r}{', into DESTDIR' * len(words)}", (status, why in said), (2, True))
+    for name in tools:
+        room.stand_in(name, None)
 
 
 def main():
     checks = Checks("none")
     with tempfile.TemporaryDirectory(prefix="pikhsen-scripts-") as folder:
         room = Room(folder)
-        room.environment["TMPDIR"] = f"{folder}/tmp"
-        os.mkdir(f"{folder}/tmp")
-        room.journal.write_text("")
         parts = [both_levels_are_built, a_level_without_programs, proofs_fail]
         if is_there("gcc", "packaging/lib.sh is not looked at"):
             room.compile_library()
             parts += [library_is_made, libraries_fail, is_stopped]
-        for part in [*parts, packages_fail]:
+        parts += [packages_fail, is_installed, is_taken_away, another_is_installed_over_it, a_list_leads_out, prefixes_are_refused]
+        for part in parts:
             part(checks, room)
     checks.end()
 

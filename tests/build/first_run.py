@@ -30,6 +30,7 @@ LEVEL = "x86-64-v2"
 PROGRAMS = ("bin/argon2", "bin/scrypt", f"bin/{LEVEL}/argon2", f"bin/{LEVEL}/scrypt")
 NO_PROGRAM = ["pikhsen_c", "command", *(it for it in prove.listed() if it.endswith("_tests"))]  # what no program stands on
 SCRYPT = ["scrypt_run", "scrypt_command", "argon_tool", "scrypt_tool"]
+APART = "scrypt_command_tests", "test"
 # Says that a crate is proved whose text has not the word "broken", after a minute where it has the word "slow". Like rt
 # it lets no other run work in the crate and in what it stands on, keeps a library, and then says nothing.
 STAND_IN = f"#!{sys.executable} -IS" + r'''
@@ -102,18 +103,37 @@ class Tree:
         is_program = (TOP / "crates" / crate / "src/main.rt").is_file()
         (self.top / "crates" / crate / "src" / ("main.rt" if is_program else "lib.rt")).write_text(text)
 
-    def start(self, *words):
+    def older(self, names):
+        """Puts older files where these are made."""
+        for name in names:
+            (self.top / name).parent.mkdir(parents=True, exist_ok=True)
+            (self.top / name).write_text(f"older {name}", encoding="utf-8")
+            (self.top / name).chmod(0o755)
+
+    def start(self, *words, umask=0o022, **environment):
         self.journal.write_text("")
-        how = {"cwd": self.top, "env": self.environment, "text": True, "start_new_session": True}
+        how = {"cwd": self.top, "env": {**self.environment, **environment}, "text": True, "start_new_session": True, "umask": umask}
         # a shell has what runs in its background ignore ctrl-C
         how["preexec_fn"] = lambda: signal.signal(signal.SIGINT, signal.SIG_DFL)
         return subprocess.Popen(words, stdout=subprocess.PIPE, stderr=subprocess.STDOUT, **how)
 
-    def make(self, *words):
-        """The status of make with these words, and what it said."""
-        running = self.start("make", *words)
+    def start_at(self, crate, *words):
+        """What runs with these words, once it has begun this crate."""
+        running, until = self.start(*words), time.monotonic() + 30
+        while time.monotonic() < until and crate not in self.begun():
+            time.sleep(0.02)
+        return running
+
+    def run(self, *words, **how):
+        """The status of what runs with these words, and what it said."""
+        running = self.start(*words, **how)
         said, _ = running.communicate(timeout=60)
-        return running.returncode, said.splitlines()
+        return running.returncode, said
+
+    def make(self, *words):
+        """The status of make with these words, and the lines that it said."""
+        status, said = self.run("make", *words)
+        return status, said.splitlines()
 
     def noted(self, what=None):
         """Of each line of the journal what came to pass, the crate, and the words after rt."""
@@ -186,9 +206,8 @@ def proves_what_changed(checks, tree):
 
 
 def fails(checks, tree):
-    (tree.top / "bin/x86-64-v3").mkdir()
     older = [*PROGRAMS, "bin/x86-64-v3/scrypt"]
-    shutil.copy(tree.top / "bin/scrypt", tree.top / older[-1])
+    tree.older(older[-1:])
     checks.that("older programs", tree.there(older), older)
     tree.write("scrypt_run", "broken\n")
     tree.write("tools", "other\n")
@@ -209,9 +228,7 @@ def fails(checks, tree):
 
 def library_fails(checks, tree):
     libraries = ["bin/lib/libpikhsen.a", "bin/lib/libpikhsen.so.0", "crates/pikhsen_c/out/libpikhsen_c.a"]
-    for name in libraries:
-        (tree.top / name).parent.mkdir(parents=True, exist_ok=True)
-        (tree.top / name).write_text("older")
+    tree.older(libraries)
     tree.write("pikhsen_c", "broken\n")
     status, said = tree.make("lib")
     checks.that("a library that fails", (status != 0, tree.there(libraries)), (True, []))
@@ -226,10 +243,7 @@ def is_stopped(checks, tree):
     ways["a signal"] = ["packaging/prove.py", "host"], os.kill, signal.SIGTERM
     for name, (words, send, number) in ways.items():
         tree.write("host", f"slow, {name}\n")
-        running = tree.start(*words)
-        until = time.monotonic() + 30
-        while time.monotonic() < until and tree.begun() != ["host"]:
-            time.sleep(0.02)
+        running = tree.start_at("host", *words)
         checks.that(f"{name}: programs under way", tree.there(PROGRAMS), [])
         pids = [int(it.split()[2]) for it in tree.journal.read_text().splitlines() if it.startswith("begin")]
         send(running.pid, number)
@@ -242,38 +256,30 @@ def is_stopped(checks, tree):
 
 
 def checks_what_changed(checks, tree):
+    """What differs from the last commit is proved, with what stands on it, and tested, also where its tests stand apart."""
     git = ["git", "-c", "user.name=A", "-c", "user.email=a@localhost", "-c", "init.defaultBranch=main"]
     (tree.top / ".gitignore").write_text("out/\n/bin/\n__pycache__/\n")
     tree.write("host", "as it was\n")
     tree.write("pikhsen_c", "as it was\n")
-    for words in (["init", "-q"], ["add", "-A"], ["commit", "-q", "-m", "all"]):
-        subprocess.run([*git, *words], cwd=tree.top, env=tree.environment, check=True)
-    tree.write("argon_text", "changed\n")
-    tree.write("argon_tool", "changed\n")
-    status, said = tree.make("check")
-    touched = ["argon_text", "argon2_command", "command", "argon_tool", "pikhsen_c"]
-    checks.that("make check", status, 0)
-    checks.that("make check: how many", any(it.startswith(f"{len(touched)} crates to prove") for it in said), True)
-    tests = ["argon_text_tests", "argon_tool"]
-    checks.that("make check: begun", tree.begun(), sorted([*touched, *tests]))
-    checks.that("make check: tests", sorted(it[1] for it in tree.noted("begin") if "test" in it[2]), tests)
-    checks.that("make check: the lines", len([it for it in said if LINE.fullmatch(it)]), 24)
-    subprocess.run([*git, "commit", "-q", "-a", "-m", "argon_text"], cwd=tree.top, env=tree.environment, check=True)
-    tree.write("scrypt_command", "changed\n")
-    status, said = tree.make("check")
-    checks.that("make check, tests apart", status, 0)
-    begun = [(it[1], it[2][0]) for it in tree.noted("begin")]
-    expected = [("command", "lib"), ("scrypt_command", "lib"), ("scrypt_command_tests", "test"), ("scrypt_tool", "check")]
-    checks.that("make check, tests apart: begun", sorted(begun), expected)
-    tree.write("scrypt_command_tests", "changed\n")
-    tree.write("scrypt_command", "as it was\n")
-    status, said = tree.make("check")
-    checks.that("make check, tests alone", status, 0)
-    checks.that("make check, tests alone: tested", any(it.startswith("1 to test: scrypt_command_tests.") for it in said), True)
-    tree.write("scrypt_command_tests", "as it was\n")
-    tree.write("argon_text", "broken\n")
-    status, said = tree.make("check")
-    checks.that("make check fails", (status != 0, tree.begun()), (True, ["argon_text"]))
+    subprocess.run([*git, "init", "-q"], cwd=tree.top, env=tree.environment, check=True)
+    touched = {"argon_text": "lib", "argon2_command": "lib", "command": "lib", "argon_tool": "check", "pikhsen_c": "check"}
+    for name, texts, begun, line in (
+        ("make check", {"argon_text": "changed", "argon_tool": "changed"}, [
+            *touched.items(), ("argon_text_tests", "test"), ("argon_tool", "test")], "5 crates to prove"),
+        ("make check, tests apart", {"scrypt_command": "changed"}, [
+            ("command", "lib"), ("scrypt_command", "lib"), APART, ("scrypt_tool", "check")], "3 crates to prove"),
+        ("make check, tests alone", {"scrypt_command_tests": "changed"}, [APART], "1 to test: scrypt_command_tests."),
+        ("make check fails", {"argon_text": "broken"}, [("argon_text", "lib")], "Failed: argon_text."),
+    ):
+        for words in (["add", "-A"], ["commit", "-q", "-m", name]):
+            subprocess.run([*git, *words], cwd=tree.top, env=tree.environment, check=True)
+        for crate, text in texts.items():
+            tree.write(crate, f"{text}\n")
+        status, said = tree.make("check")
+        checks.that(name, (status != 0, any(it.startswith(line) for it in said)), (name == "make check fails", True))
+        checks.that(f"{name}: begun", sorted((it[1], it[2][0]) for it in tree.noted("begin")), sorted(begun))
+        if name == "make check":
+            checks.that(f"{name}: the lines", len([it for it in said if LINE.fullmatch(it)]), 24)
 
 
 def main():

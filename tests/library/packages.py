@@ -1,15 +1,15 @@
 #!/usr/bin/env python3
-"""What packaging/install.sh puts below a folder and takes away again, and the packages for Debian: the same bytes each
-time and under each umask, each file in its package with its permissions, what each package says of itself, programs
-that run as they are unpacked, and how programs and library are made.
+"""The library and the module where packaging/install.sh puts them, and the packages for Debian: the same bytes each time
+and under each umask, each file in its package with its permissions, what each package says of itself, programs that run
+as they are unpacked, and how programs and library are made. What else is installed, tests/build/build_scripts.py looks at.
 
     tests/library/packages.py FOLDER      the folder in which libpikhsen.so.0 and libpikhsen.a lie
 """
 import gzip
+import hashlib
 import os
 import pathlib
 import re
-import shlex
 import shutil
 import subprocess
 import sys
@@ -32,43 +32,31 @@ EPOCH = 1234567890
 DAY = "Fri, 13 Feb 2009 23:31:30 +0000"
 # The library for x86-64-v3 in the folder of that for x86-64-v2, where it was built.
 HIGHER = "glibc-hwcaps/x86-64-v3/libpikhsen.so.0"
-# What stands in each package beside its documents, with permissions.
+# What stands in each package beside CHANGELOG.md and changelog.gz.
 FILES = {
-    "pikhsen": {
-        "usr/bin/argon2": "rwxr-xr-x", "usr/bin/scrypt": "rwxr-xr-x", "usr/share/man/man1/argon2.1.gz": "rw-r--r--",
-        "usr/share/man/man1/scrypt.1.gz": "rw-r--r--", "usr/share/bash-completion/completions/argon2": "rw-r--r--",
-        "usr/share/bash-completion/completions/scrypt": "rw-r--r--",
-        "usr/share/zsh/vendor-completions/_argon2": "rw-r--r--",
-        "usr/share/zsh/vendor-completions/_scrypt": "rw-r--r--", "usr/share/doc/pikhsen/README.md": "rw-r--r--",
-        "usr/share/lintian/overrides/pikhsen": "rw-r--r--",
-        **{f"usr/share/doc/pikhsen/docs/{it.name}": "rw-r--r--" for it in (TOP / "docs").iterdir() if it.is_file()},
-    },
-    "libpikhsen0": {
-        f"{LIBRARIES}/libpikhsen.so.0": "rw-r--r--", "usr/share/lintian/overrides/libpikhsen0": "rw-r--r--",
-    },
-    "libpikhsen-dev": {
-        "usr/include/pikhsen.h": "rw-r--r--", f"{LIBRARIES}/libpikhsen.a": "rw-r--r--",
-        f"{LIBRARIES}/libpikhsen.so -> libpikhsen.so.0": "rwxrwxrwx", f"{LIBRARIES}/pkgconfig/pikhsen.pc": "rw-r--r--",
-        "usr/share/man/man3/pikhsen.3.gz": "rw-r--r--",
-    },
-    "python3-pikhsen": {f"{MODULES}/__init__.py": "rw-r--r--", f"{MODULES}/py.typed": "rw-r--r--"},
+    "pikhsen": [
+        *(it.format(name) for name in ("argon2", "scrypt") for it in (
+            "usr/bin/{}", "usr/share/man/man1/{}.1.gz", "usr/share/bash-completion/completions/{}",
+            "usr/share/zsh/vendor-completions/_{}")),
+        "usr/share/doc/pikhsen/README.md", "usr/share/lintian/overrides/pikhsen",
+        *(f"usr/share/doc/pikhsen/docs/{it.name}" for it in (TOP / "docs").iterdir() if it.is_file()),
+    ],
+    "libpikhsen0": [f"{LIBRARIES}/libpikhsen.so.0", "usr/share/lintian/overrides/libpikhsen0"],
+    "libpikhsen-dev": [
+        "usr/include/pikhsen.h", f"{LIBRARIES}/libpikhsen.a", f"{LIBRARIES}/libpikhsen.so -> libpikhsen.so.0",
+        f"{LIBRARIES}/pkgconfig/pikhsen.pc", "usr/share/man/man3/pikhsen.3.gz",
+    ],
+    "python3-pikhsen": [f"{MODULES}/__init__.py", f"{MODULES}/py.typed"],
 }
-# What dpkg reads of each package, with permissions.
-CONTROL = {
-    "pikhsen": {"control": "rw-r--r--", "md5sums": "rw-r--r--"},
-    "libpikhsen0": dict.fromkeys(["control", "md5sums", "shlibs", "symbols", "triggers"], "rw-r--r--"),
-    "libpikhsen-dev": {"control": "rw-r--r--", "md5sums": "rw-r--r--"},
-    "python3-pikhsen": {"control": "rw-r--r--", "md5sums": "rw-r--r--", "postinst": "rwxr-xr-x", "prerm": "rwxr-xr-x"},
-}
+# What dpkg reads of each package beside control and md5sums.
+CONTROL = {"pikhsen": [], "libpikhsen0": ["shlibs", "symbols", "triggers"], "libpikhsen-dev": [], "python3-pikhsen": ["postinst", "prerm"]}
 # What each package says of itself. LIBC is the newest version of the C library that its programs ask for.
 FIELDS = {
     "pikhsen": {"Architecture": "amd64", "Section": "utils", "Depends": "libc6 (>= LIBC)",
                 "Conflicts": "argon2, scrypt", "Replaces": "argon2, scrypt"},
     "libpikhsen0": {"Architecture": "amd64", "Section": "libs", "Multi-Arch": "same", "Depends": "libc6 (>= LIBC)"},
-    "libpikhsen-dev": {"Architecture": "amd64", "Section": "libdevel", "Multi-Arch": "same",
-                       "Depends": f"libpikhsen0 (= {VERSION})"},
-    "python3-pikhsen": {"Architecture": "all", "Section": "python",
-                        "Depends": f"python3:any (>= 3.9), libpikhsen0 (>= {VERSION})"},
+    "libpikhsen-dev": {"Architecture": "amd64", "Section": "libdevel", "Multi-Arch": "same", "Depends": f"libpikhsen0 (= {VERSION})"},
+    "python3-pikhsen": {"Architecture": "all", "Section": "python", "Depends": f"python3:any (>= 3.9), libpikhsen0 (>= {VERSION})"},
 }
 # What lintian says of packages without a licence and an address of who keeps them: the owner of the project chooses.
 OF_THE_OWNER = {"no-copyright-file", "bogus-mail-host", "bogus-mail-host-in-debian-changelog"}
@@ -77,95 +65,18 @@ OF_THE_OWNER = {"no-copyright-file", "bogus-mail-host", "bogus-mail-host-in-debi
 # ---- what is installed
 
 
-def install(*words, **environment):
-    """Status and output of packaging/install.sh; of the environment it has the path, and what is given."""
-    ran = subprocess.run([TOP / "packaging/install.sh", *words], env={"PATH": os.environ["PATH"], **environment},
-                         stdout=subprocess.PIPE, stderr=subprocess.STDOUT, text=True)
-    return ran.returncode, ran.stdout
-
-
-def files_below(folder):
-    return sorted(str(it.relative_to(folder)) for it in pathlib.Path(folder).rglob("*") if not it.is_dir())
-
-
 def installed(checks, folder, lib):
-    """What packaging/install.sh puts below a folder is found there, and all of it is taken away again."""
+    """The library is found where it is installed, by the loader and by its module for Python, which leaves nothing there."""
     programs, below = pathlib.Path(folder, "programs"), pathlib.Path(folder, "this&that|other")
-    for path in (programs, below):
-        path.mkdir()
+    programs.mkdir()
     for name in ("argon2", "scrypt"):
-        (programs / name).write_text(name, encoding="utf-8")
-    found = install("install", below, programs, lib, PREFIX="usr/local")[0], files_below(below)
-    checks.that("a prefix that does not begin with a slash", found, (2, []))
-    found = install("install", below, programs, lib, PREFIX="/a\\b&c|d", PIKHSEN_LIB="lib/e&f|g")
-    text = (below / "lib/e&f|g/pkgconfig/pikhsen.pc").read_text(encoding="utf-8")
-    checks.that("a prefix with signs of sed's", (found, text.splitlines()[:2]),
-                ((0, ""), ["prefix=/a\\b&c|d", "libdir=${prefix}/lib/e&f|g"]))
-    taken_away(checks, below, PIKHSEN_LIB="lib/e&f|g")
-    os.umask(0o077)
-    checks.that("install", install("install", below, programs, lib), (0, ""))
-    os.umask(0o022)
+        (programs / name).touch()
+    script = TOP / "packaging/install.sh"
+    subprocess.run([script, "install", below, programs, lib], env={"PATH": os.environ["PATH"]}, check=True)
     which_is_loaded(checks, below / "lib")
-    files_installed(checks, below, programs, pathlib.Path(lib))
-    module_installed(checks, folder, below)
-    if is_there("pkg-config", "what it says of the library is not looked at"):
-        environment = {"PATH": os.environ["PATH"], "PKG_CONFIG_PATH": str(below / "lib/pkgconfig")}
-        ran = subprocess.run(["pkg-config", "--cflags", "--libs", "pikhsen"], env=environment, stdout=subprocess.PIPE,
-                             text=True)
-        checks.that("pkg-config", shlex.split(ran.stdout), [f"-I{below}/include", f"-L{below}/lib", "-lpikhsen"])
-    taken_away(checks, below)
-
-
-def sources_of(programs, lib):
-    """What packaging/install.sh puts below a folder: by each path the file that it is, and its permissions."""
-    made = {}
-    for name in ("argon2", "scrypt"):
-        made[f"bin/{name}"] = programs / name, 0o755
-        made[f"share/man/man1/{name}.1"] = TOP / f"man/{name}.1", 0o644
-        made[f"share/bash-completion/completions/{name}"] = TOP / f"completions/bash/{name}", 0o644
-        made[f"share/zsh/site-functions/_{name}"] = TOP / f"completions/zsh/_{name}", 0o644
-    for to, file in (
-        ("lib/libpikhsen.a", lib / "libpikhsen.a"), ("lib/libpikhsen.so.0", lib / "libpikhsen.so.0"),
-        ("lib/libpikhsen.so", lib / "libpikhsen.so.0"), ("include/pikhsen.h", TOP / "include/pikhsen.h"),
-        ("share/man/man3/pikhsen.3", TOP / "man/pikhsen.3"), ("share/doc/pikhsen/README.md", TOP / "README.md"),
-        ("share/doc/pikhsen/CHANGELOG.md", TOP / "CHANGELOG.md"),
-        ("share/pikhsen/pikhsen/__init__.py", TOP / "python/pikhsen.py"),
-        ("share/pikhsen/pikhsen/py.typed", pathlib.Path("/dev/null")),
-        *((f"share/doc/pikhsen/docs/{it.name}", it) for it in (TOP / "docs").iterdir() if it.is_file()),
-    ):
-        made[to] = file, 0o644
-    return made
-
-
-def as_installed(file, below):
-    """The bytes of a file below a prefix: a manual page names documents by where they are installed."""
-    held = file.read_bytes()
-    if file.parent.name != "man":
-        return held
-    return held.replace(b"/usr/local/share/doc/", f"{below}/share/doc/".encode())
-
-
-def files_installed(checks, below, programs, lib):
-    """Each file is there with its bytes and its permissions, whatever the umask is, and no other is."""
-    wanted = sources_of(programs, lib)
-    if (lib / HIGHER).is_file():
-        wanted[f"lib/{HIGHER}"] = lib / HIGHER, 0o644
-    checks.that("files, installed", files_below(below), sorted([*wanted, "lib/pkgconfig/pikhsen.pc"]))
-    for to, (file, mode) in wanted.items():
-        path = below / to
-        if path.is_file():
-            checks.that(f"{to}: its bytes", path.read_bytes() == as_installed(file, below), True)
-            checks.that(f"{to}: its permissions", oct(path.stat().st_mode & 0o7777), oct(mode))
-    folders = {oct(it.stat().st_mode & 0o7777) for it in below.rglob("*") if it.is_dir()}
-    checks.that("folders, installed", folders, {"0o755"})
-    text = (below / "lib/pkgconfig/pikhsen.pc").read_text(encoding="utf-8")
-    checks.that("pikhsen.pc", text.splitlines(), [
-        f"prefix={below}", "libdir=${prefix}/lib", "includedir=${prefix}/include", "", "Name: pikhsen",
-        "Description: Argon2, scrypt and scrypt's encrypted files, from proved libraries", f"Version: {VERSION}",
-        "Libs: -L${libdir} -lpikhsen", "Cflags: -I${includedir}"])
-    mode = oct((below / "lib/pkgconfig/pikhsen.pc").stat().st_mode & 0o7777)
-    checks.that("pikhsen.pc: its permissions", mode, "0o644")
-    checks.that("the linker's name", os.readlink(below / "lib/libpikhsen.so"), "libpikhsen.so.0")
+    module_installed(checks, folder, below / "share/pikhsen")
+    ran = subprocess.run([script, "uninstall", below], env={"PATH": os.environ["PATH"]}, stdout=subprocess.PIPE, stderr=subprocess.STDOUT)
+    checks.that("uninstall, and what is left", (ran.returncode, ran.stdout, [*below.iterdir()]), (0, b"", []))
 
 
 LOADED = """import ctypes
@@ -193,22 +104,13 @@ def which_is_loaded(checks, lib):
         checks.that(f"the library that is loaded{name}", ran.stdout.rstrip("\n"), str(lib / wanted))
 
 
-def taken_away(checks, below, **environment):
-    (below / "share/zsh").mkdir(parents=True, exist_ok=True)
-    (below / "share/zsh/another").touch()
-    found = install("uninstall", below, **environment), files_below(below)
-    checks.that("uninstall, and what is left", found, ((0, ""), ["share/zsh/another"]))
-    (below / "share/zsh/another").unlink()
-
-
-def module_installed(checks, folder, below):
+def module_installed(checks, folder, modules):
     """Python finds the installed module, which leaves its bytecode there, and mypy finds that it has types."""
-    modules = below / "share/pikhsen"
     environment = {"PYTHONPATH": str(modules)}
     ran = subprocess.run([sys.executable, "-c", "import pikhsen; print(pikhsen.__file__)"], env=environment, cwd=folder,
                          stdout=subprocess.PIPE, stderr=subprocess.STDOUT, text=True)
     checks.that("the installed module", ran.stdout, f"{modules}/pikhsen/__init__.py\n")
-    checks.that("its bytecode", any(it.endswith(".pyc") for it in files_below(modules)), True)
+    checks.that("its bytecode", any(modules.rglob("*.pyc")), True)
     if is_there("mypy", "types of the installed module are not looked at"):
         # a Python of its own, since mypy asks for py.typed only where Python finds a module by itself
         subprocess.run([sys.executable, "-m", "venv", "--without-pip", f"{folder}/venv"], check=True)
@@ -229,16 +131,21 @@ def listed(words, file):
     return {path.removeprefix("./").rstrip("/"): (mode, owner) for mode, owner, _, _, _, path in rows}
 
 
+def mode_of(path):
+    """The permissions of a file of a package: programs and scripts can be run, and a link says nothing of it."""
+    return "rwxrwxrwx" if " -> " in path else "rwxr-xr-x" if "bin/" in path or path in ("postinst", "prerm") else "rw-r--r--"
+
+
 def paths(checks, package, file):
     """The package has its files alone, with their permissions, owned by root."""
-    documents = {f"usr/share/doc/{package}/{it}": "rw-r--r--" for it in ("CHANGELOG.md", "changelog.gz")}
+    documents = [f"usr/share/doc/{package}/{it}" for it in ("CHANGELOG.md", "changelog.gz")]
     for name, words, wanted in (
-        ("files", ["dpkg-deb", "--fsys-tarfile"], {**FILES[package], **documents}),
-        ("control", ["dpkg-deb", "--ctrl-tarfile"], CONTROL[package]),
+        ("files", ["dpkg-deb", "--fsys-tarfile"], [*FILES[package], *documents]),
+        ("control", ["dpkg-deb", "--ctrl-tarfile"], ["control", "md5sums", *CONTROL[package]]),
     ):
         found = listed(words, file)
         there = {path: mode[1:] for path, (mode, _) in found.items() if mode[0] != "d"}
-        checks.that(f"{package}: {name}", there, wanted)
+        checks.that(f"{package}: {name}", there, {it: mode_of(it) for it in wanted})
         folders = {mode for mode, _ in found.values() if mode[0] == "d"}
         checks.that(f"{package}: folders of its {name}", folders, {"drwxr-xr-x"})
         checks.that(f"{package}: owners of its {name}", {owner for _, owner in found.values()}, {"root/root"})
@@ -262,50 +169,40 @@ def fields(checks, package, root, control, version=VERSION, level="x86-64-v2"):
     found = dict(re.findall(r"^([\w-]+): (.*)$", control, re.MULTILINE))
     files = [root / it for it in FILES[package] if "bin/" in it or it.endswith(".so.0")]
     wanted = dict(FIELDS[package])
-    if "LIBC" in wanted.get("Depends", ""):
-        wanted["Depends"] = wanted["Depends"].replace("LIBC", newest_libc(files))
     wanted.update({"Package": package, "Source": "pikhsen", "Version": version, "Priority": "optional",
-                   "Installed-Size": f"{kib_of(root / 'usr')}"})
-    maintainer = found.pop("Maintainer", "")
-    checks.that(f"{package}: its maintainer", maintainer, "The authors of Pikhsen <pikhsen@localhost>")
+                   "Installed-Size": f"{kib_of(root / 'usr')}", "Maintainer": "The authors of Pikhsen <pikhsen@localhost>"})
     checks.that(f"{package}: its description", len(found.pop("Description", "")) in range(10, 80), True)
-    if "LIBC" in FIELDS[package].get("Depends", ""):
+    if "LIBC" in wanted["Depends"]:
+        wanted["Depends"] = wanted["Depends"].replace("LIBC", newest_libc(files))
         named = f"level {level} and above." in " ".join(control.split())
         checks.that(f"{package}: the level that its description names", named, True)
     checks.that(f"{package}: its fields", found, wanted)
     changes = gzip.decompress((root / f"usr/share/doc/{package}/changelog.gz").read_bytes()).decode()
     first, last = changes.splitlines()[0], changes.splitlines()[-1]
-    checks.that(f"{package}: its changes", (first, last.partition("  ")[2]), (
-        f"pikhsen ({version}) unstable; urgency=medium", DAY))
+    checks.that(f"{package}: its changes", (first, last.partition("  ")[2]), (f"pikhsen ({version}) unstable; urgency=medium", DAY))
 
 
 def sums(checks, package, root):
     """The sums that dpkg --verify compares are those of all files."""
-    text = (root / "DEBIAN/md5sums").read_text(encoding="utf-8")
-    named = [line.split("  ")[1] for line in text.splitlines()]
-    plain = [it for it in (root / "usr").rglob("*") if it.is_file() and not it.is_symlink()]
-    there = sorted(str(it.relative_to(root)) for it in plain)
-    checks.that(f"{package}: files that have a sum", named, there)
-    status = subprocess.run(["md5sum", "-c", "--quiet", "DEBIAN/md5sums"], cwd=root).returncode
-    checks.that(f"{package}: sums", status, 0)
+    plain = sorted(str(it.relative_to(root)) for it in (root / "usr").rglob("*") if it.is_file() and not it.is_symlink())
+    wanted = [f"{hashlib.md5((root / it).read_bytes()).hexdigest()}  {it}" for it in plain]
+    checks.that(f"{package}: sums", (root / "DEBIAN/md5sums").read_text(encoding="utf-8").splitlines(), wanted)
 
 
 def scripts(checks, root):
     """What dpkg runs for the module, where the programs are that Debian's own packages call there, and where not."""
     calls = root / "calls"
     for name, program in (("postinst", "py3compile"), ("prerm", "py3clean")):
-        script = root / "DEBIAN" / name
-        with_it, without = root / f"with-{name}", root / f"without-{name}"
-        for folder in (with_it, without):
+        for how, expected in (("without", ""), ("with", f"{program} -p python3-pikhsen\n")):
+            folder = root / f"{how}-{name}"
             folder.mkdir()
             os.symlink("/bin/sh", folder / "sh")
-        (with_it / program).write_text(f'#!/bin/sh\necho {program} "$@" >>"{calls}"\n', encoding="utf-8")
-        (with_it / program).chmod(0o755)
-        for folder, expected in ((without, ""), (with_it, f"{program} -p python3-pikhsen\n")):
+            if expected:
+                (folder / program).write_text(f'#!/bin/sh\necho {program} "$@" >>"{calls}"\n', encoding="utf-8")
+                (folder / program).chmod(0o755)
             calls.write_text("", encoding="utf-8")
-            status = subprocess.run(["/bin/sh", script, "configure"], env={"PATH": str(folder)}).returncode
-            how = f"{name}, {'with' if expected else 'without'} {program}"
-            checks.that(how, (status, calls.read_text()), (0, expected))
+            status = subprocess.run(["/bin/sh", root / "DEBIAN" / name, "configure"], env={"PATH": str(folder)}).returncode
+            checks.that(f"{name}, {how} {program}", (status, calls.read_text()), (0, expected))
 
 
 def programs_built(checks, root, level):
@@ -327,8 +224,7 @@ def programs_run(checks, folder, root):
         found = program.run(words.decode().split(), given)
         checks.that(f"{crate} as it is run where it is built, unpacked", found, (0, printed, b""))
     scrypt.put("key", b"correct horse\n")
-    costs = "--logN 4 -r 1 -p 1".split()
-    made = scrypt.run(["enc", *costs, "--passphrase", "file:key", "-", "file"], b"Dear Ada")
+    made = scrypt.run("enc --logN 4 -r 1 -p 1 --passphrase file:key - file".split(), b"Dear Ada")
     opened = scrypt.run(["dec", "--passphrase", "file:key", "file"])
     checks.that("scrypt, unpacked", (made, opened), ((0, b"", b""), (0, b"Dear Ada", b"")))
 
@@ -337,8 +233,8 @@ def lint(checks, files):
     """What lintian says but for what the owner has to choose."""
     if not is_there("lintian", "it does not look at the packages"):
         return
-    ran = subprocess.run(["lintian", "--allow-root", "--no-cfg", "--display-info", *files], text=True,
-                         stdout=subprocess.PIPE, stderr=subprocess.PIPE)
+    words = ["lintian", "--allow-root", "--no-cfg", "--display-info", *files]
+    ran = subprocess.run(words, text=True, stdout=subprocess.PIPE, stderr=subprocess.PIPE)
     lines = [it for it in ran.stdout.splitlines() if re.match(r"[EWI]: ", it)]
     is_read = ran.returncode in (0, 2), any("no-copyright-file" in it for it in lines)
     checks.that("lintian reads the packages", is_read, (True, True))
@@ -355,16 +251,13 @@ def packages(checks, folder, lib):
     made = []
     for out, umask in ((f"{folder}/packages", 0o077), (f"{folder}/same", 0o002)):
         os.mkdir(out)
-        os.umask(umask)
-        environment = {**os.environ, "SOURCE_DATE_EPOCH": f"{EPOCH}"}
         pathlib.Path(out, f"pikhsen_{VERSION}+v9_amd64.deb").write_text("older", encoding="utf-8")
-        said_wrong = subprocess.run([TOP / "packaging/deb.sh", lib, out, MORE], stdout=subprocess.DEVNULL, check=True,
-                                    stderr=subprocess.PIPE, env=environment, text=True).stderr
-        checks.that("what deb.sh says of what is wrong", said_wrong, "")
-        os.umask(0o022)
+        ran = subprocess.run([TOP / "packaging/deb.sh", lib, out, MORE], stdout=subprocess.DEVNULL, stderr=subprocess.PIPE, check=True,
+                             env={**os.environ, "SOURCE_DATE_EPOCH": f"{EPOCH}"}, text=True, umask=umask)
+        checks.that("what deb.sh says of what is wrong", ran.stderr, "")
         made.append({file.name: file.read_bytes() for file in sorted(pathlib.Path(out).iterdir())})
     if pathlib.Path(lib, HIGHER).is_file():
-        FILES["libpikhsen0"][f"{LIBRARIES}/{HIGHER}"] = "rw-r--r--"
+        FILES["libpikhsen0"].append(f"{LIBRARIES}/{HIGHER}")
     wanted = [f"{name}_{VERSION}_{FIELDS[name]['Architecture']}.deb" for name in FIELDS]
     more = f"{VERSION}+{MORE.rpartition('-')[2]}"
     checks.that("packages", sorted(made[0]), sorted([*wanted, f"pikhsen_{more}_amd64.deb"]))
@@ -388,13 +281,12 @@ def packages(checks, folder, lib):
     checks.that("shlibs", (root / "DEBIAN/shlibs").read_text(), f"libpikhsen 0 libpikhsen0 (>= {VERSION})\n")
     names = [f" {it}@PIKHSEN_0 0.1.0" for it in sorted(["PIKHSEN_0", *prototypes(HEADER)])]
     symbols = (root / "DEBIAN/symbols").read_text().splitlines()
-    checks.that("symbols", symbols, [
-        "libpikhsen.so.0 libpikhsen0 #MINVER#", "* Build-Depends-Package: libpikhsen-dev", *names])
+    checks.that("symbols", symbols, ["libpikhsen.so.0 libpikhsen0 #MINVER#", "* Build-Depends-Package: libpikhsen-dev", *names])
     checks.that("triggers", (root / "DEBIAN/triggers").read_text(), "activate-noawait ldconfig\n")
     binaries.level(checks, "the library in the package", root / LIBRARIES / "libpikhsen.so.0", False)
-    for name in [it for it in ("libpikhsen.so.0", "libpikhsen.a", HIGHER) if pathlib.Path(lib, it).is_file()]:
-        same = (whole / LIBRARIES / name).read_bytes() == pathlib.Path(lib, name).read_bytes()
-        checks.that(f"{name} in its package", same, True)
+    libraries = [it for it in ("libpikhsen.so.0", "libpikhsen.a", HIGHER) if pathlib.Path(lib, it).is_file()]
+    other = [it for it in libraries if (whole / LIBRARIES / it).read_bytes() != pathlib.Path(lib, it).read_bytes()]
+    checks.that("libraries in their packages that are others", other, [])
     which_is_loaded(checks, whole / LIBRARIES)
     text = (whole / LIBRARIES / "pkgconfig/pikhsen.pc").read_text(encoding="utf-8").splitlines()
     checks.that("pikhsen.pc in its package", text[:2], ["prefix=/usr", "libdir=${prefix}/lib/x86_64-linux-gnu"])
