@@ -29,6 +29,7 @@ variable is not read.
 import contextlib
 import ctypes
 import enum
+import errno
 import mmap
 import operator
 import os
@@ -387,6 +388,8 @@ def _front(buffer: "ctypes.Array[ctypes.c_char]", length: int) -> bytes:
     return memoryview(buffer)[:length].tobytes()
 
 
+# The most that `decrypt_file` asks of the disk before it knows that the passphrase is right.
+_SMALL = 1 << 24
 # Maps of files, of which ctypes takes only those that can be written. What is written to the first goes to the file.
 # The second is not written to, and the system sets no memory apart for that (MAP_NORESERVE).
 _SHARED, _PRIVATE = mmap.MAP_SHARED, mmap.MAP_PRIVATE | 0x4000
@@ -410,18 +413,38 @@ def _content(path: Path) -> "ctypes.Array[ctypes.c_char]":
         return _mapped(file.fileno(), about.st_size, _PRIVATE)
 
 
+def _with_room(file: int, length: int) -> "ctypes.Array[ctypes.c_char]":
+    """The bytes of a new file of this length, for which the disk has room."""
+    os.posix_fallocate(file, 0, length)
+    return _mapped(file, length, _SHARED)
+
+
+def _sync_folder(folder: Union[str, bytes]) -> None:
+    """Puts a new name in a folder on the disk, where its file system does that. Who may not read it cannot."""
+    try:
+        opened = os.open(folder, os.O_RDONLY | os.O_DIRECTORY)
+    except PermissionError:
+        return
+    try:
+        os.fsync(opened)
+    except OSError as refused:
+        if refused.errno != errno.EINVAL:
+            raise
+    finally:
+        os.close(opened)
+
+
 @contextlib.contextmanager
-def _new_file(path: Path, length: int) -> Iterator[int]:
-    """A new file of this length, for which the disk has room. What is done with it is on the disk at the end, or, if it
-    fails, the file is gone again."""
+def _new_file(path: Path) -> Iterator[int]:
+    """A new file. It and its name are on the disk at the end (but see _sync_folder), or, if what is done with it fails,
+    it is gone again."""
     name = os.path.abspath(os.fspath(path))
     with open(name, "xb+", opener=lambda name, flags: os.open(name, flags, 0o600)) as file:
         made = file.fileno()
         try:
-            if length:
-                os.posix_fallocate(made, 0, length)
             yield made
             os.fsync(made)
+            _sync_folder(os.path.dirname(name))
         except BaseException:
             # what was raised is not hidden, and what stands there instead by now is not removed
             with contextlib.suppress(OSError):
@@ -655,12 +678,11 @@ def encrypt_file(
     among others.
     """
     text = _content(source)
-    length = len(text) + 128
-    with _new_file(target, length) as made:
+    with _new_file(target) as made:
         # the map has no name here, else what is raised would hold on to the new file
         number = _number(
             _lib.pikhsen_scrypt_encrypt, _bytes(passphrase), _file_salt(salt), *_scrypt_settings(log_n, r, p, keep),
-            *_limits(max_bytes, max_ops), text, _mapped(made, length, _SHARED),
+            *_limits(max_bytes, max_ops), text, _with_room(made, len(text) + 128),
         )
         _judge(number)
 
@@ -676,16 +698,23 @@ def decrypt_file(
     not right, the text is overwritten with zeros. Whatever the call raises, `target` is removed; if the process is
     killed, it is left. What is raised, and the limits, are those of `decrypt`, and what `encrypt_file` says of both
     files holds here, too.
+
+    Of a file of more than 16 MiB, limits and passphrase are tested before the disk is asked for room. So its key is
+    derived twice, each time within the limits.
     """
     file, text_len = _content(source), c_size_t()
     length = len(file)
     if length < 96:
         raise NotAFile(Status.TOO_SHORT)
-    info(_front(file, 96))
-    with _new_file(target, length) as made:
-        number = _number(
-            _lib.pikhsen_scrypt_decrypt, _bytes(passphrase), _u32(keep), *_limits(max_bytes, max_ops), file,
-            _mapped(made, length, _SHARED), byref(text_len),
-        )
-        _judge(number)
+    front = _front(file, 96)
+    info(front)
+    given = (_bytes(passphrase), _u32(keep), *_limits(max_bytes, max_ops))
+    with _new_file(target) as made:
+        if length > _SMALL:
+            # the header alone is a file that is cut short: damaged, if there is no reason before that
+            number = _number(_lib.pikhsen_scrypt_decrypt, *given, front, _buffer(96), byref(text_len))
+            if number != Status.DAMAGED:
+                _judge(number)
+        # no map has a name here, else what is raised would hold on to the new file
+        _judge(_number(_lib.pikhsen_scrypt_decrypt, *given, file, _with_room(made, length), byref(text_len)))
         os.ftruncate(made, text_len.value)

@@ -14,15 +14,18 @@ static int enrol(const char *password, unsigned char *text, size_t room, size_t 
 		   strlen(password), salt, sizeof salt, 32, 65536, 1 << 18, text, room, len) == PIKHSEN_OK;
 }
 
-/* At most 64 MiB and 2^18 block functions, whoever wrote the text. */
+/* At most 1 GiB and 2^23 block functions, whoever wrote the text. */
 static const char *answer(const unsigned char *text, size_t len, const char *password)
 {
-	switch (pikhsen_argon2_verify(text, len, (const unsigned char *)password, strlen(password), 65536, 1 << 18)) {
+	switch (pikhsen_argon2_verify(text, len, (const unsigned char *)password, strlen(password), 1 << 20, 1 << 23)) {
 	case PIKHSEN_OK:
 		return "welcome";
 	case PIKHSEN_MISMATCH:
 	case PIKHSEN_PASSWORD_LENGTH: /* no bytes, or more than 127 */
 		return "not you";
+	case PIKHSEN_MEMORY_LIMIT:
+	case PIKHSEN_WORK_LIMIT: /* the text asks for more */
+		return "set a new password";
 	default:
 		return "try again later";
 	}

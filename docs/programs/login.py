@@ -1,20 +1,23 @@
 import pikhsen
 
 
-def may_enter(stored, password):
+def answer(stored, password):
     try:
-        return pikhsen.verify(stored, password, max_kib=65536, max_ops=1 << 18)
+        # at most 1 GiB and 2^23 block functions
+        return "welcome" if pikhsen.verify(stored, password) else "not you"
+    except pikhsen.LimitExceeded:
+        return "set a new password"
     except pikhsen.Invalid as refused:
         # no bytes, or more than 127
         if refused.status == pikhsen.Status.PASSWORD_LENGTH:
-            return False
+            return "not you"
         raise
 
 
 stored = pikhsen.encode(b"correct horse")
 print(stored[:30] + "..")
 for password in (b"correct horse", b"battery staple"):
-    print("welcome" if may_enter(stored, password) else "not you")
+    print(answer(stored, password))
 
 letter = pikhsen.encrypt(b"Dear Ada", b"passphrase")
 print(pikhsen.info(letter), pikhsen.decrypt(letter, b"passphrase"))

@@ -20,23 +20,17 @@
 typedef struct { uint64_t v[128]; } block;
 typedef struct {
     block *memory;
-    uint32_t version, passes, memory_blocks, segment_length, lane_length, lanes, threads;
-    argon2_type type;
-    int print_internals;
+    uint32_t version, passes, memory_blocks, segment_length, lane_length, lanes, threads, type, print_internals;
     argon2_context *context_ptr;
 } instance;
 typedef struct { uint32_t pass, lane; uint8_t slice; uint32_t index; } position;
 void fill_segment(const instance *of, position at);
 
-enum { STACK = 1 << 20 };
-static char stack[STACK] __attribute__((aligned(4096)));
+static char stack[1 << 20] __attribute__((aligned(4096)));
 static instance argon2i = {0, 0x13, 3, 1608, 201, 804, 2, 1, Argon2_i, 0, 0};
 static position at;
 
-static void *make_segment(void *none) {
-    fill_segment(&argon2i, at);
-    return none;
-}
+static void *make_segment(void *none) { return fill_segment(&argon2i, at), none; }
 
 static block g(block x, block y) {
     static block memory[12];
@@ -54,16 +48,15 @@ int main(int count, char **words) {
     argon2i.segment_length = index + 1; /* the last column that is made, so that its address block is the last one */
     pthread_attr_t own;
     pthread_t thread;
-    pthread_attr_init(&own);
-    pthread_attr_setstack(&own, stack, STACK);
+    if (pthread_attr_init(&own) || pthread_attr_setstack(&own, stack, sizeof(stack))) return 2;
     if (pthread_create(&thread, &own, make_segment, 0) || pthread_join(thread, 0)) return 2;
     block zero = {{0}}, input, address;
     uint64_t counter = index / 128 + 1, z[] = {at.pass, at.lane, at.slice, 1608, 3, 1, counter};
-    for (char *from = stack; from < stack + STACK - sizeof(block); from += 8) {
+    for (char *from = stack; from < stack + sizeof(stack) - sizeof(block); from += 8) {
         memcpy(&input, from, sizeof(block));
         if (memcmp(&input, z, sizeof(z)) || memcmp(input.v + 7, zero.v, 121 * 8)) continue;
         address = g(zero, g(zero, input));
-        for (char *other = stack; other < stack + STACK - sizeof(block); other += 8)
+        for (char *other = stack; other < stack + sizeof(stack) - sizeof(block); other += 8)
             found += memcmp(other, &address, sizeof(block)) == 0;
         printf("Z stands on the stack, and G(0, G(0, Z)) %d times\n", found);
         break;

@@ -6,9 +6,8 @@ all of tests/library/python_module.py and, of what is installed and packaged, of
     tests/library/c_face.py              takes crates/pikhsen_c/out/libpikhsen_c.a as tests/edits/refusals.py or make lib left it,
                                  and the library for x86-64-v3 as make lib left it in bin/lib, if it is of these sources
     tests/library/c_face.py --prove      proves the crates and builds that static library before
-    tests/library/c_face.py --header FOLDER      calls the library in this folder from C and C++ alone, under no other program
+    tests/library/c_face.py --header FOLDER      what C and C++ see of the library in this folder, and the pages' logins over it
 """
-import functools
 import hashlib
 import os
 import pathlib
@@ -25,12 +24,15 @@ import comparisons
 import packages
 import python_module
 from checking import Checks, is_there, said
-from library_texts import HEADER, TOP, numbers_of_header, prototypes
-from shown import INCLUDE, compile_c, page_runs, library_runs
+from library_texts import HEADER, TOP, numbers_of_header, prototypes, ran
+from shown import INCLUDE, compile_c, library_runs, logins_run
 from tree import below
 
 CRATE = "pikhsen_c"
 STRICT = ["-std=c89", "-pedantic", "-Wall", "-Wextra", "-Werror", "-D_POSIX_C_SOURCE=200112L"]
+CPP = ["-Wall", "-Wextra", "-pedantic", "-Werror", "-Wold-style-cast", "-Wconversion", "-Wsign-conversion"]
+# -z now: to bind a name at its first call would store vector registers, and a piece of a key may be in these
+WRAPPED = ["-Wl,-z,now", "-Wl,--wrap=malloc,--wrap=realloc,--wrap=free"]
 
 
 # ---- the library
@@ -58,72 +60,58 @@ def build(checks, folder):
     for file in ("libpikhsen.a", "libpikhsen.so.0"):
         both = [pathlib.Path(folder, it, file).read_bytes() for it in ("lib", "again")]
         checks.that(f"{file}, built twice", both[0] == both[1], True)
-    shared, static = f"{folder}/lib/libpikhsen.so.0", f"{folder}/lib/libpikhsen.a"
-    binaries.library(checks, shared, static, sorted(prototypes(HEADER)))
+    binaries.library(checks, f"{folder}/lib/libpikhsen.so.0", f"{folder}/lib/libpikhsen.a", sorted(prototypes(HEADER)))
     os.symlink("libpikhsen.so.0", f"{folder}/lib/libpikhsen.so")
     for higher in pathlib.Path(folder, "lib/glibc-hwcaps").glob("*"):
         binaries.shared_library(checks, str(higher / "libpikhsen.so.0"), sorted(prototypes(HEADER)), True)
-        ran = subprocess.run([TOP / "tests/library/python_module.py", higher], stdout=subprocess.PIPE, text=True)
-        checks.that(f"the module over that for {higher.name}", (ran.returncode, ran.stdout.splitlines()[:-1]), (0, []))
+        status, said_there = ran(TOP / "tests/library/python_module.py", higher)
+        checks.that(f"the module over that for {higher.name}", (status, said_there.splitlines()[:-1]), (0, []))
     return f"{folder}/lib"
 
 
-def warned_of(checks, folder, name, body, warning):
-    """The compiler warns of this in the body of a function, and of nothing else."""
-    source = pathlib.Path(folder, "warned_of.c")
+def warned_of(checks, folder, name, body, warnings):
+    """The compiler warns of this in the body of a function, and of nothing else; or of nothing, and keeps a test of a pointer."""
+    source, made = pathlib.Path(folder, "body.c"), pathlib.Path(folder, "body.s")
     head = '#include "pikhsen.h"\nunsigned int f(const unsigned char *file, struct pikhsen_scrypt_costs *costs)\n'
     source.write_text(f"{head}{{\n    {body}\n}}\n", encoding="utf-8")
-    words = ["gcc", *STRICT, "-Wno-unused-parameter", *INCLUDE, "-c", source, "-o", f"{folder}/warned_of.o"]
-    ran = subprocess.run(words, stderr=subprocess.PIPE, text=True)
-    found = re.findall(r"\[-W(?:error=)?([\w-]+)\]$", ran.stderr, re.MULTILINE)
-    checks.that(f"warned of: {name}", (ran.returncode, found), (1, [warning]))
-
-
-def passes(checks, folder, name, body):
-    """The compiler warns of nothing in the body of a function, and keeps its own tests of a pointer."""
-    source = pathlib.Path(folder, "passes.c")
-    head = '#include "pikhsen.h"\nunsigned int f(const unsigned char *file, struct pikhsen_scrypt_costs *costs)\n'
-    source.write_text(f"{head}{{\n    {body}\n}}\n", encoding="utf-8")
-    words = ["gcc", *STRICT, "-O2", "-Wno-unused-parameter", *INCLUDE, "-S", source, "-o", f"{folder}/passes.s"]
-    ran = subprocess.run(words, stderr=subprocess.PIPE, text=True)
-    kept = ran.returncode == 0 and "$77" in pathlib.Path(folder, "passes.s").read_text(encoding="utf-8")
-    checks.that(f"not warned of: {name}", (ran.returncode, ran.stderr, kept), (0, "", True))
+    status, says = ran("gcc", *STRICT, "-O2", "-Wno-unused-parameter", *INCLUDE, "-S", source, "-o", made)
+    found = re.findall(r"\[-W(?:error=)?([\w-]+)\]$", says, re.MULTILINE)
+    is_kept = status == 0 and "$77" in made.read_text(encoding="utf-8")
+    checks.that(f"warned of: {name}", (says != "", found, is_kept), (warnings != [], warnings, warnings == []))
 
 
 def from_c(checks, folder, lib, is_watched=True):
     has_cpp = is_there("g++", "the header is not compiled as C++, and nothing is called from it")
     has_valgrind = is_watched and is_there("valgrind", "nothing runs under it")
-    empty = pathlib.Path(folder, "empty.c")
+    empty, call = pathlib.Path(folder, "empty.c"), pathlib.Path(folder, "call.cpp")
     empty.write_text('#include "pikhsen.h"\n' * 2, encoding="utf-8")
+    call.write_text(CALL, encoding="utf-8")
     for words in (["gcc", *STRICT], *([["g++", "-Wall", "-Wextra", "-Werror", "-x", "c++"]] if has_cpp else [])):
-        ran = subprocess.run([*words, *INCLUDE, "-fsyntax-only", empty], stderr=subprocess.PIPE, text=True)
-        checks.that(f"header under {words[0]}", (ran.returncode, ran.stderr), (0, ""))
-    for name, body, warning in (
-        ("an answer that is ignored", "pikhsen_scrypt_info(file, 64, costs); return 0;", "unused-result"),
-        ("a null pointer without a length", "return pikhsen_scrypt_info(file, 64, 0);", "nonnull"),
+        checks.that(f"header under {words[0]}", ran(*words, *INCLUDE, "-fsyntax-only", empty), (0, ""))
+    for name, body, warnings in (
+        ("an answer that is ignored", "pikhsen_scrypt_info(file, 64, costs); return 0;", ["unused-result"]),
+        ("a null pointer without a length", "return pikhsen_scrypt_info(file, 64, 0);", ["nonnull"]),
+        # an attribute "nonnull" would let the compiler drop the caller's test after the call
+        ("null with length 0", "unsigned int told = pikhsen_scrypt_info(file, 0, costs); return file ? told : 77;", []),
+        ("null itself", "return pikhsen_scrypt_info(0, 0, costs) + 77;", []),
     ):
-        warned_of(checks, folder, name, body, warning)
-    # an attribute "nonnull" would let the compiler drop the caller's test after the call
-    is_null = "unsigned int told = pikhsen_scrypt_info(file, 0, costs); return file ? told : 77;"
-    passes(checks, folder, "null with length 0", is_null)
-    passes(checks, folder, "null itself", "return pikhsen_scrypt_info(0, 0, costs) + 77;")
+        warned_of(checks, folder, name, body, warnings)
+    program, valgrind = f"{folder}/program", ["valgrind", "-q", "--error-exitcode=9", "--leak-check=full", "--track-origins=yes"]
     for static in (True, False):
+        kind = "static" if static else "shared"
         if has_cpp:
-            from_cpp(checks, folder, lib, static)
+            checks.that(f"C++ {kind}, compiled", compile_c(call, lib, program, static, *CPP, compiler="g++"), (0, ""))
+            checks.that(f"C++ {kind}", ran(program), (0, ""))
         for refuse in (["-DREFUSE"], []):
-            name = f"c_face.c {'static' if static else 'shared'} {' '.join(refuse)}"
-            program = f"{folder}/program"
+            name = f"c_face.c {kind} {' '.join(refuse)}"
             made = compile_c(TOP / "tests/library/c_face.c", lib, program, static, *STRICT, *refuse)
             checks.that(f"{name}, compiled", made, (0, ""))
-            ran = subprocess.run([program], stdout=subprocess.PIPE, stderr=subprocess.STDOUT, text=True)
-            checks.that(name, (ran.returncode, ran.stdout), (0, ""))
+            checks.that(name, ran(program), (0, ""))
             if not refuse and has_valgrind:
-                words = ["valgrind", "-q", "--error-exitcode=9", "--leak-check=full", "--track-origins=yes", program]
-                ran = subprocess.run(words, stdout=subprocess.PIPE, stderr=subprocess.STDOUT, text=True)
-                checks.that(f"{name} under valgrind", (ran.returncode, ran.stdout), (0, ""))
+                checks.that(f"{name} under valgrind", ran(*valgrind, program), (0, ""))
 
 
-CPP = """#include "pikhsen.h"
+CALL = """#include "pikhsen.h"
 #if PIKHSEN_ENCODED_ROOM(16, 32) != 121
 #error "the room is not a number of the preprocessor's"
 #endif
@@ -136,16 +124,6 @@ int main() {
     return has_room && told == PIKHSEN_BUFFER && len == 0 ? 0 : 1;
 }
 """
-
-
-def from_cpp(checks, folder, lib, static):
-    """One call, compiled and linked as C++."""
-    source, program = pathlib.Path(folder, "call.cpp"), f"{folder}/call"
-    source.write_text(CPP, encoding="utf-8")
-    strict = ["-Wall", "-Wextra", "-pedantic", "-Werror", "-Wold-style-cast", "-Wconversion", "-Wsign-conversion"]
-    made = compile_c(source, lib, program, static, *strict, compiler="g++")
-    checks.that(f"C++ {'static' if static else 'shared'}, compiled", made, (0, ""))
-    checks.that(f"C++ {'static' if static else 'shared'}", subprocess.run([program]).returncode, 0)
 
 
 # ---- what a call leaves in memory
@@ -195,44 +173,41 @@ def first_blocks(kib, lanes, length):
     return pieces
 
 
+def says(checks, program, look, what, expected):
+    """What secrets.c finds on the stack ("painted"), in freed memory or in vector registers after a call."""
+    checks.that(f"{pathlib.Path(program).name}, {look}: {what}", said(program, look, what, check=False), expected)
+
+
 def secrets_from_c(checks, folder, lib, pikhsen):
     """After a call no key is in writable memory, on the stack or elsewhere: none of the four pieces of the 64 derived
     bytes, nor what they are made of. The memory that a call frees, but for texts of hashes, holds zeros alone; so do the
     vector registers when it returns."""
     program = f"{folder}/secrets"
-    # -z now: to bind a name at its first call would store vector registers, and a piece of a key may be in these
-    flags = ["-Wl,-z,now", "-Wl,--wrap=malloc,--wrap=realloc,--wrap=free"]
-    made = compile_c(TOP / "tests/library/secrets.c", lib, program, True, *STRICT, *flags)
-    checks.that("secrets.c, compiled", made, (0, ""))
+    checks.that("secrets.c, compiled", compile_c(TOP / "tests/library/secrets.c", lib, program, True, *STRICT, *WRAPPED), (0, ""))
     of_two = [[it, "kept"] for it in ("painted", "freed", "again", "registers", "key")]
     for words in ([], ["keys"], ["painted"], ["again"], ["registers"], *of_two):
         found = subprocess.run([program, *words], stdin=subprocess.DEVNULL, stdout=subprocess.DEVNULL).returncode
         checks.that(f"secrets.c, other words: {words}", found, 2)
+    levels = sorted(pathlib.Path(lib, "glibc-hwcaps").glob("*/libpikhsen.so.0"))
+    of_levels = [program, *(over_shared(folder, it.parent.name, it.read_bytes()) for it in levels)]
+    spoiled = over_shared(folder, "without-zeros", without_zeros(lib))
     # a matrix of 64 KiB; a table of 64 rows, or 16, of 1,024 bytes, and two rows, or three; four rows of 128 bytes, and
     # two; and such of 8 MiB
     told_wrong = numbers_of_header()["WRONG_PASSPHRASE"][0]
     for what, told, freed in (
-        ("hash", 0, 65536), ("encoded", 0, 65536), ("verify", 0, 65536), ("keyed-text", 0, 65536),
-        ("keyed-test", 0, 65536), ("key", 0, 67584), ("sparse", 0, 19456), ("encrypt", 0, 67584),
-        ("in-place", 0, 67584), ("decrypt", 0, 67584), ("wrong", told_wrong, 67584),
-        ("small-key", 0, 768), ("large-hash", 0, 8388608), ("large-key", 0, 8390656),
+        ("hash", 0, 65536), ("encoded", 0, 65536), ("verify", 0, 65536), ("keyed-text", 0, 65536), ("keyed-test", 0, 65536),
+        ("key", 0, 67584), ("sparse", 0, 19456), ("encrypt", 0, 67584), ("in-place", 0, 67584), ("decrypt", 0, 67584),
+        ("wrong", told_wrong, 67584), ("small-key", 0, 768), ("large-hash", 0, 8388608), ("large-key", 0, 8390656),
     ):
-        found = said(program, "painted", what, check=False)
-        checks.that(f"stack after: {what}", found, f"told {told}, not wiped 0, touched deeper 0\n")
-        found = said(program, "freed", what, check=False)
-        checks.that(f"freed by: {what}", found, f"told {told}, freed {freed}, not zero 0\n")
-        for level, of_level in {"x86-64-v2": program, **higher_levels(folder, lib)}.items():
-            found = said(of_level, "registers", what, check=False)
-            checks.that(f"vector registers of {level} after: {what}", found, f"told {told}, not zero:\n")
-        if told == 0:
-            found = said(without_zeros(folder, lib), "painted", what, check=False)
-            checks.that(f"stack after, without the zeros: {what}", " not wiped 0," in found, False)
-            found = said(without_zeros(folder, lib), "registers", what, check=False)
-            checks.that(f"vector registers after, without the zeros: {what}", found.endswith(":\n"), False)
-    found = said(program, "registers", "three", check=False)
-    checks.that("vector registers, a key left in one", found, "told 0, not zero: 3\n")
-    found = said(program, "freed", "seven", check=False)
-    checks.that("freed, and not wiped before", found, "told 0, freed 1024, not zero 1024\n")
+        says(checks, program, "painted", what, f"told {told}, not wiped 0, touched deeper 0\n")
+        says(checks, program, "freed", what, f"told {told}, freed {freed}, not zero 0\n")
+        for of_level in of_levels:
+            says(checks, of_level, "registers", what, f"told {told}, not zero:\n")
+        for look, nothing in (("painted", " not wiped 0,"), ("registers", ":\n")) if told == 0 else ():
+            found = said(spoiled, look, what, check=False)
+            checks.that(f"{look}, without the zeros: {what}", nothing in found, False)
+    says(checks, program, "registers", "three", "told 0, not zero: 3\n")
+    says(checks, program, "freed", "seven", "told 0, freed 1024, not zero 1024\n")
     try:
         searches_from_c(checks, program, pikhsen)
     except PermissionError as why:
@@ -244,31 +219,21 @@ def over_shared(folder, name, content):
     other = pathlib.Path(folder, name)
     other.mkdir()
     (other / "libpikhsen.so.0").write_bytes(content)
-    os.symlink("libpikhsen.so.0", other / "libpikhsen.so")
     program = f"{folder}/secrets-{name}"
-    flags = ["-Wl,-z,now", "-Wl,--wrap=malloc,--wrap=realloc,--wrap=free"]
-    compile_c(TOP / "tests/library/secrets.c", str(other), program, False, *STRICT, *flags)
+    compile_c(TOP / "tests/library/secrets.c", str(other), program, False, *STRICT, *WRAPPED)
     return program
 
 
-@functools.lru_cache(maxsize=1)
-def higher_levels(folder, lib):
-    """secrets.c over the library for each higher level that is there, by the level's name."""
-    files = pathlib.Path(lib, "glibc-hwcaps").glob("*/libpikhsen.so.0")
-    return {it.parent.name: over_shared(folder, it.parent.name, it.read_bytes()) for it in files}
-
-
-@functools.lru_cache(maxsize=1)
-def without_zeros(folder, lib):
-    """secrets.c over a library whose function that puts zeros over the stack answers at once: so the looks at the
-    stack and at the registers are seen to find what stays."""
+def without_zeros(lib):
+    """A library whose function that puts zeros over the stack answers at once: so the looks at the stack and at the
+    registers are seen to find what stays."""
     code = said("objdump", "-d", f"{lib}/libpikhsen.so.0")
     at = int(re.search(r"^([0-9a-f]+) <[^>]*burning::burn[^>]*>:$", code, re.MULTILINE)[1], 16)
     text = re.search(r" \.text +PROGBITS +([0-9a-f]+) ([0-9a-f]+) ", said("readelf", "-SW", f"{lib}/libpikhsen.so.0"))
     spoiled = bytearray(pathlib.Path(lib, "libpikhsen.so.0").read_bytes())
     place = at - int(text[1], 16) + int(text[2], 16)
     spoiled[place:place + 3] = b"\x89\xf8\xc3"  # mov %edi,%eax; ret
-    return over_shared(folder, "without-zeros", spoiled)
+    return spoiled
 
 
 def searches_from_c(checks, program, pikhsen):
@@ -284,23 +249,21 @@ def searches_from_c(checks, program, pikhsen):
         ("kept", b"", sorted(of_key)), ("stack", b"", sorted(of_key)), ("hash", b"", []), ("encoded", b"", []),
         ("verify", b"", []), ("key", b"", []), ("sparse", b"", []), ("encrypt", b"", []), ("decrypt", file, []),
     ):
-        found = searched(checks, [program, what], given, lambda process: kept_pieces(process, pieces))
-        checks.that(f"keys in memory after: {what}", found, expected)
+        searched(checks, [program, what], given, lambda process: kept_pieces(process, pieces), expected)
     # a row stands in its own order only before it is turned
     turned = {name: piece for name, piece in rows.items() if "table" in name}
     for what, wanted in (("hash", blocks), ("encoded", other_blocks), ("key", turned), ("sparse", turned)):
-        found = searched(checks, [program, "again", what], b"", lambda process: pieces_during(process, wanted))
-        checks.that(f"what a key is made of, in memory during: {what}", found, sorted(wanted))
+        searched(checks, [program, "again", what], b"", lambda process: pieces_during(process, wanted), sorted(wanted))
 
 
-def searched(checks, words, given, search):
+def searched(checks, words, given, search, expected):
     """What a search finds in the memory of a process that made a call."""
     with subprocess.Popen(words, stdin=subprocess.PIPE, stdout=subprocess.PIPE) as process:
         try:
             process.stdin.write(given)
             process.stdin.flush()
             checks.that(f"answer of: {' '.join(words[1:])}", process.stdout.readline(), b"0\n")
-            return search(process)
+            checks.that(f"found in memory: {' '.join(words[1:])}", search(process), expected)
         finally:
             process.kill()
 
@@ -313,23 +276,14 @@ def pieces_during(process, wanted):
     return sorted(found)
 
 
-def from_header(checks, folder, built):
-    """What a program in C or C++ sees: the header as it stands, over a library that is built."""
-    lib = pathlib.Path(folder, "lib")
-    lib.mkdir()
-    for name, of in (("libpikhsen.a",) * 2, ("libpikhsen.so.0",) * 2, ("libpikhsen.so", "libpikhsen.so.0")):
-        os.symlink(built / of, lib / name)
-    from_c(checks, folder, str(lib), is_watched=False)
-    page_runs(checks, folder, str(lib))
-
-
 def main():
     checks = Checks("none")
     if not is_there("gcc", "the library is not built, and not called"):
         checks.end()
     with tempfile.TemporaryDirectory() as folder:
         if "--header" in sys.argv:
-            from_header(checks, folder, pathlib.Path(sys.argv[2]).resolve())
+            from_c(checks, folder, os.path.abspath(sys.argv[2]), is_watched=False)
+            logins_run(checks, folder, os.path.abspath(sys.argv[2]))
             checks.end()
         lib = build(checks, folder)
         from_c(checks, folder, lib)
@@ -337,7 +291,7 @@ def main():
         secrets_from_c(checks, folder, lib, pikhsen)
         comparisons.tags_of_texts(checks, lib, folder)
         library_runs(checks, folder, lib)
-        page_runs(checks, folder, lib)
+        logins_run(checks, folder, lib)
         packages.all_of(checks, folder, lib)
     checks.end()
 

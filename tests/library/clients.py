@@ -1,6 +1,7 @@
 #!/usr/bin/env python3
 """Runs the tests of programs that nobody here wrote over a built library, by the adapters in tests/library/clients/: the test
-program of the reference implementation of Argon2 (src/test.c), the tests of argon2-cffi, and those of python-scrypt.
+program of the reference implementation of Argon2 (src/test.c), the tests of argon2-cffi, and those of python-scrypt; and
+what the adapter of argon2.h says of the length of a text.
 
     tests/library/clients.py FOLDER [--sources DIR]      FOLDER has libpikhsen.so.0, as bin/lib
 
@@ -17,6 +18,7 @@ them. It installs nothing and uses no network. Debian has them all, some of them
 python-scrypt needs no package. Not in the gate, since none of this is there. It takes some minutes and 1.5 GB.
 """
 import argparse
+import ctypes
 import json
 import os
 import pathlib
@@ -30,26 +32,19 @@ TOP = pathlib.Path(__file__).resolve().parents[2]
 ADAPTERS = TOP / "tests/library/clients"
 PYTHONS = (sys.executable, "/usr/bin/python3")
 
-# What ends in another way over this library, by the name of a test, with the reason. Those of its examples that are
-# within the limits of pikhsen.h must pass.
+# Tests of argon2-cffi that end in another way over this library, with the reason. Those of their examples that are within
+# the limits of pikhsen.h must pass.
 PASSWORDS = "a password of 0 bytes, or of more than 127, is refused"
 DIFFERENCES = {
-    "argon2-cffi": {
-        "tests/test_low_level.py::TestHash::test_hash_fast": PASSWORDS,
-        "tests/test_legacy.py::TestHash::test_hash_fast": PASSWORDS,
-        "tests/test_low_level.py::test_argument_ranges": f"{PASSWORDS}, and a salt of more than 255",
-    },
+    "tests/test_low_level.py::TestHash::test_hash_fast": PASSWORDS, "tests/test_legacy.py::TestHash::test_hash_fast": PASSWORDS,
+    "tests/test_low_level.py::test_argument_ranges": f"{PASSWORDS}, and a salt of more than 255",
 }
-# Tests that never come to the library, by the beginning of their names, with the reason.
-LEFT_OUT = {
-    "argon2-cffi": {"tests/test_packaging.py": "it reads what pip notes of an installed package"},
-}
-# Tests that the adapter answers alone, so that they say nothing of the library.
+# Those that never come to the library, by the beginning of their names.
+LEFT_OUT = {"tests/test_packaging.py": "it reads what pip notes of an installed package"}
+# Tests of argon2's test program that the adapter answers alone, so that they say nothing of the library.
 ADAPTERS_OWN = {
-    "argon2's test program": {
-        "Decode an error message": "the sentence is the adapter's",
-        "Fail on invalid null pointer": "null is not allowed with a length above 0, and the adapter refuses it",
-    },
+    "Decode an error message": "the sentence is the adapter's",
+    "Fail on invalid null pointer": "null is not allowed with a length above 0, and the adapter refuses it",
 }
 
 
@@ -76,58 +71,42 @@ def tree_with(folders, *files):
     return max(trees, key=lambda it: (it.name, str(it)), default=None)
 
 
-class Suite:
-    """A client's tests: what it is called, and what came of each, as tests/library/clients/suites.py prints it."""
+def left_out(name, why):
+    print(f"{name}: left out, {why}", flush=True)
 
-    def __init__(self, name):
-        self.name = name
-        self.differences = DIFFERENCES.get(name, {})
-        self.ran = self.wrong = False
 
-    def say(self, text):
-        print(text, flush=True)
-
-    def none(self, why):
-        self.say(f"{self.name}: left out, {why}")
-
-    def tell(self, of, found, within):
-        """One line of numbers, and one for each test that did not simply pass."""
-        self.ran = True
-        names = [name for name, _, _ in found]
-        failed = [(name, why) for name, outcome, why in found if outcome == "failed" and name not in self.differences]
-        others = [name for name, outcome, _ in found if outcome == "failed" and name in self.differences]
-        passed = [name for name, outcome, _ in found if outcome == "passed"]
-        left = [(name, why) for name, outcome, why in found if outcome == "left out"]
-        known = f", {len(others)} known to differ" if others else ""
-        self.say(f"{self.name} ({of}): {len(passed)} passed, {len(failed)} failed{known}, {len(left)} left out")
-        for name, why in failed:
-            self.say(f"  FAILED {name}: {why}")
-        for name, why in self.differences.items():
-            rest = within.get(name, "not run")
-            self.wrong |= name not in others or rest != "passed"
-            told = "differs" if name in others else "DOES NOT DIFFER" if name in names else "IS NOT THERE"
-            self.say(f"  {name} {told}: {why}; within the limits it {rest}")
-        reasons = LEFT_OUT.get(self.name, {})
-        for prefix, why in {**reasons, **{name: why for name, why in left if why}}.items():
-            count = sum(name.startswith(prefix) for name, _ in left)
-            self.say(f"  {count} of {prefix} left out: {why}")
-        for name, why in ADAPTERS_OWN.get(self.name, {}).items():
-            self.say(f"  {names.count(name)} of '{name}' say nothing of the library: {why}")
-        self.wrong |= bool(failed) or not passed
+def is_right(name, of, found, within=(), differences=(), reasons=(), own=()):
+    """Says one line of numbers, and one for each test that did not simply pass; whether each ended as it should."""
+    differences, ended = dict(differences), [outcome for _, outcome, _ in found]
+    names = [name for name, _, _ in found]
+    failed = [(name, why) for name, outcome, why in found if outcome == "failed" and name not in differences]
+    others = [name for name, outcome, _ in found if outcome == "failed" and name in differences]
+    left = [(name, why) for name, outcome, why in found if outcome == "left out"]
+    known = f", {len(others)} known to differ" if others else ""
+    print(f"{name} ({of}): {ended.count('passed')} passed, {len(failed)} failed{known}, {len(left)} left out")
+    for test, why in failed:
+        print(f"  FAILED {test}: {why}")
+    for test, why in differences.items():
+        told = "differs" if test in others else "DOES NOT DIFFER" if test in names else "IS NOT THERE"
+        print(f"  {test} {told}: {why}; within the limits it {dict(within).get(test, 'not run')}")
+    for prefix, why in {**dict(reasons), **{test: why for test, why in left if why}}.items():
+        print(f"  {sum(test.startswith(prefix) for test, _ in left)} of {prefix} left out: {why}")
+    for test, why in dict(own).items():
+        print(f"  {names.count(test)} of '{test}' say nothing of the library: {why}", flush=True)
+    return not failed and "passed" in ended and all(it in others and dict(within).get(it) == "passed" for it in differences)
 
 
 def compiled(words, out):
     """A program or library of C, with the library in FOLDER beside it."""
     flags = ["-std=c99", "-D_DEFAULT_SOURCE", "-O1", "-Wall", "-Wextra", "-Werror", "-I", str(TOP / "include")]
     subprocess.run(["cc", *flags, *words, "-o", out], check=True)
-    return str(out)
+    return out
 
 
 def of_python(python, environment, folder, *words):
     """What tests/library/clients/suites.py prints for these words, in this folder; one failed test where it ends otherwise."""
     ran = subprocess.run(
-        [python, ADAPTERS / "suites.py", *words], cwd=folder, env=environment, stdout=subprocess.PIPE,
-        stderr=subprocess.PIPE, text=True,
+        [python, ADAPTERS / "suites.py", *words], cwd=folder, env=environment, stdout=subprocess.PIPE, stderr=subprocess.PIPE, text=True,
     )
     if ran.returncode:
         print(ran.stderr, file=sys.stderr)
@@ -135,13 +114,10 @@ def of_python(python, environment, folder, *words):
     return [tuple(it) for it in json.loads(ran.stdout)]
 
 
-def test_program(suite, tree, adapter, link, work):
+def of_test_program(name, tree, adapter, link, work):
     """The lines of the program that end in PASS; assert is ours, which goes on after a failure."""
-    program = compiled(
-        ["-w", "-I", ADAPTERS, "-I", tree / "include", tree / "src/test.c", adapter, *link, f"-Wl,-rpath,{work}"],
-        work / "test",
-    )
-    ran = subprocess.run([program], stdout=subprocess.PIPE, text=True)
+    words = ["-w", "-I", ADAPTERS, "-I", tree / "include", tree / "src/test.c", adapter, *link, f"-Wl,-rpath,{work}"]
+    ran = subprocess.run([compiled(words, work / "test")], stdout=subprocess.PIPE, text=True)
     *tests, rest = ran.stdout.split("PASS\n")
     found = []
     for it in tests:
@@ -149,7 +125,21 @@ def test_program(suite, tree, adapter, link, work):
         found.append((line, "failed" if "FAILED" in it else "passed", it.partition("FAILED ")[2].strip()))
     if ran.returncode or rest.strip():
         found.append(("its end", "failed", f"status {ran.returncode} {rest.strip()}"))
-    suite.tell(tree.name, found, {})
+    return is_right(name, tree.name, found, own=ADAPTERS_OWN)
+
+
+def of_lengths(name, adapter):
+    """argon2_encodedlen tells just the length of the text that argon2_hash writes, and its byte 0."""
+    library, found = ctypes.CDLL(adapter), []
+    library.argon2_encodedlen.restype = ctypes.c_size_t
+    for passes, kib, lanes, salt_len, tag_len, kind in ((1, 8, 1, 8, 4, 1), (10, 99, 3, 255, 32, 2), (9, 65536, 16, 10, 24, 0)):
+        out, salt = ctypes.create_string_buffer(1000), bytes(salt_len)
+        lengths = ctypes.c_size_t(8), ctypes.c_size_t(salt_len), ctypes.c_size_t(tag_len), ctypes.c_size_t(1000)
+        library.argon2_hash(passes, kib, lanes, b"password", lengths[0], salt, lengths[1], None, lengths[2], out, lengths[3], kind, 0x13)
+        told = library.argon2_encodedlen(passes, kib, lanes, salt_len, tag_len, kind)
+        is_exact = out.value.startswith(b"$argon2") and told == len(out.value) + 1
+        found.append((out.value.decode()[:34], "passed" if is_exact else "failed", f"{told}, and not {len(out.value) + 1}"))
+    return is_right(name, adapter.name, found)
 
 
 def python_with(modules, environment):
@@ -158,37 +148,28 @@ def python_with(modules, environment):
         words = [python, "-c", f"import {', '.join(modules)}"]
         if shutil.which(python) and not subprocess.run(words, env=environment, stderr=subprocess.DEVNULL).returncode:
             return python
-    return None
 
 
-def argon2_cffi(suite, tree, adapter, header, environment):
+def of_argon2_cffi(name, tree, adapter, header, environment):
     """All its tests as they stand; then those that differ, of the examples within the limits."""
     python = python_with(["cffi", "hypothesis", "pytest"], environment)
     if not python:
-        suite.none("no Python here has cffi, pytest and hypothesis")
-        return
-    left_out = " ".join(LEFT_OUT[suite.name])
-    found = of_python(python, environment, tree, suite.name, adapter, header, "whole", left_out)
-    again = of_python(python, environment, tree, suite.name, adapter, header, "within", left_out, *suite.differences)
-    suite.tell(tree.name, found, {name: outcome for name, outcome, _ in again})
+        return left_out(name, "no Python here has cffi, pytest and hypothesis")
+    words = python, environment, tree, name, adapter, header
+    found = of_python(*words, "whole", " ".join(LEFT_OUT))
+    again = of_python(*words, "within", " ".join(LEFT_OUT), *DIFFERENCES)
+    return is_right(name, tree.name, found, [it[:2] for it in again], DIFFERENCES, LEFT_OUT)
 
 
 def main():
-    parser = argparse.ArgumentParser(
-        description=__doc__, formatter_class=argparse.RawDescriptionHelpFormatter, add_help=True
-    )
+    parser = argparse.ArgumentParser(description=__doc__, formatter_class=argparse.RawDescriptionHelpFormatter, add_help=True)
     parser.add_argument("folder", metavar="FOLDER")
     parser.add_argument("--sources", metavar="DIR")
     given = parser.parse_args()
     lib = pathlib.Path(given.folder).resolve()
-    if given.sources and not pathlib.Path(given.sources).is_dir():
-        sys.exit(f"{given.sources} is no folder")
-    if not (lib / "libpikhsen.so.0").is_file():
-        sys.exit(f"{given.folder} has no libpikhsen.so.0")
-    if not shutil.which("cc"):
-        sys.exit("there is no C compiler, which the adapters need")
-    suites = [Suite(name) for name in ("argon2's test program", "argon2-cffi", "python-scrypt")]
-    reference, cffi, scrypt = suites
+    if not shutil.which("cc") or not (lib / "libpikhsen.so.0").is_file():
+        sys.exit(f"there is no C compiler, which the adapters need, or no libpikhsen.so.0 in {given.folder}")
+    right = []
     with tempfile.TemporaryDirectory() as work:
         work = pathlib.Path(work)
         folders = unpacked(given.sources, work)
@@ -197,33 +178,31 @@ def main():
         environment = {**os.environ, "PYTHONPATH": ":".join(packages), "PYTHONDONTWRITEBYTECODE": "1"}
         environment["HYPOTHESIS_STORAGE_DIRECTORY"] = str(work / "hypothesis")
 
-        tree = tree_with(folders, "src/test.c", "include/argon2.h")
-        headers = [it for it in [tree and tree / "include", *(it / "usr/include" for it in folders)] if it]
-        headers = [it / "argon2.h" for it in [*headers, pathlib.Path("/usr/include")]]
-        header = next((it for it in headers if it.is_file()), None)
-        adapter = None
+        tree, name = tree_with(folders, "src/test.c", "include/argon2.h"), "argon2's test program"
+        places = [*([tree / "include"] if tree else []), *(it / "usr/include" for it in folders), pathlib.Path("/usr/include")]
+        header, adapter = next((it / "argon2.h" for it in places if (it / "argon2.h").is_file()), None), None
         if header:
-            words = ["-shared", "-fPIC", "-I", header.parent, ADAPTERS / "argon2.c", *link]
-            adapter = compiled(words, work / "libargon2.so")
-        if not tree:
-            reference.none("there are no sources of it with src/test.c and include/argon2.h")
+            adapter = compiled(["-shared", "-fPIC", "-I", header.parent, ADAPTERS / "argon2.c", *link], work / "libargon2.so")
+            right.append(of_lengths("argon2_encodedlen", adapter))
+        if tree:
+            right.append(of_test_program(name, tree, adapter, link, work))
         else:
-            test_program(reference, tree, adapter, link, work)
-        tree = tree_with(folders, "tests/test_low_level.py", "src/argon2/low_level.py")
-        if not tree or not adapter:
-            cffi.none("there are no sources of it" if adapter else "there is no argon2.h, of which its adapter is made")
+            left_out(name, "there are no sources of it with src/test.c and include/argon2.h")
+        tree, name = tree_with(folders, "tests/test_low_level.py", "src/argon2/low_level.py"), "argon2-cffi"
+        if tree and adapter:
+            right.append(of_argon2_cffi(name, tree, adapter, header, environment))
         else:
-            argon2_cffi(cffi, tree, adapter, header, environment)
+            left_out(name, "there are no sources of it" if adapter else "there is no argon2.h, of which its adapter is made")
         tree = tree_with([*folders, pathlib.Path("/usr/lib/python3/dist-packages")], "scrypt/tests/test_scrypt.py")
-        if not tree:
-            scrypt.none("neither sources nor package of it are there")
-        else:
+        name = "python-scrypt"
+        if tree:
             adapter = compiled(["-shared", "-fPIC", ADAPTERS / "scrypt.c", *link], work / "_scrypt.so")
-            found = of_python(PYTHONS[0], environment, work, scrypt.name, adapter, tree)
-            scrypt.tell(tree.name, found, {})
-    if not any(it.ran for it in suites):
+            right.append(is_right(name, tree.name, of_python(PYTHONS[0], environment, work, name, adapter, tree)))
+        else:
+            left_out(name, "neither sources nor package of it are there")
+    if all(it is None for it in right):
         sys.exit("nothing was run")
-    sys.exit(1 if any(it.wrong for it in suites) else 0)
+    sys.exit(1 if False in right else 0)
 
 
 if __name__ == "__main__":

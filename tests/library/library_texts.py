@@ -15,41 +15,29 @@ sys.path += map(str, pathlib.Path(__file__).resolve().parents[1].iterdir())  # t
 from checking import Checks, is_there, said
 
 TOP = pathlib.Path(__file__).resolve().parents[2]
-HEADER = (TOP / "include/pikhsen.h").read_text(encoding="utf-8")
-MODULE = (TOP / "python/pikhsen.py").read_text(encoding="utf-8")
-PAGE = (TOP / "man/pikhsen.3").read_text(encoding="utf-8")
+HEADER, MODULE, PAGE = ((TOP / it).read_text(encoding="utf-8") for it in ("include/pikhsen.h", "python/pikhsen.py", "man/pikhsen.3"))
 SOURCES = {it.stem: it.read_text(encoding="utf-8") for it in sorted((TOP / "crates/pikhsen_c/src").glob("*.rt"))}
 # How the parameter NAME of a type of the sources is written in C.
 IN_C = {
-    "Machine": (),
-    "Told": ("unsigned int NAME",),
-    "u32": ("unsigned int NAME",),
-    "u64": ("pikhsen_u64 NAME",),
-    "usize": ("size_t NAME",),
-    "&[u8]": ("const unsigned char *NAME", "size_t NAME_len"),
-    "&mut [u8]": ("unsigned char *NAME", "size_t NAME_len"),
-    "&mut usize": ("size_t *NAME",),
-    "&mut u32": ("unsigned int *NAME",),
-    "&mut PikhsenScryptCosts": ("struct pikhsen_scrypt_costs *NAME",),
+    "Machine": (), "Told": ("unsigned int NAME",), "u32": ("unsigned int NAME",), "u64": ("pikhsen_u64 NAME",), "usize": ("size_t NAME",),
+    "&[u8]": ("const unsigned char *NAME", "size_t NAME_len"), "&mut [u8]": ("unsigned char *NAME", "size_t NAME_len"),
+    "&mut usize": ("size_t *NAME",), "&mut u32": ("unsigned int *NAME",), "&mut PikhsenScryptCosts": ("struct pikhsen_scrypt_costs *NAME",),
     "&PikhsenArgon2Settings": ("const struct pikhsen_argon2_settings *NAME",),
     "&mut PikhsenArgon2Settings": ("struct pikhsen_argon2_settings *NAME",),
 }
 # The exports that want no memory, and derive and hash nothing.
 NO_MACHINE = ["pikhsen_message", "pikhsen_scrypt_info", "pikhsen_version"]
-# The faults whose numbers have names of their own in the header.
+# The faults whose numbers have names of their own in the header; those of RangeFault begin with TEXT.
 RENAMED = {
-    "CostFault::Memory": "MEMORY_LIMIT",
-    "CostFault::Work": "WORK_LIMIT",
-    "HeaderFault::Version": "FORMAT_VERSION",
-    "HeaderFault::CostsOutOfRange": "FILE_COSTS",
-    "ReadFault::NotInGrammar": "NOT_ENCODED",
-    "RangeFault::Version": "TEXT_VERSION",
-    "RangeFault::Passes": "TEXT_PASSES",
-    "RangeFault::Lanes": "TEXT_LANES",
-    "RangeFault::Memory": "TEXT_MEMORY",
-    "RangeFault::TagLength": "TEXT_TAG_LENGTH",
-    "RangeFault::SaltLength": "TEXT_SALT_LENGTH",
+    "CostFault::Memory": "MEMORY_LIMIT", "CostFault::Work": "WORK_LIMIT", "HeaderFault::Version": "FORMAT_VERSION",
+    "HeaderFault::CostsOutOfRange": "FILE_COSTS", "ReadFault::NotInGrammar": "NOT_ENCODED",
 }
+
+
+def ran(*words, **more):
+    """Status and output of a program."""
+    done = subprocess.run(words, stdout=subprocess.PIPE, stderr=subprocess.STDOUT, text=True, **more)
+    return done.returncode, done.stdout
 
 
 def declared_exports():
@@ -89,7 +77,8 @@ def numbers_of_sources():
     constants = dict(re.findall(r"const (\w+): u32 = (\d+);", SOURCES["status"]))
     numbers = {name: int(number) for name, number in constants.items()}
     for kind, fault, number in re.findall(r"(\w+Fault)::(\w+) => (\w+),", SOURCES["status"]):
-        name = RENAMED.get(f"{kind}::{fault}") or re.sub(r"(?<!^)(?=[A-Z])", "_", fault).upper()
+        snake = "TEXT" * (kind == "RangeFault") + re.sub("(?=[A-Z])", "_", fault).upper()
+        name = RENAMED.get(f"{kind}::{fault}") or snake.lstrip("_")
         value = int(constants.get(number, number)) if not number.isdigit() else int(number)
         if numbers.setdefault(name, value) != value:
             numbers[name] = None
@@ -120,9 +109,7 @@ def kinds():
     sources = re.findall(r"^        (\d) => Some\(Kind::(\w+)\),", SOURCES["argon2"], re.MULTILINE)
     header = re.findall(r"PIKHSEN_ARGON2(\w+) = (\d)", HEADER.split("enum pikhsen_kind {")[1].split("}")[0])
     module = re.findall(r"^    (\w+) = (\d)$", MODULE.split("class Kind(")[1].split("class ")[0], re.MULTILINE)
-    return [{name.upper(): int(it) for it, name in sources}, *(
-        {name: int(it) for name, it in each} for each in (header, module)
-    )]
+    return [{name.upper(): int(it) for it, name in sources}, *({name: int(it) for name, it in each} for each in (header, module))]
 
 
 def sentences():
@@ -142,10 +129,10 @@ def fields(file, rust, c, python):
     header = re.search(rf"struct {c} \{{\n(.*?)\n\}};", HEADER, re.DOTALL)[1]
     lines = re.findall(r"\t(\w[\w ]*?) (\w+(?:, \w+)*);", header)
     module = re.search(rf"class {python}\(ctypes.Structure\):\n    _fields_ = \[(.*?)\]\n", MODULE, re.DOTALL)[1]
-    in_c, in_python = {"unsigned int": "u32", "size_t": "usize"}, {"c_uint": "u32", "c_size_t": "usize"}
-    return [re.findall(r"pub (\w+): (\w+),", sources),
-            [(it, in_c.get(kind)) for kind, names in lines for it in names.split(", ")],
-            [(it, in_python.get(kind)) for it, kind in re.findall(r'\("(\w+)", (\w+)\)', module)]]
+    in_rust = {"unsigned int": "u32", "size_t": "usize", "c_uint": "u32", "c_size_t": "usize"}
+    of_c = [(it, in_rust.get(kind)) for kind, names in lines for it in names.split(", ")]
+    of_python = [(it, in_rust.get(kind)) for it, kind in re.findall(r'\("(\w+)", (\w+)\)', module)]
+    return [re.findall(r"pub (\w+): (\w+),", sources), of_c, of_python]
 
 
 def compare_texts(checks):
@@ -155,13 +142,11 @@ def compare_texts(checks):
     numbers = [(it, "u32") for it in ("kind", "version", "passes", "memory_kib", "lanes")]
     checks.that("fields of settings", of_settings, [[*numbers, ("salt_len", "usize"), ("tag_len", "usize")]] * 3)
     of_header = dict(numbers_of_header().values())
-    others = ["unknown number"]
-    checks.that("sentences of the sources and of their contracts", sentences(), [(of_header, others)] * 2)
-    room = int(re.search(r"\n#define PIKHSEN_MESSAGE_ROOM (\d+)\n", HEADER)[1])
+    checks.that("sentences of the sources and of their contracts", sentences(), [(of_header, ["unknown number"])] * 2)
+    room = re.search(r"\n#define PIKHSEN_MESSAGE_ROOM (\d+)\n", HEADER)[1]
     short = f"    ensures room {{ {room} ≤ length out.old → result ≡ 0 }}\n"
     checks.that("room of a sentence, of the header and the contract", short in SOURCES["message"], True)
-    form = r"^PIKHSEN_MUST_CHECK((?: PIKHSEN_NOT_NULL\(\d+\))*)\nunsigned int (\w+)"
-    found = re.findall(form, HEADER, re.MULTILINE)
+    found = re.findall(r"^PIKHSEN_MUST_CHECK((?: PIKHSEN_NOT_NULL\(\d+\))*)\nunsigned int (\w+)", HEADER, re.MULTILINE)
     must_check = {name: [int(place) for place in re.findall(r"\d+", attributes)] for attributes, name in found}
     checks.that("answers that must be looked at", sorted([*must_check, "pikhsen_version"]), sorted(exports()))
     declared = prototypes(HEADER)
@@ -174,22 +159,18 @@ def compare_texts(checks):
         # `burn` alone makes a `Told`, of a machine
         expected = (0, "u32") if name in NO_MACHINE else (1, "Told")
         checks.that(f"{name}: machines, and what it returns", (parameters.count(": Machine"), result), expected)
-    synopsis = re.sub(r"\n +", " ", PAGE.split("\n.SH ")[2])
-    checks.that("prototypes of the manual page", prototypes(synopsis), declared)
-    overheads = [re.findall(form, text) for form, text in (
-        (r"\n#define PIKHSEN_FILE_OVERHEAD (\d+)\n", HEADER), (r"PIKHSEN_FILE_OVERHEAD ,\n(\d+), bytes longer", PAGE)
-    )]
-    checks.that("overhead of a file, of the header and the manual page", overheads, [["128"]] * 2)
+    checks.that("prototypes of the manual page", prototypes(re.sub(r"\n +", " ", PAGE.split("\n.SH ")[2])), declared)
+    overheads = (r"\n#define PIKHSEN_FILE_OVERHEAD (\d+)\n", HEADER), (r"PIKHSEN_FILE_OVERHEAD ,\n(\d+), bytes longer", PAGE)
+    checks.that("overhead of a file, of the header and the manual page", [re.findall(*it) for it in overheads], [["128"]] * 2)
     version = (TOP / "VERSION").read_text(encoding="utf-8").strip()
-    first_lines = PAGE.split("\n")[:2]
-    checks.that("the manual page asks for tbl", first_lines[0], "'\\\" t")
-    checks.that("version of the manual page", f'"Pikhsen {version}"' in first_lines[1], True)
+    asks, title, *_ = PAGE.split("\n")
+    checks.that("the manual page asks for tbl", asks, "'\\\" t")
+    checks.that("version of the manual page", f'"Pikhsen {version}"' in title, True)
     if is_there("mandoc", "the manual page is not looked at"):
         checks.that("manual page", said("mandoc", "-T", "lint", str(TOP / "man/pikhsen.3"), check=False), "")
     if is_there("mypy", "types of the Python module are not looked at"):
         checks.that("types of the Python module and of its callers", types(MYPYPATH=str(TOP / "python")), (0, ""))
-    first, second, third = map(int, version.split("."))
-    number = 10000 * first + 100 * second + third
+    number = sum(int(it) * power for it, power in zip(version.split("."), (10000, 100, 1)))
     checks.that("version of the header", re.findall(r"PIKHSEN_VERSION (\d+)u", HEADER), [str(number)])
     checks.that("version of the sources", f"\n    {number}\n}}" in SOURCES["version"], True)
 
@@ -214,9 +195,7 @@ def types(*words, **environment):
     """What mypy says of a caller of the module, and of the module."""
     # the oldest Python that docs/LIBRARY.md promises
     strict = ["mypy", "--strict", "--python-version", "3.9", "--no-error-summary", "--cache-dir=/dev/null"]
-    ran = subprocess.run([*strict, *words, "-c", CALLER], env={"PATH": os.environ["PATH"], **environment},
-                         stdout=subprocess.PIPE, stderr=subprocess.STDOUT, text=True)
-    return ran.returncode, ran.stdout
+    return ran(*strict, *words, "-c", CALLER, env={"PATH": os.environ["PATH"], **environment})
 
 
 def main():

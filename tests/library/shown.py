@@ -1,27 +1,49 @@
-"""What docs/LIBRARY.md and the manual page of libpikhsen show, compiled and run as it stands there."""
+"""What docs/LIBRARY.md, README.md and the manual page of libpikhsen show, compiled and run as it stands there."""
 import os
 import pathlib
 import re
-import subprocess
+import sys
 
-from checking import said
-from library_texts import PAGE, TOP
+from library_texts import PAGE, TOP, ran
 
 INCLUDE = ["-I", str(TOP / "include")]
+LIBRARY, README = ((TOP / name).read_text(encoding="utf-8") for name in ("docs/LIBRARY.md", "README.md"))
+# What other programs store of the password "correct horse"; LIBRARY's table has their settings.
+STORED = (
+    # PHP 8.2.36: password_hash("correct horse", PASSWORD_ARGON2ID)
+    "$argon2id$v=19$m=65536,t=4,p=1$V0NCWVQxb2U2SnF4V21NRg$8oeDiSRiEGTo9Frs7mdHAFz+tMFikqbszcNgTZ0RyV4",
+    # python3-argon2 21.1.0: PasswordHasher().hash("correct horse")
+    "$argon2id$v=19$m=102400,t=2,p=8$yt39KRiJplynvdLsIyphGA$/ttObQzhY2xHjwxhSqJakA",
+    # python3-django 3.2.25: make_password("correct horse"), where Argon2PasswordHasher is the first of PASSWORD_HASHERS
+    "argon2$argon2id$v=19$m=102400,t=2,p=8$SnZMZU9Jd3EwclBkU0VvY0xPMkZxUQ$ucOS3t8ilpMSoyEIUf4DfQ",
+    # libsodium 1.0.18: crypto_pwhash_str with OPSLIMIT_INTERACTIVE and MEMLIMIT_INTERACTIVE; with those named MODERATE
+    "$argon2id$v=19$m=65536,t=2,p=1$+FdfqK4mTY9Hh5BTtvq79g$JjBZkakj0aCCxXQaoqZy+knE64jRzdJKuXlOPGvmvsk",
+    "$argon2id$v=19$m=262144,t=3,p=1$m9cS6zEhXRH8oGtIwCDtWQ$TtQ75LOfGKCejJKLeZHyXrHZ3Dqsy40i/iUEpegrV9Q",
+)
+TEXTS = [it.removeprefix("argon2") for it in STORED]
+# More than 1 GiB, and more than 2^23 block functions.
+GREAT = [f"$argon2id$v=19$m={kib},t={passes},p=1$c29tZXNhbHQ$AAAAAA" for kib, passes in ((1048580, 1), (1048576, 8))]
+# What is asked of a login of a page, as a text and a password after another, and what it says.
+RIGHT = [*((it, "correct horse", "welcome") for it in TEXTS), *((it, "x", "set a new password") for it in GREAT)]
+LOGINS = [*RIGHT, *((TEXTS[3], it, "not you") for it in ("battery staple", "", "x" * 128))]
+
+
+def with_module(lib, *words, variables=(), **more):
+    """Status and output of Python, which finds the module, and the library in this folder."""
+    found = {"PIKHSEN_LIBRARY": f"{lib}/libpikhsen.so.0", "PYTHONPATH": str(TOP / "python"), "PYTHONDONTWRITEBYTECODE": "1"}
+    environment = {name: it for name, it in {**os.environ, **found, **dict(variables)}.items() if it is not None}
+    return ran(sys.executable, *words, env=environment, **more)
 
 
 def compile_c(source, lib, out, static, *flags, compiler="gcc"):
     """A program of a text in C or C++, with the library in it or beside it."""
-    link = [f"{lib}/libpikhsen.a"] if static else ["-L", lib, "-lpikhsen", f"-Wl,-rpath,{lib}"]
-    words = [compiler, *flags, "-O1", "-g", *INCLUDE, str(source), *link, "-lpthread", "-o", out]
-    ran = subprocess.run(words, stdout=subprocess.PIPE, stderr=subprocess.STDOUT, text=True)
-    return ran.returncode, ran.stdout
+    link = [f"{lib}/libpikhsen.a"] if static else ["-L", lib, "-l:libpikhsen.so.0", f"-Wl,-rpath,{lib}"]
+    return ran(compiler, *flags, "-O1", "-g", *INCLUDE, str(source), *link, "-lpthread", "-o", out)
 
 
 def shown(language):
     """LIBRARY's program in this language, and what is typed to run it with what comes; None where there is none."""
-    library = (TOP / "docs/LIBRARY.md").read_text(encoding="utf-8")
-    found = re.search(rf"^```{language}\n(.*?)^```\n\n.*?\n\n((?:    [^\n]*\n)+)", library, re.MULTILINE | re.DOTALL)
+    found = re.search(rf"^```{language}\n(.*?)^```\n\n.*?\n\n((?:    [^\n]*\n)+)", LIBRARY, re.MULTILINE | re.DOTALL)
     return found and (found[1], re.sub(r"^    ", "", found[2], flags=re.MULTILINE).splitlines())
 
 
@@ -34,31 +56,57 @@ def library_runs(checks, folder, lib, include=TOP / "include", module=TOP / "pyt
         pathlib.Path(folder, file).write_text(program, encoding="utf-8")
         typed = [line[2:] for line in lines if line.startswith("$ ")]
         printed = "".join(line + "\n" for line in lines if not line.startswith("$ "))
-        ran = subprocess.run(
-            ["sh", "-ec", "\n".join(typed)], cwd=folder, env=environment, stdout=subprocess.PIPE,
-            stderr=subprocess.STDOUT, text=True
-        )
-        checks.that(f"LIBRARY's {file}", (ran.returncode, ran.stdout), (0, printed))
+        found = ran("sh", "-ec", "\n".join(typed), cwd=folder, env=environment)
+        checks.that(f"LIBRARY's {file}", found, (0, printed))
 
 
-EXAMPLE = """#include <pikhsen.h>
+OF_C = """#define main main_of_page
+PROGRAM
+#undef main
+int main(int count, char **words) {
+    for (int at = 1; at < count; at += 2)
+        puts(answer((const unsigned char *)words[at], strlen(words[at]), words[at + 1]));
+    return 0;
+}
+"""
+OF_PYTHON = """
+import sys
+print(*map(answer, sys.argv[1::2], map(str.encode, sys.argv[2::2])), sep="\\n")
+"""
+OF_PAGE = """#include <pikhsen.h>
 #include <stdio.h>
+#include <string.h>
 #include <sys/random.h>
-int main(void)
-{
+int main(int count, char **words) {
     const unsigned char password[] = "correct horse";
     size_t password_len = 13;
-    TEXT
+    ENROL
+    if (count > 1)
+        memcpy(text, words[1], len = strlen(words[1]));
+    CHECK
     return 0;
 }
 """
 
 
-def page_runs(checks, folder, lib):
-    """Compiles and runs what the manual page shows."""
-    shown_there = PAGE.split("\n.SH EXAMPLES\n")[1].split("\n.nf\n")[1].split("\n.fi\n")[0]
-    source = pathlib.Path(folder, "example.c")
-    source.write_text(EXAMPLE.replace("TEXT", shown_there.replace("\n", "\n    ")), encoding="utf-8")
-    made = compile_c(source, lib, f"{folder}/example", True, "-Wall", "-Wextra", "-Werror")
-    checks.that("the manual page's example, compiled", made, (0, ""))
-    checks.that("the manual page's example", said("sh", "-c", f"{folder}/example", check=False), "welcome\n")
+def logins_run(checks, folder, lib):
+    """What the pages' logins say of texts of other programs, of those that ask for more, and of wrong passwords."""
+    words, expected = [it for login in LOGINS for it in login[:2]], "".join(f"{said}\n" for _, _, said in LOGINS)
+    source, program = pathlib.Path(folder, "logins.c"), f"{folder}/logins"
+    source.write_text(OF_C.replace("PROGRAM", shown("c")[0]), encoding="utf-8")
+    checks.that("LIBRARY's login.c, compiled", compile_c(source, lib, program, True, "-Wall", "-Werror"), (0, ""))
+    checks.that("LIBRARY's login.c: its answers", ran(program, *words), (0, expected))
+    status, found = with_module(lib, "-c", shown("python")[0] + OF_PYTHON, *words)
+    checks.that("LIBRARY's login.py: its answers", (status, found[-len(expected):]), (0, expected))
+    of_readme = re.search(r"^```python\n(import pikhsen\n.*?)^```", README, re.MULTILINE | re.DOTALL)[1]
+    says = ["True"] * len(TEXTS) + [f"more {it} is needed than the limit allows" for it in ("memory", "work")]
+    for text, said in zip([*TEXTS, *GREAT], says):
+        pathlib.Path(folder, "stored").write_text(text + "\n", encoding="utf-8")
+        checks.that(f"README's check, of {text[:34]}", with_module(lib, "-c", of_readme, cwd=folder), (0, f"{said}\n"))
+    parts = re.findall(r"\n\.nf\n(.*?)\n\.fi\n", PAGE.split("\n.SH EXAMPLES\n")[1], re.DOTALL)
+    enrol, check = (it.replace("\n", "\n    ") for it in parts)
+    source.write_text(OF_PAGE.replace("ENROL", enrol).replace("CHECK", check), encoding="utf-8")
+    checks.that("the manual page's example, compiled", compile_c(source, lib, program, True, "-Wall", "-Wextra", "-Werror"), (0, ""))
+    checks.that("the manual page's example", ran(program), (0, "welcome\n"))
+    for text, _, said in RIGHT:
+        checks.that(f"the manual page's example, of {text[:34]}", ran(program, text), (0, f"{said}\n"))

@@ -4,7 +4,7 @@
  */
 #include <argon2.h>
 #include <pikhsen.h>
-#include <stdlib.h>
+#include <stdio.h>
 #include <string.h>
 
 #define NO_KIB UINT32_MAX
@@ -52,9 +52,8 @@ int argon2_ctx(argon2_context *of, argon2_type type)
 }
 
 /* Each of the two that is wanted is a call of its own. */
-int argon2_hash(const uint32_t passes, const uint32_t kib, const uint32_t lanes, const void *password,
-    const size_t password_len, const void *salt, const size_t salt_len, void *tag, const size_t tag_len, char *text,
-    const size_t text_room, argon2_type type, const uint32_t version)
+int argon2_hash(uint32_t passes, uint32_t kib, uint32_t lanes, const void *password, size_t password_len, const void *salt,
+    size_t salt_len, void *tag, size_t tag_len, char *text, size_t text_room, argon2_type type, uint32_t version)
 {
 	int answer = ARGON2_OK;
 	size_t text_len;
@@ -73,11 +72,9 @@ int argon2_hash(const uint32_t passes, const uint32_t kib, const uint32_t lanes,
 int argon2_verify(const char *text, const void *password, const size_t password_len, argon2_type type)
 {
 	const unsigned char *bytes = (const unsigned char *)text;
-	struct pikhsen_argon2_settings of;
-	unsigned int status;
+	struct pikhsen_argon2_settings of = {0};
+	unsigned int status = pikhsen_argon2_settings(bytes, strlen(text), &of);
 
-	memset(&of, 0, sizeof of);
-	status = pikhsen_argon2_settings(bytes, strlen(text), &of);
 	if (status == PIKHSEN_OK && of.kind != (unsigned int)type)
 		return ARGON2_INCORRECT_TYPE;
 	if (status == PIKHSEN_OK)
@@ -85,11 +82,13 @@ int argon2_verify(const char *text, const void *password, const size_t password_
 	return told(status, of.lanes, password_len, of.salt_len, of.tag_len);
 }
 
+/* Just the text and its byte 0: some store all of that. */
 size_t argon2_encodedlen(uint32_t passes, uint32_t kib, uint32_t lanes, uint32_t salt_len, uint32_t tag_len,
     argon2_type type)
 {
-	(void)passes, (void)kib, (void)lanes, (void)type;
-	return PIKHSEN_ENCODED_ROOM(salt_len, tag_len);
+	int front = snprintf(NULL, 0, "$argon2%s$v=19$m=%u,t=%u,p=%u$$", type == Argon2_id ? "id" : "i", kib, passes, lanes);
+
+	return (size_t)front + (4ul * salt_len + 2) / 3 + (4ul * tag_len + 2) / 3 + 1;
 }
 
 /* The sentence that the test program asks for, and one for all others. */

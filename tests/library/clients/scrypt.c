@@ -8,8 +8,7 @@
 #include <unistd.h>
 
 /* The numbers of python-scrypt's list of messages. */
-enum { WORKED = 0, NO_KEY = 3, NO_SALT = 4, NO_MEMORY = 6, NO_FILE = 7, NO_FORMAT = 8, TOO_BIG = 9, TOO_SLOW = 10,
-	WRONG = 11 };
+enum { WORKED = 0, NO_KEY = 3, NO_SALT = 4, NO_MEMORY = 6, NO_FILE, NO_FORMAT, TOO_BIG, TOO_SLOW, WRONG };
 
 static const double cores_in_a_second = 1 << 23;
 

@@ -80,23 +80,8 @@ def argon2_cffi(adapter, header, is_within, left_out, *names):
     return outcomes.found + ([("pytest", "failed", f"its status is {status:d}")] if status > 1 else [])
 
 
-class Told(unittest.TestResult):
-    """Keeps what unittest tells of each test."""
-
-    def __init__(self):
-        super().__init__()
-        self.found = []
-
-    def addSuccess(self, test):
-        self.found.append((test.id(), "passed", ""))
-
-    def addFailure(self, test, err):
-        self.found.append((test.id(), "failed", str(err[1])))
-
-    addError = addFailure
-
-    def addSkip(self, test, reason):
-        self.found.append((test.id(), "left out", reason))
+def tests_in(suite):
+    return [test for each in suite for test in (tests_in(each) if isinstance(each, unittest.TestSuite) else [each])]
 
 
 def python_scrypt(adapter, folder):
@@ -105,9 +90,12 @@ def python_scrypt(adapter, folder):
     module.__spec__ = importlib.machinery.ModuleSpec("_scrypt", None, origin=adapter)
     sys.modules["_scrypt"] = module
     sys.path[:0] = [folder, str(pathlib.Path(adapter).parent)]
-    told = Told()
-    unittest.defaultTestLoader.discover(f"{folder}/scrypt/tests", top_level_dir=folder).run(told)
-    return told.found
+    suite = unittest.defaultTestLoader.discover(f"{folder}/scrypt/tests", top_level_dir=folder)
+    names, told = [it.id() for it in tests_in(suite)], unittest.TestResult()
+    suite.run(told)
+    failed = {it.id(): ("failed", why.strip().rpartition("\n")[2]) for it, why in [*told.failures, *told.errors]}
+    ended = {**failed, **{it.id(): ("left out", why) for it, why in told.skipped}}
+    return [(name, *ended.get(name, ("passed", ""))) for name in dict.fromkeys([*names, *ended])]
 
 
 if __name__ == "__main__":

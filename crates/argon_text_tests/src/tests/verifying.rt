@@ -196,8 +196,8 @@ fn may_enter(alloc: Global, stored: &[u8], password: &[u8]) -> Result<bool, Veri
     let mut room = alloc;
     // counts the work, for contracts alone
     let mut ticks = Ticks::new(alloc);
-    // at most 64 MiB and 2^18 block functions, whoever wrote the text
-    verify(&mut room, &claim, password, 65_536, 1 << 18, &mut ticks)
+    // at most 1 GiB and 2^23 block functions, whoever wrote the text
+    verify(&mut room, &claim, password, 1 << 20, 1 << 23, &mut ticks)
 }
 
 #[test]
@@ -210,9 +210,37 @@ fn a_login(rt: HostRuntime) {
         (stored, b"pass word", 0),
         (&stored[1..], b"password", 0),
         (
-            b"$argon2id$v=19$m=4194304,t=2,p=1$c29tZXNhbHQ$AAAAAA",
+            b"$argon2id$v=19$m=1048580,t=1,p=1$c29tZXNhbHQ$AAAAAA",
             b"password",
             7,
+        ),
+        (
+            b"$argon2id$v=19$m=1048576,t=8,p=1$c29tZXNhbHQ$AAAAAA",
+            b"password",
+            8,
+        ),
+        // PHP 8.2.36: password_hash("correct horse", PASSWORD_ARGON2ID)
+        (
+            b"$argon2id$v=19$m=65536,t=4,p=1$V0NCWVQxb2U2SnF4V21NRg$8oeDiSRiEGTo9Frs7mdHAFz+tMFikqbszcNgTZ0RyV4",
+            b"correct horse",
+            1,
+        ),
+        // python3-argon2 21.1.0: PasswordHasher().hash("correct horse")
+        (
+            b"$argon2id$v=19$m=102400,t=2,p=8$yt39KRiJplynvdLsIyphGA$/ttObQzhY2xHjwxhSqJakA",
+            b"correct horse",
+            1,
+        ),
+        // libsodium 1.0.18: crypto_pwhash_str of "correct horse" with the limits named INTERACTIVE, and MODERATE
+        (
+            b"$argon2id$v=19$m=65536,t=2,p=1$+FdfqK4mTY9Hh5BTtvq79g$JjBZkakj0aCCxXQaoqZy+knE64jRzdJKuXlOPGvmvsk",
+            b"correct horse",
+            1,
+        ),
+        (
+            b"$argon2id$v=19$m=262144,t=3,p=1$m9cS6zEhXRH8oGtIwCDtWQ$TtQ75LOfGKCejJKLeZHyXrHZ3Dqsy40i/iUEpegrV9Q",
+            b"correct horse",
+            1,
         ),
     ] {
         assert_eq!(rt; number_of(may_enter(rt.alloc(), text, password)), expected);
