@@ -9,30 +9,20 @@ out. Tags and keys are compared.
 """
 import hashlib
 import os
-import pathlib
-import resource
 import sys
 
-TOP = pathlib.Path(__file__).resolve().parent.parent
+from scratch import TOP, Least, rounds, spent
+
 os.environ.setdefault("PIKHSEN_LIBRARY", str(TOP / "bin/lib/libpikhsen.so.0"))
 sys.dont_write_bytecode = True
 sys.path.insert(0, str(TOP / "python"))
 import pikhsen  # noqa: E402
-from scratch import Least, rounds  # noqa: E402
 
 try:
     from argon2.low_level import Type, hash_secret_raw
 except ImportError:
     hash_secret_raw = None
 PASSWORD, SALT, TEXT = b"correct horse", b"sixteen bytes...", bytes(1 << 24)
-
-
-def spent(work):
-    """User and system time of a call, and what it answered."""
-    before = resource.getrusage(resource.RUSAGE_SELF)
-    answer = work()
-    after = resource.getrusage(resource.RUSAGE_SELF)
-    return after.ru_utime + after.ru_stime - before.ru_utime - before.ru_stime, answer
 
 
 def rows():
@@ -51,7 +41,7 @@ def main():
     for name, ours, other in rows():
         least = Least()
         for _ in range(rounds()):
-            (mine, answer), (theirs, expected) = spent(ours), spent(other)
+            (mine, _, answer), (theirs, _, expected) = spent(ours), spent(other)
             if answer != expected:
                 sys.exit(f"{name}: they differ")
             least.note("ours", mine)

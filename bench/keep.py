@@ -8,21 +8,12 @@ the process by GNU time, time its processor time (user and system), cores the bo
 against.
 """
 import pathlib
-import subprocess
 import sys
 import tempfile
 
+from scratch import used, with_peak
+
 R = 8
-
-
-def run(words, folder):
-    """Processor seconds, elapsed seconds and peak memory in MiB of a run that ends well, as GNU time reports them."""
-    words = ["/usr/bin/time", "-f", "%U %S %e %M", *words]
-    ran = subprocess.run(words, cwd=folder, stdin=subprocess.DEVNULL, stderr=subprocess.PIPE, text=True)
-    if ran.returncode:
-        sys.exit(ran.stderr)
-    user, system, elapsed, peak = map(float, ran.stderr.split())
-    return user + system, elapsed, peak / 1024
 
 
 def main():
@@ -34,11 +25,11 @@ def main():
         for log_n in logs:
             limits = ["-M", str(1 << 40), "--maxops", str((1 << 63) - 1), "--passphrase", "file:pw"]
             costs = ["--logN", str(log_n), "-r", str(R), "-p", "1"]
-            run([scrypt, "enc", *costs, *limits, "/dev/null", "file"], room)
+            used([scrypt, "enc", *costs, *limits, "/dev/null", "file"], cwd=room)
             for keep in [1, 4, 16, 64]:
-                time, elapsed, peak = run([scrypt, "dec", "--keep", str(keep), *limits, "file", "back"], room)
+                run, peak = with_peak([scrypt, "dec", "--keep", str(keep), *limits, "file", "back"], cwd=room)
                 table, cores = R * 2.0 ** (log_n - 13) / keep, 2 * R * (1 << log_n) * (1 + keep)
-                print(f"{log_n:6}{keep:5}{table:11g}{peak:10.1f}{time:8.2f}{elapsed:11.2f}  {cores}", flush=True)
+                print(f"{log_n:6}{keep:5}{table:11g}{(peak or 0) / 1024:10.1f}{run.cpu:8.2f}{run.elapsed:11.2f}  {cores}", flush=True)
 
 
 main()

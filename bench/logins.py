@@ -17,23 +17,27 @@ import collections
 import ctypes
 import ctypes.util
 import os
+import pathlib
 import random
 import re
-import resource
 import subprocess
+import sys
 
-from scratch import Least, built, head, rounds, used
+from scratch import TOP, Least, built, head, rounds, spent, used
+
+sys.path.append(str(TOP / "tests/sources"))
+import encoded_texts  # noqa: E402
 
 # What a hash may take: 256 blocks of 1 KiB, and as many block functions as Argon2d of that memory in four passes.
 MAX_KIB, MAX_OPS = 256, 4 * 256 - 2
 KINDS = ["d", "i", "id"]
-PASSWORD_LEN, SALT_LEN, TAG_LEN = 12, 16, 32
+SALT_LEN, TAG_LEN = 16, 32
 COUNT, PART = 10_000, 1_000
 # memory in KiB, passes, and how many logins a round has
 ROWS = [(64, 1, 4000), (64, 2, 2000), (64, 3, 2000), (4096, 3, 30), (19456, 2, 12), (65536, 3, 6)]
-MORE_THAN_LIMITS = (1 << 32) - 1
-NUMBER = rb"(0|[1-9][0-9]*)"
-TEXT = re.compile(rb"\$argon2(d|i|id)(?:\$v=N)?\$m=N,t=N,p=N\$([A-Za-z0-9+/]*)\$([A-Za-z0-9+/]*)".replace(b"N", NUMBER))
+MOST = (1 << 32) - 1
+# Of memory, passes and lanes
+ABOVE_LIMITS = [(64, MOST, 1), (MOST, MOST, 1), (MOST, 1, 16777215)]
 
 library = ctypes.CDLL("libargon2.so.1") if ctypes.util.find_library("argon2") else None
 made = random.Random(1)
@@ -65,40 +69,17 @@ def honest_text(password, kind="id", version=0x13, memory=64, passes=1, lanes=1,
     return text_of(kind, version, memory, passes, lanes, salt, tag)
 
 
-def bytes_of_symbols(found):
-    """None where the symbols are no base64: a length that no bytes give, or last bits that are not zero."""
-    if len(found) % 4 == 1:
-        return None
-    data = base64.b64decode(found + b"=" * (-len(found) % 4), validate=True)
-    return data if symbols(data) == found else None
-
-
-def work_of(kind, memory, passes, lanes):
-    """The block functions of a hash (RFC 9106, 3.2 and 3.4.1.2)."""
-    segment = memory // (4 * lanes)
-    independent = {"d": 0, "i": 4 * lanes * passes, "id": 2 * lanes}[kind]
-    return passes * 4 * lanes * segment - 2 * lanes + 2 * -(-segment // 128) * independent
-
-
 def answer_due(password, text):
     """The answer to a login, as bench/logins.txt has it."""
-    found = TEXT.fullmatch(text)
-    if not found:
-        return "1"
-    salt, tag = bytes_of_symbols(found[6]), bytes_of_symbols(found[7])
-    if salt is None or tag is None:
-        return "1"
-    # a number of more digits than ten is out of each range, and Python refuses to read one of more than 4,300
-    version, memory, passes, lanes = (int(digits[:11]) for digits in (found[2] or b"16", *found.group(3, 4, 5)))
-    if not (version in (0x10, 0x13) and 1 <= passes < 2**32 and 1 <= lanes < 2**24 and 8 * lanes <= memory < 2**32
-            and 8 <= len(salt) <= 255 and 4 <= len(tag) <= 4096):
-        return "2"
-    kind = found[1].decode()
+    found = encoded_texts.read(text.decode("latin-1"))
+    if isinstance(found, str):
+        return found
+    kind, version, memory, passes, lanes, salt, tag = found
     if not 1 <= len(password) <= 127:
         return "6"
     if 4 * lanes * (memory // (4 * lanes)) > MAX_KIB:
         return "7"
-    if work_of(kind, memory, passes, lanes) > MAX_OPS:
+    if encoded_texts.work_of(KINDS.index(kind), memory, passes, lanes) > MAX_OPS:
         return "8"
     return "y" if tag_of(kind, version, memory, passes, lanes, salt, password, len(tag)) == tag else "n"
 
@@ -116,20 +97,20 @@ def hostile():
         yield password, made.randbytes(made.randrange(200))
         long = made.choice([b"A" * 65_535, b"$argon2id$" * 6_000])
         yield password, made.choice([b"", b"$", b"$argon2id", long, text + b"\n", b" " + text])
-        yield password, text[:place] + other + text[place + 1 :]
-        yield password, text[:place] + text[place + 1 :]
-        yield password, text[: place + 1] + text[place:]
-        yield password, text[:place]
-        yield password, text + b"$" + symbols(salt)
+        near = [change(text, place) for change in encoded_texts.NEAR.values()]
+        for of_it in (text[:place] + other + text[place + 1 :], *near, text + b"$" + symbols(salt)):
+            yield password, of_it
         # numbers: leading zeros, signs, no digits, out of range, past 64 bits, of 60,000 digits
         small = ["", "0", "00", "064", "+64", "-1", "0x40"]
         number = made.choice([*small, "4294967295", "4294967296", "18446744073709551680", "9" * 60_000])
         field = made.choice(["memory", "passes", "lanes", "version"])
         said = {"version": 19, "memory": 64, "passes": 1, "lanes": 1, field: number}
         yield password, text_of(kind, **said, salt=salt, tag=tag)
-        yield password, text_of(kind, 19, 8 * 16777215 if place % 2 else 64, 1, 16777215 + place % 2, salt, tag)
-        yield password, text_of(kind, 19, 8 * (place % 7 + 1) - 1, 1, place % 7 + 1, salt, tag)
-        yield password, text_of(kind, made.choice([0, 15, 17, 18, 20, 1619]), 64, 1, 1, salt, tag)
+        for settings in (
+            (19, 8 * 16777215 if place % 2 else 64, 1, 16777215 + place % 2), (19, 8 * (place % 7 + 1) - 1, 1, place % 7 + 1),
+            (made.choice([0, 15, 17, 18, 20, 1619]), 64, 1, 1), *((19, *it) for it in ABOVE_LIMITS),
+        ):
+            yield password, text_of(kind, *settings, salt, tag)
         # lengths of salt and tag around their ranges, with their honest tag where there is one
         for salt_len, tag_len in ((7, 32), (8, 4), (255, 4096), (256, 32), (16, 3), (16, 4097), (0, 0), (45_000, 32)):
             if 8 <= salt_len <= 255 and 4 <= tag_len <= 4096:
@@ -144,13 +125,10 @@ def hostile():
             yield password, honest_text(password, costs[0], 19, *costs[1:])
         for costs in (("d", 260, 1, 1), ("d", 256, 5, 1), ("id", 256, 4, 1), ("i", 256, 4, 1), ("d", 261, 4, 1)):
             yield password, text_of(costs[0], 19, *costs[1:], salt, tag)
-        yield password, text_of(kind, 19, MORE_THAN_LIMITS, MORE_THAN_LIMITS, 1, salt, tag)
-        yield password, text_of(kind, 19, 64, MORE_THAN_LIMITS, 1, salt, tag)
-        yield password, text_of(kind, 19, MORE_THAN_LIMITS, 1, 16777215, salt, tag)
         # passwords that are too short or too long, at costs within the limits and above them
         for length in (0, 1, 127, 128, 255):
             yield b"p" * length, text
-            yield b"p" * length, text_of(kind, 19, 64, MORE_THAN_LIMITS, 1, salt, tag)
+            yield b"p" * length, text_of(kind, 19, *ABOVE_LIMITS[0], salt, tag)
         # other settings than the service's own, the older version with and without its version; right and wrong
         for version in (0x13, 0x10, None):
             memory, passes, lanes = (made.randrange(*ends) for ends in ((16, 128), (1, 4), (1, 3)))
@@ -173,12 +151,6 @@ def packed(logins):
     return b"".join(bytes([len(password)]) + len(text).to_bytes(2, "big") + password + text for password, text in logins)
 
 
-def high_water(process):
-    """The greatest resident size of a running process so far, in KiB."""
-    with open(f"/proc/{process.pid}/status", encoding="ascii") as status:
-        return int(re.search(r"VmHWM:\s*(\d+) kB", status.read())[1])
-
-
 def judge_all(name, words, logins):
     """Gives the logins, 1,000 at a time, compares each answer, and prints the greatest resident sizes."""
     running = subprocess.Popen(words, stdin=subprocess.PIPE, stdout=subprocess.PIPE)
@@ -188,7 +160,8 @@ def judge_all(name, words, logins):
         running.stdin.write(packed(part))
         running.stdin.flush()
         answers = running.stdout.read(len(part)).decode()
-        sizes.append(high_water(running))
+        about = pathlib.Path(f"/proc/{running.pid}/status").read_text(encoding="ascii")
+        sizes.append(int(re.search(r"VmHWM:\s*(\d+) kB", about)[1]))
         if len(answers) != len(part):
             raise SystemExit(f"{name}: {len(answers)} answers to {len(part)} logins")
         for (password, text), answer in zip(part, answers):
@@ -206,13 +179,8 @@ def judge_all(name, words, logins):
 
 def by_libargon2(logins):
     """User and system time and page faults of the logins by `argon2id_verify`, and its answers."""
-    verify = library.argon2id_verify
-    verify.argtypes = [ctypes.c_char_p, ctypes.c_char_p, ctypes.c_size_t]
-    before = resource.getrusage(resource.RUSAGE_SELF)
-    answers = [verify(text, password, len(password)) for password, text in logins]
-    after = resource.getrusage(resource.RUSAGE_SELF)
-    cpu = after.ru_utime + after.ru_stime - before.ru_utime - before.ru_stime
-    return cpu, after.ru_minflt - before.ru_minflt, answers
+    library.argon2id_verify.argtypes = [ctypes.c_char_p, ctypes.c_char_p, ctypes.c_size_t]
+    return spent(lambda: [library.argon2id_verify(text, password, len(password)) for password, text in logins])
 
 
 def race(program, times, memory, passes, count):
@@ -221,25 +189,22 @@ def race(program, times, memory, passes, count):
     limits = [str(memory), "4294967295"]
     runs = {"verify": [program, *limits], "kept matrix": [program, *limits, str(memory), str(passes)]}
     cpu, faults = Least(), Least()
-
-    def note(name, time, pages):
-        cpu.note(name, time)
-        faults.note(name, pages)
-
     for _ in range(times):
         time, pages, answers = by_libargon2(logins)
         if answers != [0, -35] * (count // 2):
             raise SystemExit(f"libargon2 answers {answers[:10]}")
-        note("libargon2", time, pages)
+        cpu.note("libargon2", time)
+        faults.note("libargon2", pages)
         for name, words in runs.items():
             start, run = used(words), used(words, packed(logins))
             if run.printed != b"yn" * (count // 2):
                 raise SystemExit(f"{name}: the answers are {run.printed[:20]!r}")
-            note(name + ", start", start.cpu, start.faults)
-            note(name, run.cpu, run.faults)
+            for of, it in ((name, run), (f"{name}, start", start)):
+                cpu.note(of, it.cpu)
+                faults.note(of, it.faults)
     base = cpu["libargon2"] / count
     for name in ("libargon2", *runs):
-        one, pages = ((least[name] - least.get(name + ", start", 0)) / count for least in (cpu, faults))
+        one, pages = ((least[name] - least.get(f"{name}, start", 0)) / count for least in (cpu, faults))
         times = f"{one * 1e6:9.1f} us  {one / base:4.2f}"
         print(f"-id -t {passes} -k {memory:5}: {name:12} {times}  {pages:8.1f} page faults a login", flush=True)
 

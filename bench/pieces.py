@@ -33,7 +33,7 @@ def ratio(least, name):
     return f"{least[name] / least['scrypt(1)']:5.2f}" if THEIRS else "(no scrypt is installed to compare with)"
 
 
-def counter_mode(program, times):
+def counter_mode(program, times, _):
     """The greatest rates, each as the least of what is below 0."""
     best = Least()
     runs = {"ours": ([program, "4", "12000"], r"MB_per_s=(\d+)", 1, {})}
@@ -86,14 +86,14 @@ def encrypted_file(program, times, room):
 
 
 def main():
-    piece, times = sys.argv[1], rounds(2)
-    program = built(f"{piece}_bench", {"counter_mode": "aes_ctr", "derivation": "romix", "encrypted_file": "encfile romix"}[piece],
-                    f"{piece}.txt")
+    name, times = sys.argv[1], rounds(2)
+    piece, crates = {"counter_mode": (counter_mode, "aes_ctr"), "derivation": (derivation, "romix"),
+                     "encrypted_file": (encrypted_file, "encfile romix")}[name]
+    program = built(f"{name}_bench", crates, f"{name}.txt")
     head(f"best of {times}")
     with tempfile.TemporaryDirectory() as room:
         pathlib.Path(room, "empty").touch()
-        rest = [] if piece == "counter_mode" else [pathlib.Path(room)]
-        {"counter_mode": counter_mode, "derivation": derivation, "encrypted_file": encrypted_file}[piece](program, times, *rest)
+        piece(program, times, pathlib.Path(room))
 
 
 main()

@@ -4,6 +4,7 @@ is 1, at both levels, with the seconds.
 
     bench/ratios.py docs/benchmarks.tsv docs/benchmarks.svg
 """
+import pathlib
 import sys
 from xml.sax.saxutils import escape
 
@@ -40,8 +41,7 @@ STYLE = """text{font:13px Helvetica,Arial,"Liberation Sans",sans-serif} .title{f
 
 def read(path):
     """The first line of a table, and its rows by work, size and level."""
-    with open(path, encoding="utf-8") as file:
-        title, head, *lines = file.read().splitlines()
+    title, head, *lines = pathlib.Path(path).read_text(encoding="utf-8").splitlines()
     rows = [dict(zip(head.split("\t"), line.split("\t"))) for line in lines]
     return title.lstrip("# "), {(row["work"], row["size"], row["level"]): row for row in rows}
 
@@ -110,6 +110,4 @@ def drawn(path):
 if __name__ == "__main__":
     if len(sys.argv) != 3:
         raise SystemExit(__doc__)
-    picture = drawn(sys.argv[1])
-    with open(sys.argv[2], "w", encoding="utf-8") as file:
-        file.write(picture)
+    pathlib.Path(sys.argv[2]).write_text(drawn(sys.argv[1]), encoding="utf-8")

@@ -1,13 +1,15 @@
 """What the scripts of bench/ share: a small program over crates of this repository, and what a run of a program uses."""
 import collections
 import os
+import pathlib
+import resource
 import shutil
 import subprocess
 import sys
 import tempfile
 import time
 
-TOP = os.path.dirname(os.path.dirname(os.path.abspath(__file__)))
+TOP = pathlib.Path(__file__).resolve().parent.parent
 ROOMS = []  # the scratch copies, which are deleted when Python ends
 Used = collections.namedtuple("Used", "cpu elapsed faults printed")
 
@@ -15,18 +17,16 @@ Used = collections.namedtuple("Used", "cpu elapsed faults printed")
 def built(name, crates, source):
     """The program `name` over these crates, of the Rattle text in bench/`source`, built in a scratch copy, proved as all is."""
     ROOMS.append(tempfile.TemporaryDirectory(prefix="pikhsen-bench-"))
-    room = ROOMS[-1].name
-    shutil.copytree(os.path.join(TOP, "crates"), os.path.join(room, "crates"), symlinks=True)
-    for file in ("HANDLES", "crates.txt"):
-        shutil.copy(os.path.join(TOP, file), room)
-    with open(os.path.join(room, "crates.txt"), "a") as listing:
-        listing.write(f"\n{name}: {crates}\n")
-    folder = os.path.join(room, "crates", name)
-    os.makedirs(os.path.join(folder, "src"))
-    shutil.copy(os.path.join(TOP, "bench", source), os.path.join(folder, "src", "main.rt"))
+    room = pathlib.Path(ROOMS[-1].name)
+    folder = room / "crates" / name
+    shutil.copytree(TOP / "crates", room / "crates", symlinks=True)
+    shutil.copy(TOP / "HANDLES", room)
+    (room / "crates.txt").write_text((TOP / "crates.txt").read_text(encoding="utf-8") + f"\n{name}: {crates}\n", encoding="utf-8")
+    (folder / "src").mkdir(parents=True)
+    shutil.copy(TOP / "bench" / source, folder / "src/main.rt")
     subprocess.run(["git", "init", "-q", room], check=True)
-    subprocess.run(["rt", "run"], cwd=folder, stdin=subprocess.DEVNULL, stdout=subprocess.DEVNULL, stderr=subprocess.DEVNULL)
-    program = os.path.join(folder, "out", name)
+    subprocess.run(["rt", "run"], cwd=folder, stdin=subprocess.DEVNULL, capture_output=True)
+    program = folder / "out" / name
     if not os.access(program, os.X_OK):
         raise SystemExit(f"{name} was not built: run rt run in {folder} to see why")
     return program
@@ -45,6 +45,21 @@ def used(words, given=b"", wanted=0, **more):
     if running.returncode != wanted:
         raise SystemExit(f"{words} ended with {running.returncode}")
     return Used(usage.ru_utime + usage.ru_stime, time.monotonic() - began, usage.ru_minflt, printed)
+
+
+def spent(work):
+    """User and system time and page faults of a call, and what it answered."""
+    before, answer, after = resource.getrusage(resource.RUSAGE_SELF), work(), resource.getrusage(resource.RUSAGE_SELF)
+    return after.ru_utime + after.ru_stime - before.ru_utime - before.ru_stime, after.ru_minflt - before.ru_minflt, answer
+
+
+def with_peak(words, *given, **more):
+    """The same run, and the greatest resident size in KiB by GNU time; None without it: what this process starts has at least
+    its own."""
+    timing = shutil.which("time")
+    with tempfile.NamedTemporaryFile("r") as told:
+        run = used([timing, "-q", "-f", "%M", "-o", told.name, *words] if timing else words, *given, **more)
+        return run, int(told.read().split()[-1]) if timing else None
 
 
 class Least(dict):

@@ -21,20 +21,19 @@ import itertools
 import os
 import pathlib
 import random
+import re
 import shutil
 import subprocess
 import tempfile
 
 import ratios
-from scratch import Least, used
+from scratch import Least, used, with_peak
 
 TIMES = "ours theirs ratio ours_elapsed theirs_elapsed ratio_elapsed".split()
 COLUMNS = ["work", "size", "level", *TIMES, "ours_MiB", "theirs_MiB", "rounds", "load"]
 COSTS = ["--logN", "14", "-r", "8", "-p", "1"]
 # Libraries that rows are beside: the C source of a program that calls each, and what the linker knows it as.
 LIBRARIES = {"libsodium": ("libsodium.c", "sodium"), "OpenSSL": ("openssl.c", "crypto")}
-
-
 # A piece of work: a program with its arguments and its input, the status that is wanted, about how many seconds it takes, and
 # the library beside which it stands, if that isn't the installed program.
 Row = collections.namedtuple("Row", "work size program words given status seconds library", defaults=(b"", 0, 0.1, None))
@@ -48,11 +47,14 @@ def argon2_rows():
         yield Row(work, log_memory, "argon2", words, b"password", 0, seconds)
 
 
+def key_words(log_n):
+    return ["enc", "--logN", str(log_n), "-r", "8", "-p", "1", "--passphrase", "env:PW", "empty", "made"]
+
+
 def scrypt_rows():
     key = ["--passphrase", "env:PW"]
     for log_n in range(14, 21):
-        words = ["enc", "--logN", str(log_n), "-r", "8", "-p", "1", *key, "empty", "made"]
-        yield Row("key, -r 8 -p 1, --logN", log_n, "scrypt", words, seconds=2.0 ** (log_n - 18))
+        yield Row("key, -r 8 -p 1, --logN", log_n, "scrypt", key_words(log_n), seconds=2.0 ** (log_n - 18))
     for size in (1, 10, 100, 1024):
         encrypting, decrypting = ["enc", *COSTS, *key, f"text-{size}", "made"], ["dec", *key, f"text-{size}.enc", "made"]
         yield Row("enc, --logN 14, MiB", size, "scrypt", encrypting, seconds=size / 60)
@@ -69,9 +71,7 @@ def library_rows():
             work, seconds = f"libsodium -id -t {passes} -m", passes * 2.0 ** (log_memory - 19)
             yield Row(work, log_memory, "argon2", words, b"password", 0, seconds, "libsodium")
     for log_n in (14, 17, 20):
-        words = ["enc", "--logN", str(log_n), "-r", "8", "-p", "1", "--passphrase", "env:PW", "empty", "made"]
-        work = "OpenSSL, -r 8 -p 1, --logN"
-        yield Row(work, log_n, "scrypt", words, seconds=2.0 ** (log_n - 18), library="OpenSSL")
+        yield Row("OpenSSL, -r 8 -p 1, --logN", log_n, "scrypt", key_words(log_n), seconds=2.0 ** (log_n - 18), library="OpenSSL")
 
 
 def compiled(name, folder):
@@ -86,19 +86,6 @@ def compiled(name, folder):
     return program
 
 
-def run(words, row, folder):
-    return used(words, row.given, row.status, cwd=folder, stderr=subprocess.DEVNULL)
-
-
-def memory_of(words, row, folder):
-    """The greatest resident set in KiB; None without GNU time: a process that this one starts has at least this one's."""
-    timing, told = shutil.which("time"), pathlib.Path(folder, "memory")
-    if timing is None:
-        return None
-    run([timing, "-q", "-f", "%M", "-o", told, *words], row, folder)
-    return int(told.read_text().split()[-1])
-
-
 def result(row, folder, printed):
     """What all programs must have in common: a hash, a decrypted file."""
     if row.words[0] != "dec":
@@ -111,13 +98,15 @@ def measure(row, programs, rounds, folder):
     """The least times and the memory of each program, by its name."""
     cpu, elapsed, found = Least(), Least(), set()
     for name, program in [*programs.items()] * rounds:
-        ran = run([program, *row.words], row, folder)
+        ran = used([program, *row.words], row.given, row.status, cwd=folder, stderr=subprocess.DEVNULL)
         cpu.note(name, ran.cpu)
         elapsed.note(name, ran.elapsed)
         found.add(result(row, folder, ran.printed))
     if len(found) != 1:
         raise SystemExit(f"{row.work} {row.size}: the programs differ in what they make")
-    return {name: (cpu[name], elapsed[name], memory_of([it, *row.words], row, folder)) for name, it in programs.items()}
+    peaks = {name: with_peak([it, *row.words], row.given, row.status, cwd=folder, stderr=subprocess.DEVNULL)[1]
+             for name, it in programs.items()}
+    return {name: (cpu[name], elapsed[name], peak) for name, peak in peaks.items()}
 
 
 def make_files(rows, scrypt, folder):
@@ -136,18 +125,11 @@ def values(row, level, best, rounds):
     ours, theirs = best[level], best.get("installed")
 
     def beside(place):
-        if theirs is None:
-            return [f"{ours[place]:.4f}", "", ""]
-        return [f"{ours[place]:.4f}", f"{theirs[place]:.4f}", f"{ours[place] / max(theirs[place], 1e-6):.2f}"]
+        mine, other = ours[place], theirs and theirs[place]
+        return [f"{mine:.4f}", *(["", ""] if theirs is None else [f"{other:.4f}", f"{mine / max(other, 1e-6):.2f}"])]
 
     memory = [f"{found[2] / 1024:.1f}" if found and found[2] else "" for found in (ours, theirs)]
     return [row.work, str(row.size), level, *beside(0), *beside(1), *memory, str(rounds), f"{os.getloadavg()[0]:.1f}"]
-
-
-def processor():
-    with open("/proc/cpuinfo", encoding="utf-8") as file:
-        model = next((line.split(":")[1].strip() for line in file if line.startswith("model name")), "unknown")
-    return f"{model}, {os.cpu_count()} processors"
 
 
 def main():
@@ -163,8 +145,9 @@ def main():
     rows = [row for row in (*argon2_rows(), *scrypt_rows(), *library_rows())
             if row.seconds <= greatest and given.only in f"{row.work} {row.size}"]
     levels = {os.path.basename(os.path.abspath(folder)): os.path.abspath(folder) for folder in given.folders}
-    load = f"load {os.getloadavg()[0]:.1f} at the start"
-    title = f"{processor()}; {load}; {datetime.date.today()}; least of {given.rounds} rounds"
+    model = re.search(r"(?m)^model name\s*: (.*)", pathlib.Path("/proc/cpuinfo").read_text(encoding="utf-8"))
+    title = f"{model[1] if model else 'unknown'}, {os.cpu_count()} processors; load {os.getloadavg()[0]:.1f} at the start; " \
+            f"{datetime.date.today()}; least of {given.rounds} rounds"
     print(title)
     print("seconds of processor time and elapsed, MiB of memory; a ratio is ours to that of the other program or library")
     print(shown(COLUMNS), flush=True)

@@ -151,17 +151,11 @@ Description: Argon2, scrypt and scrypt's encrypted files (development files)
 END
 
 # What Debian's own packages do, so that no compiled module is left behind.
-cat >"$work/python3-pikhsen/DEBIAN/postinst" <<'END'
-#!/bin/sh
-set -e
-! command -v py3compile >/dev/null || py3compile -p python3-pikhsen
-END
-cat >"$work/python3-pikhsen/DEBIAN/prerm" <<'END'
-#!/bin/sh
-set -e
-! command -v py3clean >/dev/null || py3clean -p python3-pikhsen
-END
-chmod 755 "$work/python3-pikhsen/DEBIAN/postinst" "$work/python3-pikhsen/DEBIAN/prerm"
+for script in postinst:py3compile prerm:py3clean; do
+    file=$work/python3-pikhsen/DEBIAN/${script%:*} program=${script#*:}
+    printf '%s\n' '#!/bin/sh' 'set -e' "! command -v $program >/dev/null || $program -p python3-pikhsen" >"$file"
+    chmod 755 "$file"
+done
 build python3-pikhsen all <<END
 Section: python
 Depends: python3:any (>= 3.9), libpikhsen0 (>= $version)

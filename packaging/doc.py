@@ -21,8 +21,6 @@ STYLE = """<meta charset="utf-8"><style>body{font:16px/1.5 sans-serif;max-width:
 color-scheme:light dark} pre,code{font:14px/1.4 monospace} pre{background:#8881;padding:.6em;overflow-x:auto}
 h3{margin:2em 0 .2em} h3 code{font-size:17px} dt{font-weight:bold} dd pre{margin:.2em 0}</style>
 """
-
-
 # A public item: its name with that of its type, its comment, its signature, and its clauses.
 Item = collections.namedtuple("Item", "name comment signature clauses")
 
@@ -155,11 +153,6 @@ def faults():
         crate, item = types.get(name, ("", None))
         said = re.findall(r"((?:^    /// .*\n)+)    \w+,", item.signature + "\n", re.MULTILINE) or [item.comment] if item else []
         yield crate, name, [" ".join(re.sub(r"^    /// ", "", it, flags=re.MULTILINE).split()) for it in said], found
-
-
-def without_comment():
-    """The public items that have no comment."""
-    return [f"{crate}::{item.name}" for crate in libraries() for item in items(crate) if not item.comment]
 
 
 def main():

@@ -34,16 +34,11 @@ BESIDE = 10  # how nice a crate is to the one that holds up most others
 SMALL = 50  # seconds of the processor below which a check mostly loads libraries, which each process would do again
 
 
-def seconds_of_checks():
-    """The seconds of the processor for a check of each crate from nothing, as docs/crates.tsv has them, if it is there.
-    Only the order of the crates rests on them."""
-    path = TOP / "docs/crates.tsv"
-    lines = path.read_text(encoding="utf-8").splitlines() if path.is_file() else []
-    _, *rows = [it.split("\t") for it in lines if not it.startswith("#")] or [[]]
-    return {crate: int(check) for crate, check, *_ in rows if check}
-
-
-SECONDS = seconds_of_checks()
+# The seconds of the processor for a check of each crate from nothing, as docs/crates.tsv has them, if it is there. Only the
+# order of the crates rests on them.
+TABLE = TOP / "docs/crates.tsv"
+ROWS = [it.split("\t") for it in (TABLE.read_text(encoding="utf-8") if TABLE.is_file() else "").splitlines() if it[:1] != "#"]
+SECONDS = {crate: int(check) for crate, check, *_ in ROWS[1:] if check}
 
 
 class Step:
@@ -85,8 +80,7 @@ class Step:
 
     def line(self):
         """What came of a run that ended well: a library that is as it was proved before has nothing to say."""
-        is_kept = self.log.stat().st_size == 0
-        return f"{self.name}, {'as it was proved before' if is_kept else f'{self.seconds:.0f} s'}"
+        return f"{self.name}, {f'{self.seconds:.0f} s' if self.log.stat().st_size else 'as it was proved before'}"
 
     def why(self):
         """The last lines of what a run said that did not end well, and where the others are."""
@@ -103,18 +97,14 @@ def listed():
 
 def uses_of():
     """The crates, lowest first, each with all crates of this repository that it stands on, lowest first."""
-    lines, found = listed(), {}
+    lines = listed()
 
-    def put(name):
-        if name not in found:
-            below = [it for it in lines[name].partition(":")[2].split() if it in lines]
-            all_below = [it for other in below for it in [*put(other), other]]
-            found[name] = list(dict.fromkeys(all_below))
-        return found[name]
+    def below(name):
+        direct = [it for it in lines[name].partition(":")[2].split() if it in lines]
+        return list(dict.fromkeys(it for other in direct for it in [*below(other), other]))
 
-    for name in lines:
-        put(name)
-    return found
+    found = {name: below(name) for name in lines}
+    return {it: found[it] for name in lines for it in [*found[name], name]}
 
 
 def step_of(name, waits, level=None):

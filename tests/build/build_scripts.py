@@ -23,7 +23,7 @@ sys.path += map(str, pathlib.Path(__file__).resolve().parents[1].iterdir())  # t
 import binaries
 from checking import Checks, is_there
 from first_run import LEVEL, PROGRAMS, STAND_IN, TOP, Tree
-from library_texts import HEADER, prototypes
+from library_texts import HEADER, prototypes, ran
 
 OTHER = "x86-64-v3"
 OTHERS = [f"bin/{OTHER}/argon2", f"bin/{OTHER}/scrypt"]
@@ -97,6 +97,13 @@ class Room(Tree):
         status, said = self.run(*words)
         checks.that(name, (status != 0, self.there(there)), (True, []))
         return said
+
+    def fails(self, checks, name, program, older, there, *words):
+        """A script leaves none of these where a program fails that it runs."""
+        self.older(older)
+        self.stand_in(program, "#!/bin/sh\nexit 1\n")
+        self.leaves(checks, f"{name}, {program} fails", there, *words)
+        self.stand_in(program, None)
 
     def modes(self, names):
         return [oct((self.top / it).stat().st_mode & 0o7777) for it in names if (self.top / it).exists()]
@@ -228,10 +235,7 @@ def libraries_fail(checks, room):
     room.run("packaging/lib.sh", "bin/lib", LEVEL)
     checks.that("lib.sh, mended", room.there(LIBRARIES), LIBRARIES[:2])
     for program in ("ld", "objcopy", "ar", "ranlib", "cc"):
-        room.older(there)
-        room.stand_in(program, "#!/bin/sh\nexit 1\n")
-        room.leaves(checks, f"lib.sh, {program} fails", there, "packaging/lib.sh", "bin/lib")
-        room.stand_in(program, None)
+        room.fails(checks, "lib.sh", program, there, there, "packaging/lib.sh", "bin/lib")
     room.older(there)
     os.rename(room.top / archive, room.folder / "away")
     room.leaves(checks, "lib.sh without what rt left", there, "packaging/lib.sh", "bin/lib")
@@ -244,10 +248,7 @@ def packages_fail(checks, room):
     names = ("pikhsen_{}_amd64", "libpikhsen0_{}_amd64", "libpikhsen-dev_{}_amd64", "python3-pikhsen_{}_all", "pikhsen_{}+v3_amd64")
     there = [f"bin/{name.format(version)}.deb" for name in names]
     for program in ("dpkg-deb", "objdump", "gzip"):
-        room.older([*there, *PROGRAMS[2:], *LIBRARIES])
-        room.stand_in(program, "#!/bin/sh\nexit 1\n")
-        room.leaves(checks, f"deb.sh, {program} fails", there, "packaging/deb.sh")
-        room.stand_in(program, None)
+        room.fails(checks, "deb.sh", program, [*there, *PROGRAMS[2:], *LIBRARIES], there, "packaging/deb.sh")
 
 
 # ---- what is installed, and taken away
@@ -288,13 +289,11 @@ def is_installed(checks, room):
     checks.that("folders, installed", {oct(it.stat().st_mode & 0o7777) for it in to.rglob("*") if it.is_dir()}, {"0o755"})
     listed = [it.split("  ")[1] for it in found[LIST].decode().splitlines() if not it.startswith("# folder  ")]
     checks.that("what is listed", sorted(listed), sorted(wanted))
-    ran = subprocess.run(["sha256sum", "--strict", "--quiet", "-c", LIST], cwd=to, stdout=subprocess.PIPE, stderr=subprocess.STDOUT)
-    checks.that("sums that are listed", (ran.returncode, ran.stdout), (0, b""))
+    checks.that("sums that are listed", ran("sha256sum", "--strict", "--quiet", "-c", LIST, cwd=to), (0, ""))
     if is_there("pkg-config", "what it says of the library is not looked at"):
         environment = {"PATH": os.environ["PATH"], "PKG_CONFIG_PATH": f"{to}/lib/pkgconfig"}
         for word, flags in (("--cflags", [f"-I{to}/include"]), ("--libs", [f"-L{to}/lib", "-lpikhsen"])):
-            ran = subprocess.run(["pkg-config", word, "pikhsen"], env=environment, stdout=subprocess.PIPE, text=True)
-            checks.that(f"pkg-config {word}", shlex.split(ran.stdout), flags)
+            checks.that(f"pkg-config {word}", shlex.split(ran("pkg-config", word, "pikhsen", env=environment)[1]), flags)
 
 
 def is_taken_away(checks, room):

@@ -20,11 +20,6 @@ import prove  # noqa: E402
 APART = "_tests"  # how the crate is called that has a crate's tests, if they stand apart
 
 
-def changed_files(base):
-    named = ["git", "diff", "--name-only", base], ["git", "ls-files", "--others", "--exclude-standard"]
-    return [line for words in named for line in subprocess.check_output(words, cwd=TOP, text=True).splitlines()]
-
-
 def steps_for(touched, tested):
     """The steps that prove the crates that are touched, with what they and the tests stand on, and run these tests."""
     uses, apart = prove.uses_of(), [name for name in tested if name.endswith(APART)]
@@ -35,7 +30,9 @@ def steps_for(touched, tested):
 
 def main():
     base = sys.argv[1] if len(sys.argv) > 1 else "HEAD"
-    paths = [pathlib.PurePath(line).parts for line in changed_files(base)]
+    words = ["diff", "--name-only", base], ["ls-files", "--others", "--exclude-standard"]
+    lines = [line for it in words for line in subprocess.check_output(["git", *it], cwd=TOP, text=True).splitlines()]
+    paths = [pathlib.PurePath(line).parts for line in lines]
     inside = [parts for parts in paths if parts[0] == "crates" and len(parts) > 2]
     named = {name for _, name, part, *_ in inside if part not in ("wrong-bodies", "wrong-definitions")}
     uses = prove.uses_of()

@@ -239,9 +239,8 @@ def library_fails(checks, tree):
 
 def is_stopped(checks, tree):
     """Ctrl-C reaches all that runs; a signal to end comes to the one process that it is sent to."""
-    ways = {"ctrl-C": (["make", "run", f"CPU={LEVEL}"], os.killpg, signal.SIGINT)}
-    ways["a signal"] = ["packaging/prove.py", "host"], os.kill, signal.SIGTERM
-    for name, (words, send, number) in ways.items():
+    for name, words, send, number in (("ctrl-C", ["make", "run", f"CPU={LEVEL}"], os.killpg, signal.SIGINT),
+                                      ("a signal", ["packaging/prove.py", "host"], os.kill, signal.SIGTERM)):
         tree.write("host", f"slow, {name}\n")
         running = tree.start_at("host", *words)
         checks.that(f"{name}: programs under way", tree.there(PROGRAMS), [])

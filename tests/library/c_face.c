@@ -17,15 +17,11 @@
 			exit(1); \
 		} \
 	} while (0)
+#define TOLD(status, call) WANT((call) == PIKHSEN_##status)
 
-/* Where it is not negative, so many further requests are granted. */
-static long granted = -1;
-
-/* How many blocks are not freed; 0 where nothing counts them. */
-static long live = 0;
-
-/* How many bytes were asked for since it was 0 last; 0 where nothing counts them. */
-static size_t asked = 0;
+static long granted = -1; /* where it is not negative, so many further requests are granted */
+static long live = 0;     /* how many blocks are not freed; 0 where nothing counts them */
+static size_t asked = 0;  /* how many bytes were asked for since it was 0 last; 0 where nothing counts them */
 
 #ifdef REFUSE
 extern void *__libc_malloc(size_t);
@@ -82,16 +78,31 @@ static const unsigned char password[] = "password", somesalt[] = "somesalt", non
 static const unsigned char known[] =
     "$argon2d$v=19$m=8,t=1,p=1$c29tZXNhbHQ$xRnmA6xgPsGutbcexEpheePzl1sUwMl+ORTHnmNj4Xg";
 #define KNOWN_LEN (sizeof known - 1)
+#define KNOWN known, KNOWN_LEN
 
 /* RFC 9106, 5.3, its salt and tag by base64(1): with a secret of 8 bytes 3, and data of 12 bytes 4 */
 static const unsigned char known_keyed[] =
     "$argon2id$v=19$m=32,t=3,p=4$AgICAgICAgICAgICAgICAg$DWQN9Y14dmwIwDejSotTydAe8EUtdbZetSUg6WsB5lk";
 static unsigned char ones[32], twos[16], threes[8], fours[12];
+static const unsigned char zeros[32];
+
+/* Arguments that belong together: what is hashed, the costs of a key and of a file, and limits that refuse none. */
+#define PASSWORD password, 8
+#define SALT somesalt, 8
+#define EMPTY none, 0
+#define NOTHING NULL, 0
+#define ARGON2D PIKHSEN_ARGON2D, 0x13, 1, 8, 1
+#define RFC_9106 PIKHSEN_ARGON2ID, 0x13, 3, 32, 4, ones, 32, twos, 16
+#define SECRET threes, 8
+#define DATA fours, 12
+#define FILE_SALT zeros, 32
+#define KEY 4, 1, 1
+#define COSTS 4, 3, 2
+#define WIDE 1 << 20, 1 << 20
 
 static unsigned int hash(unsigned char *out)
 {
-	return pikhsen_argon2_hash(PIKHSEN_ARGON2D, 0x13, 1, 8, 1, password, 8, somesalt, 8, none, 0, none, 0, 8, 100, out,
-	    32);
+	return pikhsen_argon2_hash(ARGON2D, PASSWORD, SALT, EMPTY, EMPTY, 8, 100, out, 32);
 }
 
 static void *hashes(void *out)
@@ -116,40 +127,26 @@ static size_t len;
 
 static unsigned int one(int call, unsigned char *tag)
 {
-	static const unsigned char salt[32] = { 0 };
 	unsigned int told;
 	switch (call) {
-	case 0:
-		return hash(tag);
-	case 1:
-		return pikhsen_argon2_encoded(PIKHSEN_ARGON2D, 0x13, 1, 8, 1, password, 8, somesalt, 8, 32, 8, 100, encoded,
-		    sizeof encoded, &len);
-	case 2:
-		return pikhsen_argon2_verify(encoded, strlen((char *)encoded), password, 8, 8, 100);
-	case 3:
-		return pikhsen_scrypt(none, 0, none, 0, 4, 1, 1, 4, 1 << 20, 1 << 20, tag, 32);
-	case 4:
-		return pikhsen_scrypt_encrypt(password, 8, salt, 32, 4, 3, 2, 1, 1 << 20, 1 << 20, somesalt, 5, file,
-		    sizeof file);
-	case 5:
-		return pikhsen_scrypt_info(file, sizeof file, &costs);
+	case 0: return hash(tag);
+	case 1: return pikhsen_argon2_encoded(ARGON2D, PASSWORD, SALT, 32, 8, 100, encoded, sizeof encoded, &len);
+	case 2: return pikhsen_argon2_verify(encoded, strlen((char *)encoded), PASSWORD, 8, 100);
+	case 3: return pikhsen_scrypt(EMPTY, EMPTY, KEY, 4, WIDE, tag, 32);
+	case 4: return pikhsen_scrypt_encrypt(PASSWORD, FILE_SALT, COSTS, 1, WIDE, somesalt, 5, file, sizeof file);
+	case 5: return pikhsen_scrypt_info(file, sizeof file, &costs);
 	case 7:
 		memcpy(place, somesalt, 5);
-		told = pikhsen_scrypt_encrypt_in_place(password, 8, salt, 32, 4, 3, 2, 1, 1 << 20, 1 << 20, place,
-		    sizeof place);
+		told = pikhsen_scrypt_encrypt_in_place(PASSWORD, FILE_SALT, COSTS, 1, WIDE, place, sizeof place);
 		WANT(told == PIKHSEN_OK || memcmp(place, somesalt, 5) == 0);
 		return told;
-	case 8:
-		return pikhsen_argon2_settings(known, KNOWN_LEN, &settings);
-	case 9:
-		return pikhsen_argon2_needs_rehash(known, KNOWN_LEN, &settings, &needs);
+	case 8: return pikhsen_argon2_settings(KNOWN, &settings);
+	case 9: return pikhsen_argon2_needs_rehash(KNOWN, &settings, &needs);
 	case 10:
-		return pikhsen_argon2_encoded_keyed(PIKHSEN_ARGON2ID, 0x13, 3, 32, 4, ones, 32, twos, 16, threes, 8, fours, 12,
-		    32, 32, 1000, keyed, sizeof keyed, &len);
+		return pikhsen_argon2_encoded_keyed(RFC_9106, SECRET, DATA, 32, 32, 1000, keyed, sizeof keyed, &len);
 	case 11:
-		return pikhsen_argon2_verify_keyed(keyed, strlen((char *)keyed), ones, 32, threes, 8, fours, 12, 32, 1000);
-	default:
-		return pikhsen_scrypt_decrypt(password, 8, 1, 1 << 20, 1 << 20, file, sizeof file, text, sizeof text, &len);
+		return pikhsen_argon2_verify_keyed(keyed, strlen((char *)keyed), ones, 32, SECRET, DATA, 32, 1000);
+	default: return pikhsen_scrypt_decrypt(PASSWORD, 1, WIDE, file, sizeof file, text, sizeof text, &len);
 	}
 }
 
@@ -182,8 +179,7 @@ static void *calls_refused(void *given)
 		len = 7;
 		calls(call);
 		granted = -1;
-		WANT(call->told == PIKHSEN_OK || call->told == PIKHSEN_OUT_OF_MEMORY);
-		WANT(call->told == PIKHSEN_OK || memcmp(before, call->tag, 32) == 0);
+		WANT(call->told == PIKHSEN_OK || (call->told == PIKHSEN_OUT_OF_MEMORY && memcmp(before, call->tag, 32) == 0));
 		WANT(call->told == PIKHSEN_OK || (call->number != 1 && call->number != 6 && call->number != 10) || len == 0);
 	}
 #ifdef REFUSE
@@ -201,10 +197,8 @@ static unsigned int on_small_stack(void *(*work)(void *), int number, unsigned c
 	struct call call;
 	call.number = number;
 	call.tag = tag;
-	WANT(pthread_attr_init(&attributes) == 0);
-	WANT(pthread_attr_setstacksize(&attributes, 65536) == 0);
-	WANT(pthread_create(&thread, &attributes, work, &call) == 0);
-	WANT(pthread_join(thread, NULL) == 0);
+	WANT(pthread_attr_init(&attributes) == 0 && pthread_attr_setstacksize(&attributes, 65536) == 0);
+	WANT(pthread_create(&thread, &attributes, work, &call) == 0 && pthread_join(thread, NULL) == 0);
 	WANT(pthread_attr_destroy(&attributes) == 0);
 	return call.told;
 }
@@ -212,7 +206,14 @@ static unsigned int on_small_stack(void *(*work)(void *), int number, unsigned c
 /* What the limits refuse must not take memory before: limits are there for texts and files of strangers. */
 static void refused_by_limits(void)
 {
-	static const unsigned char salt[32] = { 0 };
+	/* 8 KiB and 6 block functions are needed; for the key 128 * r * N bytes and 4 * r * p * N cores: 2,048 and 64, and
+	 * for the file 6,144 and 384. First the one limit is too low by one, and then the other. */
+	static const struct {
+		unsigned int told, kib, blocks, bytes, cores, bytes_of_file, cores_of_file;
+	} limits[] = {
+		{ PIKHSEN_MEMORY_LIMIT, 7, 100, 2047, 64, 6143, 384 },
+		{ PIKHSEN_WORK_LIMIT, 8, 5, 2048, 63, 6144, 383 },
+	}, *of;
 	const size_t encoded_len = strlen((char *)encoded);
 	unsigned char tag[32];
 
@@ -221,118 +222,84 @@ static void refused_by_limits(void)
 #ifdef REFUSE
 	WANT(asked >= 8192);
 #endif
-	/* 8 KiB and 6 block functions are needed: first the one limit is too low by one, and then the other */
-	asked = 0;
-	WANT(pikhsen_argon2_hash(PIKHSEN_ARGON2D, 0x13, 1, 8, 1, password, 8, somesalt, 8, none, 0, none, 0, 7, 100, tag,
-	    32) == PIKHSEN_MEMORY_LIMIT);
-	WANT(pikhsen_argon2_hash(PIKHSEN_ARGON2D, 0x13, 1, 8, 1, password, 8, somesalt, 8, none, 0, none, 0, 8, 5, tag,
-	    32) == PIKHSEN_WORK_LIMIT);
-	WANT(asked == 0);
-	WANT(pikhsen_argon2_encoded(PIKHSEN_ARGON2D, 0x13, 1, 8, 1, password, 8, somesalt, 8, 32, 7, 100, encoded,
-	    sizeof encoded, &len) == PIKHSEN_MEMORY_LIMIT);
-	WANT(pikhsen_argon2_encoded(PIKHSEN_ARGON2D, 0x13, 1, 8, 1, password, 8, somesalt, 8, 32, 8, 5, encoded,
-	    sizeof encoded, &len) == PIKHSEN_WORK_LIMIT);
-	WANT(asked == 0);
-	/* the text's salt and tag are read before the limits are tested, and have fewer bytes than the text */
-	WANT(pikhsen_argon2_verify(encoded, encoded_len, password, 8, 7, 100) == PIKHSEN_MEMORY_LIMIT);
-	WANT(asked < 2 * encoded_len);
-	asked = 0;
-	WANT(pikhsen_argon2_verify(encoded, encoded_len, password, 8, 8, 5) == PIKHSEN_WORK_LIMIT);
-	WANT(asked < 2 * encoded_len);
-	/* 128 * r * N bytes and 4 * r * p * N cores are needed: 2,048 and 64, and for the file 6,144 and 384 */
-	asked = 0;
-	WANT(pikhsen_scrypt(none, 0, none, 0, 4, 1, 1, 1, 2047, 64, tag, 32) == PIKHSEN_MEMORY_LIMIT);
-	WANT(pikhsen_scrypt(none, 0, none, 0, 4, 1, 1, 1, 2048, 63, tag, 32) == PIKHSEN_WORK_LIMIT);
-	WANT(asked == 0);
-	WANT(pikhsen_scrypt_encrypt(password, 8, salt, 32, 4, 3, 2, 1, 6143, 384, somesalt, 5, file, sizeof file)
-	    == PIKHSEN_MEMORY_LIMIT);
-	WANT(pikhsen_scrypt_encrypt(password, 8, salt, 32, 4, 3, 2, 1, 6144, 383, somesalt, 5, file, sizeof file)
-	    == PIKHSEN_WORK_LIMIT);
-	WANT(asked == 0);
-	WANT(pikhsen_scrypt_decrypt(password, 8, 1, 6143, 384, file, sizeof file, text, sizeof text, &len)
-	    == PIKHSEN_MEMORY_LIMIT);
-	WANT(pikhsen_scrypt_decrypt(password, 8, 1, 6144, 383, file, sizeof file, text, sizeof text, &len)
-	    == PIKHSEN_WORK_LIMIT);
-	WANT(asked == 0);
+	memcpy(place, somesalt, 8);
+	for (of = limits; of < limits + 2; ++of) {
+		asked = 0;
+		WANT(pikhsen_argon2_hash(ARGON2D, PASSWORD, SALT, EMPTY, EMPTY, of->kib, of->blocks, tag, 32) == of->told);
+		WANT(pikhsen_argon2_encoded(ARGON2D, PASSWORD, SALT, 32, of->kib, of->blocks, encoded,
+		    sizeof encoded, &len) == of->told);
+		WANT(pikhsen_scrypt(EMPTY, EMPTY, KEY, 1, of->bytes, of->cores, tag, 32) == of->told);
+		WANT(pikhsen_scrypt_encrypt(PASSWORD, FILE_SALT, COSTS, 1, of->bytes_of_file, of->cores_of_file,
+		    somesalt, 5, file, sizeof file) == of->told);
+		WANT(pikhsen_scrypt_encrypt_in_place(PASSWORD, FILE_SALT, COSTS, 1, of->bytes_of_file,
+		    of->cores_of_file, place, sizeof place) == of->told);
+		WANT(pikhsen_scrypt_decrypt(PASSWORD, 1, of->bytes_of_file, of->cores_of_file, file, sizeof file,
+		    text, sizeof text, &len) == of->told);
+		WANT(asked == 0);
+		/* the text's salt and tag are read before the limits are tested, and have fewer bytes than the text */
+		WANT(pikhsen_argon2_verify(encoded, encoded_len, PASSWORD, of->kib, of->blocks) == of->told);
+		WANT(asked < 2 * encoded_len);
+	}
+	WANT(memcmp(place, somesalt, 8) == 0);
 }
 
 /* Null with length 0, for all bytes that a function takes: it is refused, or not, as "" is. */
 static void null_with_length_0(void)
 {
-	static const unsigned char salt[32] = { 0 };
 	unsigned char tag[32], other[32], empty[128], made[128];
 	size_t made_len = 7;
 
 	WANT(hash(tag) == PIKHSEN_OK);
-	WANT(pikhsen_argon2_hash(0, 0x13, 1, 8, 1, password, 8, somesalt, 8, NULL, 0, NULL, 0, 8, 100, other, 32)
-	    == PIKHSEN_OK);
+	TOLD(OK, pikhsen_argon2_hash(ARGON2D, PASSWORD, SALT, NOTHING, NOTHING, 8, 100, other, 32));
 	WANT(memcmp(tag, other, 32) == 0);
-	WANT(pikhsen_argon2_hash(0, 0x13, 1, 8, 1, NULL, 0, somesalt, 8, NULL, 0, NULL, 0, 8, 100, other, 32)
-	    == PIKHSEN_PASSWORD_LENGTH);
-	WANT(pikhsen_argon2_hash(0, 0x13, 1, 8, 1, password, 8, NULL, 0, NULL, 0, NULL, 0, 8, 100, other, 32)
-	    == PIKHSEN_SALT_LENGTH);
-	WANT(pikhsen_argon2_hash(0, 0x13, 1, 8, 1, password, 8, somesalt, 8, NULL, 0, NULL, 0, 8, 100, NULL, 0)
-	    == PIKHSEN_TAG_LENGTH);
-	WANT(pikhsen_argon2_encoded(0, 0x13, 1, 8, 1, NULL, 0, somesalt, 8, 32, 8, 100, encoded, sizeof encoded, &len)
-	    == PIKHSEN_PASSWORD_LENGTH);
-	WANT(pikhsen_argon2_encoded(0, 0x13, 1, 8, 1, password, 8, NULL, 0, 32, 8, 100, encoded, sizeof encoded, &len)
-	    == PIKHSEN_SALT_LENGTH);
-	WANT(pikhsen_argon2_encoded(0, 0x13, 1, 8, 1, password, 8, somesalt, 8, 32, 8, 100, NULL, 0, &len)
-	    == PIKHSEN_BUFFER);
-	WANT(pikhsen_argon2_verify(NULL, 0, password, 8, 8, 100) == PIKHSEN_NOT_ENCODED);
-	WANT(pikhsen_argon2_verify(known, KNOWN_LEN, NULL, 0, 8, 100) == PIKHSEN_PASSWORD_LENGTH);
-	WANT(pikhsen_argon2_settings(NULL, 0, &settings) == PIKHSEN_NOT_ENCODED);
-	WANT(pikhsen_argon2_needs_rehash(NULL, 0, &settings, &needs) == PIKHSEN_NOT_ENCODED);
-	WANT(pikhsen_message(0, NULL, 0, &made_len) == PIKHSEN_BUFFER && made_len == 0);
+	TOLD(PASSWORD_LENGTH, pikhsen_argon2_hash(ARGON2D, NOTHING, SALT, NOTHING, NOTHING, 8, 100, other, 32));
+	TOLD(SALT_LENGTH, pikhsen_argon2_hash(ARGON2D, PASSWORD, NOTHING, NOTHING, NOTHING, 8, 100, other, 32));
+	TOLD(TAG_LENGTH, pikhsen_argon2_hash(ARGON2D, PASSWORD, SALT, NOTHING, NOTHING, 8, 100, NOTHING));
+	TOLD(PASSWORD_LENGTH, pikhsen_argon2_encoded(ARGON2D, NOTHING, SALT, 32, 8, 100, encoded, sizeof encoded, &len));
+	TOLD(SALT_LENGTH, pikhsen_argon2_encoded(ARGON2D, PASSWORD, NOTHING, 32, 8, 100, encoded, sizeof encoded, &len));
+	TOLD(BUFFER, pikhsen_argon2_encoded(ARGON2D, PASSWORD, SALT, 32, 8, 100, NOTHING, &len));
+	TOLD(NOT_ENCODED, pikhsen_argon2_verify(NOTHING, PASSWORD, 8, 100));
+	TOLD(PASSWORD_LENGTH, pikhsen_argon2_verify(KNOWN, NOTHING, 8, 100));
+	TOLD(NOT_ENCODED, pikhsen_argon2_settings(NOTHING, &settings));
+	TOLD(NOT_ENCODED, pikhsen_argon2_needs_rehash(NOTHING, &settings, &needs));
+	WANT(pikhsen_message(0, NOTHING, &made_len) == PIKHSEN_BUFFER && made_len == 0);
 
-	WANT(pikhsen_scrypt(none, 0, none, 0, 4, 1, 1, 1, 1 << 20, 1 << 20, tag, 32) == PIKHSEN_OK);
-	WANT(pikhsen_scrypt(NULL, 0, NULL, 0, 4, 1, 1, 1, 1 << 20, 1 << 20, other, 32) == PIKHSEN_OK);
+	TOLD(OK, pikhsen_scrypt(EMPTY, EMPTY, KEY, 1, WIDE, tag, 32));
+	TOLD(OK, pikhsen_scrypt(NOTHING, NOTHING, KEY, 1, WIDE, other, 32));
 	WANT(memcmp(tag, other, 32) == 0);
-	WANT(pikhsen_scrypt(NULL, 0, NULL, 0, 4, 1, 1, 1, 1 << 20, 1 << 20, NULL, 0) == PIKHSEN_OK);
-	WANT(pikhsen_scrypt_info(NULL, 0, &costs) == PIKHSEN_TOO_SHORT);
-	WANT(pikhsen_scrypt_encrypt(none, 0, salt, 32, 4, 1, 1, 1, 1 << 20, 1 << 20, none, 0, empty, 128) == PIKHSEN_OK);
-	WANT(pikhsen_scrypt_encrypt(NULL, 0, salt, 32, 4, 1, 1, 1, 1 << 20, 1 << 20, NULL, 0, made, 128) == PIKHSEN_OK);
+	TOLD(OK, pikhsen_scrypt(NOTHING, NOTHING, KEY, 1, WIDE, NOTHING));
+	TOLD(TOO_SHORT, pikhsen_scrypt_info(NOTHING, &costs));
+	TOLD(OK, pikhsen_scrypt_encrypt(EMPTY, FILE_SALT, KEY, 1, WIDE, EMPTY, empty, 128));
+	TOLD(OK, pikhsen_scrypt_encrypt(NOTHING, FILE_SALT, KEY, 1, WIDE, NOTHING, made, 128));
 	WANT(memcmp(empty, made, 128) == 0);
-	WANT(pikhsen_scrypt_encrypt_in_place(NULL, 0, salt, 32, 4, 1, 1, 1, 1 << 20, 1 << 20, made, 128) == PIKHSEN_OK);
+	TOLD(OK, pikhsen_scrypt_encrypt_in_place(NOTHING, FILE_SALT, KEY, 1, WIDE, made, 128));
 	WANT(memcmp(empty, made, 128) == 0);
-	WANT(pikhsen_scrypt_encrypt(NULL, 0, NULL, 0, 4, 1, 1, 1, 1 << 20, 1 << 20, NULL, 0, made, 128)
-	    == PIKHSEN_FILE_SALT);
-	WANT(pikhsen_scrypt_encrypt(NULL, 0, salt, 32, 4, 1, 1, 1, 1 << 20, 1 << 20, NULL, 0, NULL, 0) == PIKHSEN_BUFFER);
-	WANT(pikhsen_scrypt_encrypt_in_place(NULL, 0, salt, 32, 4, 1, 1, 1, 1 << 20, 1 << 20, NULL, 0) == PIKHSEN_BUFFER);
-	WANT(pikhsen_scrypt_decrypt(NULL, 0, 1, 1 << 20, 1 << 20, empty, 128, made, 128, &made_len) == PIKHSEN_OK);
+	TOLD(FILE_SALT, pikhsen_scrypt_encrypt(NOTHING, NOTHING, KEY, 1, WIDE, NOTHING, made, 128));
+	TOLD(BUFFER, pikhsen_scrypt_encrypt(NOTHING, FILE_SALT, KEY, 1, WIDE, NOTHING, NOTHING));
+	TOLD(BUFFER, pikhsen_scrypt_encrypt_in_place(NOTHING, FILE_SALT, KEY, 1, WIDE, NOTHING));
+	TOLD(OK, pikhsen_scrypt_decrypt(NOTHING, 1, WIDE, empty, 128, made, 128, &made_len));
 	WANT(made_len == 0);
-	WANT(pikhsen_scrypt_decrypt(NULL, 0, 1, 1 << 20, 1 << 20, NULL, 0, NULL, 0, &made_len) == PIKHSEN_TOO_SHORT);
-	WANT(pikhsen_scrypt_decrypt(NULL, 0, 1, 1 << 20, 1 << 20, empty, 128, NULL, 0, &made_len) == PIKHSEN_BUFFER);
+	TOLD(TOO_SHORT, pikhsen_scrypt_decrypt(NOTHING, 1, WIDE, NOTHING, NOTHING, &made_len));
+	TOLD(BUFFER, pikhsen_scrypt_decrypt(NOTHING, 1, WIDE, empty, 128, NOTHING, &made_len));
 }
 
 /* In place: the same file, or the text as it was. */
 static void in_place(void)
 {
-	static const unsigned char salt[32] = { 0 };
-
 	WANT(memcmp(place, file, sizeof file) == 0);
 	memcpy(place, somesalt, 8);
-	WANT(pikhsen_scrypt_encrypt_in_place(password, 8, salt, 31, 4, 3, 2, 1, 1 << 20, 1 << 20, place, sizeof place)
-	    == PIKHSEN_FILE_SALT);
-	WANT(pikhsen_scrypt_encrypt_in_place(password, 8, salt, 32, 4, 3, 2, 1, 1 << 20, 1 << 20, place, 127)
-	    == PIKHSEN_BUFFER);
-	/* 6,144 bytes and 384 cores are needed */
-	WANT(pikhsen_scrypt_encrypt_in_place(password, 8, salt, 32, 4, 3, 2, 1, 6143, 384, place, sizeof place)
-	    == PIKHSEN_MEMORY_LIMIT);
-	WANT(pikhsen_scrypt_encrypt_in_place(password, 8, salt, 32, 4, 3, 2, 1, 6144, 383, place, sizeof place)
-	    == PIKHSEN_WORK_LIMIT);
+	TOLD(FILE_SALT, pikhsen_scrypt_encrypt_in_place(PASSWORD, zeros, 31, COSTS, 1, WIDE, place, sizeof place));
+	TOLD(BUFFER, pikhsen_scrypt_encrypt_in_place(PASSWORD, FILE_SALT, COSTS, 1, WIDE, place, 127));
 	WANT(memcmp(place, somesalt, 8) == 0);
 }
 
-/* A text with a value out of range, by the number of the first; verify has one number for all of them. */
-struct outside {
-	const char *text;
-	unsigned int told;
-};
-
 static void settings_of_texts(void)
 {
-	static const struct outside texts[] = {
+	/* texts with a value out of range, by the number of the first; verify has one number for all of them */
+	static const struct {
+		const char *text;
+		unsigned int told;
+	} texts[] = {
 		{ "$argon2d$v=18$m=8,t=0,p=1$c29tZXNhbHQ$xRnmA6xg", PIKHSEN_TEXT_VERSION },
 		{ "$argon2d$v=19$m=8,t=0,p=0$c29tZXNhbHQ$xRnmA6xg", PIKHSEN_TEXT_PASSES },
 		{ "$argon2d$v=19$m=8,t=4294967296,p=1$c29tZXNhbHQ$xRnmA6xg", PIKHSEN_TEXT_PASSES },
@@ -361,7 +328,7 @@ static void settings_of_texts(void)
 		wanted.salt_len += i == 5;
 		wanted.tag_len -= i == 6;
 		needs = 7;
-		WANT(pikhsen_argon2_needs_rehash(known, KNOWN_LEN, &wanted, &needs) == PIKHSEN_OK && needs == 1);
+		WANT(pikhsen_argon2_needs_rehash(KNOWN, &wanted, &needs) == PIKHSEN_OK && needs == 1);
 	}
 	before = settings;
 	needs = 7;
@@ -372,49 +339,59 @@ static void settings_of_texts(void)
 		WANT(pikhsen_argon2_settings(outside, outside_len, &settings) == texts[i].told);
 		WANT(pikhsen_argon2_needs_rehash(outside, outside_len, &wanted, &needs) == texts[i].told);
 		WANT(memcmp(&before, &settings, sizeof before) == 0 && needs == 7);
-		WANT(pikhsen_argon2_verify(outside, outside_len, password, 8, 8, 100)
-		    == (is_text ? (unsigned int)PIKHSEN_OUT_OF_RANGE : (unsigned int)PIKHSEN_NOT_ENCODED));
+		WANT(pikhsen_argon2_verify(outside, outside_len, PASSWORD, 8, 100)
+		    == (unsigned int)(is_text ? PIKHSEN_OUT_OF_RANGE : PIKHSEN_NOT_ENCODED));
 	}
+}
+
+/* Both functions with a secret and data refuse these lengths, or these limits. */
+static void keyed_is_refused(unsigned int told, size_t secret_len, size_t data_len, unsigned int kib,
+    unsigned int blocks, unsigned char out[PIKHSEN_ENCODED_ROOM(16, 32)])
+{
+	len = 7;
+	WANT(pikhsen_argon2_encoded_keyed(RFC_9106, threes, secret_len, fours, data_len, 32, kib, blocks, out,
+	    PIKHSEN_ENCODED_ROOM(16, 32), &len) == told && len == 0);
+	WANT(pikhsen_argon2_verify_keyed(keyed, strlen((char *)keyed), ones, 32, threes, secret_len, fours, data_len, kib,
+	    blocks) == told);
 }
 
 /* With a secret and data: the text of the standard's tag, and no other two are right. */
 static void with_a_secret(void)
 {
+	/* the first is right, and the others are a mismatch */
+	static const struct {
+		size_t password_len;
+		const unsigned char *secret;
+		size_t secret_len;
+		const unsigned char *data;
+		size_t data_len;
+	} given[] = {
+		{ 32, SECRET, DATA }, { 32, DATA, SECRET }, { 32, threes, 7, DATA }, { 32, SECRET, NOTHING }, { 31, SECRET, DATA },
+	}, *of;
 	const size_t keyed_len = strlen((char *)keyed);
 	unsigned char other[PIKHSEN_ENCODED_ROOM(16, 32)];
 
 	WANT(strcmp((char *)keyed, (const char *)known_keyed) == 0);
-	WANT(pikhsen_argon2_verify_keyed(keyed, keyed_len, ones, 32, fours, 12, threes, 8, 32, 1000) == PIKHSEN_MISMATCH);
-	WANT(pikhsen_argon2_verify_keyed(keyed, keyed_len, ones, 32, threes, 7, fours, 12, 32, 1000) == PIKHSEN_MISMATCH);
-	WANT(pikhsen_argon2_verify_keyed(keyed, keyed_len, ones, 32, threes, 8, NULL, 0, 32, 1000) == PIKHSEN_MISMATCH);
-	WANT(pikhsen_argon2_verify_keyed(keyed, keyed_len, ones, 31, threes, 8, fours, 12, 32, 1000) == PIKHSEN_MISMATCH);
-	WANT(pikhsen_argon2_verify(keyed, keyed_len, ones, 32, 32, 1000) == PIKHSEN_MISMATCH);
+	for (of = given; of < given + sizeof given / sizeof *given; ++of)
+		WANT(pikhsen_argon2_verify_keyed(keyed, keyed_len, ones, of->password_len, of->secret, of->secret_len, of->data,
+		    of->data_len, 32, 1000) == (unsigned int)(of == given ? PIKHSEN_OK : PIKHSEN_MISMATCH));
+	TOLD(MISMATCH, pikhsen_argon2_verify(keyed, keyed_len, ones, 32, 32, 1000));
 	/* with neither, what the two functions without them give */
-	WANT(pikhsen_argon2_verify_keyed(known, KNOWN_LEN, password, 8, NULL, 0, NULL, 0, 8, 6) == PIKHSEN_OK);
-	WANT(pikhsen_argon2_encoded_keyed(PIKHSEN_ARGON2D, 0x13, 1, 8, 1, password, 8, somesalt, 8, NULL, 0, NULL, 0, 32, 8,
-	    6, other, sizeof other, &len) == PIKHSEN_OK);
+	TOLD(OK, pikhsen_argon2_verify_keyed(KNOWN, PASSWORD, NOTHING, NOTHING, 8, 6));
+	TOLD(OK, pikhsen_argon2_encoded_keyed(ARGON2D, PASSWORD, SALT, NOTHING, NOTHING, 32, 8, 6, other,
+	    sizeof other, &len));
 	WANT(len == KNOWN_LEN && strcmp((char *)other, (const char *)known) == 0);
 	/* 32 KiB and 104 block functions are needed; the lengths of secret and data are tested before, and no byte of these
 	 * is read */
-	WANT(pikhsen_argon2_encoded_keyed(PIKHSEN_ARGON2ID, 0x13, 3, 32, 4, ones, 32, twos, 16, threes, 1ul << 32, fours, 12,
-	    32, 31, 103, other, sizeof other, &len) == PIKHSEN_INPUT_LENGTH && len == 0);
-	WANT(pikhsen_argon2_encoded_keyed(PIKHSEN_ARGON2ID, 0x13, 3, 32, 4, ones, 32, twos, 16, threes, 8, fours, 1ul << 32,
-	    32, 31, 103, other, sizeof other, &len) == PIKHSEN_INPUT_LENGTH && len == 0);
-	WANT(pikhsen_argon2_verify_keyed(keyed, keyed_len, ones, 32, threes, 1ul << 32, fours, 12, 31, 103)
-	    == PIKHSEN_INPUT_LENGTH);
-	WANT(pikhsen_argon2_verify_keyed(keyed, keyed_len, ones, 32, threes, 8, fours, 1ul << 32, 31, 103)
-	    == PIKHSEN_INPUT_LENGTH);
-	WANT(pikhsen_argon2_encoded_keyed(PIKHSEN_ARGON2ID, 0x13, 3, 32, 4, ones, 32, twos, 16, threes, 8, fours, 12, 32, 31,
-	    103, other, sizeof other, &len) == PIKHSEN_MEMORY_LIMIT);
-	WANT(pikhsen_argon2_encoded_keyed(PIKHSEN_ARGON2ID, 0x13, 3, 32, 4, ones, 32, twos, 16, threes, 8, fours, 12, 32, 32,
-	    103, other, sizeof other, &len) == PIKHSEN_WORK_LIMIT);
-	WANT(pikhsen_argon2_verify_keyed(keyed, keyed_len, ones, 32, threes, 8, fours, 12, 31, 103) == PIKHSEN_MEMORY_LIMIT);
-	WANT(pikhsen_argon2_verify_keyed(keyed, keyed_len, ones, 32, threes, 8, fours, 12, 32, 103) == PIKHSEN_WORK_LIMIT);
-	WANT(pikhsen_argon2_verify_keyed(keyed, keyed_len, ones, 0, threes, 8, fours, 12, 32, 104) == PIKHSEN_PASSWORD_LENGTH);
-	WANT(pikhsen_argon2_verify_keyed(NULL, 0, ones, 32, threes, 8, fours, 12, 32, 104) == PIKHSEN_NOT_ENCODED);
-	WANT(pikhsen_argon2_encoded_keyed(PIKHSEN_ARGON2ID, 0x13, 3, 32, 4, ones, 32, twos, 16, threes, 8, fours, 12, 32, 32,
-	    104, NULL, 0, &len) == PIKHSEN_BUFFER && len == 0);
-	WANT(strcmp((char *)other, (const char *)known) == 0);
+	keyed_is_refused(PIKHSEN_INPUT_LENGTH, 1ul << 32, 12, 31, 103, other);
+	keyed_is_refused(PIKHSEN_INPUT_LENGTH, 8, 1ul << 32, 31, 103, other);
+	keyed_is_refused(PIKHSEN_MEMORY_LIMIT, 8, 12, 31, 103, other);
+	keyed_is_refused(PIKHSEN_WORK_LIMIT, 8, 12, 32, 103, other);
+	TOLD(PASSWORD_LENGTH, pikhsen_argon2_verify_keyed(keyed, keyed_len, ones, 0, SECRET, DATA, 32, 104));
+	TOLD(NOT_ENCODED, pikhsen_argon2_verify_keyed(NOTHING, ones, 32, SECRET, DATA, 32, 104));
+	len = 7;
+	TOLD(BUFFER, pikhsen_argon2_encoded_keyed(RFC_9106, SECRET, DATA, 32, 32, 104, NOTHING, &len));
+	WANT(len == 0 && strcmp((char *)other, (const char *)known) == 0);
 }
 
 /* Every number has a sentence, and one that is not known another one than each. */
@@ -461,17 +438,16 @@ int main(void)
 	memset(twos, 2, sizeof twos);
 	memset(threes, 3, sizeof threes);
 	memset(fours, 4, sizeof fours);
-	for (i = 7; i < 12; ++i)
-		WANT(on_small_stack(calls_refused, i, tag) == PIKHSEN_OK);
-	for (i = 0; i < 7; ++i)
-		WANT(on_small_stack(calls_refused, i, tag) == PIKHSEN_OK);
+	/* from 7 to 11, and then from 0 to 6, of which each needs what those before it made */
+	for (i = 7; i < 19; ++i)
+		WANT(on_small_stack(calls_refused, i % 12, tag) == PIKHSEN_OK);
 	/* RFC 7914, section 12, the first vector's last derivation has these first bytes; keep is 4 */
 	WANT(tag[0] == 0x77 && tag[1] == 0xd6 && tag[2] == 0x57 && tag[3] == 0x62);
 	WANT(strcmp((char *)encoded, (const char *)known) == 0);
-	WANT(pikhsen_argon2_verify(encoded, KNOWN_LEN, password, 7, 8, 100) == PIKHSEN_MISMATCH);
-	WANT(pikhsen_argon2_verify(encoded, KNOWN_LEN, password, 8, 7, 100) == PIKHSEN_MEMORY_LIMIT);
-	WANT(pikhsen_argon2_verify(encoded, KNOWN_LEN, password, 8, 8, 1) == PIKHSEN_WORK_LIMIT);
-	WANT(pikhsen_argon2_verify(encoded, KNOWN_LEN + 1, password, 8, 8, 100) == PIKHSEN_NOT_ENCODED);
+	TOLD(MISMATCH, pikhsen_argon2_verify(encoded, KNOWN_LEN, password, 7, 8, 100));
+	TOLD(MEMORY_LIMIT, pikhsen_argon2_verify(encoded, KNOWN_LEN, PASSWORD, 7, 100));
+	TOLD(WORK_LIMIT, pikhsen_argon2_verify(encoded, KNOWN_LEN, PASSWORD, 8, 1));
+	TOLD(NOT_ENCODED, pikhsen_argon2_verify(encoded, KNOWN_LEN + 1, PASSWORD, 8, 100));
 
 	WANT(len == 5 && memcmp(text, somesalt, 5) == 0);
 	for (i = 5; i < (int)sizeof text; ++i)

@@ -186,26 +186,23 @@ def secrets_from_c(checks, folder, lib, pikhsen):
     checks.that("secrets.c, compiled", compile_c(TOP / "tests/library/secrets.c", lib, program, True, *STRICT, *WRAPPED), (0, ""))
     of_two = [[it, "kept"] for it in ("painted", "freed", "again", "registers", "key")]
     for words in ([], ["keys"], ["painted"], ["again"], ["registers"], *of_two):
-        found = subprocess.run([program, *words], stdin=subprocess.DEVNULL, stdout=subprocess.DEVNULL).returncode
-        checks.that(f"secrets.c, other words: {words}", found, 2)
+        checks.that(f"secrets.c, other words: {words}", ran(program, *words, stdin=subprocess.DEVNULL)[0], 2)
     levels = sorted(pathlib.Path(lib, "glibc-hwcaps").glob("*/libpikhsen.so.0"))
     of_levels = [program, *(over_shared(folder, it.parent.name, it.read_bytes()) for it in levels)]
     spoiled = over_shared(folder, "without-zeros", without_zeros(lib))
     # a matrix of 64 KiB; a table of 64 rows, or 16, of 1,024 bytes, and two rows, or three; four rows of 128 bytes, and
     # two; and such of 8 MiB
-    told_wrong = numbers_of_header()["WRONG_PASSPHRASE"][0]
-    for what, told, freed in (
-        ("hash", 0, 65536), ("encoded", 0, 65536), ("verify", 0, 65536), ("keyed-text", 0, 65536), ("keyed-test", 0, 65536),
-        ("key", 0, 67584), ("sparse", 0, 19456), ("encrypt", 0, 67584), ("in-place", 0, 67584), ("decrypt", 0, 67584),
-        ("wrong", told_wrong, 67584), ("small-key", 0, 768), ("large-hash", 0, 8388608), ("large-key", 0, 8390656),
-    ):
+    frees = {**dict.fromkeys(("hash", "encoded", "verify", "keyed-text", "keyed-test"), 65536),
+             **dict.fromkeys(("key", "encrypt", "in-place", "decrypt", "wrong"), 67584),
+             "sparse": 19456, "small-key": 768, "large-hash": 8388608, "large-key": 8390656}
+    for what, freed in frees.items():
+        told = numbers_of_header()["WRONG_PASSPHRASE"][0] if what == "wrong" else 0
         says(checks, program, "painted", what, f"told {told}, not wiped 0, touched deeper 0\n")
         says(checks, program, "freed", what, f"told {told}, freed {freed}, not zero 0\n")
         for of_level in of_levels:
             says(checks, of_level, "registers", what, f"told {told}, not zero:\n")
         for look, nothing in (("painted", " not wiped 0,"), ("registers", ":\n")) if told == 0 else ():
-            found = said(spoiled, look, what, check=False)
-            checks.that(f"{look}, without the zeros: {what}", nothing in found, False)
+            checks.that(f"{look}, without the zeros: {what}", nothing in said(spoiled, look, what, check=False), False)
     says(checks, program, "registers", "three", "told 0, not zero: 3\n")
     says(checks, program, "freed", "seven", "told 0, freed 1024, not zero 1024\n")
     try:
@@ -245,11 +242,9 @@ def searches_from_c(checks, program, pikhsen):
     pieces = {**of_key, **rows, **blocks, **other_blocks}
     file = pikhsen.encrypt(bytes(1000), b"pw", salt=salt, log_n=6, r=8, p=1)
     # the first two show that the search finds a key, on the stack too
-    for what, given, expected in (
-        ("kept", b"", sorted(of_key)), ("stack", b"", sorted(of_key)), ("hash", b"", []), ("encoded", b"", []),
-        ("verify", b"", []), ("key", b"", []), ("sparse", b"", []), ("encrypt", b"", []), ("decrypt", file, []),
-    ):
-        searched(checks, [program, what], given, lambda process: kept_pieces(process, pieces), expected)
+    for what in ("kept", "stack", "hash", "encoded", "verify", "key", "sparse", "encrypt", "decrypt"):
+        searched(checks, [program, what], file if what == "decrypt" else b"", lambda process: kept_pieces(process, pieces),
+                 sorted(of_key) if what in ("kept", "stack") else [])
     # a row stands in its own order only before it is turned
     turned = {name: piece for name, piece in rows.items() if "table" in name}
     for what, wanted in (("hash", blocks), ("encoded", other_blocks), ("key", turned), ("sparse", turned)):

@@ -105,9 +105,7 @@ def compiled(words, out):
 
 def of_python(python, environment, folder, *words):
     """What tests/library/clients/suites.py prints for these words, in this folder; one failed test where it ends otherwise."""
-    ran = subprocess.run(
-        [python, ADAPTERS / "suites.py", *words], cwd=folder, env=environment, stdout=subprocess.PIPE, stderr=subprocess.PIPE, text=True,
-    )
+    ran = subprocess.run([python, ADAPTERS / "suites.py", *words], cwd=folder, env=environment, capture_output=True, text=True)
     if ran.returncode:
         print(ran.stderr, file=sys.stderr)
         return [("the run", "failed", f"status {ran.returncode}: {ran.stderr.strip().rpartition(chr(10))[2]}")]
@@ -134,8 +132,8 @@ def of_lengths(name, adapter):
     library.argon2_encodedlen.restype = ctypes.c_size_t
     for passes, kib, lanes, salt_len, tag_len, kind in ((1, 8, 1, 8, 4, 1), (10, 99, 3, 255, 32, 2), (9, 65536, 16, 10, 24, 0)):
         out, salt = ctypes.create_string_buffer(1000), bytes(salt_len)
-        lengths = ctypes.c_size_t(8), ctypes.c_size_t(salt_len), ctypes.c_size_t(tag_len), ctypes.c_size_t(1000)
-        library.argon2_hash(passes, kib, lanes, b"password", lengths[0], salt, lengths[1], None, lengths[2], out, lengths[3], kind, 0x13)
+        of = [ctypes.c_size_t(it) for it in (8, salt_len, tag_len, 1000)]
+        library.argon2_hash(passes, kib, lanes, b"password", of[0], salt, of[1], None, of[2], out, of[3], kind, 0x13)
         told = library.argon2_encodedlen(passes, kib, lanes, salt_len, tag_len, kind)
         is_exact = out.value.startswith(b"$argon2") and told == len(out.value) + 1
         found.append((out.value.decode()[:34], "passed" if is_exact else "failed", f"{told}, and not {len(out.value) + 1}"))
@@ -162,7 +160,7 @@ def of_argon2_cffi(name, tree, adapter, header, environment):
 
 
 def main():
-    parser = argparse.ArgumentParser(description=__doc__, formatter_class=argparse.RawDescriptionHelpFormatter, add_help=True)
+    parser = argparse.ArgumentParser(description=__doc__, formatter_class=argparse.RawDescriptionHelpFormatter)
     parser.add_argument("folder", metavar="FOLDER")
     parser.add_argument("--sources", metavar="DIR")
     given = parser.parse_args()
@@ -184,15 +182,11 @@ def main():
         if header:
             adapter = compiled(["-shared", "-fPIC", "-I", header.parent, ADAPTERS / "argon2.c", *link], work / "libargon2.so")
             right.append(of_lengths("argon2_encodedlen", adapter))
-        if tree:
-            right.append(of_test_program(name, tree, adapter, link, work))
-        else:
-            left_out(name, "there are no sources of it with src/test.c and include/argon2.h")
+        right.append(of_test_program(name, tree, adapter, link, work) if tree else
+                     left_out(name, "there are no sources of it with src/test.c and include/argon2.h"))
         tree, name = tree_with(folders, "tests/test_low_level.py", "src/argon2/low_level.py"), "argon2-cffi"
-        if tree and adapter:
-            right.append(of_argon2_cffi(name, tree, adapter, header, environment))
-        else:
-            left_out(name, "there are no sources of it" if adapter else "there is no argon2.h, of which its adapter is made")
+        right.append(of_argon2_cffi(name, tree, adapter, header, environment) if tree and adapter else
+                     left_out(name, "there are no sources of it" if adapter else "there is no argon2.h, of which its adapter is made"))
         tree = tree_with([*folders, pathlib.Path("/usr/lib/python3/dist-packages")], "scrypt/tests/test_scrypt.py")
         name = "python-scrypt"
         if tree:

@@ -74,12 +74,11 @@ def never_null(parameters):
 
 def numbers_of_sources():
     """The numbers of `status`, by the names that the header gives them."""
-    constants = dict(re.findall(r"const (\w+): u32 = (\d+);", SOURCES["status"]))
-    numbers = {name: int(number) for name, number in constants.items()}
+    numbers = {name: int(number) for name, number in re.findall(r"const (\w+): u32 = (\d+);", SOURCES["status"])}
     for kind, fault, number in re.findall(r"(\w+Fault)::(\w+) => (\w+),", SOURCES["status"]):
         snake = "TEXT" * (kind == "RangeFault") + re.sub("(?=[A-Z])", "_", fault).upper()
         name = RENAMED.get(f"{kind}::{fault}") or snake.lstrip("_")
-        value = int(constants.get(number, number)) if not number.isdigit() else int(number)
+        value = int(number) if number.isdigit() else numbers[number]
         if numbers.setdefault(name, value) != value:
             numbers[name] = None
     return numbers
@@ -198,11 +197,7 @@ def types(*words, **environment):
     return ran(*strict, *words, "-c", CALLER, env={"PATH": os.environ["PATH"], **environment})
 
 
-def main():
-    checks = Checks("none")
-    compare_texts(checks)
-    checks.end()
-
-
 if __name__ == "__main__":
-    main()
+    CHECKS = Checks("none")
+    compare_texts(CHECKS)
+    CHECKS.end()

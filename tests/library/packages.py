@@ -18,7 +18,7 @@ import tempfile
 sys.path += map(str, pathlib.Path(__file__).resolve().parents[1].iterdir())  # the other folders of tests/
 import binaries
 from checking import Checks, is_there, said
-from library_texts import HEADER, prototypes, types
+from library_texts import HEADER, prototypes, ran, types
 from shown import library_runs
 
 TOP = pathlib.Path(__file__).resolve().parents[2]
@@ -75,8 +75,8 @@ def installed(checks, folder, lib):
     subprocess.run([script, "install", below, programs, lib], env={"PATH": os.environ["PATH"]}, check=True)
     which_is_loaded(checks, below / "lib")
     module_installed(checks, folder, below / "share/pikhsen")
-    ran = subprocess.run([script, "uninstall", below], env={"PATH": os.environ["PATH"]}, stdout=subprocess.PIPE, stderr=subprocess.STDOUT)
-    checks.that("uninstall, and what is left", (ran.returncode, ran.stdout, [*below.iterdir()]), (0, b"", []))
+    found = ran(script, "uninstall", below, env={"PATH": os.environ["PATH"]})
+    checks.that("uninstall, and what is left", (found, [*below.iterdir()]), ((0, ""), []))
 
 
 LOADED = """import ctypes
@@ -91,25 +91,19 @@ def which_is_loaded(checks, lib):
     if not (lib / HIGHER).is_file():
         print("the library is not built for x86-64-v3: which one the loader takes is not looked at")
         return
-    flags = re.search(r"^flags.*: (.*)$", pathlib.Path("/proc/cpuinfo").read_text(encoding="utf-8"), re.MULTILINE)
-    has_it = {"avx2", "bmi1", "bmi2", "f16c", "fma", "movbe", "abm"} <= {*flags[1].split()}
-    loader = ["/lib64/ld-linux-x86-64.so.2", "--glibc-hwcaps-mask"]
-    for name, words, wanted in (
-        ("", [], HIGHER if has_it else "libpikhsen.so.0"),
-        (", told of no level", [*loader, "x86-64-v2"], "libpikhsen.so.0"),
-        (", told of the higher", [*loader, "x86-64-v3"], HIGHER if has_it else "libpikhsen.so.0"),
-    ):
-        ran = subprocess.run([*words, sys.executable, "-c", LOADED], env={"LD_LIBRARY_PATH": str(lib)}, text=True,
-                             stdout=subprocess.PIPE, stderr=subprocess.STDOUT)
-        checks.that(f"the library that is loaded{name}", ran.stdout.rstrip("\n"), str(lib / wanted))
+    lower, loader = "libpikhsen.so.0", ["/lib64/ld-linux-x86-64.so.2", "--glibc-hwcaps-mask"]
+    highest = HIGHER if binaries.runs_v3() else lower
+    for name, words, wanted in (("", [], highest), (", told of no level", [*loader, "x86-64-v2"], lower),
+                                (", told of the higher", [*loader, "x86-64-v3"], highest)):
+        _, said_there = ran(*words, sys.executable, "-c", LOADED, env={"LD_LIBRARY_PATH": str(lib)})
+        checks.that(f"the library that is loaded{name}", said_there.rstrip("\n"), str(lib / wanted))
 
 
 def module_installed(checks, folder, modules):
     """Python finds the installed module, which leaves its bytecode there, and mypy finds that it has types."""
-    environment = {"PYTHONPATH": str(modules)}
-    ran = subprocess.run([sys.executable, "-c", "import pikhsen; print(pikhsen.__file__)"], env=environment, cwd=folder,
-                         stdout=subprocess.PIPE, stderr=subprocess.STDOUT, text=True)
-    checks.that("the installed module", ran.stdout, f"{modules}/pikhsen/__init__.py\n")
+    words = [sys.executable, "-c", "import pikhsen; print(pikhsen.__file__)"]
+    found = ran(*words, env={"PYTHONPATH": str(modules)}, cwd=folder)
+    checks.that("the installed module", found, (0, f"{modules}/pikhsen/__init__.py\n"))
     checks.that("its bytecode", any(modules.rglob("*.pyc")), True)
     if is_there("mypy", "types of the installed module are not looked at"):
         # a Python of its own, since mypy asks for py.typed only where Python finds a module by itself
@@ -123,9 +117,9 @@ def module_installed(checks, folder, modules):
 # ---- the packages for Debian
 
 
-def listed(words, file):
-    """What tar lists of an archive: by each path its permissions, its owner and its group."""
-    packed = subprocess.run([*words, file], stdout=subprocess.PIPE, check=True).stdout
+def listed(part, file):
+    """What tar lists of a part of a package: by each path its permissions, its owner and its group."""
+    packed = subprocess.run(["dpkg-deb", part, file], stdout=subprocess.PIPE, check=True).stdout
     text = subprocess.run(["tar", "-tv"], input=packed, stdout=subprocess.PIPE, check=True).stdout.decode()
     rows = [line.split(maxsplit=5) for line in text.splitlines()]
     return {path.removeprefix("./").rstrip("/"): (mode, owner) for mode, owner, _, _, _, path in rows}
@@ -139,11 +133,9 @@ def mode_of(path):
 def paths(checks, package, file):
     """The package has its files alone, with their permissions, owned by root."""
     documents = [f"usr/share/doc/{package}/{it}" for it in ("CHANGELOG.md", "changelog.gz")]
-    for name, words, wanted in (
-        ("files", ["dpkg-deb", "--fsys-tarfile"], [*FILES[package], *documents]),
-        ("control", ["dpkg-deb", "--ctrl-tarfile"], ["control", "md5sums", *CONTROL[package]]),
-    ):
-        found = listed(words, file)
+    for name, part, wanted in (("files", "--fsys-tarfile", [*FILES[package], *documents]),
+                               ("control", "--ctrl-tarfile", ["control", "md5sums", *CONTROL[package]])):
+        found = listed(part, file)
         there = {path: mode[1:] for path, (mode, _) in found.items() if mode[0] != "d"}
         checks.that(f"{package}: {name}", there, {it: mode_of(it) for it in wanted})
         folders = {mode for mode, _ in found.values() if mode[0] == "d"}
@@ -233,10 +225,9 @@ def lint(checks, files):
     """What lintian says but for what the owner has to choose."""
     if not is_there("lintian", "it does not look at the packages"):
         return
-    words = ["lintian", "--allow-root", "--no-cfg", "--display-info", *files]
-    ran = subprocess.run(words, text=True, stdout=subprocess.PIPE, stderr=subprocess.PIPE)
-    lines = [it for it in ran.stdout.splitlines() if re.match(r"[EWI]: ", it)]
-    is_read = ran.returncode in (0, 2), any("no-copyright-file" in it for it in lines)
+    status, found = ran("lintian", "--allow-root", "--no-cfg", "--display-info", *files)
+    lines = [it for it in found.splitlines() if re.match(r"[EWI]: ", it)]
+    is_read = status in (0, 2), any("no-copyright-file" in it for it in lines)
     checks.that("lintian reads the packages", is_read, (True, True))
     checks.that("lintian", [it for it in lines if it.split(": ")[2].split()[0] not in OF_THE_OWNER], [])
 
@@ -252,9 +243,9 @@ def packages(checks, folder, lib):
     for out, umask in ((f"{folder}/packages", 0o077), (f"{folder}/same", 0o002)):
         os.mkdir(out)
         pathlib.Path(out, f"pikhsen_{VERSION}+v9_amd64.deb").write_text("older", encoding="utf-8")
-        ran = subprocess.run([TOP / "packaging/deb.sh", lib, out, MORE], stdout=subprocess.DEVNULL, stderr=subprocess.PIPE, check=True,
-                             env={**os.environ, "SOURCE_DATE_EPOCH": f"{EPOCH}"}, text=True, umask=umask)
-        checks.that("what deb.sh says of what is wrong", ran.stderr, "")
+        done = subprocess.run([TOP / "packaging/deb.sh", lib, out, MORE], stdout=subprocess.DEVNULL, stderr=subprocess.PIPE, check=True,
+                              env={**os.environ, "SOURCE_DATE_EPOCH": f"{EPOCH}"}, text=True, umask=umask)
+        checks.that("what deb.sh says of what is wrong", done.stderr, "")
         made.append({file.name: file.read_bytes() for file in sorted(pathlib.Path(out).iterdir())})
     if pathlib.Path(lib, HIGHER).is_file():
         FILES["libpikhsen0"].append(f"{LIBRARIES}/{HIGHER}")
@@ -278,11 +269,10 @@ def packages(checks, folder, lib):
     programs_run(checks, folder, pathlib.Path(folder, "root-pikhsen"))
     scripts(checks, pathlib.Path(folder, "root-python3-pikhsen"))
     root = pathlib.Path(folder, "root-libpikhsen0")
-    checks.that("shlibs", (root / "DEBIAN/shlibs").read_text(), f"libpikhsen 0 libpikhsen0 (>= {VERSION})\n")
-    names = [f" {it}@PIKHSEN_0 0.1.0" for it in sorted(["PIKHSEN_0", *prototypes(HEADER)])]
-    symbols = (root / "DEBIAN/symbols").read_text().splitlines()
-    checks.that("symbols", symbols, ["libpikhsen.so.0 libpikhsen0 #MINVER#", "* Build-Depends-Package: libpikhsen-dev", *names])
-    checks.that("triggers", (root / "DEBIAN/triggers").read_text(), "activate-noawait ldconfig\n")
+    names = "".join(f" {it}@PIKHSEN_0 0.1.0\n" for it in sorted(["PIKHSEN_0", *prototypes(HEADER)]))
+    for name, text in (("shlibs", f"libpikhsen 0 libpikhsen0 (>= {VERSION})\n"), ("triggers", "activate-noawait ldconfig\n"),
+                       ("symbols", f"libpikhsen.so.0 libpikhsen0 #MINVER#\n* Build-Depends-Package: libpikhsen-dev\n{names}")):
+        checks.that(name, (root / "DEBIAN" / name).read_text(), text)
     binaries.level(checks, "the library in the package", root / LIBRARIES / "libpikhsen.so.0", False)
     libraries = [it for it in ("libpikhsen.so.0", "libpikhsen.a", HIGHER) if pathlib.Path(lib, it).is_file()]
     other = [it for it in libraries if (whole / LIBRARIES / it).read_bytes() != pathlib.Path(lib, it).read_bytes()]

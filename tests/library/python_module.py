@@ -18,19 +18,23 @@ import pathlib
 import pickle
 import re
 import shutil
-import subprocess
 import sys
 import tempfile
 from unittest import mock
 
 sys.path += map(str, pathlib.Path(__file__).resolve().parents[1].iterdir())  # the other folders of tests/
 import values_table
-from checking import Checks
+from binaries import runs_v3
+from checking import Checks, compiled
+from encoded_texts import work_of
 from library_texts import TOP
+from scrypt_files import of_costs
 from shown import LIBRARY, STORED, with_module
 
 VERSION = (TOP / "VERSION").read_text(encoding="utf-8").strip()
 CHEAP = {"log_n": 4, "r": 1, "p": 1}
+# One less than files of these costs need.
+BELOW_CHEAP = ("MEMORY_LIMIT", {"max_bytes": 2047}), ("WORK_LIMIT", {"max_ops": 63})
 
 
 def refusal(call, *arguments, **named):
@@ -55,8 +59,6 @@ TAGS = {
     "I": "c814d9d1dc7f37aa13f0d77f2494bda1c8de6b016dd388d29952a4c4672b6ce8",
     "ID": "0d640df58d78766c08c037a34a8b53c9d01ef0452d75b65eb52520e96b01e659",
 }
-
-
 # the README of the reference implementation
 REFERENCE = "$argon2i$v=19$m=65536,t=2,p=4$c29tZXNhbHQ$RdescudvJCsgt3ub+b+dWRWJTmaaJObG"
 
@@ -151,12 +153,6 @@ def keys_from_python(checks, pikhsen):
     refused(checks, rows, pikhsen.encrypt, b"", b"")
 
 
-def of_costs(log_n, r, p, salt=bytes(32)):
-    """The header of a file by Python alone (FORMAT of Tarsnap's scrypt), but for its last code."""
-    front = b"scrypt\0" + bytes([log_n]) + r.to_bytes(4, "big") + p.to_bytes(4, "big") + salt
-    return front + hashlib.sha256(front).digest()[:16]
-
-
 def files_from_python(checks, pikhsen):
     for text in (b"", b"hello", bytes(range(256)) * 300):
         file = pikhsen.encrypt(text, b"pw", **CHEAP)
@@ -204,8 +200,8 @@ def in_place_from_python(checks, pikhsen):
     buffer = bytearray(b"Dear Ada" + bytes(128))
     before = bytes(buffer)
     rows = (
-        ("FILE_SALT", {"salt": b"s" * 31}), ("LOG_N", {"log_n": 0}), ("KEEP", {"keep": 3}), ("MEMORY_LIMIT", {"max_bytes": 2047}),
-        ("WORK_LIMIT", {"max_ops": 63}), ("BUFFER", {"buffer": bytearray(127)}), ("TypeError", {"buffer": before}),
+        ("FILE_SALT", {"salt": b"s" * 31}), ("LOG_N", {"log_n": 0}), ("KEEP", {"keep": 3}), *BELOW_CHEAP,
+        ("BUFFER", {"buffer": bytearray(127)}), ("TypeError", {"buffer": before}),
     )
     refused(checks, rows, pikhsen.encrypt_in_place, buffer=buffer, passphrase=b"pw", **CHEAP)
     checks.that("in place, refused", bytes(buffer), before)
@@ -293,15 +289,13 @@ def kept_files_from_python(checks, pikhsen, folder):
         for why, given, named in (
             ("DAMAGED", whole[:-1], {}), ("DAMAGED", whole + b"x", {}), ("CHECKSUM", whole[:63] + b"x" * 65, {}),
             ("WRONG_PASSPHRASE", whole, {"passphrase": b"PW"}), ("TOO_SHORT", whole[:95], {}), ("TOO_SHORT", b"", {}),
-            ("MEMORY_LIMIT", whole, {"max_bytes": 2047}), ("WORK_LIMIT", whole, {"max_ops": 63}),
-            ("KEEP", whole, {"keep": 3}), ("MAGIC", b"x" * 200, {}),
+            *((why, whole, named) for why, named in BELOW_CHEAP), ("KEEP", whole, {"keep": 3}), ("MAGIC", b"x" * 200, {}),
         ):
             file.write_bytes(given)
             leaves(checks, why, again, None, pikhsen.decrypt_file, file, again, **{"passphrase": b"pw", **named})
             checks.that(f"decrypt_file, {why}: its source", file.read_bytes(), given)
         file.unlink()
-    limits = ("MEMORY_LIMIT", {"max_bytes": 2047}), ("WORK_LIMIT", {"max_ops": 63})
-    for why, named in (("LOG_N", {"log_n": 0}), ("FILE_SALT", {"salt": b"s" * 31}), *limits):
+    for why, named in (("LOG_N", {"log_n": 0}), ("FILE_SALT", {"salt": b"s" * 31}), *BELOW_CHEAP):
         leaves(checks, why, file, None, pikhsen.encrypt_file, text, file, b"pw", **{**CHEAP, **named})
     os.mkfifo(f"{folder}/pipe")
     for name in (f"{folder}/pipe", folder, "/dev/null", "/proc/version"):
@@ -345,13 +339,10 @@ def disk_from_python(checks, pikhsen, folder):
     for more in (0, 1):
         source.write_bytes(pikhsen.encrypt(b"", b"pw", **CHEAP)[:96])
         os.truncate(source, (1 << 24) + more)
-        for why, asked, named in (
-            ("WRONG_PASSPHRASE", 1 - more, {"passphrase": b"PW"}), ("KEEP", 1 - more, {"keep": 3}),
-            ("MEMORY_LIMIT", 1 - more, {"max_bytes": 2047}), ("WORK_LIMIT", 1 - more, {"max_ops": 63}), ("DAMAGED", 1, {}),
-        ):
+        for why, named in (("WRONG_PASSPHRASE", {"passphrase": b"PW"}), ("KEEP", {"keep": 3}), *BELOW_CHEAP, ("DAMAGED", {})):
             with mock.patch.object(os, "posix_fallocate", wraps=os.posix_fallocate) as room:
                 leaves(checks, why, target, None, pikhsen.decrypt_file, source, target, **{"passphrase": b"pw", **named})
-            checks.that(f"{why}, 16 MiB and {more}: asked for room", room.call_count, asked)
+            checks.that(f"{why}, 16 MiB and {more}: asked for room", room.call_count, 1 if why == "DAMAGED" else 1 - more)
     os.truncate(source, 0)
     synced, opening = [], os.open
 
@@ -498,18 +489,11 @@ def numbers_from_python(checks, pikhsen, text, file):
         refused(checks, [("MEMORY_LIMIT", {"max_bytes": number}), ("WORK_LIMIT", {"max_ops": number})], pikhsen.decrypt, file, b"x")
 
 
-def work_of_argon2(kind, passes, kib, lanes):
-    """The block functions of a hash, as man/pikhsen.3 counts them."""
-    segment = kib // (4 * lanes)
-    independent = {0: 0, 1: 4 * lanes * passes, 2: 2 * lanes}[kind]
-    return passes * 4 * lanes * segment - 2 * lanes + 2 * ((segment + 127) // 128) * independent
-
-
 def limits_from_python(checks, pikhsen):
     for kind in pikhsen.Kind:
         for passes, kib, lanes in ((1, 8, 1), (2, 519, 1), (3, 1030, 2), (1, 1024, 2)):
             settings = {"kind": kind, "passes": passes, "memory_kib": kib, "lanes": lanes}
-            most, blocks = work_of_argon2(kind, passes, kib, lanes), kib // (4 * lanes) * 4 * lanes
+            most, blocks = work_of(kind, kib, passes, lanes), kib // (4 * lanes) * 4 * lanes
             rows = (None, {}), ("WORK_LIMIT", {"max_ops": most - 1}), ("MEMORY_LIMIT", {"max_kib": blocks - 1})
             refused(checks, rows, pikhsen.hash, b"x", b"saltsalt", max_ops=most, max_kib=blocks, **settings)
 
@@ -609,7 +593,7 @@ def stub(out, version, names):
     """A library of this version with these functions, which answer numbers that the module doesn't know, and 9."""
     answers = {"pikhsen_version": version, "pikhsen_argon2_hash": "4000000000u", "pikhsen_scrypt_info": 9}
     text = "".join(f"unsigned int {name}(void) {{ return {answers.get(name, 77)}; }}\n" for name in names)
-    subprocess.run(["gcc", "-shared", "-fPIC", "-x", "c", "-", "-o", out], input=text, text=True, check=True)
+    compiled(text, out, "-shared", "-fPIC")
 
 
 def libraries_of_python(checks, pikhsen, folder, lib):
@@ -645,10 +629,8 @@ def installed_for_levels(checks, folder, lib, other):
         parent.mkdir(parents=True)
     shutil.copy(TOP / "python/pikhsen.py", module)
     shutil.copy(f"{lib}/libpikhsen.so.0", prefix / "lib/libpikhsen.so.0")
-    flags = re.search(r"(?m)^flags.*", pathlib.Path("/proc/cpuinfo").read_text(encoding="ascii", errors="replace"))
-    has_v3 = {"abm", "avx2", "bmi1", "bmi2", "f16c", "fma", "movbe"} <= {*flags[0].split()}
     variables = {"PYTHONPATH": str(module.parent.parent), "PIKHSEN_LIBRARY": None}
-    for name, expected in (("of the lower level", VERSION), ("of the higher level", "0.1.99" if has_v3 else VERSION)):
+    for name, expected in (("of the lower level", VERSION), ("of the higher level", "0.1.99" if runs_v3() else VERSION)):
         found = with_module(lib, "-c", "import pikhsen; print(pikhsen.version())", variables=variables)
         checks.that(f"an installed module, over the library {name}", found[1].splitlines()[-1:], [expected])
         shutil.copy(other, higher)

@@ -52,84 +52,34 @@ static size_t len;
 
 /* ---- the calls */
 
-static unsigned int hash(void)
-{
-	return pikhsen_argon2_hash(PIKHSEN_ARGON2ID, 0x13, 1, 64, 2, passphrase, 2, salt, 32, none, 0, none, 0, 64, most,
-	    key, sizeof key);
-}
+typedef unsigned int (*call_t)(void);
 
-static unsigned int encode(void)
-{
-	return pikhsen_argon2_encoded(PIKHSEN_ARGON2ID, 0x13, 1, 64, 2, passphrase, 2, salt, 32, 32, 64, most, encoded,
-	    sizeof encoded, &len);
-}
+/* Arguments that belong together. */
+#define ARGON2ID(kib) PIKHSEN_ARGON2ID, 0x13, 1, kib, 2, passphrase, 2, salt, 32
+#define KEYED passphrase, 2, salt, 8
+#define PW_AND_SALT passphrase, 2, salt, 32
+#define TEXT encoded, sizeof encoded
+#define WIDE most, most
+#define OF_TEXT encoded, strlen((char *)encoded), passphrase, 2
 
-static unsigned int verify(void)
-{
-	return pikhsen_argon2_verify(encoded, strlen((char *)encoded), passphrase, 2, 64, most);
-}
-
-static unsigned int encode_keyed(void)
-{
-	return pikhsen_argon2_encoded_keyed(PIKHSEN_ARGON2ID, 0x13, 1, 64, 2, passphrase, 2, salt, 32, passphrase, 2, salt, 8,
-	    32, 64, most, encoded, sizeof encoded, &len);
-}
-
-static unsigned int verify_keyed(void)
-{
-	return pikhsen_argon2_verify_keyed(encoded, strlen((char *)encoded), passphrase, 2, passphrase, 2, salt, 8, 64, most);
-}
-
-static unsigned int derive_to(unsigned char *out)
-{
-	return pikhsen_scrypt(passphrase, 2, salt, 32, 6, 8, 1, 1, most, most, out, 64);
-}
-
-static unsigned int derive(void)
-{
-	return derive_to(key);
-}
-
-static unsigned int derive_sparse(void)
-{
-	return pikhsen_scrypt(passphrase, 2, salt, 32, 6, 8, 1, 4, most, most, key, 64);
-}
-
-static unsigned int derive_small(void)
-{
-	return pikhsen_scrypt(passphrase, 2, salt, 32, 2, 1, 1, 1, most, most, key, 64);
-}
-
-static unsigned int hash_large(void)
-{
-	return pikhsen_argon2_hash(PIKHSEN_ARGON2ID, 0x13, 1, 8192, 2, passphrase, 2, salt, 32, none, 0, none, 0, 8192, most,
-	    key, sizeof key);
-}
-
-static unsigned int derive_large(void)
-{
-	return pikhsen_scrypt(passphrase, 2, salt, 32, 13, 8, 1, 1, most, most, key, 64);
-}
-
-static unsigned int encrypt(void)
-{
-	return pikhsen_scrypt_encrypt(passphrase, 2, salt, 32, 6, 8, 1, 1, most, most, text, 1000, file, 1128);
-}
-
-static unsigned int encrypt_in_place(void)
-{
-	return pikhsen_scrypt_encrypt_in_place(passphrase, 2, salt, 32, 6, 8, 1, 1, most, most, file, 1128);
-}
-
-static unsigned int decrypt(void)
-{
-	return pikhsen_scrypt_decrypt(passphrase, 2, 1, most, most, file, 1128, text, 1128, &len);
-}
-
-static unsigned int decrypt_wrongly(void)
-{
-	return pikhsen_scrypt_decrypt(passphrase, 1, 1, most, most, file, 1128, text, 1128, &len);
-}
+/* Each call: its name, the function that makes it, the one that makes what it needs, and what it is. */
+#define CALLS(DO) \
+	DO("hash", hash, NULL, pikhsen_argon2_hash(ARGON2ID(64), none, 0, none, 0, 64, most, key, 64)) \
+	DO("encoded", encode, NULL, pikhsen_argon2_encoded(ARGON2ID(64), 32, 64, most, TEXT, &len)) \
+	DO("verify", verify, encode, pikhsen_argon2_verify(OF_TEXT, 64, most)) \
+	DO("keyed-text", encode_keyed, NULL, pikhsen_argon2_encoded_keyed(ARGON2ID(64), KEYED, 32, 64, most, TEXT, &len)) \
+	DO("keyed-test", verify_keyed, encode_keyed, pikhsen_argon2_verify_keyed(OF_TEXT, KEYED, 64, most)) \
+	DO("key", derive, NULL, pikhsen_scrypt(PW_AND_SALT, 6, 8, 1, 1, WIDE, key, 64)) \
+	DO("sparse", derive_sparse, NULL, pikhsen_scrypt(PW_AND_SALT, 6, 8, 1, 4, WIDE, key, 64)) \
+	DO("encrypt", encrypt, NULL, pikhsen_scrypt_encrypt(PW_AND_SALT, 6, 8, 1, 1, WIDE, text, 1000, file, 1128)) \
+	DO("in-place", encrypt_in_place, NULL, pikhsen_scrypt_encrypt_in_place(PW_AND_SALT, 6, 8, 1, 1, WIDE, file, 1128)) \
+	DO("decrypt", decrypt, encrypt, pikhsen_scrypt_decrypt(passphrase, 2, 1, WIDE, file, 1128, text, 1128, &len)) \
+	DO("wrong", decrypt_wrongly, encrypt, pikhsen_scrypt_decrypt(passphrase, 1, 1, WIDE, file, 1128, text, 1128, &len)) \
+	DO("small-key", derive_small, NULL, pikhsen_scrypt(PW_AND_SALT, 2, 1, 1, 1, WIDE, key, 64)) \
+	DO("large-hash", hash_large, NULL, pikhsen_argon2_hash(ARGON2ID(8192), none, 0, none, 0, 8192, most, key, 64)) \
+	DO("large-key", derive_large, NULL, pikhsen_scrypt(PW_AND_SALT, 13, 8, 1, 1, WIDE, key, 64))
+#define FUNCTION(name, call, before, answer) static unsigned int call(void) { return answer; }
+CALLS(FUNCTION)
 
 /* ---- the memory that the library takes and frees */
 
@@ -141,9 +91,6 @@ enum { BEFORE = 16 };
 
 void *__real_malloc(size_t size);
 void __real_free(void *block);
-void *__wrap_malloc(size_t size);
-void *__wrap_realloc(void *block, size_t size);
-void __wrap_free(void *block);
 
 void *__wrap_malloc(size_t size)
 {
@@ -200,29 +147,14 @@ static unsigned int free_seven(void)
 
 /* ---- by name */
 
-/* Each call, and the one that makes what it needs. */
+#define ROW(name, call, before, answer) {name, call, before},
 static const struct {
 	const char *name;
-	unsigned int (*call)(void), (*before)(void);
-} calls[] = {
-	{"hash", hash, NULL},
-	{"encoded", encode, NULL},
-	{"verify", verify, encode},
-	{"keyed-text", encode_keyed, NULL},
-	{"keyed-test", verify_keyed, encode_keyed},
-	{"key", derive, NULL},
-	{"sparse", derive_sparse, NULL},
-	{"encrypt", encrypt, NULL},
-	{"in-place", encrypt_in_place, NULL},
-	{"decrypt", decrypt, encrypt},
-	{"wrong", decrypt_wrongly, encrypt},
-	{"small-key", derive_small, NULL},
-	{"large-hash", hash_large, NULL},
-	{"large-key", derive_large, NULL},
-};
+	call_t call, before;
+} calls[] = {CALLS(ROW)};
 
 /* The call of this name, once what it needs is made; null where there is none. */
-static unsigned int (*call_of(const char *name))(void)
+static call_t call_of(const char *name)
 {
 	size_t at;
 
@@ -249,12 +181,12 @@ static NOINLINE int wait_with_key_on_stack(void)
 {
 	unsigned char on_stack[64];
 
-	return wait_after(derive_to(on_stack));
+	return wait_after(pikhsen_scrypt(PW_AND_SALT, 6, 8, 1, 1, WIDE, on_stack, 64));
 }
 
 static int wait_after_call(const char *what)
 {
-	unsigned int (*call)(void);
+	call_t call;
 	unsigned int told;
 
 	if (strcmp(what, "kept") == 0)
@@ -272,7 +204,7 @@ static int wait_after_call(const char *what)
 }
 
 /* Ends with status 1 where a call is refused. */
-static int again(unsigned int (*call)(void))
+static int again(call_t call)
 {
 	unsigned int told = call();
 
@@ -315,7 +247,7 @@ static NOINLINE int others(size_t from, size_t to, unsigned char byte)
  * The library wipes 32 KiB of the stack after a call, and so all that the call used must be in these 32 KiB. Zeros are
  * wanted in their place, and deeper the paint, untouched. Between the two is what the wiping needs for itself.
  */
-static NOINLINE int painted(unsigned int (*call)(void))
+static NOINLINE int painted(call_t call)
 {
 	const size_t frame = (size_t)__builtin_frame_address(0);
 	unsigned int told;
@@ -331,7 +263,7 @@ static NOINLINE int painted(unsigned int (*call)(void))
 
 /* ---- what is freed */
 
-static int look_at_freed(unsigned int (*call)(void))
+static int look_at_freed(call_t call)
 {
 	unsigned int told;
 
@@ -360,39 +292,18 @@ static unsigned char registers[REGISTERS][WIDTH];
 #define STORE_ZMM(n) __asm__ volatile("vmovdqu64 %%zmm" #n ", %0" : "=m"(registers[n]));
 
 /* Between the call and the stores no register may be used for anything else: so there is a function for each kind. */
+#define CALL_WITH(registers, CLEAR, STORE)                                                                            \
+	static NOINLINE unsigned int call_with_##registers(call_t call)                                                   \
+	{                                                                                                                 \
+		unsigned int told;                                                                                            \
+                                                                                                                      \
+		CLEAR told = call();                                                                                          \
+		STORE return told;                                                                                            \
+	}
 
-static NOINLINE unsigned int call_with_xmm(unsigned int (*call)(void))
-{
-	unsigned int told;
-
-	FIRST(CLEAR_XMM)
-	told = call();
-	FIRST(STORE_XMM)
-	return told;
-}
-
-static NOINLINE unsigned int call_with_ymm(unsigned int (*call)(void))
-{
-	unsigned int told;
-
-	FIRST(CLEAR_YMM)
-	told = call();
-	FIRST(STORE_YMM)
-	return told;
-}
-
-static NOINLINE unsigned int call_with_zmm(unsigned int (*call)(void))
-{
-	unsigned int told;
-
-	FIRST(CLEAR_YMM)
-	FIRST(CLEAR_ZMM)
-	OTHER(CLEAR_ZMM)
-	told = call();
-	FIRST(STORE_ZMM)
-	OTHER(STORE_ZMM)
-	return told;
-}
+CALL_WITH(xmm, FIRST(CLEAR_XMM), FIRST(STORE_XMM))
+CALL_WITH(ymm, FIRST(CLEAR_YMM), FIRST(STORE_YMM))
+CALL_WITH(zmm, FIRST(CLEAR_YMM) FIRST(CLEAR_ZMM) OTHER(CLEAR_ZMM), FIRST(STORE_ZMM) OTHER(STORE_ZMM))
 
 static unsigned int leave_key_in_three(void)
 {
@@ -402,17 +313,13 @@ static unsigned int leave_key_in_three(void)
 	return told;
 }
 
-static int look_at_registers(unsigned int (*call)(void))
+static int look_at_registers(call_t call)
 {
 	static const unsigned char zeros[WIDTH];
 	unsigned int told, number;
 
-	if (__builtin_cpu_supports("avx512f"))
-		told = call_with_zmm(call);
-	else if (__builtin_cpu_supports("avx"))
-		told = call_with_ymm(call);
-	else
-		told = call_with_xmm(call);
+	told = (__builtin_cpu_supports("avx512f") ? call_with_zmm : __builtin_cpu_supports("avx") ? call_with_ymm
+	    : call_with_xmm)(call);
 	printf("told %u, not zero:", told);
 	for (number = 0; number < REGISTERS; ++number)
 		if (memcmp(registers[number], zeros, WIDTH) != 0)
@@ -423,29 +330,27 @@ static int look_at_registers(unsigned int (*call)(void))
 
 int main(int count, char **words)
 {
-	unsigned int (*call)(void);
+	static const struct {
+		const char *name;
+		int (*look)(call_t);
+	} looks[] = {{"again", again}, {"painted", painted}, {"registers", look_at_registers}, {"freed", look_at_freed}};
+	call_t call;
+	size_t at;
 
 	memset(salt, 7, sizeof salt);
 	if (count == 2)
 		return wait_after_call(words[1]);
-	if (count != 3)
-		return 2;
-	if (strcmp(words[1], "freed") == 0 && strcmp(words[2], "seven") == 0)
-		return look_at_freed(free_seven);
-	if (strcmp(words[1], "registers") == 0 && strcmp(words[2], "three") == 0)
-		return look_at_registers(leave_key_in_three);
-	call = call_of(words[2]);
-	if (call == NULL)
-		return 2;
-	if (strcmp(words[1], "again") == 0)
-		return again(call);
-	if (strcmp(words[1], "painted") == 0)
-		return painted(call);
-	if (strcmp(words[1], "registers") == 0)
-		return look_at_registers(call);
-	if (strcmp(words[1], "freed") == 0) {
+	for (at = 0; count == 3 && at < sizeof looks / sizeof looks[0]; ++at) {
+		if (strcmp(words[1], looks[at].name) != 0)
+			continue;
+		if (looks[at].look == look_at_freed && strcmp(words[2], "seven") == 0)
+			call = free_seven;
+		else if (looks[at].look == look_at_registers && strcmp(words[2], "three") == 0)
+			call = leave_key_in_three;
+		else
+			call = call_of(words[2]);
 		least = call == encode || call == verify || call == encode_keyed || call == verify_keyed ? 1024 : 1;
-		return look_at_freed(call);
+		return call == NULL ? 2 : looks[at].look(call);
 	}
 	return 2;
 }

@@ -47,15 +47,11 @@ SEEN = "the value of the code as contracts see it: field by field"
 WHY = {
     ("tools.specs.Held", ""): "field by field, a host of a system: the statements of `SystemHost` are read against it",
     ("tools.specs.Words", ""): "an item of a list",
-    ("host.specs.Secret", "source_of"): SEEN,
-    ("host.specs.Secret", "secret_of"): SEEN,
-    ("argon_text.specs.View", "value_claimed"): SEEN,
+    **{("host.specs.Secret", name): SEEN for name in ("source_of", "secret_of")}, ("argon_text.specs.View", "value_claimed"): SEEN,
+    **{("scrypt_request.specs.Request", f"{name}_seen"): SEEN for name in ("request", "encryption", "task")},
     ("pikhsen_c.specs.Heap", "one_more"): "one of two numbers of a record goes up by one",
     **{("pikhsen_c.specs.Heap", name): "`one_more` of one field of a record" for name in (
         "asked_for_matrix", "asked_for_text", "asked_for_workspace", "asked_to_read")},
-    ("scrypt_request.specs.Request", "request_seen"): SEEN,
-    ("scrypt_request.specs.Request", "encryption_seen"): SEEN,
-    ("scrypt_request.specs.Request", "task_seen"): SEEN,
     ("scrypt_request.specs.Request", "text_of"): SEEN,
     ("scrypt_run.specs.Encrypting", "decided"): "a choice between `encrypted_file` and `body`",
     ("scrypt_run.specs.Decrypting", "text_after"): "`released_text` of two parts, one after the other",

@@ -15,9 +15,8 @@ import shutil
 import subprocess
 import sys
 
-for folder in ("bench", "packaging"):
-    sys.path.insert(0, str(pathlib.Path(__file__).resolve().parents[2] / folder))
-sys.path += map(str, pathlib.Path(__file__).resolve().parents[1].iterdir())  # the other folders of tests/
+TOP = pathlib.Path(__file__).resolve().parents[2]
+sys.path += map(str, [TOP / "bench", TOP / "packaging", *(TOP / "tests").iterdir()])
 import doc
 import edited
 import pages
@@ -28,7 +27,6 @@ from edits import BODIES, LINES, edits_in, edits_of
 from pages import is_definition
 from proof_map import drawn, small
 
-TOP = pathlib.Path(__file__).resolve().parents[2]
 PAGES = sorted(TOP.glob("*.md"))
 MANUALS = sorted((TOP / "man").glob("*.1"))
 DOCUMENTS = [*PAGES, *sorted((TOP / "docs").glob("*.md")), *MANUALS]
@@ -45,21 +43,14 @@ MOST_WORDS, MOST_BY_HAND = 36000, 25000  # of README.md, CONTRIBUTING.md and doc
 missing = []
 
 
-def texts(crate, folder, ending):
-    """The texts of the crate's files below this folder, by their paths in it."""
-    base = TOP / "crates" / crate / folder
-    return {str(file.relative_to(base)): file.read_text(encoding="utf-8") for file in sorted(base.rglob("*" + ending))}
+def texts(form):
+    """By each crate the texts of its files of this form."""
+    return {crate: "\n".join(it.read_text(encoding="utf-8") for it in sorted((TOP / "crates" / crate).glob(form))) for crate in CRATES}
 
 
 CRATES = promises.CRATES
-SOURCES = {crate: "\n".join(texts(crate, "src", ".rt").values()) for crate in CRATES}
+SOURCES, SPECS, PROOFS = map(texts, ("src/**/*.rt", "specs/**/*.antt", "proofs/**/*.antt"))
 ALL_SOURCES = "\n".join(SOURCES.values())
-SPECS = {crate: "\n".join(texts(crate, "specs", ".antt").values()) for crate in CRATES}
-
-
-def is_function(name, crate):
-    """Whether a crate, or that of its tests, has this function."""
-    return any(re.search(rf"\bfn {re.escape(name)}\b", SOURCES.get(it, "")) for it in (crate, f"{crate}_tests"))
 
 
 def tables(document):
@@ -85,8 +76,7 @@ for name in sorted({*sum(CRATES.values(), [])} - {*CRATES}):
 
 # What a crate stands on, with what its tests alone name: rt ci would miss it only after all below is proved.
 for crate, listed in CRATES.items():
-    proofs = "\n".join([SPECS[crate], *texts(crate, "proofs", ".antt").values()])
-    code = re.sub(r"//.*", "", SOURCES[crate]) + re.sub(r"--.*", "", proofs)
+    code = re.sub(r"//.*", "", SOURCES[crate]) + re.sub(r"--.*", "", SPECS[crate] + "\n" + PROOFS[crate])
     named = re.findall(r"(?<![\w:])(\w+)::", code) + re.findall(r"\bRattle\.(\w+)\.", code)
     named = set(named) & {*CRATES, *sum(CRATES.values(), [])} - {crate}
     expect(named == set(listed), "crates.txt", f"{crate} with what it names alone: {', '.join(sorted(named))}")
@@ -127,83 +117,57 @@ for document, text in TEXTS.items():
             expect(anchor in anchors(target.read_text(encoding="utf-8")), document, f"the link to {path}#{anchor}")
 
 # Figures of speed, each sentence as docs/benchmarks.tsv gives it, and some as docs/measured.tsv does.
-MEASURED = ratios.read(TOP / "docs/benchmarks.tsv")[1]
-KEPT = {(log_n, keep): (float(peak), float(seconds)) for log_n, keep, peak, seconds in pages.rows("measured.tsv", "keep")}
+MEASURED, KEY, LIBRARIES = pages.PRINTED, "key, -r 8 -p 1, --logN", ("libsodium", "OpenSSL")
+kept = {row[:2]: (float(row[2]), float(row[3])) for row in map(tuple, pages.rows("measured.tsv", "keep"))}
 # What huge pages take off the time of a work, in percent, at the levels, the least first.
-LESS = {work: sorted(round(100 - 100 * float(with_huge) / float(plain)) for plain, with_huge in (times[:2], times[2:]))
-        for work, *times in pages.rows("measured.tsv", "pages")}
-PYTHON = [[work, float(ours) / float(other)] for work, _, ours, other in pages.rows("measured.tsv", "python")]
-
-
-def seconds(work, size, level="x86-64-v3", digits=1):
-    """What a work takes here, rounded."""
-    return f"{float(MEASURED[work, size, level]['ours']):.{digits}g}"
-
-
-def between(works, sizes, level="", column="ratio", beside="theirs"):
-    """The least and the greatest ratio of these rows, as pages write it; with `beside` v2 those of v3 to v2."""
-    found = []
-    for (work, size, at), row in MEASURED.items():
-        if work.startswith(works) and (not sizes or size in sizes) and level in at:
-            found.append(float(row[column]) if beside == "theirs" else
-                         float(row["ours"]) / float(MEASURED[work, size, "x86-64-v2"]["ours"]))
-    return sorted(f"{ratio:.2f}" for ratio in found)
-
-
-HASHES, FILES = ("argon2 ", ("16", "18")), (("enc", "dec"), None)
-KEYS, BACKUPS = ("key", None), (("enc", "dec"), ("100",))
-hashes, keys, files = between(*HASHES), between(*KEYS), between(*FILES)
-levels = {level: [between(*rows, level) for rows in (HASHES, KEYS, BACKUPS)] for level in ("v2", "v3")}
-to_v2 = [between(*rows, "v3", beside="v2") for rows in (HASHES, KEYS, FILES)]
-lanes = between(tuple(f"argon2 -{kind} -t {passes} -p 4" for kind in ("d", "i", "id") for passes in (1, 3)),
-                ("12", "16", "18"), column="ratio_elapsed")
-of_threads = [f"{float(it):.1f}" for it in (lanes[0], lanes[-1])]
-lanes = [f"{1 / float(lanes[-1]):.2f}", f"{1 / float(lanes[0]):.2f}"]
-BENCHMARKS = " ".join(TEXTS[TOP / "docs/BENCHMARKS.md"].split())
-(slower,) = re.findall(r"ours, which cannot, took (\S+ to \S+) times as long", BENCHMARKS)
-LIBRARIES = ("libsodium", "OpenSSL")
-beside = {it: [between(it, None, level) for level in ("v2", "v3")] for it in LIBRARIES}
-LOGIN, KEY = ("argon2 -id -t 3 -p 4 -m", "16"), "key, -r 8 -p 1, --logN"
-keys_of = {log_n: seconds(KEY, log_n) for log_n in ("14", "17", "20")}
-less = [f"{float(row['theirs_MiB']) - float(row['ours_MiB']):.1f}" for (work, _, _), row in MEASURED.items()
-        if not work.startswith(LIBRARIES)]
-less.sort(key=float)
-python = {it: sorted(f"{ratio:.2f}" for work, ratio in PYTHON if work.startswith(it)) for it in ("Argon2", "scrypt")}
-SENTENCES = [
-    ("README.md", f"hashes {hashes[0]} to {hashes[-1]}, keys {keys[0]} to {keys[-1]}, files {files[0]} to {files[-1]}"),
-    ("README.md", f"hashes from 4 MiB on, `-p 4` | 1 (threads) | {of_threads[0]} to {of_threads[1]} |"),
-    ("README.md", f"SHA instructions | 1 | {slower} |"),
-    ("README.md", f"with `--keep 16`: {KEPT['20', '16'][0]:.0f} MiB, and "
-                  f"{KEPT['20', '16'][1] / KEPT['20', '1'][1]:.1f} times the time"),
-    ("README.md", f"takes 1 GiB and {keys_of['20']} seconds"),
-    ("README.md", f"takes 64 MiB and {seconds(*LOGIN, digits=2)} to {seconds(*LOGIN, 'x86-64-v2', digits=2)} seconds"),
-    *(("man/scrypt.1", f"{memory} and {keys_of[log_n]} seconds")
-      for log_n, memory in (("14", "16 MiB"), ("17", "128 MiB"), ("20", "1 GiB"))),
-    ("man/scrypt.1", "{} to {} percent off the processor time of a key of 128 MiB".format(
-        *LESS["a key of N = 2^17, r = 8, p = 1"])),
-    ("man/argon2.1", "{} to {} percent off the processor time of three passes over 64 MiB".format(
-        *LESS["`argon2 -id -t 3 -m 16`"])),
-    ("man/argon2.1", "{} to {} percent off that of one pass over 256 MiB".format(*LESS["`argon2 -id -t 1 -m 18`"])),
-    ("man/argon2.1", f"64 MiB, and {seconds(*LOGIN, digits=2)} to {seconds(*LOGIN, 'x86-64-v2', digits=2)} seconds"),
-    ("man/argon2.1", f"took {to_v2[0][0]} to {to_v2[0][-2]} of the processor time of those for v2 in "
-                     f"{len(to_v2[0]) - 1} of {len(to_v2[0])} settings, and {to_v2[0][-1]} in one"),
-    ("man/scrypt.1", f"took {to_v2[1][0]} to {to_v2[1][-1]} of the processor time of those for v2 for a key, and "
-                     f"{to_v2[2][0]} to {to_v2[2][-1]} for a file"),
-    ("docs/BENCHMARKS.md", f"`argon2` took {levels['v2'][0][0]} to {levels['v2'][0][-1]} of the time of Debian's if built for "
-                           f"x86-64-v2, and {levels['v3'][0][0]} to {levels['v3'][0][-1]} if built for x86-64-v3"),
-    ("docs/BENCHMARKS.md", f"{levels['v2'][1][0]} to {levels['v2'][1][-1]} for x86-64-v2, and {levels['v3'][1][0]} to "
-                           f"{levels['v3'][1][-1]} for x86-64-v3"),
-    ("docs/BENCHMARKS.md", f"{' and '.join(levels['v2'][2])} for x86-64-v2, {' and '.join(levels['v3'][2])} for x86-64-v3"),
-    *(("docs/BENCHMARKS.md", f"{v2[0]} to {v2[-1]} of the time of {it} for x86-64-v2, and {v3[0]} to {v3[-1]} for x86-64-v3")
-      for it, (v2, v3) in beside.items()),
-    ("docs/BENCHMARKS.md", f"has all {len(MEASURED)} rows"),
-    ("docs/BENCHMARKS.md", f"hashes took {python['Argon2'][0]} to {python['Argon2'][-1]} of the time of argon2-cffi, and keys "
-                           f"{python['scrypt'][0]} to {python['scrypt'][-1]} of that of `hashlib.scrypt`"),
-    ("docs/BENCHMARKS.md", f"**Memory**: {less[0]} to {less[-1]} MiB less"),
-    ("docs/BENCHMARKS.md", f"with `-p 4` it took {lanes[0]} to {lanes[1]} of our time, from 4 MiB on"),
-]
-for name, sentence in SENTENCES:
-    expect(sentence in " ".join(TEXTS[TOP / name].split()), name, f"'{sentence}', as docs/benchmarks.tsv has it")
+off = {work: "{} to {} percent off".format(*sorted(round(100 - 100 * float(with_huge) / float(plain))
+                                                   for plain, with_huge in (times[:2], times[2:])))
+       for work, *times in pages.rows("measured.tsv", "pages")}
+of_python = [(work, pages.ratio(ours, other)) for work, _, ours, other in pages.rows("measured.tsv", "python")]
+argon2_cffi, hashlib = (pages.span(sorted(ratio for work, ratio in of_python if work.startswith(it))) for it in ("Argon2", "scrypt"))
+ROWS = {"hashes": ("argon2 ", ("16", "18")), "keys": ("key",), "files": (("enc", "dec"),), "backups": (("enc", "dec"), ("100",)),
+        **{it: (it,) for it in LIBRARIES}}
+every, v2, v3 = ({name: pages.ratios_of(*rows, level=level) for name, rows in ROWS.items()} for level in ("", "v2", "v3"))
+to_v2 = {name: pages.ratios_of(*rows, level="v3", column="to_v2") for name, rows in ROWS.items()}
+spans, spans_v2, spans_v3, spans_to_v2 = ({name: pages.span(it) for name, it in each.items()} for each in (every, v2, v3, to_v2))
+of_lanes = tuple(f"argon2 -{kind} -t {passes} -p 4" for kind in ("d", "i", "id") for passes in (1, 3))
+least, *_, most = map(float, pages.ratios_of(of_lanes, ("12", "16", "18"), column="ratio_elapsed"))
+login = " to ".join(f"{float(MEASURED['argon2 -id -t 3 -p 4 -m', '16', level]['ours']):.2g}" for level in ("x86-64-v3", "x86-64-v2"))
+seconds_of = {log_n: f"{float(MEASURED[KEY, log_n, 'x86-64-v3']['ours']):.1g} seconds" for log_n in ("14", "17", "20")}
+(slower,) = re.findall(r"ours, which cannot, took (\S+ to \S+) times as long", " ".join(TEXTS[TOP / "docs/BENCHMARKS.md"].split()))
+less = sorted(float(row["theirs_MiB"]) - float(row["ours_MiB"]) for (work, *_), row in MEASURED.items() if not work.startswith(LIBRARIES))
+SENTENCES = {
+    "README.md": [
+        "hashes {hashes}, keys {keys}, files {files}".format(**spans), f"SHA instructions | 1 | {slower} |",
+        f"hashes from 4 MiB on, `-p 4` | 1 (threads) | {least:.1f} to {most:.1f} |",
+        f"with `--keep 16`: {kept['20', '16'][0]:.0f} MiB, and {kept['20', '16'][1] / kept['20', '1'][1]:.1f} times the time",
+        f"takes 1 GiB and {seconds_of['20']}", f"takes 64 MiB and {login} seconds",
+    ],
+    "man/scrypt.1": [
+        f"16 MiB and {seconds_of['14']}", f"128 MiB and {seconds_of['17']}", f"1 GiB and {seconds_of['20']}",
+        f"{off['a key of N = 2^17, r = 8, p = 1']} the processor time of a key of 128 MiB",
+        "took {keys} of the processor time of those for v2 for a key, and {files} for a file".format(**spans_to_v2),
+    ],
+    "man/argon2.1": [
+        f"{off['`argon2 -id -t 3 -m 16`']} the processor time of three passes over 64 MiB",
+        f"{off['`argon2 -id -t 1 -m 18`']} that of one pass over 256 MiB", f"64 MiB, and {login} seconds",
+        "took {0} to {2} of the processor time of those for v2 in {3} of {4} settings, and {1} in one".format(
+            *(to_v2["hashes"][at] for at in (0, -1, -2)), len(to_v2["hashes"]) - 1, len(to_v2["hashes"])),
+    ],
+    "docs/BENCHMARKS.md": [
+        f"`argon2` took {spans_v2['hashes']} of the time of Debian's if built for x86-64-v2, "
+        f"and {spans_v3['hashes']} if built for x86-64-v3",
+        f"{spans_v2['keys']} for x86-64-v2, and {spans_v3['keys']} for x86-64-v3",
+        f"{' and '.join(v2['backups'])} for x86-64-v2, {' and '.join(v3['backups'])} for x86-64-v3",
+        *(f"{spans_v2[it]} of the time of {it} for x86-64-v2, and {spans_v3[it]} for x86-64-v3" for it in LIBRARIES),
+        f"has all {len(MEASURED)} rows", f"**Memory**: {less[0]:.1f} to {less[-1]:.1f} MiB less",
+        f"hashes took {argon2_cffi} of the time of argon2-cffi, and keys {hashlib} of that of `hashlib.scrypt`",
+        f"with `-p 4` it took {1 / most:.2f} to {1 / least:.2f} of our time, from 4 MiB on",
+    ],
+}
+for name, sentences in SENTENCES.items():
+    for sentence in sentences:
+        expect(sentence in " ".join(TEXTS[TOP / name].split()), name, f"'{sentence}', as docs/benchmarks.tsv has it")
 
 # Definitions: a row names none that specs/ lacks. The files of those that it has are made beside them.
 for crate, spec in SPECS.items():
@@ -217,8 +181,9 @@ for heading, cells in tables("EXAMPLES.md"):
         for part in cells[3].split(";"):
             named = [name for name in IN_BACKTICKS.findall(part) if " " not in name]
             owner = [named.pop(0)] if named and named[0] in SOURCES else ["argon2_command", "scrypt_command"]
+            code = "".join(SOURCES.get(f"{crate}{tests}", "") for crate in owner for tests in ("", "_tests"))
             for name in named:
-                expect(any(is_function(name, crate) for crate in owner), "EXAMPLES.md", f"row {cells[0]}: {name}")
+                expect(re.search(rf"\bfn {re.escape(name)}\b", code), "EXAMPLES.md", f"row {cells[0]}: {name}")
 
 # Edits that must fail: what each replaces stands in its place once, and the goal that refuses it is there.
 DEFINITIONS = Definitions()
@@ -270,9 +235,9 @@ for heading, cells in tables("PROMISES.md"):
             found = any(is_definition(name, SPECS[crate]) for crate in ("scrypt_run", "scrypt_command", "encfile"))
             expect(found, "PROMISES.md", name)
 
-
 # Public items, each with a comment.
-missing += [f"a comment of {name} (make doc shows them)" for name in doc.without_comment()]
+for crate in doc.libraries():
+    missing += [f"a comment of {crate}::{it.name} (make doc shows them)" for it in doc.items(crate) if not it.comment]
 
 # The type of the manual pages.
 for manual in MANUALS:

@@ -28,11 +28,8 @@ OF_THE_TOOLCHAIN = {
 }
 
 
-def rows(name, kind=None):
-    """The rows of a table of docs/, as lists of cells, of which - is none; of one kind, which is their first cell."""
-    lines = (TOP / "docs" / name).read_text(encoding="utf-8").splitlines()
-    cells = [line.split("\t") for line in lines if not line.startswith("#")]
-    return [["" if it == "-" else it for it in row[1:]] for row in cells if row[0] == kind]
+def rows(name, kind):
+    return values_table.rows(kind, TOP / "docs" / name, "")
 
 
 def table(head, lines):
@@ -47,10 +44,6 @@ def as_read(number):
         if power >= 1 << 20 and power & (power - 1) == 0:
             return said.format(power.bit_length() - 1)
     return f"{number:,}"
-
-
-def in_words(text):
-    return re.sub(r"\b\d{4,}\b", lambda it: as_read(it[0]), text)
 
 
 # ---- refusals, ranges, examples, definitions
@@ -122,13 +115,9 @@ def ranges():
     lines = []
     for name, range_, given, unit, rule in rows("values.tsv", "range"):
         name = re.sub(r"^(-[\w-]+) of (\w+)", r"`\1` of `\2`", name)
-        range_ = f"{in_words(range_)} {unit}".strip() + (f"; {as_read(given)} if not given" if given else "")
+        range_ = f"{re.sub(r'[0-9]{4,}', lambda it: as_read(it[0]), range_)} {unit}".strip() + (f"; {as_read(given)} if not given" if given else "")
         lines.append([name, range_, rule])
     return table(["quantity", "range", "whose rule"], lines)
-
-
-def examples(group):
-    return table(["no.", "arguments or call", "result", "test"], rows("examples.tsv", group))
 
 
 def program(name, language):
@@ -143,8 +132,19 @@ def ratio(ours, theirs):
     return f"{float(ours) / float(theirs):.2f}"
 
 
-def of_time(number):
-    return f"{float(number):.3f}"
+# beside the ratio to the other's time that to our own time for x86-64-v2
+for (work, size, _), row in PRINTED.items():
+    row["to_v2"] = ratio(row["ours"], PRINTED[work, size, "x86-64-v2"]["ours"])
+
+
+def ratios_of(works, sizes=None, level="", column="ratio"):
+    """The ratios of these rows, the least first."""
+    return sorted((row[column] for (work, size, at), row in PRINTED.items()
+                   if work.startswith(works) and (not sizes or size in sizes) and level in at), key=float)
+
+
+def span(found):
+    return f"{found[0]} to {found[-1]}"
 
 
 def programs():
@@ -153,26 +153,18 @@ def programs():
     for work, size, said in ratios.ROWS:
         v2, v3 = (PRINTED.get((work, size, level)) for level in ("x86-64-v2", "x86-64-v3"))
         if v2 and v3:
-            cells = [it for row in (v2, v3) for it in (of_time(row["ours"]), row["ratio"])]
-            lines.append([said, of_time(v2["theirs"]), *cells, v2["ours_MiB"], v2["theirs_MiB"]])
+            theirs, *ours = (f"{float(it):.3f}" for it in (v2["theirs"], v2["ours"], v3["ours"]))
+            lines.append([said, theirs, ours[0], v2["ratio"], ours[1], v3["ratio"], v2["ours_MiB"], v2["theirs_MiB"]])
     return table(["work, in seconds", "other", "x86-64-v2", "ratio", "x86-64-v3", "ratio", "MiB", "MiB, other"], lines)
 
 
-def least_and_most(level, works, sizes=None):
-    found = sorted(float(row["ratio"]) for (work, size, at), row in PRINTED.items()
-                   if at == level and work.startswith(works) and (not sizes or size in sizes))
-    return f"{found[0]:.2f} to {found[-1]:.2f}"
-
-
 def machines():
-    lines = rows("measured.tsv", "machine")
+    lines, loads = rows("measured.tsv", "machine"), sorted(float(row["load"]) for row in PRINTED.values())
     for level, processor in (("x86-64-v2", "as E"), ("x86-64-v3", "the same")):
         files = " and ".join(PRINTED[f"{it}, --logN 14, MiB", "100", level]["ratio"] for it in ("enc", "dec"))
-        loads = sorted(float(row["load"]) for row in PRINTED.values())
-        lines.append(["G", level, processor, f"{loads[0]:g} to {loads[-1]:g}", least_and_most(level, "argon2 ", ("16", "18")),
-                      least_and_most(level, "key"), files])
-    head = ["machine", "built for", "processor", "load", "hashes", "keys", "`enc` and `dec`, 100 MiB"]
-    return table(head, lines)
+        lines.append(["G", level, processor, f"{loads[0]:g} to {loads[-1]:g}", span(ratios_of("argon2 ", ("16", "18"), level)),
+                      span(ratios_of("key", level=level)), files])
+    return table(["machine", "built for", "processor", "load", "hashes", "keys", "`enc` and `dec`, 100 MiB"], lines)
 
 
 def kept():
@@ -184,32 +176,26 @@ def kept():
     return table(["N", "S", "table, MiB", "memory in all, MiB", "seconds", "beside S = 1", "cores at most"], lines)
 
 
-def logins():
-    lines = [[f"{passes}, {int(kib):,}", other, ours, ratio(ours, other), kept_, ratio(kept_, other),
-              ", ".join(f"{int(it):,}" for it in faults)]
-             for passes, kib, other, ours, kept_, *faults in rows("measured.tsv", "login")]
-    return table(["passes, KiB", "libargon2, ms", "`verify`, ms", "ratio", "kept matrix, ms", "ratio", "page faults of the three"], lines)
-
-
-def from_python():
-    lines = [[work, beside, ours, other, ratio(ours, other)] for work, beside, ours, other in rows("measured.tsv", "python")]
-    return table(["work", "beside", "`libpikhsen`, ms", "other, ms", "ratio"], lines)
-
-
-def huge_pages():
-    lines = [[work, first, second, ratio(second, first), third, fourth, ratio(fourth, third)]
-             for work, first, second, third, fourth in rows("measured.tsv", "pages")]
-    return table(["work, in seconds", "x86-64-v2", "with huge pages", "ratio", "x86-64-v3", "with huge pages", "ratio"], lines)
-
-
+# Tables of docs/measured.tsv: the kind of the rows, the head, and the cells of a row.
+OF_MEASURED = {
+    "logins": ("login", ["passes, KiB", "libargon2, ms", "`verify`, ms", "ratio", "kept matrix, ms", "ratio", "page faults of the three"],
+               lambda passes, kib, other, ours, kept_, *faults: [
+                   f"{passes}, {int(kib):,}", other, ours, ratio(ours, other), kept_, ratio(kept_, other),
+                   ", ".join(f"{int(it):,}" for it in faults)]),
+    "the library from Python": ("python", ["work", "beside", "`libpikhsen`, ms", "other, ms", "ratio"],
+                                lambda *cells: [*cells, ratio(*cells[2:])]),
+    "huge pages": ("pages", ["work, in seconds", "x86-64-v2", "with huge pages", "ratio", "x86-64-v3", "with huge pages", "ratio"],
+                   lambda work, *of: [work, *of[:2], ratio(of[1], of[0]), *of[2:], ratio(of[3], of[2])]),
+}
 PARTS = {
     "refusals of argon2": lambda: refusals("argon2"), "refusals of scrypt": lambda: refusals("scrypt"),
     "faults of the libraries": faults, "ranges": ranges, "definitions": definitions,
     "a program in Rattle": lambda: program("accounts.txt", "rust"), "a program in C": lambda: program("login.c", "c"),
     "a program in Python": lambda: program("login.py", "python"),
     "times of the programs": programs, "machines": machines, "rows that are kept": kept,
-    "logins": logins, "the library from Python": from_python, "huge pages": huge_pages,
-    **{f"examples, {it}": lambda it=it: examples(it) for it in ("argon2", "scrypt", "version 0x10", "hostile use")},
+    **{name: lambda of=of: table(of[1], [of[2](*row) for row in rows("measured.tsv", of[0])]) for name, of in OF_MEASURED.items()},
+    **{f"examples, {it}": lambda it=it: table(["no.", "arguments or call", "result", "test"], rows("examples.tsv", it))
+       for it in ("argon2", "scrypt", "version 0x10", "hostile use")},
 }
 
 

@@ -2,6 +2,8 @@
 import pathlib
 import re
 
+import prove
+
 ROOT = pathlib.Path(__file__).resolve().parents[2]
 IN_BACKTICKS = re.compile(r"`([^`]+)`")
 TESTS = {"tests", "tests.rt", "testing.rt"}
@@ -43,12 +45,6 @@ def functions(crate):
     return found
 
 
-def crates():
-    """Each crate of crates.txt with what it stands on."""
-    lines = [line for line in read("crates.txt").splitlines() if line and not line.startswith("#")]
-    return {line.split(":")[0].split()[0]: line.split(":")[1].split() for line in lines}
-
-
 def handed_on(crate):
     """The functions of other crates that a crate hands on as its own."""
     for owner, names in re.findall(r"^pub use (\w+)::\{?([^;}]*)\}?;", "\n".join(code(crate).values()), re.MULTILINE):
@@ -57,7 +53,7 @@ def handed_on(crate):
                 yield name, FUNCTIONS[owner][name]
 
 
-CRATES = crates()
+CRATES = {name: line.partition(":")[2].split() for name, line in prove.listed().items()}  # with what each stands on
 FUNCTIONS = {crate: functions(crate) for crate in CRATES}
 for each, below in CRATES.items():
     FUNCTIONS[each].update(handed_on(each))

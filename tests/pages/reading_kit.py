@@ -6,7 +6,6 @@ sources are, and elsewhere it is taken as it stands. The words of its standard l
 (numbers, lists, options), are not counted: docs/words.tsv says in a line what each of them means.
 """
 import pathlib
-import re
 import shutil
 
 import reading
@@ -14,7 +13,6 @@ import reading
 ROWS = reading.TOP / "docs" / "kit.tsv"
 # The standard library of the toolchain, under its several names.
 STANDARD = {"core", "std", "std_alloc", "std_heap", "std_io", "std_collections", "io", "logic"}
-RUST_TYPE = re.compile(r"\.specs\.declared\.")
 
 
 def folder():
@@ -22,12 +20,6 @@ def folder():
     command = shutil.which("rt")
     found = pathlib.Path(command).resolve().parent.parent / "rattle" if command else None
     return found if found and (found / "std" / "specs").is_dir() else None
-
-
-def module_file(module):
-    """The file of a module of definitions, below the folder of its crate's folder."""
-    crate, *inside = module.split(".")
-    return pathlib.Path(crate, *inside).with_suffix(".antt")
 
 
 def kit_files(files, kit):
@@ -62,9 +54,6 @@ class Reach:
         found = reading.reached([(text, self.resolved(names)) for text, names in texts], self.whole)
         return [(module, item) for module, item in found if module not in self.files and item]
 
-    def lines(self, items):
-        return sum(len(self.whole[module].items[item]) for module, item in items)
-
 
 def rows(calls, files):
     """The rows of docs/kit.tsv as they are now, or None where the toolchain's sources are not there: a call, a file
@@ -75,7 +64,7 @@ def rows(calls, files):
     made = []
     for call in calls:
         for module, items in reading.by_module(reach.of_kit(reading.texts_of(call))).items():
-            made.append((call, module, reach.lines((module, it) for it in items), items))
+            made.append((call, module, sum(len(reach.whole[module].items[it]) for it in items), items))
     return made
 
 

@@ -240,7 +240,7 @@ class Page:
         """A section for each file of definitions, with the items that are reached, the nearest first."""
         for module, names in reading.by_module(items).items():
             names = [*filter(None, names)]
-            text = (base / reading_kit.module_file(module)).read_text(encoding="utf-8")
+            text = base.joinpath(*module.split(".")).with_suffix(".antt").read_text(encoding="utf-8")
             about, parts = parted(text)
             types, standard = of_file(text)
             code = ["\n".join(parts[name][1]) for name in names]

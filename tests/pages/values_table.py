@@ -10,11 +10,10 @@ Option = collections.namedtuple("Option", "program subcommands word value takes 
 Message = collections.namedtuple("Message", "program number name line when")
 
 
-def rows(kind):
-    """The rows of a kind, as lists of cells, of which - is None."""
-    lines = FILE.read_text(encoding="utf-8").splitlines()
-    cells = [line.split("\t") for line in lines if not line.startswith("#")]
-    return [[None if it == "-" else it for it in row[1:]] for row in cells if row[0] == kind]
+def rows(kind, file=FILE, none=None):
+    """The rows of a kind, which is their first cell, as lists of the others, of which - is none."""
+    cells = [line.split("\t") for line in file.read_text(encoding="utf-8").splitlines() if not line.startswith("#")]
+    return [[none if it == "-" else it for it in row[1:]] for row in cells if row[0] == kind]
 
 
 def options(program, subcommand=""):

@@ -8,19 +8,16 @@ Expected hashes are those of Debian's argon2 (package argon2, version 0~20171227
 import os
 import re
 import shutil
-import subprocess
 import sys
 import tempfile
 import pathlib
 
 sys.path += map(str, pathlib.Path(__file__).resolve().parents[1].iterdir())  # the other folders of tests/
 import pages
-from checking import Checks
+from checking import Checks, compiled, is_there
 
-USAGE = (
-    b"argon2: usage: argon2 salt [-i|-d|-id] [-t N] [-m N | -k N] [-p N] [-l N] [-v VERSION]"
-    b" [--maxmem KIB] [--maxops N] (-e|-r)\n"
-)
+USAGE = (b"argon2: usage: argon2 salt [-i|-d|-id] [-t N] [-m N | -k N] [-p N] [-l N] [-v VERSION]"
+         b" [--maxmem KIB] [--maxops N] (-e|-r)\n")
 FIRST = b"$argon2d$v=19$m=8,t=1,p=1$c29tZXNhbHQ$xRnmA6xgPsGutbcexEpheePzl1sUwMl+ORTHnmNj4Xg\n"
 I_256 = b"$argon2i$v=19$m=256,t=2,p=1$c29tZXNhbHQ$iekCn0Y3spW+sCcFanM2xBT63UP2sghkUoHLIUpWRS8\n"
 I_256_10 = b"$argon2i$v=16$m=256,t=2,p=1$c29tZXNhbHQ$/U3YPXYsSb3q9XxHvc0MLxur+GP960kN9j7emXX8zwY\n"
@@ -67,10 +64,8 @@ TABLE = [
 
 # more than 64 MiB, and the longest tag, by Debian's argon2
 D_64_MIB = b"6c51226ce388e165ceaa1c9b5e0646e1bd532392cbf72680d8a8e71c00a35c2f\n"
-LONGEST_TAG = (
-    b"11164024bbb98e6e90b14957a1d51417df657057e0c245f9359366d794eb5f63",
-    b"b4e4162facc1fd3b88e73741e49c9fa04069973a7ee3fb65bcfef1cd394250e0\n",
-)
+LONGEST_TAG = (b"11164024bbb98e6e90b14957a1d51417df657057e0c245f9359366d794eb5f63",
+               b"b4e4162facc1fd3b88e73741e49c9fa04069973a7ee3fb65bcfef1cd394250e0\n")
 
 # what is compared with the installed program, with the password of each
 COMPARED = [
@@ -82,12 +77,8 @@ COMPARED = [
     ("somesalt -d -t 4 -k 77 -p 2 -l 65 -e", b"\x00\xff password"),
     ("saltsaltsaltsalt -id -t 1 -m 16 -p 4 -l 64 -e", b"x"),
     ("somesalt -i -t 1 -k 2100 -l 4 -r", b"password"),
-    *[
-        (f"somesalt -{kind} -t {passes} -k {memory} -p {lanes} -v 10 {form}", b"password")
-        for kind in ("i", "d", "id")
-        for passes, memory, form in ((1, 64, "-e"), (2, 1000, "-r"), (3, 77, "-e"), (4, 40, "-r"))
-        for lanes in (1, 2, 3, 4)
-    ],
+    *((f"somesalt -{kind} -t {passes} -k {memory} -p {lanes} -v 10 {form}", b"password") for kind in ("i", "d", "id")
+      for passes, memory, form in ((1, 64, "-e"), (2, 1000, "-r"), (3, 77, "-e"), (4, 40, "-r")) for lanes in (1, 2, 3, 4)),
 ]
 
 
@@ -104,14 +95,13 @@ def examples(checks):
 
 def standard_streams(checks):
     words = "somesalt -d -t 1 -k 8 -e"
-    unread = refused(b"password cannot be read")
-    unwritten = refused(b"output cannot be written")
-    checks.that("a closed standard input", checks.shell(f'"$0" {words} <&-', b"password"), unread)
-    checks.that("a folder as standard input", checks.shell(f'"$0" {words} </', b"password"), unread)
-    checks.that("a closed standard output", checks.shell(f'"$0" {words} >&-', b"password"), unwritten)
-    checks.that("a full device", checks.shell(f'"$0" {words} >/dev/full', b"password"), unwritten)
-    checks.that("a closed standard error", checks.shell('"$0" somesalt 2>&-', b"password"), (1, b"", b""))
-    checks.that("all streams closed", checks.shell(f'"$0" {words} <&- >&- 2>&-', b"password"), (1, b"", b""))
+    unread, unwritten, nothing = refused(b"password cannot be read"), refused(b"output cannot be written"), (1, b"", b"")
+    for name, line, expected in (
+        ("a closed standard input", f"{words} <&-", unread), ("a folder as standard input", f"{words} </", unread),
+        ("a closed standard output", f"{words} >&-", unwritten), ("a full device", f"{words} >/dev/full", unwritten),
+        ("a closed standard error", "somesalt 2>&-", nothing), ("all streams closed", f"{words} <&- >&- 2>&-", nothing),
+    ):
+        checks.that(name, checks.shell(f'"$0" {line}', b"password"), expected)
     # nobody reads the output any more: a fault like any other, and no signal
     checks.that("a pipe that nobody reads", checks.unread_pipe(words.split(), b"password"), (1, unwritten[2]))
     checks.that("a password in pieces", checks.slowly(words.split(), b"password", 0.01), hashed(FIRST))
@@ -150,14 +140,11 @@ void *realloc(void *old, size_t size) { GRANT("realloc", (void *, size_t), old, 
 
 def memory_before_the_hash(checks):
     """Once the matrix of 1 MiB is taken each further request is refused, and the run doesn't notice."""
-    compiler = shutil.which("cc")
-    if compiler is None:
-        print("skipped: no C compiler to refuse memory with")
+    if not is_there("cc", "memory is not refused"):
         return
     with tempfile.TemporaryDirectory() as folder:
         library = os.path.join(folder, "refusing.so")
-        command = [compiler, "-shared", "-fPIC", "-DMATRIX=1048576", "-x", "c", "-", "-o", library]
-        subprocess.run(command, input=REFUSING_AFTER.encode(), check=True)
+        compiled(REFUSING_AFTER, library, "-shared", "-fPIC", "-DMATRIX=1048576")
         for form in ("-e", "-r"):
             words = f"somesalt -d -t 1 -k 1024 {form}".split()
             expected = checks.run(words, b"password")
@@ -177,13 +164,11 @@ def standard_output_that_is_read(checks):
 
 
 def beside_the_installed(checks):
-    other = shutil.which("argon2")
-    if other is None:
-        print("skipped: no argon2 is installed to compare with")
+    if not is_there("argon2", "it is not compared with"):
         return
     for words, password in COMPARED:
-        ran = subprocess.run([other, *words.split()], input=password, stdout=subprocess.PIPE, stderr=subprocess.PIPE)
-        checks.that(f"as {other} {words}", checks.run(words.split(), password), (0, ran.stdout, b""))
+        _, printed, _ = checks.run(words.split(), password, program=shutil.which("argon2"))
+        checks.that(f"as the installed argon2 {words}", checks.run(words.split(), password), (0, printed, b""))
 
 
 def main():
@@ -192,13 +177,9 @@ def main():
     checks = Checks(sys.argv[1])
     for name, words, given, expected in TABLE:
         checks.that(name, checks.run(words.split(), given), expected)
-    examples(checks)
-    standard_streams(checks)
-    words_of_bytes(checks)
-    large(checks)
-    memory_before_the_hash(checks)
-    standard_output_that_is_read(checks)
-    beside_the_installed(checks)
+    for part in (examples, standard_streams, words_of_bytes, large, memory_before_the_hash, standard_output_that_is_read,
+                 beside_the_installed):
+        part(checks)
     checks.end()
 
 

@@ -14,7 +14,7 @@ import sys
 import tempfile
 
 sys.path += map(str, pathlib.Path(__file__).resolve().parents[1].iterdir())  # the other folders of tests/
-from checking import Checks, is_there
+from checking import Checks, compiled, is_there
 from scrypt_files import F5, FROM_PW, LINES
 from shown import compile_c
 
@@ -37,6 +37,7 @@ int main(int count, char **words) {
     return difference ? 1 : 0;
 }
 """
+UNCOUNTED = "valgrind", "the instructions of comparisons are not counted"
 VERIFIES = """
 #include "pikhsen.h"
 #include <string.h>
@@ -48,16 +49,11 @@ int main(int count, char **words) {
 """
 
 
-def can_count():
-    return is_there("valgrind", "the instructions of comparisons are not counted")
-
-
 def counted(words, folder):
     """Status, standard error and the count of instructions of a run, which sees no variable."""
     log = os.path.join(folder, "log")
-    begin = ["valgrind", "--tool=callgrind", "--callgrind-out-file=/dev/null", f"--log-file={log}"]
-    ran = subprocess.run([*begin, *words], cwd=folder, env={"PATH": os.environ["PATH"]}, stdout=subprocess.DEVNULL,
-                         stderr=subprocess.PIPE, check=False)
+    words = ["valgrind", "--tool=callgrind", "--callgrind-out-file=/dev/null", f"--log-file={log}", *words]
+    ran = subprocess.run(words, cwd=folder, env={"PATH": os.environ["PATH"]}, stdout=subprocess.DEVNULL, stderr=subprocess.PIPE)
     found = re.search(r"Collected : (\d+)", pathlib.Path(log).read_text(encoding="utf-8"))
     return ran.returncode, ran.stderr, int(found[1]) if found else None
 
@@ -65,8 +61,8 @@ def counted(words, folder):
 def same(checks, name, runs, status, line=b""):
     """All runs end so, after the same number of instructions."""
     checks.that(f"{name}: how it ends", {it[:2] for it in runs}, {(status, line)})
-    checks.that(f"{name}: how many counts there are", (len({it[2] for it in runs}), None in {it[2] for it in runs}),
-                (1, False))
+    counts = {it[2] for it in runs}
+    checks.that(f"{name}: how many counts there are", (len(counts), None in counts), (1, False))
 
 
 def changed(text, place):
@@ -85,7 +81,7 @@ def codes_of_files(checks, program, folder):
 
 def tags_of_texts(checks, library, folder):
     """The tags of texts of hashes, by the library in this folder."""
-    if not can_count():
+    if not is_there(*UNCOUNTED):
         return
     source, program = pathlib.Path(folder, "verifies.c"), os.path.join(folder, "verifies")
     source.write_text(VERIFIES, encoding="utf-8")
@@ -103,13 +99,12 @@ def sees_what_stops(checks, folder):
     """The counts of a program that stops at the first difference are seen to differ."""
     if not is_there("cc", "no program that stops at a difference is looked at"):
         return
-    source, program = pathlib.Path(folder, "compares.c"), os.path.join(folder, "compares")
-    source.write_text(COMPARES, encoding="utf-8")
-    subprocess.run(["cc", "-O1", source, "-o", program], check=True)
+    program = os.path.join(folder, "compares")
+    compiled(COMPARES, program, "-O1")
+    pathlib.Path(folder, "left").write_bytes(bytes(32))
     for words, differ in (([], True), (["whole"], False)):
         counts = set()
         for place in PLACES:
-            pathlib.Path(folder, "left").write_bytes(bytes(32))
             pathlib.Path(folder, "right").write_bytes(changed(bytes(32), place))
             counts.add(counted([program, "left", "right", *words], folder)[2])
         checks.that(f"counts of a comparison of files {' '.join(words)}", len(counts) > 1, differ)
@@ -122,7 +117,7 @@ def main():
     with tempfile.TemporaryDirectory() as folder:
         if len(sys.argv) == 3:
             tags_of_texts(checks, os.path.abspath(sys.argv[2]), folder)
-        elif can_count():
+        elif is_there(*UNCOUNTED):
             codes_of_files(checks, checks.program, folder)
             sees_what_stops(checks, folder)
     checks.end()

@@ -13,7 +13,6 @@ import subprocess
 import sys
 import tempfile
 import termios
-import threading
 import time
 import pathlib
 
@@ -25,29 +24,25 @@ BEFORE = b"before"
 SIZES = (1, 31, len(F5) + 100)
 
 
-def not_opened(number):
-    return (1, LINES[number], BEFORE)
-
-
-def damaged(text):
-    return (1, LINES["S11"], text)
+def refused(number, text=BEFORE):
+    return (1, LINES[number], text)
 
 
 def cut(length):
     """What comes of the first bytes of the file."""
     if length < 96:
-        return not_opened("S6")
-    return damaged(b"hello"[: max(length - 128, 0)]) if length < len(F5) else (0, b"", b"hello")
+        return refused("S6")
+    return refused("S11", b"hello"[: max(length - 128, 0)]) if length < len(F5) else (0, b"", b"hello")
 
 
 def changed(place, bit):
     """What comes of the file with this bit of this byte changed."""
     if place < 96:
-        return not_opened("S7" if place == 6 else "S6" if place < 64 else "S10")
+        return refused("S7" if place == 6 else "S6" if place < 64 else "S10")
     text = bytearray(b"hello")
     if place < 101:
         text[place - 96] ^= 1 << bit
-    return damaged(bytes(text))
+    return refused("S11", bytes(text))
 
 
 def forms():
@@ -60,7 +55,7 @@ def forms():
             yield f"bit {bit} of byte {place} changed", file, changed(place, bit)
     for more in range(1, 101):
         # only the length of what follows the text is known without the cipher
-        yield f"{more} bytes more", F5 + bytes(more), damaged((b"hello", 5 + more))
+        yield f"{more} bytes more", F5 + bytes(more), refused("S11", (b"hello", 5 + more))
 
 
 def unread(stream):
@@ -70,26 +65,16 @@ def unread(stream):
     return waiting[0]
 
 
-class Program:
-    """The program, each thread in a folder of its own."""
-
-    def __init__(self, path, folder):
-        self.path, self.folder, self.threads = path, folder, threading.local()
-
-    def file(self, name):
-        if not hasattr(self.threads, "folder"):
-            self.threads.folder = tempfile.mkdtemp(dir=self.folder)
-            pathlib.Path(self.threads.folder, "pw").write_bytes(b"pw\n")
-        return pathlib.Path(self.threads.folder, name)
-
-    def decrypted(self, file, size):
-        """Status, line and what stands in the output, where the file comes in pieces of this size: each is sent when the one
-        before was read."""
-        out = self.file("out")
+def decrypted(program, file, size, folder):
+    """Status, line and what stands in the output, where the file comes in pieces of this size: each is sent when the one
+    before was read."""
+    with tempfile.TemporaryDirectory(dir=folder) as own:
+        out = pathlib.Path(own, "out")
         out.write_bytes(BEFORE)
+        pathlib.Path(own, "pw").write_bytes(b"pw\n")
         ours, theirs = socket.socketpair(socket.AF_UNIX, socket.SOCK_STREAM)
-        words = [self.path, "dec", *FROM_PW.split(), "-", "out"]
-        running = subprocess.Popen(words, stdin=theirs, stderr=subprocess.PIPE, cwd=out.parent, env={})
+        words = [program, "dec", *FROM_PW.split(), "-", "out"]
+        running = subprocess.Popen(words, stdin=theirs, stderr=subprocess.PIPE, cwd=own, env={})
         for begin in range(0, len(file), size):
             latest = time.monotonic() + TIME_LIMIT
             while running.poll() is None and unread(theirs):
@@ -108,9 +93,8 @@ def main():
         raise SystemExit(__doc__)
     checks = Checks(sys.argv[1])
     with tempfile.TemporaryDirectory() as folder, concurrent.futures.ThreadPoolExecutor(os.cpu_count()) as threads:
-        program = Program(checks.program, folder)
         for size in SIZES:
-            ran = [(name, threads.submit(program.decrypted, file, size), expected) for name, file, expected in forms()]
+            ran = [(name, threads.submit(decrypted, checks.program, file, size, folder), expected) for name, file, expected in forms()]
             for name, answer, expected in ran:
                 status, said, text = answer.result()
                 found = (status, said, (text[:5], len(text)) if name.endswith("more") else text)

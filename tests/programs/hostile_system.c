@@ -29,14 +29,8 @@ void *__libc_calloc(size_t, size_t);
 void *__libc_realloc(void *, size_t);
 void __libc_free(void *);
 
-struct range {
-    long first, last;
-};
-
-enum way { FAILS, INTERRUPTED, SHORT };
-
-static struct range refused_requests, bad_calls;
-static enum way way;
+static struct range { long first, last; } refused_requests, bad_calls;
+static enum { FAILS, INTERRUPTED, SHORT } way;
 static long requests, calls;
 static size_t largest_request = SIZE_MAX, told_when_freed = SIZE_MAX;
 static int log_descriptor = -1;
@@ -50,26 +44,24 @@ static struct range range_of(const char *variable) {
     return range;
 }
 
+static size_t number_of(const char *variable, size_t otherwise) {
+    const char *text = getenv(variable);
+    return text ? strtoull(text, NULL, 10) : otherwise;
+}
+
 __attribute__((constructor)) static void begin(void) {
     const char *text = getenv("HOSTILE_WAY");
     refused_requests = range_of("HOSTILE_MEMORY");
     bad_calls = range_of("HOSTILE_CALLS");
     if (text)
         way = !strcmp(text, "short") ? SHORT : !strcmp(text, "interrupted") ? INTERRUPTED : FAILS;
-    text = getenv("HOSTILE_LARGEST");
-    if (text)
-        largest_request = strtoull(text, NULL, 10);
-    text = getenv("HOSTILE_FREED");
-    if (text)
-        told_when_freed = strtoull(text, NULL, 10);
-    text = getenv("HOSTILE_LOG");
-    if (text)
-        log_descriptor = atoi(text);
+    largest_request = number_of("HOSTILE_LARGEST", SIZE_MAX);
+    told_when_freed = number_of("HOSTILE_FREED", SIZE_MAX);
+    log_descriptor = (int)number_of("HOSTILE_LOG", -1);
     requests = calls = 0;
 }
 
 static int is_within(struct range range, long number) { return range.first <= number && number <= range.last; }
-
 static int is_refused(size_t size) { return is_within(refused_requests, ++requests) || size > largest_request; }
 
 void *malloc(size_t size) { return is_refused(size) ? NULL : __libc_malloc(size); }
@@ -106,9 +98,7 @@ static int goes_on(const char *call, const char *name) {
     return 0;
 }
 
-static const char *name_of(int descriptor) {
-    return descriptor < 0 || descriptor >= 16 ? "a file" : names[descriptor];
-}
+static const char *name_of(int descriptor) { return descriptor < 0 || descriptor >= 16 ? "a file" : names[descriptor]; }
 
 static size_t cut(size_t size) { return way == SHORT && is_within(bad_calls, calls) && size > 1 ? 1 : size; }
 
@@ -134,18 +124,13 @@ ssize_t write(int descriptor, const void *bytes, size_t size) {
 }
 
 int statx(int folder, const char *path, int flags, unsigned mask, struct statx *found) {
-    if (!goes_on("look at", *path ? path : name_of(folder)))
-        return -1;
-    return syscall(SYS_statx, folder, path, flags, mask, found);
+    return goes_on("look at", *path ? path : name_of(folder)) ? syscall(SYS_statx, folder, path, flags, mask, found) : -1;
 }
 
-static int emptied(int descriptor, off_t length) {
+int ftruncate(int descriptor, off_t length) {
     return goes_on("empty", name_of(descriptor)) ? syscall(SYS_ftruncate, descriptor, length) : -1;
 }
-
-int ftruncate(int descriptor, off_t length) { return emptied(descriptor, length); }
-
-int ftruncate64(int descriptor, off_t length) { return emptied(descriptor, length); }
+int ftruncate64(int descriptor, off_t length) { return ftruncate(descriptor, length); }
 
 __attribute__((destructor)) static void end(void) {
     char text[32];

@@ -12,6 +12,7 @@ the stack and count in its limit, so their bytes are added to it.
 """
 import concurrent.futures
 import dataclasses
+import itertools
 import os
 import pathlib
 import re
@@ -20,7 +21,7 @@ import sys
 import tempfile
 
 sys.path += map(str, pathlib.Path(__file__).resolve().parents[1].iterdir())  # the other folders of tests/
-from checking import Checks, is_there, said
+from checking import Checks, compiled, is_there, said
 from scrypt_files import FROM_PW, SALT
 
 # In KiB. The limit counts what lies above the stack, too, and the up to 8 KiB by which Linux moves its beginning.
@@ -30,6 +31,7 @@ SMALL, LARGE = 64, 8192
 LARGEST_FRAME = 32768
 CHEAP = "--logN 1 -r 1 -p 1"
 PIECES = (*range(301), 4095, 4096, 4097, 8191, 8192, 8193)
+CUTS = (*range(0, 140, 3), 4224, 8320)
 
 
 @dataclasses.dataclass(frozen=True)
@@ -53,20 +55,16 @@ class Run:
 
 
 def runs_of_argon2():
-    for length in range(131):
-        for kind in ("-d", "-i", "-id"):
-            words = f"somesalt {kind} -t 1 -k 8 -e"
-            yield Run(f"a password of {length} bytes, {kind}", "argon2", words, f"p-{length}")
+    for length, kind in itertools.product(range(131), ("-d", "-i", "-id")):
+        yield Run(f"a password of {length} bytes, {kind}", "argon2", f"somesalt {kind} -t 1 -k 8 -e", f"p-{length}")
     for length in range(258):
         yield Run(f"a salt of {length} bytes", "argon2", f"'{'s' * length}' -t 1 -k 8 -e", "p-8")
     for length in (*range(3, 131), 255, 256, 257, 1023, 1024, 1025, 2048, 4032, 4095, 4096, 4097):
         form = "-er"[length % 2 + 1]
         yield Run(f"a tag of {length} bytes", "argon2", f"somesalt -t 1 -k 8 -l {length} -{form}", "p-8")
-    for lanes in (1, 2, 3, 4, 5, 8, 16, 64):
-        for kind in ("-d", "-i", "-id"):
-            for version in (10, 13):
-                words = f"somesalt {kind} -t 2 -k {8 * lanes + 3} -p {lanes} -v {version} -e"
-                yield Run(words, "argon2", words, "p-127")
+    for lanes, kind, version in itertools.product((1, 2, 3, 4, 5, 8, 16, 64), ("-d", "-i", "-id"), (10, 13)):
+        words = f"somesalt {kind} -t 2 -k {8 * lanes + 3} -p {lanes} -v {version} -e"
+        yield Run(words, "argon2", words, "p-127")
     for memory in (1024, 4096):
         yield Run(f"{memory} KiB", "argon2", f"somesalt -id -t 1 -k {memory} -e", "p-8")
     for count in range(41):
@@ -89,11 +87,10 @@ def runs_of_scrypt():
     for length in PIECES:
         yield Run(f"a text of {length} bytes", "scrypt", f"{new} {FROM_PW} p-{length}")
         yield Run(f"a text of {length} bytes from a pipe", "scrypt", f"{new} {FROM_PW} -", f"p-{length}")
-    for costs in ("2 1 1", "4 1 1", "4 2 3", "4 8 1", "7 8 2", "5 9 1", "5 33 1", "4 128 2", "10 1 1", "10 8 1"):
-        log_n, r, p = costs.split()
-        for keep in (1, 2, 4, 16):
-            words = f"enc --logN {log_n} -r {r} -p {p} --keep {keep} --salt {SALT} {FROM_PW} hello"
-            yield Run(words, "scrypt", words)
+    costs = ((2, 1, 1), (4, 1, 1), (4, 2, 3), (4, 8, 1), (7, 8, 2), (5, 9, 1), (5, 33, 1), (4, 128, 2), (10, 1, 1), (10, 8, 1))
+    for (log_n, r, p), keep in itertools.product(costs, (1, 2, 4, 16)):
+        words = f"enc --logN {log_n} -r {r} -p {p} --keep {keep} --salt {SALT} {FROM_PW} hello"
+        yield Run(words, "scrypt", words)
     yield Run("a salt of its own", "scrypt", f"enc {CHEAP} {FROM_PW} hello >own")
     for count in range(41):
         yield Run(f"{count} unknown words for scrypt", "scrypt", " ".join(["x"] * count))
@@ -115,7 +112,7 @@ def runs_over_files():
     for length in PIECES:
         yield Run(f"a file of a text of {length} bytes", "scrypt", f"dec {FROM_PW} file-{length}")
         yield Run(f"such a file of {length} bytes from a pipe", "scrypt", f"dec {FROM_PW} -", f"file-{length}")
-    for length in (*range(0, 140, 3), 4224, 8320):
+    for length in CUTS:
         yield Run(f"a file cut to {length} bytes", "scrypt", f"dec {FROM_PW} cut-{length}")
         yield Run(f"info of a file cut to {length} bytes", "scrypt", f"info cut-{length}")
     yield Run("another passphrase", "scrypt", "dec --passphrase file:p-3 file-8")
@@ -129,15 +126,13 @@ def run_all(runs, folder, programs, small):
         text = "".join(run.line(number, small) for number, run in chosen)
         ran = subprocess.run(["sh", "-s"], input=text.encode(), stdout=subprocess.PIPE, stderr=subprocess.STDOUT,
                              cwd=folder, env=programs, check=False)
-        pieces = re.split(rb"\nended (\d+) (\d+)\n", ran.stdout)
-        return {int(number): (int(status), out)
-                for out, number, status in zip(pieces[0::3], pieces[1::3], pieces[2::3])}
+        ended = re.findall(rb"(.*?)\nended (\d+) (\d+)\n", ran.stdout, re.DOTALL)
+        return {int(number): (int(status), out) for out, number, status in ended}
 
     numbered = [*enumerate(runs)]
     with concurrent.futures.ThreadPoolExecutor(count) as pool:
-        found = {}
-        for some in pool.map(part, [numbered[turn::count] for turn in range(count)]):
-            found.update(some)
+        parts = pool.map(part, [numbered[turn::count] for turn in range(count)])
+        found = {number: ended for some in parts for number, ended in some.items()}
     return [found.get(number) for number, _ in numbered]
 
 
@@ -158,11 +153,10 @@ def make_files(folder):
 
 def make_encrypted(folder, runs, ended):
     """The files of texts, as runs wrote them."""
-    made = {int(run.name.split()[3]): out for run, (_, out) in zip(runs, ended)
-            if re.fullmatch(r"a text of \d+ bytes", run.name)}
+    made = {int(run.name.split()[3]): out for run, (_, out) in zip(runs, ended) if re.fullmatch(r"a text of \d+ bytes", run.name)}
     for length, out in made.items():
         pathlib.Path(folder, f"file-{length}").write_bytes(out)
-    for length in (*range(0, 140, 3), 4224, 8320):
+    for length in CUTS:
         pathlib.Path(folder, f"cut-{length}").write_bytes(made[8193][:length])
     pathlib.Path(folder, "file").write_bytes(made[5])
 
@@ -184,7 +178,7 @@ def finds_what_is_deep(checks, folder):
     if not is_there("cc", "no program that takes 64 MiB of stack is looked at"):
         return
     program = os.path.join(folder, "deep")
-    subprocess.run(["cc", "-O0", "-x", "c", "-", "-o", program], input=DEEP.encode(), check=True)
+    compiled(DEEP, program, "-O0")
     runs = [it for it in runs_of_argon2() if it.name.startswith("a password of ")]
     wrong, _ = compare(runs, folder, {"argon2": program})
     checks.that("64 MiB of stack at one length of the password", [it[0] for it in wrong],

@@ -29,13 +29,8 @@ END = "-- end of the command --"
 def story():
     """The commands below the heading "A story", in their order, each with what it prints."""
     section = README.split("\n## A story\n")[1].split("\n## ")[0]
-    typed = []
-    for line in re.findall(r"^    (.*)$", section, re.MULTILINE):
-        if line.startswith("$ "):
-            typed.append((line[2:], []))
-        else:
-            typed[-1][1].append(line)
-    return [(command, "".join(line + "\n" for line in lines)) for command, lines in typed]
+    lines = "".join(f"{line}\n" for line in re.findall(r"^    (.*)$", section, re.MULTILINE))
+    return re.findall(r"^\$ (.*)\n((?:(?!\$ ).*\n)*)", lines, re.MULTILINE)
 
 
 def examples(page, heading="EXAMPLES"):
@@ -82,7 +77,8 @@ def typed_passphrases(shell, encrypt, decrypt):
     after its whole content was written, and the shell keeps no passphrase. The costs are those for such a passphrase;
     what runs here has a smaller table."""
     expect = shell.expect
-    expect("the costs of what is typed", re.findall(r"--logN.*-p \d+", encrypt), costs_of_typed())
+    recommended = re.findall(r"passphrase that you remember\*\*: `(.*?)`", README)
+    expect("the costs of what is typed", re.findall(r"--logN.*-p \d+", encrypt), recommended)
     encrypt = encrypt.replace("--logN 20", "--logN 10")
     (text, part), (of_file, text_part) = (re.search(r"-P ([\w.]+) ([\w.]+)", it).groups() for it in (encrypt, decrypt))
     file, said = re.search(r"mv \S+ (\S+)", encrypt)[1], re.search(r"echo '(.*)' >&2", encrypt)[1]
@@ -107,11 +103,6 @@ def typed_passphrases(shell, encrypt, decrypt):
     shell.run(f"mv made {file}; rm -f {part} {text_part} kept")
 
 
-def costs_of_typed():
-    """What README recommends for a passphrase that a person remembers."""
-    return re.findall(r"passphrase that you remember\*\*: `(.*?)`", README)
-
-
 def in_shells(checks, programs, names, page, run):
     """Runs what is for these shells in each, in an empty folder."""
     for name in names:
@@ -120,10 +111,6 @@ def in_shells(checks, programs, names, page, run):
             continue
         with tempfile.TemporaryDirectory() as room:
             run(Shell(checks, name, programs, room, page))
-
-
-def typed_of_readme(shell):
-    typed_passphrases(shell, *blocks_of_readme("Typing a passphrase"))
 
 
 def blocks_of_readme(heading):
@@ -150,8 +137,7 @@ def scrypt_examples(shell):
         shell.run("rm -f letters.enc backup-key")
         status, _ = shell.run(f"{name}() {{ return 1; }}; {backup[0]}")
         expect(f"a backup without a key, since {name} fails, is none", (status != 0, shell.run("ls letters.enc")[0] != 0), (True, True))
-    shell.run("rm -f backup-key")
-    shell.run("mkdir letters; echo 'Dear Ada' >letters/to-ada; head -c 32 /dev/urandom | base64 >new-key")
+    shell.run("rm -f backup-key; mkdir letters; echo 'Dear Ada' >letters/to-ada; head -c 32 /dev/urandom | base64 >new-key")
     expect("a backup", shell.run(backup[0]), (0, ""))
     status, _ = shell.run("cp letters.enc saved\n" + backup[0].replace("letters |", "letters nothere |"))
     kept = shell.run("cmp letters.enc saved; rm saved letters.new")
@@ -172,8 +158,7 @@ def scrypt_examples(shell):
     expect("no text was left", shell.run("ls")[1].split(), ["backup-key", "cut", "letters", "letters.enc", "letters.tar", "new-key"])
     shell.run("cp letters.tar saved")
     typed_passphrases(shell, typed[0], typed_again[0])
-    shell.run("mv saved letters.tar")
-    shell.run("echo Dear >in")
+    shell.run("mv saved letters.tar; echo Dear >in")
     for held in ("", r"\n", r"\nwords", r"\r\n", r"\rwords", r"\0", r"\0\0\n"):
         for name, of, given in (("a file", guard_of_a_file, f"printf '{held}' >key"), ("a command", guard, f"pass() {{ printf '{held}'; }}")):
             found = shell.run(f"{given}; {of[0]}s=$?; ls out; exit $s")
@@ -277,7 +262,8 @@ def first_screen(shell):
 
 def compare_recipes(checks, programs):
     in_shells(checks, programs, ("bash", "zsh"), "README.md", first_screen)
-    in_shells(checks, programs, ("bash", "zsh"), "README.md", typed_of_readme)
+    typed = blocks_of_readme("Typing a passphrase")
+    in_shells(checks, programs, ("bash", "zsh"), "README.md", lambda shell: typed_passphrases(shell, *typed))
     in_shells(checks, programs, ("bash", "dash", "zsh"), "argon2.1", argon2_examples)
 
 
@@ -319,10 +305,8 @@ def functions(text):
 
 
 def compare_functions(checks):
-    tested = {}
-    for file in sorted(TOP.glob("crates/*/src/**/*.rt")):
-        if "tests" in file.parts[-2:] or file.name == "tests.rt":
-            tested.update(functions(file.read_text(encoding="utf-8")))
+    files = [it for it in sorted(TOP.glob("crates/*/src/**/*.rt")) if "tests" in it.parts[-2:] or it.name == "tests.rt"]
+    tested = functions("".join(it.read_text(encoding="utf-8") for it in files))
     shown = functions(rust_program()[0])
     checks.that("LIBRARY's login is a test's", "may_enter" in shown and "may_enter" in tested, True)
     for name in sorted(shown.keys() & tested.keys() - {"main"}):

@@ -1,4 +1,5 @@
 """How programs and libraries are made: what readelf, nm and objdump show of them."""
+import pathlib
 import re
 
 from checking import is_there, said
@@ -9,10 +10,9 @@ def hardened(checks, name, file, is_program):
     where it is loaded, and nothing is looked for in folders of whoever built it."""
     head, segments, dynamic = (said("readelf", it, str(file)) for it in ("-hW", "-lW", "-dW"))
     kind = re.search(r"Type: +(\w+ \(.*\))", head)[1]
-    checks.that(f"{name}: its kind", kind, "DYN (Position-Independent Executable file)" if is_program else
-                "DYN (Shared object file)")
-    checks.that(f"{name}: bound at the start", (re.findall(r"\(FLAGS\) +(.*)", dynamic), "NOW" in str(
-        re.findall(r"\(FLAGS_1\) +Flags: (.*)", dynamic))), (["BIND_NOW"], True))
+    checks.that(f"{name}: its kind", kind, f"DYN ({'Position-Independent Executable' if is_program else 'Shared object'} file)")
+    bound = re.findall(r"\(FLAGS\) +(.*)", dynamic), re.search(r"\(FLAGS_1\) +Flags: .*NOW", dynamic) is not None
+    checks.that(f"{name}: bound at the start", bound, (["BIND_NOW"], True))
     flags = dict(re.findall(r"^  (\w+) +(?:0x[0-9a-f]+ +){5}(R?W? ?E?)(?: |$)", segments, re.MULTILINE))
     checks.that(f"{name}: its stack is not run", flags.get("GNU_STACK", "").strip(), "RW")
     checks.that(f"{name}: read-only once it is bound", "GNU_RELRO" in flags, True)
@@ -31,10 +31,15 @@ def level(checks, name, file, has_avx):
         checks.that(f"{name}: instructions of x86-64-v3", found, has_avx)
 
 
+def runs_v3():
+    """Whether the processor has the level x86-64-v3."""
+    flags = re.search(r"(?m)^flags.*", pathlib.Path("/proc/cpuinfo").read_text(encoding="ascii", errors="replace"))
+    return {"abm", "avx2", "bmi1", "bmi2", "f16c", "fma", "movbe"} <= {*flags[0].split()}
+
+
 def names_in(checks, words, names):
     """A library exports these names and no other."""
-    defined = re.findall(r"^[0-9a-f]+ T (\w+)", said(*words), re.MULTILINE)
-    others = re.findall(r"^[0-9a-f]+ [^TtA] (\w+)", said(*words), re.MULTILINE)
+    defined, others = (re.findall(rf"^[0-9a-f]+ {kind} (\w+)", said(*words), re.MULTILINE) for kind in ("T", "[^TtA]"))
     checks.that(f"names in {words[-1].rpartition('/')[2]}", (sorted(defined), others), (names, []))
 
 
@@ -56,9 +61,7 @@ def library(checks, shared, static, names):
     shared_library(checks, shared, names)
     names_in(checks, ["nm", "-g", "--defined-only", static], names)
     sections = said("readelf", "-SW", static)
-    checks.that("libpikhsen.a: a stack that is not run", re.findall(r"\.note\.GNU-stack +\w+ .* (X?) +\d+ +\d+ +\d+$",
-                                                                    sections, re.MULTILINE), [""])
-    members = said("ar", "tv", static).splitlines()
-    checks.that("libpikhsen.a: members, owners and times", [it.split()[:3] + it.split()[-1:] for it in members], [
-        ["rw-r--r--", "0/0", members[0].split()[2], "pikhsen.o"]] if members else [])
-    checks.that("libpikhsen.a: the time of its member", " 1970 " in (members or [""])[0], True)
+    flags = re.findall(r"\.note\.GNU-stack +\w+ .* (X?) +\d+ +\d+ +\d+$", sections, re.MULTILINE)
+    checks.that("libpikhsen.a: a stack that is not run", flags, [""])
+    members = re.findall(r"^(\S+ \S+) +\d+ .* (\d+) (\S+)$", said("ar", "tv", static), re.MULTILINE)
+    checks.that("libpikhsen.a: members, owners and times", members, [("rw-r--r-- 0/0", "1970", "pikhsen.o")])

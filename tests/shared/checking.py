@@ -1,9 +1,9 @@
 """What the tests of the built programs share: a program is run, and what it did is compared with what it should have done."""
 import os
+import pathlib
 import shutil
 import subprocess
 import time
-
 
 # In seconds, and blocks of 512 bytes: no run takes so long, and none writes a file so large.
 TIME_LIMIT = 60
@@ -45,21 +45,16 @@ class Checks:
 
     def put(self, name, content):
         """Makes the file of this name, or takes it away where there is no content."""
-        path = os.path.join(self.folder, name)
+        path = pathlib.Path(self.folder, name)
         if content is None:
-            if os.path.exists(path):
-                os.remove(path)
+            path.unlink(missing_ok=True)
         else:
-            with open(path, "wb") as file:
-                file.write(content)
+            path.write_bytes(content)
 
     def content(self, name):
         """The bytes of the file of this name, or None where there is none."""
-        path = os.path.join(self.folder, name)
-        if not os.path.exists(path):
-            return None
-        with open(path, "rb") as file:
-            return file.read()
+        path = pathlib.Path(self.folder, name)
+        return path.read_bytes() if path.exists() else None
 
     def unread_pipe(self, words, given=b""):
         """Status and standard error where nobody reads standard output any more."""
@@ -107,6 +102,11 @@ def is_there(program, without):
     if not found:
         print(f"{program} is not installed: {without}")
     return found
+
+
+def compiled(text, out, *flags):
+    """Makes a program, or what the flags say, of a text in C."""
+    subprocess.run(["cc", *flags, "-x", "c", "-", "-o", out], input=text, text=True, check=True)
 
 
 def said(*words, check=True):

@@ -8,15 +8,14 @@ comes twice, and of each prefix.
 fails where the file has other answers.
 """
 import base64
+import pathlib
 import re
 import sys
 
 KNOWN = "$argon2i$v=19$m=256,t=2,p=1$c29tZXNhbHQ$iekCn0Y3spW+sCcFanM2xBT63UP2sghkUoHLIUpWRS8"
 SHORT = "$argon2i$m=256,t=2,p=1$c29tZXNhbHQ$/U3YPXYsSb3q9XxHvc0MLxur+GP960kN9j7emXX8zwY"
 NUMBER = "(0|[1-9][0-9]*)"
-TEXT = re.compile(
-    r"\$argon2(d|i|id)(?:\$v=N)?\$m=N,t=N,p=N\$([A-Za-z0-9+/]*)\$([A-Za-z0-9+/]*)".replace("N", NUMBER), re.ASCII
-)
+TEXT = re.compile(r"\$argon2(d|i|id)(?:\$v=N)?\$m=N,t=N,p=N\$([A-Za-z0-9+/]*)\$([A-Za-z0-9+/]*)".replace("N", NUMBER), re.ASCII)
 
 
 def decoded(symbols):
@@ -27,56 +26,46 @@ def decoded(symbols):
     return found if base64.b64encode(found).decode().rstrip("=") == symbols else None
 
 
-def answer(text):
-    """What reading the text answers."""
+def read(text):
+    """Type, version, memory, passes, lanes, salt and tag of a text; or what reading it answers, where it is not read."""
     match = TEXT.fullmatch(text)
-    if not match:
-        return "1"
-    version = 16 if match[2] is None else int(match[2])
-    memory, passes, lanes = (int(match[place]) for place in range(3, 6))
-    salt, tag = decoded(match[6]), decoded(match[7])
+    salt, tag = map(decoded, match.group(6, 7)) if match else (None, None)
     if salt is None or tag is None:
         return "1"
-    in_range = (
-        version in (16, 19)
-        and 1 <= passes < 2**32
-        and 1 <= lanes < 2**24
-        and 8 * lanes <= memory < 2**32
-        and 8 <= len(salt) <= 255
-        and 4 <= len(tag) <= 4096
-    )
-    return "0" if in_range else "2"
+    # a number of more digits than ten is out of each range, and Python refuses to read one of more than 4,300
+    version, memory, passes, lanes = (int(digits[:11]) for digits in (match[2] or "16", *match.group(3, 4, 5)))
+    in_range = version in (16, 19) and 1 <= passes < 2**32 and 1 <= lanes < 2**24 and 8 * lanes <= memory < 2**32 \
+        and 8 <= len(salt) <= 255 and 4 <= len(tag) <= 4096
+    return (match[1], version, memory, passes, lanes, salt, tag) if in_range else "2"
 
 
-def row(texts):
-    return "".join(answer(text) for text in texts)
+def work_of(kind, memory, passes, lanes):
+    """The block functions of a hash of type 0, 1 or 2 (RFC 9106, 3.2 and 3.4.1.2)."""
+    segment = memory // (4 * lanes)
+    independent = [0, 4 * lanes * passes, 2 * lanes][kind]
+    return passes * 4 * lanes * segment - 2 * lanes + 2 * -(-segment // 128) * independent
 
 
-def replaced(known, byte):
-    return row(known[:place] + byte + known[place + 1 :] for place in range(len(known)))
+# What stands in the place of a text, at each of its places.
+NEAR = {
+    "left_out": lambda known, at: known[:at] + known[at + 1:], "twice": lambda known, at: known[:at + 1] + known[at:],
+    "prefixes": lambda known, at: known[:at],
+}
 
 
-def left_out(known):
-    return row(known[:place] + known[place + 1 :] for place in range(len(known)))
+def row(known, near):
+    found = (read(near(known, at)) for at in range(len(known)))
+    return "".join(it if isinstance(it, str) else "0" for it in found)
 
 
-def twice(known):
-    return row(known[:place] + known[place : place + 1] + known[place:] for place in range(len(known)))
+def main():
+    rows = [(repr(byte), row(KNOWN, lambda known, at: known[:at] + byte + known[at + 1:])) for byte in "$,=+/06A-.\n"]
+    rows += [(f"{name} {how}", row(known, near)) for name, known in (("known", KNOWN), ("short", SHORT)) for how, near in NEAR.items()]
+    if len(sys.argv) == 1:
+        print(*(f"{name:16} {answers}" for name, answers in rows), sep="\n")
+    elif re.findall('"([012]+)"', pathlib.Path(sys.argv[1]).read_text(encoding="utf-8")) != [answers for _, answers in rows]:
+        sys.exit(f"{sys.argv[1]} has other answers than this program")
 
 
-def prefixes(known):
-    return row(known[:place] for place in range(len(known)))
-
-
-ROWS = [(repr(byte), replaced(KNOWN, byte)) for byte in "$,=+/06A-.\n"] + [
-    (f"{name} {near.__name__}", near(known))
-    for name, known in (("known", KNOWN), ("short", SHORT))
-    for near in (left_out, twice, prefixes)
-]
-if len(sys.argv) > 1:
-    with open(sys.argv[1], encoding="utf-8") as tables:
-        if re.findall('"([012]+)"', tables.read()) != [answers for _, answers in ROWS]:
-            sys.exit(f"{sys.argv[1]} has other answers than this program")
-else:
-    for name, answers in ROWS:
-        print(f"{name:16} {answers}")
+if __name__ == "__main__":
+    main()

@@ -43,11 +43,6 @@ def without_comments(text):
     return in_lines("".join(piece for piece, _ in pieces(text)))
 
 
-def without_strings(text):
-    """The same with its strings emptied."""
-    return in_lines("".join('""' if is_string else piece for piece, is_string in pieces(text)))
-
-
 def main():
     folder, *files = sys.argv[1:]
     status = 0
@@ -57,9 +52,10 @@ def main():
             if is_string and "\n" in piece:
                 print(f"{file}: a string goes on over the end of its line: {piece[:40]!r}")
                 status = 1
+        code = in_lines("".join('""' if is_string else piece for piece, is_string in pieces(text)))
         path = pathlib.Path(folder, file)
         path.parent.mkdir(parents=True, exist_ok=True)
-        path.write_text(" ".join(" ".join(without_strings(text)).split()), encoding="utf-8")
+        path.write_text(" ".join(" ".join(code).split()), encoding="utf-8")
     return status
 
 
