@@ -1,10 +1,12 @@
 """The promises of docs/PROMISES.md, each with the calls and clauses that carry it, looked for in the sources."""
 import pathlib
 import re
-
-import prove
+import sys
 
 ROOT = pathlib.Path(__file__).resolve().parents[2]
+sys.path.insert(0, str(ROOT / "packaging"))
+import prove  # noqa: E402
+
 IN_BACKTICKS = re.compile(r"`([^`]+)`")
 TESTS = {"tests", "tests.rt", "testing.rt"}
 

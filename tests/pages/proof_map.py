@@ -31,7 +31,13 @@ def rows(kind):
 STANDARDS = [dict(it.split(": ") for it in row) for row in rows("standards")]
 ARROWS = {(start, end): way for start, end, way in rows("arrow")}
 SMALL = [[dict(it.split(": ") for it in cell.split("; ") if it != "-") for cell in row] for row in rows("small")]
-STYLE = pathlib.Path(__file__).with_suffix(".css").read_text(encoding="utf-8").rstrip("\n")
+STYLE = """text{font:11.5px Helvetica,Arial,"Liberation Sans",sans-serif} .name,.number{font-size:14px;font-weight:bold}
+.number{font-size:12.5px} .soft{font-size:10.5px} .code{font:10.5px "DejaVu Sans Mono","Liberation Mono",monospace}
+.trusted{stroke-dasharray:5 3} .way{fill:none;stroke-width:1.4}
+.page{fill:#fff;stroke:none} rect{fill:#f6f8fa;stroke:#818b98} text{fill:#1f2328} .soft{fill:#59636e} .code{fill:#0550ae} .mark{fill:#ddf4ff}
+.base{fill:#fff8c5} .head{fill:#818b98} .way{stroke:#818b98}
+@media (prefers-color-scheme:dark){.page{fill:#0d1117;stroke:none} rect{fill:#161b22;stroke:#7d8590} text{fill:#e6edf3} .soft{fill:#9198a1} .code{fill:#79c0ff} .mark{fill:#12283d}
+.base{fill:#2e2a14} .head{fill:#7d8590} .way{stroke:#7d8590}}"""
 # How wide letters are, in parts of their height: those of DejaVu Sans, or somewhat more, which is wider than Arial.
 WIDE = {letter: width for letters, width in (("ijl'", 0.29), ("ft.,:;()-r ", 0.4), ("mwMW=+%@", 0.98), ("ABCDEFGHKLNOPQRSTUVXYZ", 0.75))
         for letter in letters}

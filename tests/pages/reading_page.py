@@ -6,7 +6,7 @@ the laws of them, the types that they name, and what the notation and the words 
                                      toolchain's sources are, and NAME.pdf where a program that makes one is installed
 
 A call is written CRATE::FUNCTION; without one both commands are meant. tests/pages/reading.py says what a contract reaches;
-reading_page.html is the frame of the page, and docs/notation.tsv and docs/words.tsv say what notation and words mean.
+docs/notation.tsv and docs/words.tsv say what notation and words mean.
 """
 import functools
 import hashlib
@@ -43,6 +43,34 @@ ON_HOSTS = """<p>The built programs run over a host of the crate <code>tools</co
 the system below it tells: the contract of <code>run</code> of their crates says the clauses above of every system that tells its
 bytes. Of Linux no contract knows a byte, so that it is such a system is trusted and tested. Contracts do not see the heap: nothing
 here promises that a run does not end with the refusal of memory, and nothing that salts cannot be guessed.</p>
+"""
+FRAME = """<!DOCTYPE html>
+<html lang=en><meta charset=utf-8><meta name=viewport content="width=device-width"><title>$title</title>
+<style>
+:root{color-scheme:light dark}
+body{margin:0 auto;max-width:62rem;padding:1.5rem;font:15px/1.5 Helvetica,Arial,"Liberation Sans",sans-serif}
+h1{font-size:1.6rem}h2{font-size:1.15rem;margin:2.2rem 0 .3rem;border-bottom:1px solid gray}h3{font-size:1rem;margin:1.6rem 0 .2rem}
+p{margin:.4rem 0}pre{margin:.1rem 0;padding:.3rem .6rem;border:1px solid silver;white-space:pre-wrap;overflow-wrap:anywhere}
+pre,code,dt{font:12.5px/1.45 "DejaVu Sans Mono","Liberation Mono",Menlo,Consolas,monospace}
+a{text-decoration:none}h2 a,.n a{color:inherit}:target{outline:2px solid}.s,.g,.n{font-size:.86em}.n{columns:3}
+.d{margin:.9rem 0 0}.d p{margin:0}.g{margin:1rem 0 0;padding-top:.5rem;border-top:1px dotted gray}
+dl{display:grid;grid-template-columns:minmax(9rem,17rem) 1fr;gap:.25rem 1rem}dt{overflow-wrap:anywhere}dd{margin:0}
+ol{padding-left:2.2rem;columns:2 18rem}
+@page{size:A4;margin:16mm 15mm 18mm;@bottom-left{content:"$title";font:8pt sans-serif}
+@bottom-right{content:counter(page) " / " counter(pages);font:8pt sans-serif}}
+@media print{body{font-size:9.5pt;max-width:none;padding:0}pre,code,dt{font-size:7.5pt}a{color:inherit}
+h2,h3,.d p{break-after:avoid}.d,.g,dl>*{break-inside:avoid}}
+</style>
+<h1>$title</h1>
+<p>Pikhsen $version. This page has all of this repository's text that a reader has to find right to believe the call
+<code>$call</code>: its contract, and the $count definitions in $files files ($lines lines) that the contract reaches, in the order in
+which the files are first cited. That the program meets the contract is proved by the toolchain, and needs no reader. Read it against
+$standards, whose sections stand in brackets$pages.</p>
+<p class=s>Made by tests/pages/reading_page.py. Sum of all sections: $sum. A signature stands as long as the sum of its section does.</p>
+<h2>Contents</h2><ol>
+$contents</ol>
+$sections<h2>Names, and the sections that define them</h2><p class=n>$names</p>
+</html>
 """
 
 
@@ -321,7 +349,7 @@ class Page:
         self.words_section()
         count, files, lines = reading.sizes(self.items, self.files)
         standards, pages = self.standards()
-        frame = string.Template(pathlib.Path(__file__).with_suffix(".html").read_text(encoding="utf-8"))
+        frame = string.Template(FRAME)
         return frame.substitute(
             title=f"What {names[0]} is proved to do", version=(TOP / "VERSION").read_text(encoding="utf-8").strip(), call=self.call,
             count=count, files=files, lines=lines, standards=standards, pages=pages, names=self.index(),
