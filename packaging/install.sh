@@ -6,6 +6,8 @@
 #     packaging/install.sh uninstall FOLDER
 #     packaging/install.sh check FOLDER      refuses what both would refuse, and does nothing
 #
+# Names that do not begin with a slash count from the repository.
+#
 # share/doc/pikhsen/installed.sha256 below FOLDER lists what was put there: files with their sums, for `sha256sum -c`,
 # and in its comments links, and folders that were not there before. `uninstall` takes away what is listed and still is
 # what it was, and says what it leaves; `install` does that with what an older list has and it does not put there.
@@ -50,6 +52,7 @@ taken_away() {
         '') why='it is not there' ;;
         "${line%%  *}")
             rm -f "$below/$name"
+            test "$what" = uninstall || tell "took away $name below $below, which this install does not put there"
             cache=${name%/*}/__pycache__
             if test "${name##*/}" = __init__.py && inside "$cache/it"; then # what Python compiled of it
                 rm -f "$below/$cache"/__init__.*.pyc
@@ -70,7 +73,8 @@ case ${below:+$prefix} in /*) ;; *) refuse "'$prefix' does not begin with /, as 
 test "$what" != check || exit 0
 real=$(realpath -m "$below")
 work=$(mktemp -d)
-trap 'rm -rf "$work"' EXIT
+making=$work/none # the file that is being put into its place
+trap 'rm -rf "$work"; rm -f "$making"' EXIT
 trap 'exit 130' INT
 trap 'exit 143' HUP TERM
 { inside "$list" && cat "$below/$list"; } >"$work/older" 2>/dev/null || test "$what" = install ||
@@ -137,8 +141,11 @@ install -D -m 644 -T "$work/both" "$below/$list"
 while IFS= read -r name; do
     if test -d "$work/new/$name"; then
         mkdir -p "$below/$name"
-    else
-        cp -P --preserve=mode --remove-destination -T "$work/new/$name" "$below/$name"
+    else # beside its place at first: what lies there stays until the new file is whole
+        making=$below/$name.new
+        rm -f "$making"
+        cp -P --preserve=mode -T "$work/new/$name" "$making"
+        mv -fT "$making" "$below/$name"
     fi
 done <"$work/names"
 awk 'NR == FNR { put[$0]; next } !(substr($0, index($0, "  ") + 2) in put)' "$work/names" "$work/older" >"$work/gone"
@@ -148,10 +155,10 @@ install -m 644 -T "$work/list" "$below/$list"
 test -n "${PIKHSEN_SAY:-}" || exit 0
 echo "installed below $prefix: argon2 and scrypt, with manual pages, completions and documents"
 test -z "$library" || echo "and the library: pikhsen.h, libpikhsen.a and libpikhsen.so.0 in $lib, and the Python module"
-case :$PATH: in *":$prefix/bin:"*) ;; *) echo "add it to PATH:    PATH=$prefix/bin:\$PATH" ;; esac
+case :$PATH: in *":$prefix/bin:"*) ;; *) echo "add it to PATH:    PATH=\"$prefix/bin:\$PATH\"" ;; esac
 case $prefix in /usr | /usr/local) ;; *)
     echo "zsh completes after these lines of ~/.zshrc:"
-    echo "    fpath=($prefix/$zsh \$fpath); autoload -Uz compinit; compinit"
+    echo "    fpath=(\"$prefix/$zsh\" \$fpath); autoload -Uz compinit; compinit"
     ;;
 esac
-test -z "$library" || echo "Python finds its module by    PYTHONPATH=$prefix/$python"
+test -z "$library" || echo "Python finds its module by    export PYTHONPATH=\"$prefix/$python\""
