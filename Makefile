@@ -42,8 +42,8 @@ test: $(filter bin/x86-64-v3/%,$(wildcard $(LEVELS:%=bin/%/scrypt))) ## the gate
 # A wrong line may need the programs or the library to be found. docs/audit says of which commit the last audit was.
 audit: bin/x86-64-v2/scrypt bin/lib/libpikhsen.so.0 ## tries each wrong body, wrong definition and wrong line, and writes the commit into docs/audit
 	@tests/edits/choice.py >bin/audit
-	tests/edits/refusals.py --audit
 	tests/edits/wrong_lines.py --audit
+	tests/edits/refusals.py --audit
 	@tests/edits/choice.py | cmp - bin/audit && mv bin/audit docs/audit
 
 map: ## draws docs/proof-map.svg and docs/proof-map-small.svg anew: which promise stands on what
