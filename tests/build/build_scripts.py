@@ -262,7 +262,7 @@ def below(folder):
 
 def to_be_installed(room, prefix):
     """What is to lie below a prefix beside the list: manual pages name documents by where they are installed."""
-    docs = {f"share/doc/pikhsen/docs/{it.name}": f"docs/{it.name}" for it in (room.top / "docs").iterdir() if it.is_file()}
+    docs = {f"share/doc/pikhsen/docs/{it.name}": f"docs/{it.name}" for it in (room.top / "docs").glob("*.*")}  # docs/audit is for the gate
     held = {to: (room.top / file).read_bytes() for to, file in {**INSTALLED, **docs}.items()}
     for to in held:
         if "/man/" in to:
