@@ -333,9 +333,9 @@ def another_is_installed_over_it(checks, room):
     older = below(to)
     status, said = room.run("packaging/install.sh", "install", to, "bin")
     gone = [name for name, text in older.items() if name not in below(to) and text is not None]
-    told = [f"left include/pikhsen.h below {to}: it was changed since", *(
-        f"took away {it} below {to}, which this install does not put there" for it in gone)]
-    checks.that("install, over an older one", (status, sorted(said.splitlines())), (0, sorted(f"packaging/install.sh: {it}" for it in told)))
+    told = [f"packaging/install.sh: left include/pikhsen.h below {to}: it was changed since", *(
+        f"packaging/install.sh: took away {it} below {to}, which this install does not put there" for it in gone)]
+    checks.that("install, over an older one", (status, sorted(said.splitlines())), (0, sorted(told)))
     left = {"include": None, "include/pikhsen.h": b"edited"}
     checks.that("what is left of the older one", {it: text for it, text in below(to).items() if it.startswith(("lib/l", "include"))}, left)
     checks.that("the new one", (to / "bin/scrypt").read_bytes(), b"older bin/scrypt")
@@ -346,7 +346,8 @@ def another_is_installed_over_it(checks, room):
     status, _ = room.run("packaging/install.sh", "install", to, "bin", PIKHSEN_ZSH="share/other")
     room.stand_in("cp", None)
     shutil.copy(TOP / "README.md", room.top)
-    checks.that("an install that fails leaves the file that is there", (to / "share/doc/pikhsen/README.md").read_text(), room.texts("README.md")[0])
+    found = (to / "share/doc/pikhsen/README.md").read_text()
+    checks.that("an install that fails leaves the file that is there", found, room.texts("README.md")[0])
     checks.that("an install that fails", (status != 0, room.run("make", "uninstall", stage)[0], below(to)), (True, 0, {"include": None}))
 
 
