@@ -39,7 +39,7 @@ FILES = {
             "usr/bin/{}", "usr/share/man/man1/{}.1.gz", "usr/share/bash-completion/completions/{}",
             "usr/share/zsh/vendor-completions/_{}")),
         "usr/share/doc/pikhsen/README.md", "usr/share/lintian/overrides/pikhsen",
-        *(f"usr/share/doc/pikhsen/docs/{it.name}" for it in (TOP / "docs").iterdir() if it.is_file()),
+        *(f"usr/share/doc/pikhsen/docs/{it.name}" for it in (TOP / "docs").glob("*.*")),  # docs/audit is for the gate
     ],
     "libpikhsen0": [f"{LIBRARIES}/libpikhsen.so.0", "usr/share/lintian/overrides/libpikhsen0"],
     "libpikhsen-dev": [
