@@ -14,7 +14,7 @@ weaving_of weave = record {
     slices_made = weave.slices_made;
     blocks = weave.blocks.held.list.items;
   };
-  left = weave.left.items;
+  left = weave.left.list.items;
 }
 
 -- what holds of the fields: beside the rest, each lane has the address block of its columns

@@ -1,21 +1,40 @@
-//! A list that is freed in one way: when each word of each block in it is 0.
+//! Lists of blocks, which leave this file in no other way than as blocks that are lent: what has one can't make it grow,
+//! nor take memory from its heap.
 ghost use Rattle.std.specs.Prelude.{◌≡◌, length, replicate, vec_len};
 ghost use Rattle.std.specs.Borrow.{sem};
 ghost use Rattle.argon.specs.Inside.Held.{LendsBlocks};
 
 use crate::block::Block;
 
-/// A list of blocks that can be let go of by [`Held::free`] alone. It has no `Drop`, so that it
-/// cannot be forgotten, and it lends its blocks, never the list, so that none can be cut off.
+/// Blocks that a source of memory grants. They are let go of as they are, so nobody can write to them
+/// before a matrix or lanes hold them.
+#[derive(Drop)]
+pub struct GrantedBlocks {
+    list: Vec<Block>,
+}
+
+impl GrantedBlocks {
+    /// The blocks of this list.
+    pub fn new(list: Vec<Block>) -> GrantedBlocks
+        ensures list { result.list ≡ list }
+    {
+        GrantedBlocks { list }
+    }
+}
+
+/// A list of blocks that can be let go of by [`Held::free`] alone, when each word of each block in it is
+/// 0. It has no `Drop`, so that it cannot be forgotten, and it lends its blocks, never the list, so that
+/// none can be cut off.
 pub(crate) struct Held {
     list: Vec<Block>,
 }
 
 impl Held {
-    /// Takes the list in.
-    pub(crate) fn new(list: Vec<Block>) -> Held
-        ensures list { result.list ≡ list }
+    /// Takes the blocks in.
+    pub(crate) fn new(granted: GrantedBlocks) -> Held
+        ensures list { result.list ≡ granted.list }
     {
+        let GrantedBlocks { list } = granted;
         Held { list }
     }
 

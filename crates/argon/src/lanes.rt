@@ -3,6 +3,7 @@ ghost use Rattle.std.specs.Prelude.{◌≡◌, ◌⊎◌, false, true, IfOk, OnE
 
 use crate::blocks::Blocks;
 use crate::held::Held;
+use crate::numbers::Numbers;
 use crate::params::Params;
 use crate::room::Room;
 use std::alloc::{AllocError, Global};
@@ -14,8 +15,8 @@ use std::marker::Model;
 #[derive(Drop)]
 pub struct Lanes {
     pub(crate) params: Params,
-    // How many blocks of the slice each lane has still to make.
-    pub(crate) left: Vec<u32>,
+    // How many blocks of the slice each lane has still to make: none, between two slices.
+    pub(crate) left: Numbers,
     // The address block that the words J of each lane stand in, where the addressing is
     // independent.
     pub(crate) addresses: Blocks,
@@ -44,8 +45,9 @@ pub fn reserve_from<R: Room>(room: &mut R, params: &Params) -> Result<Lanes, All
         ⊎ (room.new ≡ R.after_blocks (R.after_numbers room.old params.now.lanes true) params.now.lanes false)) }
 {
     let count = params.lanes() as usize;
-    let left = room.numbers(count)?;
+    let mut left = room.numbers(count)?;
     let held = Held::new(room.blocks(count)?);
+    left.fill(0);
     Ok(Lanes {
         params: params.copied(),
         left,

@@ -1,13 +1,14 @@
 //! Where the memory of a matrix and of lanes comes from: the heap, or a source of the caller's own.
 ghost use Rattle.std.specs.Prelude.{◌≡◌, ℕ, Bool, IfOk, is_ok, vec_len};
 
-use crate::block::Block;
+use crate::held::GrantedBlocks;
+use crate::numbers::Numbers;
 use std::alloc::{AllocError, Global};
 
 /// A source of the memory of a matrix and of lanes: the heap, which `Matrix::reserve` and `Lanes::reserve` use, or one of
 /// your own, which counts requests, say, or refuses some. [`matrix::reserve_from`](crate::matrix::reserve_from) and
 /// [`lanes::reserve_from`](crate::lanes::reserve_from) take it. Contracts see how many requests there are, of what size, and
-/// which of them are granted.
+/// which of them are granted. What is granted can't grow, and hands on no heap.
 pub trait Room {
     // What a request for so many blocks leaves of the source, granted or refused.
     ghost after_blocks: { Self → ℕ → Bool → Self };
@@ -17,13 +18,13 @@ pub trait Room {
 
     /// So many blocks of 1,024 bytes, whatever stands in them. `AllocError` where they are refused, and then nothing is
     /// held.
-    fn blocks(&mut self, count: usize) -> Result<Vec<Block>, AllocError>
-        ensures size { IfOk result (λ blocks. vec_len blocks ≡ count) }
+    fn blocks(&mut self, count: usize) -> Result<GrantedBlocks, AllocError>
+        ensures size { IfOk result (λ blocks. vec_len blocks.list ≡ count) }
         ensures asked { self.new ≡ after_blocks self.old count (is_ok result) };
 
     /// So many numbers of four bytes, whatever they are. `AllocError` where they are refused, and then nothing is held.
-    fn numbers(&mut self, count: usize) -> Result<Vec<u32>, AllocError>
-        ensures size { IfOk result (λ numbers. vec_len numbers ≡ count) }
+    fn numbers(&mut self, count: usize) -> Result<Numbers, AllocError>
+        ensures size { IfOk result (λ numbers. vec_len numbers.list ≡ count) }
         ensures asked { self.new ≡ after_numbers self.old count (is_ok result) };
 }
 
@@ -32,11 +33,11 @@ impl Room for Global {
 
     ghost after_numbers = { λ room _ _. room };
 
-    fn blocks(&mut self, count: usize) -> Result<Vec<Block>, AllocError> {
-        vec![in *self; [0; 128]; count]
+    fn blocks(&mut self, count: usize) -> Result<GrantedBlocks, AllocError> {
+        Ok(GrantedBlocks::new(vec![in *self; [0; 128]; count]?))
     }
 
-    fn numbers(&mut self, count: usize) -> Result<Vec<u32>, AllocError> {
-        vec![in *self; 0; count]
+    fn numbers(&mut self, count: usize) -> Result<Numbers, AllocError> {
+        Ok(Numbers::new(vec![in *self; 0; count]?))
     }
 }

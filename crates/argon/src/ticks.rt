@@ -23,13 +23,13 @@ impl Model for Ticks {
 }
 
 impl Ticks {
-    /// A counter at 0. The heap is wanted and not used: what has its memory from a caller's source
+    /// A counter at 0. The heap is wanted, as by its count: what has its memory from a caller's source
     /// alone can make no counter of its own, so all its work is counted by the one that it is handed.
-    pub fn new(_alloc: Global) -> Ticks
+    pub fn new(alloc: Global) -> Ticks
         ensures zero { result ≡ 0 }
     {
         Ticks {
-            count: Count::new(),
+            count: Count::new(alloc),
         }
     }
 
@@ -37,7 +37,7 @@ impl Ticks {
     pub(crate) fn tick(&mut self)
         ensures one_more { self.new ≡ self.old + 1 }
     {
-        self.count = self.count.plus_one();
+        self.count.plus_one();
     }
 }
 

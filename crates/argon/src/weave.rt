@@ -13,6 +13,7 @@ use crate::blocks::Blocks;
 use crate::compression::Scratch;
 use crate::lanes::Lanes;
 use crate::matrix::Matrix;
+use crate::numbers::Numbers;
 use crate::params::Params;
 use crate::segment::{Segment, fill_next_column, first_index};
 use crate::ticks::Ticks;
@@ -30,7 +31,7 @@ pub struct Weave {
     h0: [u8; 64],
     slices_made: u64,
     blocks: Blocks,
-    left: Vec<u32>,
+    left: Numbers,
     addresses: Blocks,
     scratch: Scratch,
 }
@@ -132,10 +133,7 @@ impl Weave {
     pub fn left(&self, lane: u32) -> u32
         ensures value { result ≡ slice_index self.now.left lane }
     {
-        match self.left.get(lane as usize) {
-            Some(left) => *left,
-            None => 0,
-        }
+        self.left.at(lane)
     }
 
     /// Makes the next block of a lane that has some left. It takes one block function, and two more
@@ -161,7 +159,7 @@ impl Weave {
         let pass = (self.slices_made / 4) as u32;
         let slice = (self.slices_made % 4) as u32;
         let at = Segment::new(&self.params, pass, lane, slice);
-        let index = at.len - self.left[lane as usize];
+        let index = at.len - self.left.at(lane);
         fill_next_column(
             self.blocks.held.blocks_mut(),
             &self.params,
@@ -171,7 +169,7 @@ impl Weave {
             &mut self.scratch,
             ticks,
         );
-        self.left[lane as usize] -= 1;
+        self.left.take_one(lane);
     }
 
     /// Gives the matrix with the slice made, and the lanes for another slice, where no lane has

@@ -1,10 +1,12 @@
 //! The definitions of argon2's output, run on what the reference program gives.
-ghost use Rattle.std.specs.Prelude.{◌≡◌, [], ◌∷◌, ◌++◌, Ok, Err, None, Some, codes, replicate};
+ghost use Rattle.std.specs.Prelude.{◌≡◌, [], ◌∷◌, ◌++◌, Ok, Err, None, Some, codes, replicate, true};
 ghost use Rattle.argon.specs.Argon2.{argon2_tag};
 ghost use Rattle.argon_text.specs.Vectors.{known_text, known_value};
-ghost use Rattle.argon2_command.specs.Output.{argon2_output, output_for};
+ghost use Rattle.argon2_command.specs.Output.{argon2_output, output_for, tag_line};
 ghost use Rattle.argon2_command.specs.Run.{password_asked};
 ghost use Rattle.host.specs.Seen.{nothing_seen, stdin_once};
+ghost use Rattle.argon2_words.specs.Settings.{defaults};
+ghost use Rattle.argon2_words.specs.declared.items.Form.TheVariants.{Encoded, Hex};
 ghost use Rattle.argon2_words.specs.declared.refusal.Argon2Refusal.TheVariants.{EmptyPassword, LongPassword, MemoryLimit, OneForm, Passes, PasswordFault, SaltLength, WorkLimit};
 
 // printf password | argon2 somesalt -d -t 1 -k 8 -e, by the tag that it has with -r
@@ -29,6 +31,21 @@ fn output_of_one_pass()
         argon2_output
         (codes "somesalt" ∷ codes "-d" ∷ codes "-t" ∷ codes "1" ∷ codes "-k" ∷ codes "8" ∷ codes "-e" ∷ [])
         (record nothing_seen { stdin = Some (codes "password") }) ≡ Ok (known_text ++ 10 ∷ []) }
+{}
+
+// printf password | argon2 somesalt -i -t 2 -k 9 -p 1 -l 32, with -e and with -r: the memory as it is given, of which 8 KiB
+// are used
+fn lines_of_two_passes()
+    ensures encoded { tag_line
+        (record { salt = codes "somesalt"; settings = record defaults { passes = 2; memory_kib = 9; encoded = true }; form = Encoded })
+        (0x89 ∷ 0x95 ∷ 0xC4 ∷ 0xD7 ∷ 0x64 ∷ 0xED ∷ 0x9F ∷ 0xFD ∷ 0xD6 ∷ 0xBC ∷ 0x1B ∷ 0xCB ∷ 0xA0 ∷ 0x69 ∷ 0xA7 ∷ 0x36 ∷
+        0x86 ∷ 0x4B ∷ 0x13 ∷ 0xA7 ∷ 0xE4 ∷ 0xB8 ∷ 0xC8 ∷ 0x19 ∷ 0xAB ∷ 0x9E ∷ 0x47 ∷ 0xAA ∷ 0xE8 ∷ 0x71 ∷ 0x35 ∷ 0x2C ∷ []) ≡
+        codes "$argon2i$v=19$m=9,t=2,p=1$c29tZXNhbHQ$iZXE12Ttn/3WvBvLoGmnNoZLE6fkuMgZq55HquhxNSw" ++ 10 ∷ [] }
+    ensures hexadecimal { tag_line
+        (record { salt = codes "somesalt"; settings = record defaults { passes = 2; memory_kib = 9; hex = true }; form = Hex })
+        (0x89 ∷ 0x95 ∷ 0xC4 ∷ 0xD7 ∷ 0x64 ∷ 0xED ∷ 0x9F ∷ 0xFD ∷ 0xD6 ∷ 0xBC ∷ 0x1B ∷ 0xCB ∷ 0xA0 ∷ 0x69 ∷ 0xA7 ∷ 0x36 ∷
+        0x86 ∷ 0x4B ∷ 0x13 ∷ 0xA7 ∷ 0xE4 ∷ 0xB8 ∷ 0xC8 ∷ 0x19 ∷ 0xAB ∷ 0x9E ∷ 0x47 ∷ 0xAA ∷ 0xE8 ∷ 0x71 ∷ 0x35 ∷ 0x2C ∷ []) ≡
+        codes "8995c4d764ed9ffdd6bc1bcba069a736864b13a7e4b8c819ab9e47aae871352c" ++ 10 ∷ [] }
 {}
 
 // Words, password, parameters, limits: the first refusal is told. 127 bytes are a password, and 128 are none.

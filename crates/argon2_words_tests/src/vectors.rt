@@ -82,13 +82,29 @@ fn each_option()
         }) }
 {}
 
-// The ends of numbers: 2^32 is none of -t, -m has powers from 1 to 31, and no limit is 0.
+// The ends of numbers: 2^32 is none of -t, -m has powers from 1 to 31, --maxmem takes 1 to 2^32 - 1, and --maxops 1 to
+// 2^63 - 1 (docs/values.tsv).
 fn ends_of_numbers()
     ensures count_above { argon2_request (codes "somesalt" ∷ codes "-t" ∷ codes "4294967296" ∷ codes "-e" ∷ []) ≡ Err BadNumber }
     ensures no_power { argon2_request (codes "somesalt" ∷ codes "-m" ∷ codes "0" ∷ codes "-e" ∷ []) ≡ Err BadNumber }
+    ensures greatest_power { argon2_request (codes "somesalt" ∷ codes "-m" ∷ codes "31" ∷ codes "-e" ∷ []) ≡
+        Ok (record {
+          salt = codes "somesalt";
+          settings = record defaults { memory_kib = 2147483648; encoded = true };
+          form = Encoded;
+        }) }
     ensures power_above { argon2_request (codes "somesalt" ∷ codes "-m" ∷ codes "32" ∷ codes "-e" ∷ []) ≡ Err BadNumber }
     ensures no_memory_limit { argon2_request (codes "somesalt" ∷ codes "--maxmem" ∷ codes "0" ∷ codes "-e" ∷ []) ≡ Err BadNumber }
     ensures no_work_limit { argon2_request (codes "somesalt" ∷ codes "--maxops" ∷ codes "0" ∷ codes "-e" ∷ []) ≡ Err BadNumber }
+    ensures greatest_limits { argon2_request (codes "somesalt" ∷ codes "--maxmem" ∷ codes "4294967295" ∷ codes "--maxops" ∷ codes "9223372036854775807"
+        ∷ codes "-e" ∷ []) ≡
+        Ok (record {
+          salt = codes "somesalt";
+          settings = record defaults { max_memory_kib = 4294967295; max_ops = 9223372036854775807; encoded = true };
+          form = Encoded;
+        }) }
+    ensures memory_limit_above { argon2_request (codes "somesalt" ∷ codes "--maxmem" ∷ codes "4294967296" ∷ codes "-e" ∷ []) ≡ Err BadNumber }
+    ensures work_limit_above { argon2_request (codes "somesalt" ∷ codes "--maxops" ∷ codes "9223372036854775808" ∷ codes "-e" ∷ []) ≡ Err BadNumber }
     ensures unknown { argon2_request (codes "somesalt" ∷ codes "-q" ∷ codes "-t" ∷ codes "x" ∷ []) ≡ Err UnknownWord }
     ensures help { argon2_request (codes "somesalt" ∷ codes "-h" ∷ codes "-q" ∷ []) ≡ Err Usage }
     ensures help_first { argon2_request (codes "-h" ∷ codes "-e" ∷ []) ≡ Err Usage }

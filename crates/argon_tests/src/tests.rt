@@ -13,8 +13,8 @@ mod version_0x10;
 use argon::compression::{Scratch, compression};
 use argon::matrix::reserve_from;
 use argon::{
-    Block, Inputs, Kind, Lanes, Matrix, ParamFault, Params, Place, Room, Ticks, lanes,
-    plan_segment, write_xor, write_xor_over,
+    Block, GrantedBlocks, Inputs, Kind, Lanes, Matrix, Numbers, ParamFault, Params, Place, Room,
+    Ticks, lanes, plan_segment, write_xor, write_xor_over,
 };
 use reference_tags::{LONGER_RUNS, LONGEST, OTHER_RUNS, RUNS, Row};
 use std::alloc::{AllocError, Global};
@@ -469,18 +469,18 @@ impl Room for Refusing {
 
     ghost after_numbers = { λ room _ _. record room { left = room.left - 1; unasked = room.unasked - 1 } };
 
-    fn blocks(&mut self, count: usize) -> Result<Vec<Block>, AllocError> {
+    fn blocks(&mut self, count: usize) -> Result<GrantedBlocks, AllocError> {
         if !self.grants() {
             return Err(AllocError);
         }
-        vec![in self.alloc; [0; 128]; count]
+        Ok(GrantedBlocks::new(vec![in self.alloc; [0; 128]; count]?))
     }
 
-    fn numbers(&mut self, count: usize) -> Result<Vec<u32>, AllocError> {
+    fn numbers(&mut self, count: usize) -> Result<Numbers, AllocError> {
         if !self.grants() {
             return Err(AllocError);
         }
-        vec![in self.alloc; 0; count]
+        Ok(Numbers::new(vec![in self.alloc; 0; count]?))
     }
 }
 

@@ -6,11 +6,13 @@ ghost use Rattle.argon.specs.Argon2.{argon2_tag, first_hash};
 ghost use Rattle.argon.specs.Compression.{compression};
 ghost use Rattle.argon.specs.Counts.{addresses_begun, column_work, slice_work, work};
 ghost use Rattle.argon.specs.Inputs.{AreInputsOf, inputs_of};
+ghost use Rattle.argon.specs.Kind.{type_number};
 ghost use Rattle.argon.specs.Range.{admission, checked_parameters};
 ghost use Rattle.argon.specs.Reference.{is_independent, reference_lane, reference_set, reference_words, relative_place};
 ghost use Rattle.argon.specs.Vectors.{two_lanes};
 ghost use Rattle.argon.specs.Weaving.{lane_work_left, work_left};
 ghost use Rattle.argon.specs.declared.fault.ParamFault.TheVariants.{Lanes, Memory, MemoryLimit, Passes, PasswordLength, SaltLength, TagLength, WorkLimit};
+ghost use Rattle.argon.specs.declared.kind.Kind.TheVariants.{D, I, Id};
 
 use argon::{Inputs, Matrix, Params, Place, Ticks, plan_segment};
 
@@ -75,6 +77,53 @@ fn tag_of_argon2d_in_one_pass()
         0xAE ∷ 0xB5 ∷ 0xB7 ∷ 0x1E ∷ 0xC4 ∷ 0x4A ∷ 0x61 ∷ 0x79 ∷
         0xE3 ∷ 0xF3 ∷ 0x97 ∷ 0x5B ∷ 0x14 ∷ 0xC0 ∷ 0xC9 ∷ 0x7E ∷
         0x39 ∷ 0x14 ∷ 0xC7 ∷ 0x9E ∷ 0x63 ∷ 0x63 ∷ 0xE1 ∷ 0x78 ∷ [] }
+{}
+
+// printf password | argon2 somesalt -d -t 1 -k 8 -p 1 -l 64 -r: the longest tag of one hash
+fn tag_of_64_bytes()
+    ensures tag { argon2_tag (record {
+      kind = 0;
+      version = 0x13;
+      passes = 1;
+      lanes = 1;
+      memory_kib = 8;
+      tag_len = 64;
+      salt_len = 8;
+      password_len = 8;
+    }) (record {
+      password = codes "password";
+      salt = codes "somesalt";
+      secret = [];
+      associated = [];
+    }) ≡
+        0x5E ∷ 0x85 ∷ 0x42 ∷ 0x4B ∷ 0xCC ∷ 0x54 ∷ 0x99 ∷ 0x14 ∷
+        0x47 ∷ 0x99 ∷ 0x59 ∷ 0x2B ∷ 0x3C ∷ 0x49 ∷ 0x5C ∷ 0x83 ∷
+        0x2E ∷ 0x35 ∷ 0xA2 ∷ 0x30 ∷ 0x9E ∷ 0x36 ∷ 0x83 ∷ 0x65 ∷
+        0x78 ∷ 0x19 ∷ 0x0C ∷ 0x0F ∷ 0x5B ∷ 0x4A ∷ 0xCC ∷ 0xD3 ∷
+        0xD6 ∷ 0xE2 ∷ 0x1F ∷ 0x53 ∷ 0xE1 ∷ 0xFE ∷ 0xC4 ∷ 0x57 ∷
+        0x44 ∷ 0x38 ∷ 0xA1 ∷ 0x2F ∷ 0x2D ∷ 0x81 ∷ 0xB1 ∷ 0x7D ∷
+        0x15 ∷ 0xA6 ∷ 0x68 ∷ 0xC2 ∷ 0x6E ∷ 0x1A ∷ 0x23 ∷ 0xFD ∷
+        0x92 ∷ 0x6B ∷ 0xBA ∷ 0x58 ∷ 0x89 ∷ 0xEC ∷ 0x11 ∷ 0xE9 ∷ [] }
+{}
+
+// printf password | argon2 somesalt -d -t 1 -k 8 -p 1 -l 4 -r: the shortest tag
+fn tag_of_4_bytes()
+    ensures tag { argon2_tag (record {
+      kind = 0;
+      version = 0x13;
+      passes = 1;
+      lanes = 1;
+      memory_kib = 8;
+      tag_len = 4;
+      salt_len = 8;
+      password_len = 8;
+    }) (record {
+      password = codes "password";
+      salt = codes "somesalt";
+      secret = [];
+      associated = [];
+    }) ≡
+        0x79 ∷ 0x3F ∷ 0xF6 ∷ 0x94 ∷ [] }
 {}
 
 // printf password | argon2 somesalt -id -t 2 -k 8 -p 1 -l 32 -r
@@ -317,6 +366,13 @@ fn places_of_three_words()
     ensures greatest { relative_place 10 (2 ^ 32 - 1) ≡ 0 }
 {}
 
+// The numbers y of the types (RFC 9106, 3.1).
+fn numbers_of_types()
+    ensures argon2d { type_number D ≡ 0 }
+    ensures argon2i { type_number I ≡ 1 }
+    ensures argon2id { type_number Id ≡ 2 }
+{}
+
 // Which lane J 2 names, and which segments are addressed without blocks (RFC 9106, 3.4.1.3 and 3.4.2).
 fn lanes_and_kinds_of_segments()
     ensures other_lane { reference_lane two_lanes 0 0 1 (2 ^ 32) ≡ 1 }
@@ -331,7 +387,8 @@ fn lanes_and_kinds_of_segments()
 {}
 
 // Block functions of a column, of what a lane has left of a segment of 201 columns, and of what two lanes have: one for
-// each column, and two for each address block, of which the first is made with the segment.
+// each column, and two for each address block, of which the first is made with the segment. Of 4,824 blocks of a hash 4
+// come from H0; two address blocks has each of 24 segments of Argon2i, of 4 of Argon2id, and none of Argon2d.
 fn work_by_columns()
     ensures first_column { addresses_begun 0 ≡ 0 }
     ensures column_64 { addresses_begun 64 ≡ 0 }
@@ -349,6 +406,8 @@ fn work_by_columns()
     ensures slice { slice_work two_lanes 1 2 ≡ 410 }
     ensures first_slice { slice_work two_lanes 0 0 ≡ 406 }
     ensures whole { work two_lanes ≡ 4916 }
+    ensures whole_of_argon2id { work (record two_lanes { kind = 2 }) ≡ 4836 }
+    ensures whole_of_argon2d { work (record two_lanes { kind = 0 }) ≡ 4820 }
     ensures two_lanes_left { work_left (record {
       matrix = record { parameters = two_lanes; is_started = true; first_hash = []; slices_made = 6; blocks = [] };
       left = 201 ∷ 72 ∷ [];

@@ -2,13 +2,13 @@
 ghost use Rattle.std.specs.Prelude.{◌≡◌, ◌-◌, ◌^◌, ℕ, List, [], None, Some, codes, true, false, replicate};
 ghost use Rattle.argon.specs.Argon2.{argon2_tag};
 ghost use Rattle.argon_text.specs.Base64.{base64_bytes, is_base64};
-ghost use Rattle.argon_text.specs.EncodedText.{encoded_text, short_text};
-ghost use Rattle.argon_text.specs.Grammar.{HasFields, value_of_fields};
+ghost use Rattle.argon_text.specs.EncodedText.{encoded_text, kind_name, short_text};
+ghost use Rattle.argon_text.specs.Grammar.{HasFields, is_number, value_of_fields};
 ghost use Rattle.argon_text.specs.Settings.{first_out, range_fault, settings_of};
 ghost use Rattle.argon_text.specs.Value.{are_in_range, is_in_range};
 ghost use Rattle.argon_text.specs.Verifying.{keyed_fault, keyed_tag, tag_of_password, verify_fault};
 ghost use Rattle.argon_text.specs.Vectors.{known_fields, known_text, known_value, old_short_fields, old_short_text, old_text, old_value};
-ghost use Rattle.argon.specs.declared.kind.Kind.TheVariants.{D};
+ghost use Rattle.argon.specs.declared.kind.Kind.TheVariants.{D, I, Id};
 ghost use Rattle.argon_text.specs.declared.fault.VerifyFault.TheVariants.{InputLength, MemoryLimit, PasswordLength, WorkLimit};
 ghost use Rattle.argon_text.specs.declared.range.RangeFault.TheVariants.{Lanes, Memory, Passes, SaltLength, TagLength, Version};
 
@@ -30,6 +30,25 @@ fn texts_of_old_value()
     ensures value { value_of_fields old_short_fields ≡ old_value }
 {}
 
+// The names after `$argon2` (the reference implementation, argon2.c: argon2_type2string).
+fn names_of_types()
+    ensures argon2d { kind_name D ≡ codes "d" }
+    ensures argon2i { kind_name I ≡ codes "i" }
+    ensures argon2id { kind_name Id ≡ codes "id" }
+{}
+
+// Digits, at least one, and no 0 before others (the reference implementation, encoding.c: decode_decimal).
+fn forms_of_numbers()
+    ensures nothing { is_number [] ≡ false }
+    ensures zero { is_number (codes "0") ≡ true }
+    ensures two_zeros { is_number (codes "00") ≡ false }
+    ensures leading_zero { is_number (codes "0256") ≡ false }
+    ensures one_digit { is_number (codes "1") ≡ true }
+    ensures digits { is_number (codes "9008") ≡ true }
+    ensures sign { is_number (codes "-1") ≡ false }
+    ensures letter { is_number (codes "1a") ≡ false }
+{}
+
 // RFC 4648, 10, without the padding; and the last bits that must be zero (3.5).
 fn base64_of_the_standard()
     ensures nothing { base64_bytes [] ≡ [] }
@@ -39,6 +58,8 @@ fn base64_of_the_standard()
     ensures eight_symbols { base64_bytes (codes "Zm9vYmFy") ≡ codes "foobar" }
     ensures form { is_base64 (codes "Zm9vYmE") ≡ true }
     ensures unused_bits { is_base64 (codes "Zm9vYmF") ≡ false }
+    ensures form_of_two { is_base64 (codes "Zg") ≡ true }
+    ensures unused_bits_of_two { is_base64 (codes "Zh") ≡ false }
     ensures lone_symbol { is_base64 (codes "Zm9vY") ≡ false }
     ensures padding { is_base64 (codes "Zm9vYg==") ≡ false }
 {}

@@ -4,10 +4,12 @@
 ghost use Rattle.std.specs.Borrow.{ftrue};
 ghost use Rattle.std.specs.Prelude.{◌≡◌, ℕ, ◌+◌};
 
+use std::alloc::Global;
 use std::marker::Model;
 
 /// A whole number without a bound, which contracts see and no code can read. A type that counts
-/// something keeps one to itself, and so decides what is counted.
+/// something keeps one to itself, and so decides what is counted. It can't be copied, and it goes up
+/// where it is: who was lent one can make no other of it.
 #[repr(C)]
 #[derive(Drop)]
 pub struct Count {
@@ -28,19 +30,17 @@ impl Model for Count {
 }
 
 impl Count {
-    /// The count 0.
-    pub fn new() -> Count
+    /// The count 0. The heap is wanted and not used: who has none can make no count.
+    pub fn new(_alloc: Global) -> Count
         ensures zero { result ≡ 0 }
     {
         Count { seal: () }
     }
 
-    /// The count that stands one above this one.
-    pub fn plus_one(&self) -> Count
-        ensures one_more { result ≡ self.now + 1 }
-    {
-        Count { seal: () }
-    }
+    /// Goes up by one, in its place.
+    pub fn plus_one(&mut self)
+        ensures one_more { self.new ≡ self.old + 1 }
+    {}
 }
 
 const _: () = prove!(size_of::<Count>() == 0);

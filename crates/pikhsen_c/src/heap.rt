@@ -39,9 +39,9 @@ impl Requests {
         ensures counted { self.new ≡ one_more self.old granted }
     {
         if granted {
-            self.granted = self.granted.plus_one();
+            self.granted.plus_one();
         } else {
-            self.refused = self.refused.plus_one();
+            self.refused.plus_one();
         }
     }
 }

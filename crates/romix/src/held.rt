@@ -1,19 +1,38 @@
-//! A list that is freed in one way: when each word in it is 0.
+//! Lists of words, which leave this file in no other way than as words that are lent: what has one can't make it grow,
+//! nor take memory from its heap.
 ghost use Rattle.std.specs.Prelude.{◌≡◌, length, replicate};
 ghost use Rattle.std.specs.Borrow.{sem};
 ghost use Rattle.romix.specs.Inside.Held.{LendsWords};
 
-/// A list of words that can be let go of by [`Held::free`] alone. It has no `Drop`, so that it
-/// cannot be forgotten, and it lends its words, never the list, so that none can be cut off.
+/// Words that a source of memory grants. They are let go of as they are, so nobody can write to them
+/// before a workspace holds them.
+#[derive(Drop)]
+pub struct GrantedWords {
+    list: Vec<u32>,
+}
+
+impl GrantedWords {
+    /// The words of this list.
+    pub fn new(list: Vec<u32>) -> GrantedWords
+        ensures list { result.list ≡ list }
+    {
+        GrantedWords { list }
+    }
+}
+
+/// A list of words that can be let go of by [`Held::free`] alone, when each of them is 0. It has no
+/// `Drop`, so that it cannot be forgotten, and it lends its words, never the list, so that none can be
+/// cut off.
 pub(crate) struct Held {
     list: Vec<u32>,
 }
 
 impl Held {
-    /// Takes the list in.
-    pub(crate) fn new(list: Vec<u32>) -> Held
-        ensures list { result.list ≡ list }
+    /// Takes the words in.
+    pub(crate) fn new(granted: GrantedWords) -> Held
+        ensures list { result.list ≡ granted.list }
     {
+        let GrantedWords { list } = granted;
         Held { list }
     }
 

@@ -45,6 +45,7 @@ mod workspace;
 pub use block_mix_by_rows::block_mix;
 pub use costs::Costs;
 pub use fault::CostFault;
+pub use held::GrantedWords;
 pub use limits::Limits;
 pub use reservation::Reservation;
 pub use salsa20::salsa8;

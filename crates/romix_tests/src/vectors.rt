@@ -100,6 +100,13 @@ fn scrypt_of_two_parts()
         0xE7 ∷ 0x17 ∷ 0x2C ∷ 0x1D ∷ 0x58 ∷ 0x25 ∷ 0x95 ∷ 0x5E ∷ [] }
 {}
 
+// The cores of the same derivation where every second row of V is kept, and where one of four is. A program in Python that
+// makes the rows between again, and gives the key above, counted them.
+fn sparse_cores_of_two_parts()
+    ensures keep_2 { sparse_cores (replicate 65 0x70) (codes "s") (record { costs = record { log_n = 2; r = 2; p = 2 }; keep = 2 }) ≡ 80 }
+    ensures keep_4 { sparse_cores (replicate 65 0x70) (codes "s") (record { costs = record { log_n = 2; r = 2; p = 2 }; keep = 4 }) ≡ 112 }
+{}
+
 // The numbers of costs with r and p above 1, by RFC 7914, 4 to 6: N is 16, and every fourth row is kept.
 fn numbers_of_costs()
     ensures table { table_bytes (record { log_n = 4; r = 3; p = 5 }) ≡ 6144 }
@@ -129,6 +136,8 @@ fn faults_of_limits()
     ensures parts { limit_fault (record { log_n = 1; r = 3; p = 5 }) (record { max_bytes = 1919; max_ops = 960 }) ≡ Some Memory }
     ensures keep { keep_fault (record { costs = record { log_n = 1; r = 1; p = 1 }; keep = 3 }) ≡ Some Keep }
     ensures keep_above { keep_fault (record { costs = record { log_n = 4; r = 1; p = 1 }; keep = 32 }) ≡ Some KeepAboveN }
+    ensures greatest_keep { keep_fault (record { costs = record { log_n = 10; r = 1; p = 1 }; keep = 1024 }) ≡ None }
+    ensures keep_of_2048 { keep_fault (record { costs = record { log_n = 11; r = 1; p = 1 }; keep = 2048 }) ≡ Some Keep }
     ensures keep_of_n { keep_fault (record { costs = record { log_n = 4; r = 1; p = 1 }; keep = 16 }) ≡ None }
     ensures sparse { sparse_limit_fault (record { costs = record { log_n = 4; r = 3; p = 5 }; keep = 4 }) (record { max_bytes = 1919; max_ops = 1 }) ≡ Some Memory }
     ensures sparse_work { sparse_limit_fault (record { costs = record { log_n = 4; r = 3; p = 5 }; keep = 4 }) (record { max_bytes = 1920; max_ops = 2399 }) ≡ Some Work }

@@ -205,10 +205,11 @@ fn row_runs(alloc: Global, row: &Row) -> bool {
 }
 
 // Words and passphrases that make a file. The salt of the host is the one that the words give.
-static MAKERS: [(&str, &[u8]); 3] = [
+static MAKERS: [(&str, &[u8]); 4] = [
     (NEW_FILE, b"pw\n"),
     ("enc --logN 4 -r 1 -p 1 -P in", b""),
     ("enc --logN 4 -r 1 -p 1 --keep 16 -P in", b""),
+    ("enc --logN 4 -r 1 -p 1 --keep 2 -P in", b""),
 ];
 
 const SHOWN: &[u8] = b"N = 16; r = 1; p = 1; memory = 2048; cores = 64\n";
@@ -350,7 +351,7 @@ fn files_that_are_changed(rt: HostRuntime) {
 }
 
 // Words, passphrase and answer for the file of `hello`.
-static LIMITS: [Row; 20] = [
+static LIMITS: [Row; 21] = [
     ("dec -M 2048 --maxops 64 -P F5", b"", Ok(b"hello")),
     ("dec -M 2047 -P F5", b"", Err(MEMORY_LIMIT)),
     ("dec --maxops 63 -P F5", b"", Err(WORK_LIMIT)),
@@ -390,6 +391,8 @@ static LIMITS: [Row; 20] = [
     ("dec --keep 3 -P F5", b"", Err(KEEP_OUT_OF_RANGE)),
     ("dec --keep 2048 -P F5", b"", Err(KEEP_OUT_OF_RANGE)),
     ("dec --keep x -P F5", b"", Err(USAGE)),
+    // the whole table by its number
+    ("dec --keep 1 -M 512 -P F5", b"", Err(MEMORY_LIMIT)),
 ];
 
 #[test]
@@ -405,8 +408,10 @@ const HUGE_SHOWN: &[u8] =
 // Whether a file with those costs is shown, and not opened.
 fn is_shown_alone(alloc: Global, huge: &[u8]) -> bool {
     let open = "dec -M 1099511627776 --maxops 9223372036854775807 --passphrase file:missing huge";
+    let open_sparse = "dec --keep 1024 --passphrase file:missing huge";
     runs(alloc, "info huge", b"", huge, done(HUGE_SHOWN))
         && runs(alloc, open, b"", huge, refused(MEMORY_LIMIT))
+        && runs(alloc, open_sparse, b"", huge, refused(MEMORY_LIMIT))
 }
 
 // Costs that are in range, and that no machine has. They are refused before the passphrase, which is not there, is asked

@@ -2,7 +2,7 @@
 ghost use Rattle.std.specs.Prelude.{◌≡◌, ◌-◌, ◌≤◌};
 
 use super::{SCRYPT_CASES, sparse_workspace};
-use romix::{Costs, Limits, Reservation, Sparse, Ticks, Workspace, reserve_from};
+use romix::{Costs, GrantedWords, Limits, Reservation, Sparse, Ticks, Workspace, reserve_from};
 use std::alloc::{AllocError, Global};
 use std::test::Fail;
 
@@ -164,15 +164,15 @@ impl Reservation for Refusing {
     ghost after_words = { λ source len _. record source
         { granted = source.granted - 1; unasked = source.unasked - 1; last = len } };
 
-    fn zero_words(&mut self, len: usize) -> Result<Vec<u32>, AllocError> {
+    fn zero_words(&mut self, len: usize) -> Result<GrantedWords, AllocError> {
         if !self.grants(len) {
             return Err(AllocError);
         }
-        vec![in self.alloc; 0; len]
+        Ok(GrantedWords::new(vec![in self.alloc; 0; len]?))
     }
 
-    fn no_words(&self) -> Vec<u32> {
-        Vec::new(self.alloc)
+    fn no_words(&self) -> GrantedWords {
+        GrantedWords::new(Vec::new(self.alloc))
     }
 }
 

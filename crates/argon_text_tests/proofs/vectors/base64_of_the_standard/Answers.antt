@@ -12,6 +12,8 @@ returns c = record {
   eight_symbols = refl;
   form = refl;
   unused_bits = refl;
+  form_of_two = refl;
+  unused_bits_of_two = refl;
   lone_symbol = refl;
   padding = refl;
 }

@@ -11,6 +11,7 @@ returns c = record {
   magic_first = refl;
   version = refl;
   checksum = refl;
+  end_of_checksum = refl;
   log_n = refl;
   zero = refl;
   product = refl;

@@ -12,4 +12,4 @@ use Rattle.encfile_tests.proofs.vectors.passphrases_of_hello.Goals as goal
 
 pub returns : goal.returns
 unfolding first_words schedule rounds compress hash_after digest_bytes sha256 key_block hmac_sha256 joined_blocks pbkdf2 quarter_round quarter_round_at quarter_rounds double_rounds salsa20_8 chain_block every_second_output block_mix integerify table_row row_after romix words_of mixed_parts scrypt derived_key header_refusal format_refusal limits_refusal front_refusal
-returns c = record { own = refl; other = refl; limits_first = refl }
+returns c = record { own = refl; other = refl; end_of_code = refl; limits_first = refl }

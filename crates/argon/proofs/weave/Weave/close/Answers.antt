@@ -1,9 +1,9 @@
-use Rattle.std.proofs.Common.{arith}
+use Rattle.std.proofs.Common.{arith, rules}
 use Rattle.argon.specs.Weave.{weaving_of}
 use Rattle.argon.specs.Weaving.{HasNoneLeft}
 use Rattle.argon.proofs.Weaving.{closed}
 use Rattle.argon.proofs.WorkLeft.{share_closed}
-use Rattle.argon.proofs.Woven.{closed_woven}
+use Rattle.argon.proofs.Woven.{all_none, closed_woven}
 use Rattle.argon.proofs.weave.Weave.close.Goals as goal
 
 pub invariant_of-matrix : goal.invariant_of-matrix
@@ -16,6 +16,12 @@ invariant_of-matrix c =
       position = let left = weaving.next.left in omega arith;
       newest = λ started. closed (weaving_of c.self.inside) weaving.newest none_left;
     }
+
+pub invariant_of-lanes : goal.invariant_of-lanes
+invariant_of-lanes c =
+    let none_left : HasNoneLeft (weaving_of c.self.inside) = rw c.self.view_is c.requires.none_left in
+    let zeros = all_none c.self.inside.left.list.items c.self.inside.params.lanes c.self.invariant.weaving.lanes none_left.none in
+    record { in_range = search rules; none_left = search (rules, zeros); addresses = search rules }
 
 pub returns-clause-newest : goal.returns-clause-newest
 returns-clause-newest c =

@@ -1,7 +1,6 @@
 use Rattle.std.proofs.Common.{◌≡◌, length, refl, sym, ap, ◌∙◌, arith}
 use Rattle.std.specs.Vec.{with_items}
-use Rattle.std.specs.Prelude.{vec_len}
-use Rattle.std.proofs.lemmas.List.{with_items_is}
+use Rattle.std.proofs.lemmas.List.{length-replicate, with_items_is}
 use Rattle.argon.specs.Filling.{Filling, HasNext}
 use Rattle.argon.specs.Matrix.{filling_of}
 use Rattle.argon.specs.Parameters.{Parameters}
@@ -17,18 +16,19 @@ invariant_of-result c =
     let parameters : c.lanes.inside.params ≡ c.matrix.inside.params =
     c.lanes.view_is ∙ c.requires.parameters ∙ sym (ap (λ (f : Filling). f.parameters) c.matrix.view_is) in
     let lanes : c.lanes.inside.params.lanes ≡ c.matrix.inside.params.lanes = ap (λ (p : Parameters). p.lanes) parameters in
-    let count : vec_len c.lanes.inside.left ≡ c.matrix.inside.params.lanes = c.lanes.invariant.left ∙ lanes in
-    let left : c.fill.new.self.items ≡ (weaving_from (filling_of c.matrix.inside)).left =
-    c.fill.ensures.items (λ y e. e) ∙ rw (count, c.segment_len.ensures.value, c.first_index.ensures.value) refl in
+    let count : length c.lanes.inside.left.list.items ≡ c.matrix.inside.params.lanes =
+    ap length c.lanes.invariant.none_left ∙ length-replicate c.lanes.inside.params.lanes 0 ∙ lanes in
+    let left : c.fill.new.self.list.items ≡ (weaving_from (filling_of c.matrix.inside)).left =
+    c.fill.ensures.items ∙ rw (count, c.segment_len.ensures.value, c.first_index.ensures.value) refl in
     let next : HasNext (filling_of c.matrix.inside) = rw c.matrix.view_is c.requires.next in
-    let weaving = opened f c.fill.new.self.items c.matrix.invariant next left in
+    let weaving = opened f c.fill.new.self.list.items c.matrix.invariant next left in
     let kept : length c.prepare_lanes.new.addresses ≡ c.lanes.inside.addresses.held.list.len = omega (arith, c.prepare_lanes.ensures.size, c.blocks_mut.ensures.len) in
     let same : (with_items c.lanes.inside.addresses.held.list c.prepare_lanes.new.addresses).items ≡ c.prepare_lanes.new.addresses =
     with_items_is c.lanes.inside.addresses.held.list c.prepare_lanes.new.addresses kept in
     record {
       weaving = weaving;
       addresses_size = ap length same ∙ kept ∙ c.lanes.invariant.addresses ∙ lanes;
-      addresses = rw same (first_addresses f c.fill.new.self.items c.prepare_lanes.new.addresses c.matrix.invariant left c.prepare_lanes.ensures.addresses);
+      addresses = rw same (first_addresses f c.fill.new.self.list.items c.prepare_lanes.new.addresses c.matrix.invariant left c.prepare_lanes.ensures.addresses);
     }
 
 pub returns-clause-newest : goal.returns-clause-newest
@@ -37,11 +37,12 @@ returns-clause-newest c =
     let parameters : c.lanes.inside.params ≡ c.matrix.inside.params =
     c.lanes.view_is ∙ c.requires.parameters ∙ sym (ap (λ (f : Filling). f.parameters) c.matrix.view_is) in
     let lanes : c.lanes.inside.params.lanes ≡ c.matrix.inside.params.lanes = ap (λ (p : Parameters). p.lanes) parameters in
-    let count : vec_len c.lanes.inside.left ≡ c.matrix.inside.params.lanes = c.lanes.invariant.left ∙ lanes in
-    let left : c.fill.new.self.items ≡ (weaving_from (filling_of c.matrix.inside)).left =
-    c.fill.ensures.items (λ y e. e) ∙ rw (count, c.segment_len.ensures.value, c.first_index.ensures.value) refl in
+    let count : length c.lanes.inside.left.list.items ≡ c.matrix.inside.params.lanes =
+    ap length c.lanes.invariant.none_left ∙ length-replicate c.lanes.inside.params.lanes 0 ∙ lanes in
+    let left : c.fill.new.self.list.items ≡ (weaving_from (filling_of c.matrix.inside)).left =
+    c.fill.ensures.items ∙ rw (count, c.segment_len.ensures.value, c.first_index.ensures.value) refl in
     let next : HasNext (filling_of c.matrix.inside) = rw c.matrix.view_is c.requires.next in
-    let weaving = opened f c.fill.new.self.items c.matrix.invariant next left in
+    let weaving = opened f c.fill.new.self.list.items c.matrix.invariant next left in
     weaving.newest
 
 pub returns-clause-share : goal.returns-clause-share
@@ -50,10 +51,11 @@ returns-clause-share c =
     let parameters : c.lanes.inside.params ≡ c.matrix.inside.params =
     c.lanes.view_is ∙ c.requires.parameters ∙ sym (ap (λ (f : Filling). f.parameters) c.matrix.view_is) in
     let lanes : c.lanes.inside.params.lanes ≡ c.matrix.inside.params.lanes = ap (λ (p : Parameters). p.lanes) parameters in
-    let count : vec_len c.lanes.inside.left ≡ c.matrix.inside.params.lanes = c.lanes.invariant.left ∙ lanes in
-    let left : c.fill.new.self.items ≡ (weaving_from (filling_of c.matrix.inside)).left =
-    c.fill.ensures.items (λ y e. e) ∙ rw (count, c.segment_len.ensures.value, c.first_index.ensures.value) refl in
-    rw (← c.matrix.view_is) (share_opened f c.fill.new.self.items c.args.ticks.now c.prepare_lanes.new.ticks c.matrix.invariant left c.prepare_lanes.ensures.count)
+    let count : length c.lanes.inside.left.list.items ≡ c.matrix.inside.params.lanes =
+    ap length c.lanes.invariant.none_left ∙ length-replicate c.lanes.inside.params.lanes 0 ∙ lanes in
+    let left : c.fill.new.self.list.items ≡ (weaving_from (filling_of c.matrix.inside)).left =
+    c.fill.ensures.items ∙ rw (count, c.segment_len.ensures.value, c.first_index.ensures.value) refl in
+    rw (← c.matrix.view_is) (share_opened f c.fill.new.self.list.items c.args.ticks.now c.prepare_lanes.new.ticks c.matrix.invariant left c.prepare_lanes.ensures.count)
 
 pub returns-clause-woven : goal.returns-clause-woven
 returns-clause-woven c =
@@ -61,8 +63,9 @@ returns-clause-woven c =
     let parameters : c.lanes.inside.params ≡ c.matrix.inside.params =
     c.lanes.view_is ∙ c.requires.parameters ∙ sym (ap (λ (f : Filling). f.parameters) c.matrix.view_is) in
     let lanes : c.lanes.inside.params.lanes ≡ c.matrix.inside.params.lanes = ap (λ (p : Parameters). p.lanes) parameters in
-    let count : vec_len c.lanes.inside.left ≡ c.matrix.inside.params.lanes = c.lanes.invariant.left ∙ lanes in
-    let left : c.fill.new.self.items ≡ (weaving_from (filling_of c.matrix.inside)).left =
-    c.fill.ensures.items (λ y e. e) ∙ rw (count, c.segment_len.ensures.value, c.first_index.ensures.value) refl in
+    let count : length c.lanes.inside.left.list.items ≡ c.matrix.inside.params.lanes =
+    ap length c.lanes.invariant.none_left ∙ length-replicate c.lanes.inside.params.lanes 0 ∙ lanes in
+    let left : c.fill.new.self.list.items ≡ (weaving_from (filling_of c.matrix.inside)).left =
+    c.fill.ensures.items ∙ rw (count, c.segment_len.ensures.value, c.first_index.ensures.value) refl in
     let next : HasNext (filling_of c.matrix.inside) = rw c.matrix.view_is c.requires.next in
-    rw (← c.matrix.view_is) (opened_woven f c.fill.new.self.items c.matrix.invariant next left)
+    rw (← c.matrix.view_is) (opened_woven f c.fill.new.self.list.items c.matrix.invariant next left)

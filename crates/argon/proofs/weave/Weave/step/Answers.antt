@@ -1,9 +1,9 @@
-use Rattle.std.proofs.Common.{◌≡◌, ℕ, ◌-◌, ◌<◌, true, List, length, set, slice_index, refl, ap, ◌∙◌, arith, length-set}
-use Rattle.std.specs.Vec.{with_item, with_items}
-use Rattle.std.proofs.lemmas.List.{get_or_read, with_items_is}
+use Rattle.std.proofs.Common.{◌≡◌, ℕ, ◌-◌, ◌<◌, true, List, length, set, slice_index, ap, ◌∙◌, arith, length-set}
+use Rattle.std.specs.Vec.{with_items}
+use Rattle.std.proofs.lemmas.List.{with_items_is}
 use Rattle.argon.specs.Weave.{weaving_of}
 use Rattle.argon.specs.Weaving.{Weaving, with_next_block}
-use Rattle.argon.proofs.Weaving.{addresses_stepped, lane_with_some, step_reads_finished, stepped, weaving_after}
+use Rattle.argon.proofs.Weaving.{addresses_stepped, step_reads_finished, stepped, weaving_after}
 use Rattle.argon.proofs.WorkLeft.{share_stepped}
 use Rattle.argon.proofs.Woven.{stepped_woven}
 use Rattle.argon.proofs.weave.Weave.step.Goals as goal
@@ -13,20 +13,18 @@ invariant_of-self c =
     let weave = c.self.inside in
     let w : Weaving = weaving_of c.self.inside in
     let lane = c.args.lane in
-    let some : 0 < slice_index c.self.inside.left.items c.args.lane = rw (ap (λ (v : Weaving). v.left) c.self.view_is) c.requires.left in
+    let some : 0 < slice_index c.self.inside.left.list.items c.args.lane = rw (ap (λ (v : Weaving). v.left) c.self.view_is) c.requires.left in
     let at = c.new-at.result in
     let place = c.new-at.ensures in
-    let fits : c.args.lane < length c.self.inside.left.items = lane_with_some weave.left.items lane (length weave.left.items) refl some in
     let kept : length c.fill_next_column.new.blocks ≡ c.self.inside.blocks.held.list.len = omega (arith, c.fill_next_column.auto.blocks, c.blocks_mut.ensures.len) in
     let made : (with_items c.self.inside.blocks.held.list c.fill_next_column.new.blocks).items ≡ with_next_block (weaving_of c.self.inside) c.args.lane =
     with_items_is weave.blocks.held.list c.fill_next_column.new.blocks kept
-    ∙ stepped w lane c.blocks_mut.result.now c.fill_next_column.new.blocks at.len at.lane at.pass at.slice c.index.result.now c.self.invariant.weaving some
-    c.blocks_mut.ensures.value c.new-at.ensures.is_of.len place.lane place.pass place.slice (get_or_read weave.left.items lane c.index.result.now fits c.index.ensures 0)
+    ∙ stepped w lane c.blocks_mut.result.now c.fill_next_column.new.blocks at.len at.lane at.pass at.slice c.at.result c.self.invariant.weaving some
+    c.blocks_mut.ensures.value c.new-at.ensures.is_of.len place.lane place.pass place.slice c.at.ensures.value
     c.fill_next_column.ensures.value in
-    let fewer : (with_item c.self.inside.left c.args.lane (c.index_mut.result.now - 1)).items
-    ≡ set c.self.inside.left.items c.args.lane (slice_index c.self.inside.left.items c.args.lane - 1) =
-    ap (λ (n : ℕ). set weave.left.items lane (n - 1)) (get_or_read weave.left.items lane c.index_mut.result.now fits c.index_mut.ensures.value 0) in
-    let weaving = weaving_after w lane (with_items weave.blocks.held.list c.fill_next_column.new.blocks).items (with_item weave.left lane (c.index_mut.result.now - 1)).items
+    let fewer : c.take_one.new.self.list.items
+    ≡ set c.self.inside.left.list.items c.args.lane (slice_index c.self.inside.left.list.items c.args.lane - 1) = c.take_one.ensures.items in
+    let weaving = weaving_after w lane (with_items weave.blocks.held.list c.fill_next_column.new.blocks).items c.take_one.new.self.list.items
     c.self.invariant.weaving some made fewer in
     let list = weave.addresses.held.list in
     let renewed : length (set c.blocks_mut-2.result.now lane c.fill_next_column.new.addresses) ≡ list.len =
@@ -39,9 +37,9 @@ invariant_of-self c =
       weaving = weaving;
       addresses_size = ap length same ∙ length-set list.items lane c.fill_next_column.new.addresses ∙ c.self.invariant.addresses_size;
       addresses = rw same (addresses_stepped w lane (with_items weave.blocks.held.list c.fill_next_column.new.blocks).items list.items
-          (with_item weave.left lane (c.index_mut.result.now - 1)).items c.fill_next_column.new.addresses at.len at.lane at.pass at.slice c.index.result.now
+          c.take_one.new.self.list.items c.fill_next_column.new.addresses at.len at.lane at.pass at.slice c.at.result
           c.self.invariant.weaving some c.self.invariant.addresses_size c.new-at.ensures.is_of.len place.lane place.pass place.slice
-          (get_or_read weave.left.items lane c.index.result.now fits c.index.ensures 0) fewer c.fill_next_column.ensures.addresses c.self.invariant.addresses);
+          c.at.ensures.value fewer c.fill_next_column.ensures.addresses c.self.invariant.addresses);
     }
 
 pub returns-clause-matrix : goal.returns-clause-matrix
@@ -49,15 +47,14 @@ returns-clause-matrix c =
     let weave = c.self.inside in
     let w : Weaving = weaving_of c.self.inside in
     let lane = c.args.lane in
-    let some : 0 < slice_index c.self.inside.left.items c.args.lane = rw (ap (λ (v : Weaving). v.left) c.self.view_is) c.requires.left in
+    let some : 0 < slice_index c.self.inside.left.list.items c.args.lane = rw (ap (λ (v : Weaving). v.left) c.self.view_is) c.requires.left in
     let at = c.new-at.result in
     let place = c.new-at.ensures in
-    let fits : c.args.lane < length c.self.inside.left.items = lane_with_some weave.left.items lane (length weave.left.items) refl some in
     let kept : length c.fill_next_column.new.blocks ≡ c.self.inside.blocks.held.list.len = omega (arith, c.fill_next_column.auto.blocks, c.blocks_mut.ensures.len) in
     let made : (with_items c.self.inside.blocks.held.list c.fill_next_column.new.blocks).items ≡ with_next_block (weaving_of c.self.inside) c.args.lane =
     with_items_is weave.blocks.held.list c.fill_next_column.new.blocks kept
-    ∙ stepped w lane c.blocks_mut.result.now c.fill_next_column.new.blocks at.len at.lane at.pass at.slice c.index.result.now c.self.invariant.weaving some
-    c.blocks_mut.ensures.value c.new-at.ensures.is_of.len place.lane place.pass place.slice (get_or_read weave.left.items lane c.index.result.now fits c.index.ensures 0)
+    ∙ stepped w lane c.blocks_mut.result.now c.fill_next_column.new.blocks at.len at.lane at.pass at.slice c.at.result c.self.invariant.weaving some
+    c.blocks_mut.ensures.value c.new-at.ensures.is_of.len place.lane place.pass place.slice c.at.ensures.value
     c.fill_next_column.ensures.value in
     rw (← c.self.view_is)
     (ap (λ (blocks : List (List ℕ)). record {
@@ -73,20 +70,18 @@ returns-clause-newest c =
     let weave = c.self.inside in
     let w : Weaving = weaving_of c.self.inside in
     let lane = c.args.lane in
-    let some : 0 < slice_index c.self.inside.left.items c.args.lane = rw (ap (λ (v : Weaving). v.left) c.self.view_is) c.requires.left in
+    let some : 0 < slice_index c.self.inside.left.list.items c.args.lane = rw (ap (λ (v : Weaving). v.left) c.self.view_is) c.requires.left in
     let at = c.new-at.result in
     let place = c.new-at.ensures in
-    let fits : c.args.lane < length c.self.inside.left.items = lane_with_some weave.left.items lane (length weave.left.items) refl some in
     let kept : length c.fill_next_column.new.blocks ≡ c.self.inside.blocks.held.list.len = omega (arith, c.fill_next_column.auto.blocks, c.blocks_mut.ensures.len) in
     let made : (with_items c.self.inside.blocks.held.list c.fill_next_column.new.blocks).items ≡ with_next_block (weaving_of c.self.inside) c.args.lane =
     with_items_is weave.blocks.held.list c.fill_next_column.new.blocks kept
-    ∙ stepped w lane c.blocks_mut.result.now c.fill_next_column.new.blocks at.len at.lane at.pass at.slice c.index.result.now c.self.invariant.weaving some
-    c.blocks_mut.ensures.value c.new-at.ensures.is_of.len place.lane place.pass place.slice (get_or_read weave.left.items lane c.index.result.now fits c.index.ensures 0)
+    ∙ stepped w lane c.blocks_mut.result.now c.fill_next_column.new.blocks at.len at.lane at.pass at.slice c.at.result c.self.invariant.weaving some
+    c.blocks_mut.ensures.value c.new-at.ensures.is_of.len place.lane place.pass place.slice c.at.ensures.value
     c.fill_next_column.ensures.value in
-    let fewer : (with_item c.self.inside.left c.args.lane (c.index_mut.result.now - 1)).items
-    ≡ set c.self.inside.left.items c.args.lane (slice_index c.self.inside.left.items c.args.lane - 1) =
-    ap (λ (n : ℕ). set weave.left.items lane (n - 1)) (get_or_read weave.left.items lane c.index_mut.result.now fits c.index_mut.ensures.value 0) in
-    let weaving = weaving_after w lane (with_items weave.blocks.held.list c.fill_next_column.new.blocks).items (with_item weave.left lane (c.index_mut.result.now - 1)).items
+    let fewer : c.take_one.new.self.list.items
+    ≡ set c.self.inside.left.list.items c.args.lane (slice_index c.self.inside.left.list.items c.args.lane - 1) = c.take_one.ensures.items in
+    let weaving = weaving_after w lane (with_items weave.blocks.held.list c.fill_next_column.new.blocks).items c.take_one.new.self.list.items
     c.self.invariant.weaving some made fewer in
     weaving.newest
 
@@ -95,20 +90,18 @@ returns-clause-woven c =
     let weave = c.self.inside in
     let w : Weaving = weaving_of c.self.inside in
     let lane = c.args.lane in
-    let some : 0 < slice_index c.self.inside.left.items c.args.lane = rw (ap (λ (v : Weaving). v.left) c.self.view_is) c.requires.left in
+    let some : 0 < slice_index c.self.inside.left.list.items c.args.lane = rw (ap (λ (v : Weaving). v.left) c.self.view_is) c.requires.left in
     let at = c.new-at.result in
     let place = c.new-at.ensures in
-    let fits : c.args.lane < length c.self.inside.left.items = lane_with_some weave.left.items lane (length weave.left.items) refl some in
     let kept : length c.fill_next_column.new.blocks ≡ c.self.inside.blocks.held.list.len = omega (arith, c.fill_next_column.auto.blocks, c.blocks_mut.ensures.len) in
     let made : (with_items c.self.inside.blocks.held.list c.fill_next_column.new.blocks).items ≡ with_next_block (weaving_of c.self.inside) c.args.lane =
     with_items_is weave.blocks.held.list c.fill_next_column.new.blocks kept
-    ∙ stepped w lane c.blocks_mut.result.now c.fill_next_column.new.blocks at.len at.lane at.pass at.slice c.index.result.now c.self.invariant.weaving some
-    c.blocks_mut.ensures.value c.new-at.ensures.is_of.len place.lane place.pass place.slice (get_or_read weave.left.items lane c.index.result.now fits c.index.ensures 0)
+    ∙ stepped w lane c.blocks_mut.result.now c.fill_next_column.new.blocks at.len at.lane at.pass at.slice c.at.result c.self.invariant.weaving some
+    c.blocks_mut.ensures.value c.new-at.ensures.is_of.len place.lane place.pass place.slice c.at.ensures.value
     c.fill_next_column.ensures.value in
-    let fewer : (with_item c.self.inside.left c.args.lane (c.index_mut.result.now - 1)).items
-    ≡ set c.self.inside.left.items c.args.lane (slice_index c.self.inside.left.items c.args.lane - 1) =
-    ap (λ (n : ℕ). set weave.left.items lane (n - 1)) (get_or_read weave.left.items lane c.index_mut.result.now fits c.index_mut.ensures.value 0) in
-    rw (← c.self.view_is) (stepped_woven w lane (with_items weave.blocks.held.list c.fill_next_column.new.blocks).items (with_item weave.left lane (c.index_mut.result.now - 1)).items
+    let fewer : c.take_one.new.self.list.items
+    ≡ set c.self.inside.left.list.items c.args.lane (slice_index c.self.inside.left.list.items c.args.lane - 1) = c.take_one.ensures.items in
+    rw (← c.self.view_is) (stepped_woven w lane (with_items weave.blocks.held.list c.fill_next_column.new.blocks).items c.take_one.new.self.list.items
     c.self.invariant.weaving some made fewer)
 
 pub returns-clause-share : goal.returns-clause-share
@@ -116,20 +109,18 @@ returns-clause-share c =
     let weave = c.self.inside in
     let w : Weaving = weaving_of c.self.inside in
     let lane = c.args.lane in
-    let some : 0 < slice_index c.self.inside.left.items c.args.lane = rw (ap (λ (v : Weaving). v.left) c.self.view_is) c.requires.left in
+    let some : 0 < slice_index c.self.inside.left.list.items c.args.lane = rw (ap (λ (v : Weaving). v.left) c.self.view_is) c.requires.left in
     let at = c.new-at.result in
     let place = c.new-at.ensures in
-    let fits : c.args.lane < length c.self.inside.left.items = lane_with_some weave.left.items lane (length weave.left.items) refl some in
-    let fewer : (with_item c.self.inside.left c.args.lane (c.index_mut.result.now - 1)).items
-    ≡ set c.self.inside.left.items c.args.lane (slice_index c.self.inside.left.items c.args.lane - 1) =
-    ap (λ (n : ℕ). set weave.left.items lane (n - 1)) (get_or_read weave.left.items lane c.index_mut.result.now fits c.index_mut.ensures.value 0) in
+    let fewer : c.take_one.new.self.list.items
+    ≡ set c.self.inside.left.list.items c.args.lane (slice_index c.self.inside.left.list.items c.args.lane - 1) = c.take_one.ensures.items in
     rw (← c.self.view_is)
-    (share_stepped w lane (with_items weave.blocks.held.list c.fill_next_column.new.blocks).items (with_item weave.left lane (c.index_mut.result.now - 1)).items
-    c.args.ticks.now c.fill_next_column.new.ticks at.len at.pass at.slice c.index.result.now
+    (share_stepped w lane (with_items weave.blocks.held.list c.fill_next_column.new.blocks).items c.take_one.new.self.list.items
+    c.args.ticks.now c.fill_next_column.new.ticks at.len at.pass at.slice c.at.result
     c.self.invariant.weaving some c.new-at.ensures.is_of.len place.pass place.slice
-    (get_or_read weave.left.items lane c.index.result.now fits c.index.ensures 0) fewer c.fill_next_column.ensures.count)
+    c.at.ensures.value fewer c.fill_next_column.ensures.count)
 
 pub returns-clause-apart : goal.returns-clause-apart
 returns-clause-apart c =
-    let some : 0 < slice_index c.self.inside.left.items c.args.lane = rw (ap (λ (v : Weaving). v.left) c.self.view_is) c.requires.left in
+    let some : 0 < slice_index c.self.inside.left.list.items c.args.lane = rw (ap (λ (v : Weaving). v.left) c.self.view_is) c.requires.left in
     rw (← c.self.view_is) (step_reads_finished (weaving_of c.self.inside) c.args.lane c.self.invariant.weaving some)
