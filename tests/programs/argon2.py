@@ -152,15 +152,21 @@ def memory_before_the_hash(checks):
             checks.that(f"memory refused after the matrix, {form}", found, expected)
 
 
-def standard_output_that_is_read(checks):
-    """The file of the password is not written, and another file is, after what it held."""
+def standard_streams_that_are_read(checks):
+    """The file of the password gets neither the hash nor the line of a refusal. Another file does, after what it held."""
+    said, hashing = refused(b"salt length out of range")[2], "somesalt -d -t 1 -k 8 -e"
     with tempfile.TemporaryDirectory() as folder:
         password, other = pathlib.Path(folder, "password"), pathlib.Path(folder, "other")
-        for path, expected, after in ((password, refused(b"output cannot be written"), b"password"),
-                                      (other, hashed(b""), b"password" + FIRST)):
+        password.write_bytes(b"password")
+        for words, path, expected, more in (
+            (f"{hashing} >>password", password, refused(b"output cannot be written"), b""),
+            (f"{hashing} >>other", other, hashed(b""), FIRST),
+            ("short -e 2>>password", password, (1, b"", b""), b""),
+            ("short -e 2>>other", other, (1, b"", b""), said),
+        ):
             path.write_bytes(b"password")
-            found = checks.shell(f'"$0" somesalt -d -t 1 -k 8 -e <{password} >>{path}')
-            checks.that(f"standard output that is {path.name}", (found, path.read_bytes()), (expected, after))
+            found = checks.shell(f'cd {folder}; "$0" {words} <password')
+            checks.that(f"a standard stream that is read: {words}", (found, path.read_bytes()), (expected, b"password" + more))
 
 
 def beside_the_installed(checks):
@@ -177,7 +183,7 @@ def main():
     checks = Checks(sys.argv[1])
     for name, words, given, expected in TABLE:
         checks.that(name, checks.run(words.split(), given), expected)
-    for part in (examples, standard_streams, words_of_bytes, large, memory_before_the_hash, standard_output_that_is_read,
+    for part in (examples, standard_streams, words_of_bytes, large, memory_before_the_hash, standard_streams_that_are_read,
                  beside_the_installed):
         part(checks)
     checks.end()

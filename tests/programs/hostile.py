@@ -1,6 +1,7 @@
 #!/usr/bin/env python3
 """Runs the built programs over a system that refuses: each request for memory, alone and from there on, each that is too large, all
-memory above a limit, and each call that opens, looks at, reads, writes or empties a file, which fails, is interrupted, or comes short.
+memory above a limit, and each call that opens, looks at, reads, writes or empties a file, or brings it to the disk, which fails, is
+interrupted, or comes short.
 And looks at the memory of a hash or a key when it is freed: it holds zeros.
 
     tests/programs/hostile.py ARGON2 SCRYPT
@@ -10,6 +11,7 @@ of the whole process is limited, and its calls are looked at. Expected hashes ar
 (package argon2, version 0~20171227) and of RFC 9106's reference program; scrypt_files.py says where its files come from.
 """
 import concurrent.futures
+import errno
 import hashlib
 import hmac
 import os
@@ -69,24 +71,36 @@ def calls(*rows):
     return START + [row if len(row) == 3 else (*row, None) for row in rows]
 
 
+def read_twice(name, refusal):
+    return [(f"read {name}", refusal)] * 2
+
+
+STDIN = "/proc/self/fd/0"
+
+
+def opened(name, refusal):
+    """The opening of a file to be read, or of standard input: it is looked at, since it may be a folder."""
+    return [(f"open {name}", refusal), (f"look at {name}", refusal)] if name != "standard input" else [(f"look at {STDIN}", refusal)]
+
+
 def password(*rows):
-    return calls(("read standard input", "A8a"), ("read standard input", "A8a"), *rows)
+    return calls(*opened("standard input", "A8a"), *read_twice("standard input", "A8a"), *rows)
 
 
-# Standard output, which is a pipe here: so what is read is not looked at.
-LOOKED = ("look at /proc/self/fd/1", None)
-WRITTEN = [LOOKED, ("write standard output", "A9", 0)]
-LINE = ("write standard error", "no line")
+# Standard streams, which are pipes here: so what is read is not looked at before they are written.
+LOOKED = ("look at /proc/self/fd/1", "S13", 0)
+WRITTEN = [("look at /proc/self/fd/1", "A9", 0), ("write standard output", "A9", 0)]
+LINE = [("look at /proc/self/fd/2", "no line"), ("write standard error", "no line")]
 
 
 def opened_out(*read):
-    """The opening of `out`: what is read is looked at while it is open, and before it is emptied."""
-    return [("open out", "S13"), ("look at out", "S13", 0), *((f"look at {name}", refusal, 0) for name, refusal in read),
-            ("empty out", "S13", 0)]
+    """The opening of `out` and of its folder: what is read is looked at while it is open, and before it is emptied."""
+    return [("open out", "S13"), ("look at out", "S13", 0), ("open .", "S13", 0), ("look at out", "S13", 0),
+            *((f"look at {name}", "S13", 0) for name in read), ("empty out", "S13", 0)]
 
 
-def read_twice(name, refusal):
-    return [(f"read {name}", refusal)] * 2
+def brought_to_disk(written):
+    return [("sync out", "S13", written), ("sync .", "S13", written)]
 
 
 def enc_body(source, target):
@@ -102,35 +116,38 @@ def file_of(words, given, output, *called, **more):
     return Run("scrypt", words, given, output, calls(*called), **more)
 
 
-PW = [("open pw", "S4a"), *read_twice("pw", "S4a")]
+PW = [*opened("pw", "S4a"), *read_twice("pw", "S4a")]
+TYPED = [*opened("standard input", "S4a"), *read_twice("standard input", "S4a")]
 OUT = "write standard output", "S13"
 INPUT = "read standard input", "S12"
-OPEN_F5 = [("open F5", "S12"), ("read F5", "S12")]
-ENC_HELLO_OUT = [("open hello", "S12"), *PW, *opened_out(("hello", "S13"), ("pw", "S13")), *enc_body("hello", "out")]
+OPEN_F5 = [*opened("F5", "S12"), ("read F5", "S12")]
+ENC_HELLO_OUT = [*opened("hello", "S12"), *PW, *opened_out("hello", "pw"), *enc_body("hello", "out"), *brought_to_disk(len(F5))]
 DEC_F5 = [*OPEN_F5, *PW, LOOKED, ("read F5", "S12", 0), (*OUT, 0), ("read F5", "S12", 5)]
 RUNS = [
     hash_of("somesalt -d -t 1 -k 8 -e", b"$argon2d$v=19$m=8,t=1,p=1$c29tZXNhbHQ$xRnmA6xgPsGutbcexEpheePzl1sUwMl+ORTHnmNj4Xg\n"),
     hash_of("somesalt -t 2 -m 8 -e", b"$argon2i$v=19$m=256,t=2,p=1$c29tZXNhbHQ$iekCn0Y3spW+sCcFanM2xBT63UP2sghkUoHLIUpWRS8\n"),
     hash_of("somesalt -t 2 -m 8 -id -p 2 -r", b"6d093c501fd5999645e0ea3bf620d7b8be7fd2db59c20d9fff9539da2bf57037\n"),
     hash_of("somesalt -t 2 -m 8 -v 10 -r", b"fd4dd83d762c49bdeaf57c47bdcd0c2f1babf863fdeb490df63ede9975fccf06\n"),
-    Run("argon2", "seven77 -e", b"password", b"", password(LINE), "A6.5"),
-    Run("argon2", "somesalt -e", b"", b"", calls(("read standard input", "A8a"), LINE), "A8b"),
-    Run("argon2", "somesalt -t x -q", b"password", b"", calls(LINE), "A4"),
-    file_of(f"enc {FIXED} {FROM_PW} -", b"", F0, *PW, LOOKED, (*OUT, 0), (*INPUT, 96), (*OUT, 96)),
+    Run("argon2", "seven77 -e", b"password", b"", password(*LINE), "A6.5"),
+    Run("argon2", "somesalt -e", b"", b"", calls(*opened("standard input", "A8a"), ("read standard input", "A8a"), *LINE), "A8b"),
+    Run("argon2", "somesalt -t x -q", b"password", b"", calls(*LINE), "A4"),
+    file_of(f"enc {FIXED} {FROM_PW} -", b"", F0, *opened("standard input", "S12"), *PW, LOOKED, (*OUT, 0), (*INPUT, 96), (*OUT, 96)),
     *(file_of(f"enc {FIXED} {keep}{FROM_PW} hello out", b"", F5, *ENC_HELLO_OUT, to_file=True)
       for keep in ("", "--keep 2 ", "--keep 4 ")),
-    file_of(f"enc {FIXED} -P hello", b"pw", F5, ("open hello", "S12"), *read_twice("standard input", "S4a"), LOOKED,
-            *enc_body("hello", "standard output")),
+    file_of(f"enc {FIXED} -P hello", b"pw", F5, *opened("hello", "S12"), *TYPED, LOOKED, *enc_body("hello", "standard output")),
+    # what is no regular file is not brought to the disk
+    file_of(f"enc {FIXED} {FROM_PW} hello /dev/null", b"", b"", *opened("hello", "S12"), *PW, ("open /dev/null", "S13"),
+            *[("look at /dev/null", "S13", 0)] * 2, *enc_body("hello", "/dev/null")),
     *(file_of(f"dec {keep}{FROM_PW} F5", b"", b"hello", *DEC_F5) for keep in ("", "--keep 2 ", "--keep 16 ")),
-    file_of("dec -P F5 out", b"pw\n", b"hello", *OPEN_F5, *read_twice("standard input", "S4a"),
-            *opened_out(("F5", "S13"), ("/proc/self/fd/0", None)), ("read F5", "S12", 0), ("write out", "S13", 0), ("read F5", "S12", 5),
-            to_file=True),
-    file_of("dec --passphrase env:PW -", F5, b"hello", INPUT, LOOKED, (*INPUT, 0), (*OUT, 0), (*INPUT, 5)),
+    file_of("dec -P F5 out", b"pw\n", b"hello", *OPEN_F5, *TYPED, *opened_out("F5", STDIN), ("read F5", "S12", 0),
+            ("write out", "S13", 0), ("read F5", "S12", 5), *brought_to_disk(5), to_file=True),
+    file_of("dec --passphrase env:PW -", F5, b"hello", *opened("standard input", "S12"), INPUT, LOOKED, (*INPUT, 0), (*OUT, 0),
+            (*INPUT, 5)),
     file_of("info F5", b"", b"N = 16; r = 1; p = 1; memory = 2048; cores = 64\n", *OPEN_F5, LOOKED, (*OUT, 0)),
-    file_of("dec --passphrase file:other-pw F5 out", b"", b"", *OPEN_F5, ("open other-pw", "S4a"), *read_twice("other-pw", "S4a"), LINE,
+    file_of("dec --passphrase file:other-pw F5 out", b"", b"", *OPEN_F5, *opened("other-pw", "S4a"), *read_twice("other-pw", "S4a"), *LINE,
             refusal="S10", to_file=True),
-    file_of(f"dec {FROM_PW} F5-cut-127 out", b"", b"", ("open F5-cut-127", "S12"), ("read F5-cut-127", "S12"), *PW,
-            *opened_out(("F5-cut-127", "S13"), ("pw", "S13")), *[("read F5-cut-127", "S12", 0)] * 2, (*LINE, 0),
+    file_of(f"dec {FROM_PW} F5-cut-127 out", b"", b"", *opened("F5-cut-127", "S12"), ("read F5-cut-127", "S12"), *PW,
+            *opened_out("F5-cut-127", "pw"), *[("read F5-cut-127", "S12", 0)] * 2, *((*it, 0) for it in LINE),
             refusal="S11", to_file=True),
 ]
 
@@ -219,11 +236,11 @@ LARGE_REQUESTS = [
              b"$argon2d$v=19$m=1024,t=1,p=1$c29tZXNhbHQ$Li5eBf5XrCz0cuzQRe9oflYqmA/VAzmzichw4ZYrvEU\n"), 1 << 20),
     (hash_of("somesalt -id -t 2 -k 1024 -p 2 -e",
              b"$argon2id$v=19$m=1024,t=2,p=2$c29tZXNhbHQ$kEfNQbPvk6Q7hokW6Jrvn1Mjb9kdT/I7OXVDKsviazk\n"), 1 << 20),
-    *((file_of(f"{words} {keep} {FROM_PW} -", given, made, LINE), table)
+    *((file_of(f"{words} {keep} {FROM_PW} -", given, made, *LINE), table)
       for words, given, made in ((f"enc --logN 13 -r 1 -p 1 --salt {SALT}", b"", F_MIB), ("dec", F_MIB, b""))
       for keep, table in (("", 1 << 20), ("--keep 4", 1 << 18))),
 ]
-INFO = file_of("info -", F_MIB, b"N = 8192; r = 1; p = 1; memory = 1048576; cores = 32768\n", LINE)
+INFO = file_of("info -", F_MIB, b"N = 8192; r = 1; p = 1; memory = 1048576; cores = 32768\n", *LINE)
 
 
 def largest_requests(checks, system):
@@ -239,7 +256,7 @@ def largest_requests(checks, system):
 
 
 # A file is refused for its passphrase, once its table of 1 MiB was filled.
-WRONG_PASSPHRASE = (file_of("dec --passphrase file:other-pw -", F_MIB, b"", LINE, refusal="S10"), 1 << 20)
+WRONG_PASSPHRASE = (file_of("dec --passphrase file:other-pw -", F_MIB, b"", *LINE, refusal="S10"), 1 << 20)
 
 
 def freed_blocks(checks, system):
@@ -271,6 +288,12 @@ def limits(system, run):
     return found[-1:], [each for each in found if each not in ("refused", "plain")]
 
 
+# Errors after which a run goes on: of a file system that brings nothing to the disk, of a folder that may not be read, and where
+# nothing is told of a standard stream. There every other one is a fault.
+HARMLESS = [("sync", errno.EINVAL), ("sync", errno.EOPNOTSUPP), ("sync", errno.ENOSYS), ("open .", errno.EACCES), ("look at /proc", errno.ENOENT)]
+FAULTS = [("sync", errno.EDQUOT), ("open .", errno.ENOENT), ("look at /proc", errno.EACCES), ("look at /proc", errno.ELOOP)]
+
+
 def failing_calls(system, run):
     """Each call fails, is interrupted once, as often as it is asked again and once more, or comes short."""
     done, called, _ = system.logged(run)
@@ -285,15 +308,17 @@ def failing_calls(system, run):
             failed = (status, out, b"", content)
         else:
             failed = run.after(refusal, written)
-        expected = [("fails", 1, failed)]
+        expected = [(errno.EIO, 1, failed)]
+        for table, ended in ((HARMLESS, run.plain()), (FAULTS, failed)):
+            expected += [(error, 1, ended) for start, error in table if call.startswith(start)]
         if not call.startswith("look"):
-            expected.append(("interrupted", 1, run.plain()))
+            expected.append((errno.EINTR, 1, run.plain()))
         if call.startswith(("read", "write")):
-            expected += [("interrupted", 16, run.plain()), ("short", 1, run.plain())]
+            expected += [(errno.EINTR, 16, run.plain()), ("short", 1, run.plain())]
             if refusal != "no line":
-                expected.append(("interrupted", 17, failed))
+                expected.append((errno.EINTR, 17, failed))
         for way, times, wanted in expected:
-            found = system.run(run, {"HOSTILE_CALLS": f"{number}-{number + times - 1}", "HOSTILE_WAY": way})
+            found = system.run(run, {"HOSTILE_CALLS": f"{number}-{number + times - 1}", "HOSTILE_WAY": str(way)})
             if found != wanted:
                 wrong.append((number, call, way, times, found, wanted))
     return wrong
@@ -301,16 +326,15 @@ def failing_calls(system, run):
 
 def salts(checks, system):
     """The random bytes of a salt cannot be had, come in pieces, or end too soon."""
-    front = calls(("open hello", "S12"), ("open pw", "S4a"), *read_twice("pw", "S4a"))
-    run = Run("scrypt", f"enc {COSTS} {FROM_PW} hello", b"", b"", front)
+    run = Run("scrypt", f"enc {COSTS} {FROM_PW} hello", b"", b"", calls())
     _, called, _ = system.logged(run)
-    at = called.index("open /dev/urandom") + 1
-    checks.that("random bytes are opened and read", called[at - 1:at + 1], ["open /dev/urandom", "read /dev/urandom"])
-    for number in (at, at + 1):
-        found = system.run(run, {"HOSTILE_CALLS": f"{number}-{number}", "HOSTILE_WAY": "fails"})
+    at = called.index("read /dev/urandom") + 1
+    checks.that("random bytes are opened and read", called[at - 3:at], [f"{it} /dev/urandom" for it in ("open", "look at", "read")])
+    for number in (at - 2, at - 1, at):
+        found = system.run(run, {"HOSTILE_CALLS": f"{number}-{number}"})
         checks.that(f"call {number} fails", found, run.after("S5b", None))
-    for way in ("interrupted", "short"):
-        status, made, said, _ = system.run(run, {"HOSTILE_CALLS": f"{at + 1}-{at + 1}", "HOSTILE_WAY": way})
+    for way in (errno.EINTR, "short"):
+        status, made, said, _ = system.run(run, {"HOSTILE_CALLS": f"{at}-{at}", "HOSTILE_WAY": str(way)})
         checks.that(f"random bytes: {way}", (status, len(made), said), (0, len(F5), b""))
         checks.that(f"a whole salt: {way}", len(set(made[16:48])) > 8 and made[16:48] != HEADER[16:48], True)
 
@@ -323,10 +347,11 @@ def lines(checks, system):
             checks.that(f"one write: {run.name()}", called.count("write standard error"), 1)
 
 
-KINDS = {"open": "open", "openat": "open", "read": "read", "write": "write", "statx": "look at", "ftruncate": "empty"}
-# Calls that change files, and that no run makes.
+KINDS = {"open": "open", "openat": "open", "read": "read", "write": "write", "statx": "look at", "ftruncate": "empty", "fsync": "sync"}
+# Calls that change files, or wait for the disk, and that no run makes.
 NEVER = """unlink unlinkat rename renameat renameat2 truncate fallocate chmod fchmod fchmodat chown fchown fchownat link linkat
-    symlink symlinkat mkdir mkdirat mknod mknodat rmdir copy_file_range sendfile splice pwrite64 pwritev writev creat""".split()
+    symlink symlinkat mkdir mkdirat mknod mknodat rmdir copy_file_range sendfile splice pwrite64 pwritev writev creat
+    fdatasync sync syncfs sync_file_range msync""".split()
 
 
 def no_other_calls(checks, system):
@@ -345,6 +370,9 @@ def no_other_calls(checks, system):
         found = [KINDS.get(name, name) for name in names]
         expected = [next(kind for kind in KINDS.values() if call.startswith(kind)) for call, _, _ in run.calls]
         checks.that(f"no other calls: {run.name()}", found, expected)
+    line = f'mkfifo pipe; cat pipe & {strace} -qq -e trace=fsync -o trace "$0" enc {FIXED} {FROM_PW} hello pipe; s=$?; wait; exit $s'
+    ran = subprocess.run(["sh", "-c", line, system.programs["scrypt"]], stdout=subprocess.PIPE, cwd=system.folder(), env=ENVIRONMENT)
+    checks.that("a named pipe is not brought to the disk", (ran.returncode, ran.stdout, log.read_bytes()), (0, F5, b""))
 
 
 def over_the_library(checks, system, threads):

@@ -1,10 +1,9 @@
-/* Loaded before a program, this stands between it and the system: it refuses requests for memory, and fails, interrupts or cuts
-   short a call that opens, looks at, reads, writes or empties a file. Variables say which:
+/* Loaded before a program, this stands between it and the system: it refuses requests for memory, and fails or cuts short a
+   call that opens, looks at, reads, writes or empties a file, or brings it to the disk. Variables say which:
        HOSTILE_MEMORY=FIRST-LAST    the requests for memory with these numbers, from 1, are refused
        HOSTILE_LARGEST=BYTES        each request for more bytes is refused
        HOSTILE_CALLS=FIRST-LAST     the calls with these numbers, from 1,
-       HOSTILE_WAY=fails            fail with EIO,
-       HOSTILE_WAY=interrupted      or with EINTR,
+       HOSTILE_WAY=NUMBER           fail with this error,
        HOSTILE_WAY=short            or read or write one byte, where they read or write
        HOSTILE_LOG=DESCRIPTOR       a line for each call and the count of requests for memory go there
        HOSTILE_FREED=BYTES          before that a line for each block of as many bytes, or more, that is freed: of
@@ -30,7 +29,7 @@ void *__libc_realloc(void *, size_t);
 void __libc_free(void *);
 
 static struct range { long first, last; } refused_requests, bad_calls;
-static enum { FAILS, INTERRUPTED, SHORT } way;
+static int error; /* 0: short */
 static long requests, calls;
 static size_t largest_request = SIZE_MAX, told_when_freed = SIZE_MAX;
 static int log_descriptor = -1;
@@ -50,11 +49,9 @@ static size_t number_of(const char *variable, size_t otherwise) {
 }
 
 __attribute__((constructor)) static void begin(void) {
-    const char *text = getenv("HOSTILE_WAY");
     refused_requests = range_of("HOSTILE_MEMORY");
     bad_calls = range_of("HOSTILE_CALLS");
-    if (text)
-        way = !strcmp(text, "short") ? SHORT : !strcmp(text, "interrupted") ? INTERRUPTED : FAILS;
+    error = (int)number_of("HOSTILE_WAY", EIO);
     largest_request = number_of("HOSTILE_LARGEST", SIZE_MAX);
     told_when_freed = number_of("HOSTILE_FREED", SIZE_MAX);
     log_descriptor = (int)number_of("HOSTILE_LOG", -1);
@@ -92,15 +89,15 @@ void free(void *block) {
 /* Whether this call is made: if not, errno says why. */
 static int goes_on(const char *call, const char *name) {
     tell(call, name);
-    if (!is_within(bad_calls, ++calls) || way == SHORT)
+    if (!is_within(bad_calls, ++calls) || !error)
         return 1;
-    errno = way == FAILS ? EIO : EINTR;
+    errno = error;
     return 0;
 }
 
 static const char *name_of(int descriptor) { return descriptor < 0 || descriptor >= 16 ? "a file" : names[descriptor]; }
 
-static size_t cut(size_t size) { return way == SHORT && is_within(bad_calls, calls) && size > 1 ? 1 : size; }
+static size_t cut(size_t size) { return !error && is_within(bad_calls, calls) && size > 1 ? 1 : size; }
 
 int open(const char *path, int flags, ...) {
     va_list rest;
@@ -131,6 +128,8 @@ int ftruncate(int descriptor, off_t length) {
     return goes_on("empty", name_of(descriptor)) ? syscall(SYS_ftruncate, descriptor, length) : -1;
 }
 int ftruncate64(int descriptor, off_t length) { return ftruncate(descriptor, length); }
+
+int fsync(int descriptor) { return goes_on("sync", name_of(descriptor)) ? syscall(SYS_fsync, descriptor) : -1; }
 
 __attribute__((destructor)) static void end(void) {
     char text[32];

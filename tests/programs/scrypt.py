@@ -7,18 +7,21 @@ scrypt where it is installed.
 import hashlib
 import os
 import pty
+import re
 import shutil
+import stat
 import subprocess
 import sys
 import tempfile
 import termios
+import time
 import tty
 import pathlib
 
 sys.path += map(str, pathlib.Path(__file__).resolve().parents[1].iterdir())  # the other folders of tests/
-from checking import Checks
+from checking import Checks, is_there
 from scrypt_files import (
-    COSTS, ENVIRONMENT, F0, F5, FILES, FIXED, FROM_PW, HEADER, LINES, PASSPHRASE_OF_BYTES, SALT, header_of
+    COSTS, ENVIRONMENT, F0, F5, FILES, FIXED, FROM_PW, LINES, PASSPHRASE_OF_BYTES, SALT, header_of
 )
 
 
@@ -161,7 +164,7 @@ TABLE = [
     ("no such infile to decrypt", f"dec {FROM_PW} missing", b"", refused("S12")),
     ("no such infile for info", "info missing", b"", refused("S12")),
     ("a folder as infile to decrypt", f"dec {FROM_PW} folder", b"", refused("S12")),
-    ("a folder as infile to encrypt", f"enc {FIXED} {FROM_PW} folder", b"", refused("S12", HEADER)),
+    ("a folder as infile to encrypt", f"enc {FIXED} {FROM_PW} folder", b"", refused("S12")),
     ("the infile before the passphrase", "dec --passphrase file:missing missing", b"", refused("S12")),
     ("an outfile in a missing folder", f"dec {FROM_PW} F5 missing/out", b"", refused("S13")),
     ("a folder as outfile", f"dec {FROM_PW} F5 folder", b"", refused("S13")),
@@ -181,6 +184,7 @@ OUTFILES = [
     ("a limit", f"dec -M 2047 {FROM_PW} F5 out", b"before", 1, b"before"),
     ("a long passphrase", "enc --passphrase file:pw-2049 hello out", b"before", 1, b"before"),
     ("no such infile", f"enc {FIXED} {FROM_PW} missing out", b"before", 1, b"before"),
+    ("a folder as infile", f"enc {FIXED} {FROM_PW} folder out", b"before", 1, b"before"),
 ]
 
 
@@ -208,6 +212,11 @@ def standard_streams(checks):
     opened = f"dec {FROM_PW} F5"
     checks.that("a closed standard input", checks.shell(f'"$0" dec {FROM_PW} - <&-'), refused("S12"))
     checks.that("a folder as standard input", checks.shell(f'"$0" dec {FROM_PW} - </'), refused("S12"))
+    for given in ("<&-", "</", "<folder"):
+        checks.put("out", b"before")
+        found = checks.shell(f'"$0" enc {FIXED} {FROM_PW} - out {given}')
+        checks.that(f"an outfile beside a standard input by {given}", (found, checks.content("out")), (refused("S12"), b"before"))
+    checks.put("out", None)
     checks.that("a passphrase from a closed standard input", checks.shell('"$0" dec -P F5 <&-'), refused("S4a"))
     checks.that("a passphrase from a folder", checks.shell('"$0" dec -P F5 </'), refused("S4a"))
     checks.that("a closed standard output", checks.shell(f'"$0" {opened} >&-'), refused("S13"))
@@ -401,6 +410,98 @@ def standard_output_that_is_read(checks):
     os.close(theirs)
 
 
+def standard_error_that_is_read(checks):
+    """A line is left out where standard error is a file that is read: it would stand in that file."""
+    for name, content, words in (
+        ("the input of dec", F5, "dec --passphrase file:other-pw read out 2>>read"),
+        ("the input of dec, written from its start", F5, "dec --passphrase file:other-pw read out 2<>read"),
+        ("the input of dec by a link", F5, "dec --passphrase file:other-pw read-link out 2>>read"),
+        ("standard input of dec", F5, "dec --passphrase file:other-pw - out <read 2>>read"),
+        ("the input of enc, into a full device", b"kept", f"enc {COSTS} {FROM_PW} read /dev/full 2>>read"),
+        ("the secret's file", b"pv\n", "dec --passphrase file:read F5 out 2>>read"),
+        ("the secret on standard input", b"pv\n", "dec -P F5 out <read 2>>read"),
+    ):
+        checks.put("read", content)
+        found = checks.shell(f'"$0" {words}')
+        checks.that(f"{name} as standard error", (found, checks.content("read")), ((1, b"", b""), content))
+    # Another file gets the line, and so does one that is not opened yet.
+    for words, content, line in (
+        ("dec --passphrase file:other-pw F5 out 2>>read", b"before\n", "S10"), ("dec read out 2>>read", F5, "S3"),
+    ):
+        checks.put("read", content)
+        found = checks.shell(f'"$0" {words}')
+        checks.that(f"standard error is another file: {words}", (found, checks.content("read")), ((1, b"", b""), content + LINES[line]))
+
+
+def block_devices(checks):
+    """Nor is a block device written that is read, whatever its names. Another one is written from its beginning, and keeps the rest."""
+    if not is_there("losetup", "a block device is not made of a file"):
+        return
+    content = LARGE[:65536]
+    checks.put("disk", content)
+    made = subprocess.run(["losetup", "--find", "--show", "disk"], cwd=checks.folder, capture_output=True, text=True)
+    device = made.stdout.strip()
+    other = f"{device}-{os.getpid()}"
+    if made.returncode != 0:
+        print("skipped: a block device, which root alone can make of a file")
+        return
+    try:
+        os.mknod(other, 0o600 | stat.S_IFBLK, os.stat(device).st_rdev)
+        for words in (
+            f"enc {COSTS} {FROM_PW} {device} {device.replace('dev/', 'dev/./')}",
+            f"enc {COSTS} {FROM_PW} {device} {other}",
+            f"enc {COSTS} {FROM_PW} - {other} <{device}",
+            f"enc {COSTS} {FROM_PW} {other} >{device}",
+            f"enc {COSTS} --passphrase file:{other} hello {device}",
+        ):
+            checks.that(f"a block device: {words}", (checks.shell(f'"$0" {words}'), checks.content(device)), (refused("S13"), content))
+        found = checks.shell(f'"$0" info {other} 2>{device}')
+        checks.that("a block device as standard error", (found, checks.content(device)), ((1, b"", b""), content))
+        found = checks.shell(f'"$0" enc {FIXED} {FROM_PW} hello {device}')
+        checks.that("a block device that is written", (found, checks.content(device)), (done(), F5 + content[len(F5):]))
+    finally:
+        pathlib.Path(other).unlink(missing_ok=True)
+        subprocess.run(["losetup", "--detach", device], check=True)
+
+
+def outfiles_that_fail_late(checks):
+    """The disk, or the folder, tells an error only when it is asked to keep what was written; or it has no such call."""
+    helper, mounted = pathlib.Path(__file__).with_name("late_fs.py"), os.path.join(checks.folder, "late")
+    os.mkdir(mounted)
+    pythons = [it for it in (sys.executable, "/usr/bin/python3") if checks.run(["-c", "import fusepy"], program=it)[0] == 0]
+    running = subprocess.Popen([*pythons[:1], helper, mounted], stderr=subprocess.DEVNULL) if pythons else None
+    while running and running.poll() is None and not os.path.ismount(mounted):
+        time.sleep(0.01)
+    if not os.path.ismount(mounted):
+        print("skipped: a file system that fails late, for which FUSE and the package python3-fusepy are needed")
+        return
+    try:
+        for name, expected in (
+            ("file", done()), ("file-EINVAL", done()), ("folder-EINVAL/file", done()), ("folder-EOPNOTSUPP/file", done()),
+            ("file-EIO", refused("S13")), ("file-EDQUOT", refused("S13")), ("folder-EIO/file", refused("S13")),
+        ):
+            found = checks.run(f"enc {FIXED} {FROM_PW} hello late/{name}".split())
+            checks.that(f"over a disk that fails late: {name}", (found, checks.content(f"late/{name}")), (expected, F5))
+    finally:
+        running.terminate()  # it unmounts
+        running.wait()
+
+
+def folders_that_are_kept(checks):
+    """The folder of a file is brought to the disk, too; of a link, that of the link."""
+    if not is_there("strace", "which folders are brought to the disk is not looked at"):
+        return
+    os.makedirs(os.path.join(checks.folder, "folder/below"))
+    os.symlink("below/out", os.path.join(checks.folder, "folder/link"))
+    for name, kept in (
+        ("new", ""), ("./new", ""), ("folder/new", "/folder"), ("folder//below/../new", "/folder/below/.."), ("folder/link", "/folder"),
+        (os.path.join(checks.folder, "folder/new"), "/folder"),
+    ):
+        found = checks.shell(f'strace -qqy -e trace=fsync -o calls "$0" enc {FIXED} {FROM_PW} hello {name}')
+        folders = [os.path.realpath(it) for it in re.findall(r"<(.*)>", checks.content("calls").decode())][1:]
+        checks.that(f"the folder of {name}", (found, folders), (done(), [os.path.realpath(checks.folder + kept)]))
+
+
 def output_by_a_bind_mount(checks):
     """The same where a bind mount gives the input another name, which root alone can make."""
     checks.put("kept", b"kept")
@@ -570,6 +671,10 @@ def main():
         standard_input_that_is_left(checks)
         outputs_that_are_read(checks)
         standard_output_that_is_read(checks)
+        standard_error_that_is_read(checks)
+        block_devices(checks)
+        outfiles_that_fail_late(checks)
+        folders_that_are_kept(checks)
         output_by_a_bind_mount(checks)
         outputs_over_layers(checks)
         words_of_bytes(checks)

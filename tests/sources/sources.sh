@@ -68,13 +68,6 @@ expect() {
 }
 expect 'tick(' "the counters tick in the one block function and the one core" \
     crates/argon/src/compression.rt crates/argon/src/ticks.rt crates/romix/src/salsa20.rt crates/romix/src/ticks.rt
-expect 'Count::new()' "argon and romix count, each in its own counter" \
-    crates/argon/src/ticks.rt crates/romix/src/ticks.rt
-expect 'plus_one(' "argon, romix and the heap of the functions for C count, each in its own counter" \
-    crates/argon/src/ticks.rt crates/counter/src/lib.rt crates/pikhsen_c/src/heap.rt crates/pikhsen_c/src/heap.rt \
-    crates/romix/src/ticks.rt
-expect 'self.count=self.count.plus_one()' "a count goes up in its place, and makes no other" \
-    crates/argon/src/ticks.rt crates/romix/src/ticks.rt
 
 # Memory is reserved, and work begun, in one place for each way to it, where contracts say what was tested before.
 expect '::reserve(' "only a source of memory reserves, on the condition that limits admit the work" \
@@ -92,13 +85,13 @@ expect 'with_capacity(' "room for a given length is asked for by the sources of 
 expect_below crates/argon_text '.hash(' "a hash is made once" crates/argon_text/src/verify_password.rt
 expect '.start(' "a hash is begun where it is made: its first steps are not counted" crates/argon/src/matrix.rt
 expect_below crates/argon2_command '.hash(' "a hash is made once" crates/argon2_command/src/output.rt
-# A list, which keeps its allocator, does not grow where a hash is made or a key derived, but in the sources of memory.
 expect_below crates/pikhsen_c '.write(' "a text is written where the heap is" crates/pikhsen_c/src/heap.rt
+# A list keeps its allocator, and can grow. The words of a run of argon2 are lists: none grows where a hash is made. What
+# sources of memory hand out are types that keep their list to themselves, and whose files are compared whole, below.
 grows='append|clone\w*|extend\w*|from_elem|insert\w*|push\w*|(try_)?reserve\w*|(try_)?resize\w*|shrink\w*|sort\w*'
 grows="$grows|splice\w*|split_off"
-! found=$(cd "$code/crates" && grep -roHE "(\.|::)($grows)\(|\bBox::new\(" \
-    argon argon2_command command pikhsen_c romix scrypt_command scrypt_run |
-    grep -vE '/(heap|line|room|reservation)\.rt:') ||
+! found=$(cd "$code" && grep -roHE "(\.|::)($grows)\(|\bBox::new\(" crates/argon2_command |
+    grep -vE '/(line|room)\.rt:') ||
     fail "memory is asked for by what is not a source of memory: $found"
 # The functions for C get what has a list in types that keep it to themselves.
 ! found=$(cd "$code" && grep -rlE '\b(Vec|String|Encoded)\b' crates/pikhsen_c | grep -vE '/(heap|reading|text)\.rt$') ||
@@ -118,41 +111,17 @@ in_c '.read(' "a text is read for its settings and for the test of a password" s
 # Nothing comes after the zeros over the stack.
 ! found=$(cd "$code" && sed 's/burn(told,machine)}//g' crates/pikhsen_c/src/[!b]*.rt | grep -oE '.{0,40}\bburn\(.{0,40}') ||
     fail "something comes after zeros were put over the stack: $found"
+expect 'Drop for ' "a drop at the end of a function for C comes after the zeros over the stack" \
+    crates/argon/src/blocks.rt crates/romix/src/words.rt
 for text in 'forget' 'ManuallyDrop' 'leak(' 'into_raw('; do
     expect "$text" "all memory that is taken is freed"
 done
-# What comes from a password stands in lists that `Held::free` alone lets go of, on the condition that they hold zeros:
-# the type has no Drop and no further function, and its list is its module's. The other lists are zeros, or public.
-for name in 'argon:Block:new blocks blocks_mut free' 'romix:u32:new words free'; do
-    file=crates/${name%%:*}/src/held.rt item=${name#*:}
-    grep -qxF "    list: Vec<${item%%:*}>," "$file" || fail "$file: the list is lent by its module alone"
-    grep -qF '        requires wiped { self.list.items ≡ replicate ' "$file" ||
-        fail "$file: a list is freed when it holds zeros"
-    test "$(grep -oE '\bfn \w+' "$file" | cut -c4- | tr '\n' ' ')" = "${item#*:} " ||
-        fail "$file: a list is made, lent and freed by these functions alone"
-    if grep -nE 'Drop|derive|Clone|mem::' "$file" | grep -vE '^[0-9]+: *//'; then
-        fail "$file: a list is let go of by Held::free alone"
-    fi
-done
-for text in 'clone(' 'Clone::' '.to_vec(' 'to_owned(' 'collect(' 'try_take(' 'allocator(' 'Box'; do
-    expect_below crates/romix "$text" "a list of words stands once until it is wiped"
-    expect_below crates/argon "$text" "a list of blocks stands once until it is wiped"
-done
-expect_below crates/romix 'Vec::' "a list of words is made by the source of memory alone" \
-    crates/romix/src/reservation.rt
-expect_below crates/argon 'Vec::' "a list of blocks is made by the source of memory alone"
-expect_below crates/romix 'Vec<' "a list of words is not wiped" crates/romix/src/held.rt crates/romix/src/held.rt \
-    crates/romix/src/reservation.rt crates/romix/src/reservation.rt crates/romix/src/reservation.rt \
-    crates/romix/src/reservation.rt
-expect_below crates/argon 'Vec<' "a list of blocks is not wiped" crates/argon/src/held.rt crates/argon/src/held.rt \
-    crates/argon/src/lanes.rt crates/argon/src/room.rt crates/argon/src/room.rt crates/argon/src/room.rt \
-    crates/argon/src/room.rt crates/argon/src/weave.rt
 expect_below crates/scrypt_run 'Enc::start(' "a derivation for a new file is begun once" \
     crates/scrypt_run/src/encrypt.rt
 expect_below crates/scrypt_run 'Dec::open(' "a derivation for a file that is read is begun once" \
     crates/scrypt_run/src/decrypt.rt
 
-# Of the system no contract knows a byte. So the files that call it, and what hands the system to the programs, are
+# Of the system no contract knows a byte. So the crate that calls it, and what hands the system to the programs, are
 # compared whole, without comments and white space, by their sums: who changes one reads it again, and puts its new sum here.
 compared=
 compare() {
@@ -160,41 +129,40 @@ compare() {
     sum=$(grep -vE '^ *//' "$2" | tr -d ' \n' | sha256sum | cut -c1-64)
     test "$sum" = "$1" || fail "$2 is not what was read when its sum was put here; its sum is $sum"
 }
-compare 1d804d1995a484dd0678e343a795020b6d3b97d6b986b6977adee401fa4ba8a7 crates/tools/src/real.rt
-compare 8a4250968e40c078f6e24ee22868d9d6c804e22344261c42f76e34fe841cced2 crates/tools/src/identity.rt
-compare 27ab446a5ed92bf7fbb468982580077c327db7e9fbc8780f5c76c96b0f983535 crates/tools/src/placeholders.rt
-compare fd72d58f020e62464528b85c0313b937310d5f45d00dd62f1a495d89e964cc97 crates/argon_tool/src/main.rt
-compare 10cd5b39cfdf89c939a2f8bba840c7f608433a105dd98231b48621fce5838759 crates/scrypt_tool/src/main.rt
-# Which of them `tools` hands to the programs is compared, too. Nothing else takes the runtime or names the system's calls,
-# or is a system. What a `drop` does comes after the end of a run, of which alone the contract of `run` speaks: no type
-# has one but two that hold no system.
-compare 89cd4523427d1d91331d2d2e9e994b8390fed8424fc9952cf4c407b81f8c3689 crates/tools/src/lib.rt
-! found=$(cd "$code" && grep -roHE '\bHostRuntime\b|\bstd::((env|fs|net|os|process)\b|[{*])|\b(libc|os)::' crates |
-    sort -u | grep -v _tests/ |
-    grep -vE '^crates/(tools/src/(real|identity|placeholders)|(argon|scrypt)_tool/src/main|comparison/src/lib)\.rt:' |
+compare 4e45f0b098b8ef4c530492760356a9b97a7e85defa1f3607840084912ba299de crates/system_calls/src/identity.rt
+compare 8ad4f96f98f76cdf8f04fce7eda73e94d2afacb7ea9fbe925a137c44dfe9f6e1 crates/system_calls/src/lib.rt
+compare 27ab446a5ed92bf7fbb468982580077c327db7e9fbc8780f5c76c96b0f983535 crates/system_calls/src/placeholders.rt
+compare 0a5328cdc0fc5f184f497194c69ef1120c30264f8551e92e1b0b0d066350dc49 crates/system_calls/src/real.rt
+! found=$(find crates/system_calls/src ! -type d | grep -vxF "$(printf '%s\n' $compared)") ||
+    fail "a file of system_calls is not compared: $found"
+compare 616dcb7cb229ff046689a7083114079db44d92073e29d0c07ec0133ef3cd849d crates/argon_tool/src/main.rt
+compare 517ce490602582aa9455c57ec6ad931061fe682925ad39d58fb298c2a0be3c7c crates/scrypt_tool/src/main.rt
+# What calls the system has the runtime, which `main` gets and hands to `Real` alone, or makes a file of a descriptor, which is
+# unsafe. A run has a type parameter in the place of `Real`, and gives the system back, so nothing comes after it.
+! found=$(cd "$code" && grep -roHE '\b(Host|Libc)Runtime\b|\bfrom_raw_fd\b|\bunsafe\b[^(]' crates | sort -u |
+    grep -vE '^crates/(system_calls/src/\w+|(argon|scrypt)_tool/src/main|comparison/src/lib|\w+_tests/.*)\.rt:' |
     grep -vxF crates/scrypt_request/src/refusal.rt:HostRuntime) || # which its test takes
-    fail "the system is named in a file that is not compared whole: $found"
-expect 'System for ' "the systems are the real one and the one in memory" \
-    crates/tools/src/memory_system.rt crates/tools/src/real.rt
-expect 'Drop for ' "a drop runs after the end of which contracts speak" \
-    crates/argon/src/blocks.rt crates/romix/src/words.rt
+    fail "the system may be called by what is not compared whole: $found"
 # Of the heap neither: that it is asked for what a clause says, once, and that want of memory is reported where the heap
-# refused and nowhere else. So the files in which the heap is the source of memory are compared whole, too.
-compare 52c2436ec549b7a5bfa19aa1228f4db42d44c164de0f1c711ca0698f27a847f1 crates/argon/src/room.rt
+# refused and nowhere else. So the files in which the heap is the source of memory are compared whole, too, and those of
+# the types that keep a list to themselves; what comes from a password is in such a list until `Held::free`, which wants
+# zeros.
+compare 2103618ba9ff2eb9f042a53e100ac3240f3ff8c657216fe389736d91f5aab043 crates/argon/src/held.rt
+compare c7f5c8c033d154be226a3341f38f39601568fb70e8774cdffd90b946d5dbed81 crates/argon/src/numbers.rt
+compare 3b63335794f488ae3c49a26906d2f91038b2fc6f469a4325800776ca4a90d810 crates/argon/src/room.rt
 compare d18f42d50d03421d9b23cd0e56050613778ec6371eddee7887e272ade6f69bdc crates/argon2_command/src/bytes.rt
 compare e7cbb65a747c159f80f65fb01374e95c1b0389396d383e4bac663a68e85e132e crates/argon2_command/src/line.rt
 compare 7d3dc1b3eea0508bb0be62cb014654feb9119cfeaa93e8dd80e6c85d09bbc733 crates/argon2_command/src/room.rt
 compare 59cb45b19577aead6a56a6f27d15e590e3245cd4ce4aeafedc03dd7d41f426a5 crates/argon_text/src/read_room.rt
 compare 0718e36ffe70d272a0a6b73aba7e9fef2fa7764476b1d37b1c674c9033809646 crates/argon_text/src/room.rt
 compare 50a6af06f1848ac1af58182b15162c01fe175a8ec12a83a2a9b56c243488e022 crates/argon_text/src/text_room.rt
-compare 71379740175d79a7bebf6a946526f623252ee63cd94b630fbda8926aebcc8d4d crates/pikhsen_c/src/heap.rt
+compare 5af101de60741825700901012b94f4569887e85106cd9ef1b93b18b15137962c crates/pikhsen_c/src/heap.rt
 compare 3a1324cba20a5a03fbb4015d8da8bd52dffebec8c00f221b7f16718dd0e8a79b crates/pikhsen_c/src/reading.rt
 compare 9b460b315d4860e9eca8bc2e229a0912a4cfc94bc96eb8b0c52a4ac5928deaba crates/pikhsen_c/src/text.rt
-compare edaf946efc6fd2415e234ab920a7659acd078e5fcf3a3269dd0a7be68a564cfa crates/romix/src/reservation.rt
+compare ae1f648147b1db7b90b1c5e05e9653dfc10352ff9519f44bd8b26f1bae7c7d41 crates/romix/src/held.rt
+compare 0ec632df7fd9d7f234b3cca79d5bfbeada870f37e8be4a37216514037b908449 crates/romix/src/reservation.rt
 compare b7c9cf4e2e2bdf886fcc59c19cecdc1ac5c414c77aba9a0904ec74736accbc1a crates/scrypt_run/src/line.rt
 compare 266c1125320cd467b012655480d8b345a1f6f7c5ada451d46ed82e1413a73f58 crates/scrypt_run/src/room.rt
-expect 'set_permissions' "a file keeps the permissions that it has or is made with"
-expect 'PermissionsExt' "a file keeps the permissions that it has or is made with"
 
 # A comparison that ends at the first byte that differs tells by its time where that is, and no contract sees time.
 expect 'are_same(tag, claim.tag)' "tags are compared over all their bytes" crates/argon_text/src/verify_password.rt

@@ -4,8 +4,8 @@
 mod program;
 
 use std::process::ExitCode;
-use tools::Real;
+use system_calls::Real;
 
 fn main(rt: HostRuntime) -> ExitCode {
-    ExitCode::from(program::run(rt.alloc(), Real::new(rt)).0)
+    ExitCode::from(program::run::<Real>(rt.alloc(), Real::new(rt)).0)
 }

@@ -1,44 +1,41 @@
 //! The program over any system.
-ghost use Rattle.std.specs.Prelude.{◌≡◌, ◌≤◌, drop, IsTrue};
-ghost use Rattle.scrypt_command.specs.Run.{Succeeds};
-ghost use Rattle.scrypt_tool.specs.Program.{ProgramRefuses};
-ghost use Rattle.tools.specs.Held.{host_over};
+ghost use Rattle.std.specs.Prelude.{◌≡◌, ◌≤◌, IsTrue};
+ghost use Rattle.host.specs.Faults.{no_faults};
+ghost use Rattle.scrypt_tool.specs.Program.{ProgramRefuses, ProgramSucceeds};
 ghost use Rattle.tools.specs.World.{IsUnused};
 
-use host::{Host, refuse};
 use scrypt_command::{ScryptRefusal, scrypt};
 use std::alloc::Global;
-use tools::{System, SystemHost, WordsFault, words};
+use tools::{Counts, System, SystemHost, WordsFault, words};
 
-/// `scrypt` with the words of a process, over a system of which nothing was used. It gives the status, and
-/// the host as it is at the end.
+/// `scrypt` with the words of a process, over a system of which nothing was used. It gives the status, the
+/// system as the run left it, and how often each kind of call has failed. Nothing else is kept of the system:
+/// what is done to it afterwards is done by the caller.
 ///
 /// This is what the program promises: over every system that tells its bytes, they, the line and the
 /// status are what the definitions of `scrypt_command` make of the words and of what the system gives.
-pub fn run<S: System>(alloc: Global, system: S) -> (u8, SystemHost<S>)
+pub fn run<S: System>(alloc: Global, system: S) -> (u8, S, Counts<S>)
     requires unused { IsTrue S.tells → IsUnused (S.world system) }
     ensures status { result.0 ≤ 1 }
-    ensures succeeds { IsTrue S.tells → result.0 ≡ 0 → Succeeds (drop 1 (S.words system))
-        (host_over (S.world system)) (⟦<SystemHost<S> as Host>⟧.seen result.1) }
-    ensures refuses { IsTrue S.tells → result.0 ≡ 1 → ProgramRefuses S.tells (S.words system)
-        (host_over (S.world system)) (⟦<SystemHost<S> as Host>⟧.seen result.1)
-        (⟦<SystemHost<S> as Host>⟧.faults result.1) }
+    ensures counts { result.0 ≡ 0 → result.2 ≡ no_faults }
+    ensures succeeds { IsTrue S.tells → result.0 ≡ 0 →
+        ProgramSucceeds (S.words system) (S.world system) (S.world result.1) }
+    ensures refuses { IsTrue S.tells → result.0 ≡ 1 →
+        ProgramRefuses S.tells (S.words system) (S.world system) (S.world result.1) result.2 }
 {
     let read = words(&system, alloc);
     let mut host = SystemHost::new(system);
     match read {
         Ok(words) => {
             let status = scrypt(alloc, &words, &mut host);
-            (status, host)
+            if status == 0 {
+                return host.settle(ScryptRefusal::OutputFault.line());
+            }
+            let (system, counts) = host.into_system();
+            (status, system, counts)
         }
-        Err(WordsFault::NotText) => {
-            let status = refuse(&mut host, ScryptRefusal::Usage.line());
-            (status, host)
-        }
-        Err(WordsFault::OutOfMemory) => {
-            let status = refuse(&mut host, ScryptRefusal::OutOfMemory.line());
-            (status, host)
-        }
+        Err(WordsFault::NotText) => host.refuse(ScryptRefusal::Usage.line()),
+        Err(WordsFault::OutOfMemory) => host.refuse(ScryptRefusal::OutOfMemory.line()),
     }
 }
 

@@ -2,7 +2,8 @@
 //! aes-256-ctr, and scrypt(1) 1.3.1 opens it.
 use std::alloc::Global;
 use std::fs;
-use tools::{Real, SystemHost};
+use system_calls::Real;
+use tools::SystemHost;
 
 pub const FILE_OF_HELLO: &[u8] = b"scrypt\x00\x04\x00\x00\x00\x01\x00\x00\x00\x01\
 \x00\x01\x02\x03\x04\x05\x06\x07\x08\x09\x0a\x0b\x0c\x0d\x0e\x0f\x10\x11\x12\x13\x14\x15\x16\x17\x18\x19\x1a\x1b\x1c\x1d\x1e\x1f\
@@ -22,7 +23,8 @@ fn status(rt: HostRuntime, line: &str) -> u8 {
     }
     let mut host = SystemHost::new(Real::new(rt));
     let status = scrypt_command::scrypt(alloc, &words, &mut host);
-    drop(host);
+    let (system, _) = host.into_system();
+    drop(system);
     status
 }
 

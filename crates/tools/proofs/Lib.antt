@@ -1,5 +1,6 @@
 -- What loops keep.
 mod Interrupted
+mod Left
 mod Opened
 mod Parts
 mod Taking

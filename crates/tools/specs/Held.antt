@@ -1,9 +1,11 @@
 -- What contracts see of a system's host: the host that is made of a system and of how far a run has come.
-use Rattle.std.specs.Prelude.{◌≡◌, Bool, true, false, not, ℕ, List, [], codes, take, Option, None, Some, is_none, if◌then◌else◌}
+use Rattle.std.specs.Prelude.{◌≡◌, Bool, true, false, not, ℕ, List, [], codes, drop, take, Option, None, Some, IsTrue, is_none, if◌then◌else◌}
+use Rattle.host.specs.Faults.{Faults}
 use Rattle.host.specs.Grants.{Grants, nothing_asked}
+use Rattle.host.specs.Lines.{SaysOneLine}
 use Rattle.host.specs.Memory.{lookup}
-use Rattle.host.specs.Seen.{SecretSource, Seen, env, file, stdin_once}
-use Rattle.tools.specs.World.{Files, IsApart, World}
+use Rattle.host.specs.Seen.{SecretSource, Seen, Text, env, file, stdin_once}
+use Rattle.tools.specs.World.{Files, IsApart, IsSettled, IsUnsettled, OpensNoOther, World}
 use Rattle.tools.specs.declared.run.InputStage.{InputStage}
 use Rattle.tools.specs.declared.run.InputStage.TheVariants as input
 use Rattle.tools.specs.declared.run.OutputStage.{OutputStage}
@@ -34,12 +36,27 @@ abbrev pub is_unasked : OutputStage → Bool
 is_unasked output.Unasked = true
 is_unasked output.Refused = false
 is_unasked output.Opened = false
+is_unasked output.Kept = false
+is_unasked output.Synced = false
+is_unasked output.Unsynced = false
 
 -- whether the output is in use
 abbrev pub is_in_use : OutputStage → Bool
 is_in_use output.Unasked = false
 is_in_use output.Refused = false
 is_in_use output.Opened = true
+is_in_use output.Kept = true
+is_in_use output.Synced = true
+is_in_use output.Unsynced = true
+
+-- whether the output was not asked to be brought to the disk
+abbrev pub is_before_sync : OutputStage → Bool
+is_before_sync output.Unasked = true
+is_before_sync output.Refused = true
+is_before_sync output.Opened = true
+is_before_sync output.Kept = true
+is_before_sync output.Synced = false
+is_before_sync output.Unsynced = false
 
 -- the calls that are granted once a run has come so far
 abbrev pub grants_at : InputStage → OutputStage → Option SecretSource → Bool → Grants
@@ -51,6 +68,11 @@ grants_at input_stage output_stage asked salted = record {
   secret = is_none asked;
   salt = not salted;
 }
+
+-- the bytes of what stands under a name, or none where it isn't there
+abbrev pub bytes_in : Option (List ℕ) → List ℕ
+bytes_in None = []
+bytes_in (Some bytes) = bytes
 
 -- the first 32 bytes of a file, or none where it isn't there
 abbrev pub salt_in : Option (List ℕ) → List ℕ
@@ -66,6 +88,24 @@ abbrev pub secret_in : World → SecretSource → Option (List ℕ)
 secret_in w stdin_once = w.stdin
 secret_in w (env name) = lookup w.variables name
 secret_in w (file name) = lookup w.files name
+
+-- the name under which a secret source is opened, if it is a stream
+abbrev pub opened_for : Option SecretSource → Option (Option Text)
+opened_for None = None
+opened_for (Some stdin_once) = Some None
+opened_for (Some (env name)) = None
+opened_for (Some (file name)) = Some (Some name)
+
+-- the name under which random bytes are opened for a salt, if one was asked for
+abbrev pub opened_for_salt : Bool → Option (Option Text)
+opened_for_salt false = None
+opened_for_salt true = Some (Some (codes "/dev/urandom"))
+
+-- what is left of the secret's stream once n bytes of a source were taken; a variable is no stream
+abbrev pub secret_left : SecretSource → ℕ → World → List ℕ
+secret_left stdin_once n w = drop n (bytes_in w.stdin)
+secret_left (env name) n w = w.secret.left
+secret_left (file name) n w = drop n (bytes_in (lookup w.files name))
 
 -- what is seen of the host that is made of a system and of how far a run has come
 abbrev pub host_seen : Held → Seen
@@ -88,13 +128,42 @@ host_seen h = record {
 abbrev pub host_over : World → Seen
 host_over w = host_seen (record { world = w; grants = nothing_asked; asked = None; salted = false })
 
--- a run has come as far as its stages say
-pub record IsAt (input_stage : InputStage) (output_stage : OutputStage) (grants : Grants) (w : World) (f : Files) : Type 0 where
+-- what a run leaves of a system: it stands as a host over it is seen at the end of the run. As a secret's stream it
+-- opened at most the source that the host was asked for, and random bytes at most for a salt; and it emptied nothing
+-- but an output that it opened
+pub record Leaves (after : World) (seen : Seen) : Type 0 where
+  pub held : Held
+  pub over : held.world ≡ after
+  pub same : host_seen held ≡ seen
+  pub secret : OpensNoOther (opened_for seen.asked) after.secret
+  pub random : OpensNoOther (opened_for_salt seen.salted) after.random
+  pub unemptied : seen.output_opened ≡ None → after.is_emptied ≡ false
+
+-- of a run with these failures, whose host is seen like this, a line was said, or could not be said; and so the system
+-- is left
+pub record EndsWithLine (tells : Bool) (line : Text) (before : Seen) (faults_before : Faults) (after : World) (faults_after : Faults) : Type 0 where
+  pub seen : Seen
+  pub leaves : IsTrue tells → Leaves after seen
+  pub says : SaysOneLine tells line before seen faults_before faults_after
+
+-- a run has come as far as its stages say; `told` is whether it tried to say a line
+pub record IsAt (input_stage : InputStage) (output_stage : OutputStage) (asked : Option SecretSource) (salted told : Bool) (grants : Grants) (w : World) (f : Files) : Type 0 where
   pub unopened : grants.input ≡ true → w.input.opened ≡ None
   pub going : input_stage ≡ input.Opened → w.input.is_ended ≡ false
   pub ended : input_stage ≡ input.Ended → w.input.left ≡ []
   pub unasked : grants.secret ≡ true → w.secret.opened ≡ None
   pub unsalted : grants.salt ≡ true → w.random.opened ≡ None
   pub early : grants.output ≡ true → w.output_asked ≡ None
-  pub new : output_stage ≡ output.Opened → w.is_new ≡ true
-  pub apart : output_stage ≡ output.Opened → IsApart f
+  pub new : is_in_use output_stage ≡ true → w.is_new ≡ true
+  pub apart : is_in_use output_stage ≡ true → IsApart f
+  pub secret : OpensNoOther (opened_for asked) w.secret
+  pub random : OpensNoOther (opened_for_salt salted) w.random
+  pub named : is_in_use output_stage ≡ true → is_none w.output_asked ≡ false
+  pub unemptied : is_in_use output_stage ≡ false → w.is_emptied ≡ false
+  pub streamed : output_stage ≡ output.Opened → w.is_kept ≡ false
+  pub kept : output_stage ≡ output.Kept → w.is_kept ≡ true
+  pub before_sync : is_before_sync output_stage ≡ true → w.sync_asked ≡ false
+  pub not_yet : is_before_sync output_stage ≡ true → w.is_synced ≡ false
+  pub synced : output_stage ≡ output.Synced → IsSettled w
+  pub unsynced : output_stage ≡ output.Unsynced → IsUnsettled w
+  pub unsaid : told ≡ false → w.said ≡ []

@@ -1,9 +1,15 @@
--- Which regular file a file is.
-use Rattle.std.specs.Prelude.{◌≡◌, ◌⊎◌, Option, None, Some}
+-- Which file a file is.
+use Rattle.std.specs.Prelude.{◌≡◌, ◌⊎◌, Bool, true, false, Option, None, Some}
 use Rattle.tools.specs.declared.identity.FileIdentity.{FileIdentity}
+use Rattle.tools.specs.declared.identity.FileIdentity.TheVariants as identity
 use Rattle.tools.specs.declared.identity.FilesRead.{FilesRead}
 
--- the file is a regular file, and one of those that are read
+-- whether it is a regular file
+abbrev pub is_regular : FileIdentity → Bool
+is_regular (identity.Regular device inode) = true
+is_regular (identity.Block device) = false
+
+-- the file is a regular file or a block device, and one of those that are read
 abbrev pub Includes : FilesRead → Option FileIdentity → Type 0
 Includes read None = ⊥
 Includes read (Some identity) = (read.input ≡ Some identity) ⊎ (read.secret ≡ Some identity)

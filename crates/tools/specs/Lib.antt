@@ -5,4 +5,3 @@ pub mod World
 pub mod Held
 pub mod Memory
 pub mod Numbers
-pub mod Inside

@@ -1,9 +1,10 @@
 -- What contracts see of a system in memory.
-use Rattle.std.specs.Prelude.{ℕ, List, [], ◌∷◌, ◌++◌, None, Some, false}
+use Rattle.std.specs.Prelude.{ℕ, List, [], ◌∷◌, ◌++◌, Option, None, Some, false}
 use Rattle.host.specs.Seen.{Text}
+use Rattle.tools.specs.declared.identity.FileIdentity.{FileIdentity}
 use Rattle.tools.specs.World.{Files, Source, World, no_files, no_world}
 
--- a system in memory: its bytes, names and lines, which regular files its streams are, how often a read or a write was
+-- a system in memory: its bytes, names and lines, which files its streams are, how often a read or a write was
 -- asked for, and the words of the process
 pub record Memory : Type 0 where
   pub world : World
@@ -34,6 +35,10 @@ with_file name bytes m = record m { world = record m.world { files = record { na
 -- the system with another variable before the others
 abbrev pub with_variable : Text → List ℕ → Memory → Memory
 with_variable name bytes m = record m { world = record m.world { variables = record { name = name; bytes = bytes } ∷ m.world.variables } }
+
+-- the system whose standard error is this file, if it is one
+abbrev pub with_error : Option FileIdentity → Memory → Memory
+with_error file m = record m { files = record m.files { error = file } }
 
 -- the system with another word after the others
 abbrev pub with_word : Text → Memory → Memory

@@ -1,7 +1,8 @@
 -- What contracts see of a system that tells its bytes, and what each call leaves of it.
-use Rattle.std.specs.Prelude.{◌≡◌, ◌≤◌, ◌==◌, Bool, true, false, ℕ, List, [], ◌∷◌, ◌++◌, drop, length, take, Option, None, Some}
+use Rattle.std.specs.Prelude.{◌≡◌, ◌≤◌, ◌==◌, Bool, true, false, not, ℕ, List, [], ◌∷◌, ◌++◌, drop, length, take, Option, None, Some}
 use Rattle.host.specs.Memory.{Entry, lookup}
 use Rattle.host.specs.Seen.{Text}
+use Rattle.tools.specs.Identity.{is_regular}
 use Rattle.tools.specs.declared.identity.FileIdentity.{FileIdentity}
 use Rattle.tools.specs.declared.system.Reading.{Reading}
 use Rattle.tools.specs.declared.system.Reading.TheVariants as reading
@@ -16,9 +17,11 @@ pub record Source : Type 0 where
   pub is_ended : Bool
 
 -- the input, a secret's source and the random bytes; what was written; the name under which an output was asked for,
--- whatever came of it (None: none was; Some None: standard output); whether the output holds only what is written
--- from now on, and whether it was emptied; the lines said so far; what standard input gives from its beginning, if it
--- is there, and what each file does, other than as the input; and the variables
+-- whatever came of it (None: none was; Some None: standard output); whether nothing that the output held is to be taken
+-- away any more, and whether it was emptied; whether it is kept: a regular file or a block device that was opened by its
+-- name; whether it was asked to be brought to the disk, whatever came of it, and whether it was brought there; the
+-- lines said so far; what standard input gives from its beginning, if it is there, and what each file does, other than
+-- as the input; and the variables
 pub record World : Type 0 where
   pub input : Source
   pub secret : Source
@@ -27,27 +30,37 @@ pub record World : Type 0 where
   pub output_asked : Option (Option Text)
   pub is_new : Bool
   pub is_emptied : Bool
+  pub is_kept : Bool
+  pub sync_asked : Bool
+  pub is_synced : Bool
   pub said : List Text
   pub stdin : Option (List ℕ)
   pub files : List Entry
   pub variables : List Entry
 
--- which regular file each opened stream is, if it is one
+-- which regular file or block device each opened stream is, and standard error, if it is one
 pub record Files : Type 0 where
   pub input : Option FileIdentity
   pub secret : Option FileIdentity
   pub output : Option FileIdentity
+  pub error : Option FileIdentity
 
--- which regular file this stream is
+-- which file this stream is
 abbrev pub file_of : Stream → Files → Option FileIdentity
 file_of stream.Input f = f.input
 file_of stream.Secret f = f.secret
 file_of stream.Output f = f.output
+file_of stream.Error f = f.error
 
--- the output is no regular file that is read
+-- the output is neither the input nor the secret's source
 pub record IsApart (f : Files) : Type 0 where
   pub input : (identity : FileIdentity) → f.output ≡ Some identity → f.input ≡ Some identity → ⊥
   pub secret : (identity : FileIdentity) → f.output ≡ Some identity → f.secret ≡ Some identity → ⊥
+
+-- standard error is neither the input nor the secret's source
+pub record SaysApart (f : Files) : Type 0 where
+  pub input : (identity : FileIdentity) → f.error ≡ Some identity → f.input ≡ Some identity → ⊥
+  pub secret : (identity : FileIdentity) → f.error ≡ Some identity → f.secret ≡ Some identity → ⊥
 
 -- ---- streams that are read
 
@@ -100,6 +113,10 @@ pub record Reads (r : Reading) (n : ℕ) (buf : List ℕ) (before after : World)
   pub end : n ≡ 0 → (source_at r before).left ≡ []
   pub taken : after ≡ after_read r n before
 
+-- where a stream was opened, it was under this name
+abbrev pub OpensNoOther : Option (Option Text) → Source → Type 0
+OpensNoOther name s = (other : Option Text) → s.opened ≡ Some other → name ≡ Some other
+
 -- of all that contracts see, this stream alone may have changed
 pub record LeavesAllBut (r : Reading) (before after : World) : Type 0 where
   pub source : Source
@@ -117,22 +134,33 @@ pub record TakesFrom (r : Reading) (before after : World) : Type 0 where
 abbrev pub after_ask_output : Option Text → World → World
 after_ask_output name w = record w { output_asked = Some name }
 
--- what is opened under this name is not to be emptied: standard output, and what is no regular file
-abbrev pub stays_as_it_is : Option Text → Option FileIdentity → Bool
-stays_as_it_is None identity = true
-stays_as_it_is (Some name) None = true
-stays_as_it_is (Some name) (Some identity) = false
+-- what is opened under this name is to be emptied: a regular file that is named
+abbrev pub holds_more : Option Text → Option FileIdentity → Bool
+holds_more None identity = false
+holds_more (Some name) None = false
+holds_more (Some name) (Some identity) = is_regular identity
 
--- the system after an output was opened under this name, which is that regular file or none; it is new, unless it is
--- to be emptied
+-- what is opened under this name is kept, and is to be brought to the disk: a regular file or a block device that is
+-- named
+abbrev pub keeps_bytes : Option Text → Option FileIdentity → Bool
+keeps_bytes None identity = false
+keeps_bytes (Some name) None = false
+keeps_bytes (Some name) (Some identity) = true
+
+-- the system after an output was opened under this name, which is that file or none
 abbrev pub after_open_output : Option Text → Option FileIdentity → World → World
-after_open_output name identity w = record w { output_asked = Some name; is_new = stays_as_it_is name identity }
+after_open_output name identity w = record w {
+  output_asked = Some name;
+  is_new = not (holds_more name identity);
+  is_kept = keeps_bytes name identity;
+}
 
--- an output was asked for under this name, and may be new and emptied; nothing else has changed
+-- an output was asked for under this name, and may be new, emptied and kept; nothing else has changed
 pub record AsksOutput (name : Option Text) (before after : World) : Type 0 where
   pub is_new : Bool
   pub is_emptied : Bool
-  pub same : after ≡ (let w : World = record before { output_asked = Some name; is_new = is_new; is_emptied = is_emptied } in w)
+  pub is_kept : Bool
+  pub same : after ≡ (let w : World = record before { output_asked = Some name; is_new = is_new; is_emptied = is_emptied; is_kept = is_kept } in w)
 
 -- the system after the output was emptied
 abbrev pub after_empty : World → World
@@ -142,15 +170,41 @@ after_empty w = record w { is_new = true; is_emptied = true }
 abbrev pub after_write : List ℕ → World → World
 after_write bytes w = record w { output = w.output ++ bytes }
 
+-- the system after the output was asked to be brought to the disk, and was not
+abbrev pub after_ask_sync : World → World
+after_ask_sync w = record w { sync_asked = true }
+
+-- the system after the output was brought to the disk
+abbrev pub after_sync : World → World
+after_sync w = record w { sync_asked = true; is_synced = true }
+
+-- what the output held was taken away, if it is a regular file that was opened by its name; what was written is on the
+-- disk, where the output is kept; and no other output was asked to be brought there. (Nothing is written or emptied once
+-- it was asked to be: that is a condition of these calls.)
+pub record IsSettled (w : World) : Type 0 where
+  pub new : w.is_new ≡ true
+  pub synced : w.is_kept ≡ true → w.is_synced ≡ true
+  pub unasked : w.is_kept ≡ false → w.sync_asked ≡ false
+
+-- the same, but that the output was asked to be brought to the disk, and was not
+pub record IsUnsettled (w : World) : Type 0 where
+  pub new : w.is_new ≡ true
+  pub asked : w.sync_asked ≡ true
+  pub unsynced : w.is_synced ≡ false
+
 -- ---- the rest
 
--- no stream was opened yet, and no output was asked for
+-- no stream was opened yet, no output was asked for, emptied or brought to the disk, and no line was said
 pub record IsUnused (w : World) : Type 0 where
   pub input : w.input.opened ≡ None
   pub secret : w.secret.opened ≡ None
   pub random : w.random.opened ≡ None
   pub output : w.output_asked ≡ None
   pub going : w.input.is_ended ≡ false
+  pub unemptied : w.is_emptied ≡ false
+  pub unasked : w.sync_asked ≡ false
+  pub unsynced : w.is_synced ≡ false
+  pub unsaid : w.said ≡ []
 
 -- the system after a line more was said
 abbrev pub after_line : Text → World → World
@@ -170,12 +224,15 @@ no_world = record {
   output_asked = None;
   is_new = false;
   is_emptied = false;
+  is_kept = false;
+  sync_asked = false;
+  is_synced = false;
   said = [];
   stdin = None;
   files = [];
   variables = [];
 }
 
--- stands for the files of a system that does not tell its bytes: no stream is a regular file
+-- stands for the files of a system that does not tell its bytes: no stream is one
 abbrev pub no_files : Files
-no_files = record { input = None; secret = None; output = None }
+no_files = record { input = None; secret = None; output = None; error = None }

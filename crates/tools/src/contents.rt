@@ -5,7 +5,7 @@ ghost use Rattle.host.specs.Memory.{Entry, lookup};
 use crate::identity::FileIdentity;
 use std::marker::Model;
 
-/// Which regular file something is, if it is one. In a file system of layers it can be another from when
+/// Which file something is, if it is one. In a file system of layers it can be another from when
 /// an output is opened.
 #[derive(Clone, Copy, Debug, PartialEq, Eq)]
 pub struct Identities {
@@ -16,7 +16,7 @@ pub struct Identities {
 }
 
 impl Identities {
-    /// No regular file, but a device or a pipe.
+    /// No file, but a pipe or a terminal.
     pub const NONE: Identities = Identities {
         before: None,
         after: None,
@@ -31,7 +31,7 @@ impl Identities {
     }
 }
 
-/// What is read from its beginning: bytes, and which regular file they stand in. Contracts see the bytes.
+/// What is read from its beginning: bytes, and which file they stand in. Contracts see the bytes.
 #[derive(Drop)]
 pub struct Contents {
     bytes: Vec<u8>,
@@ -61,7 +61,7 @@ impl Contents {
         self.bytes.as_slice()
     }
 
-    /// Which regular file they stand in.
+    /// Which file they stand in.
     pub fn identities(&self) -> Identities {
         self.identities
     }

@@ -1,21 +1,26 @@
 //! Which file of the system a file is, whatever its names.
-ghost use Rattle.std.specs.Prelude.{◌↔◌, IsTrue};
-ghost use Rattle.tools.specs.Identity.{Includes};
+ghost use Rattle.std.specs.Prelude.{◌≡◌, ◌↔◌, IsTrue};
+ghost use Rattle.tools.specs.Identity.{Includes, is_regular};
 
-use host::HostFault;
-use std::fs;
-use std::fs::{File, Metadata};
-use std::os::unix::fs::MetadataExt;
-
-/// A regular file, by the numbers of its device and of its inode: they are the same under each of its
-/// names, and no other file has both as long as it is there.
+/// A file that keeps what is written to it: it is the same under each of its names, and no other as long as it is there.
 #[derive(Clone, Copy, Debug, PartialEq, Eq)]
-pub struct FileIdentity {
-    pub device: u64,
-    pub inode: u64,
+pub enum FileIdentity {
+    /// A regular file, by the numbers of its device and of its inode.
+    Regular { device: u64, inode: u64 },
+    /// A block device, by its own number.
+    Block { device: u64 },
 }
 
-/// The regular files that a run reads.
+impl FileIdentity {
+    /// Whether it can be emptied: a regular file can, and a device has the bytes that it has.
+    pub fn is_regular(&self) -> bool
+        ensures regular { result ≡ is_regular self.now }
+    {
+        matches!(self, FileIdentity::Regular { .. })
+    }
+}
+
+/// The files that a run reads, where they are regular files or block devices.
 #[derive(Clone, Copy, Debug)]
 pub struct FilesRead {
     pub input: Option<FileIdentity>,
@@ -23,7 +28,7 @@ pub struct FilesRead {
 }
 
 impl FilesRead {
-    /// Whether a file is a regular one, and one of them.
+    /// Whether this is one of them.
     pub fn includes(&self, file: Option<FileIdentity>) -> bool
         ensures exact { IsTrue result ↔ Includes self.now file }
     {
@@ -31,34 +36,5 @@ impl FilesRead {
             None => false,
             Some(file) => self.input == Some(file) || self.secret == Some(file),
         }
-    }
-}
-
-/// The file of which the system tells this, where it is a regular one.
-pub fn regular(metadata: &Metadata) -> Option<FileIdentity> {
-    if metadata.is_file() {
-        Some(FileIdentity {
-            device: metadata.dev(),
-            inode: metadata.ino(),
-        })
-    } else {
-        None
-    }
-}
-
-/// What a standard stream is, where it is a regular file. The system tells it under the name of the
-/// stream's descriptor, as `/proc/self/fd/0`; where it does not, none is known.
-pub fn regular_stream(rt: HostRuntime, descriptor: &str) -> Option<FileIdentity> {
-    match fs::metadata(&rt, descriptor) {
-        Ok(metadata) => regular(&metadata),
-        Err(_) => None,
-    }
-}
-
-/// An opened file, where it is a regular one.
-pub fn regular_file(file: &File) -> Result<Option<FileIdentity>, HostFault> {
-    match file.metadata() {
-        Ok(metadata) => Ok(regular(&metadata)),
-        Err(_) => Err(HostFault),
     }
 }

@@ -1,6 +1,6 @@
 //! A system in memory.
 ghost use Rattle.std.specs.Prelude.{◌≡◌, ◌+◌, ◌-◌, ◌<◌, ◌^◌, true, map, min, option_map, Some, IfOk, OnOk, OnErr, string_bytes};
-ghost use Rattle.tools.specs.Memory.{new_memory, unopened_source, with_file, with_input, with_stdin, with_variable, with_word};
+ghost use Rattle.tools.specs.Memory.{new_memory, unopened_source, with_error, with_file, with_input, with_stdin, with_variable, with_word};
 ghost use Rattle.tools.specs.World.{Opens, stands_at};
 ghost use Rattle.tools.specs.declared.system.Reading.TheVariants as reading;
 
@@ -17,27 +17,29 @@ use std::io::ErrorKind;
 use std::marker::Model;
 
 /// The file that is made where an output has a name under which nothing stands. Give it to no file.
-pub const MADE: FileIdentity = FileIdentity {
+pub const MADE: FileIdentity = FileIdentity::Regular {
     device: u64::MAX,
     inode: u64::MAX,
 };
 
-/// Which regular files the opened streams are.
+/// Which files the opened streams are.
 #[derive(Clone, Copy)]
 struct OpenedFiles {
     input: Option<FileIdentity>,
     secret: Option<FileIdentity>,
     output: Option<FileIdentity>,
+    error: Option<FileIdentity>,
 }
 
 const NO_FILES: OpenedFiles = OpenedFiles {
     input: None,
     secret: None,
     output: None,
+    error: None,
 };
 
 /// A system that is all in memory, and tells its bytes: files and variables under their names, standard
-/// input, and which regular files they and standard output are. It takes and gives its bytes in pieces
+/// input, and which files they and standard output are. It takes and gives its bytes in pieces
 /// of given sizes, is interrupted before each piece as often as it is told, and fails at a given call.
 /// What comes of these sizes, interruptions and failures, that the input is opened under its name alone,
 /// and which files the opened streams are is tested, and is in no contract.
@@ -61,6 +63,9 @@ pub struct MemorySystem {
     output_asked: Option<Option<Name>>,
     is_new: bool,
     is_emptied: bool,
+    is_kept: bool,
+    sync_asked: bool,
+    is_synced: bool,
     lines: Vec<String>,
     opened: OpenedFiles,
     opened_then: OpenedFiles,
@@ -89,12 +94,15 @@ impl Model for MemorySystem {
         output_asked = option_map (option_map name_bytes) m.output_asked;
         is_new = m.is_new;
         is_emptied = m.is_emptied;
+        is_kept = m.is_kept;
+        sync_asked = m.sync_asked;
+        is_synced = m.is_synced;
         said = map string_bytes m.lines.items;
         stdin = m.stdin;
         files = m.files.items;
         variables = m.variables.items;
       };
-      files = record { input = m.opened.input; secret = m.opened.secret; output = m.opened.output };
+      files = record { input = m.opened.input; secret = m.opened.secret; output = m.opened.output; error = m.opened.error };
       tries = m.tries;
       words = m.words.items;
     } };
@@ -124,6 +132,9 @@ impl MemorySystem {
             output_asked: None,
             is_new: false,
             is_emptied: false,
+            is_kept: false,
+            sync_asked: false,
+            is_synced: false,
             lines: Vec::new(alloc),
             opened: NO_FILES,
             opened_then: NO_FILES,
@@ -172,6 +183,14 @@ impl MemorySystem {
     {
         self.stdin = Some(stdin);
         self.stdout = stdout;
+    }
+
+    /// Says which file standard error is, if it is one.
+    pub fn set_standard_error(&mut self, file: Option<FileIdentity>)
+        ensures error { self.new ≡ with_error file self.old }
+    {
+        self.opened.error = file;
+        self.opened_then.error = file;
     }
 
     /// Says under which name the input stands, which must be there; `None` is standard input. Under any
@@ -230,6 +249,13 @@ impl MemorySystem {
         ensures emptied { result ≡ self.now.world.is_emptied }
     {
         self.is_emptied
+    }
+
+    /// Whether the output was brought to the disk.
+    pub fn is_synced(&self) -> bool
+        ensures synced { result ≡ self.now.world.is_synced }
+    {
+        self.is_synced
     }
 
     /// The lines said so far.
@@ -401,7 +427,11 @@ impl System for MemorySystem {
             output: file,
             ..self.opened_then
         };
-        self.is_new = name.is_none() || file.is_none();
+        self.is_new = match (name, file) {
+            (Some(_), Some(named)) => !named.is_regular(),
+            _ => true,
+        };
+        self.is_kept = name.is_some() && file.is_some();
         Ok(())
     }
 
@@ -413,6 +443,7 @@ impl System for MemorySystem {
             Stream::Input => self.opened.input,
             Stream::Secret => self.opened.secret,
             Stream::Output => self.opened.output,
+            Stream::Error => self.opened.error,
         })
     }
 
@@ -432,6 +463,15 @@ impl System for MemorySystem {
             return Err(io::Error::from(ErrorKind::OutOfMemory));
         }
         Ok(n)
+    }
+
+    fn sync(&mut self) -> Result<(), HostFault> {
+        self.sync_asked = true;
+        if self.is_failing() {
+            return Err(HostFault);
+        }
+        self.is_synced = true;
+        Ok(())
     }
 
     fn line(&mut self, line: &str) -> Result<(), HostFault> {

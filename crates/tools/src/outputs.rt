@@ -1,39 +1,44 @@
-//! What is written: an output that is no regular file that is read.
-ghost use Rattle.std.specs.Prelude.{◌≡◌, None, true, option_map, OnOk, OnErr, IsTrue};
+//! What is written: an output that is no file that is read.
+ghost use Rattle.std.specs.Prelude.{◌≡◌, None, false, true, option_map, IfOk, OnOk, OnErr, IsTrue};
 ghost use Rattle.tools.specs.World.{AsksOutput, IsApart};
 
 use crate::identity::FilesRead;
 use crate::system::{Stream, System};
 use host::HostFault;
 
-/// Opens an output, and empties it where it is a regular file that was opened by its name. One of the
-/// files that are read is a fault, and holds what it held. Which files they are is asked once the output
-/// is opened, since that can copy a file. A call of the system that fails is a fault, too.
+/// Opens an output, and says whether it is kept: a regular file, which is emptied, or a block device, that was
+/// opened by its name. One of the files that are read is a fault, and holds what it held. Which files they
+/// are is asked once the output is opened, since that can copy a file. A call of the system that fails is a
+/// fault, too.
 ///
 /// This is how a host over a system opens its output: once.
-pub fn open_apart<S: System>(system: &mut S, name: Option<&str>) -> Result<(), HostFault>
+pub fn open_apart<S: System>(system: &mut S, name: Option<&str>) -> Result<bool, HostFault>
     requires once { IsTrue S.tells → (S.world system.old).output_asked ≡ None }
+    requires unsynced { IsTrue S.tells → (S.world system.old).sync_asked ≡ false }
     ensures asks { IsTrue S.tells → AsksOutput (option_map (λ n. n.now) name.entry)
         (S.world system.old) (S.world system.new) }
     ensures untouched { IsTrue S.tells → OnErr result
         ((S.world system.new).is_emptied ≡ (S.world system.old).is_emptied) }
     ensures new { IsTrue S.tells → OnOk result ((S.world system.new).is_new ≡ true) }
     ensures apart { IsTrue S.tells → OnOk result (IsApart (S.files system.new)) }
+    ensures kept { IsTrue S.tells → IfOk result (λ is_kept. (S.world system.new).is_kept ≡ is_kept) }
 {
     system.open_output(name)?;
-    let output = system.file(Stream::Output)?;
-    if output.is_none() {
-        return Ok(());
-    }
+    let Some(output) = system.file(Stream::Output)? else {
+        return Ok(false);
+    };
     let read = FilesRead {
         input: system.file(Stream::Input)?,
         secret: system.file(Stream::Secret)?,
     };
-    if read.includes(output) {
+    if read.includes(Some(output)) {
         return Err(HostFault);
     }
     if name.is_none() {
-        return Ok(());
+        return Ok(false);
     }
-    system.empty()
+    if output.is_regular() {
+        system.empty()?;
+    }
+    Ok(true)
 }

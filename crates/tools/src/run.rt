@@ -4,10 +4,11 @@ ghost use Rattle.host.specs.Asked.{asked_source};
 ghost use Rattle.host.specs.Grants.{nothing_asked, with_input_opened, with_output_asked, with_output_opened, with_salt_asked, with_secret_asked};
 ghost use Rattle.host.specs.Secret.{IsBeginning, secret_of, source_of};
 ghost use Rattle.host.specs.Seen.{after_ask, after_ask_output, after_open_input, after_open_output, after_pull, after_push, after_salt, after_say, env};
-ghost use Rattle.tools.specs.Held.{host_seen};
-ghost use Rattle.tools.specs.World.{IsUnused};
+ghost use Rattle.tools.specs.Held.{Leaves, host_seen, secret_left};
+ghost use Rattle.tools.specs.World.{IsSettled, IsUnsettled, IsUnused, after_line};
 
 use crate::inputs::{read_salt, read_secret};
+use crate::lines::say_apart;
 use crate::outputs::open_apart;
 use crate::streams::{read_some, write_some};
 use crate::system::{Reading, System};
@@ -32,8 +33,15 @@ pub enum OutputStage {
     Unasked,
     /// One was asked for, and is not taken into use.
     Refused,
-    /// It is opened, new, and no regular file that is read.
+    /// It is opened, new, no file that is read, and not kept.
     Opened,
+    /// It is opened, new, no file that is read, and kept: a regular file or a block device that was opened by
+    /// its name.
+    Kept,
+    /// It was kept, and is on the disk. It is not written any more.
+    Synced,
+    /// It was kept, and could not be brought to the disk. It is not written any more.
+    Unsynced,
 }
 
 /// A system, and how far a run over it has come: what a [`SystemHost`](crate::SystemHost) does, without its
@@ -42,14 +50,17 @@ pub enum OutputStage {
 ///
 /// The input and an output are opened once each, one secret source is asked, and one salt is taken: that is
 /// a condition of these calls, and `may_open_input`, `may_open_output`, `may_ask_for_secret` and
-/// `may_ask_for_salt` tell whether it holds. Contracts see a `Held`.
-#[derive(Drop)]
+/// `may_ask_for_salt` tell whether it holds. A line is said once; a second is a fault.
+///
+/// A run cannot be dropped: its end is `into_system`, which hands back the system as the run left it. So nothing is
+/// done to a system after what contracts see. Contracts see a `Held`.
 pub struct Run<S: System> {
     system: S,
     input: InputStage,
     output: OutputStage,
     asked: Option<Asked>,
     salted: bool,
+    told: bool,
 }
 
 impl<S: System> Model for Run<S> {
@@ -66,7 +77,8 @@ impl<S: System> Model for Run<S> {
       salted = r.salted;
     } };
 
-    ghost invariant = { λ r. IsTrue S.tells → IsAt r.input r.output
+    ghost invariant = { λ r. IsTrue S.tells →
+        IsAt r.input r.output (option_map asked_source r.asked) r.salted r.told
         (grants_at r.input r.output (option_map asked_source r.asked) r.salted)
         (S.world r.system) (S.files r.system) };
 }
@@ -83,6 +95,7 @@ impl<S: System> Run<S> {
             output: OutputStage::Unasked,
             asked: None,
             salted: false,
+            told: false,
         }
     }
 
@@ -91,6 +104,22 @@ impl<S: System> Run<S> {
         ensures same { S.world result.now ≡ self.now.world }
     {
         &self.system
+    }
+
+    /// The system, as the run left it, at the end of the run.
+    pub fn into_system(self) -> S
+        ensures same { S.world result ≡ self.world }
+        ensures leaves { IsTrue S.tells → Leaves (S.world result) (host_seen self) }
+    {
+        let Run {
+            system,
+            input: _,
+            output: _,
+            asked: _,
+            salted: _,
+            told: _,
+        } = self;
+        system
     }
 
     /// Whether the input may be opened: it was not yet.
@@ -139,20 +168,26 @@ impl<S: System> Run<S> {
         Ok(())
     }
 
-    /// Opens an output that is no regular file that is read, and empties it where it is a regular file that
-    /// was opened by its name.
+    /// Opens an output that is no file that is read, and empties it where it is a regular file that was opened
+    /// by its name; not where it is refused.
     pub fn open_output(&mut self, name: Option<&str>) -> Result<(), HostFault>
         requires unasked { self.old.grants.output ≡ true }
         ensures asks { IsTrue S.tells → OnErr result (host_seen self.new
             ≡ after_ask_output (option_map (λ n. n.now) name.entry) (host_seen self.old)) }
         ensures opened { IsTrue S.tells → OnOk result (host_seen self.new
             ≡ after_open_output (option_map (λ n. n.now) name.entry) (host_seen self.old)) }
+        ensures untouched { IsTrue S.tells →
+            OnErr result (self.new.world.is_emptied ≡ self.old.world.is_emptied) }
         ensures granted { OnOk result (self.new.grants ≡ with_output_opened self.old.grants) }
         ensures granted_no_other { OnErr result (self.new.grants ≡ with_output_asked self.old.grants) }
     {
         self.output = OutputStage::Refused;
-        open_apart(&mut self.system, name)?;
-        self.output = OutputStage::Opened;
+        let is_kept = open_apart(&mut self.system, name)?;
+        self.output = if is_kept {
+            OutputStage::Kept
+        } else {
+            OutputStage::Opened
+        };
         Ok(())
     }
 
@@ -183,7 +218,7 @@ impl<S: System> Run<S> {
         Ok(n)
     }
 
-    /// Writes a beginning of the bytes to the output.
+    /// Writes a beginning of the bytes to the output, if that was not asked to be brought to the disk.
     pub fn push(&mut self, bytes: &[u8]) -> Result<usize, HostFault>
         ensures bound { IfOk result (λ n. n ≤ length bytes.now) }
         ensures progress { IfOk result (λ n. 0 < length bytes.now → 0 < n) }
@@ -192,10 +227,31 @@ impl<S: System> Run<S> {
             host_seen self.new ≡ after_push (take n bytes.now) (host_seen self.old)) }
         ensures granted { self.new.grants ≡ self.old.grants }
     {
-        if self.output != OutputStage::Opened {
-            return Err(HostFault);
+        match self.output {
+            OutputStage::Opened | OutputStage::Kept => write_some(&mut self.system, bytes),
+            _ => Err(HostFault),
         }
-        write_some(&mut self.system, bytes)
+    }
+
+    /// Brings the output to the disk, where it is kept, and tells what failed of it. It is asked to be brought
+    /// there once, and not written afterwards. Where no output was opened, that is a fault.
+    pub fn sync(&mut self) -> Result<(), HostFault>
+        ensures seen { IsTrue S.tells → host_seen self.new ≡ host_seen self.old }
+        ensures settled { IsTrue S.tells → OnOk result (IsSettled self.new.world) }
+        ensures unsettled { IsTrue S.tells → self.old.grants.writable ≡ true →
+            OnErr result (IsUnsettled self.new.world) }
+        ensures granted { self.new.grants ≡ self.old.grants }
+    {
+        match self.output {
+            OutputStage::Opened | OutputStage::Synced => Ok(()),
+            OutputStage::Kept => {
+                self.output = OutputStage::Unsynced;
+                self.system.sync()?;
+                self.output = OutputStage::Synced;
+                Ok(())
+            }
+            OutputStage::Unasked | OutputStage::Refused | OutputStage::Unsynced => Err(HostFault),
+        }
     }
 
     /// The first bytes of a secret source, if no output was asked for. For a variable nothing of the system
@@ -208,6 +264,8 @@ impl<S: System> Run<S> {
             host_seen self.new ≡ after_ask (source_of source.entry) (host_seen self.old) }
         ensures bytes { IsTrue S.tells → IfOk result (λ n.
             IsBeginning (secret_of source.entry (host_seen self.old)) n buf.new) }
+        ensures left { IsTrue S.tells → IfOk result (λ n. self.new.world.secret.left
+            ≡ secret_left (source_of source.entry) n self.old.world) }
         ensures variable { (name : List ℕ) → source_of source.entry ≡ env name → IsTrue S.tells →
             self.new.world ≡ self.old.world }
         ensures granted { self.new.grants ≡ with_secret_asked self.old.grants }
@@ -234,13 +292,20 @@ impl<S: System> Run<S> {
         read_salt(&mut self.system, out)
     }
 
-    /// Says a line.
+    /// Says a line, if none was said, and standard error is no file that is read.
     pub fn say(&mut self, line: &str) -> Result<(), HostFault>
         ensures kept { IsTrue S.tells → OnErr result (host_seen self.new ≡ host_seen self.old) }
         ensures said { IsTrue S.tells →
             OnOk result (host_seen self.new ≡ after_say line.now (host_seen self.old)) }
+        ensures kept_system { IsTrue S.tells → OnErr result (self.new.world ≡ self.old.world) }
+        ensures said_by_system { IsTrue S.tells →
+            OnOk result (self.new.world ≡ after_line line.now self.old.world) }
         ensures granted { self.new.grants ≡ self.old.grants }
     {
-        self.system.line(line)
+        if self.told {
+            return Err(HostFault);
+        }
+        self.told = true;
+        say_apart(&mut self.system, line)
     }
 }

@@ -77,6 +77,7 @@ pub fn read_full<S: System>(
 pub fn write_some<S: System>(system: &mut S, bytes: &[u8]) -> Result<usize, HostFault>
     requires apart { IsTrue S.tells → IsApart (S.files system.old) }
     requires new { IsTrue S.tells → (S.world system.old).is_new ≡ true }
+    requires unsynced { IsTrue S.tells → (S.world system.old).sync_asked ≡ false }
     ensures bound { IfOk result (λ n. n ≤ length bytes.now) }
     ensures progress { IfOk result (λ n. 0 < length bytes.now → 0 < n) }
     ensures kept { IsTrue S.tells → OnErr result (S.world system.new ≡ S.world system.old) }

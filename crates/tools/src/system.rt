@@ -1,10 +1,10 @@
 //! The calls of the system that the programs make.
-ghost use Rattle.std.specs.Prelude.{◌≡◌, ◌+◌, ◌<◌, ◌≤◌, Bool, ℕ, List, None, true, false, length, option_map, take, IfOk, OnOk, OnErr, IsTrue};
+ghost use Rattle.std.specs.Prelude.{◌≡◌, ◌+◌, ◌<◌, ◌≤◌, Bool, ℕ, List, None, [], true, false, length, option_map, take, IfOk, OnOk, OnErr, IsTrue};
 ghost use Rattle.host.specs.Memory.{lookup};
 ghost use Rattle.host.specs.Secret.{IsBeginning};
 ghost use Rattle.host.specs.Seen.{Text};
 ghost use Rattle.tools.specs.Words.{GivesWord, word_at};
-ghost use Rattle.tools.specs.World.{Files, IsApart, Opens, Reads, World, after_ask_output, after_empty, after_line, after_open_output, after_write, file_of, source_at};
+ghost use Rattle.tools.specs.World.{Files, IsApart, Opens, Reads, SaysApart, World, after_ask_output, after_ask_sync, after_empty, after_line, after_open_output, after_sync, after_write, file_of, source_at};
 
 use crate::identity::FileIdentity;
 use host::HostFault;
@@ -30,7 +30,7 @@ pub enum Reading {
     Random,
 }
 
-/// An opened stream that may be a regular file which must not be lost.
+/// A stream that may be a file which must not be lost: an opened one, or standard error.
 #[derive(Clone, Copy, Debug, PartialEq, Eq)]
 pub enum Stream {
     /// The input.
@@ -39,19 +39,25 @@ pub enum Stream {
     Secret,
     /// The output.
     Output,
+    /// Standard error.
+    Error,
 }
 
 /// The system, with a method for each of its calls. It keeps what it opens: one stream of each
 /// [`Reading`], and an output.
 ///
 /// Contracts see whether the system tells its bytes (`tells`); its bytes, names and lines (`world`);
-/// which regular files its streams are (`files`), which may change where a file is opened, as where a
-/// file system of layers copies a file that is opened to be written; and how often a read or a write was
-/// asked for (`tries`); and the words of the process (`words`). Of a system that tells nothing only the bounds on lengths are said.
+/// which regular files and block devices its streams are (`files`), which may change when a file is opened,
+/// as where a file system of layers copies a file that is opened to be written; how often a read or a write
+/// was asked for (`tries`); and the words of the process (`words`). Of a system that tells nothing only the
+/// bounds on lengths are said.
 ///
 /// What must never happen is a condition of a call: each stream is opened once, and none once an output
-/// was asked for; an output is asked for once; it is emptied and written only while it is no regular
-/// file that is read, and written only if it is new; nothing is read from a stream after its end.
+/// was asked for; an output is asked for once; it is emptied and written only while it is no file that is
+/// read (the input or the secret's source), and written only if it is new; nothing is read from a stream
+/// after its end; the output is brought to the disk once, if it is kept (a regular file or a block device
+/// that was opened by its name), and neither emptied nor written afterwards; one line is said, and only
+/// while standard error is no file that is read.
 pub trait System {
     // Whether contracts may speak of the bytes, names, lines and files.
     ghost tells: { Bool };
@@ -59,7 +65,7 @@ pub trait System {
     // The bytes, names and lines.
     ghost world: { Self → World };
 
-    // Which regular files the opened streams are.
+    // Which regular files and block devices the opened streams are.
     ghost files: { Self → Files };
 
     // How often a read or a write was asked for.
@@ -108,25 +114,27 @@ pub trait System {
         ensures opened { IsTrue tells → OnOk result (world self.new ≡ after_open_output
             (option_map (λ n. n.now) name.entry) (files self.new).output (world self.old)) };
 
-    /// Which regular file an opened stream is, if it is one. What is not opened is none.
+    /// Which regular file or block device a stream is, if it is one. What is not opened is none.
     fn file(&self, stream: Stream) -> Result<Option<FileIdentity>, HostFault>
         ensures found { IsTrue tells → IfOk result (λ file. file ≡ file_of stream (files self.now)) };
 
-    /// Takes away what the output holds: a regular file that was opened by its name, was not emptied
-    /// yet, and is none that is read.
+    /// Takes away what the output holds: a regular file that was opened by its name, was neither emptied
+    /// nor asked to be brought to the disk, and is none that is read.
     fn empty(&mut self) -> Result<(), HostFault>
         requires due { IsTrue tells → (world self.old).is_new ≡ false }
         requires apart { IsTrue tells → IsApart (files self.old) }
+        requires unsynced { IsTrue tells → (world self.old).sync_asked ≡ false }
         ensures kept { IsTrue tells → OnErr result (world self.new ≡ world self.old) }
         ensures emptied { IsTrue tells → OnOk result (world self.new ≡ after_empty (world self.old)) }
         ensures same_files { IsTrue tells → files self.new ≡ files self.old };
 
-    /// Writes a beginning of the bytes, and says how many. The output is no regular file that is read,
-    /// and is new. After an error nothing was written.
+    /// Writes a beginning of the bytes, and says how many. The output is no file that is read, is new, and was
+    /// not asked to be brought to the disk. After an error nothing was written.
     fn write(&mut self, bytes: &[u8]) -> io::Result<usize>
         requires not_empty { 0 < length bytes.now }
         requires apart { IsTrue tells → IsApart (files self.old) }
         requires new { IsTrue tells → (world self.old).is_new ≡ true }
+        requires unsynced { IsTrue tells → (world self.old).sync_asked ≡ false }
         ensures bound { IfOk result (λ n. n ≤ length bytes.now) }
         ensures kept { IsTrue tells → OnErr result (world self.new ≡ world self.old) }
         ensures put { IsTrue tells → IfOk result (λ n.
@@ -134,8 +142,20 @@ pub trait System {
         ensures same_files { IsTrue tells → files self.new ≡ files self.old }
         ensures tried { IsTrue tells → tries self.new ≡ tries self.old + 1 };
 
-    /// Writes a line and its line feed to standard error.
+    /// Brings to the disk what was written, and tells whether that failed: an output that is kept, and was not
+    /// asked to be brought there yet.
+    fn sync(&mut self) -> Result<(), HostFault>
+        requires kept { IsTrue tells → (world self.old).is_kept ≡ true }
+        requires once { IsTrue tells → (world self.old).sync_asked ≡ false }
+        ensures asks { IsTrue tells → OnErr result (world self.new ≡ after_ask_sync (world self.old)) }
+        ensures synced { IsTrue tells → OnOk result (world self.new ≡ after_sync (world self.old)) }
+        ensures same_files { IsTrue tells → files self.new ≡ files self.old };
+
+    /// Writes a line and its line feed to standard error, which is no file that is read. No line
+    /// was said before.
     fn line(&mut self, line: &str) -> Result<(), HostFault>
+        requires once { IsTrue tells → (world self.old).said ≡ [] }
+        requires apart { IsTrue tells → SaysApart (files self.old) }
         ensures kept { IsTrue tells → OnErr result (world self.new ≡ world self.old) }
         ensures said { IsTrue tells → OnOk result (world self.new ≡ after_line line.now (world self.old)) }
         ensures same_files { IsTrue tells → files self.new ≡ files self.old };

@@ -1,33 +1,33 @@
 //! The system as a host.
-ghost use Rattle.std.specs.Prelude.{◌≡◌, ◌+◌, ◌-◌, ◌<◌, ◌^◌, OnOk, OnErr, IsTrue};
-ghost use Rattle.host.specs.Faults.{no_faults};
+ghost use Rattle.std.specs.Prelude.{◌≡◌, ◌-◌, ◌≤◌, ◌^◌, true, IsTrue};
 ghost use Rattle.host.specs.Grants.{nothing_asked};
-ghost use Rattle.tools.specs.Held.{host_over, host_seen};
-ghost use Rattle.tools.specs.World.{IsUnused};
+ghost use Rattle.host.specs.Faults.{AreBelow, no_faults, output_failed};
+ghost use Rattle.tools.specs.Held.{EndsWithLine, Leaves, host_over, host_seen};
+ghost use Rattle.tools.specs.World.{IsSettled, IsUnsettled, IsUnused};
 
+use crate::counts::{Counts, counted};
 use crate::run::Run;
 use crate::system::System;
 use host::{Host, HostFault, Source};
 
 /// Files, the environment, the standard streams, and the system's random bytes for salts.
 ///
-/// A named output is made, or emptied where it is there; one that is the opened input or the secret's
+/// A named output is made, or emptied where it is a regular file; one that is the opened input or the secret's
 /// file, under whatever name or as standard output, is a fault and stays as it is. A push is written at
 /// once. A read or a write that a signal interrupts is asked again at most 16 times; the bound is that of
 /// [`read_some`](crate::read_some) and [`write_some`](crate::write_some), whose clause `tries` has it. A
 /// write of no bytes is a fault; after the end of the input the system is not asked for more. What is
-/// read is opened before the output is asked for, and is a fault afterwards.
+/// read is opened before the output is asked for, and is a fault afterwards. One line is said, unless
+/// standard error is the opened input or the secret's file: that is a fault.
+///
+/// It cannot be dropped: the end of a run is `settle`, `refuse` or `into_system`, which hand back the system
+/// as the run left it.
 ///
 /// It tells its bytes where the system does. Of every system contracts see how often each kind of call
 /// has failed, and which calls are granted.
-#[derive(Drop)]
 pub struct SystemHost<S: System> {
     run: Run<S>,
-    input_faults: u64,
-    output_faults: u64,
-    secret_faults: u64,
-    salt_faults: u64,
-    line_faults: u64,
+    counts: Counts<S>,
 }
 
 impl<S: System> SystemHost<S> {
@@ -40,11 +40,7 @@ impl<S: System> SystemHost<S> {
     {
         SystemHost {
             run: Run::new(system),
-            input_faults: 0,
-            output_faults: 0,
-            secret_faults: 0,
-            salt_faults: 0,
-            line_faults: 0,
+            counts: Counts::new(),
         }
     }
 
@@ -55,26 +51,60 @@ impl<S: System> SystemHost<S> {
         self.run.system()
     }
 
-    /// How many lines could not be said. Each such line is a fault, whose caller may pass it over, as
-    /// [`refuse`](host::refuse) does.
-    pub fn unsaid_lines(&self) -> u64
-        ensures count { result ≡ (⟦<SystemHost<S> as Host>⟧.faults self.now).lines }
+    /// The end of a run that did what it was asked for: the output is brought to the disk, where it is kept.
+    /// Where that fails, it is a fault of the output, and this line is said. It gives the status, the system as
+    /// the run left it, and how often each kind of call has failed.
+    pub fn settle(self, line: &str) -> (u8, S, Counts<S>)
+        requires room { AreBelow (2 ^ 64 - 1) (⟦<SystemHost<S> as Host>⟧.faults self) }
+        ensures status { result.0 ≤ 1 }
+        ensures counts { result.0 ≡ 0 → result.2 ≡ ⟦<SystemHost<S> as Host>⟧.faults self }
+        ensures leaves { IsTrue S.tells → result.0 ≡ 0 →
+            Leaves (S.world result.1) (⟦<SystemHost<S> as Host>⟧.seen self) }
+        ensures settled { IsTrue S.tells → result.0 ≡ 0 → IsSettled (S.world result.1) }
+        ensures says { result.0 ≡ 1 → EndsWithLine S.tells line.now
+            (⟦<SystemHost<S> as Host>⟧.seen self)
+            (output_failed (⟦<SystemHost<S> as Host>⟧.faults self)) (S.world result.1) result.2 }
+        ensures unsettled { IsTrue S.tells → (⟦<SystemHost<S> as Host>⟧.grants self).writable ≡ true →
+            result.0 ≡ 1 → IsUnsettled (S.world result.1) }
     {
-        self.line_faults
+        let SystemHost {
+            mut run,
+            mut counts,
+        } = self;
+        let Err(_) = run.sync() else {
+            return (0, run.into_system(), counts);
+        };
+        counts.output += 1;
+        let _ = counted(&mut counts.lines, run.say(line));
+        (1, run.into_system(), counts)
     }
-}
 
-// Passes an outcome on, and counts it where it is a fault.
-fn counted<T>(count: &mut u64, outcome: Result<T, HostFault>) -> Result<T, HostFault>
-    requires room { count.old < 2 ^ 64 - 1 }
-    ensures same { result ≡ outcome }
-    ensures ok { OnOk outcome (count.new ≡ count.old) }
-    ensures err { OnErr outcome (count.new ≡ count.old + 1) }
-{
-    if outcome.is_err() {
-        *count += 1;
+    /// The end of a run that is refused: this line is said, or passed over where it cannot be said. It gives
+    /// the status of a refusal, the system as the run left it, and how often each kind of call has failed.
+    pub fn refuse(self, line: &str) -> (u8, S, Counts<S>)
+        requires room { AreBelow (2 ^ 64 - 1) (⟦<SystemHost<S> as Host>⟧.faults self) }
+        ensures status { result.0 ≡ 1 }
+        ensures says { EndsWithLine S.tells line.now (⟦<SystemHost<S> as Host>⟧.seen self)
+            (⟦<SystemHost<S> as Host>⟧.faults self) (S.world result.1) result.2 }
+    {
+        let SystemHost {
+            mut run,
+            mut counts,
+        } = self;
+        let _ = counted(&mut counts.lines, run.say(line));
+        (1, run.into_system(), counts)
     }
-    outcome
+
+    /// The end of a run: the system as the run left it, and how often each kind of call has failed.
+    pub fn into_system(self) -> (S, Counts<S>)
+        ensures counts { result.1 ≡ ⟦<SystemHost<S> as Host>⟧.faults self }
+        ensures same { S.world result.0 ≡ self.run.world }
+        ensures leaves { IsTrue S.tells →
+            Leaves (S.world result.0) (⟦<SystemHost<S> as Host>⟧.seen self) }
+    {
+        let SystemHost { run, counts } = self;
+        (run.into_system(), counts)
+    }
 }
 
 impl<S: System> Host for SystemHost<S> {
@@ -84,46 +114,40 @@ impl<S: System> Host for SystemHost<S> {
 
     ghost grants = { λ h. h.run.grants };
 
-    ghost faults = { λ h. record {
-      input = h.input_faults;
-      output = h.output_faults;
-      secrets = h.secret_faults;
-      salt = h.salt_faults;
-      lines = h.line_faults;
-    } };
+    ghost faults = { λ h. h.counts };
 
     fn open_input(&mut self, name: Option<&str>) -> Result<(), HostFault> {
         let opened = self.run.open_input(name);
-        counted(&mut self.input_faults, opened)
+        counted(&mut self.counts.input, opened)
     }
 
     fn open_output(&mut self, name: Option<&str>) -> Result<(), HostFault> {
         let opened = self.run.open_output(name);
-        counted(&mut self.output_faults, opened)
+        counted(&mut self.counts.output, opened)
     }
 
     fn pull(&mut self, buf: &mut [u8]) -> Result<usize, HostFault> {
         let pulled = self.run.pull(buf);
-        counted(&mut self.input_faults, pulled)
+        counted(&mut self.counts.input, pulled)
     }
 
     fn push(&mut self, bytes: &[u8]) -> Result<usize, HostFault> {
         let pushed = self.run.push(bytes);
-        counted(&mut self.output_faults, pushed)
+        counted(&mut self.counts.output, pushed)
     }
 
     fn secret(&mut self, source: Source<'_>, buf: &mut [u8]) -> Result<usize, HostFault> {
         let read = self.run.secret(source, buf);
-        counted(&mut self.secret_faults, read)
+        counted(&mut self.counts.secrets, read)
     }
 
     fn salt(&mut self, out: &mut [u8; 32]) -> Result<(), HostFault> {
         let read = self.run.salt(out);
-        counted(&mut self.salt_faults, read)
+        counted(&mut self.counts.salt, read)
     }
 
     fn say(&mut self, line: &str) -> Result<(), HostFault> {
         let said = self.run.say(line);
-        counted(&mut self.line_faults, said)
+        counted(&mut self.counts.lines, said)
     }
 }

@@ -20,11 +20,11 @@ const ONE_PASS_LINE: &str =
 
 // A regular file.
 const FILE: Identities = Identities {
-    before: Some(FileIdentity {
+    before: Some(FileIdentity::Regular {
         device: 1,
         inode: 2,
     }),
-    after: Some(FileIdentity {
+    after: Some(FileIdentity::Regular {
         device: 1,
         inode: 2,
     }),
@@ -67,10 +67,11 @@ fn process(alloc: Global, line: &str, stdout: Identities) -> MemorySystem
 }
 
 // The program, of which nothing is said.
-fn ends(alloc: Global, system: MemorySystem) -> (u8, SystemHost<MemorySystem>)
+fn ends(alloc: Global, system: MemorySystem) -> (u8, MemorySystem)
     requires unused { IsUnused system.world }
 {
-    run(alloc, system)
+    let (status, system, _) = run(alloc, system);
+    (status, system)
 }
 
 // Whether this status, output and line is all that a run comes to.
@@ -83,14 +84,14 @@ fn comes_to(status: u8, system: &MemorySystem, end: End<'_>) -> bool {
     status == end.0 && system.output() == end.1.as_bytes() && is_told
 }
 
-// Whether a run over this system comes to this. A system and a host are let go of by `drop`: the end of a scope would
+// Whether a run over this system comes to this. A system is let go of by `drop`: the end of a scope would
 // let go of their parts one by one, in each proof anew.
 fn ends_so(alloc: Global, system: MemorySystem, end: End<'_>) -> bool
     requires unused { IsUnused system.world }
 {
-    let (status, host) = ends(alloc, system);
-    let is_so = comes_to(status, host.system(), end);
-    drop(host);
+    let (status, system) = ends(alloc, system);
+    let is_so = comes_to(status, &system, end);
+    drop(system);
     is_so
 }
 

@@ -10,12 +10,12 @@ const OUTPUT_FAULT: &str = "scrypt: output cannot be opened or written";
 
 const DAMAGED: &str = "scrypt: input is damaged or cut short";
 
-const THIS: Option<FileIdentity> = Some(FileIdentity {
+const THIS: Option<FileIdentity> = Some(FileIdentity::Regular {
     device: 1,
     inode: 2,
 });
 
-const COPY: Option<FileIdentity> = Some(FileIdentity {
+const COPY: Option<FileIdentity> = Some(FileIdentity::Regular {
     device: 2,
     inode: 2,
 });
@@ -80,10 +80,11 @@ fn process(alloc: Global, line: &str, input: &[u8], identities: Identities) -> M
 }
 
 // The program, of which nothing is said.
-fn ends(alloc: Global, system: MemorySystem) -> (u8, SystemHost<MemorySystem>)
+fn ends(alloc: Global, system: MemorySystem) -> (u8, MemorySystem)
     requires unused { IsUnused system.world }
 {
-    run(alloc, system)
+    let (status, system, _) = run(alloc, system);
+    (status, system)
 }
 
 // Whether this is all that a run comes to.
@@ -100,9 +101,9 @@ fn comes_to(status: u8, system: &MemorySystem, end: End<'_>) -> bool {
 fn ends_so(alloc: Global, system: MemorySystem, end: End<'_>) -> bool
     requires unused { IsUnused system.world }
 {
-    let (status, host) = ends(alloc, system);
-    let is_so = comes_to(status, host.system(), end);
-    drop(host);
+    let (status, system) = ends(alloc, system);
+    let is_so = comes_to(status, &system, end);
+    drop(system);
     is_so
 }
 
@@ -192,6 +193,25 @@ fn the_input_stays_as_it_is(rt: HostRuntime) {
             "{identities:?}"
         );
     }
+}
+
+// Whether a run of which this call of the system fails leaves the whole text, and ends with status 1.
+fn is_lost(alloc: Global, failing: u64) -> bool {
+    let mut system = process(alloc, DEC, FILE_OF_HELLO, FILE);
+    system.fail_at(failing);
+    ends_so(alloc, system, (1, b"hello", Some(OUTPUT_FAULT), true))
+}
+
+// One call comes after the last byte of a named output: it brings the output to the disk.
+#[test]
+fn a_text_that_does_not_reach_the_disk(rt: HostRuntime) {
+    let mut lost = 0u64;
+    for failing in 1..40 {
+        if is_lost(rt.alloc(), failing) {
+            lost = lost.saturating_add(1);
+        }
+    }
+    assert!(rt; lost == 1);
 }
 
 // Whether a run of a process with this name and this word ends with this line.

@@ -1,5 +1,5 @@
 //! Which opened outputs are emptied, and which are faults.
-ghost use Rattle.std.specs.Prelude.{◌≡◌, None};
+ghost use Rattle.std.specs.Prelude.{◌≡◌, None, false};
 ghost use Rattle.tools.specs.World.{IsUnused};
 
 use crate::fixtures::{put, with_standard};
@@ -7,20 +7,23 @@ use std::alloc::Global;
 use tools::{FileIdentity, Identities, MemorySystem, Reading, System, open_apart};
 
 // The output in most cases, another file on its device, and one of its number on another device.
-const THIS: Option<FileIdentity> = Some(FileIdentity {
+const THIS: Option<FileIdentity> = Some(FileIdentity::Regular {
     device: 1,
     inode: 2,
 });
 
-const ANOTHER: Option<FileIdentity> = Some(FileIdentity {
+const ANOTHER: Option<FileIdentity> = Some(FileIdentity::Regular {
     device: 1,
     inode: 4,
 });
 
-const ELSEWHERE: Option<FileIdentity> = Some(FileIdentity {
+const ELSEWHERE: Option<FileIdentity> = Some(FileIdentity::Regular {
     device: 3,
     inode: 2,
 });
+
+// A block device, whose number is that device's.
+const DISK: Option<FileIdentity> = Some(FileIdentity::Block { device: 1 });
 
 // What standard input is before an output is opened and from then on, and what the output is.
 #[derive(Clone, Copy)]
@@ -52,6 +55,7 @@ fn files(alloc: Global, beside: Beside) -> MemorySystem
 // first after this.
 fn outcome(system: &mut MemorySystem, name: Option<&str>, failing: u64) -> (bool, bool)
     requires unasked { system.old.world.output_asked ≡ None }
+    requires unsynced { system.old.world.sync_asked ≡ false }
 {
     system.fail_at(system.calls().saturating_add(failing));
     let is_opened = open_apart(system, name).is_ok();
@@ -101,9 +105,10 @@ type Row = (
     Seen,
 );
 
-// A named output is emptied where it is a regular file, and standard output is not; what is read is refused. Either
-// alone of device and number makes no file that is read. A file of layers can be another once an output is opened.
-static ROWS: [Row; 8] = [
+// A named output is emptied where it is a regular file; a block device and standard output are not. What is read is
+// refused. Either alone of device and number makes no file that is read, nor does a file on a device that is read. A
+// file of layers can be another once an output is opened.
+static ROWS: [Row; 11] = [
     (None, None, THIS, EMPTIED, AS_IT_IS),
     (ANOTHER, ANOTHER, THIS, EMPTIED, AS_IT_IS),
     (ELSEWHERE, ELSEWHERE, THIS, EMPTIED, AS_IT_IS),
@@ -112,6 +117,9 @@ static ROWS: [Row; 8] = [
     (THIS, ANOTHER, THIS, EMPTIED, AS_IT_IS),
     (None, None, None, AS_IT_IS, AS_IT_IS),
     (THIS, THIS, None, AS_IT_IS, AS_IT_IS),
+    (DISK, DISK, DISK, REFUSED, REFUSED),
+    (DISK, DISK, THIS, EMPTIED, AS_IT_IS),
+    (THIS, THIS, DISK, AS_IT_IS, AS_IT_IS),
 ];
 
 // Whether that becomes of it.

@@ -61,6 +61,7 @@ fn full_read(alloc: Global, bytes: &[u8], trouble: Trouble) -> Answer {
 // What comes of a write of these bytes to standard output.
 fn write(system: &mut MemorySystem, bytes: &[u8], trouble: Trouble) -> Answer
     requires unasked { system.old.world.output_asked ≡ None }
+    requires unsynced { system.old.world.sync_asked ≡ false }
 {
     if open_apart(system, None).is_err() {
         return (FAULT, 0);

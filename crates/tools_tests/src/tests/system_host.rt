@@ -1,15 +1,17 @@
 //! A host over a system in memory.
 ghost use Rattle.std.specs.Prelude.{◌≡◌};
 ghost use Rattle.host.specs.Faults.{no_faults};
+ghost use Rattle.host.specs.Grants.{nothing_asked};
 
 use crate::fixtures::with_standard;
-use host::{Host, refuse};
+use host::Host;
 use std::alloc::Global;
-use tools::{Identities, MemorySystem, SystemHost};
+use tools::{Counts, Identities, MemorySystem, SystemHost};
 
 // A host over a system that gives nothing, and of whose calls this one fails.
 fn failing(alloc: Global, call: u64) -> SystemHost<MemorySystem>
     ensures counts { ⟦<SystemHost<MemorySystem> as Host>⟧.faults result ≡ no_faults }
+    ensures granted { ⟦<SystemHost<MemorySystem> as Host>⟧.grants result ≡ nothing_asked }
 {
     let mut system = with_standard(alloc, b"", Identities::NONE, Identities::NONE);
     system.fail_at(call);
@@ -21,18 +23,37 @@ fn is_said(lines: &[String], said: &str) -> bool {
     matches!(lines, [line] if line.as_str() == said)
 }
 
-// The status of a refusal, how many faults it has, and whether it is said alone.
+// The status of a run, how many lines it could not say, and whether this one is said alone.
+fn found((status, system, counts): (u8, MemorySystem, Counts<MemorySystem>)) -> (u8, u64, bool) {
+    let is_said = is_said(system.lines(), "a refusal");
+    drop(system);
+    (status, counts.unsaid_lines(), is_said)
+}
+
+// How a run ends that is refused.
 fn refused(alloc: Global, call: u64) -> (u8, u64, bool) {
+    found(failing(alloc, call).refuse("a refusal"))
+}
+
+// How a run ends that opened standard output, or a file that is made.
+fn settled(alloc: Global, name: Option<&str>, call: u64) -> (u8, u64, bool) {
     let mut host = failing(alloc, call);
-    let status = refuse(&mut host, "a refusal");
-    let is_said = is_said(host.system().lines(), "a refusal");
-    let faults = host.unsaid_lines();
-    drop(host);
-    (status, faults, is_said)
+    let _ = host.open_output(name);
+    found(host.settle("a refusal"))
 }
 
 #[test]
 fn refusals_are_said(rt: HostRuntime) {
     assert!(rt; refused(rt.alloc(), 0) == (1, 0, true));
     assert!(rt; refused(rt.alloc(), 1) == (1, 1, false));
+    assert!(rt; refused(rt.alloc(), 2) == (1, 1, false));
+}
+
+// The file is opened by five calls, and brought to the disk by the sixth.
+#[test]
+fn outputs_are_settled(rt: HostRuntime) {
+    assert!(rt; settled(rt.alloc(), Some("out"), 0) == (0, 0, false));
+    assert!(rt; settled(rt.alloc(), Some("out"), 5) == (1, 0, true));
+    assert!(rt; settled(rt.alloc(), Some("out"), 6) == (1, 0, true));
+    assert!(rt; settled(rt.alloc(), None, 0) == (0, 0, false));
 }

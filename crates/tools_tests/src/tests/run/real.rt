@@ -4,7 +4,8 @@ use super::{open_input, open_output, salt, secret};
 use host::Source;
 use std::fs;
 use std::os::unix::fs::symlink;
-use tools::{Real, Run};
+use system_calls::Real;
+use tools::Run;
 
 // A run over the system.
 fn real(rt: HostRuntime) -> Run<Real> {
@@ -38,7 +39,7 @@ fn stays_as_input(rt: HostRuntime, name: &str) -> bool {
         open_input(&mut run, Some("one")),
         open_output(&mut run, Some(name)),
     ];
-    drop(run);
+    drop(run.into_system());
     marks == *b".F"
 }
 
@@ -49,7 +50,7 @@ fn stays_as_secret(rt: HostRuntime, name: &str) -> bool {
         secret(&mut run, Source::File("one")),
         open_output(&mut run, Some(name)),
     ];
-    drop(run);
+    drop(run.into_system());
     marks == *b"4F"
 }
 
@@ -81,7 +82,7 @@ fn writes(rt: HostRuntime, run: &mut Run<Real>) -> bool {
 fn is_written(rt: HostRuntime) -> bool {
     let mut run = real(rt);
     let is_written = writes(rt, &mut run);
-    drop(run);
+    drop(run.into_system());
     is_written
 }
 
@@ -94,7 +95,7 @@ fn writes_another_file(rt: HostRuntime) {
 fn salt_of(rt: HostRuntime) -> [u8; 32] {
     let (mut run, mut bytes) = (real(rt), [0; 32]);
     salt(&mut run, &mut bytes);
-    drop(run);
+    drop(run.into_system());
     bytes
 }
 

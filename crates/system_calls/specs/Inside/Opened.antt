@@ -1,7 +1,7 @@
 -- What stands for a stream of the system.
 use Rattle.std.specs.Prelude.{⊤}
-use Rattle.tools.specs.declared.real.Opened.{Opened}
-use Rattle.tools.specs.declared.real.Opened.TheVariants as opened
+use Rattle.system_calls.specs.declared.real.Opened.{Opened}
+use Rattle.system_calls.specs.declared.real.Opened.TheVariants as opened
 
 -- what stands for a stream is the standard stream
 abbrev pub IsStandard : Opened → Type 0

@@ -1,16 +1,17 @@
 //! The system itself.
 ghost use Rattle.std.specs.Prelude.{false, [], IsNone, IsSome, IfOk};
-ghost use Rattle.tools.specs.Inside.Opened.{IsNamed, IsStandard};
+ghost use Rattle.system_calls.specs.Inside.Opened.{IsNamed, IsStandard};
 ghost use Rattle.tools.specs.World.{no_files, no_world};
 
-use crate::identity::{FileIdentity, regular_file, regular_stream};
+use crate::identity::{identity, told_of_file, told_of_stream};
 use crate::placeholders::{Placeholders, beside_standard_streams};
-use crate::system::{Reading, Stream, System, WordFault};
 use host::HostFault;
 use std::env::{Env, FillError};
-use std::fs::{File, OpenOptions};
+use std::fs::{File, Metadata, OpenOptions};
 use std::io;
 use std::io::{ErrorKind, Read, Write};
+use std::path::Path;
+use tools::{FileIdentity, Reading, Stream, System, WordFault};
 
 /// What stands for a stream.
 #[derive(Drop)]
@@ -26,9 +27,10 @@ pub enum Opened {
 /// The system, of whose bytes contracts know none.
 ///
 /// A standard stream that is closed when this is made stays without use: no file that is opened later
-/// takes its place, and reading or writing it is a fault. Where the root folder may not be opened,
-/// opening a file is a fault as long as a standard stream is closed. Which regular file a standard stream
-/// is, is told under /proc; where that is missing, it is taken for none.
+/// takes its place, and reading or writing it is a fault; so is opening it to be read, where /proc tells
+/// what it is. Where the root folder may not be opened, opening a file is a fault as long as a standard
+/// stream is closed. Which file a standard stream is, is told under /proc; where that is missing, it is taken
+/// for none.
 #[derive(Drop)]
 pub struct Real {
     rt: HostRuntime,
@@ -37,6 +39,7 @@ pub struct Real {
     secret: Opened,
     random: Opened,
     output: Opened,
+    folder: Option<File>,
 }
 
 impl Real {
@@ -49,6 +52,7 @@ impl Real {
             secret: Opened::Nothing,
             random: Opened::Nothing,
             output: Opened::Nothing,
+            folder: None,
         }
     }
 
@@ -61,16 +65,20 @@ impl Real {
     }
 }
 
-// A file to be read, or standard input.
+// A file to be read, or standard input. A folder is neither; nor is what stands in the place of standard input
+// where that is closed.
 fn open_to_read(rt: HostRuntime, name: Option<&str>) -> Result<Opened, HostFault>
     ensures standard { IsNone name.entry → IfOk result IsStandard }
     ensures named { IsSome name.entry → IfOk result IsNamed }
 {
-    let Some(path) = name else {
-        return Ok(Opened::Standard);
+    let opened = match name {
+        None => Opened::Standard,
+        Some(path) => Opened::Named(beside_standard_streams(File::open(&rt, path))?),
     };
-    let file = File::open(&rt, path);
-    Ok(Opened::Named(beside_standard_streams(file)?))
+    match opened.told(rt, "/proc/self/fd/0")? {
+        Some(metadata) if metadata.is_dir() => Err(HostFault),
+        _ => Ok(opened),
+    }
 }
 
 // A file to be written, which is made where it is not there, or standard output.
@@ -85,17 +93,38 @@ fn open_to_write(rt: HostRuntime, name: Option<&str>) -> Result<Opened, HostFaul
     Ok(Opened::Named(beside_standard_streams(made)?))
 }
 
+// The folder in which a file of this name stands; of a link, that of the link. `None` stands for a folder that may
+// not be read, and so cannot be brought to the disk.
+fn open_folder(rt: HostRuntime, path: &str) -> Result<Option<File>, HostFault> {
+    let folder = match Path::new(path).parent() {
+        Some(folder) if !folder.as_str().is_empty() => folder,
+        _ => Path::new("."),
+    };
+    match File::open(&rt, folder) {
+        Ok(folder) => Ok(Some(folder)),
+        Err(e) if e.kind() == ErrorKind::PermissionDenied => Ok(None),
+        Err(_) => Err(HostFault),
+    }
+}
+
+// Brings a file, or a folder, to the disk. That a file system knows no such call, as that under /proc, is no
+// failure.
+fn bring_to_disk(file: &File) -> Result<(), HostFault> {
+    match file.sync_all() {
+        Ok(()) => Ok(()),
+        Err(e) if e.kind() == ErrorKind::InvalidInput => Ok(()),
+        Err(e) if e.kind() == ErrorKind::Unsupported => Ok(()),
+        Err(_) => Err(HostFault),
+    }
+}
+
 impl Opened {
-    // Which regular file it is; a standard stream is found under its descriptor.
-    fn identity(
-        &self,
-        rt: HostRuntime,
-        descriptor: &str,
-    ) -> Result<Option<FileIdentity>, HostFault> {
+    // What the system tells of it, if it is known; a standard stream is found under its descriptor.
+    fn told(&self, rt: HostRuntime, descriptor: &str) -> Result<Option<Metadata>, HostFault> {
         match self {
             Opened::Nothing => Ok(None),
-            Opened::Standard => Ok(regular_stream(rt, descriptor)),
-            Opened::Named(file) => regular_file(file),
+            Opened::Standard => told_of_stream(rt, descriptor),
+            Opened::Named(file) => Ok(Some(told_of_file(file)?)),
         }
     }
 }
@@ -144,14 +173,25 @@ impl System for Real {
 
     fn open_output(&mut self, name: Option<&str>) -> Result<(), HostFault> {
         self.output = open_to_write(self.rt, name)?;
+        // The folder is opened before anything is written, so a fault of that comes before the file is emptied.
+        if let (Opened::Named(file), Some(path)) = (&self.output, name) {
+            if told_of_file(file)?.is_file() {
+                self.folder = open_folder(self.rt, path)?;
+            }
+        }
         Ok(())
     }
 
     fn file(&self, stream: Stream) -> Result<Option<FileIdentity>, HostFault> {
-        match stream {
-            Stream::Input => self.input.identity(self.rt, "/proc/self/fd/0"),
-            Stream::Secret => self.secret.identity(self.rt, "/proc/self/fd/0"),
-            Stream::Output => self.output.identity(self.rt, "/proc/self/fd/1"),
+        let told = match stream {
+            Stream::Input => self.input.told(self.rt, "/proc/self/fd/0")?,
+            Stream::Secret => self.secret.told(self.rt, "/proc/self/fd/0")?,
+            Stream::Output => self.output.told(self.rt, "/proc/self/fd/1")?,
+            Stream::Error => told_of_stream(self.rt, "/proc/self/fd/2")?,
+        };
+        match told {
+            Some(metadata) => Ok(identity(&metadata)),
+            None => Ok(None),
         }
     }
 
@@ -167,6 +207,17 @@ impl System for Real {
             Opened::Nothing => Err(io::Error::from(ErrorKind::NotFound)),
             Opened::Standard => self.rt.stdout().write(bytes),
             Opened::Named(file) => file.write(bytes),
+        }
+    }
+
+    fn sync(&mut self) -> Result<(), HostFault> {
+        let Opened::Named(file) = &self.output else {
+            return Err(HostFault);
+        };
+        bring_to_disk(file)?;
+        match &self.folder {
+            Some(folder) => bring_to_disk(folder),
+            None => Ok(()),
         }
     }
 
