@@ -108,13 +108,14 @@ END
 programs() {
     build pikhsen amd64 <<END
 Section: utils
-Depends: $(libc "$work"/pikhsen/usr/bin/*)
+Depends: $(libc "$work"/pikhsen/usr/bin/argon2 "$work"/pikhsen/usr/bin/scrypt)
 Conflicts: argon2, scrypt
 Replaces: argon2, scrypt
 Description: scrypt and argon2, proved in Rattle
  scrypt keeps files under a passphrase, in the format of Tarsnap's scrypt;
  argon2 hashes passwords (RFC 9106). Their code is proved to compute what the
- standards define; that the system does its part is tested.
+ standards define; that the system does its part is tested. scrypt-ask, a shell
+ script, asks for the passphrase at the terminal.
  .
  The programs have the names of those in Debian's packages scrypt and argon2,
  so that this package conflicts with both. It is built for processors of the

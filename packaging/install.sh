@@ -103,9 +103,12 @@ page() {
 
 for name in argon2 scrypt; do
     place 755 "$programs/$name" bin
+    place 644 "completions/zsh/_$name" "$zsh"
+done
+place 755 packaging/scrypt-ask bin
+for name in argon2 scrypt scrypt-ask; do
     page "man/$name.1" share/man/man1
     place 644 "completions/bash/$name" share/bash-completion/completions
-    place 644 "completions/zsh/_$name" "$zsh"
 done
 if test -n "$library"; then
     place 644 "$library/libpikhsen.a" "$lib"
@@ -153,7 +156,7 @@ taken_away "$work/gone"
 install -m 644 -T "$work/list" "$below/$list"
 
 test -n "${PIKHSEN_SAY:-}" || exit 0
-echo "installed below $prefix: argon2 and scrypt, with manual pages, completions and documents"
+echo "installed below $prefix: argon2, scrypt and scrypt-ask, with manual pages, completions and documents"
 test -z "$library" || echo "and the library: pikhsen.h, libpikhsen.a and libpikhsen.so.0 in $lib, and the Python module"
 case :$PATH: in *":$prefix/bin:"*) ;; *) echo "add it to PATH:    PATH=\"$prefix/bin:\$PATH\"" ;; esac
 case $prefix in /usr | /usr/local) ;; *)

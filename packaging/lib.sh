@@ -17,8 +17,8 @@ work=$(mktemp -d)
 taken_away() {
     rm -f "$folder/libpikhsen.a" "$folder/libpikhsen.so.0" "$folder"/glibc-hwcaps/*/libpikhsen.so.0
 }
-# A run that does not end well leaves no library, and no package of one: they would be of older sources.
-trap 'status=$?; rm -rf "$work"; test $status = 0 || { taken_away; rm -f bin/*.deb; }' EXIT
+# A run that does not end well leaves no library, and no package or wheel of one: they would be of older sources.
+trap 'status=$?; rm -rf "$work"; test $status = 0 || { taken_away; rm -f bin/*.deb bin/*.whl; }' EXIT
 trap 'exit 130' INT
 trap 'exit 143' HUP TERM
 taken_away # while it proves none is there

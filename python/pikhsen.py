@@ -1,5 +1,54 @@
 """Argon2, scrypt and scrypt's encrypted files, by libpikhsen.
 
+All functions are these; `help(pikhsen.verify)` tells all of one.
+
+Hashes of passwords, by Argon2:
+
+    encode(password, *, salt=None, SETTINGS, KEYED, LIMITS) -> str
+        the text to keep for a password
+    verify(text, password, *, KEYED, LIMITS) -> bool
+        whether the password is that of the text
+    needs_rehash(text, *, SETTINGS, salt_len=16) -> bool
+        whether the text was made with other settings
+    settings(text) -> Settings
+        what the text says of its settings
+    hash(password, salt, *, SETTINGS, KEYED, LIMITS) -> bytes
+        the tag alone
+
+    SETTINGS: passes=3, memory_kib=65536, lanes=4, length=32,
+              kind=Kind.ID, version=0x13
+    KEYED: secret=b"", associated=b""
+    LIMITS: max_kib=1 << 20, max_ops=1 << 23
+
+Encrypted files and keys, by scrypt:
+
+    encrypt(text, passphrase, *, salt=None, COSTS) -> bytes
+        the encrypted file of a text
+    decrypt(file, passphrase, *, BOUNDS) -> bytes
+        the text of an encrypted file
+    encrypt_file(source, target, passphrase, *, salt=None, COSTS) -> None
+        makes an encrypted file on a disk of another file
+    decrypt_file(source, target, passphrase, *, BOUNDS) -> None
+        makes a file on a disk of an encrypted one
+    encrypt_in_place(buffer, passphrase, *, salt=None, COSTS) -> None
+        puts the encrypted file into the buffer of its text
+    info(file) -> Costs
+        what opening a file takes
+    scrypt(password, salt, *, length=64, COSTS) -> bytes
+        a key
+
+    COSTS: log_n=17, r=8, p=1, keep=1, max_bytes=1 << 32, max_ops=1 << 33
+    BOUNDS: keep=1, max_bytes=1 << 30, max_ops=1 << 28
+
+And of the library:
+
+    version() -> str
+        the version of the library
+    message(status) -> str
+        what a number of the library says
+
+For example:
+
     >>> import pikhsen
     >>> stored = pikhsen.encode(b"correct horse")       # a text to keep, with a new salt
     >>> pikhsen.verify(stored, b"correct horse")
@@ -8,23 +57,28 @@
     >>> pikhsen.decrypt(file, b"passphrase")
     b'Dear Ada'
 
-Passwords, salts and files are bytes, or anything else that holds bytes: a bytearray, a memoryview, an mmap. Files on a
-disk, larger than the memory too, are for `encrypt_file` and `decrypt_file`. What is refused raises Refused, whose
-`status` tells why, and numbers that are out of range raise Invalid, a ValueError.
+Passwords, salts and files are bytes, or anything else that holds bytes: a bytearray, a memoryview, an mmap. For a text
+TypeError is raised: `password.encode()` gives its bytes. Files on a disk, larger than the memory too, are for
+`encrypt_file` and `decrypt_file`. What is refused raises Refused, whose `status` tells why, and numbers that are out of
+range raise Invalid, a ValueError.
 
 Limits: `max_kib` is in KiB, `max_bytes` in bytes. The work of Argon2 is counted in block functions, one for each KiB
 and pass and a few more; that of scrypt in cores of Salsa20/8, 4 * r * p * 2 ** log_n of them with `keep` 1. On a Xeon
 of 2.5 GHz a million block functions took 0.7 to 2.1 seconds, most at 256 MiB, and 2 ** 28 cores, which `decrypt`
 allows, 20 to 27.
 
-Threads and processes: a call lets other threads run meanwhile, and any number of calls may run at a time. Ctrl-C is
-heeded when the call is over, so limits are what bounds the time. Work is best spread over threads; for processes take
-the start methods spawn or forkserver of multiprocessing, since the library is not to be called in the forked child of
-a process with threads.
+Ctrl-C during a call cuts nothing short: the call goes on to its end, and then KeyboardInterrupt is raised in the place
+of what it gives. `encrypt_file` and `decrypt_file` remove their new file then; the buffer of `encrypt_in_place` may
+hold the file. So limits are what bounds the time. Ctrl-\\ ends the process at once, and leaves a part of a new file. A
+call that somebody may want to stop is best made in a process of its own.
 
-The library is the file that the variable PIKHSEN_LIBRARY names; or that which `make install` installed with this module;
-or libpikhsen.so.0, where the system finds it. An empty value counts as none, and under Python's options -E and -I the
-variable is not read.
+Threads and processes: a call lets other threads run meanwhile, and any number of calls may run at a time. Work is best
+spread over threads; for processes take the start methods spawn or forkserver of multiprocessing, since the library is
+not to be called in the forked child of a process with threads.
+
+The library is the file that the variable PIKHSEN_LIBRARY names; or that which lies beside this module, as in a wheel,
+or which `make install` installed with it; or libpikhsen.so.0, where the system finds it. An empty value counts as none,
+and under Python's options -E and -I the variable is not read.
 """
 import contextlib
 import ctypes
@@ -267,12 +321,14 @@ _PARAMETERS = {
 def _loaded() -> ctypes.CDLL:
     """The library, with the parameters of its functions, if it has the version that this module is made for."""
     named = "" if sys.flags.ignore_environment else os.environ.get("PIKHSEN_LIBRARY", "")
-    # what `make install` put below the prefix of share/pikhsen/pikhsen/__init__.py
-    prefix, is_installed, _ = os.path.abspath(__file__).rpartition("/share/pikhsen/pikhsen/__init__.py")
+    # in a wheel it is beside this file; `make install` put it below the prefix of share/pikhsen/pikhsen/__init__.py
+    file = os.path.abspath(__file__)
+    prefix, is_installed, _ = file.rpartition("/share/pikhsen/pikhsen/__init__.py")
+    folder = f"{prefix}/lib" if is_installed else os.path.dirname(file)
     # of a name without a folder the loader takes the library for the processor's level by itself
     for level in ("glibc-hwcaps/x86-64-v3/",) * _has_v3() + ("",):
-        beside = f"{prefix}/lib/{level}libpikhsen.so.0"
-        if not named and is_installed and os.path.exists(beside):
+        beside = f"{folder}/{level}libpikhsen.so.0"
+        if not named and os.path.exists(beside):
             named = beside
     try:
         library = ctypes.CDLL(named or "libpikhsen.so.0")
@@ -325,9 +381,16 @@ def _judge(number: int) -> None:
         raise _EXCEPTIONS.get(number, Invalid)(Status(number))
 
 
+def _view(given: BytesLike) -> memoryview:
+    """What holds bytes. A text is refused with what to do, and is not shown: it may be a password."""
+    if isinstance(given, str):
+        raise TypeError('bytes are wanted here, and not a text: "..".encode() gives its bytes')
+    return memoryview(given)
+
+
 def _bytes(given: BytesLike) -> bytes:
     """Plain bytes, whose length is what `len` tells."""
-    return given if type(given) is bytes else memoryview(given).tobytes()
+    return given if type(given) is bytes else _view(given).tobytes()
 
 
 def _ascii(text: Union[str, BytesLike]) -> bytes:
@@ -337,7 +400,7 @@ def _ascii(text: Union[str, BytesLike]) -> bytes:
 
 def _beginning(given: BytesLike, length: int) -> bytes:
     """The first bytes, so many if there are as many. No more items than that are copied."""
-    view = memoryview(given)
+    view = _view(given)
     # what has no dimension is one item, and can't be cut
     return (view[:length] if view.ndim else view).tobytes()[:length]
 
@@ -622,10 +685,11 @@ def encrypt_in_place(
 ) -> None:
     """Encrypts the text in a buffer that can be written: all of it but its last 128 bytes. The file takes its place.
 
-    So no second buffer is needed, and the text is gone. Where it raises, the buffer is as it was. All else is as
-    `encrypt` has it, A NEW SALT FOR EACH FILE and the EMPTY PASSPHRASE THAT IS ACCEPTED among others.
+    So no second buffer is needed, and the text is gone. Where it is refused, the buffer is as it was; after Ctrl-C it
+    may hold either. All else is as `encrypt` has it, A NEW SALT FOR EACH FILE and the EMPTY PASSPHRASE THAT IS ACCEPTED
+    among others.
     """
-    out = (ctypes.c_char * memoryview(buffer).nbytes).from_buffer(buffer)
+    out = (ctypes.c_char * _view(buffer).nbytes).from_buffer(buffer)
     number = _number(
         _lib.pikhsen_scrypt_encrypt_in_place, _bytes(passphrase), _file_salt(salt), *_scrypt_settings(log_n, r, p, keep),
         *_limits(max_bytes, max_ops), out,

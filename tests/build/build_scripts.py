@@ -29,7 +29,7 @@ OTHER = "x86-64-v3"
 OTHERS = [f"bin/{OTHER}/argon2", f"bin/{OTHER}/scrypt"]
 HIGHER = f"glibc-hwcaps/{OTHER}/libpikhsen.so.0"
 LIBRARIES = ["bin/lib/libpikhsen.a", "bin/lib/libpikhsen.so.0", f"bin/lib/{HIGHER}"]
-PACKAGE = "bin/pikhsen_0.0.1_amd64.deb"
+PACKAGE, WHEEL = "bin/pikhsen_0.0.1_amd64.deb", "bin/pikhsen-0.0.1-py3-none-linux_x86_64.whl"
 # The library in C: the names of the header, and one of the kit's heap, which is not to be seen outside.
 HEAP = """#include <stdlib.h>
 void *taken_by_the_kit(size_t size);
@@ -39,8 +39,9 @@ BODY = "unsigned int {}(void) {{ return taken_by_the_kit(1) != 0; }}\n"
 # What is installed from where, beside docs/.
 INSTALLED = {
     **{it: it for it in PROGRAMS[:2]}, **{it.removeprefix("bin/"): it for it in LIBRARIES}, "include/pikhsen.h": "include/pikhsen.h",
-    "share/man/man1/argon2.1": "man/argon2.1", "share/man/man1/scrypt.1": "man/scrypt.1", "share/man/man3/pikhsen.3": "man/pikhsen.3",
-    **{f"share/bash-completion/completions/{it}": f"completions/bash/{it}" for it in ("argon2", "scrypt")},
+    "bin/scrypt-ask": "packaging/scrypt-ask", "share/man/man3/pikhsen.3": "man/pikhsen.3",
+    **{f"share/man/man1/{it}.1": f"man/{it}.1" for it in ("argon2", "scrypt", "scrypt-ask")},
+    **{f"share/bash-completion/completions/{it}": f"completions/bash/{it}" for it in ("argon2", "scrypt", "scrypt-ask")},
     **{f"share/zsh/site-functions/_{it}": f"completions/zsh/_{it}" for it in ("argon2", "scrypt")},
     **{f"share/doc/pikhsen/{it}": it for it in ("README.md", "CHANGELOG.md")},
     "share/pikhsen/pikhsen/__init__.py": "python/pikhsen.py", "share/pikhsen/pikhsen/py.typed": "/dev/null",
@@ -227,7 +228,7 @@ def library_is_made(checks, room):
 
 def libraries_fail(checks, room):
     """A proof, a linker or a compiler that fails leaves no library, neither in place of the new one nor beside it."""
-    there, archive = [*LIBRARIES, PACKAGE], "crates/pikhsen_c/out/libpikhsen_c.a"
+    there, archive = [*LIBRARIES, PACKAGE, WHEEL], "crates/pikhsen_c/out/libpikhsen_c.a"
     room.older([*there, archive])
     room.write("pikhsen_c", "broken\n")
     room.leaves(checks, "lib.sh, a proof that fails", there, "packaging/lib.sh", "bin/lib", OTHER, LEVEL)

@@ -29,6 +29,7 @@ LINE = re.compile(r" ?(\d+) of (\d+) ([\w-]+), (\d+ s|as it was proved before)(?
 LEVEL = "x86-64-v2"
 PROGRAMS = ("bin/argon2", "bin/scrypt", f"bin/{LEVEL}/argon2", f"bin/{LEVEL}/scrypt")
 NO_PROGRAM = ["pikhsen_c", "command", *(it for it in prove.listed() if it.endswith("_tests"))]  # what no program stands on
+OF_PROGRAMS = [it for it in prove.listed() if it not in NO_PROGRAM]
 SCRYPT = ["scrypt_run", "scrypt_command", "argon_tool", "scrypt_tool"]
 APART = "scrypt_command_tests", "test"
 # Says that a crate is proved whose text has not the word "broken", after a minute where it has the word "slow". Like rt
@@ -183,12 +184,11 @@ def shares(checks):
 
 
 def succeeds(checks, tree):
-    crates = [it for it in prove.listed() if it not in NO_PROGRAM]
     status, said = tree.make("run", f"CPU={LEVEL}", "JOBS=2")
     checks.that("make run", (status, tree.there(PROGRAMS)), (0, list(PROGRAMS)))
     checks.that("make run: its end", said[-1].split()[0], "argon_tool")
-    look_at_order(checks, "make run", tree, crates, 2)
-    look_at_lines(checks, "make run", said, len(crates))
+    look_at_order(checks, "make run", tree, OF_PROGRAMS, 2)
+    look_at_lines(checks, "make run", said, len(OF_PROGRAMS))
     words = {crate: words for _, crate, words in tree.noted("begin")}
     checks.that("the level", words["scrypt_tool"][:3], ["run", "--cpu", LEVEL])
     checks.that("no tests", any("test" in it for it in words.values()), False)
@@ -202,7 +202,7 @@ def proves_what_changed(checks, tree):
     status, said = tree.make("run", f"CPU={LEVEL}", "JOBS=3")
     checks.that("a change", status, 0)
     look_at_order(checks, "a change", tree, SCRYPT, 3)
-    look_at_lines(checks, "a change", said, 21, kept=21 - len(SCRYPT))
+    look_at_lines(checks, "a change", said, len(OF_PROGRAMS), kept=len(OF_PROGRAMS) - len(SCRYPT))
 
 
 def fails(checks, tree):
@@ -213,7 +213,7 @@ def fails(checks, tree):
     tree.write("tools", "other\n")
     status, said = tree.make("run", f"CPU={LEVEL}")
     checks.that("a failure", (status != 0, tree.there([*older, "bin/level"])), (True, []))
-    checks.that("a failure: begun", tree.begun(), ["argon_tool", "scrypt_run", "tools"])
+    checks.that("a failure: begun", tree.begun(), ["argon_tool", "scrypt_run", "system_calls", "tools"])
     checks.that("a failure: why", "| scrypt_run::there: no proof" in said and "| line 99" in said, True)
     checks.that("a failure: no more than its end", "| line 10" in said, False)
     checks.that("a failure: the log", "scrypt_run FAILED. The end of bin/logs/scrypt_run:" in said, True)
@@ -278,7 +278,7 @@ def checks_what_changed(checks, tree):
         checks.that(name, (status != 0, any(it.startswith(line) for it in said)), (name == "make check fails", True))
         checks.that(f"{name}: begun", sorted((it[1], it[2][0]) for it in tree.noted("begin")), sorted(begun))
         if name == "make check":
-            checks.that(f"{name}: the lines", len([it for it in said if LINE.fullmatch(it)]), 24)
+            checks.that(f"{name}: the lines", len([it for it in said if LINE.fullmatch(it)]), 25)
 
 
 def main():

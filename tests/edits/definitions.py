@@ -18,14 +18,14 @@ VECTOR = re.compile(r"(?m)^((?:#\[.*\]\n)*)fn (\w+)\(\)\n((?:    .*\n)+)\{\}$")
 CLAUSE = re.compile(r"(?ms)^    ensures (\w+) \{ (.*?) \}$(?=\n    ensures|\n?\Z)")
 
 
-def equations(text):
-    """The equations of a file of vectors, by vector and clause: the attributes, and the two sides."""
+def clauses(text):
+    """The clauses of a file of vectors, by vector and clause: the attributes, and the two sides of one that is an equation. A
+    statement has no sides; a law, or what holds under a condition, has none that compute."""
     found = {}
-    for attributes, name, clauses in VECTOR.findall(text):
-        for clause, said in CLAUSE.findall(clauses):
+    for attributes, name, whole in VECTOR.findall(text):
+        for clause, said in CLAUSE.findall(whole):
             sides = re.split(r"\s+≡\s+", said)
-            if len(sides) == 2:
-                found[name, clause] = attributes, *sides
+            found[name, clause] = (attributes, *sides) if len(sides) == 2 and "→" not in said else ()
     return found
 
 
@@ -60,7 +60,7 @@ class WrongDefinition(Edit):
         self.goal = f"`{self.vector}`: `{self.clause}`"
         tests = reading.folder_of_tests(self.folder)
         text = text_of(tests, VECTORS, {})
-        self.equation, names = equations(text).get((self.vector, self.clause)), reading.imports(text)
+        self.equation, names = clauses(text).get((self.vector, self.clause)), reading.imports(text)
         answer = text_of(tests, f"proofs/vectors/{self.vector}/Answers.antt", {})
         self.answer = answer if re.search(rf"\b{self.clause} = refl\b", answer) else ""
         self.changes, self.wrong = set(), "it changes what is not a definition"
@@ -70,8 +70,10 @@ class WrongDefinition(Edit):
             items = definitions.reached(cited, names)
             self.reach = {*items, *made.reached(cited, names)}
             self.wrong = "" if self.changes & {*items} else "its equation does not reach what it changes"
-        elif not self.texts or not self.equation:
-            self.wrong = "what it replaces does not stand there once" if self.equation else f"there is no {self.goal}"
+        elif not self.texts:
+            self.wrong = "what it replaces does not stand there once"
+        elif not self.equation:
+            self.wrong = f"there is no {self.goal}" if self.equation is None else f"{self.goal} is no equation, whose sides could differ"
 
 
 def wrong_definitions_of(crate, definitions):

@@ -35,9 +35,11 @@ SCRYPT = TOP / PROGRAMS / "scrypt"
 TESTS = {
     "tests/pages/values.py": ([], 1, ["bash"]), "tests/pages/documents.py": ([], 5, []), "tests/build/first_run.py": ([], 8, []),
     "tests/build/build_scripts.py": ([], 20, ["gcc", "dpkg-deb"]), "tests/library/python_module.py": (["LIB"], 6, ["gcc"]),
+    # Debian's pip comes with what makes wheels
+    "tests/library/python_wheel.py": (["LIB"], 25, ["gcc", "/usr/bin/pip3"]),
     "tests/library/packages.py": (["LIB"], 9, ["gcc", "dpkg-deb", SCRYPT]), "tests/library/c_face.py": (["--header", "LIB"], 6, ["gcc", "g++"]),
     "tests/sources/sources.sh": ([], 2, []), "tests/programs/story.py": (["--recipes", PROGRAMS], 25, ["bash", "dash", SCRYPT]),
-    "tests/pages/definitions_told.py": (["--check"], 8, []),
+    "tests/pages/definitions_told.py": (["--check"], 8, []), "tests/programs/scrypt_ask.py": ([PROGRAMS, "dash"], 8, ["dash", SCRYPT]),
 }
 # What a test says of what it finds: a comparison that fails, a name that is not there, or how it ended.
 SAID = re.compile(r"^(?:FAILED|not there:) (.*)$|^(\w*(?:Error|Exception)\b.*)$", re.MULTILINE)

@@ -1,7 +1,8 @@
 #!/usr/bin/env python3
 """Makes libpikhsen of what was proved, and calls it from C and from Python: header and exports are the same,
 both ways to link, keys that a call leaves in memory and vector registers, what docs/LIBRARY.md and the manual page show,
-all of tests/library/python_module.py and, of what is installed and packaged, of tests/library/packages.py.
+all of tests/library/python_module.py and, of what is installed and packaged, of tests/library/packages.py and
+tests/library/python_wheel.py.
 
     tests/library/c_face.py              takes crates/pikhsen_c/out/libpikhsen_c.a as tests/edits/refusals.py or make lib left it,
                                  and the library for x86-64-v3 as make lib left it in bin/lib, if it is of these sources
@@ -23,6 +24,7 @@ import binaries
 import comparisons
 import packages
 import python_module
+import python_wheel
 from checking import Checks, is_there, said
 from library_texts import HEADER, TOP, numbers_of_header, prototypes, ran
 from shown import INCLUDE, compile_c, library_runs, logins_run
@@ -288,6 +290,7 @@ def main():
         library_runs(checks, folder, lib)
         logins_run(checks, folder, lib)
         packages.all_of(checks, folder, lib)
+        python_wheel.all_of(checks, folder, lib)
     checks.end()
 
 

@@ -38,6 +38,7 @@ FILES = {
         *(it.format(name) for name in ("argon2", "scrypt") for it in (
             "usr/bin/{}", "usr/share/man/man1/{}.1.gz", "usr/share/bash-completion/completions/{}",
             "usr/share/zsh/vendor-completions/_{}")),
+        "usr/bin/scrypt-ask", "usr/share/man/man1/scrypt-ask.1.gz", "usr/share/bash-completion/completions/scrypt-ask",
         "usr/share/doc/pikhsen/README.md", "usr/share/lintian/overrides/pikhsen",
         *(f"usr/share/doc/pikhsen/docs/{it.name}" for it in (TOP / "docs").glob("*.*")),  # docs/audit is for the gate
     ],
@@ -159,7 +160,7 @@ def kib_of(folder):
 def fields(checks, package, root, control, version=VERSION, level="x86-64-v2"):
     """What the package says of itself."""
     found = dict(re.findall(r"^([\w-]+): (.*)$", control, re.MULTILINE))
-    files = [root / it for it in FILES[package] if "bin/" in it or it.endswith(".so.0")]
+    files = [root / it for it in FILES[package] if it in ("usr/bin/argon2", "usr/bin/scrypt") or it.endswith(".so.0")]
     wanted = dict(FIELDS[package])
     wanted.update({"Package": package, "Source": "pikhsen", "Version": version, "Priority": "optional",
                    "Installed-Size": f"{kib_of(root / 'usr')}", "Maintainer": "The authors of Pikhsen <pikhsen@localhost>"})

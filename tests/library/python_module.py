@@ -1,7 +1,7 @@
 #!/usr/bin/env python3
 """Calls the module for Python over a built library: RFC vectors, hashlib, each byte of a file changed, each cut, files
 in place, files on a disk, settings of texts, salts of its own, buffers that it wipes, all forms of bytes, limits,
-exceptions, threads, processes, and libraries that it must refuse.
+exceptions, threads, processes, Ctrl-C, what help shows first, and libraries that it must refuse.
 
     tests/library/python_module.py FOLDER      the folder in which libpikhsen.so.0 lies
 """
@@ -12,10 +12,12 @@ import copy
 import ctypes
 import errno
 import hashlib
+import inspect
 import mmap
 import os
 import pathlib
 import pickle
+import pydoc
 import re
 import shutil
 import sys
@@ -410,6 +412,32 @@ def threads_from_python(checks, pikhsen):
     checks.that("threads", together == [work(number) for number in range(64)], True)
 
 
+INTERRUPTED = """import os, pikhsen, signal, sys, threading, time
+signal.signal(signal.SIGINT, signal.default_int_handler)
+def interrupt():
+    # while the table is being filled: it has 256 MiB in all
+    while int(open("/proc/self/statm").read().split()[1]) < 1 << 14:
+        time.sleep(0.001)
+    os.kill(os.getpid(), signal.SIGINT)
+buffer = bytearray(200)
+for call in (lambda: pikhsen.encrypt_file(*sys.argv[1:], b"pw", log_n=18), lambda: pikhsen.encrypt_in_place(buffer, b"pw", log_n=18)):
+    threading.Thread(target=interrupt, daemon=True).start()
+    try:
+        call()
+    except KeyboardInterrupt:
+        print(os.path.exists(sys.argv[2]), bytes(buffer[:6]))
+"""
+
+
+def interrupted(checks, folder, lib):
+    """Ctrl-C during a call: that goes on to its end, and KeyboardInterrupt is raised. No new file is left."""
+    names = [f"{folder}/{it}" for it in ("short", "short.scrypt")]
+    pathlib.Path(names[0]).write_bytes(b"Dear Ada")
+    found = with_module(lib, "-c", INTERRUPTED, *names, timeout=120)
+    zeros = bytes(6)
+    checks.that("Ctrl-C during a call", found, (0, f"False {zeros}\nFalse {b'scrypt'}\n"))
+
+
 class Longer(bytes):
     """Bytes that tell a wrong length."""
 
@@ -460,6 +488,7 @@ def arguments_from_python(checks, pikhsen):
         lambda: pikhsen.hash(b"x", salt, passes=1.5), lambda: pikhsen.scrypt(b"", b"", log_n="4"),
     ):
         checks.that("a wrong type", refusal(call), "TypeError")
+    texts_from_python(checks, pikhsen, text)
     numbers_from_python(checks, pikhsen, text, file)
     checks.that("great limits", pikhsen.verify(text, b"password", max_kib=1 << 70, max_ops=1 << 70), True)
     for odd in ("\ud800", "$\u00e9", "\uff04argon2id$", text + "\ud800"):
@@ -470,6 +499,21 @@ def arguments_from_python(checks, pikhsen):
             checks.that("what is told of it", found, ("NOT_ENCODED", (pikhsen.Status.NOT_ENCODED,), None))
     for costs, why in (((21, 8, 1), "MEMORY_LIMIT"), ((10, 8, (1 << 13) + 1), "WORK_LIMIT")):
         checks.that(f"decrypt's own limits, {why}", refusal(pikhsen.decrypt, of_costs(*costs) + bytes(64), b""), why)
+
+
+def texts_from_python(checks, pikhsen, text):
+    """A text in the place of bytes is refused with what to do, and is not shown."""
+    for name, call in (
+        ("hash", lambda: pikhsen.hash(b"x", "correct horse")), ("encode", lambda: pikhsen.encode("correct horse")),
+        ("verify", lambda: pikhsen.verify(text, "correct horse")), ("scrypt", lambda: pikhsen.scrypt("correct horse", b"")),
+        ("encrypt", lambda: pikhsen.encrypt("correct horse", b"")), ("decrypt", lambda: pikhsen.decrypt("correct horse", b"")),
+        ("encrypt_in_place", lambda: pikhsen.encrypt_in_place("correct horse", b"")), ("info", lambda: pikhsen.info("correct horse")),
+    ):
+        try:
+            call()
+        except TypeError as told:
+            says = str(told)
+            checks.that(f"{name}, a text: what is said", ('"..".encode()' in says, "horse" in says), (True, False))
 
 
 def numbers_from_python(checks, pikhsen, text, file):
@@ -496,6 +540,35 @@ def limits_from_python(checks, pikhsen):
             most, blocks = work_of(kind, kib, passes, lanes), kib // (4 * lanes) * 4 * lanes
             rows = (None, {}), ("WORK_LIMIT", {"max_ops": most - 1}), ("MEMORY_LIMIT", {"max_kib": blocks - 1})
             refused(checks, rows, pikhsen.hash, b"x", b"saltsalt", max_ops=most, max_kib=blocks, **settings)
+
+
+SIGNATURE = re.compile(r"^    (\w+)\((.*)\) -> (\w+)\n        (.*)$", re.MULTILINE)
+
+
+def signatures_from_python(checks, pikhsen):
+    """What `help` shows first, and LIBRARY's table, is each function as it is called."""
+    words = {it: " ".join(text.split()) for it, text in re.findall(r"^    ([A-Z]+): ((?:.*,\n +)*.*)$", pikhsen.__doc__, re.MULTILINE)}
+    told, rows = {}, []
+    for name, short, result, about in SIGNATURE.findall(pikhsen.__doc__):
+        rows.append((f"{name}({short}) -> {result}", about))
+        whole = re.sub("[A-Z]{4,}", lambda it: words[it[0]], short)
+        told[name] = parameters_of(eval(f"lambda {whole}: 0", vars(pikhsen))), result
+    functions = {it: getattr(pikhsen, it) for it in pikhsen.__all__ if inspect.isfunction(getattr(pikhsen, it))}
+    annotated = {name: inspect.signature(it).return_annotation for name, it in functions.items()}
+    checks.that("signatures at the head of the module", told, {
+        name: (parameters_of(it), getattr(annotated[name], "__name__", "None")) for name, it in functions.items()})
+    lines = pydoc.plain(pydoc.render_doc(pikhsen)).splitlines()
+    late = [it for it in functions if not any(line.strip().startswith(f"{it}(") for line in lines[:60])]
+    checks.that("functions that help does not show in its first 60 lines", late, [])
+    checks.that("LIBRARY's table of functions", re.findall(r"^\| `(\w+\(.*\) -> \w+)` \| (.*) \|$", LIBRARY, re.MULTILINE), rows)
+    checks.that("LIBRARY's words of that table", dict(re.findall(r"^\| `([A-Z]+)` \| `(.*)` \|$", LIBRARY, re.MULTILINE)), words)
+
+
+def parameters_of(function):
+    """The parameters of a function that are given by their place, and those that are given by their name, with what they are if not."""
+    parameters = inspect.signature(function).parameters.values()
+    named = {it.name: it.default for it in parameters if it.kind == it.KEYWORD_ONLY}
+    return [it.name for it in parameters if it.name not in named], named
 
 
 def salts_from_python(checks, pikhsen):
@@ -622,18 +695,22 @@ def libraries_of_python(checks, pikhsen, folder, lib):
 
 
 def installed_for_levels(checks, folder, lib, other):
-    """An installed module takes the library of its prefix for x86-64-v3 where the processor has that level, if it is there."""
-    prefix = pathlib.Path(folder, "a prefix")
-    module, higher = prefix / "share/pikhsen/pikhsen/__init__.py", prefix / "lib/glibc-hwcaps/x86-64-v3/libpikhsen.so.0"
-    for parent in (module.parent, higher.parent):
-        parent.mkdir(parents=True)
-    shutil.copy(TOP / "python/pikhsen.py", module)
-    shutil.copy(f"{lib}/libpikhsen.so.0", prefix / "lib/libpikhsen.so.0")
-    variables = {"PYTHONPATH": str(module.parent.parent), "PIKHSEN_LIBRARY": None}
-    for name, expected in (("of the lower level", VERSION), ("of the higher level", "0.1.99" if runs_v3() else VERSION)):
-        found = with_module(lib, "-c", "import pikhsen; print(pikhsen.version())", variables=variables)
-        checks.that(f"an installed module, over the library {name}", found[1].splitlines()[-1:], [expected])
-        shutil.copy(other, higher)
+    """An installed module takes the library of its prefix, and one of a wheel that beside it: for x86-64-v3 where the
+    processor has that level, if it is there."""
+    for what, modules, libraries in (
+        ("an installed module", "a prefix/share/pikhsen", "a prefix/lib"), ("one of a wheel", "site", "site/pikhsen"),
+    ):
+        module, lower = pathlib.Path(folder, modules, "pikhsen/__init__.py"), pathlib.Path(folder, libraries, "libpikhsen.so.0")
+        higher = lower.parent / "glibc-hwcaps/x86-64-v3" / lower.name
+        for parent in (module.parent, higher.parent):
+            parent.mkdir(parents=True, exist_ok=True)
+        shutil.copy(TOP / "python/pikhsen.py", module)
+        shutil.copy(f"{lib}/libpikhsen.so.0", lower)
+        variables = {"PYTHONPATH": str(module.parent.parent), "PIKHSEN_LIBRARY": None}
+        for name, expected in (("of the lower level", VERSION), ("of the higher level", "0.1.99" if runs_v3() else VERSION)):
+            found = with_module(lib, "-c", "import pikhsen; print(pikhsen.version())", variables=variables)
+            checks.that(f"{what}, over the library {name}", found[1].splitlines()[-1:], [expected])
+            shutil.copy(other, higher)
 
 
 def loaded(lib):
@@ -652,7 +729,7 @@ def calls(checks, folder, lib):
     for part in (
         from_python, secrets_from_python, texts_of_others, keys_from_python, files_from_python, in_place_from_python,
         settings_from_python, salts_from_python, buffers_from_python, threads_from_python, arguments_from_python,
-        limits_from_python, defaults_from_python, exceptions_from_python,
+        limits_from_python, defaults_from_python, exceptions_from_python, signatures_from_python,
     ):
         part(checks, pikhsen)
     large_from_python(checks, folder, lib)
@@ -660,6 +737,7 @@ def calls(checks, folder, lib):
         kept_files_from_python(checks, pikhsen, kept)
         disk_from_python(checks, pikhsen, kept)
         large_files_from_python(checks, kept, lib)
+        interrupted(checks, kept, lib)
     libraries_of_python(checks, pikhsen, folder, lib)
     return pikhsen
 

@@ -37,7 +37,8 @@ since a hash of 32 bytes has no links. What an equation tests is seen where it r
 it, and crates/*/wrong-definitions/ has the edit.
 
 A *statement* is a relation, or a record of facts: it has no value to compute, and is read. A *form* is a record of fields, or a
-list of cases, and says no more than their names. What else has no equation is listed with its reason.
+list of cases, and says no more than their names. What else has no equation is listed with its reason. Of `work_vector` no
+equation computes a high word of BLAKE2b's count of bytes that is not 0: a message would have 2^64 bytes.
 This page is made by tests/pages/definitions_told.py.
 
 Of {all} definitions equations reach {reached}; {statement} are statements, {form} are forms, and {reason} have another reason.
@@ -46,6 +47,8 @@ Of {wrong} definitions, these or others, a wrong one was refused.
 SEEN = "the value of the code as contracts see it: field by field"
 WHY = {
     ("tools.specs.Held", ""): "field by field, a host of a system: the statements of `SystemHost` are read against it",
+    ("tools.specs.World", ""): "field by field, a system: the calls of `System` are read against it",
+    ("tools.specs.Identity", "is_regular"): "a choice between two forms",
     ("tools.specs.Words", ""): "an item of a list",
     **{("host.specs.Secret", name): SEEN for name in ("source_of", "secret_of")}, ("argon_text.specs.View", "value_claimed"): SEEN,
     **{("scrypt_request.specs.Request", f"{name}_seen"): SEEN for name in ("request", "encryption", "task")},

@@ -148,6 +148,7 @@ SENTENCES = {
         f"{off['a key of N = 2^17, r = 8, p = 1']} the processor time of a key of 128 MiB",
         "took {keys} of the processor time of those for v2 for a key, and {files} for a file".format(**spans_to_v2),
     ],
+    "man/scrypt-ask.1": [f"1 GiB and {seconds_of['20']}"],
     "man/argon2.1": [
         f"{off['`argon2 -id -t 3 -m 16`']} the processor time of three passes over 64 MiB",
         f"{off['`argon2 -id -t 1 -m 18`']} that of one pass over 256 MiB", f"64 MiB, and {login} seconds",

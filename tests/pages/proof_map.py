@@ -146,7 +146,7 @@ def disagreements():
     for _ in CRATES:
         reached |= {(start, end) for start, middle in reached for other, end in ARROWS if middle == other}
     said = {(start, end) for start, end in given if end in {end for _, end in ARROWS}}
-    return [f"arrow {start} to {end}" for start, end in sorted(({*ARROWS} - given - {("tools", SYSTEM)}) | (said - reached))]
+    return [f"arrow {start} to {end}" for start, end in sorted(({*ARROWS} - given - {("system_calls", SYSTEM)}) | (said - reached))]
 
 
 def drawn():
@@ -169,7 +169,7 @@ def drawn():
         end = top
         for name in names[0].split():
             end = crate_box(name, x, end + 30, width)
-            if name == "tools":
+            if name == "system_calls":
                 role = "files, variables, streams, random bytes: no contract knows what they hold; tests run them"
                 end = picture.box(SYSTEM, "Trusted and tested", x, end + 26, width, role, kind="trusted")
         ends.append(end)
@@ -222,7 +222,7 @@ def small():
             share = (width + 8) // max(len(cell), 1)
             for number, (crate, words) in enumerate(cell.items()):
                 at, wide = x + number * share, share - 8
-                kind = "trusted" if crate == "tools" else "box"
+                kind = "trusted" if crate == "system_calls" else "box"
                 picture.texts.append(
                     f'<g><title>{crate}: {words}</title><rect x="{at}" y="{y}" width="{wide}" height="42" rx="5" class="{kind}"/>'
                     f'<text x="{at + wide // 2}" y="{y + 18}" class="number" text-anchor="middle">{crate}</text>'

@@ -29,6 +29,7 @@ TESTS = {"tests", "tests.rt", "testing.rt", "fixtures.rt"}
 OURS = ["scrypt_tool::run", "argon_tool::run", "command::scrypt", "command::argon2", "scrypt_run::run", "argon_text::verify"]
 FOR_C = re.findall(r"\bpikhsen_(?!version)\w+", (CRATES / "pikhsen_c" / "src" / "lib.rt").read_text(encoding="utf-8").partition("pub use")[2])
 CALLS = [*OURS, *(f"pikhsen_c::{name}" for name in FOR_C)]
+TRAITS = [("host", "Host"), ("tools", "System")]  # what calls are for
 IMPORT = re.compile(r"(?m)^ *(?:pub |ghost )?use Rattle\.(\w+\.specs\.[\w.]+)(?:\.\{([^}]*)\}| as (\w+))")
 WORD = re.compile(r"[^\s(){}\[\],;.]+")
 
@@ -151,7 +152,7 @@ def reached(texts, files):
 def texts_of(call):
     """A call's contract, and the traits' of what it is for, each with what its file imports."""
     text = contract(*call.split("::"))
-    return [text, contract("host", "Host")] if "Host>" in text[0] else [text]
+    return [text, *(contract(crate, trait) for crate, trait in TRAITS if f"{trait}>" in text[0])]
 
 
 def reached_by(call, files):

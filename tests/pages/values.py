@@ -25,6 +25,7 @@ that = CHECKS.that
 PROGRAMS = ("argon2", "scrypt")
 # Each command that takes options: a program and a subcommand.
 COMMANDS = [("argon2", ""), ("scrypt", "enc"), ("scrypt", "dec"), ("scrypt", "info")]
+ASKING = [("scrypt-ask", "enc"), ("scrypt-ask", "dec")]
 RANGES = {name: (range_, given) for name, range_, given, *_ in rows("range")}
 # The words of which zsh completes one alone.
 EXCLUDING = {"argon2": ["-i -d -id", "-k -m", "-e -r"], "scrypt": ["-P --passphrase"]}
@@ -282,9 +283,9 @@ def messages_of_pages():
         # the steps of both lists, and RFC 4648 or so, are no values
         unknown_numbers(f"docs/REFUSALS.md: numbers of {program}", normal(re.sub(r"\b[AS]\d[\d.]*\w?\b", "", part)),
                         form=r"(?<![\w.^])(?:0x\d+|\d\d+)\b(?!\.\d)")
-    lines = {"argon2: usage: ...", *(it.line for program in PROGRAMS for it in messages(program))}
+    lines = {"argon2: usage: ...", *(it.line for program in (*PROGRAMS, "scrypt-ask") for it in messages(program))}
     for file in [TOP / "README.md", *sorted((TOP / "docs").glob("*.md")), *sorted((TOP / "man").glob("*.1"))]:
-        shown = re.findall(r"^ *((?:argon2|scrypt): \S.*)$", plain(file.read_text(encoding="utf-8")), re.MULTILINE)
+        shown = re.findall(r"^ *((?:argon2|scrypt(?:-ask)?): \S.*)$", plain(file.read_text(encoding="utf-8")), re.MULTILINE)
         that(f"{file.name}: lines of the programs that are no messages", [it for it in shown if it not in lines], [])
 
 
@@ -318,14 +319,14 @@ def completed(program, *words):
               f"_{program}\n" 'printf "%s\\n" "${COMPREPLY[@]}"\n')
     file = TOP / "completions/bash" / program
     return subprocess.run(["bash", "-c", script, "bash", file, program, *words], stdout=subprocess.PIPE, stderr=subprocess.STDOUT,
-                          text=True, cwd=TOP / "python", env={"PATH": "/usr/bin:/bin", "AKEY": ""}).stdout.split()
+                          text=True, cwd=TOP / "include", env={"PATH": "/usr/bin:/bin", "AKEY": ""}).stdout.split()
 
 
 def completions_of_bash():
     if not shutil.which("bash"):
         print("bash is not installed: its completions are not looked at")
         return
-    for program, subcommand in COMMANDS:
+    for program, subcommand in (*COMMANDS, *ASKING):
         table, words = options(program, subcommand), [subcommand or "salt"]
         name = f"completions/bash/{program} {words[0]}"
         that(f"{name}: options", sorted(completed(program, *words, "-")), sorted(table))
@@ -335,12 +336,12 @@ def completions_of_bash():
                 offered = completed(program, *words, option.word, "")
                 that(f"{name} {option.word}", " ".join(offered) or None, option.offers)
     for typed, offered in (
-        ("argon2 |", ""), ("scrypt |", "enc dec info"), ("scrypt enc -P pik", "pikhsen.py"),
-        ("scrypt enc --passphrase file : pik", "pikhsen.py"), ("scrypt dec --passphrase file :", "pikhsen.py"),
+        ("argon2 |", ""), ("scrypt |", "enc dec info"), ("scrypt enc -P pik", "pikhsen.h"), ("scrypt-ask enc pik", "pikhsen.h"),
+        ("scrypt enc --passphrase file : pik", "pikhsen.h"), ("scrypt dec --passphrase file :", "pikhsen.h"),
         ("scrypt enc --passphrase env : AK", "AKEY"), ("scrypt enc --passphrase dev : |", "stdin-once"),
     ):
         that(f"bash: {typed}", completed(*typed.replace("|", "").split(" ")), offered.split())
-    for program in PROGRAMS:
+    for program in (*PROGRAMS, "scrypt-ask"):
         line = text_of(f"completions/bash/{program}").rstrip("\n").splitlines()[-1]
         that(f"bash: whose completion it is, {program}", line, f"complete -F _{program} {program}")
 
@@ -385,6 +386,26 @@ def option_of_zsh(name, option, equals, _, called, offered):
         that(f"{name}: its range", [it for it in RANGE.findall(called) if it != option.range], [])
         values = option.offers.split() if option.word == "--keep" else []
         that(f"{name}: what is offered", re.findall(r"\d+", offered), values)
+
+
+def asking():
+    """scrypt-ask takes the options of scrypt but the source of the passphrase, and its lines and the costs that it chooses are
+    those of its page; zsh and README have these costs, too."""
+    script, page, table = text_of("packaging/scrypt-ask"), plain(text_of("man/scrypt-ask.1")), options("scrypt-ask")
+    of_scrypt = sorted({*options("scrypt")} - {"-P", "--passphrase"})
+    taken = [word for line in script.splitlines() if "takes=value" in line for word in re.findall(r"option:(-[\w-]+)", line)]
+    that("packaging/scrypt-ask: options with a value", (sorted(taken), sorted(table)), (of_scrypt, of_scrypt))
+    lines = sorted(it.line for it in messages("scrypt-ask"))
+    said = {f"scrypt-ask: {one or other}" for one, other in re.findall(r"fail (?:'([^']*)'|\"([^\"]*)\")", script)}
+    that("packaging/scrypt-ask: its lines", sorted(it.replace("$name", "FOLDER") for it in said), lines)
+    shown = re.findall(r"^scrypt-ask: .*$", page.partition("\n.SH DIAGNOSTICS\n")[2], re.MULTILINE)
+    that("man/scrypt-ask.1: its lines", sorted(shown), lines)
+    costs = " ".join(f"{it} {table[it].default}" for it in ("--logN", "-r", "-p"))
+    told = found(r"set -- (--logN .*) \"\$@\"$", script), found(r"no costs, they are\n(.*):$", page)
+    remembered = found(r"passphrase that you remember\*\*: `(.*?)`", text_of("README.md"))
+    that("costs for a typed passphrase", (*told, remembered), (costs,) * 3)
+    given = found(r"\(@\)costs/(default .*)\}", text_of("completions/zsh/_scrypt"))
+    that("zsh: costs of scrypt-ask", given, f"default {options('scrypt')['--logN'].default}/default {table['--logN'].default}")
 
 
 def library():
@@ -441,7 +462,7 @@ def main():
     for program in PROGRAMS:
         manual_page(program)
         messages_of_sources(program)
-    for of_others in (messages_of_pages, ranges_of_pages, completions_of_bash, completions_of_zsh, module, library):
+    for of_others in (messages_of_pages, ranges_of_pages, completions_of_bash, completions_of_zsh, asking, module, library):
         of_others()
     that("figures of the manual pages: each item's numbers, in their order", made, rows("figures"))
     CHECKS.end()

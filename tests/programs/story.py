@@ -5,7 +5,7 @@ examples of both manual pages, in each shell that they are for, also where a com
 wrong, and the stored text is empty; and what checks a stored text in Python, where the library is built.
 
     tests/programs/story.py FOLDER               in which the programs argon2 and scrypt lie
-    tests/programs/story.py --recipes FOLDER     the first screen, what is typed, and the examples of argon2's page, alone
+    tests/programs/story.py --recipes FOLDER     the first screen and the examples of argon2's page, alone
     tests/programs/story.py --prove              proves, builds and runs that Rust program over the crates (some minutes)
 """
 import os
@@ -72,37 +72,6 @@ class Shell:
         self.expect(name, found, (0, expected))
 
 
-def typed_passphrases(shell, encrypt, decrypt):
-    """What encrypts a text under a passphrase that is typed twice, and what decrypts the file. A file gets its name only
-    after its whole content was written, and the shell keeps no passphrase. The costs are those for such a passphrase;
-    what runs here has a smaller table."""
-    expect = shell.expect
-    recommended = re.findall(r"passphrase that you remember\*\*: `(.*?)`", README)
-    expect("the costs of what is typed", re.findall(r"--logN.*-p \d+", encrypt), recommended)
-    encrypt = encrypt.replace("--logN 20", "--logN 10")
-    (text, part), (of_file, text_part) = (re.search(r"-P ([\w.]+) ([\w.]+)", it).groups() for it in (encrypt, decrypt))
-    file, said = re.search(r"mv \S+ (\S+)", encrypt)[1], re.search(r"echo '(.*)' >&2", encrypt)[1]
-    once, twice, words = "Passphrase: \n", "Passphrase: \nThe same again: \n", b" wor\\ds of  ours \n"
-    shell.run(f"echo Dear >{text}; cp {text} kept; rm -f {file} {part}")
-    expect("the file that is made, and the one that is opened", of_file, file)
-    left = f's=$?; ls {file} {part} 2>/dev/null; echo "<$typed$again>"; exit $s'
-    for name, given in (("other words", b"words\nwords.\n"), ("the same and more", b"words\nwords \n"), ("an empty line", b"\n\n"),
-                        ("words and an empty line", b"words\n\n"), ("words once", b"words\n"), ("nothing", b"")):
-        expect(f"typed twice, {name}", shell.run(encrypt + left, given), (1, f"{twice}{said}\n<>\n"))
-    broken = f"scrypt() {{ echo begun >{part}; return 1; }}\n"
-    expect("typed twice, a run that breaks off", shell.run(broken + encrypt + left, words * 2), (1, f"{twice}{part}\n<>\n"))
-    expect("typed twice", shell.run(encrypt + left, words * 2), (0, f"{twice}{file}\n<>\n"))
-    status, said = shell.run(f"cp {file} made; rm {text}\n{encrypt}s=$?; cmp {file} made; exit $s", words * 2)
-    expect("typed twice, and no text: the file stays", (status, "cannot be opened" in said, "differ" in said), (1, True, False))
-    expect("typed to open it", shell.run(f"{decrypt}cmp {text} kept", words), (0, once))
-    for name, given in (("other words", b"words\n"), ("nothing", b"")):
-        found = shell.run(f"{decrypt}s=$?; cmp {text} kept; exit $s", given)
-        expect(f"typed to open it, {name}: the text stays", found, (1, f"{once}scrypt: wrong passphrase\n"))
-    found = shell.run(f"head -c 130 made >{file}\n{decrypt}s=$?; cmp {text} kept; exit $s", words)
-    expect("typed to open it, damaged: the text stays", found, (1, f"{once}scrypt: input is damaged or cut short\n"))
-    shell.run(f"mv made {file}; rm -f {part} {text_part} kept")
-
-
 def in_shells(checks, programs, names, page, run):
     """Runs what is for these shells in each, in an empty folder."""
     for name in names:
@@ -126,7 +95,7 @@ def costs_timed(shell, loop):
 
 
 def scrypt_examples(shell):
-    backup, look, opened, whole, again, typed, typed_again, small, keep = examples("scrypt.1")
+    backup, look, opened, whole, again, _, small, keep = examples("scrypt.1")
     guard_of_a_file, guard = examples("scrypt.1", "SECURITY")
     (costs,) = examples("scrypt.1", "COSTS")
     expect = shell.expect
@@ -156,9 +125,7 @@ def scrypt_examples(shell):
     expect("with it", shell.run(whole[0].replace("backup-key", "new-key")), (0, "whole\n"))
     expect("without it", shell.run(whole[0]), (1, "scrypt: wrong passphrase\n"))
     expect("no text was left", shell.run("ls")[1].split(), ["backup-key", "cut", "letters", "letters.enc", "letters.tar", "new-key"])
-    shell.run("cp letters.tar saved")
-    typed_passphrases(shell, typed[0], typed_again[0])
-    shell.run("mv saved letters.tar; echo Dear >in")
+    shell.run("echo Dear >in")
     for held in ("", r"\n", r"\nwords", r"\r\n", r"\rwords", r"\0", r"\0\0\n"):
         for name, of, given in (("a file", guard_of_a_file, f"printf '{held}' >key"), ("a command", guard, f"pass() {{ printf '{held}'; }}")):
             found = shell.run(f"{given}; {of[0]}s=$?; ls out; exit $s")
@@ -262,8 +229,6 @@ def first_screen(shell):
 
 def compare_recipes(checks, programs):
     in_shells(checks, programs, ("bash", "zsh"), "README.md", first_screen)
-    typed = blocks_of_readme("Typing a passphrase")
-    in_shells(checks, programs, ("bash", "zsh"), "README.md", lambda shell: typed_passphrases(shell, *typed))
     in_shells(checks, programs, ("bash", "dash", "zsh"), "argon2.1", argon2_examples)
 
 
