@@ -11,7 +11,7 @@ CPU ?= $(lastword $(LEVELS))
 
 .DELETE_ON_ERROR:
 .NOTPARALLEL:
-.PHONY: help run lib check test audit map doc reading install prefix uninstall deb bench clean
+.PHONY: help run lib check test audit map doc reading install prefix uninstall deb wheel bench clean
 
 help: ## prints these lines
 	@sed -n 's/^\([a-z]*\):.*## /make \1\t/p' Makefile | expand -t 16
@@ -74,6 +74,10 @@ HIGHER := $(if $(filter file,$(origin CPU)),,$(filter-out x86-64-v2,$(CPU)))
 deb: bin/x86-64-v2/argon2 bin/x86-64-v2/scrypt $(HIGHER:%=bin/%/argon2) $(HIGHER:%=bin/%/scrypt) bin/lib/libpikhsen.so.0 ## makes packages for Debian in bin/, for x86-64-v2 (CPU=x86-64-v3: also of the programs for that level)
 	@packaging/deb.sh bin/lib bin $(HIGHER)
 	@echo 'made:' bin/*pikhsen*_$$(cat VERSION)[_+]*.deb >&2
+
+wheel: bin/lib/libpikhsen.so.0 ## makes a wheel for pip in bin/: the module with its library
+	@packaging/wheel.sh bin/lib bin
+	@echo 'made:' bin/pikhsen-*.whl >&2
 
 bench: $(LEVELS:%=bin/%/argon2) $(LEVELS:%=bin/%/scrypt) ## times the programs beside those that are installed
 	bench/table.py $(LEVELS:%=bin/%) --out $(BENCH)
