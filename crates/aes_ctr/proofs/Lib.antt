@@ -1,7 +1,6 @@
 pub mod Blocks
 pub mod Bytes
 pub mod Columns
-pub mod CounterBlock
 pub mod Doubles
 pub mod Held
 pub mod Keys

@@ -1,4 +1,2 @@
 -- Lemmas, by topic.
 pub mod Arguments
-pub mod WideCosts
-pub mod WordsOfClap

@@ -2,10 +2,20 @@ use Rattle.std.proofs.Common.{◌≡◌, ℕ, ◌+◌, List, [], length, take, l
 use Rattle.std.proofs.lemmas.List.Folds.{length-flat_map-take}
 use Rattle.std.specs.Borrow.{Bor}
 use Rattle.byteorder.specs.Endian.{little_bytes}
-use Rattle.blake.specs.State.{message_len}
+use Rattle.blake.specs.State.{message_len, Holds, output_len}
 use Rattle.blake.specs.LongHash.{joined}
-use Rattle.blake.proofs.Holding.{message_len-Holds, output_len-Holds}
+use Rattle.blake.specs.declared.hasher.Blake2b.{Blake2b}
 use Rattle.blake.proofs.variable_length.write_hash_of_parts.Goals as goal
+
+-- the hash will have as many bytes as the relation says
+output_len-Holds : (n : ℕ) (s : Blake2b) (m : List ℕ) → Holds n s m → output_len s ≡ n
+unfolding Holds
+output_len-Holds n s m holds = holds.0
+
+-- as many bytes were handed in as the message has
+message_len-Holds : (n : ℕ) (s : Blake2b) (m : List ℕ) → Holds n s m → message_len s ≡ length m
+unfolding Holds
+message_len-Holds n s m holds = holds.1
 
 pub update-requires-in-loop-part : goal.update-requires-in-loop-part
 update-requires-in-loop-part c =

@@ -1,2 +1,0 @@
--- The line of a refusal.
-mod Ends
