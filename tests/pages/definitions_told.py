@@ -32,7 +32,7 @@ Which equation of `src/vectors.rt` reaches each definition that these contracts 
 
 The value of an equation comes from outside. It reaches the definitions that its text names, and those that these name. Of
 several equations the page names the one that reaches the fewest. **To be reached is not to be tested**: the checker computes of
-a definition only what the value needs, of cases those that are taken. So `links` may be wrong and `long_hash_of_32_bytes` hold,
+a definition only what the value needs, of cases those that are taken. So `links` may be wrong and the hash of 32 bytes hold,
 since a hash of 32 bytes has no links. What an equation tests is seen where it refused a wrong definition: the last column names
 it, and crates/*/wrong-definitions/ has the edit.
 

@@ -16,16 +16,13 @@ ghost use Rattle.scrypt_run.specs.Steps.{after_passing, after_reading, passphras
 ghost use Rattle.scrypt_run.specs.Vectors.{costs_shown, encryption_shown, task_shown};
 ghost use Rattle.scrypt_request.specs.declared.refusal.ScryptRefusal.{ScryptRefusal};
 
-// The line of log2 N 4, r 1 and p 1: 128 * 16 bytes, and 4 * 16 cores.
-fn line_of_small_costs()
-    ensures line { costs_line (record { log_n = 4; r = 1; p = 1 })
+// 128 * N * r bytes and 4 * N * r * p cores, also where the costs are those of a header.
+fn costs_lines()
+    ensures of_small_costs { costs_line (record { log_n = 4; r = 1; p = 1 })
         ≡ codes "N = 16; r = 1; p = 1; memory = 2048; cores = 64\n" }
-{}
-
-// The line of log2 N 14, r 8 and p 2: 128 * 16,384 * 8 bytes, and 4 * 16,384 * 8 * 2 cores.
-fn line_of_large_costs()
-    ensures line { costs_line (record { log_n = 14; r = 8; p = 2 })
+    ensures of_large_costs { costs_line (record { log_n = 14; r = 8; p = 2 })
         ≡ codes "N = 16384; r = 8; p = 2; memory = 16777216; cores = 1048576\n" }
+    ensures of_an_input { line_due (record host_shown { input = costs_shown }) ≡ codes "N = 32; r = 1; p = 2; memory = 4096; cores = 256\n" }
 {}
 
 // The passphrase ends before the first LF or CR; a file may have neither, or nothing before it.
@@ -98,11 +95,6 @@ fn first_lines_of_sources()
 // A file that is read is tested by its own bytes.
 fn refusal_of_a_short_input()
     ensures short { limits_refusal_of (task_shown 1 2048 64) host_shown ≡ Some NotScryptData }
-{}
-
-// The line of a file is that of its header: log2 N 5, r 1 and p 2 are 4,096 bytes and 256 cores.
-fn line_of_an_input()
-    ensures line { line_due (record host_shown { input = costs_shown }) ≡ codes "N = 32; r = 1; p = 2; memory = 4096; cores = 256\n" }
 {}
 
 // The cores of a file are those of its header, a new file's those that are asked for, and `info` has none.
