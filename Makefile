@@ -16,7 +16,7 @@ CPU ?= $(lastword $(LEVELS))
 help: ## prints these lines
 	@sed -n 's/^\([a-z]*\):.*## /make \1\t/p' Makefile | expand -t 16
 
-run: bin/$(CPU)/argon2 bin/$(CPU)/scrypt ## proves and builds bin/argon2 and bin/scrypt (CPU=x86-64-v2 or x86-64-v3), then a first run
+run: bin/$(CPU)/argon2 bin/$(CPU)/scrypt ## proves and builds bin/argon2 and bin/scrypt; then a first run
 	@packaging/chosen.sh $(CPU)
 	@echo 'bin/argon2 and bin/scrypt are proved, and built for processors of the level $(CPU) and above.' >&2
 	@printf password | bin/argon2 somesalt -d -t 1 -k 8 -e
@@ -25,53 +25,53 @@ run: bin/$(CPU)/argon2 bin/$(CPU)/scrypt ## proves and builds bin/argon2 and bin
 bin/%/argon2 bin/%/scrypt: $(SOURCES)
 	@packaging/build.sh $*
 
-lib: bin/lib/libpikhsen.so.0 ## proves and builds the library for C, bin/lib/libpikhsen.a and libpikhsen.so.0, for all levels of this machine
+lib: bin/lib/libpikhsen.so.0 ## proves and builds the library for C, in bin/lib/
 	@echo 'bin/lib/libpikhsen.a and bin/lib/libpikhsen.so.0 are proved, and built for: $(LEVELS).' >&2
 
 bin/lib/libpikhsen.so.0: $(SOURCES) packaging/lib.sh packaging/pikhsen.map
 	@packaging/lib.sh bin/lib $(filter-out x86-64-v2,$(LEVELS)) x86-64-v2
 
-check: ## proves what differs from the last commit and what stands on it, and runs the tests of the crates that changed
+check: ## proves and tests what differs from the last commit
 	tests/build/changed.py
 
 # What was built for another level is tested, too, and built anew before, if the sources changed.
-test: $(filter bin/x86-64-v3/%,$(wildcard $(LEVELS:%=bin/%/scrypt))) ## the gate: proofs, tests, wrong bodies, definitions and lines that are new or in turn, the built programs
+test: $(filter bin/x86-64-v3/%,$(wildcard $(LEVELS:%=bin/%/scrypt))) ## the gate: proofs, tests, wrong bodies, the built programs
 	@rm -rf bin/rooms && mkdir -p bin && printf '# begun:\t%s\n' $$(date +%s) >bin/gate.tsv
 	@$(MAKE) --no-print-directory -f tests/build/gate.mk -j -O gate LEVELS='$(LEVELS)'
 
 # A wrong line may need the programs or the library to be found. docs/audit says of which commit the last audit was.
-audit: bin/x86-64-v2/scrypt bin/lib/libpikhsen.so.0 ## tries each wrong body, wrong definition and wrong line, and writes the commit into docs/audit
+audit: bin/x86-64-v2/scrypt bin/lib/libpikhsen.so.0 ## tries each wrong body, definition and line, for docs/audit
 	@tests/edits/choice.py >bin/audit
 	tests/edits/wrong_lines.py --audit
 	tests/edits/refusals.py --audit
 	@tests/edits/choice.py | cmp - bin/audit && mv bin/audit docs/audit
 
-map: ## draws docs/proof-map.svg and docs/proof-map-small.svg anew: which promise stands on what
+map: ## draws docs/proof-map.svg and docs/proof-map-small.svg
 	tests/pages/proof_map.py docs/proof-map.svg docs/proof-map-small.svg
 
-doc: ## writes bin/doc/index.html: the public items of each crate, with their comments and clauses
+doc: ## writes bin/doc/index.html: the public items of each crate
 	packaging/doc.py
 
-reading: ## makes bin/reading/: what a reader has to judge to believe a call, to be printed and signed (CALL=command::scrypt; both commands), and VECTORS.md
+reading: ## makes bin/reading/: what a reader has to judge (CALL=CRATE::NAME)
 	tests/pages/reading_page.py $(CALL)
 	tests/pages/definitions_told.py
 
 # By the environment, since a prefix may have any sign in it. The script looks at PREFIX itself before it touches anything,
 # and before programs are built.
 install uninstall: export PREFIX := $(PREFIX)
-install: | prefix bin/argon2 bin/scrypt ## puts what was built, with pages, completions and documents, below PREFIX
+install: | prefix bin/argon2 bin/scrypt ## installs programs, pages and completions below PREFIX
 	@PIKHSEN_SAY=1 packaging/install.sh install "$$DESTDIR$$PREFIX" bin $(patsubst %/libpikhsen.a,%,$(wildcard bin/lib/libpikhsen.a)) >&2
 	@echo "argon2 and scrypt are built for $$(cat bin/level)" >&2
 
 prefix:
 	@packaging/install.sh check "$$DESTDIR$$PREFIX"
 
-uninstall: ## takes away what make install put below PREFIX, and has not been changed since
+uninstall: ## removes what make install installed, unless it was changed
 	@packaging/install.sh uninstall "$$DESTDIR$$PREFIX"
 
 # The level for which one more package of the programs is made: CPU, where it is given.
 HIGHER := $(if $(filter file,$(origin CPU)),,$(filter-out x86-64-v2,$(CPU)))
-deb: bin/x86-64-v2/argon2 bin/x86-64-v2/scrypt $(HIGHER:%=bin/%/argon2) $(HIGHER:%=bin/%/scrypt) bin/lib/libpikhsen.so.0 ## makes packages for Debian in bin/, for x86-64-v2 (CPU=x86-64-v3: also of the programs for that level)
+deb: bin/x86-64-v2/argon2 bin/x86-64-v2/scrypt $(HIGHER:%=bin/%/argon2) $(HIGHER:%=bin/%/scrypt) bin/lib/libpikhsen.so.0 ## makes packages for Debian in bin/ (CPU=x86-64-v3: one more)
 	@packaging/deb.sh bin/lib bin $(HIGHER)
 	@echo 'made:' bin/*pikhsen*_$$(cat VERSION)[_+]*.deb >&2
 
@@ -83,7 +83,7 @@ bench: $(LEVELS:%=bin/%/argon2) $(LEVELS:%=bin/%/scrypt) ## times the programs b
 	bench/table.py $(LEVELS:%=bin/%) --out $(BENCH)
 	bench/logins.py
 
-clean: ## takes away bin/ and all kept proofs: the next build proves everything again
+clean: ## removes bin/ and all kept proofs
 	rm -rf bin crates/*/out
 
 bin/argon2 bin/scrypt &:
