@@ -52,7 +52,7 @@ map: ## draws docs/proof-map.svg and docs/proof-map-small.svg
 doc: ## writes bin/doc/index.html: the public items of each crate
 	packaging/doc.py
 
-reading: ## makes bin/reading/: what a reader has to judge (CALL=CRATE::NAME)
+reading: ## makes bin/reading/: what a reader must judge (CALL=CRATE::NAME)
 	tests/pages/reading_page.py $(CALL)
 	tests/pages/definitions_told.py
 

@@ -26,7 +26,8 @@ ROWS = [
     ("OpenSSL, -r 8 -p 1, --logN", "17", "OpenSSL: key, N = 2^17"),
 ]
 LEVELS = [("x86-64-v2", "v2", 1), ("x86-64-v3", "v3", 14)]
-LEFT, SCALE, STEP, TOP = 250, 360, 32, 84
+LIBRARIES = ("libsodium", "OpenSSL")  # not Debian's programs: they stand apart
+LEFT, SCALE, STEP, TOP, GAP = 250, 360, 32, 84, 16
 SECONDS = LEFT + int(1.45 * SCALE)
 WIDTH = SECONDS + 190
 # Colours for a light page and for a dark one: page, text, soft text, grid, v2, v3, Debian's.
@@ -79,7 +80,7 @@ def drawn(path):
     """The picture of a table."""
     title, found = read(path)
     rows = [row for row in ROWS if any((*row[:2], level) in found for level, _, _ in LEVELS)]
-    height = TOP + STEP * len(rows) + 34
+    height = TOP + STEP * len(rows) + GAP * any(row[0].startswith(LIBRARIES) for row in rows) + 34
     machine, *_, day, _ = title.split("; ")
     parts = [
         f'<svg xmlns="http://www.w3.org/2000/svg" viewBox="0 0 {WIDTH} {height}" width="{WIDTH}" height="{height}">',
@@ -94,7 +95,7 @@ def drawn(path):
     for part in (0, 0.25, 0.5, 0.75, 1.25):
         parts.append(line(part, "grid", f"{part:g}", height))
     for number, (work, size, said) in enumerate(rows):
-        y = TOP + STEP * number
+        y = TOP + STEP * number + GAP * work.startswith(LIBRARIES)
         parts.append(f'<text x="{LEFT - 10}" y="{y + 18}" text-anchor="end">{said}</text>')
         for level, kind, below in LEVELS:
             row = found.get((work, size, level))

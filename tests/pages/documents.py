@@ -117,7 +117,7 @@ for document, text in TEXTS.items():
             expect(anchor in anchors(target.read_text(encoding="utf-8")), document, f"the link to {path}#{anchor}")
 
 # Figures of speed, each sentence as docs/benchmarks.tsv gives it, and some as docs/measured.tsv does.
-MEASURED, KEY, LIBRARIES = pages.PRINTED, "key, -r 8 -p 1, --logN", ("libsodium", "OpenSSL")
+MEASURED, KEY, LIBRARIES = pages.PRINTED, "key, -r 8 -p 1, --logN", ratios.LIBRARIES
 kept = {row[:2]: (float(row[2]), float(row[3])) for row in map(tuple, pages.rows("measured.tsv", "keep"))}
 # What huge pages take off the time of a work, in percent, at the levels, the least first.
 off = {work: "{} to {} percent off".format(*sorted(round(100 - 100 * float(with_huge) / float(plain))

@@ -33,8 +33,10 @@ def rows(name, kind):
 
 
 def table(head, lines):
+    """A table; a column that has numbers alone stands to the right."""
     shown = ["|" + "".join(f" {it} |" if it else " |" for it in cells) + "\n" for cells in (head, *lines)]
-    return shown[0] + "|" + "---|" * len(head) + "\n" + "".join(shown[1:])
+    sides = ["---:|" if all(re.fullmatch(r"[\d.,^/ ]*\d", it) for it in column) else "---|" for column in zip(*lines)]
+    return shown[0] + "|" + "".join(sides) + "\n" + "".join(shown[1:])
 
 
 def as_read(number):

@@ -57,8 +57,10 @@ def wrapped(text, width, size=11.5, fixed=False):
 
 
 class Picture:
-    def __init__(self, width, title):
-        self.boxes, self.texts, self.arrows, self.width, self.title = {}, [], [], width, title
+    """A picture, which is shown this many times as large as it is drawn."""
+
+    def __init__(self, width, title, times=1):
+        self.boxes, self.texts, self.arrows, self.width, self.title, self.times = {}, [], [], width, title, times
 
     def text(self, x, y, lines, kind="text", step=14):
         """Lines from this y on; the y after them."""
@@ -111,9 +113,9 @@ class Picture:
         self.arrows.append(f'<path class="way" d="{path}" marker-end="url(#head)"><title>{start} stands on {end}</title></path>')
 
     def svg(self, height):
-        size = f'width="{self.width}" height="{height}"'
+        size, shown = (f'width="{self.width * times:.0f}" height="{height * times:.0f}"' for times in (1, self.times))
         return "\n".join([
-            f'<svg xmlns="http://www.w3.org/2000/svg" viewBox="0 0 {self.width} {height}" {size}>',
+            f'<svg xmlns="http://www.w3.org/2000/svg" viewBox="0 0 {self.width} {height}" {shown}>',
             f"<title>{self.title}</title><style>{STYLE}</style>",
             '<defs><marker id="head" markerWidth="8" markerHeight="8" refX="7" refY="4" orient="auto">'
             '<path class="head" d="M0 0 L8 4 L0 8z"/></marker></defs>',
@@ -207,14 +209,15 @@ def misplaced():
     return [f"the small picture: {it}" for it in wrong]
 
 
-SMALL_WIDTH, SMALL_COLUMNS = 960, [(20, 250), (286, 388), (690, 250)]
+# Its type, of 11.5, is shown as one of 14.
+SMALL_WIDTH, SMALL_COLUMNS, SMALL_TIMES = 788, [(14, 244), (270, 248), (530, 244)], 960 / 788
 
 
 def small():
     """The small picture, and what is wrong with the places of its boxes."""
-    picture = Picture(SMALL_WIDTH, "Which crate stands on which, under the headline and over what is trusted")
+    picture = Picture(SMALL_WIDTH, "Which crate stands on which, under the headline and over what is trusted", SMALL_TIMES)
     quoted = plain(" ".join(re.findall(r"^> (.*)$", read("README.md").split("\n# Using the programs\n")[0], re.MULTILINE)))
-    y = picture.box("Proved", "The headline", 20, 12, SMALL_WIDTH - 40, "", [(quoted, [])], kind="mark") + 32
+    y = picture.box("Proved", "The headline", 14, 12, SMALL_WIDTH - 28, "", [(quoted, [])], kind="mark") + 32
     for (x, width), title in zip(SMALL_COLUMNS, ("argon2", "both", "scrypt")):
         picture.texts.append(f'<text x="{x + width // 2}" y="{y - 10}" class="name" text-anchor="middle">{title}</text>')
     for row in SMALL:
@@ -230,9 +233,10 @@ def small():
                 if max(width_of(crate, 12.5, bold=True), width_of(words, 10.5)) > wide - 6:
                     raise SystemExit(f"the small picture: the words of {crate} are wider than its box")
         y += 50
-    note = "A crate uses only crates below it: of its own column or the middle one; a crate of the middle, of any."
-    y = picture.text(20, y + 12, [note], "soft") + 2
-    end = picture.box("Trusted", "What no proof shows", 20, y, SMALL_WIDTH - 40, "", trusted(), (), "trusted", 2)
+    note = "A crate uses only crates below it: of its own column or the middle one; a crate of the middle, of any. " \
+           "What has a dashed edge is trusted, and not proved."
+    y = picture.text(14, y + 12, wrapped(note, SMALL_WIDTH - 28, 10.5), "soft") + 2
+    end = picture.box("Trusted", "What no proof shows", 14, y, SMALL_WIDTH - 28, "", trusted(), (), "trusted", 2)
     return picture.svg(end + 12), misplaced()
 
 
