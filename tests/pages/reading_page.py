@@ -5,7 +5,7 @@ the laws of them, the types that they name, and what the notation and the words 
     tests/pages/reading_page.py [CALL..]   writes bin/reading/NAME.html, with the text of the toolchain's own definitions where the
                                      toolchain's sources are, and NAME.pdf where a program that makes one is installed
 
-A call is written CRATE::FUNCTION; without one both commands are meant. tests/pages/reading.py says what a contract reaches;
+A call is written CRATE::FUNCTION; without one `run` of both programs is meant. tests/pages/reading.py says what a contract reaches;
 docs/notation.tsv and docs/words.tsv say what notation and words mean.
 """
 import functools
@@ -24,7 +24,7 @@ import reading
 import reading_kit
 from reading import CRATES, TOP
 
-COMMANDS = {"command::scrypt": "scrypt", "command::argon2": "argon2"}
+PROGRAMS = {"scrypt_tool::run": "scrypt", "argon_tool::run": "argon2"}
 CLAUSE = re.compile(r"^\s+(requires|ensures)\*? (\w+) \{ ?(.*)$")
 TOKEN = re.compile(r"(\s+|[(){}\[\],;.])")
 DECLARED = re.compile(r"use (Rattle\.(\w+)\.specs\.declared\.([a-z_0-9.]*)\.?([A-Z]\w*)[\w.]*?)(?:\.\{([^}]*)\}| as (\w+))?;?$", re.M)
@@ -39,10 +39,18 @@ PRINTERS = {
     "weasyprint": "{page} {out}",
     **dict.fromkeys(("soffice", "libreoffice"), "--headless --convert-to pdf --outdir {folder} {page}"),
 }
-ON_HOSTS = """<p>The built programs run over a host of the crate <code>tools</code>, <code>SystemHost</code>, which tells what
+# What a contract over a trait leaves open.
+OVER = {
+    "Host": """<p>The built programs run over a host of the crate <code>tools</code>, <code>SystemHost</code>, which tells what
 the system below it tells: the contract of <code>run</code> of their crates says the clauses above of every system that tells its
-bytes. Of Linux no contract knows a byte, so that it is such a system is trusted and tested. Contracts do not see the heap: nothing
-here promises that a run does not end with the refusal of memory, and nothing that salts cannot be guessed.</p>
+bytes. Of Linux no contract knows a byte, so that it is such a system is trusted and tested.</p>
+""",
+    "System": """<p><code>main</code> passes the system itself, <code>Real</code> of the crate <code>system_calls</code>, of which no
+contract knows a byte: that it does what a system that tells its bytes must do is trusted and tested.</p>
+""",
+}
+ON_HEAP = """<p>Contracts do not see the heap: nothing here promises that a run does not end with the refusal of memory, and
+nothing that salts cannot be guessed.</p>
 """
 FRAME = """<!DOCTYPE html>
 <html lang=en><meta charset=utf-8><meta name=viewport content="width=device-width"><title>$title</title>
@@ -104,9 +112,9 @@ def parted(text):
 
 
 @functools.lru_cache(maxsize=None)
-def source_of(text):
-    """The file of sources in which a contract stands, its text, and the comment above the contract."""
-    for path in sorted(CRATES.glob("*/src/**/*.rt")):
+def source_of(text, crate):
+    """The file of sources in which a contract stands, of this crate if it is there, its text, and the comment above the contract."""
+    for path in [*sorted(CRATES.glob(f"{crate}/src/**/*.rt")), *sorted(CRATES.glob("*/src/**/*.rt"))]:
         whole = path.read_text(encoding="utf-8")
         if text in whole:
             above = re.search(r"(?:^ *(?://|#\[).*\n)*\Z", whole[:whole.index(text)].rstrip("\n") + "\n", re.MULTILINE)[0].splitlines()
@@ -172,6 +180,7 @@ class Page:
 
     def __init__(self, call, whole=False):
         self.call, self.whole, self.files = call, whole, reading.all_files()
+        self.crate, self.name = call.split("::")
         self.reach = reading_kit.Reach(reading.all_files()) if whole else None
         self.texts, self.items = reading.texts_of(call), reading.reached_by(call, self.files)
         self.laws = list(self.laws_of())
@@ -192,7 +201,7 @@ class Page:
                 names = reading.imports(text)
                 cited = [*reading.cited(found[0], names, self.files)]
                 if cited and all(it in known or it[0].endswith(".Laws") for it in cited) and known & {*cited}:
-                    yield found[3], found[0], names, source_of(found[0])[2], f"{path.parts[-3]}::laws"
+                    yield found[3], found[0], names, source_of(found[0], path.parts[-3])[2], f"{path.parts[-3]}::laws"
 
     def kit_words(self):
         """The names of the toolchain's definitions, but for its standard library's, that are cited here."""
@@ -242,12 +251,12 @@ class Page:
 
     def linker(self, text, names):
         """How the code of this contract gets its links: by what its file imports."""
-        types, standard = of_file(source_of(text)[1])
+        types, standard = of_file(source_of(text, self.crate)[1])
         return functools.partial(self.linked, names=names, module=None, types=types, standard=standard)
 
     def function(self, name, text, names):
         """A contract: the comment of the function, its head and each clause; of a trait, those of each method."""
-        path, _, note = source_of(text)
+        path, _, note = source_of(text, self.crate)
         made = f"<h3><code>{escape(name)}</code></h3><p class=s>{path.relative_to(TOP)}</p>{paragraphs(note)}"
         for lines in methods(text.split("\n")):
             first = next(at for at, line in enumerate(lines) if not re.match(r"\s*//", line))
@@ -333,9 +342,11 @@ class Page:
 
     def made(self):
         """The page as HTML."""
-        names = [self.call.split("::")[1], "Host (the trait)"][:len(self.texts)]
+        traits = [trait for _, trait in reading.TRAITS if f"{trait}>" in self.texts[0][0]]
+        names = [self.name, *(f"{trait} (the trait)" for trait in traits)]
         contracts = "".join(self.function(name, *text) for name, text in zip(names, self.texts))
-        self.section(f"The contract of {names[0]}", contracts + ON_HOSTS * (len(names) > 1), "".join(text for text, _ in self.texts))
+        open_ = "".join(OVER[trait] + ON_HEAP for trait in traits)
+        self.section(f"The contract of {self.name}", contracts + open_, "".join(text for text, _ in self.texts))
         self.section("Notation", "<p>Definitions are written in antt, the language of the toolchain's proofs. They are functions on "
                      "lists of numbers, and statements; nothing of them is run by the program.</p>"
                      + listed(meanings("notation.tsv").items()))
@@ -351,7 +362,7 @@ class Page:
         standards, pages = self.standards()
         frame = string.Template(FRAME)
         return frame.substitute(
-            title=f"What {names[0]} is proved to do", version=(TOP / "VERSION").read_text(encoding="utf-8").strip(), call=self.call,
+            title=f"What {PROGRAMS.get(self.call, self.name)} is proved to do", version=(TOP / "VERSION").read_text(encoding="utf-8").strip(), call=self.call,
             count=count, files=files, lines=lines, standards=standards, pages=pages, names=self.index(),
             sum=hashlib.sha256("".join(text for _, _, text in self.sections).encode()).hexdigest()[:16],
             contents="".join(f"<li><a href=#s{at}>{escape(name, False)}</a></li>\n" for at, (name, _, _) in enumerate(self.sections, 1)),
@@ -415,10 +426,10 @@ def unknown(calls):
 def main():
     folder = TOP / "bin" / "reading"
     folder.mkdir(parents=True, exist_ok=True)
-    for call in sys.argv[1:] or COMMANDS:
+    for call in sys.argv[1:] or PROGRAMS:
         if call.count("::") != 1:
-            sys.exit(f"{call}: a call is written CRATE::FUNCTION, as command::scrypt")
-        page = folder / f"{COMMANDS.get(call, call.replace('::', '_'))}.html"
+            sys.exit(f"{call}: a call is written CRATE::FUNCTION, as argon_text::verify")
+        page = folder / f"{PROGRAMS.get(call, call.replace('::', '_'))}.html"
         page.write_text(Page(call, whole=True).made(), encoding="utf-8")
         kit = "" if reading_kit.folder() else ", without the text of the toolchain's definitions, whose sources are not here"
         print(f"{page.relative_to(TOP)}{kit}; {printed(page)}")
