@@ -11,6 +11,7 @@ wrong, and the stored text is empty; and what checks a stored text in Python, wh
 import os
 import pathlib
 import re
+import shlex
 import shutil
 import subprocess
 import sys
@@ -18,6 +19,7 @@ import tempfile
 
 sys.path += map(str, pathlib.Path(__file__).resolve().parents[1].iterdir())  # the other folders of tests/
 from checking import Checks
+from scrypt_ask import AGAIN, ASKED, CHEAP, Terminal
 
 TOP = pathlib.Path(__file__).resolve().parents[2]
 README = (TOP / "README.md").read_text(encoding="utf-8")
@@ -30,7 +32,8 @@ def story():
     """The commands below the heading "A story", in their order, each with what it prints."""
     section = README.split("\n## A story\n")[1].split("\n## ")[0]
     lines = "".join(f"{line}\n" for line in re.findall(r"^    (.*)$", section, re.MULTILINE))
-    return re.findall(r"^\$ (.*)\n((?:(?!\$ ).*\n)*)", lines, re.MULTILINE)
+    found = re.findall(r"^\$ (.*\n(?:> .*\n)*)((?:(?!\$ ).*\n)*)", lines, re.MULTILINE)
+    return [(command.rstrip("\n").replace("\n> ", "\n"), answer) for command, answer in found]
 
 
 def examples(page, heading="EXAMPLES"):
@@ -54,7 +57,8 @@ class Shell:
 
     def __init__(self, checks, name, programs, room, page="README"):
         self.checks, self.name, self.room, self.page = checks, name, pathlib.Path(room), page.removesuffix(".md")
-        self.environment = {**os.environ, "PATH": f"{os.path.abspath(programs)}:{os.environ['PATH']}", "LC_ALL": "C"}
+        path = f"{os.path.abspath(programs)}:{TOP}/packaging:{os.environ['PATH']}"
+        self.environment = {**os.environ, "PATH": path, "LC_ALL": "C"}
 
     def run(self, text, given=b"", **variables):
         """Status and what is printed on both streams."""
@@ -213,18 +217,19 @@ def argon2_examples(shell):
 
 
 def first_screen(shell):
-    """The commands of README's first screen, pasted as they stand into an empty folder; once more, with the same key; and
-    with an empty key, under which nothing is encrypted."""
-    first = README.partition("\n[^speed]:")[0]
-    commands = re.findall(r"^    (.*)$", first, re.MULTILINE)
-    expected = r"Dear Ada\n\$argon2id\$v=19\$m=65536,t=3,p=4\$[\w+/]+\$[\w+/]{43}\n"
-    pasted = "\n".join(commands)
-    for name, given, begin in (("", pasted, ""), (", again", f"cp key kept\n{pasted}\ncmp key kept", r"[^\n]*\bkey\b[^\n]*\n")):
-        status, said = shell.run(given)
-        found = status, re.sub(f"^{begin}{expected}$", "a text and a hash", said)
-        shell.expect(f"the first screen{name}", found, (0, "a text and a hash"))
-    status, said = shell.run(f"rm letter.scrypt; : >key\n{pasted}\nls letter.scrypt")
-    shell.expect("nothing under an empty key", (status != 0, "Dear Ada" in said), (True, False))
+    """The commands of README's first screen after the first, which installs, pasted as they stand into an empty folder; at
+    lower costs, with a passphrase typed at each question."""
+    install, *commands = re.findall(r"^    (.*)$", README.partition("\n[^speed]:")[0], re.MULTILINE)
+    pasted = "\n".join(commands).replace("scrypt-ask enc", f"scrypt-ask enc {CHEAP}")
+    terminal = Terminal(f"{shell.name} -c {shlex.quote(pasted)}", shell.room, shell.environment, os.getuid())
+    for prompt in (ASKED, AGAIN, ASKED):
+        terminal.sees(prompt)
+        terminal.types("words\n")
+    status, said, _ = terminal.ends()
+    text = re.escape(f"{ASKED}\r\n{AGAIN}\r\n{ASKED}\r\n") + r"\$argon2id\$v=19\$m=65536,t=3,p=4\$[\w+/]+\$[\w+/]{43}\r\n"
+    found = install.startswith("make run && make install "), status, re.sub(f"^{text}$", "a hash", said)
+    shell.expect("the first screen", found, (True, 0, "a hash"))
+    shell.expect("what was opened", shell.run("cat opened; cmp letter opened; cmp -s letter letter.scrypt"), (1, "Dear Ada\n"))
 
 
 def compare_recipes(checks, programs):
