@@ -1,29 +1,27 @@
 /*
  * pikhsen.h: Argon2 (RFC 9106, and its version 0x10), scrypt (RFC 7914) and scrypt's encrypted files, version 0, from
- * proved libraries. For Linux on x86-64. man 3 pikhsen tells more. The library does not look at the processor: below
- * x86-64-v2 the process may end by an illegal instruction.
+ * proved libraries. For Linux on x86-64. man 3 pikhsen says more. The library does not test the processor: below
+ * x86-64-v2 the process may end with an illegal instruction.
  *
- * What holds of every function:
+ * For every function:
  *
- *  - The answer of each but pikhsen_version is a number of enum pikhsen_status: PIKHSEN_OK where the function did
- *    what it says. After any other answer what it writes is as it was before the call, but for what stands at the
- *    function. 0 is yes: compare an answer with PIKHSEN_OK.
- *  - Bytes are a pointer and a length. A length may be 0; the pointer is then never read, and may be null. That null
- *    will do is seen, and not proved: tests/library/c_face.c calls each function so, as a slice of Go or an empty Buffer of
- *    Node passes it. A length is below 2^63. Other pointers are not null, and aligned as their types are.
- *  - MEMORY THAT A FUNCTION WRITES OVERLAPS NOTHING ELSE THAT IS PASSED TO IT, and no other thread touches it during
- *    the call. The library cannot see an overlap: it answers PIKHSEN_OK all the same, and what it wrote is wrong.
- *    What it writes need not be set before. Memory that it reads is not written during the call.
- *  - There is no state between calls: any number of threads may call at a time.
- *  - Memory is taken by malloc and realloc alone, and all of it is freed, by free, before the function returns; the
- *    three must be of one allocator. A call needs a stack of 64 KiB. It writes no file, reads no clock, starts no
- *    thread, sets no errno but by a malloc that refuses, and never ends the process.
- *  - Before a function that derives or hashes answers, it puts zeros over 32 KiB of the stack below its own frame,
- *    where its work stood, over the memory of the hash or the derivation before it is freed, and into the vector
- *    registers; this is tested, and not proved. Salt, tag and text of a hash are freed as they are. General registers
- *    may hold a piece of a key, which a later call of a function whose name is not bound yet may store: link with
- *    -z now.
- *  - Not to be called from a signal handler, nor in the forked child of a process with threads.
+ *  - Each but pikhsen_version returns a status of enum pikhsen_status. Unless it is PIKHSEN_OK, the output is
+ *    unchanged, except as noted at the function. PIKHSEN_OK is 0: compare the result with it.
+ *  - Bytes are a pointer and a length. A length is below 2^63. If it is 0, the pointer is never read, and may be null,
+ *    as an empty slice of Go or Buffer of Node has it. That null is accepted is tested (tests/library/c_face.c), not
+ *    proved. Other pointers must not be null, and must be aligned as their types are.
+ *  - MEMORY THAT A FUNCTION WRITES MUST NOT OVERLAP ANYTHING ELSE THAT IS PASSED TO IT, and no other thread may touch
+ *    it during the call. The library cannot see an overlap, and returns PIKHSEN_OK although what it wrote is wrong.
+ *    What it writes need not be set before. Memory that it reads must not be written during the call.
+ *  - No function keeps a state between calls, so any number of threads may call at the same time.
+ *  - Memory comes from malloc and realloc alone, and all of it goes to free before the function returns; the three must
+ *    be of one allocator. A call needs a stack of 64 KiB. It writes no file, reads no clock, starts no thread, sets no
+ *    errno unless malloc does, and never ends the process.
+ *  - Before a function that derives or hashes returns, it puts zeros over 32 KiB of the stack below its own frame,
+ *    where its work was, over the memory of the hash or the derivation before that is freed, and into the vector
+ *    registers; this is tested, not proved. Salt, tag and text of a hash are freed as they are. General registers may
+ *    hold a piece of a key, which a later call of a function whose name is not bound yet may store: link with -z now.
+ *  - No function may be called from a signal handler, or in the forked child of a process with threads.
  */
 #ifndef PIKHSEN_H
 #define PIKHSEN_H
@@ -34,10 +32,10 @@
 extern "C" {
 #endif
 
-/* The version of this header, as pikhsen_version() tells that of the library. */
+/* The version of this header; pikhsen_version() tells that of the library. */
 #define PIKHSEN_VERSION 100u
 
-/* At each function whose answer must be looked at; and where its n-th parameter has no length and is not null. */
+/* At each function whose result must be tested; and if its n-th parameter has no length and must not be null. */
 #ifdef __GNUC__
 #define PIKHSEN_MUST_CHECK __attribute__((__warn_unused_result__))
 #define PIKHSEN_NOT_NULL(n) __attribute__((__nonnull__(n)))
@@ -50,7 +48,7 @@ extern "C" {
 typedef unsigned long pikhsen_u64;
 typedef char pikhsen_needs_lp64[sizeof(pikhsen_u64) == 8 && sizeof(unsigned int) == 4 && sizeof(size_t) == 8 ? 1 : -1];
 
-/* What came of a call. Of several reasons to refuse, the first in the order of the function's tests is told. */
+/* The result of a call. If there are several reasons to refuse, the first in the order of the function's tests. */
 enum pikhsen_status {
 	PIKHSEN_OK = 0,                /* the call did its work */
 	PIKHSEN_PASSES = 1,            /* Argon2: passes are not 1 to 2^32-1 */
@@ -91,13 +89,13 @@ enum pikhsen_status {
 	PIKHSEN_TEXT_SALT_LENGTH = 36  /* text: its salt is not 8 to 255 bytes long */
 };
 
-/* Bytes in which every sentence of pikhsen_message, and the byte 0 after it, find room. */
+/* So many bytes have room for every sentence of pikhsen_message, and the byte 0 after it. */
 #define PIKHSEN_MESSAGE_ROOM 80
 
 /*
- * Writes what a number says, in the words above, and a byte 0 after it; its length, without that byte, goes to
- * *text_len, which is 0 after any answer but PIKHSEN_OK. Any number may be asked for: of one that this library does
- * not know it says that. Where out is too small, the answer is PIKHSEN_BUFFER.
+ * Writes the sentence of a status, as above, with a byte 0 after it. The length without that byte goes to *text_len,
+ * which is 0 after any result but PIKHSEN_OK. For a number that the library does not know, the sentence says so. If
+ * out is too small, the result is PIKHSEN_BUFFER.
  */
 PIKHSEN_MUST_CHECK PIKHSEN_NOT_NULL(4)
 unsigned int pikhsen_message(unsigned int status, unsigned char *out, size_t out_len, size_t *text_len);
@@ -109,11 +107,11 @@ unsigned int pikhsen_version(void);
 
 /*
  * Writes the tag of a password, as many bytes as out has, 4 to 4096. version is 0x13, or 0x10 for old hashes. It is
- * refused, before memory is asked for, where it needs more than max_kib blocks of 1 KiB or max_ops block functions.
- * The blocks B are memory_kib, rounded down to a multiple of 4 * lanes. The block functions are passes * B - 2 *
+ * refused, before memory is requested, if it needs more than max_kib blocks of 1 KiB or max_ops block functions. The
+ * number of blocks B is memory_kib, rounded down to a multiple of 4 * lanes. The block functions are passes * B - 2 *
  * lanes, and two more for every 128 blocks, or part of them, of each segment (B / (4 * lanes) blocks) whose accesses
  * do not depend on the password: there are 4 * lanes * passes of these for Argon2i, 2 * lanes for Argon2id, none for
- * Argon2d. So 2 * passes * memory_kib block functions are always enough, multiplied as pikhsen_u64.
+ * Argon2d. So 2 * passes * memory_kib block functions are always enough; multiply as pikhsen_u64.
  */
 PIKHSEN_MUST_CHECK
 unsigned int pikhsen_argon2_hash(unsigned int kind, unsigned int version, unsigned int passes, unsigned int memory_kib,
@@ -121,14 +119,14 @@ unsigned int pikhsen_argon2_hash(unsigned int kind, unsigned int version, unsign
     const unsigned char *secret, size_t secret_len, const unsigned char *associated, size_t associated_len,
     unsigned int max_kib, pikhsen_u64 max_ops, unsigned char *out, size_t out_len);
 
-/* Bytes in which every encoded text with a salt and a tag of these lengths, and the byte 0 after it, find room. */
+/* So many bytes have room for every encoded text with a salt and a tag of these lengths, and the byte 0 after it. */
 #define PIKHSEN_ENCODED_ROOM(salt_len, tag_len) \
 	(56ul + (4ul * (salt_len) + 2ul) / 3ul + (4ul * (tag_len) + 2ul) / 3ul)
 
 /*
- * Hashes, and writes the encoded text, "$argon2id$v=19$m=..", and a byte 0 after it; its length, without that byte,
- * goes to *text_len, which is 0 after any answer but PIKHSEN_OK. Limits as above. The salt must be new and random each
- * time.
+ * Hashes, and writes the encoded text, "$argon2id$v=19$m=..", with a byte 0 after it. The length without that byte goes
+ * to *text_len, which is 0 after any result but PIKHSEN_OK. Limits as above. The salt must be new and random for each
+ * password.
  */
 PIKHSEN_MUST_CHECK PIKHSEN_NOT_NULL(15)
 unsigned int pikhsen_argon2_encoded(unsigned int kind, unsigned int version, unsigned int passes,
@@ -137,22 +135,22 @@ unsigned int pikhsen_argon2_encoded(unsigned int kind, unsigned int version, uns
     unsigned char *out, size_t out_len, size_t *text_len);
 
 /*
- * Whether the password is that of an encoded text, which has nothing after it, no byte 0 either. PIKHSEN_OK: it is.
- * PIKHSEN_MISMATCH: it is not. Any other answer: that is not known. 0 is yes: compare with PIKHSEN_OK, since a bare
- * "if (pikhsen_argon2_verify(..))" takes a yes for a no. A text without a version is read as one of version 0x10. A
- * text can ask for 4 TiB and for days, so limits, as above, are tested before memory for the hash is asked for; memory
- * for the text's salt and tag, together less than text_len bytes, is asked for before that. A password of no bytes or
- * of more than 127 is PIKHSEN_PASSWORD_LENGTH: refuse it when it is enrolled, and take it for a wrong one at a login.
+ * Returns PIKHSEN_OK if the password is that of an encoded text, and PIKHSEN_MISMATCH if it is not; any other result
+ * leaves that open. PIKHSEN_OK is 0, so compare with it: "if (pikhsen_argon2_verify(..))" takes a yes for a no. Nothing
+ * may follow the text, not even a byte 0. A text without a version is one of version 0x10. A text can ask for 4 TiB and
+ * for days, so limits, as above, are tested before memory for the hash is requested; memory for the text's salt and
+ * tag, together less than text_len bytes, is requested before that. For a password of no bytes or of more than 127 the
+ * result is PIKHSEN_PASSWORD_LENGTH: refuse it when it is enrolled, and treat it as a wrong one at a login.
  */
 PIKHSEN_MUST_CHECK
 unsigned int pikhsen_argon2_verify(const unsigned char *text, size_t text_len, const unsigned char *password,
     size_t password_len, unsigned int max_kib, pikhsen_u64 max_ops);
 
 /*
- * The two functions above with a secret and associated data, which pikhsen_argon2_hash has too; either may be empty.
- * THE TEXT HOLDS NEITHER, and does not say that they were given: the test takes the same two again, and with others, or
- * without, a right password is PIKHSEN_MISMATCH. So a secret that is kept apart from the texts guards them, and where
- * it is lost no password can be tested. All else is as above.
+ * The two functions above with a secret and associated data, as pikhsen_argon2_hash has them; either may be empty.
+ * THE TEXT HOLDS NEITHER, and does not say that they were given: the test needs the same two again. With others, or
+ * without them, the result for the right password is PIKHSEN_MISMATCH. So a secret that is kept apart from the texts
+ * protects them, and if it is lost no password can be tested. All else is as above.
  */
 PIKHSEN_MUST_CHECK PIKHSEN_NOT_NULL(19)
 unsigned int pikhsen_argon2_encoded_keyed(unsigned int kind, unsigned int version, unsigned int passes,
@@ -166,7 +164,7 @@ unsigned int pikhsen_argon2_verify_keyed(const unsigned char *text, size_t text_
     size_t password_len, const unsigned char *secret, size_t secret_len, const unsigned char *associated,
     size_t associated_len, unsigned int max_kib, pikhsen_u64 max_ops);
 
-/* What an encoded text says of its hash, but for the bytes of its salt and its tag, of which it has the lengths. */
+/* What an encoded text says of its hash, with the lengths of its salt and its tag in place of their bytes. */
 struct pikhsen_argon2_settings {
 	unsigned int kind, version, passes, memory_kib, lanes;
 	size_t salt_len, tag_len;
@@ -174,8 +172,8 @@ struct pikhsen_argon2_settings {
 
 /*
  * Reads the settings of an encoded text. Nothing is hashed, so there is no limit; memory for the text's salt and tag,
- * together less than text_len bytes, is asked for. Of a text with a value out of range, which is PIKHSEN_OUT_OF_RANGE
- * for pikhsen_argon2_verify, it tells which one, the first in the order of PIKHSEN_TEXT_VERSION to
+ * together less than text_len bytes, is requested. If a value is out of range, pikhsen_argon2_verify returns
+ * PIKHSEN_OUT_OF_RANGE, and this function returns which one: the first, in the order of PIKHSEN_TEXT_VERSION to
  * PIKHSEN_TEXT_SALT_LENGTH.
  */
 PIKHSEN_MUST_CHECK PIKHSEN_NOT_NULL(3)
@@ -183,10 +181,10 @@ unsigned int pikhsen_argon2_settings(const unsigned char *text, size_t text_len,
     struct pikhsen_argon2_settings *settings);
 
 /*
- * Whether the hash of an encoded text is to be made anew, since its settings are not those that are wanted now,
- * weaker or stronger: *needs is then 1, and 0 where they are just these. LOOK AT *needs, AND NOT AT THE ANSWER ALONE:
- * PIKHSEN_OK says that the text was read. After any other answer, which is one of pikhsen_argon2_settings, *needs is
- * as it was. A new hash takes the password: make it after a good login.
+ * Writes 0 to *needs if the settings of an encoded text, both lengths included, are those that are wanted, and 1 if any
+ * of them is weaker or stronger. LOOK AT *needs, NOT AT THE RESULT ALONE: PIKHSEN_OK says only that the text was read.
+ * Any other result is one of pikhsen_argon2_settings, and leaves *needs unchanged. Call it after a successful login,
+ * while the password is there for a new hash.
  */
 PIKHSEN_MUST_CHECK PIKHSEN_NOT_NULL(3) PIKHSEN_NOT_NULL(4)
 unsigned int pikhsen_argon2_needs_rehash(const unsigned char *text, size_t text_len,
@@ -194,11 +192,11 @@ unsigned int pikhsen_argon2_needs_rehash(const unsigned char *text, size_t text_
 
 /*
  * Writes the key of a password, as many bytes as out has, at most 32 * (2^32-1). N is 2^log_n. With keep 1 the whole
- * table is kept; with keep S, a power of two up to 1024 and N, every S-th row, which takes 1/S of its memory and up to
- * (1 + S) / 2 times the work, and the key is the same. It is refused, before memory is asked for, where the rows that
- * are kept, 128 * r * N / S bytes, or 128 * r * p bytes, are more than max_bytes or 2^40, or 2 * r * p * N * (1 + S)
- * cores of Salsa20/8 more than max_ops. max_bytes bounds the rows that are kept alone: two rows of 128 * r bytes, or
- * three with S above 1, come beside them, so where r is great and N / S small up to four times as much is taken.
+ * table is kept; with keep S, a power of two up to 1024 and N, only every S-th row is, which takes 1/S of the memory
+ * and up to (1 + S) / 2 times the work; the key is the same. It is refused, before memory is requested, if the rows
+ * that are kept, 128 * r * N / S bytes, or 128 * r * p bytes, are more than max_bytes or 2^40, or 2 * r * p * N * (1 +
+ * S) cores of Salsa20/8 are more than max_ops. max_bytes limits only the rows that are kept: two rows of 128 * r bytes,
+ * or three with S above 1, come beside them, so where r is great and N / S small up to four times as much is taken.
  */
 PIKHSEN_MUST_CHECK
 unsigned int pikhsen_scrypt(const unsigned char *password, size_t password_len, const unsigned char *salt,
@@ -214,18 +212,18 @@ struct pikhsen_scrypt_costs {
 #define PIKHSEN_FILE_OVERHEAD 128
 
 /*
- * Reads the costs in the first 64 bytes of a file; bytes after these are not looked at, and fewer are
- * PIKHSEN_TOO_SHORT. Anyone can make such a header: it tells what opening the file would take, and not who wrote it.
+ * Reads the costs from the first 64 bytes of a file; if there are fewer, the result is PIKHSEN_TOO_SHORT. Anyone can
+ * make such a header: it says what opening the file would take, and not who wrote it.
  */
 PIKHSEN_MUST_CHECK PIKHSEN_NOT_NULL(3)
 unsigned int pikhsen_scrypt_info(const unsigned char *file, size_t file_len, struct pikhsen_scrypt_costs *costs);
 
 /*
  * Writes the encrypted file of a text. out_len is text_len + PIKHSEN_FILE_OVERHEAD. The salt has 32 bytes, AND MUST BE
- * NEW AND RANDOM FOR EACH FILE: two files of one passphrase, salt and costs are encrypted with one key stream, and who
- * has both learns of their texts. AN EMPTY PASSPHRASE IS ACCEPTED, and anybody can open such a file. Costs, keep and
- * limits as above; the file does not depend on keep. TEXT AND OUT MUST NOT OVERLAP: where they do, text == out among
- * others, THE TEXT IS LOST and the answer may be PIKHSEN_OK. pikhsen_scrypt_encrypt_in_place is for that.
+ * NEW AND RANDOM FOR EACH FILE: two files of one passphrase, salt and costs are encrypted with one key stream, which
+ * betrays their texts. AN EMPTY PASSPHRASE IS ACCEPTED, and anybody can open such a file. Costs, keep and limits as
+ * above; the file does not depend on keep. TEXT AND OUT MUST NOT OVERLAP: if they do, as with text == out, THE TEXT IS
+ * LOST, and the result may be PIKHSEN_OK. pikhsen_scrypt_encrypt_in_place is for that.
  */
 PIKHSEN_MUST_CHECK
 unsigned int pikhsen_scrypt_encrypt(const unsigned char *passphrase, size_t passphrase_len, const unsigned char *salt,
@@ -233,10 +231,10 @@ unsigned int pikhsen_scrypt_encrypt(const unsigned char *passphrase, size_t pass
     pikhsen_u64 max_ops, const unsigned char *text, size_t text_len, unsigned char *out, size_t out_len);
 
 /*
- * Encrypts in place: the text is all of out but its last PIKHSEN_FILE_OVERHEAD bytes, which need not be set, and the
- * file takes its place, all of out. The text is gone after PIKHSEN_OK; after any other answer out is as it was. Fewer
- * bytes than PIKHSEN_FILE_OVERHEAD are PIKHSEN_BUFFER. All else is as above: a new and random salt of 32 bytes for
- * each file.
+ * Encrypts in place: the text is all of out except its last PIKHSEN_FILE_OVERHEAD bytes, which need not be set, and the
+ * file takes all of out. After any result but PIKHSEN_OK out is unchanged. If it has fewer bytes than
+ * PIKHSEN_FILE_OVERHEAD, the result is PIKHSEN_BUFFER. All else is as above: a new and random salt of 32 bytes for each
+ * file.
  */
 PIKHSEN_MUST_CHECK
 unsigned int pikhsen_scrypt_encrypt_in_place(const unsigned char *passphrase, size_t passphrase_len,
@@ -244,10 +242,10 @@ unsigned int pikhsen_scrypt_encrypt_in_place(const unsigned char *passphrase, si
     pikhsen_u64 max_bytes, pikhsen_u64 max_ops, unsigned char *out, size_t out_len);
 
 /*
- * Writes the text of a file to the front of out, zeros after it, and its length to *text_len. out has at least
- * file_len bytes. PIKHSEN_OK: the whole file is an encryption of that text under the passphrase, its final code
- * included. After any other answer *text_len is 0 and out holds nothing of the text: after PIKHSEN_DAMAGED and
- * PIKHSEN_TOO_LONG all its bytes are 0, after others it is as it was. During the call out holds text that is not yet
+ * Writes the text of a file to the front of out, zeros after it, and its length to *text_len. out has at least file_len
+ * bytes. The result is PIKHSEN_OK only if the whole file, its final code included, is an encryption of that text under
+ * the passphrase. After any other result *text_len is 0 and out holds nothing of the text: after PIKHSEN_DAMAGED and
+ * PIKHSEN_TOO_LONG all its bytes are 0, after others it is unchanged. During the call out holds text that is not yet
  * tested: give it memory that nobody else reads. Fewer than 96 bytes are PIKHSEN_TOO_SHORT. keep and limits as above.
  */
 PIKHSEN_MUST_CHECK PIKHSEN_NOT_NULL(10)
