@@ -1,6 +1,6 @@
 """Argon2, scrypt and scrypt's encrypted files, by libpikhsen.
 
-All functions are these; `help(pikhsen.verify)` tells all of one.
+These are all functions; `help(pikhsen.verify)` says everything about one.
 
 Hashes of passwords, by Argon2:
 
@@ -57,28 +57,28 @@ For example:
     >>> pikhsen.decrypt(file, b"passphrase")
     b'Dear Ada'
 
-Passwords, salts and files are bytes, or anything else that holds bytes: a bytearray, a memoryview, an mmap. For a text
-TypeError is raised: `password.encode()` gives its bytes. Files on a disk, larger than the memory too, are for
-`encrypt_file` and `decrypt_file`. What is refused raises Refused, whose `status` tells why, and numbers that are out of
-range raise Invalid, a ValueError.
+Passwords, salts and files are bytes, or anything else that holds bytes: a bytearray, a memoryview, an mmap. A text
+raises TypeError: `password.encode()` gives its bytes. Files on a disk, which may be larger than the memory, are for
+`encrypt_file` and `decrypt_file`. A refusal raises Refused, whose `status` says why, and numbers that are out of range
+raise Invalid, a ValueError.
 
 Limits: `max_kib` is in KiB, `max_bytes` in bytes. The work of Argon2 is counted in block functions, one for each KiB
 and pass and a few more; that of scrypt in cores of Salsa20/8, 4 * r * p * 2 ** log_n of them with `keep` 1. On a Xeon
 of 2.5 GHz a million block functions took 0.7 to 2.1 seconds, most at 256 MiB, and 2 ** 28 cores, which `decrypt`
 allows, 20 to 27.
 
-Ctrl-C during a call cuts nothing short: the call goes on to its end, and then KeyboardInterrupt is raised in the place
-of what it gives. `encrypt_file` and `decrypt_file` remove their new file then; the buffer of `encrypt_in_place` may
-hold the file. So limits are what bounds the time. Ctrl-\\ ends the process at once, and leaves a part of a new file. A
-call that somebody may want to stop is best made in a process of its own.
+Ctrl-C does not shorten a call: it goes on to its end, and then KeyboardInterrupt is raised in place of its result.
+`encrypt_file` and `decrypt_file` then remove their new file; the buffer of `encrypt_in_place` may hold the file. So
+limits are what bounds the time. Ctrl-\\ ends the process at once, and leaves a part of a new file. A call that somebody
+may want to stop is best made in a process of its own.
 
 Threads and processes: a call lets other threads run meanwhile, and any number of calls may run at a time. Work is best
-spread over threads; for processes take the start methods spawn or forkserver of multiprocessing, since the library is
-not to be called in the forked child of a process with threads.
+spread over threads; with processes use the start methods spawn or forkserver of multiprocessing, since the library must
+not be called in the forked child of a process with threads.
 
-The library is the file that the variable PIKHSEN_LIBRARY names; or that which lies beside this module, as in a wheel,
-or which `make install` installed with it; or libpikhsen.so.0, where the system finds it. An empty value counts as none,
-and under Python's options -E and -I the variable is not read.
+The library is the file that the variable PIKHSEN_LIBRARY names; or the one that lies beside this module, as in a wheel,
+or that `make install` installed with it; or libpikhsen.so.0, if the system finds it. An empty value counts as none, and
+under Python's options -E and -I the variable is not read.
 """
 import contextlib
 import ctypes
@@ -116,7 +116,7 @@ class Kind(enum.IntEnum):
 
 
 class Status(enum.IntEnum):
-    """What came of a call, by the numbers of pikhsen.h."""
+    """The result of a call, by the numbers of pikhsen.h."""
 
     OK = 0
     PASSES = 1
@@ -203,7 +203,7 @@ _SENTENCES: Dict[int, str] = {
 class Refused(Exception):
     """A call was refused. Its text says why, and `status` is the Status.
 
-    A library that is newer than this module may tell a number that is no Status; `status` is then that number.
+    A library that is newer than this module may return a number that is no Status; `status` is then that number.
     """
 
     def __init__(self, status: Union[Status, int]) -> None:
@@ -234,7 +234,7 @@ class OutOfMemory(MemoryError, Refused):
 
 
 class NotAFile(Refused, ValueError):
-    """The bytes do not begin as an encrypted file of version 0 does."""
+    """The bytes do not begin as an encrypted file of version 0."""
 
 
 class WrongPassphrase(Refused, ValueError):
@@ -242,7 +242,7 @@ class WrongPassphrase(Refused, ValueError):
 
 
 class Damaged(Refused, ValueError):
-    """The file is damaged, or cut short, after its first 96 bytes. Nothing of its text is given."""
+    """The file is damaged, or cut short, after its first 96 bytes. Nothing of its text is returned."""
 
 
 # All other statuses are Invalid.
@@ -539,8 +539,8 @@ def hash(
     lane. If no others are given, the settings are those that RFC 9106 recommends second: 64 MiB, 3 passes, 4 lanes.
     `version` is 0x13, or 0x10 for old hashes.
 
-    Raises LimitExceeded, before memory is taken, where it needs more than `max_kib` KiB (1 GiB if not given) or
-    `max_ops` block functions, and Invalid where an argument is out of range.
+    Raises LimitExceeded, before memory is taken, if it needs more than `max_kib` KiB (1 GiB if not given) or `max_ops`
+    block functions, and Invalid if an argument is out of range.
     """
     out = _buffer(_tag_length(length))
     _call(
@@ -576,14 +576,14 @@ def verify(
     text: Union[str, BytesLike], password: BytesLike, *, secret: BytesLike = b"", associated: BytesLike = b"",
     max_kib: int = 1 << 20, max_ops: int = 1 << 23,
 ) -> bool:
-    """Whether the password is that of an encoded text, a str or bytes, with nothing after it, no line end either.
+    """Whether the password is that of an encoded text, a str or bytes, with nothing after it, not even a line end.
 
-    Where the text was made with `secret` or `associated`, these are given again, and with others, or without, it is
-    False for the right password.
+    If the text was made with `secret` or `associated`, give these again: with others, or without them, the result for
+    the right password is False.
 
     The text may come from a stranger and ask for 4 TiB and days, so LimitExceeded is raised, before memory for the hash
-    is taken, where it needs more than `max_kib` KiB (1 GiB if not given) or `max_ops` block functions, about passes *
-    memory. Invalid is raised where it is no encoded text, or the password has not 1 to 127 bytes.
+    is taken, if it needs more than `max_kib` KiB (1 GiB if not given) or `max_ops` block functions, about passes *
+    memory. Invalid is raised if it is no encoded text, or the password has not 1 to 127 bytes.
     """
     try:
         _call(
@@ -598,10 +598,10 @@ def verify(
 
 
 def settings(text: Union[str, BytesLike]) -> Settings:
-    """The settings that an encoded text says, a str or bytes. Nothing is hashed, and no password is tested.
+    """The settings of an encoded text, a str or bytes. Nothing is hashed, and no password is tested.
 
-    Raises Invalid where it is no encoded text; where a value of it is out of range, `status` tells which one, by a
-    number from TEXT_VERSION to TEXT_SALT_LENGTH.
+    Raises Invalid if it is no encoded text; if a value of it is out of range, `status` says which one, by a number from
+    TEXT_VERSION to TEXT_SALT_LENGTH.
     """
     told = _Settings()
     _call(_lib.pikhsen_argon2_settings, _ascii(text), byref(told))
@@ -615,8 +615,8 @@ def needs_rehash(
 ) -> bool:
     """Whether an encoded text was made with other settings than these, which are those of `encode` if none are given.
 
-    Ask after a good login, while the password is there, and if it is True encode the password anew and store that.
-    Weaker and stronger settings count alike. Raises what `settings` raises.
+    Call it after a successful login, while the password is there; if it is True, encode the password again and store
+    the new text. Weaker and stronger settings count alike. Raises what `settings` raises.
     """
     numbers = _argon2_settings(kind, version, passes, memory_kib, lanes)
     lengths = (_clamped(it, (1 << 64) - 1) for it in (salt_len, length))
@@ -634,11 +634,11 @@ def scrypt(
     With `keep` S above 1, a power of two up to 1024 and N, every S-th row of the table is kept: 1/S of the memory, up
     to (1 + S) / 2 times the work, and the same key.
 
-    Raises LimitExceeded, before memory for the table is taken, where the table, 128 * r * N / S bytes, or 128 * r * p
+    Raises LimitExceeded, before memory for the table is taken, if the table, 128 * r * N / S bytes, or 128 * r * p
     bytes are more than `max_bytes` (4 GiB if not given), or 2 * r * p * N * (1 + S) cores of Salsa20/8 more than
     `max_ops`. Two rows of 128 * r bytes, or three with S above 1, come beside the table, so where r is great and N / S
     small up to four times `max_bytes` is taken. Memory for the key's own bytes is taken first, and no limit counts it.
-    Raises Invalid where an argument is out of range.
+    Raises Invalid if an argument is out of range.
     """
     length = operator.index(length)
     if not 0 <= length <= 32 * _TOP:
@@ -652,7 +652,7 @@ def scrypt(
 
 
 def info(file: BytesLike) -> Costs:
-    """The costs that the first 64 bytes of a file say. Anyone can make them, so they don't tell who wrote the file."""
+    """The costs in the first 64 bytes of a file. Anyone can make these, so they don't say who wrote the file."""
     costs = _Costs()
     _call(_lib.pikhsen_scrypt_info, _beginning(file, 64), byref(costs))
     return Costs(costs.log_n, costs.r, costs.p)
@@ -664,11 +664,12 @@ def encrypt(
 ) -> bytes:
     """The encrypted file of a text, 128 bytes longer, as scrypt(1) writes it.
 
-    AN EMPTY PASSPHRASE IS ACCEPTED, and anybody can open such a file: look at it before, where it comes from a variable,
-    a file or a pipe.
+    AN EMPTY PASSPHRASE IS ACCEPTED, and anybody can open such a file: test it before, if it comes from a variable, a
+    file or a pipe.
 
     The salt is new, 32 bytes, if none is given. Two files with one passphrase, salt and costs betray their texts.
-    Costs and limits are those of `scrypt`; `decrypt` allows less if nothing else is said.
+    Costs and limits are those of `scrypt`. The defaults of `decrypt` allow less: what log_n 21 and r 8 make, it opens
+    with `max_bytes=1 << 31`.
     """
     text, salt = _bytes(text), _file_salt(salt)
     out = _buffer(len(text) + 128)
@@ -685,9 +686,9 @@ def encrypt_in_place(
 ) -> None:
     """Encrypts the text in a buffer that can be written: all of it but its last 128 bytes. The file takes its place.
 
-    So no second buffer is needed, and the text is gone. Where it is refused, the buffer is as it was; after Ctrl-C it
-    may hold either. All else is as `encrypt` has it, A NEW SALT FOR EACH FILE and the EMPTY PASSPHRASE THAT IS ACCEPTED
-    among others.
+    So no second buffer is needed, and the text is gone. After a refusal the buffer is unchanged; after Ctrl-C it may
+    hold either. All else is as for `encrypt`, A NEW SALT FOR EACH FILE and the EMPTY PASSPHRASE THAT IS ACCEPTED among
+    others.
     """
     out = (ctypes.c_char * _view(buffer).nbytes).from_buffer(buffer)
     number = _number(
@@ -704,15 +705,15 @@ def decrypt(
 ) -> bytes:
     """The text of an encrypted file, if the whole file is right under the passphrase, its final code included.
 
-    Otherwise it gives nothing of the text, and raises the first of these that has a reason: NotAFile; Invalid, where
+    Otherwise it returns nothing of the text, and raises the first of these that has a reason: NotAFile; Invalid, if
     `keep` is no power of two up to 1024, or above the file's N; LimitExceeded; OutOfMemory; WrongPassphrase; Damaged.
 
-    The file may come from a stranger and ask for any costs. What opening it may take is bounded by `max_bytes`, in
-    bytes, and `max_ops`, in cores of Salsa20/8, as `scrypt` counts them: up to four times `max_bytes` is taken where r
-    is great and N / `keep` small. If nothing else is said these are 1 GiB, enough for log_n 20 and r 8, and 2 ** 28,
-    for which a Xeon of 2.5 GHz took 20 to 27 seconds. Copies of file and text, up to three times the file's length,
-    come beside that; a long input that does not begin as a file does is refused before it is copied. Ctrl-C waits for
-    the end of the call.
+    The file may come from a stranger and ask for any costs. What opening it may take is limited by `max_bytes`, in
+    bytes, and `max_ops`, in cores of Salsa20/8, as `scrypt` counts them: up to four times `max_bytes` is taken if r is
+    great and N / `keep` small. If nothing else is said these are 1 GiB, enough for log_n 20 and r 8, and 2 ** 28, for
+    which a Xeon of 2.5 GHz took 20 to 27 seconds; log_n 21 needs `max_bytes=1 << 31`. Copies of file and text, up to
+    three times the file's length, come beside that; a long input that does not begin as a file is refused before it is
+    copied. Ctrl-C waits for the end of the call.
     """
     front = _beginning(file, 96)
     given = (_bytes(passphrase), _u32(keep), *_limits(max_bytes, max_ops))
