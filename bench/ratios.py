@@ -24,6 +24,7 @@ ROWS = [
     ("libsodium -id -t 3 -m", "16", "libsodium: 64 MiB, 3 passes"),
     ("libsodium -id -t 1 -m", "18", "libsodium: 256 MiB, 1 pass"),
     ("OpenSSL, -r 8 -p 1, --logN", "17", "OpenSSL: key, N = 2^17"),
+    ("libsodium, -r 8 -p 1, --logN", "17", "libsodium: key, N = 2^17"),
 ]
 LEVELS = [("x86-64-v2", "v2", 1), ("x86-64-v3", "v3", 14)]
 LIBRARIES = ("libsodium", "OpenSSL")  # not Debian's programs: they stand apart

@@ -70,8 +70,8 @@ def library_rows():
             words = ["sixteen bytes...", "-id", "-t", str(passes), "-p", "1", "-m", str(log_memory), "-r"]
             work, seconds = f"libsodium -id -t {passes} -m", passes * 2.0 ** (log_memory - 19)
             yield Row(work, log_memory, "argon2", words, b"password", 0, seconds, "libsodium")
-    for log_n in (14, 17, 20):
-        yield Row("OpenSSL, -r 8 -p 1, --logN", log_n, "scrypt", key_words(log_n), seconds=2.0 ** (log_n - 18), library="OpenSSL")
+    for library, log_n in itertools.product(("OpenSSL", "libsodium"), (14, 17, 20)):
+        yield Row(f"{library}, -r 8 -p 1, --logN", log_n, "scrypt", key_words(log_n), seconds=2.0 ** (log_n - 18), library=library)
 
 
 def compiled(name, folder):

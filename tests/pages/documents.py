@@ -126,7 +126,7 @@ off = {work: "{} to {} percent off".format(*sorted(round(100 - 100 * float(with_
 of_python = [(work, pages.ratio(ours, other)) for work, _, ours, other in pages.rows("measured.tsv", "python")]
 argon2_cffi, hashlib = (pages.span(sorted(ratio for work, ratio in of_python if work.startswith(it))) for it in ("Argon2", "scrypt"))
 ROWS = {"hashes": ("argon2 ", ("16", "18")), "keys": ("key",), "files": (("enc", "dec"),), "backups": (("enc", "dec"), ("100",)),
-        **{it: (it,) for it in LIBRARIES}}
+        "libsodium": ("libsodium -id",), "OpenSSL": ("OpenSSL",)}
 every, v2, v3 = ({name: pages.ratios_of(*rows, level=level) for name, rows in ROWS.items()} for level in ("", "v2", "v3"))
 to_v2 = {name: pages.ratios_of(*rows, level="v3", column="to_v2") for name, rows in ROWS.items()}
 spans, spans_v2, spans_v3, spans_to_v2 = ({name: pages.span(it) for name, it in each.items()} for each in (every, v2, v3, to_v2))
