@@ -233,8 +233,7 @@ def small():
                 if max(width_of(crate, 12.5, bold=True), width_of(words, 10.5)) > wide - 6:
                     raise SystemExit(f"the small picture: the words of {crate} are wider than its box")
         y += 50
-    note = "A crate uses only crates below it: of its own column or the middle one; a crate of the middle, of any. " \
-           "What has a dashed edge is trusted, and not proved."
+    note = "A crate uses only crates below it: of its own column or the middle one; a crate of the middle, of any. Dashed: trusted."
     y = picture.text(14, y + 12, wrapped(note, SMALL_WIDTH - 28, 10.5), "soft") + 2
     end = picture.box("Trusted", "What no proof shows", 14, y, SMALL_WIDTH - 28, "", trusted(), (), "trusted", 2)
     return picture.svg(end + 12), misplaced()
