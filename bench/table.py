@@ -1,16 +1,15 @@
 #!/usr/bin/env python3
 """Times the built programs beside the argon2 and scrypt that are installed, and libsodium and OpenSSL, in one table.
 
-    bench/table.py FOLDER.. [--rounds 5] [--only WORD] [--small | --large] [--out PATH]
+    bench/table.py FOLDER.. [--rounds 5] [--only WORD] [--large] [--out PATH]
 
 Each FOLDER, as bin/x86-64-v2, has argon2 and scrypt, built for the level of its name. In each round every program does
 the row's work once, in turn; the least of all rounds counts, so that what else the machine does hits all alike. Time is
 user and system time of the process, and elapsed time. Memory is the greatest resident set, of a further run under GNU
 time where that is there. A ratio is to the installed program, and below 1 where ours takes less. Hashes and decrypted
 files are compared. Over libsodium and OpenSSL, where they are installed, a program is compiled (bench/libsodium.c,
-bench/openssl.c), and a line says which instructions they use. --small has the rows that take less than a second,
---large adds those of a gigabyte. --out PATH writes the table to PATH.tsv, too, as tab-separated values, and draws a
-whole one as PATH.svg (bench/ratios.py).
+bench/openssl.c), and a line says which instructions they use. --large adds the rows of a gigabyte. --out PATH writes the
+table to PATH.tsv, too, as tab-separated values, and draws a whole one as PATH.svg (bench/ratios.py).
 """
 import argparse
 import collections
@@ -137,13 +136,11 @@ def main():
     asked.add_argument("folders", nargs="+", metavar="FOLDER")
     asked.add_argument("--rounds", type=int, default=5)
     asked.add_argument("--only", default="")
-    asked.add_argument("--small", action="store_true")
     asked.add_argument("--large", action="store_true")
     asked.add_argument("--out")
     given = asked.parse_args()
-    greatest = 0.2 if given.small else 100 if given.large else 5
     rows = [row for row in (*argon2_rows(), *scrypt_rows(), *library_rows())
-            if row.seconds <= greatest and given.only in f"{row.work} {row.size}"]
+            if (given.large or row.seconds <= 5) and given.only in f"{row.work} {row.size}"]
     levels = {os.path.basename(os.path.abspath(folder)): os.path.abspath(folder) for folder in given.folders}
     model = re.search(r"(?m)^model name\s*: (.*)", pathlib.Path("/proc/cpuinfo").read_text(encoding="utf-8"))
     title = f"{model[1] if model else 'unknown'}, {os.cpu_count()} processors; load {os.getloadavg()[0]:.1f} at the start; " \

@@ -27,16 +27,15 @@ def decoded(symbols):
 
 
 def read(text):
-    """Type, version, memory, passes, lanes, salt and tag of a text; or what reading it answers, where it is not read."""
+    """What reading a text answers."""
     match = TEXT.fullmatch(text)
     salt, tag = map(decoded, match.group(6, 7)) if match else (None, None)
     if salt is None or tag is None:
         return "1"
-    # a number of more digits than ten is out of each range, and Python refuses to read one of more than 4,300
-    version, memory, passes, lanes = (int(digits[:11]) for digits in (match[2] or "16", *match.group(3, 4, 5)))
+    version, memory, passes, lanes = map(int, (match[2] or "16", *match.group(3, 4, 5)))
     in_range = version in (16, 19) and 1 <= passes < 2**32 and 1 <= lanes < 2**24 and 8 * lanes <= memory < 2**32 \
         and 8 <= len(salt) <= 255 and 4 <= len(tag) <= 4096
-    return (match[1], version, memory, passes, lanes, salt, tag) if in_range else "2"
+    return "0" if in_range else "2"
 
 
 def work_of(kind, memory, passes, lanes):
@@ -54,8 +53,7 @@ NEAR = {
 
 
 def row(known, near):
-    found = (read(near(known, at)) for at in range(len(known)))
-    return "".join(it if isinstance(it, str) else "0" for it in found)
+    return "".join(read(near(known, at)) for at in range(len(known)))
 
 
 def main():
