@@ -14,8 +14,6 @@ import subprocess
 import sys
 import tempfile
 import termios
-import time
-import tty
 import pathlib
 
 sys.path += map(str, pathlib.Path(__file__).resolve().parents[1].iterdir())  # the other folders of tests/
@@ -31,6 +29,9 @@ def done(out=b""):
 
 def refused(number, out=b""):
     return (1, out, LINES[number])
+
+
+SILENT = (1, b"", b"")
 
 
 # name, words, standard input, (status, standard output, standard error)
@@ -202,10 +203,14 @@ def outfiles(checks):
         modes = os.stat(path).st_mode & 0o7777
         checks.that(f"permissions of an outfile: {name}", (found, modes), (done(), expected))
         checks.put("out", None)
+    leaves(checks, "a dash is a plain outfile", f"dec {FROM_PW} F5 -", done(), "-", b"hello")
     checks.put("-", None)
-    found = checks.run(f"dec {FROM_PW} F5 -".split())
-    checks.that("a dash is a plain outfile", (found, checks.content("-")), (done(), b"hello"))
-    checks.put("-", None)
+
+
+def leaves(checks, name, words, expected, file, content):
+    """A line of a shell with these words ends so, and then the file has this content."""
+    found = checks.shell(f'"$0" {words}')
+    checks.that(name, (found, checks.content(file)), (expected, content))
 
 
 def standard_streams(checks):
@@ -214,8 +219,8 @@ def standard_streams(checks):
     checks.that("a folder as standard input", checks.shell(f'"$0" dec {FROM_PW} - </'), refused("S12"))
     for given in ("<&-", "</", "<folder"):
         checks.put("out", b"before")
-        found = checks.shell(f'"$0" enc {FIXED} {FROM_PW} - out {given}')
-        checks.that(f"an outfile beside a standard input by {given}", (found, checks.content("out")), (refused("S12"), b"before"))
+        name = f"an outfile beside a standard input by {given}"
+        leaves(checks, name, f"enc {FIXED} {FROM_PW} - out {given}", refused("S12"), "out", b"before")
     checks.put("out", None)
     checks.that("a passphrase from a closed standard input", checks.shell('"$0" dec -P F5 <&-'), refused("S4a"))
     checks.that("a passphrase from a folder", checks.shell('"$0" dec -P F5 </'), refused("S4a"))
@@ -224,24 +229,20 @@ def standard_streams(checks):
     checks.that("a full device for info", checks.shell('"$0" info F5 >/dev/full'), refused("S13"))
     checks.that("a full device as outfile", checks.shell(f'"$0" {opened} /dev/full'), refused("S13"))
     checks.that("a full device for no bytes", checks.shell(f'"$0" dec {FROM_PW} F0 >/dev/full'), done())
-    checks.that("a closed standard error", checks.shell('"$0" info F5-cut-95 2>&-'), (1, b"", b""))
-    checks.that("a full device as standard error", checks.shell('"$0" info F5-cut-95 2>/dev/full'), (1, b"", b""))
-    checks.that("all streams closed", checks.shell(f'"$0" {opened} <&- >&- 2>&-'), (1, b"", b""))
+    checks.that("a closed standard error", checks.shell('"$0" info F5-cut-95 2>&-'), SILENT)
+    checks.that("a full device as standard error", checks.shell('"$0" info F5-cut-95 2>/dev/full'), SILENT)
+    checks.that("all streams closed", checks.shell(f'"$0" {opened} <&- >&- 2>&-'), SILENT)
 
 
 def closed_streams_and_files(checks):
     """No named file takes the place of a standard stream that is closed at the start."""
     for closed in ("2>&-", "<&- 2>&-", "<&- >&- 2>&-", ">&- 2>&-"):
         checks.put("out", None)
-        found = checks.shell(f'"$0" dec {FROM_PW} F5-cut-130 out {closed}')
-        checks.that(f"no line in the outfile with {closed}", (found, checks.content("out")), ((1, b"", b""), b"he"))
-    for closed in ("<&-", "<&- >&- 2>&-"):
-        checks.put("out", None)
-        found, _, _ = checks.shell(f'"$0" enc {FIXED} -P hello out {closed}')
-        checks.that(f"no passphrase from the infile with {closed}", (found, checks.content("out")), (1, None))
+        leaves(checks, f"no line in the outfile with {closed}", f"dec {FROM_PW} F5-cut-130 out {closed}", SILENT, "out", b"he")
     checks.put("out", None)
-    found = checks.shell(f'"$0" dec {FROM_PW} F5 out <&- >&- 2>&-')
-    checks.that("named files with all streams closed", (found, checks.content("out")), (done(), b"hello"))
+    for closed, expected in (("<&-", refused("S4a")), ("<&- >&- 2>&-", SILENT)):
+        leaves(checks, f"no passphrase from the infile with {closed}", f"enc {FIXED} -P hello out {closed}", expected, "out", None)
+    leaves(checks, "named files with all streams closed", f"dec {FROM_PW} F5 out <&- >&- 2>&-", done(), "out", b"hello")
 
 
 def without_the_root_folder(checks):
@@ -250,43 +251,24 @@ def without_the_root_folder(checks):
         print("skipped: a root folder that may not be opened, which root alone can make")
         return
     with tempfile.TemporaryDirectory() as root:
-        linked = subprocess.run(["ldd", checks.program], stdout=subprocess.PIPE, text=True, check=True).stdout
-        for path in [word for word in linked.split() if word.startswith("/")]:
+        linked = checks.run([checks.program], program="ldd")[1].decode()
+        for path in [checks.program, *re.findall(r"/\S+", linked)]:
             os.makedirs(root + os.path.dirname(path), exist_ok=True)
             shutil.copy(path, root + path)
-        shutil.copy(checks.program, os.path.join(root, "scrypt"))
-        folder = os.path.join(root, "files")
-        os.mkdir(folder)
-        os.chmod(folder, 0o777)
+        os.mkdir(f"{root}/files")
         for name in ("pw", "hello", "F5", "F5-cut-130"):
-            with open(os.path.join(folder, name), "wb") as file:
-                file.write(FILES[name])
+            pathlib.Path(root, "files", name).write_bytes(FILES[name])
+        os.chmod(f"{root}/files", 0o777)
         os.chmod(root, 0o711)
-
-        def run(words, *closed):
-            def prepare():
-                os.chroot(root)
-                os.chdir("/files")
-                os.setgid(65534)
-                os.setuid(65534)
-                for descriptor in closed:
-                    os.close(descriptor)
-
-            out = os.path.join(folder, "out")
-            if os.path.exists(out):
-                os.remove(out)
-            ran = subprocess.run(
-                ["/scrypt", *words.split()], executable="/scrypt", input=b"", stdout=subprocess.PIPE,
-                stderr=subprocess.PIPE, preexec_fn=prepare, env={}
-            )
-            return (ran.returncode, ran.stdout, ran.stderr), os.path.exists(out)
-
-        checks.that("all streams open", run(f"dec {FROM_PW} F5"), (done(b"hello"), False))
-        checks.that("no passphrase from the infile", run(f"enc {FIXED} -P hello out", 0), (refused("S12"), False))
-        found = run(f"dec {FROM_PW} F5-cut-130 out", 2)
-        checks.that("no infile as standard error", found, ((1, b"", b""), False))
-        found = run(f"dec {FROM_PW} F5-cut-130 out", 0, 1, 2)
-        checks.that("no file with all streams closed", found, ((1, b"", b""), False))
+        from_pw = "--passphrase file:files/pw"
+        for name, words, expected in (
+            ("all streams open", f"dec {from_pw} files/F5", done(b"hello")),
+            ("no passphrase from the infile", f"enc {FIXED} -P files/hello files/out <&-", refused("S12")),
+            ("no infile as standard error", f"dec {from_pw} files/F5-cut-130 files/out 2>&-", SILENT),
+            ("no file with all streams closed", f"dec {from_pw} files/F5-cut-130 files/out <&- >&- 2>&-", SILENT),
+        ):
+            found = checks.shell(f'chroot --userspec=65534:65534 {root} "$0" {words}')
+            checks.that(name, (found, os.path.exists(f"{root}/files/out")), (expected, False))
 
 
 def pipes(checks):
@@ -345,20 +327,16 @@ def outputs_that_are_read(checks):
     os.symlink("kept", os.path.join(checks.folder, "symbolic-link"))
     os.symlink("not-there", os.path.join(checks.folder, "dangling-link"))
     for name in ("./kept", "folder/../kept", os.path.join(checks.folder, "kept"), "hard-link", "symbolic-link"):
-        for way, text in (
-            ("the input", f'"$0" enc {COSTS} {FROM_PW} kept {name}'),
-            ("the input by its other name", f'"$0" enc {COSTS} {FROM_PW} {name} kept'),
-            ("standard input", f'"$0" enc {COSTS} {FROM_PW} - {name} <kept'),
-            ("the secret's file", f'"$0" enc {COSTS} --passphrase file:kept hello {name}'),
-            ("the secret on standard input", f'"$0" enc {COSTS} -P hello {name} <kept'),
+        for way, words in (
+            ("the input", f"enc {COSTS} {FROM_PW} kept {name}"),
+            ("the input by its other name", f"enc {COSTS} {FROM_PW} {name} kept"),
+            ("standard input", f"enc {COSTS} {FROM_PW} - {name} <kept"),
+            ("the secret's file", f"enc {COSTS} --passphrase file:kept hello {name}"),
+            ("the secret on standard input", f"enc {COSTS} -P hello {name} <kept"),
         ):
-            found = checks.shell(text)
-            checks.that(f"{way} as {name}", (found, checks.content("kept")), (refused("S13"), b"kept"))
-    checks.that("the secret's own name", checks.shell(f'"$0" enc {COSTS} --passphrase file:kept hello kept'), refused("S13"))
-    checks.that("the secret's file after it", checks.content("kept"), b"kept")
-
-    found = checks.shell(f'"$0" dec {FROM_PW} F5 ./F5')
-    checks.that("a file to be decrypted", (found, checks.content("F5")), (refused("S13"), F5))
+            leaves(checks, f"{way} as {name}", words, refused("S13"), "kept", b"kept")
+    leaves(checks, "the secret's own name", f"enc {COSTS} --passphrase file:kept hello kept", refused("S13"), "kept", b"kept")
+    leaves(checks, "a file to be decrypted", f"dec {FROM_PW} F5 ./F5", refused("S13"), "F5", F5)
     # Names of no regular file, and of another file.
     checks.that("a device", checks.shell(f'"$0" enc {FIXED} {FROM_PW} /dev/null /dev/stdout'), done(F0))
     checks.that("the same device", checks.shell(f'"$0" enc {FIXED} {FROM_PW} /dev/null /dev/../dev/null'), done())
@@ -366,12 +344,12 @@ def outputs_that_are_read(checks):
     checks.that("a named pipe", found, done(F5))
     found = checks.shell(f'"$0" enc {FIXED} {FROM_PW} kept dangling-link')
     checks.that("a link to nothing", (found, len(checks.content("not-there"))), (done(), 128 + 4))
-    found = checks.shell(f'"$0" enc {FIXED} {FROM_PW} hello symbolic-link')
-    checks.that("a link to another file", (found, checks.content("kept")), (done(), F5))
+    leaves(checks, "a link to another file", f"enc {FIXED} {FROM_PW} hello symbolic-link", done(), "kept", F5)
 
 
 def standard_output_that_is_read(checks):
     """Nor is standard output written where it is a file that is read: what is written would be read again."""
+    os.symlink("read", os.path.join(checks.folder, "read-link"))
     for name, content, after, words in (
         ("the input of enc", b"kept", b"kept", f"enc {COSTS} {FROM_PW} read >>read"),
         ("the input of enc by a link", b"kept", b"kept", f"enc {COSTS} {FROM_PW} read-link >>read"),
@@ -385,22 +363,15 @@ def standard_output_that_is_read(checks):
         ("the secret on standard input", b"pw\n", b"pw\n", "dec -P F5 <read >>read"),
     ):
         checks.put("read", content)
-        if not os.path.lexists(os.path.join(checks.folder, "read-link")):
-            os.symlink("read", os.path.join(checks.folder, "read-link"))
-        found = checks.shell(f'"$0" {words}')
-        checks.that(f"{name} as standard output", (found, checks.content("read")), (refused("S13"), after))
+        leaves(checks, f"{name} as standard output", words, refused("S13"), "read", after)
     # Another file, a device and a terminal are written, also where they are read.
     checks.put("read", b"before")
-    found = checks.shell(f'"$0" enc {FIXED} {FROM_PW} hello >>read')
-    checks.that("standard output after another file", (found, checks.content("read")), (done(), b"before" + F5))
-    found = checks.shell(f'"$0" enc {FIXED} {FROM_PW} - </dev/null >/dev/null')
-    checks.that("a device as both standard streams", found, done())
-    found = checks.shell(f'"$0" enc {FIXED} {FROM_PW} /dev/null >/dev/null')
-    checks.that("a device as the input and standard output", found, done())
+    leaves(checks, "standard output after another file", f"enc {FIXED} {FROM_PW} hello >>read", done(), "read", b"before" + F5)
+    for name, words in (("both standard streams", "- </dev/null"), ("the input and standard output", "/dev/null")):
+        checks.that(f"a device as {name}", checks.shell(f'"$0" enc {FIXED} {FROM_PW} {words} >/dev/null'), done())
     ours, theirs = pty.openpty()
-    tty.setraw(theirs)
     attributes = termios.tcgetattr(theirs)
-    attributes[3] |= termios.ICANON
+    attributes[3] &= ~termios.ECHO
     termios.tcsetattr(theirs, termios.TCSANOW, attributes)
     os.write(ours, b"pw\n\x04")
     running = checks.start("dec -P F5".split(), stdin=theirs, stdout=theirs)
@@ -422,15 +393,13 @@ def standard_error_that_is_read(checks):
         ("the secret on standard input", b"pv\n", "dec -P F5 out <read 2>>read"),
     ):
         checks.put("read", content)
-        found = checks.shell(f'"$0" {words}')
-        checks.that(f"{name} as standard error", (found, checks.content("read")), ((1, b"", b""), content))
+        leaves(checks, f"{name} as standard error", words, SILENT, "read", content)
     # Another file gets the line, and so does one that is not opened yet.
     for words, content, line in (
         ("dec --passphrase file:other-pw F5 out 2>>read", b"before\n", "S10"), ("dec read out 2>>read", F5, "S3"),
     ):
         checks.put("read", content)
-        found = checks.shell(f'"$0" {words}')
-        checks.that(f"standard error is another file: {words}", (found, checks.content("read")), ((1, b"", b""), content + LINES[line]))
+        leaves(checks, f"standard error is another file: {words}", words, SILENT, "read", content + LINES[line])
 
 
 def block_devices(checks):
@@ -454,37 +423,13 @@ def block_devices(checks):
             f"enc {COSTS} {FROM_PW} {other} >{device}",
             f"enc {COSTS} --passphrase file:{other} hello {device}",
         ):
-            checks.that(f"a block device: {words}", (checks.shell(f'"$0" {words}'), checks.content(device)), (refused("S13"), content))
-        found = checks.shell(f'"$0" info {other} 2>{device}')
-        checks.that("a block device as standard error", (found, checks.content(device)), ((1, b"", b""), content))
-        found = checks.shell(f'"$0" enc {FIXED} {FROM_PW} hello {device}')
-        checks.that("a block device that is written", (found, checks.content(device)), (done(), F5 + content[len(F5):]))
+            leaves(checks, f"a block device: {words}", words, refused("S13"), device, content)
+        leaves(checks, "a block device as standard error", f"info {other} 2>{device}", SILENT, device, content)
+        written = F5 + content[len(F5):]
+        leaves(checks, "a block device that is written", f"enc {FIXED} {FROM_PW} hello {device}", done(), device, written)
     finally:
         pathlib.Path(other).unlink(missing_ok=True)
         subprocess.run(["losetup", "--detach", device], check=True)
-
-
-def outfiles_that_fail_late(checks):
-    """The disk, or the folder, tells an error only when it is asked to keep what was written; or it has no such call."""
-    helper, mounted = pathlib.Path(__file__).with_name("late_fs.py"), os.path.join(checks.folder, "late")
-    os.mkdir(mounted)
-    pythons = [it for it in (sys.executable, "/usr/bin/python3") if checks.run(["-c", "import fusepy"], program=it)[0] == 0]
-    running = subprocess.Popen([*pythons[:1], helper, mounted], stderr=subprocess.DEVNULL) if pythons else None
-    while running and running.poll() is None and not os.path.ismount(mounted):
-        time.sleep(0.01)
-    if not os.path.ismount(mounted):
-        print("skipped: a file system that fails late, for which FUSE and the package python3-fusepy are needed")
-        return
-    try:
-        for name, expected in (
-            ("file", done()), ("file-EINVAL", done()), ("folder-EINVAL/file", done()), ("folder-EOPNOTSUPP/file", done()),
-            ("file-EIO", refused("S13")), ("file-EDQUOT", refused("S13")), ("folder-EIO/file", refused("S13")),
-        ):
-            found = checks.run(f"enc {FIXED} {FROM_PW} hello late/{name}".split())
-            checks.that(f"over a disk that fails late: {name}", (found, checks.content(f"late/{name}")), (expected, F5))
-    finally:
-        running.terminate()  # it unmounts
-        running.wait()
 
 
 def folders_that_are_kept(checks):
@@ -659,31 +604,16 @@ def main():
             checks.put(name, content)
         checks.put("large", LARGE)
         os.mkdir(os.path.join(folder, "folder"))
+        checks.put("large.enc", checks.run(f"enc {COSTS} {FROM_PW} large".split())[1])
         for name, words, given, expected in TABLE:
             checks.that(name, checks.run(words.split(), given), expected)
-        outfiles(checks)
-        checks.put("large.enc", checks.run(f"enc {COSTS} {FROM_PW} large".split())[1])
-        standard_streams(checks)
-        closed_streams_and_files(checks)
-        without_the_root_folder(checks)
-        pipes(checks)
-        slow_input(checks)
-        standard_input_that_is_left(checks)
-        outputs_that_are_read(checks)
-        standard_output_that_is_read(checks)
-        standard_error_that_is_read(checks)
-        block_devices(checks)
-        outfiles_that_fail_late(checks)
-        folders_that_are_kept(checks)
-        output_by_a_bind_mount(checks)
-        outputs_over_layers(checks)
-        words_of_bytes(checks)
-        passphrase_of_bytes(checks)
-        lengths(checks)
-        salts(checks)
-        costs_where_none_are_given(checks)
-        large_costs(checks)
-        beside_the_installed(checks)
+        for part in (
+            outfiles, standard_streams, closed_streams_and_files, without_the_root_folder, pipes, slow_input,
+            standard_input_that_is_left, outputs_that_are_read, standard_output_that_is_read, standard_error_that_is_read,
+            block_devices, folders_that_are_kept, output_by_a_bind_mount, outputs_over_layers, words_of_bytes,
+            passphrase_of_bytes, lengths, salts, costs_where_none_are_given, large_costs, beside_the_installed,
+        ):
+            part(checks)
     checks.end()
 
 
