@@ -463,18 +463,12 @@ def over_layers(checks, content, text):
     """What a shell's line does in a file system of layers, in whose lower layer the file `kept` has this content and two names, and
     what `kept` holds after it. None where there can be no such file system."""
     folder = tempfile.mkdtemp(dir=checks.folder)
-    for layer in ("below", "above", "work", "merged"):
-        os.mkdir(os.path.join(folder, layer))
-    below = os.path.join(folder, "below")
-    for name, held in (("kept", content), ("hello", b"hello"), ("pw", FILES["pw"])):
-        with open(os.path.join(below, name), "wb") as file:
-            file.write(held)
-    os.link(os.path.join(below, "kept"), os.path.join(below, "hard-link"))
-    os.symlink("kept", os.path.join(below, "symbolic-link"))
+    checks.put(f"{folder}/kept", content)
+    prepare = "mkdir below above work merged; mv kept below; cp ../hello ../pw below; cd below; ln kept hard-link; ln -s kept symbolic-link"
     mount = "mount -t overlay overlay -o lowerdir=below,upperdir=above,workdir=work,index=off merged"
-    line = f"cd {folder} && {mount} || exit 99; cd merged; {text}; s=$?; cp kept ../after; exit $s"
+    line = f"cd {folder}; {prepare}; cd ..; {mount} || exit 99; cd merged; {text}; s=$?; cp kept ../after; exit $s"
     found = checks.shell(f"unshare -m --propagation private sh -c '{line}' \"$0\"")
-    after = checks.content(os.path.join(folder, "after"))
+    after = checks.content(f"{folder}/after")
     return None if after is None else (found, after)
 
 

@@ -126,6 +126,14 @@ class Terminal:
     def types(self, text):
         os.write(self.screen, text.encode())
 
+    def answers(self, *typed, at=0):
+        """Types this at each question, and says whether the terminal shows what is typed at one of them."""
+        is_shown = False
+        for prompt, text in zip((ASKED, AGAIN)[at:], typed):
+            is_shown |= self.sees(prompt)
+            self.types(text)
+        return is_shown
+
     def signals(self, number, typed=None):
         """Sends a signal, or types its key, until it is told that the run has stopped or ended: a shell may look for
         signals, and then begin to read. Says so, and whether the terminal shows what is typed then."""
@@ -150,17 +158,17 @@ class Room:
 
     def __init__(self, checks, shell, program, folder):
         self.checks, self.shell, self.top = checks, shell, pathlib.Path(folder)
-        for name, text in (("bin", None), ("other", STAND_IN)):
+        for name in ("bin", "other"):
             (self.top / name).mkdir()
             shutil.copy(SCRIPT, self.top / name)
-            if text is None:
-                shutil.copy(program, self.top / name / "scrypt")
-            else:
-                (self.top / name / "scrypt").write_text(text, encoding="utf-8")
-                (self.top / name / "scrypt").chmod(0o755)
+        shutil.copy(program, self.top / "bin/scrypt")
+        (self.top / "other/scrypt").write_text(STAND_IN, encoding="utf-8")
+        (self.top / "other/scrypt").chmod(0o755)
         self.folder = self.top / "room"
         self.folder.mkdir()
         os.chown(self.folder, NOBODY if os.getuid() == 0 else -1, -1)
+        checks.folder = self.folder
+        self.put, self.held = checks.put, checks.content
 
     def that(self, name, found, expected):
         self.checks.that(f"{self.shell}: {name}", found, expected)
@@ -175,15 +183,13 @@ class Room:
     def run(self, words, *typed, **how):
         """Status and what is shown, where this is typed at each question; and whether the terminal is as it was."""
         terminal = self.begin(words, **how)
-        for prompt, text in zip((ASKED, AGAIN), typed):
-            if terminal.sees(prompt):
-                self.that(f"{words}: what is typed is not shown", True, False)
-            terminal.types(text)
+        if terminal.answers(*typed):
+            self.that(f"{words}: what is typed is not shown", True, False)
         return terminal.ends()
 
     def opened(self, name):
         """What scrypt makes of a file with the passphrase in the file `words`."""
-        return self.checks.run(["dec", "--passphrase", f"file:{self.folder}/words", f"{self.folder}/{name}"])
+        return self.checks.run(["dec", "--passphrase", "file:words", "--", name])
 
     def is_ended_by(self, number, found):
         """Whether a run has ended by this signal, or with status 1 where the shell keeps the signal from itself, and whether
@@ -191,13 +197,6 @@ class Room:
         status, _, echo = found
         kept = {"bash": [signal.SIGQUIT], "bash as sh": [signal.SIGQUIT], "zsh as sh": USUAL}.get(self.shell, [])
         return (status == -number or status == 1 and number in kept) and echo
-
-    def put(self, name, content):
-        (self.folder / name).write_bytes(content)
-
-    def held(self, name):
-        path = self.folder / name
-        return path.read_bytes() if path.exists() else None
 
     def mode(self, name):
         return (self.folder / name).stat().st_mode & 0o7777
@@ -250,35 +249,25 @@ def refused_as_typed(room):
 
 def signals_while_it_asks(room):
     """A signal ends it, by that signal, with the terminal as it was and no file; a stop shows what is typed until it goes on."""
-    for first in ("", "a\n"):
+    for first in ([], ["a\n"]):
         for number, typed in (*KEYS, *((it, "") for it in (signal.SIGTERM, signal.SIGHUP, signal.SIGINT))):
             room.clear(letters=b"Dear Ada", out=b"older")
             terminal = room.begin(f"enc {CHEAP} letters out")
-            terminal.sees(ASKED)
-            if first:
-                terminal.types(first)
-                terminal.sees(AGAIN)
-            terminal.types("abc")
+            terminal.answers(*first, "abc")
             what = f"{number.name} {'typed' if typed else 'sent'} at {'both' if first else 'one'}"
             room.that(what, room.is_ended_by(number, terminal.ends(terminal.signals(number, typed))), True)
             room.that(f"{what}: files", (room.names(), room.held("out")), (["letters", "out"], b"older"))
-    for at, (before, after) in enumerate((("", "words\n"), ("words\n", ""))):
+    for at, asked in enumerate((ASKED, AGAIN)):
         room.clear(letters=b"Dear Ada", words=b"words")
         terminal = room.begin(f"enc {CHEAP} letters out")
-        terminal.sees(ASKED)
-        if before:
-            terminal.types(before)
-            terminal.sees(AGAIN)
-        asked = AGAIN if before else ASKED
+        terminal.answers(*["words\n"] * at)
+        terminal.sees(asked)
         for turn in ("typed", "sent"):
             found = terminal.signals(signal.SIGTSTP, "abc\32" if turn == "typed" else "")
             room.that(f"stopped at {at}, {turn}", found, ("stopped", True))
             terminal.goes_on()
             room.that(f"asked again at {at}, {turn}", terminal.sees(f"\0{asked}"), False)
-        terminal.types("words\n")
-        if after:
-            terminal.sees(AGAIN)
-            terminal.types(after)
+        terminal.answers("words\n", "words\n", at=at)
         room.that(f"stopped twice at {at}, and gone on", terminal.ends()[::2], (0, True))
         room.that(f"stopped twice at {at}: the file", room.opened("out"), (0, b"Dear Ada", b""))
     terminal = room.begin("dec out text")
@@ -328,9 +317,7 @@ def begun_to_write(room):
     """A run that waits for more to encrypt, after scrypt has begun the new file."""
     terminal = room.begin(f"enc {CHEAP} - out <given")
     giving = open(room.folder / "given", "wb", buffering=0)
-    for prompt in (ASKED, AGAIN):
-        terminal.sees(prompt)
-        terminal.types("words\n")
+    terminal.answers("words\n", "words\n")
     giving.write(b"Dear")
     made = lambda: [it for it in room.folder.glob("scrypt-ask.??????") if it.stat().st_size]
     terminal.until(made, "a file")
@@ -484,9 +471,7 @@ def pages(room):
         cheap = line if "--logN" in line else line.replace("scrypt-ask enc", f"scrypt-ask enc {CHEAP}")
         path = f"PATH={shlex.quote(str(room.top))}/path:{shlex.quote(str(room.top))}/bin:$PATH"
         terminal = Terminal(f"sh -c {shlex.quote(f'{path}; {cheap}')}", room.folder, dict(os.environ), os.getuid())
-        for prompt in (ASKED, AGAIN)[:1 + (" enc " in line)]:
-            terminal.sees(prompt)
-            terminal.types("words\n")
+        terminal.answers(*["words\n"] * (1 + (" enc " in line)))
         listed = "letters/\r\nletters/to-ada\r\n" if "-tf" in line else ""
         found = terminal.ends()
         room.that(line, (found, room.held("letters.tar") == held), ((0, (TWICE if " enc " in line else ONCE) + listed, True), True))
