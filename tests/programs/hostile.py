@@ -27,7 +27,7 @@ import pathlib
 sys.path += map(str, pathlib.Path(__file__).resolve().parents[1].iterdir())  # the other folders of tests/
 import argon2
 import scrypt
-from checking import Checks
+from checking import Checks, compiled, is_there
 from scrypt_files import COSTS, ENVIRONMENT, F0, F5, FILES, FIXED, FROM_PW, HEADER, LINES, SALT, header_of
 
 
@@ -339,14 +339,6 @@ def salts(checks, system):
         checks.that(f"a whole salt: {way}", len(set(made[16:48])) > 8 and made[16:48] != HEADER[16:48], True)
 
 
-def lines(checks, system):
-    """The line of a refusal goes out in one write."""
-    for run in RUNS:
-        if run.refusal:
-            _, called, _ = system.logged(run)
-            checks.that(f"one write: {run.name()}", called.count("write standard error"), 1)
-
-
 KINDS = {"open": "open", "openat": "open", "read": "read", "write": "write", "statx": "look at", "ftruncate": "empty", "fsync": "sync"}
 # Calls that change files, or wait for the disk, and that no run makes.
 NEVER = """unlink unlinkat rename renameat renameat2 truncate fallocate chmod fchmod fchmodat chown fchown fchownat link linkat
@@ -356,10 +348,9 @@ NEVER = """unlink unlinkat rename renameat renameat2 truncate fallocate chmod fc
 
 def no_other_calls(checks, system):
     """The calls that hostile_system.c sees are all that the system sees of their kinds, once the program began."""
-    strace = shutil.which("strace")
-    if strace is None:
-        print("skipped: the calls that the system sees, for which strace is needed")
+    if not is_there("strace", "the calls that the system sees are not looked at"):
         return
+    strace = shutil.which("strace")
     for run in RUNS:
         log = pathlib.Path(system.folder(), "trace")
         words = [strace, "-qq", "-e", f"trace={','.join([*KINDS, *NEVER])}", "-o", log, system.programs[run.program], *run.words.split()]
@@ -385,23 +376,19 @@ def over_the_library(checks, system, threads):
     largest_requests(checks, system)
     freed_blocks(checks, system)
     salts(checks, system)
-    lines(checks, system)
 
 
 def main():
     if len(sys.argv) != 3:
         raise SystemExit(__doc__)
-    compiler = shutil.which("cc")
     checks = Checks(sys.argv[1])
     programs = dict(zip(("argon2", "scrypt"), map(os.path.abspath, sys.argv[1:])))
     with tempfile.TemporaryDirectory() as folder, concurrent.futures.ThreadPoolExecutor(os.cpu_count()) as threads:
         library = os.path.join(folder, "hostile_system.so")
         system = System(programs, folder, library)
-        if compiler is None:
-            print("skipped: requests for memory and calls that are refused one by one, for which a C compiler is needed")
-        else:
-            source = os.path.join(os.path.dirname(os.path.abspath(__file__)), "hostile_system.c")
-            subprocess.run([compiler, "-O1", "-shared", "-fPIC", "-o", library, source], check=True)
+        if is_there("cc", "requests for memory and calls are not refused one by one"):
+            source = pathlib.Path(__file__).with_name("hostile_system.c").read_text(encoding="utf-8")
+            compiled(source, library, "-O1", "-shared", "-fPIC")
             over_the_library(checks, system, threads)
         for run, limited in [(run, threads.submit(limits, system, run)) for run in RUNS]:
             checks.that(f"memory limited: {run.name()}", limited.result(), (["plain"], []))
