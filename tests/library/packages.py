@@ -13,11 +13,10 @@ import re
 import shutil
 import subprocess
 import sys
-import tempfile
 
 sys.path += map(str, pathlib.Path(__file__).resolve().parents[1].iterdir())  # the other folders of tests/
 import binaries
-from checking import Checks, is_there, said
+from checking import Checks, is_there, over_library, said
 from library_texts import HEADER, prototypes, ran, types
 from shown import library_runs
 
@@ -290,13 +289,6 @@ def all_of(checks, folder, lib):
     packages(checks, folder, lib)
 
 
-def main():
-    checks = Checks("none")
-    os.umask(0o022)
-    with tempfile.TemporaryDirectory() as folder:
-        all_of(checks, folder, os.path.abspath(sys.argv[1]))
-    checks.end()
-
-
 if __name__ == "__main__":
-    main()
+    os.umask(0o022)
+    over_library(all_of)

@@ -27,7 +27,7 @@ from unittest import mock
 sys.path += map(str, pathlib.Path(__file__).resolve().parents[1].iterdir())  # the other folders of tests/
 import values_table
 from binaries import runs_v3
-from checking import Checks, compiled
+from checking import compiled, over_library
 from encoded_texts import work_of
 from library_texts import TOP
 from scrypt_files import of_costs
@@ -483,8 +483,7 @@ def arguments_from_python(checks, pikhsen):
         ):
             checks.that(f"{call}, {name}", found, expected)
     for call in (
-        lambda: pikhsen.hash("password", salt), lambda: pikhsen.verify(text, "password"), lambda: pikhsen.info("file"),
-        lambda: pikhsen.encrypt("text", b""), lambda: pikhsen.decrypt(8, b""), lambda: pikhsen.verify(None, b"x"),
+        lambda: pikhsen.hash("password", salt), lambda: pikhsen.decrypt(8, b""), lambda: pikhsen.verify(None, b"x"),
         lambda: pikhsen.hash(b"x", salt, passes=1.5), lambda: pikhsen.scrypt(b"", b"", log_n="4"),
     ):
         checks.that("a wrong type", refusal(call), "TypeError")
@@ -509,11 +508,12 @@ def texts_from_python(checks, pikhsen, text):
         ("encrypt", lambda: pikhsen.encrypt("correct horse", b"")), ("decrypt", lambda: pikhsen.decrypt("correct horse", b"")),
         ("encrypt_in_place", lambda: pikhsen.encrypt_in_place("correct horse", b"")), ("info", lambda: pikhsen.info("correct horse")),
     ):
+        says = ""
         try:
             call()
         except TypeError as told:
             says = str(told)
-            checks.that(f"{name}, a text: what is said", ('"..".encode()' in says, "horse" in says), (True, False))
+        checks.that(f"{name}, a text: what is said", ('"..".encode()' in says, "horse" in says), (True, False))
 
 
 def numbers_from_python(checks, pikhsen, text, file):
@@ -572,17 +572,11 @@ def parameters_of(function):
 
 
 def salts_from_python(checks, pikhsen):
-    """A salt that is not given is new each time, and each of its bytes is one of many: of 64 bytes at random 40 or
-    more differ, but for less than one time in a million million. And it is what the system gave."""
+    """A salt that is not given is what the system gave for it."""
     for name, length, made_by in (
         ("text", 16, lambda: base64.b64decode(pikhsen.encode(b"password", passes=1, memory_kib=8, lanes=1).split("$")[4] + "==")),
         ("file", 32, lambda: pikhsen.encrypt(b"Dear Ada", b"password", log_n=1, r=1, p=1)[16:48]),
     ):
-        salts = [made_by() for _ in range(64)]
-        checks.that(f"salt of a {name}: its length", {len(it) for it in salts}, {length})
-        checks.that(f"salts of 64 {name}s, all different", len({*salts}), 64)
-        few = [at for at in range(length) if len({it[at] for it in salts}) < 40]
-        checks.that(f"salts of 64 {name}s: places where few bytes differ", few, [])
         with mock.patch.object(os, "urandom", side_effect=lambda count: bytes(range(count))) as system:
             checks.that(f"salt of a {name}, as the system gave it", (made_by(), system.call_count), (bytes(range(length)), 1))
 
@@ -742,12 +736,5 @@ def calls(checks, folder, lib):
     return pikhsen
 
 
-def main():
-    checks = Checks("none")
-    with tempfile.TemporaryDirectory() as folder:
-        calls(checks, folder, os.path.abspath(sys.argv[1]))
-    checks.end()
-
-
 if __name__ == "__main__":
-    main()
+    over_library(calls)

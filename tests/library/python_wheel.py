@@ -11,12 +11,11 @@ import os
 import pathlib
 import subprocess
 import sys
-import tempfile
 import zipfile
 
 sys.path += map(str, pathlib.Path(__file__).resolve().parents[1].iterdir())  # the other folders of tests/
 from binaries import runs_v3
-from checking import Checks
+from checking import over_library
 from library_texts import TOP, ran
 from packages import EPOCH, HIGHER, VERSION, newest_libc
 from shown import shown
@@ -96,13 +95,5 @@ def all_of(checks, folder, lib):
     checks.that("wheel.sh without a library", (status != 0, [*both[1].iterdir()]), (True, []))
 
 
-def main():
-    checks = Checks("none")
-    with tempfile.TemporaryDirectory() as folder:
-        all_of(checks, folder, os.path.abspath(sys.argv[1]))
-    checks.end()
-
-
 if __name__ == "__main__":
-    sys.dont_write_bytecode = True
-    main()
+    over_library(all_of)

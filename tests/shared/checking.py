@@ -3,6 +3,8 @@ import os
 import pathlib
 import shutil
 import subprocess
+import sys
+import tempfile
 import time
 
 # In seconds, and blocks of 512 bytes: no run takes so long, and none writes a file so large.
@@ -79,6 +81,14 @@ class Checks:
         """Says how many passed and failed, and ends the process."""
         print(f"{self.passed} passed, {self.failed} failed")
         raise SystemExit(1 if self.failed else 0)
+
+
+def over_library(test):
+    """Runs a test over the library in the folder that the first word names, with a folder of its own."""
+    checks = Checks("none")
+    with tempfile.TemporaryDirectory() as folder:
+        test(checks, folder, os.path.abspath(sys.argv[1]))
+    checks.end()
 
 
 def difference(found, expected):
