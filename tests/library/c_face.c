@@ -32,7 +32,7 @@ extern void __libc_free(void *);
 /* Counts a request; whether it is refused. */
 static int refuses(size_t size)
 {
-	__sync_fetch_and_add(&asked, size);
+	asked += size;
 	if (granted == 0)
 		return 1;
 	if (granted > 0)
@@ -42,8 +42,7 @@ static int refuses(size_t size)
 
 static void *counted(void *block)
 {
-	if (block)
-		__sync_fetch_and_add(&live, 1);
+	live += block != NULL;
 	return block;
 }
 
@@ -66,8 +65,7 @@ void *realloc(void *at, size_t size)
 
 void free(void *at)
 {
-	if (at)
-		__sync_fetch_and_sub(&live, 1);
+	live -= at != NULL;
 	__libc_free(at);
 }
 #endif
@@ -103,14 +101,6 @@ static const unsigned char zeros[32];
 static unsigned int hash(unsigned char *out)
 {
 	return pikhsen_argon2_hash(ARGON2D, PASSWORD, SALT, EMPTY, EMPTY, 8, 100, out, 32);
-}
-
-static void *hashes(void *out)
-{
-	int i;
-	for (i = 0; i < 50; ++i)
-		WANT(hash((unsigned char *)out) == PIKHSEN_OK);
-	return NULL;
 }
 
 /* What the room of a text is can be asked before the compiler runs. */
@@ -318,19 +308,9 @@ static void settings_of_texts(void)
 	WANT(settings.kind == PIKHSEN_ARGON2D && settings.version == 0x13 && settings.passes == 1);
 	WANT(settings.memory_kib == 8 && settings.lanes == 1 && settings.salt_len == 8 && settings.tag_len == 32);
 	WANT(needs == 0);
-	for (i = 0; i < 7; ++i) {
-		wanted = settings;
-		wanted.kind += i == 0;
-		wanted.version -= i == 1;
-		wanted.passes += i == 2;
-		wanted.memory_kib -= i == 3;
-		wanted.lanes += i == 4;
-		wanted.salt_len += i == 5;
-		wanted.tag_len -= i == 6;
-		needs = 7;
-		WANT(pikhsen_argon2_needs_rehash(KNOWN, &wanted, &needs) == PIKHSEN_OK && needs == 1);
-	}
-	before = settings;
+	wanted = before = settings;
+	++wanted.tag_len;
+	WANT(pikhsen_argon2_needs_rehash(KNOWN, &wanted, &needs) == PIKHSEN_OK && needs == 1);
 	needs = 7;
 	for (i = 0; i < sizeof texts / sizeof *texts; ++i) {
 		const unsigned char *outside = (const unsigned char *)texts[i].text;
@@ -394,44 +374,30 @@ static void with_a_secret(void)
 	WANT(len == 0 && strcmp((char *)other, (const char *)known) == 0);
 }
 
-/* Every number has a sentence, and one that is not known another one than each. */
+/* Every sentence wants room for its bytes and for one more, and writes no other. */
 static void messages(void)
 {
-	unsigned char unknown[PIKHSEN_MESSAGE_ROOM], said[PIKHSEN_MESSAGE_ROOM];
-	size_t said_len;
+	unsigned char said[PIKHSEN_MESSAGE_ROOM];
+	size_t said_len, room;
 	unsigned int status;
 
-	WANT(pikhsen_message(4000000000u, unknown, sizeof unknown, &said_len) == PIKHSEN_OK);
-	WANT(said_len == strlen((char *)unknown) && said_len > 0);
-	for (status = 0; status <= PIKHSEN_TEXT_SALT_LENGTH; ++status) {
-		size_t room;
-		memset(said, 1, sizeof said);
+	for (status = 0; status <= PIKHSEN_TEXT_SALT_LENGTH + 1; ++status) {
 		WANT(pikhsen_message(status, said, sizeof said, &said_len) == PIKHSEN_OK);
-		WANT(said_len == strlen((char *)said) && strcmp((char *)said, (char *)unknown) != 0);
+		WANT(said_len == strlen((char *)said) && said_len > 0);
 		room = said_len;
 		memset(said, 1, sizeof said);
 		WANT(pikhsen_message(status, said, room, &said_len) == PIKHSEN_BUFFER && said_len == 0 && said[0] == 1);
 		WANT(pikhsen_message(status, said, room + 1, &said_len) == PIKHSEN_OK && said[room] == 0);
 		WANT(room + 1 == sizeof said || said[room + 1] == 1);
 	}
-	WANT(pikhsen_message(status, said, sizeof said, &said_len) == PIKHSEN_OK);
-	WANT(strcmp((char *)said, (char *)unknown) == 0);
 }
 
 int main(void)
 {
-	unsigned char tags[4][32], tag[32];
-	pthread_t threads[4];
+	unsigned char tag[32];
 	int i;
 
 	WANT(pikhsen_version() == PIKHSEN_VERSION);
-	for (i = 0; i < 4; ++i)
-		WANT(pthread_create(&threads[i], NULL, hashes, tags[i]) == 0);
-	for (i = 0; i < 4; ++i)
-		WANT(pthread_join(threads[i], NULL) == 0);
-	for (i = 1; i < 4; ++i)
-		WANT(memcmp(tags[0], tags[i], 32) == 0);
-
 	memset(tag, 1, sizeof tag);
 	memset(text, 1, sizeof text);
 	memset(ones, 1, sizeof ones);
