@@ -6,7 +6,6 @@ tests/library/python_wheel.py.
 
     tests/library/c_face.py              takes crates/pikhsen_c/out/libpikhsen_c.a as tests/edits/refusals.py or make lib left it,
                                  and the library for x86-64-v3 as make lib left it in bin/lib, if it is of these sources
-    tests/library/c_face.py --prove      proves the crates and builds that static library before
     tests/library/c_face.py --header FOLDER      what C and C++ see of the library in this folder, and the pages' logins over it
 """
 import hashlib
@@ -49,12 +48,10 @@ def is_of_sources(archive):
 
 def build(checks, folder):
     """Both libraries, twice, and what they show of themselves."""
-    has_higher = (TOP / "bin/lib" / packages.HIGHER).parent.is_dir()
-    levels = [*(["x86-64-v3"] if has_higher else []), "x86-64-v2"] if "--prove" in sys.argv else []
-    if not levels and not is_of_sources(TOP / f"crates/{CRATE}/out/lib{CRATE}.a"):
-        sys.exit(f"crates/{CRATE}/out has no static library of these sources: --prove makes it")
-    subprocess.run([TOP / "packaging/lib.sh", f"{folder}/lib", *levels], check=True)
-    if not levels and is_of_sources(TOP / "bin/lib" / packages.HIGHER):
+    if not is_of_sources(TOP / f"crates/{CRATE}/out/lib{CRATE}.a"):
+        sys.exit(f"crates/{CRATE}/out has no static library of these sources: make lib makes it")
+    subprocess.run([TOP / "packaging/lib.sh", f"{folder}/lib"], check=True)
+    if is_of_sources(TOP / "bin/lib" / packages.HIGHER):
         # as make lib left it
         pathlib.Path(folder, "lib", packages.HIGHER).parent.mkdir(parents=True)
         shutil.copy2(TOP / "bin/lib" / packages.HIGHER, pathlib.Path(folder, "lib", packages.HIGHER))

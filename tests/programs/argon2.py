@@ -5,7 +5,6 @@
 
 Expected hashes are those of Debian's argon2 (package argon2, version 0~20171227) and of RFC 9106's reference values.
 """
-import os
 import re
 import shutil
 import sys
@@ -14,7 +13,7 @@ import pathlib
 
 sys.path += map(str, pathlib.Path(__file__).resolve().parents[1].iterdir())  # the other folders of tests/
 import pages
-from checking import Checks, compiled, is_there
+from checking import Checks, is_there
 
 USAGE = (b"argon2: usage: argon2 salt [-i|-d|-id] [-t N] [-m N | -k N] [-p N] [-l N] [-v VERSION]"
          b" [--maxmem KIB] [--maxops N] (-e|-r)\n")
@@ -121,37 +120,6 @@ def large(checks):
     checks.that("the longest tag", (status, len(output), output[:64], output[-65:], line), (0, 8193, *LONGEST_TAG, b""))
 
 
-# Grants requests for memory up to the first of a size (the matrix), and refuses each one after it.
-REFUSING_AFTER = r"""
-#define _GNU_SOURCE
-#include <dlfcn.h>
-#include <stdlib.h>
-static int taken;
-#define GRANT(NAME, TYPES, ...) \
-    static void *(*next) TYPES; \
-    if (!next) next = dlsym(RTLD_NEXT, NAME); \
-    if (taken) return NULL; \
-    taken = size >= MATRIX; \
-    return next(__VA_ARGS__);
-void *malloc(size_t size) { GRANT("malloc", (size_t), size) }
-void *realloc(void *old, size_t size) { GRANT("realloc", (void *, size_t), old, size) }
-"""
-
-
-def memory_before_the_hash(checks):
-    """Once the matrix of 1 MiB is taken each further request is refused, and the run doesn't notice."""
-    if not is_there("cc", "memory is not refused"):
-        return
-    with tempfile.TemporaryDirectory() as folder:
-        library = os.path.join(folder, "refusing.so")
-        compiled(REFUSING_AFTER, library, "-shared", "-fPIC", "-DMATRIX=1048576")
-        for form in ("-e", "-r"):
-            words = f"somesalt -d -t 1 -k 1024 {form}".split()
-            expected = checks.run(words, b"password")
-            found = checks.shell(f'LD_PRELOAD={library} "$0" {" ".join(words)}', b"password")
-            checks.that(f"memory refused after the matrix, {form}", found, expected)
-
-
 def standard_streams_that_are_read(checks):
     """The file of the password gets neither the hash nor the line of a refusal. Another file does, after what it held."""
     said, hashing = refused(b"salt length out of range")[2], "somesalt -d -t 1 -k 8 -e"
@@ -183,8 +151,7 @@ def main():
     checks = Checks(sys.argv[1])
     for name, words, given, expected in TABLE:
         checks.that(name, checks.run(words.split(), given), expected)
-    for part in (examples, standard_streams, words_of_bytes, large, memory_before_the_hash, standard_streams_that_are_read,
-                 beside_the_installed):
+    for part in (examples, standard_streams, words_of_bytes, large, standard_streams_that_are_read, beside_the_installed):
         part(checks)
     checks.end()
 

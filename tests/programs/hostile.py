@@ -234,6 +234,7 @@ F_MIB = file_of_no_text(13)
 LARGE_REQUESTS = [
     (hash_of("somesalt -d -t 1 -k 1024 -e",
              b"$argon2d$v=19$m=1024,t=1,p=1$c29tZXNhbHQ$Li5eBf5XrCz0cuzQRe9oflYqmA/VAzmzichw4ZYrvEU\n"), 1 << 20),
+    (hash_of("somesalt -d -t 1 -k 1024 -r", b"2e2e5e05fe57ac2cf472ecd045ef687e562a980fd50339b389c870e1962bbc45\n"), 1 << 20),
     (hash_of("somesalt -id -t 2 -k 1024 -p 2 -e",
              b"$argon2id$v=19$m=1024,t=2,p=2$c29tZXNhbHQ$kEfNQbPvk6Q7hokW6Jrvn1Mjb9kdT/I7OXVDKsviazk\n"), 1 << 20),
     *((file_of(f"{words} {keep} {FROM_PW} -", given, made, *LINE), table)
@@ -244,8 +245,8 @@ INFO = file_of("info -", F_MIB, b"N = 8192; r = 1; p = 1; memory = 1048576; core
 
 
 def largest_requests(checks, system):
-    """No request is for more than 65,536 bytes above those of the matrix or the table, and one is for no fewer; `info` of a file
-    asks for no table."""
+    """No request is for more than 65,536 bytes above those of the matrix or the table, and one is for no fewer, that of a matrix
+    the last; `info` of a file asks for no table."""
     found = system.run(INFO, {"HOSTILE_LARGEST": "65536"})
     checks.that(f"no table: {INFO.name()}", found, (0, INFO.output, b"", None))
     for run, size in LARGE_REQUESTS:
@@ -253,6 +254,9 @@ def largest_requests(checks, system):
         checks.that(f"no larger request: {run.name()}", found, (0, run.output, b"", None))
         found = system.run(run, {"HOSTILE_LARGEST": str(size - 1)})
         checks.that(f"a request as large: {run.name()}", found, run.without_memory())
+        if run.program == "argon2":
+            counts = [system.logged(run, **refusing)[2] for refusing in ({}, {"HOSTILE_LARGEST": str(size - 1)})]
+            checks.that(f"no request after the matrix: {run.name()}", counts[1], counts[0])
 
 
 # A file is refused for its passphrase, once its table of 1 MiB was filled.

@@ -18,9 +18,7 @@ import pathlib
 
 sys.path += map(str, pathlib.Path(__file__).resolve().parents[1].iterdir())  # the other folders of tests/
 from checking import Checks, is_there
-from scrypt_files import (
-    COSTS, ENVIRONMENT, F0, F5, FILES, FIXED, FROM_PW, LINES, PASSPHRASE_OF_BYTES, SALT, header_of
-)
+from scrypt_files import COSTS, ENVIRONMENT, F0, F5, FILES, FIXED, FROM_PW, LINES, PASSPHRASE_OF_BYTES, SALT
 
 
 def done(out=b""):
