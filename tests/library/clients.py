@@ -1,28 +1,26 @@
 #!/usr/bin/env python3
 """Runs the tests of programs that nobody here wrote over a built library, by the adapters in tests/library/clients/: the test
-program of the reference implementation of Argon2 (src/test.c), the tests of argon2-cffi, and those of python-scrypt; and
-what the adapter of argon2.h says of the length of a text.
+program of the reference implementation of Argon2 (src/test.c), the tests of argon2-cffi, and those of python-scrypt.
 
     tests/library/clients.py FOLDER [--sources DIR]      FOLDER has libpikhsen.so.0, as bin/lib
 
 Says for each how many tests passed, failed and were left out, and each test that ends in another way than the library
 that it was written for, with the reason. Fails where another test fails, or one of these ends as it was written.
 
-Takes what is installed and what is in DIR: archives of sources (.tar.*), packages (.deb), or folders with what is in
-them. It installs nothing and uses no network. Debian has them all, some of them in its newer suites alone:
+Takes what is installed, and the sources and packages that are unpacked in DIR. It installs nothing and uses no network.
+Debian has them all, some of them in its newer suites alone:
 
     apt-get source --download-only argon2 python-argon2 python-scrypt
     apt-get download python3-cffi python3-cffi-backend python3-pycparser python3-ply python3-pytest python3-hypothesis \\
         python3-attr python3-iniconfig python3-pluggy python3-packaging python3-sortedcontainers
+    for it in *.orig.tar.*; do tar -xf $it; done; for it in *.deb; do dpkg-deb -x $it .; done
 
 python-scrypt needs no package. Not in the gate, since none of this is there. It takes some minutes and 1.5 GB.
 """
 import argparse
-import ctypes
 import json
 import os
 import pathlib
-import re
 import shutil
 import subprocess
 import sys
@@ -48,27 +46,10 @@ ADAPTERS_OWN = {
 }
 
 
-def unpacked(sources, work):
-    """The folders in which things are looked for: DIR, and what its archives and packages have in them."""
-    if not sources:
-        return []
-    for file in sorted(pathlib.Path(sources).iterdir()):
-        to = pathlib.Path(work, "sources", file.name)
-        if file.suffix == ".deb":
-            to.parent.mkdir(exist_ok=True)
-            subprocess.run(["dpkg-deb", "-x", file, to], check=True)
-        elif re.search(r"\.(tar\.\w+|tgz)$", file.name) and ".debian." not in file.name:
-            to.mkdir(parents=True)
-            subprocess.run(["tar", "-xf", file, "-C", to, "--no-same-owner"], check=True)
-    return [pathlib.Path(sources).resolve(), *sorted(pathlib.Path(work, "sources").glob("*"))]
-
-
-def tree_with(folders, *files):
+def tree_with(folders, file, *others):
     """Of the folders at or below these that have all these files the one with the last name: the newest version."""
-    below = [it for folder in folders for it in folder.rglob(files[0])]
-    trees = {pathlib.Path(str(it)[: -len(files[0])]) for it in below}
-    trees = [it for it in trees if all((it / file).is_file() for file in files)]
-    return max(trees, key=lambda it: (it.name, str(it)), default=None)
+    trees = [it.parents[file.count("/")] for folder in folders for it in folder.rglob(file)]
+    return max((it for it in trees if all((it / other).is_file() for other in others)), default=None)
 
 
 def left_out(name, why):
@@ -126,20 +107,6 @@ def of_test_program(name, tree, adapter, link, work):
     return is_right(name, tree.name, found, own=ADAPTERS_OWN)
 
 
-def of_lengths(name, adapter):
-    """argon2_encodedlen tells just the length of the text that argon2_hash writes, and its byte 0."""
-    library, found = ctypes.CDLL(adapter), []
-    library.argon2_encodedlen.restype = ctypes.c_size_t
-    for passes, kib, lanes, salt_len, tag_len, kind in ((1, 8, 1, 8, 4, 1), (10, 99, 3, 255, 32, 2), (9, 65536, 16, 10, 24, 0)):
-        out, salt = ctypes.create_string_buffer(1000), bytes(salt_len)
-        of = [ctypes.c_size_t(it) for it in (8, salt_len, tag_len, 1000)]
-        library.argon2_hash(passes, kib, lanes, b"password", of[0], salt, of[1], None, of[2], out, of[3], kind, 0x13)
-        told = library.argon2_encodedlen(passes, kib, lanes, salt_len, tag_len, kind)
-        is_exact = out.value.startswith(b"$argon2") and told == len(out.value) + 1
-        found.append((out.value.decode()[:34], "passed" if is_exact else "failed", f"{told}, and not {len(out.value) + 1}"))
-    return is_right(name, adapter.name, found)
-
-
 def python_with(modules, environment):
     """The first Python that finds these modules."""
     for python in dict.fromkeys(PYTHONS):
@@ -170,7 +137,7 @@ def main():
     right = []
     with tempfile.TemporaryDirectory() as work:
         work = pathlib.Path(work)
-        folders = unpacked(given.sources, work)
+        folders = [pathlib.Path(given.sources).resolve()] if given.sources else []
         link = ["-L", lib, "-l:libpikhsen.so.0", f"-Wl,-rpath,{lib}"]
         packages = [str(it) for folder in folders for it in folder.rglob("dist-packages")]
         environment = {**os.environ, "PYTHONPATH": ":".join(packages), "PYTHONDONTWRITEBYTECODE": "1"}
@@ -181,7 +148,6 @@ def main():
         header, adapter = next((it / "argon2.h" for it in places if (it / "argon2.h").is_file()), None), None
         if header:
             adapter = compiled(["-shared", "-fPIC", "-I", header.parent, ADAPTERS / "argon2.c", *link], work / "libargon2.so")
-            right.append(of_lengths("argon2_encodedlen", adapter))
         right.append(of_test_program(name, tree, adapter, link, work) if tree else
                      left_out(name, "there are no sources of it with src/test.c and include/argon2.h"))
         tree, name = tree_with(folders, "tests/test_low_level.py", "src/argon2/low_level.py"), "argon2-cffi"
