@@ -1,15 +1,15 @@
 #!/usr/bin/env python3
 """Times the built programs beside the argon2 and scrypt that are installed, and libsodium and OpenSSL, in one table.
 
-    bench/table.py FOLDER.. [--rounds 5] [--only WORD] [--large] [--out PATH]
+    bench/table.py FOLDER.. [--rounds 5] [--only WORD] [--out PATH]
 
 Each FOLDER, as bin/x86-64-v2, has argon2 and scrypt, built for the level of its name. In each round every program does
 the row's work once, in turn; the least of all rounds counts, so that what else the machine does hits all alike. Time is
 user and system time of the process, and elapsed time. Memory is the greatest resident set, of a further run under GNU
 time where that is there. A ratio is to the installed program, and below 1 where ours takes less. Hashes and decrypted
 files are compared. Over libsodium and OpenSSL, where they are installed, a program is compiled (bench/libsodium.c,
-bench/openssl.c), and a line says which instructions they use. --large adds the rows of a gigabyte. --out PATH writes the
-table to PATH.tsv, too, as tab-separated values, and draws a whole one as PATH.svg (bench/ratios.py).
+bench/openssl.c), and a line says which instructions they use. --out PATH writes the table to PATH.tsv, too, as
+tab-separated values, and draws a whole one as PATH.svg (bench/ratios.py).
 """
 import argparse
 import collections
@@ -33,17 +33,16 @@ COLUMNS = ["work", "size", "level", *TIMES, "ours_MiB", "theirs_MiB", "rounds", 
 COSTS = ["--logN", "14", "-r", "8", "-p", "1"]
 # Libraries that rows are beside: the C source of a program that calls each, and what the linker knows it as.
 LIBRARIES = {"libsodium": ("libsodium.c", "sodium"), "OpenSSL": ("openssl.c", "crypto")}
-# A piece of work: a program with its arguments and its input, the status that is wanted, about how many seconds it takes, and
-# the library beside which it stands, if that isn't the installed program.
-Row = collections.namedtuple("Row", "work size program words given status seconds library", defaults=(b"", 0, 0.1, None))
+# A piece of work: a program with its arguments and its input, the status that is wanted, and the library beside which it
+# stands, if that isn't the installed program.
+Row = collections.namedtuple("Row", "work size program words given status library", defaults=(b"", 0, None))
 
 
 def argon2_rows():
     for log_memory, kind, passes, lanes in itertools.product((3, 12, 16, 18), ("d", "i", "id"), (1, 3), (1, 4)):
         memory = ["-k", str(8 * lanes)] if log_memory == 3 else ["-m", str(log_memory)]
         words = ["somesalt", f"-{kind}", "-t", str(passes), "-p", str(lanes), *memory, "-r"]
-        work, seconds = f"argon2 -{kind} -t {passes} -p {lanes} -m", passes * 2.0 ** (log_memory - 19)
-        yield Row(work, log_memory, "argon2", words, b"password", 0, seconds)
+        yield Row(f"argon2 -{kind} -t {passes} -p {lanes} -m", log_memory, "argon2", words, b"password")
 
 
 def key_words(log_n):
@@ -53,11 +52,11 @@ def key_words(log_n):
 def scrypt_rows():
     key = ["--passphrase", "env:PW"]
     for log_n in range(14, 21):
-        yield Row("key, -r 8 -p 1, --logN", log_n, "scrypt", key_words(log_n), seconds=2.0 ** (log_n - 18))
-    for size in (1, 10, 100, 1024):
+        yield Row("key, -r 8 -p 1, --logN", log_n, "scrypt", key_words(log_n))
+    for size in (1, 10, 100):
         encrypting, decrypting = ["enc", *COSTS, *key, f"text-{size}", "made"], ["dec", *key, f"text-{size}.enc", "made"]
-        yield Row("enc, --logN 14, MiB", size, "scrypt", encrypting, seconds=size / 60)
-        yield Row("dec, --logN 14, MiB", size, "scrypt", decrypting, seconds=size / 60)
+        yield Row("enc, --logN 14, MiB", size, "scrypt", encrypting)
+        yield Row("dec, --logN 14, MiB", size, "scrypt", decrypting)
     yield Row("info", 1, "scrypt", ["info", "text-1.enc"])
     yield Row("a refused word", 1, "scrypt", ["encrypt"], status=1)
     yield Row("a refused word of argon2", 1, "argon2", ["somesalt", "-q"], b"password", 1)
@@ -67,10 +66,9 @@ def library_rows():
     for log_memory in (12, 16, 18):
         for passes in (1, 3):
             words = ["sixteen bytes...", "-id", "-t", str(passes), "-p", "1", "-m", str(log_memory), "-r"]
-            work, seconds = f"libsodium -id -t {passes} -m", passes * 2.0 ** (log_memory - 19)
-            yield Row(work, log_memory, "argon2", words, b"password", 0, seconds, "libsodium")
+            yield Row(f"libsodium -id -t {passes} -m", log_memory, "argon2", words, b"password", library="libsodium")
     for library, log_n in itertools.product(("OpenSSL", "libsodium"), (14, 17, 20)):
-        yield Row(f"{library}, -r 8 -p 1, --logN", log_n, "scrypt", key_words(log_n), seconds=2.0 ** (log_n - 18), library=library)
+        yield Row(f"{library}, -r 8 -p 1, --logN", log_n, "scrypt", key_words(log_n), library=library)
 
 
 def compiled(name, folder):
@@ -136,11 +134,9 @@ def main():
     asked.add_argument("folders", nargs="+", metavar="FOLDER")
     asked.add_argument("--rounds", type=int, default=5)
     asked.add_argument("--only", default="")
-    asked.add_argument("--large", action="store_true")
     asked.add_argument("--out")
     given = asked.parse_args()
-    rows = [row for row in (*argon2_rows(), *scrypt_rows(), *library_rows())
-            if (given.large or row.seconds <= 5) and given.only in f"{row.work} {row.size}"]
+    rows = [row for row in (*argon2_rows(), *scrypt_rows(), *library_rows()) if given.only in f"{row.work} {row.size}"]
     levels = {os.path.basename(os.path.abspath(folder)): os.path.abspath(folder) for folder in given.folders}
     model = re.search(r"(?m)^model name\s*: (.*)", pathlib.Path("/proc/cpuinfo").read_text(encoding="utf-8"))
     title = f"{model[1] if model else 'unknown'}, {os.cpu_count()} processors; load {os.getloadavg()[0]:.1f} at the start; " \
