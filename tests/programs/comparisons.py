@@ -14,7 +14,7 @@ import sys
 import tempfile
 
 sys.path += map(str, pathlib.Path(__file__).resolve().parents[1].iterdir())  # the other folders of tests/
-from checking import Checks, compiled, is_there
+from checking import Checks, is_there
 from scrypt_files import F5, FROM_PW, LINES
 from shown import compile_c
 
@@ -23,20 +23,6 @@ PLACES = (0, 1, 15, 16, 31)
 TEXT = "$argon2d$v=19$m=8,t=1,p=1$c29tZXNhbHQ$"
 TAG = "xRnmA6xgPsGutbcexEpheePzl1sUwMl+ORTHnmNj4Xg"
 
-# Compares two files, to the first byte that differs or over all.
-COMPARES = """
-#include <stdio.h>
-int main(int count, char **words) {
-    int whole = count > 3, difference = 0, left, right;
-    FILE *first = fopen(words[1], "rb"), *second = fopen(words[2], "rb");
-    while ((left = getc(first)) != EOF) {
-        right = getc(second);
-        difference |= left ^ right;
-        if (!whole && difference) break;
-    }
-    return difference ? 1 : 0;
-}
-"""
 UNCOUNTED = "valgrind", "the instructions of comparisons are not counted"
 VERIFIES = """
 #include "pikhsen.h"
@@ -96,18 +82,13 @@ def tags_of_texts(checks, library, folder):
 
 
 def sees_what_stops(checks, folder):
-    """The counts of a program that stops at the first difference are seen to differ."""
-    if not is_there("cc", "no program that stops at a difference is looked at"):
-        return
-    program = os.path.join(folder, "compares")
-    compiled(COMPARES, program, "-O1")
+    """The counts of cmp, which stops at the first word that differs, are seen to differ."""
     pathlib.Path(folder, "left").write_bytes(bytes(32))
-    for words, differ in (([], True), (["whole"], False)):
-        counts = set()
-        for place in PLACES:
-            pathlib.Path(folder, "right").write_bytes(changed(bytes(32), place))
-            counts.add(counted([program, "left", "right", *words], folder)[2])
-        checks.that(f"counts of a comparison of files {' '.join(words)}", len(counts) > 1, differ)
+    counts = set()
+    for place in PLACES:
+        pathlib.Path(folder, "right").write_bytes(changed(bytes(32), place))
+        counts.add(counted(["cmp", "-s", "left", "right"], folder)[2])
+    checks.that("counts of a comparison that stops", len(counts) > 1, True)
 
 
 def main():

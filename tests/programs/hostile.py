@@ -25,8 +25,6 @@ from dataclasses import dataclass
 import pathlib
 
 sys.path += map(str, pathlib.Path(__file__).resolve().parents[1].iterdir())  # the other folders of tests/
-import argon2
-import scrypt
 from checking import Checks, compiled, is_there
 from scrypt_files import COSTS, ENVIRONMENT, F0, F5, FILES, FIXED, FROM_PW, HEADER, LINES, SALT, header_of
 
@@ -191,34 +189,20 @@ class System:
         return done, called, int(memory.split()[1])
 
 
-def memory(system, run, from_there_on=True):
-    """Each request for memory is refused, alone and from there on: how many did no harm, and what was found where it is not the
+def memory(system, run):
+    """Each request for memory is refused, alone and from there on: whether there is one, and what was found where it is not the
     line of want of memory."""
     _, _, requests = system.logged(run)
-    harmless, wrong = 0, []
+    wrong = []
     for number in range(1, requests + 1):
-        for last in (number, 1 << 40) if from_there_on else (number,):
+        for last in (number, 1 << 40):
             found = system.run(run, {"HOSTILE_MEMORY": f"{number}-{last}"})
-            if last == number and found == run.plain():
-                harmless += 1
-            elif found != run.without_memory():
+            if found != run.without_memory():
                 wrong.append((number, last, found))
     past = system.run(run, {"HOSTILE_MEMORY": f"{requests + 1}-{1 << 40}"})
     if past != run.plain():
         wrong.append(("past the last", past))
-    return requests > 0, harmless, wrong
-
-
-def worked_rows(checks, system, threads):
-    """The same of each row of tests/programs/argon2.py and tests/programs/scrypt.py that ends well."""
-    def refused(run):
-        return [each for each in memory(system, run, False)[1:] if each]
-
-    rows = [Run(program, words, given, expected[1], calls(*WRITTEN))
-            for program, table in (("argon2", argon2.TABLE), ("scrypt", scrypt.TABLE))
-            for _, words, given, expected in table if expected[0] == 0]
-    for run, found in [(run, threads.submit(refused, run)) for run in rows]:
-        checks.that(f"memory refused, request by request: {run.name()}", found.result(), [])
+    return requests > 0, wrong
 
 
 def file_of_no_text(log_n):
@@ -375,8 +359,7 @@ def over_the_library(checks, system, threads):
     tables = [(run, *(threads.submit(test, system, run) for test in (failing_calls, memory))) for run in RUNS]
     for run, called, requested in tables:
         checks.that(f"a call refused: {run.name()}", called.result(), [])
-        checks.that(f"memory refused: {run.name()}", requested.result(), (True, 0, []))
-    worked_rows(checks, system, threads)
+        checks.that(f"memory refused: {run.name()}", requested.result(), (True, []))
     largest_requests(checks, system)
     freed_blocks(checks, system)
     salts(checks, system)

@@ -506,13 +506,6 @@ def salts(checks):
     checks.that("a file with such a salt", checks.run(f"dec {FROM_PW} -".split(), first), done(b"hello"))
 
 
-def costs_where_none_are_given(checks):
-    status, made, said = checks.run(f"enc {FROM_PW} hello".split())
-    checks.that("a file with the costs where none are given", (status, len(made), said), (0, 133, b""))
-    line = b"N = 131072; r = 8; p = 1; memory = 134217728; cores = 4194304\n"
-    checks.that("its costs", checks.run(["info", "-"], made), done(line))
-
-
 def beside_the_installed(checks):
     other = shutil.which("scrypt")
     if other is None:
@@ -555,7 +548,7 @@ def main():
             outfiles, standard_streams, closed_streams_and_files, without_the_root_folder, pipes, slow_input,
             standard_input_that_is_left, outputs_that_are_read, standard_output_that_is_read, standard_error_that_is_read,
             block_devices, folders_that_are_kept, output_by_a_bind_mount, outputs_over_layers, words_of_bytes,
-            passphrase_of_bytes, lengths, salts, costs_where_none_are_given, large_costs, beside_the_installed,
+            passphrase_of_bytes, lengths, salts, large_costs, beside_the_installed,
         ):
             part(checks)
     checks.end()
