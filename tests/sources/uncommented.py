@@ -9,27 +9,18 @@ import pathlib
 import re
 import sys
 
-# A comment to the end of its line, or the beginning of one that may nest; a string, raw or not; a character; anything
+# A comment to the end of its line (tests/sources/sources.sh refuses any other); a string, raw or not; a character; anything
 # else, word by word.
 PIECE = re.compile(
-    r'(?P<line>//[^\n]*)|(?P<opens>/\*)'
-    r'|(?P<string>[bc]?r(?P<marks>#*)".*?"(?P=marks)|[bc]?"(?:[^"\\]|\\.)*")'
+    r'(?P<comment>//[^\n]*)|(?P<string>[bc]?r(?P<marks>#*)".*?"(?P=marks)|[bc]?"(?:[^"\\]|\\.)*")'
     r"|b?'(?:[^'\\]|\\(?:u\{\w+\}|x\w\w|.))'|\w+|.", re.DOTALL)
-MARK = re.compile(r"/\*|\*/")
 COMMENT = "\0"
 
 
 def pieces(text):
     """The pieces of a source in their order: each comment as COMMENT, and whether it is a string."""
-    at = 0
-    while at < len(text):
-        piece = PIECE.match(text, at)
-        at, depth = piece.end(), 1 if piece["opens"] else 0
-        while depth:
-            mark = MARK.search(text, at)
-            at, depth = mark.end(), depth + (1 if mark[0] == "/*" else -1)
-        is_comment = piece["line"] or piece["opens"]
-        yield COMMENT if is_comment else piece[0], bool(piece["string"])
+    for piece in PIECE.finditer(text):
+        yield COMMENT if piece["comment"] else piece[0], bool(piece["string"])
 
 
 def in_lines(text):
