@@ -73,18 +73,25 @@ all_rows v w h g =
     ∙ take_all 128 (rows_into v v 8) (omega (arith, length-rows_into v v 8))
     ∙ sym (in_place v 8)
 
--- two more rows, two more columns
-pub rows_more : (v w : List ℕ) (i : ℕ) → with_row_permuted v (with_row_permuted v (rows_into v w (2 * i)) (2 * i)) (2 * i + 1) ≡ rows_into v w (2 * (i + 1))
+-- four more rows, four more columns
+pub rows_more : (v w : List ℕ) (i : ℕ)
+    → with_row_permuted v (with_row_permuted v (with_row_permuted v (with_row_permuted v (rows_into v w (4 * i)) (4 * i)) (4 * i + 1)) (4 * i + 2)) (4 * i + 3)
+    ≡ rows_into v w (4 * (i + 1))
 unfolding rows_into
 rows_more v w i =
-    let e : 2 * (i + 1) ≡ suc (suc (2 * i)) = omega arith in
-    let f : 2 * i + 1 ≡ suc (2 * i) = omega arith in
-    rw (e, f) refl
+    let e : 4 * (i + 1) ≡ suc (suc (suc (suc (4 * i)))) = omega arith in
+    let f : 4 * i + 1 ≡ suc (4 * i) = omega arith in
+    let g : 4 * i + 2 ≡ suc (suc (4 * i)) = omega arith in
+    let h : 4 * i + 3 ≡ suc (suc (suc (4 * i))) = omega arith in
+    rw (e, f, g, h) refl
 
 pub columns_more : (v : List ℕ) (i : ℕ)
-    → along permutation (along permutation (block_after_columns v (2 * i)) (column_places (2 * i))) (column_places (2 * i + 1)) ≡ block_after_columns v (2 * (i + 1))
+    → along permutation (along permutation (along permutation (along permutation (block_after_columns v (4 * i)) (column_places (4 * i))) (column_places (4 * i + 1))) (column_places (4 * i + 2))) (column_places (4 * i + 3))
+    ≡ block_after_columns v (4 * (i + 1))
 unfolding block_after_columns
 columns_more v i =
-    let e : 2 * (i + 1) ≡ suc (suc (2 * i)) = omega arith in
-    let f : 2 * i + 1 ≡ suc (2 * i) = omega arith in
-    rw (e, f) refl
+    let e : 4 * (i + 1) ≡ suc (suc (suc (suc (4 * i)))) = omega arith in
+    let f : 4 * i + 1 ≡ suc (4 * i) = omega arith in
+    let g : 4 * i + 2 ≡ suc (suc (4 * i)) = omega arith in
+    let h : 4 * i + 3 ≡ suc (suc (suc (4 * i))) = omega arith in
+    rw (e, f, g, h) refl

@@ -98,6 +98,13 @@ pub column_keyed : (i : ℕ) → i < 8 → Keyed (λ p. p / 2 % 8) i (column_pla
 column_keyed i h =
     (omega arith, (omega arith, (omega arith, (omega arith, (omega arith, (omega arith, (omega arith, (omega arith, (omega arith, (omega arith, (omega arith, (omega arith, (omega arith, (omega arith, (omega arith, (omega arith, tt))))))))))))))))
 
+-- the words of another column than the one that is written
+pub column_kept : (v w new : List ℕ) (i j : ℕ) → i < 8 → j < 8 → (j ≡ i → ⊥) → w ≡ with_words_at v (column_places i) new
+    → words_at w (column_places j) ≡ words_at v (column_places j)
+column_kept v w new i j hi hj other e =
+    ap (λ (u : List ℕ). words_at u (column_places j)) e
+    ∙ apart (λ p. p / 2 % 8) i j v (column_places i) new (column_places j) (column_keyed i hi) (column_keyed j hj) other
+
 -- what is read at places of v, permuted, and written at the same places of w
 pub placed : (v w u s p places : List ℕ) → s ≡ words_at v places → p ≡ permutation s → u ≡ with_words_at w places p
     → u ≡ with_words_at w places (permutation (words_at v places))

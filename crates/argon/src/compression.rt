@@ -1,5 +1,5 @@
-//! The compression function G (RFC 9106, section 3.5) in blocks that the caller lends, two rows or
-//! two columns at a time.
+//! The compression function G (RFC 9106, section 3.5) in blocks that the caller lends, four rows or
+//! four columns at a time.
 ghost use Rattle.std.specs.Prelude.{◌≡◌, ◌+◌, ◌*◌, ◌<◌};
 ghost use Rattle.blake.specs.Words.{along};
 ghost use Rattle.four_words.specs.Words.{xored_words};
@@ -7,7 +7,7 @@ ghost use Rattle.argon.specs.Compression.{block_after_columns, block_after_rows,
 ghost use Rattle.argon.specs.Inside.FourWords.{with_row_permuted};
 
 use crate::block::{Block, column, put_column, put_row, row, write_xor};
-use crate::permutation::permute;
+use crate::permutation::{mix, to_columns, to_diagonals};
 use crate::ticks::Ticks;
 
 /// The two blocks that [`compression`] works in, and leaves its value in: G is their xor. They are made once for many calls,
@@ -31,37 +31,65 @@ impl Scratch {
     }
 }
 
-// Rows 2 i and 2 i + 1 of a block, permuted, into another.
+// Rows 4 i to 4 i + 3 of a block, permuted, into another.
 #[inline(always)]
-fn permute_two_rows(from: &Block, into: &mut Block, i: usize)
-    requires rows { i < 4 }
+fn permute_four_rows(from: &Block, into: &mut Block, i: usize)
+    requires rows { i < 2 }
     ensures value { into.new
-        ≡ with_row_permuted from.now (with_row_permuted from.now into.old (2 * i)) (2 * i + 1) }
+        ≡ with_row_permuted from.now (with_row_permuted from.now (with_row_permuted from.now (with_row_permuted from.now
+        into.old (4 * i)) (4 * i + 1)) (4 * i + 2)) (4 * i + 3) }
 {
-    let (even, odd) = permute(row(from, 2 * i), row(from, 2 * i + 1));
-    put_row(into, 2 * i, even);
-    put_row(into, 2 * i + 1, odd);
+    let (one, two, three, four) = mix(
+        row(from, 4 * i),
+        row(from, 4 * i + 1),
+        row(from, 4 * i + 2),
+        row(from, 4 * i + 3),
+    );
+    let (one, two, three, four) = mix(
+        to_diagonals(one),
+        to_diagonals(two),
+        to_diagonals(three),
+        to_diagonals(four),
+    );
+    put_row(into, 4 * i, to_columns(one));
+    put_row(into, 4 * i + 1, to_columns(two));
+    put_row(into, 4 * i + 2, to_columns(three));
+    put_row(into, 4 * i + 3, to_columns(four));
 }
 
-// Columns 2 i and 2 i + 1 of a block, permuted in place.
+// Columns 4 i to 4 i + 3 of a block, permuted in place.
 #[inline(always)]
-fn permute_two_columns(block: &mut Block, i: usize)
-    requires columns { i < 4 }
+fn permute_four_columns(block: &mut Block, i: usize)
+    requires columns { i < 2 }
     ensures value { block.new
-        ≡ along permutation (along permutation block.old (column_places (2 * i)))
-        (column_places (2 * i + 1)) }
+        ≡ along permutation (along permutation (along permutation (along permutation block.old
+        (column_places (4 * i))) (column_places (4 * i + 1))) (column_places (4 * i + 2)))
+        (column_places (4 * i + 3)) }
 {
-    let (even, odd) = permute(column(block, 2 * i), column(block, 2 * i + 1));
-    put_column(block, 2 * i, even);
-    put_column(block, 2 * i + 1, odd);
+    let (one, two, three, four) = mix(
+        column(block, 4 * i),
+        column(block, 4 * i + 1),
+        column(block, 4 * i + 2),
+        column(block, 4 * i + 3),
+    );
+    let (one, two, three, four) = mix(
+        to_diagonals(one),
+        to_diagonals(two),
+        to_diagonals(three),
+        to_diagonals(four),
+    );
+    put_column(block, 4 * i, to_columns(one));
+    put_column(block, 4 * i + 1, to_columns(two));
+    put_column(block, 4 * i + 2, to_columns(three));
+    put_column(block, 4 * i + 3, to_columns(four));
 }
 
 #[inline(always)]
 fn permute_rows(from: &Block, into: &mut Block)
     ensures value { into.new ≡ block_after_rows from.now 8 }
 {
-    'rows: for i in 0..4 {
-        permute_two_rows(from, into, i);
+    'rows: for i in 0..2 {
+        permute_four_rows(from, into, i);
     }
 }
 
@@ -69,8 +97,8 @@ fn permute_rows(from: &Block, into: &mut Block)
 fn permute_columns(block: &mut Block)
     ensures value { block.new ≡ block_after_columns block.old 8 }
 {
-    'columns: for i in 0..4 {
-        permute_two_columns(block, i);
+    'columns: for i in 0..2 {
+        permute_four_columns(block, i);
     }
 }
 

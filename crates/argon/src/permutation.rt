@@ -1,9 +1,9 @@
-//! The permutation P (RFC 9106, section 3.6) of two lists of sixteen words side by side, each in
-//! four vectors of four words. One P is a chain of steps that wait for each other, so two overlap.
+//! The permutation P (RFC 9106, section 3.6) of four lists of sixteen words side by side, each in
+//! four vectors of four words. One P is a chain of steps that wait for each other, so four overlap.
 ghost use Rattle.std.specs.Prelude.{◌≡◌, ℕ, ◌+◌, ◌*◌, ◌%◌, ◌^◌, ◌<◌, slice_index, bit_xor};
 ghost use Rattle.std.specs.Int.{w64, rotate_right};
-ghost use Rattle.argon.specs.Compression.{mixed_words, permutation, sum_with_product};
-ghost use Rattle.argon.specs.Inside.FourWords.{by_columns, by_diagonals, words_across, words_by_rows};
+ghost use Rattle.argon.specs.Compression.{mixed_words, sum_with_product};
+ghost use Rattle.argon.specs.Inside.FourWords.{by_columns, by_diagonals, words_across};
 
 use std::simd::u64x4;
 
@@ -72,51 +72,100 @@ fn xor_rotated(a: u64x4, b: u64x4, count: u64) -> u64x4
     rotated(a ^ b, count)
 }
 
-// GB at four places of each list: a, b, c and d are the standard's words of the left, e, f, g and h
-// those of the right.
+// GB at four places of each list: of each the four words are named in turn, a to d, e to h, i to l and
+// m to p.
 #[inline(always)]
-fn mix(left: Sixteen, right: Sixteen) -> (Sixteen, Sixteen)
+pub(crate) fn mix(
+    one: Sixteen,
+    two: Sixteen,
+    three: Sixteen,
+    four: Sixteen,
+) -> (Sixteen, Sixteen, Sixteen, Sixteen)
     ensures first { (number : ℕ) → number < 4
-        → words_across number result.0 ≡ mixed_words (words_across number left) }
+        → words_across number result.0 ≡ mixed_words (words_across number one) }
     ensures second { (number : ℕ) → number < 4
-        → words_across number result.1 ≡ mixed_words (words_across number right) }
+        → words_across number result.1 ≡ mixed_words (words_across number two) }
+    ensures third { (number : ℕ) → number < 4
+        → words_across number result.2 ≡ mixed_words (words_across number three) }
+    ensures fourth { (number : ℕ) → number < 4
+        → words_across number result.3 ≡ mixed_words (words_across number four) }
 {
-    let Sixteen { a, b, c, d } = left;
+    let Sixteen { a, b, c, d } = one;
     let Sixteen {
         a: e,
         b: f,
         c: g,
         d: h,
-    } = right;
+    } = two;
+    let Sixteen {
+        a: i,
+        b: j,
+        c: k,
+        d: l,
+    } = three;
+    let Sixteen {
+        a: m,
+        b: n,
+        c: o,
+        d: p,
+    } = four;
     let a = sum_with_product(a, b);
     let e = sum_with_product(e, f);
+    let i = sum_with_product(i, j);
+    let m = sum_with_product(m, n);
     let d = xor_rotated(d, a, 32);
     let h = xor_rotated(h, e, 32);
+    let l = xor_rotated(l, i, 32);
+    let p = xor_rotated(p, m, 32);
     let c = sum_with_product(c, d);
     let g = sum_with_product(g, h);
+    let k = sum_with_product(k, l);
+    let o = sum_with_product(o, p);
     let b = xor_rotated(b, c, 24);
     let f = xor_rotated(f, g, 24);
+    let j = xor_rotated(j, k, 24);
+    let n = xor_rotated(n, o, 24);
     let a = sum_with_product(a, b);
     let e = sum_with_product(e, f);
+    let i = sum_with_product(i, j);
+    let m = sum_with_product(m, n);
     let d = xor_rotated(d, a, 16);
     let h = xor_rotated(h, e, 16);
+    let l = xor_rotated(l, i, 16);
+    let p = xor_rotated(p, m, 16);
     let c = sum_with_product(c, d);
     let g = sum_with_product(g, h);
+    let k = sum_with_product(k, l);
+    let o = sum_with_product(o, p);
     let b = xor_rotated(b, c, 63);
     let f = xor_rotated(f, g, 63);
-    let left = Sixteen { a, b, c, d };
-    let right = Sixteen {
+    let j = xor_rotated(j, k, 63);
+    let n = xor_rotated(n, o, 63);
+    let one = Sixteen { a, b, c, d };
+    let two = Sixteen {
         a: e,
         b: f,
         c: g,
         d: h,
     };
-    (left, right)
+    let three = Sixteen {
+        a: i,
+        b: j,
+        c: k,
+        d: l,
+    };
+    let four = Sixteen {
+        a: m,
+        b: n,
+        c: o,
+        d: p,
+    };
+    (one, two, three, four)
 }
 
 // From columns to diagonals.
 #[inline(always)]
-fn to_diagonals(words: Sixteen) -> Sixteen
+pub(crate) fn to_diagonals(words: Sixteen) -> Sixteen
     ensures diagonals { result ≡ by_diagonals words }
 {
     Sixteen {
@@ -129,7 +178,7 @@ fn to_diagonals(words: Sixteen) -> Sixteen
 
 // From diagonals back to columns.
 #[inline(always)]
-fn to_columns(words: Sixteen) -> Sixteen
+pub(crate) fn to_columns(words: Sixteen) -> Sixteen
     ensures columns { result ≡ by_columns words }
 {
     Sixteen {
@@ -138,15 +187,4 @@ fn to_columns(words: Sixteen) -> Sixteen
         c: words.c.rotate_elements_left::<2>(),
         d: words.d.rotate_elements_left::<1>(),
     }
-}
-
-/// The permutation P of both lists.
-#[inline(always)]
-pub(crate) fn permute(left: Sixteen, right: Sixteen) -> (Sixteen, Sixteen)
-    ensures first { words_by_rows result.0 ≡ permutation (words_by_rows left) }
-    ensures second { words_by_rows result.1 ≡ permutation (words_by_rows right) }
-{
-    let (left, right) = mix(left, right);
-    let (left, right) = mix(to_diagonals(left), to_diagonals(right));
-    (to_columns(left), to_columns(right))
 }

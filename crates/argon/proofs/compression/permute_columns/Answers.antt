@@ -9,10 +9,10 @@ columns-init c = (omega arith, refl)
 
 pub columns-preserved : goal.columns-preserved
 columns-preserved c =
-    (omega arith, c.permute_two_columns.ensures.value ∙ rw c.columns.invariant.1 (columns_more c.args.block.now c.columns.i))
+    (omega arith, c.permute_four_columns.ensures.value ∙ rw c.columns.invariant.1 (columns_more c.args.block.now c.columns.i))
 
 pub returns : goal.returns
 returns c = record {
-  value = let all : 2 * c.columns.i ≡ 8 = omega arith in
+  value = let all : 4 * c.columns.i ≡ 8 = omega arith in
       c.columns.invariant.1 ∙ ap (block_after_columns c.args.block.now) all;
 }

@@ -8,10 +8,10 @@ rows-init c = (omega arith, refl)
 
 pub rows-preserved : goal.rows-preserved
 rows-preserved c =
-    (omega arith, c.permute_two_rows.ensures.value ∙ rw c.rows.invariant.1 (rows_more c.args.from.now c.args.into.now c.rows.i))
+    (omega arith, c.permute_four_rows.ensures.value ∙ rw c.rows.invariant.1 (rows_more c.args.from.now c.args.into.now c.rows.i))
 
 pub returns : goal.returns
 returns c = record {
-  value = let all : 2 * c.rows.i ≡ 8 = omega arith in
+  value = let all : 4 * c.rows.i ≡ 8 = omega arith in
       c.rows.invariant.1 ∙ ap (rows_into c.args.from.now c.args.into.now) all ∙ all_rows c.args.from.now c.args.into.now (omega arith) (omega arith);
 }

@@ -29,3 +29,31 @@ returns-clause-second c j h =
       c.xor_rotated-h.ensures.value j h,
       c.sum_with_product-e.ensures.value j h,
     ) refl
+
+pub returns-clause-third : goal.returns-clause-third
+unfolding mixed_words
+returns-clause-third c j h =
+    rw (
+      c.xor_rotated-j-2.ensures.value j h,
+      c.sum_with_product-k-2.ensures.value j h,
+      c.xor_rotated-l-2.ensures.value j h,
+      c.sum_with_product-i-2.ensures.value j h,
+      c.xor_rotated-j.ensures.value j h,
+      c.sum_with_product-k.ensures.value j h,
+      c.xor_rotated-l.ensures.value j h,
+      c.sum_with_product-i.ensures.value j h,
+    ) refl
+
+pub returns-clause-fourth : goal.returns-clause-fourth
+unfolding mixed_words
+returns-clause-fourth c j h =
+    rw (
+      c.xor_rotated-n-2.ensures.value j h,
+      c.sum_with_product-o-2.ensures.value j h,
+      c.xor_rotated-p-2.ensures.value j h,
+      c.sum_with_product-m-2.ensures.value j h,
+      c.xor_rotated-n.ensures.value j h,
+      c.sum_with_product-o.ensures.value j h,
+      c.xor_rotated-p.ensures.value j h,
+      c.sum_with_product-m.ensures.value j h,
+    ) refl
