@@ -7,7 +7,7 @@ ghost use Rattle.argon.specs.Compression.{block_after_columns, block_after_rows,
 ghost use Rattle.argon.specs.Inside.FourWords.{with_row_permuted};
 
 use crate::block::{Block, column, put_column, put_row, row, write_xor};
-use crate::permutation::{mix, to_columns, to_diagonals};
+use crate::permutation::permute;
 use crate::ticks::Ticks;
 
 /// The two blocks that [`compression`] works in, and leaves its value in: G is their xor. They are made once for many calls,
@@ -39,22 +39,16 @@ fn permute_four_rows(from: &Block, into: &mut Block, i: usize)
         ≡ with_row_permuted from.now (with_row_permuted from.now (with_row_permuted from.now (with_row_permuted from.now
         into.old (4 * i)) (4 * i + 1)) (4 * i + 2)) (4 * i + 3) }
 {
-    let (one, two, three, four) = mix(
+    let (one, two, three, four) = permute(
         row(from, 4 * i),
         row(from, 4 * i + 1),
         row(from, 4 * i + 2),
         row(from, 4 * i + 3),
     );
-    let (one, two, three, four) = mix(
-        to_diagonals(one),
-        to_diagonals(two),
-        to_diagonals(three),
-        to_diagonals(four),
-    );
-    put_row(into, 4 * i, to_columns(one));
-    put_row(into, 4 * i + 1, to_columns(two));
-    put_row(into, 4 * i + 2, to_columns(three));
-    put_row(into, 4 * i + 3, to_columns(four));
+    put_row(into, 4 * i, one);
+    put_row(into, 4 * i + 1, two);
+    put_row(into, 4 * i + 2, three);
+    put_row(into, 4 * i + 3, four);
 }
 
 // Columns 4 i to 4 i + 3 of a block, permuted in place.
@@ -66,22 +60,16 @@ fn permute_four_columns(block: &mut Block, i: usize)
         (column_places (4 * i))) (column_places (4 * i + 1))) (column_places (4 * i + 2)))
         (column_places (4 * i + 3)) }
 {
-    let (one, two, three, four) = mix(
+    let (one, two, three, four) = permute(
         column(block, 4 * i),
         column(block, 4 * i + 1),
         column(block, 4 * i + 2),
         column(block, 4 * i + 3),
     );
-    let (one, two, three, four) = mix(
-        to_diagonals(one),
-        to_diagonals(two),
-        to_diagonals(three),
-        to_diagonals(four),
-    );
-    put_column(block, 4 * i, to_columns(one));
-    put_column(block, 4 * i + 1, to_columns(two));
-    put_column(block, 4 * i + 2, to_columns(three));
-    put_column(block, 4 * i + 3, to_columns(four));
+    put_column(block, 4 * i, one);
+    put_column(block, 4 * i + 1, two);
+    put_column(block, 4 * i + 2, three);
+    put_column(block, 4 * i + 3, four);
 }
 
 #[inline(always)]

@@ -1,11 +1,12 @@
-//! The permutation P (RFC 9106, section 3.6) of four lists of sixteen words side by side, each in
-//! four vectors of four words. One P is a chain of steps that wait for each other, so four overlap.
+//! The permutation P (RFC 9106, section 3.6) of four lists of sixteen words side by side. One P is a
+//! chain of steps that wait for each other, so four overlap.
 ghost use Rattle.std.specs.Prelude.{◌≡◌, ℕ, ◌+◌, ◌*◌, ◌%◌, ◌^◌, ◌<◌, slice_index, bit_xor};
 ghost use Rattle.std.specs.Int.{w64, rotate_right};
-ghost use Rattle.argon.specs.Compression.{mixed_words, sum_with_product};
-ghost use Rattle.argon.specs.Inside.FourWords.{by_columns, by_diagonals, words_across};
+ghost use Rattle.four_words.specs.Inside.FourWords.{sixteen_words};
+ghost use Rattle.argon.specs.Compression.{mixed_words, permutation, sum_with_product};
+ghost use Rattle.argon.specs.Inside.FourWords.{by_columns, by_diagonals, list_at, turned, words_across, words_by_rows};
 
-use std::simd::u64x4;
+use std::simd::{u64x4, u64x16};
 
 /// Sixteen words in four vectors: words 0 to 3, 4 to 7, 8 to 11 and 12 to 15. GB takes one word of
 /// each, under these names.
@@ -17,26 +18,36 @@ pub(crate) struct Sixteen {
     pub(crate) d: u64x4,
 }
 
+/// Four times sixteen words side by side: each vector has the four words of the first list, then
+/// those of the second, of the third and of the fourth.
+#[derive(Clone, Copy)]
+struct FourLists {
+    a: u64x16,
+    b: u64x16,
+    c: u64x16,
+    d: u64x16,
+}
+
 // The low 32 bits of each word.
 #[inline(always)]
-fn low_half(words: u64x4) -> u64x4
-    ensures value { (number : ℕ) → number < 4
+fn low_half(words: u64x16) -> u64x16
+    ensures value { (number : ℕ) → number < 16
         → slice_index result number ≡ slice_index words number % 2 ^ 32 }
 {
-    words & u64x4::splat(0xffff_ffff)
+    words & u64x16::splat(0xffff_ffff)
 }
 
 #[inline(always)]
-fn sum(a: u64x4, b: u64x4) -> u64x4
-    ensures value { (number : ℕ) → number < 4
+fn sum(a: u64x16, b: u64x16) -> u64x16
+    ensures value { (number : ℕ) → number < 16
         → slice_index result number ≡ (slice_index a number + slice_index b number) % 2 ^ 64 }
 {
     a + b
 }
 
 #[inline(always)]
-fn product(a: u64x4, b: u64x4) -> u64x4
-    ensures value { (number : ℕ) → number < 4
+fn product(a: u64x16, b: u64x16) -> u64x16
+    ensures value { (number : ℕ) → number < 16
         → slice_index result number ≡ (slice_index a number * slice_index b number) % 2 ^ 64 }
 {
     a * b
@@ -44,8 +55,8 @@ fn product(a: u64x4, b: u64x4) -> u64x4
 
 // The sum that takes the place of BLAKE2b's.
 #[inline(always)]
-fn sum_with_product(a: u64x4, b: u64x4) -> u64x4
-    ensures value { (number : ℕ) → number < 4
+fn sum_with_product(a: u64x16, b: u64x16) -> u64x16
+    ensures value { (number : ℕ) → number < 16
         → slice_index result number
         ≡ sum_with_product (slice_index a number) (slice_index b number) }
 {
@@ -54,137 +65,164 @@ fn sum_with_product(a: u64x4, b: u64x4) -> u64x4
 }
 
 #[inline(always)]
-fn rotated(words: u64x4, count: u64) -> u64x4
+fn rotated(words: u64x16, count: u64) -> u64x16
     requires range { (0 < count) × (count < 64) }
-    ensures value { (number : ℕ) → number < 4
+    ensures value { (number : ℕ) → number < 16
         → slice_index result number ≡ rotate_right w64 (slice_index words number) count }
 {
-    (words >> u64x4::splat(count)) | (words << u64x4::splat(64 - count))
+    (words >> u64x16::splat(count)) | (words << u64x16::splat(64 - count))
 }
 
 #[inline(always)]
-fn xor_rotated(a: u64x4, b: u64x4, count: u64) -> u64x4
+fn xor_rotated(a: u64x16, b: u64x16, count: u64) -> u64x16
     requires range { (0 < count) × (count < 64) }
-    ensures value { (number : ℕ) → number < 4
+    ensures value { (number : ℕ) → number < 16
         → slice_index result number
         ≡ rotate_right w64 (bit_xor (slice_index a number) (slice_index b number)) count }
 {
     rotated(a ^ b, count)
 }
 
-// GB at four places of each list: of each the four words are named in turn, a to d, e to h, i to l and
-// m to p.
+// GB at the four places of each list: a, b, c and d are the standard's words.
 #[inline(always)]
-pub(crate) fn mix(
-    one: Sixteen,
-    two: Sixteen,
-    three: Sixteen,
-    four: Sixteen,
-) -> (Sixteen, Sixteen, Sixteen, Sixteen)
-    ensures first { (number : ℕ) → number < 4
-        → words_across number result.0 ≡ mixed_words (words_across number one) }
-    ensures second { (number : ℕ) → number < 4
-        → words_across number result.1 ≡ mixed_words (words_across number two) }
-    ensures third { (number : ℕ) → number < 4
-        → words_across number result.2 ≡ mixed_words (words_across number three) }
-    ensures fourth { (number : ℕ) → number < 4
-        → words_across number result.3 ≡ mixed_words (words_across number four) }
+fn mix(lists: FourLists) -> FourLists
+    ensures value { (number : ℕ) → number < 16
+        → words_across number result ≡ mixed_words (words_across number lists) }
 {
-    let Sixteen { a, b, c, d } = one;
-    let Sixteen {
-        a: e,
-        b: f,
-        c: g,
-        d: h,
-    } = two;
-    let Sixteen {
-        a: i,
-        b: j,
-        c: k,
-        d: l,
-    } = three;
-    let Sixteen {
-        a: m,
-        b: n,
-        c: o,
-        d: p,
-    } = four;
+    let FourLists { a, b, c, d } = lists;
     let a = sum_with_product(a, b);
-    let e = sum_with_product(e, f);
-    let i = sum_with_product(i, j);
-    let m = sum_with_product(m, n);
     let d = xor_rotated(d, a, 32);
-    let h = xor_rotated(h, e, 32);
-    let l = xor_rotated(l, i, 32);
-    let p = xor_rotated(p, m, 32);
     let c = sum_with_product(c, d);
-    let g = sum_with_product(g, h);
-    let k = sum_with_product(k, l);
-    let o = sum_with_product(o, p);
     let b = xor_rotated(b, c, 24);
-    let f = xor_rotated(f, g, 24);
-    let j = xor_rotated(j, k, 24);
-    let n = xor_rotated(n, o, 24);
     let a = sum_with_product(a, b);
-    let e = sum_with_product(e, f);
-    let i = sum_with_product(i, j);
-    let m = sum_with_product(m, n);
     let d = xor_rotated(d, a, 16);
-    let h = xor_rotated(h, e, 16);
-    let l = xor_rotated(l, i, 16);
-    let p = xor_rotated(p, m, 16);
     let c = sum_with_product(c, d);
-    let g = sum_with_product(g, h);
-    let k = sum_with_product(k, l);
-    let o = sum_with_product(o, p);
     let b = xor_rotated(b, c, 63);
-    let f = xor_rotated(f, g, 63);
-    let j = xor_rotated(j, k, 63);
-    let n = xor_rotated(n, o, 63);
-    let one = Sixteen { a, b, c, d };
-    let two = Sixteen {
-        a: e,
-        b: f,
-        c: g,
-        d: h,
-    };
-    let three = Sixteen {
-        a: i,
-        b: j,
-        c: k,
-        d: l,
-    };
-    let four = Sixteen {
-        a: m,
-        b: n,
-        c: o,
-        d: p,
-    };
-    (one, two, three, four)
+    FourLists { a, b, c, d }
+}
+
+// The words of each list turned by one place.
+#[inline(always)]
+fn turned_by_one(words: u64x16) -> u64x16
+    ensures value { result ≡ turned words 1 2 3 0 }
+{
+    words.swizzle([1, 2, 3, 0, 5, 6, 7, 4, 9, 10, 11, 8, 13, 14, 15, 12])
+}
+
+#[inline(always)]
+fn turned_by_two(words: u64x16) -> u64x16
+    ensures value { result ≡ turned words 2 3 0 1 }
+{
+    words.swizzle([2, 3, 0, 1, 6, 7, 4, 5, 10, 11, 8, 9, 14, 15, 12, 13])
+}
+
+#[inline(always)]
+fn turned_by_three(words: u64x16) -> u64x16
+    ensures value { result ≡ turned words 3 0 1 2 }
+{
+    words.swizzle([3, 0, 1, 2, 7, 4, 5, 6, 11, 8, 9, 10, 15, 12, 13, 14])
 }
 
 // From columns to diagonals.
 #[inline(always)]
-pub(crate) fn to_diagonals(words: Sixteen) -> Sixteen
-    ensures diagonals { result ≡ by_diagonals words }
+fn to_diagonals(lists: FourLists) -> FourLists
+    ensures diagonals { result ≡ by_diagonals lists }
 {
-    Sixteen {
-        a: words.a,
-        b: words.b.rotate_elements_left::<1>(),
-        c: words.c.rotate_elements_left::<2>(),
-        d: words.d.rotate_elements_left::<3>(),
+    FourLists {
+        a: lists.a,
+        b: turned_by_one(lists.b),
+        c: turned_by_two(lists.c),
+        d: turned_by_three(lists.d),
     }
 }
 
 // From diagonals back to columns.
 #[inline(always)]
-pub(crate) fn to_columns(words: Sixteen) -> Sixteen
-    ensures columns { result ≡ by_columns words }
+fn to_columns(lists: FourLists) -> FourLists
+    ensures columns { result ≡ by_columns lists }
 {
-    Sixteen {
-        a: words.a,
-        b: words.b.rotate_elements_left::<3>(),
-        c: words.c.rotate_elements_left::<2>(),
-        d: words.d.rotate_elements_left::<1>(),
+    FourLists {
+        a: lists.a,
+        b: turned_by_three(lists.b),
+        c: turned_by_two(lists.c),
+        d: turned_by_one(lists.d),
     }
+}
+
+#[inline(always)]
+fn beside(one: u64x4, two: u64x4, three: u64x4, four: u64x4) -> u64x16
+    ensures value { result ≡ sixteen_words one two three four }
+{
+    let first = one.shuffle::<8>(two, [0, 1, 2, 3, 4, 5, 6, 7]);
+    let last = three.shuffle::<8>(four, [0, 1, 2, 3, 4, 5, 6, 7]);
+    first.shuffle::<16>(last, [0, 1, 2, 3, 4, 5, 6, 7, 8, 9, 10, 11, 12, 13, 14, 15])
+}
+
+#[inline(always)]
+fn side_by_side(one: Sixteen, two: Sixteen, three: Sixteen, four: Sixteen) -> FourLists
+    ensures first { list_at 0 result ≡ words_by_rows one }
+    ensures second { list_at 1 result ≡ words_by_rows two }
+    ensures third { list_at 2 result ≡ words_by_rows three }
+    ensures fourth { list_at 3 result ≡ words_by_rows four }
+{
+    FourLists {
+        a: beside(one.a, two.a, three.a, four.a),
+        b: beside(one.b, two.b, three.b, four.b),
+        c: beside(one.c, two.c, three.c, four.c),
+        d: beside(one.d, two.d, three.d, four.d),
+    }
+}
+
+#[inline(always)]
+fn apart(lists: FourLists) -> (Sixteen, Sixteen, Sixteen, Sixteen)
+    ensures first { words_by_rows result.0 ≡ list_at 0 lists }
+    ensures second { words_by_rows result.1 ≡ list_at 1 lists }
+    ensures third { words_by_rows result.2 ≡ list_at 2 lists }
+    ensures fourth { words_by_rows result.3 ≡ list_at 3 lists }
+{
+    let FourLists { a, b, c, d } = lists;
+    (
+        Sixteen {
+            a: a.extract::<0, 4>(),
+            b: b.extract::<0, 4>(),
+            c: c.extract::<0, 4>(),
+            d: d.extract::<0, 4>(),
+        },
+        Sixteen {
+            a: a.extract::<4, 4>(),
+            b: b.extract::<4, 4>(),
+            c: c.extract::<4, 4>(),
+            d: d.extract::<4, 4>(),
+        },
+        Sixteen {
+            a: a.extract::<8, 4>(),
+            b: b.extract::<8, 4>(),
+            c: c.extract::<8, 4>(),
+            d: d.extract::<8, 4>(),
+        },
+        Sixteen {
+            a: a.extract::<12, 4>(),
+            b: b.extract::<12, 4>(),
+            c: c.extract::<12, 4>(),
+            d: d.extract::<12, 4>(),
+        },
+    )
+}
+
+/// The permutation P of four lists.
+#[inline(always)]
+pub(crate) fn permute(
+    one: Sixteen,
+    two: Sixteen,
+    three: Sixteen,
+    four: Sixteen,
+) -> (Sixteen, Sixteen, Sixteen, Sixteen)
+    ensures first { words_by_rows result.0 ≡ permutation (words_by_rows one) }
+    ensures second { words_by_rows result.1 ≡ permutation (words_by_rows two) }
+    ensures third { words_by_rows result.2 ≡ permutation (words_by_rows three) }
+    ensures fourth { words_by_rows result.3 ≡ permutation (words_by_rows four) }
+{
+    let mixed = mix(side_by_side(one, two, three, four));
+    let mixed = mix(to_diagonals(mixed));
+    apart(to_columns(mixed))
 }

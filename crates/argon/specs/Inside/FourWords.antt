@@ -1,8 +1,9 @@
--- Sixteen words in four vectors of four, as the compression function holds them.
-use Rattle.std.specs.Prelude.{ℕ, List, [], ◌∷◌, ◌+◌, slice_index}
+-- Sixteen words in four vectors of four, and four such lists side by side, as the compression function holds them.
+use Rattle.std.specs.Prelude.{ℕ, List, [], ◌∷◌, ◌++◌, ◌+◌, ◌*◌, slice_index}
 use Rattle.blake.specs.Words.{words_at, with_words_at}
 use Rattle.four_words.specs.Inside.FourWords.{sixteen_words, words_in_order}
 use Rattle.argon.specs.Compression.{permutation, row_places}
+use Rattle.argon.specs.declared.permutation.FourLists.{FourLists}
 use Rattle.argon.specs.declared.permutation.Sixteen.{Sixteen}
 
 -- all words, one vector after another
@@ -10,26 +11,44 @@ abbrev pub words_by_rows : Sixteen → List ℕ
 words_by_rows x = sixteen_words x.a x.b x.c x.d
 
 -- the words with the same number in each of the four vectors
-abbrev pub words_across : ℕ → Sixteen → List ℕ
+abbrev pub words_across : ℕ → FourLists → List ℕ
 words_across number x =
     slice_index x.a number ∷ slice_index x.b number ∷ slice_index x.c number ∷ slice_index x.d number ∷ []
 
--- the vectors turned, so that the words of a diagonal stand across them
-abbrev pub by_diagonals : Sixteen → Sixteen
+-- the four words of a list in a vector, where lists stand side by side
+abbrev pub words_of_list : ℕ → List ℕ → List ℕ
+words_of_list list vector =
+    words_in_order vector (4 * list) (4 * list + 1) (4 * list + 2) (4 * list + 3)
+
+-- one of the lists that stand side by side
+abbrev pub list_at : ℕ → FourLists → List ℕ
+list_at list x =
+    sixteen_words (words_of_list list x.a) (words_of_list list x.b) (words_of_list list x.c) (words_of_list list x.d)
+
+-- the words of each list in a vector, in the order of four numbers
+abbrev pub turned : List ℕ → ℕ → ℕ → ℕ → ℕ → List ℕ
+turned vector first second third fourth =
+    words_in_order vector first second third fourth
+    ++ (words_in_order vector (4 + first) (4 + second) (4 + third) (4 + fourth)
+    ++ (words_in_order vector (8 + first) (8 + second) (8 + third) (8 + fourth)
+    ++ words_in_order vector (12 + first) (12 + second) (12 + third) (12 + fourth)))
+
+-- the vectors turned, so that the words of a diagonal of each list stand across them
+abbrev pub by_diagonals : FourLists → FourLists
 by_diagonals x = record {
   a = x.a;
-  b = words_in_order x.b 1 2 3 0;
-  c = words_in_order x.c 2 3 0 1;
-  d = words_in_order x.d 3 0 1 2;
+  b = turned x.b 1 2 3 0;
+  c = turned x.c 2 3 0 1;
+  d = turned x.d 3 0 1 2;
 }
 
--- the vectors turned back from `by_diagonals`, so that the words of a column stand across them
-abbrev pub by_columns : Sixteen → Sixteen
+-- the vectors turned back from `by_diagonals`, so that the words of a column of each list stand across them
+abbrev pub by_columns : FourLists → FourLists
 by_columns x = record {
   a = x.a;
-  b = words_in_order x.b 3 0 1 2;
-  c = words_in_order x.c 2 3 0 1;
-  d = words_in_order x.d 1 2 3 0;
+  b = turned x.b 3 0 1 2;
+  c = turned x.c 2 3 0 1;
+  d = turned x.d 1 2 3 0;
 }
 
 -- two places that stand together, and the two that stand sixteen places on
