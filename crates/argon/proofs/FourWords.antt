@@ -8,7 +8,7 @@ use Rattle.blake.specs.Blake2b.{mixing_places}
 use Rattle.argon.specs.Compression.{mixed_words, permutation, words_after_mixings}
 use Rattle.four_words.proofs.FourWords.{below_four}
 use Rattle.argon.specs.Inside.FourWords.{by_columns, by_diagonals, list_at, words_across}
-use Rattle.argon.specs.declared.permutation.FourLists.{FourLists}
+use Rattle.argon.specs.declared.four_lists.FourLists.{FourLists}
 
 -- two shifts of each word and an or are a rotation
 pub shifts_rotate : (k : ℕ) → 0 < k → k < 64 → (a : List ℕ) → length a ≡ 16 → (j : ℕ) → j < 16

@@ -2,10 +2,10 @@
 use Rattle.std.proofs.Common.{◌≡◌, ℕ, zero, suc, ◌+◌, ◌*◌, ◌/◌, ◌≤◌, List, [], ◌∷◌, ◌++◌, length, take, set, get_or, refl, sym, ap, ◌∙◌, arith, length-set}
 use Rattle.std.proofs.lemmas.List.{take_all}
 use Rattle.std.proofs.lemmas.Simd.{take_more_put_chunk}
-use Rattle.blake.specs.Words.{along, words_at, with_words_at}
+use Rattle.blake.specs.Words.{words_at, with_words_at}
 use Rattle.blake.specs.Blake2b.{mixing_places}
-use Rattle.argon.specs.Compression.{block_after_columns, block_after_rows, column_places, mixed_words, permutation, row_places, words_after_mixings}
-use Rattle.argon.specs.Inside.FourWords.{with_row_permuted}
+use Rattle.argon.specs.Compression.{block_after_columns, block_after_rows, mixed_words, permutation, row_places, words_after_mixings}
+use Rattle.argon.specs.Inside.FourWords.{with_four_columns_permuted, with_four_rows_permuted, with_row_permuted}
 use Rattle.argon.proofs.WordPlaces.{apart, row_keyed, run_stored}
 
 -- w with the first k rows of v, permuted
@@ -74,24 +74,20 @@ all_rows v w h g =
     ∙ sym (in_place v 8)
 
 -- four more rows, four more columns
-pub rows_more : (v w : List ℕ) (i : ℕ)
-    → with_row_permuted v (with_row_permuted v (with_row_permuted v (with_row_permuted v (rows_into v w (4 * i)) (4 * i)) (4 * i + 1)) (4 * i + 2)) (4 * i + 3)
-    ≡ rows_into v w (4 * (i + 1))
+pub rows_more : (v w : List ℕ) (i : ℕ) → with_four_rows_permuted v (rows_into v w (4 * i)) (4 * i) ≡ rows_into v w (4 * (i + 1))
 unfolding rows_into
 rows_more v w i =
     let e : 4 * (i + 1) ≡ suc (suc (suc (suc (4 * i)))) = omega arith in
     let f : 4 * i + 1 ≡ suc (4 * i) = omega arith in
     let g : 4 * i + 2 ≡ suc (suc (4 * i)) = omega arith in
     let h : 4 * i + 3 ≡ suc (suc (suc (4 * i))) = omega arith in
-    rw (e, f, g, h) refl
+    rw (e, f, g, h) (refl {a = rows_into v w (suc (suc (suc (suc (4 * i)))))})
 
-pub columns_more : (v : List ℕ) (i : ℕ)
-    → along permutation (along permutation (along permutation (along permutation (block_after_columns v (4 * i)) (column_places (4 * i))) (column_places (4 * i + 1))) (column_places (4 * i + 2))) (column_places (4 * i + 3))
-    ≡ block_after_columns v (4 * (i + 1))
+pub columns_more : (v : List ℕ) (i : ℕ) → with_four_columns_permuted (block_after_columns v (4 * i)) (4 * i) ≡ block_after_columns v (4 * (i + 1))
 unfolding block_after_columns
 columns_more v i =
     let e : 4 * (i + 1) ≡ suc (suc (suc (suc (4 * i)))) = omega arith in
     let f : 4 * i + 1 ≡ suc (4 * i) = omega arith in
     let g : 4 * i + 2 ≡ suc (suc (4 * i)) = omega arith in
     let h : 4 * i + 3 ≡ suc (suc (suc (4 * i))) = omega arith in
-    rw (e, f, g, h) refl
+    rw (e, f, g, h) (refl {a = block_after_columns v (suc (suc (suc (suc (4 * i)))))})

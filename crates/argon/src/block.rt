@@ -8,7 +8,7 @@ ghost use Rattle.argon.specs.Compression.{column_places, row_places};
 ghost use Rattle.four_words.specs.Inside.FourWords.{four_words};
 ghost use Rattle.argon.specs.Inside.FourWords.{pair_places, words_by_rows};
 
-use crate::permutation::Sixteen;
+use crate::four_lists::Sixteen;
 use std::simd::{u64x2, u64x4};
 
 /// A block: 128 words of 64 bits, 1,024 bytes. The register R\_i of RFC 9106, section 3.5, is words 2 i and 2 i + 1; in

@@ -1,10 +1,9 @@
 //! The compression function G (RFC 9106, section 3.5) in blocks that the caller lends, four rows or
 //! four columns at a time.
 ghost use Rattle.std.specs.Prelude.{◌≡◌, ◌+◌, ◌*◌, ◌<◌};
-ghost use Rattle.blake.specs.Words.{along};
 ghost use Rattle.four_words.specs.Words.{xored_words};
-ghost use Rattle.argon.specs.Compression.{block_after_columns, block_after_rows, column_places, compression, permutation};
-ghost use Rattle.argon.specs.Inside.FourWords.{with_row_permuted};
+ghost use Rattle.argon.specs.Compression.{block_after_columns, block_after_rows, compression};
+ghost use Rattle.argon.specs.Inside.FourWords.{with_four_columns_permuted, with_four_rows_permuted};
 
 use crate::block::{Block, column, put_column, put_row, row, write_xor};
 use crate::permutation::permute;
@@ -35,9 +34,7 @@ impl Scratch {
 #[inline(always)]
 fn permute_four_rows(from: &Block, into: &mut Block, i: usize)
     requires rows { i < 2 }
-    ensures value { into.new
-        ≡ with_row_permuted from.now (with_row_permuted from.now (with_row_permuted from.now (with_row_permuted from.now
-        into.old (4 * i)) (4 * i + 1)) (4 * i + 2)) (4 * i + 3) }
+    ensures value { into.new ≡ with_four_rows_permuted from.now into.old (4 * i) }
 {
     let (one, two, three, four) = permute(
         row(from, 4 * i),
@@ -55,10 +52,7 @@ fn permute_four_rows(from: &Block, into: &mut Block, i: usize)
 #[inline(always)]
 fn permute_four_columns(block: &mut Block, i: usize)
     requires columns { i < 2 }
-    ensures value { block.new
-        ≡ along permutation (along permutation (along permutation (along permutation block.old
-        (column_places (4 * i))) (column_places (4 * i + 1))) (column_places (4 * i + 2)))
-        (column_places (4 * i + 3)) }
+    ensures value { block.new ≡ with_four_columns_permuted block.old (4 * i) }
 {
     let (one, two, three, four) = permute(
         column(block, 4 * i),

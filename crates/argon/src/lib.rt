@@ -46,6 +46,7 @@ mod blocks;
 pub mod compression;
 mod fault;
 mod first_columns;
+mod four_lists;
 mod held;
 mod inputs;
 mod kind;

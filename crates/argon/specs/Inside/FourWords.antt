@@ -1,10 +1,10 @@
 -- Sixteen words in four vectors of four, and four such lists side by side, as the compression function holds them.
 use Rattle.std.specs.Prelude.{ℕ, List, [], ◌∷◌, ◌++◌, ◌+◌, ◌*◌, slice_index}
-use Rattle.blake.specs.Words.{words_at, with_words_at}
+use Rattle.blake.specs.Words.{along, words_at, with_words_at}
 use Rattle.four_words.specs.Inside.FourWords.{sixteen_words, words_in_order}
-use Rattle.argon.specs.Compression.{permutation, row_places}
-use Rattle.argon.specs.declared.permutation.FourLists.{FourLists}
-use Rattle.argon.specs.declared.permutation.Sixteen.{Sixteen}
+use Rattle.argon.specs.Compression.{column_places, permutation, row_places}
+use Rattle.argon.specs.declared.four_lists.FourLists.{FourLists}
+use Rattle.argon.specs.declared.four_lists.Sixteen.{Sixteen}
 
 -- all words, one vector after another
 abbrev pub words_by_rows : Sixteen → List ℕ
@@ -26,8 +26,8 @@ list_at list x =
     sixteen_words (words_of_list list x.a) (words_of_list list x.b) (words_of_list list x.c) (words_of_list list x.d)
 
 -- the words of each list in a vector, in the order of four numbers
-abbrev pub turned : List ℕ → ℕ → ℕ → ℕ → ℕ → List ℕ
-turned vector first second third fourth =
+abbrev pub each_in_order : List ℕ → ℕ → ℕ → ℕ → ℕ → List ℕ
+each_in_order vector first second third fourth =
     words_in_order vector first second third fourth
     ++ (words_in_order vector (4 + first) (4 + second) (4 + third) (4 + fourth)
     ++ (words_in_order vector (8 + first) (8 + second) (8 + third) (8 + fourth)
@@ -37,18 +37,18 @@ turned vector first second third fourth =
 abbrev pub by_diagonals : FourLists → FourLists
 by_diagonals x = record {
   a = x.a;
-  b = turned x.b 1 2 3 0;
-  c = turned x.c 2 3 0 1;
-  d = turned x.d 3 0 1 2;
+  b = each_in_order x.b 1 2 3 0;
+  c = each_in_order x.c 2 3 0 1;
+  d = each_in_order x.d 3 0 1 2;
 }
 
 -- the vectors turned back from `by_diagonals`, so that the words of a column of each list stand across them
 abbrev pub by_columns : FourLists → FourLists
 by_columns x = record {
   a = x.a;
-  b = turned x.b 3 0 1 2;
-  c = turned x.c 2 3 0 1;
-  d = turned x.d 1 2 3 0;
+  b = each_in_order x.b 3 0 1 2;
+  c = each_in_order x.c 2 3 0 1;
+  d = each_in_order x.d 1 2 3 0;
 }
 
 -- two places that stand together, and the two that stand sixteen places on
@@ -59,3 +59,15 @@ pair_places at = at ∷ (at + 1) ∷ (at + 16) ∷ (at + 17) ∷ []
 abbrev pub with_row_permuted : List ℕ → List ℕ → ℕ → List ℕ
 with_row_permuted from into row =
     with_words_at into (row_places row) (permutation (words_at from (row_places row)))
+
+-- a block whose four rows from one on are those of another block, permuted
+abbrev pub with_four_rows_permuted : List ℕ → List ℕ → ℕ → List ℕ
+with_four_rows_permuted from into row =
+    with_row_permuted from (with_row_permuted from (with_row_permuted from (with_row_permuted from
+    into row) (row + 1)) (row + 2)) (row + 3)
+
+-- a block whose four columns from one on are permuted
+abbrev pub with_four_columns_permuted : List ℕ → ℕ → List ℕ
+with_four_columns_permuted block column =
+    along permutation (along permutation (along permutation (along permutation
+    block (column_places column)) (column_places (column + 1))) (column_places (column + 2))) (column_places (column + 3))
