@@ -1,6 +1,6 @@
 //! The compression function G (RFC 9106, section 3.5) in blocks that the caller lends, four rows or
 //! four columns at a time.
-ghost use Rattle.std.specs.Prelude.{◌≡◌, ◌+◌, ◌*◌, ◌<◌};
+ghost use Rattle.std.specs.Prelude.{◌≡◌, ◌+◌, ◌≤◌};
 ghost use Rattle.four_words.specs.Words.{xored_words};
 ghost use Rattle.argon.specs.Compression.{block_after_columns, block_after_rows, compression};
 ghost use Rattle.argon.specs.Inside.FourWords.{with_four_columns_permuted, with_four_rows_permuted};
@@ -30,40 +30,40 @@ impl Scratch {
     }
 }
 
-// Rows 4 i to 4 i + 3 of a block, permuted, into another.
+// Four rows of a block, from the first on, permuted, into another.
 #[inline(always)]
-fn permute_four_rows(from: &Block, into: &mut Block, i: usize)
-    requires rows { i < 2 }
-    ensures value { into.new ≡ with_four_rows_permuted from.now into.old (4 * i) }
+fn permute_four_rows(from: &Block, into: &mut Block, first: usize)
+    requires rows { first + 4 ≤ 8 }
+    ensures value { into.new ≡ with_four_rows_permuted from.now into.old first }
 {
     let (one, two, three, four) = permute(
-        row(from, 4 * i),
-        row(from, 4 * i + 1),
-        row(from, 4 * i + 2),
-        row(from, 4 * i + 3),
+        row(from, first),
+        row(from, first + 1),
+        row(from, first + 2),
+        row(from, first + 3),
     );
-    put_row(into, 4 * i, one);
-    put_row(into, 4 * i + 1, two);
-    put_row(into, 4 * i + 2, three);
-    put_row(into, 4 * i + 3, four);
+    put_row(into, first, one);
+    put_row(into, first + 1, two);
+    put_row(into, first + 2, three);
+    put_row(into, first + 3, four);
 }
 
-// Columns 4 i to 4 i + 3 of a block, permuted in place.
+// Four columns of a block, from the first on, permuted in place.
 #[inline(always)]
-fn permute_four_columns(block: &mut Block, i: usize)
-    requires columns { i < 2 }
-    ensures value { block.new ≡ with_four_columns_permuted block.old (4 * i) }
+fn permute_four_columns(block: &mut Block, first: usize)
+    requires columns { first + 4 ≤ 8 }
+    ensures value { block.new ≡ with_four_columns_permuted block.old first }
 {
     let (one, two, three, four) = permute(
-        column(block, 4 * i),
-        column(block, 4 * i + 1),
-        column(block, 4 * i + 2),
-        column(block, 4 * i + 3),
+        column(block, first),
+        column(block, first + 1),
+        column(block, first + 2),
+        column(block, first + 3),
     );
-    put_column(block, 4 * i, one);
-    put_column(block, 4 * i + 1, two);
-    put_column(block, 4 * i + 2, three);
-    put_column(block, 4 * i + 3, four);
+    put_column(block, first, one);
+    put_column(block, first + 1, two);
+    put_column(block, first + 2, three);
+    put_column(block, first + 3, four);
 }
 
 #[inline(always)]
@@ -71,7 +71,7 @@ fn permute_rows(from: &Block, into: &mut Block)
     ensures value { into.new ≡ block_after_rows from.now 8 }
 {
     'rows: for i in 0..2 {
-        permute_four_rows(from, into, i);
+        permute_four_rows(from, into, 4 * i);
     }
 }
 
@@ -80,7 +80,7 @@ fn permute_columns(block: &mut Block)
     ensures value { block.new ≡ block_after_columns block.old 8 }
 {
     'columns: for i in 0..2 {
-        permute_four_columns(block, i);
+        permute_four_columns(block, 4 * i);
     }
 }
 

@@ -1,4 +1,4 @@
-use Rattle.std.proofs.Common.{ℕ, List, ◌*◌, ◌+◌, arith, ap, sym, ◌∙◌, ◌<◌, ◌≡◌}
+use Rattle.std.proofs.Common.{ℕ, List, ◌+◌, arith, ap, sym, ◌∙◌, ◌<◌, ◌≡◌}
 use Rattle.blake.specs.Words.{along}
 use Rattle.argon.specs.Compression.{column_places, permutation}
 use Rattle.argon.specs.Inside.FourWords.{words_by_rows}
@@ -7,7 +7,7 @@ use Rattle.argon.proofs.compression.permute_four_columns.Goals as goal
 
 pub returns : goal.returns
 returns c = record {
-  value = let i : ℕ = 4 * c.args.i in
+  value = let i : ℕ = c.args.first in
       let v : List ℕ = c.args.block.now in
       let w : List ℕ = c.put_column.new.block in
       let x : List ℕ = c.put_column-2.new.block in
