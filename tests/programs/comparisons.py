@@ -3,8 +3,9 @@
 place of a wrong byte alone. Each code and each tag is compared over all its bytes, so the counts are the same. No
 contract sees that, and of time nothing is promised.
 
-    tests/programs/comparisons.py SCRYPT             the codes of an encrypted file: of its header, and of the whole
-    tests/programs/comparisons.py --library FOLDER   the tags of texts of hashes, with the libpikhsen.a in this folder
+    tests/programs/comparisons.py SCRYPT      the codes of an encrypted file: of its header, and of the whole
+
+The tags of texts of hashes are for tests/library/c_face.py.
 """
 import os
 import pathlib
@@ -92,13 +93,11 @@ def sees_what_stops(checks, folder):
 
 
 def main():
-    if len(sys.argv) not in (2, 3) or len(sys.argv) == 3 and sys.argv[1] != "--library":
+    if len(sys.argv) != 2:
         raise SystemExit(__doc__)
-    checks = Checks(sys.argv[-1])
-    with tempfile.TemporaryDirectory() as folder:
-        if len(sys.argv) == 3:
-            tags_of_texts(checks, os.path.abspath(sys.argv[2]), folder)
-        elif is_there(*UNCOUNTED):
+    checks = Checks(sys.argv[1])
+    if is_there(*UNCOUNTED):
+        with tempfile.TemporaryDirectory() as folder:
             codes_of_files(checks, checks.program, folder)
             sees_what_stops(checks, folder)
     checks.end()

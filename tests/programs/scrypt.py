@@ -129,11 +129,8 @@ OUTFILES = [
     ("an outfile of no bytes", f"dec {FROM_PW} F0 out", b"before", 0, b""),
     ("cut in the last code to its first byte", f"dec {FROM_PW} F5-cut-127 out", b"before", 1, b""),
     ("cut in the last code", f"dec {FROM_PW} F5-cut-130 out", None, 1, b"he"),
-    ("cut in the header", f"dec {FROM_PW} F5-cut-95 out", b"before", 1, b"before"),
     ("another passphrase", "dec --passphrase file:other-pw F5 out", b"before", 1, b"before"),
     ("another passphrase and no outfile", "dec --passphrase file:other-pw F5 out", None, 1, None),
-    ("a limit", f"dec -M 2047 {FROM_PW} F5 out", b"before", 1, b"before"),
-    ("a long passphrase", "enc --passphrase file:pw-2049 hello out", b"before", 1, b"before"),
     ("no such infile", f"enc {FIXED} {FROM_PW} missing out", b"before", 1, b"before"),
     ("a folder as infile", f"enc {FIXED} {FROM_PW} folder out", b"before", 1, b"before"),
 ]
@@ -144,15 +141,9 @@ def outfiles(checks):
         checks.put("out", before)
         found, out, _ = checks.run(words.split())
         checks.that(f"outfile: {name}", (found, out, checks.content("out")), (status, b"", after))
-    for name, mode, expected in (("a new one", None, 0o640), ("one that is there", 0o604, 0o604)):
-        checks.put("out", None if mode is None else b"before")
-        path = os.path.join(checks.folder, "out")
-        if mode is not None:
-            os.chmod(path, mode)
-        found = checks.shell(f'umask 027; "$0" dec {FROM_PW} F5 out')
-        modes = os.stat(path).st_mode & 0o7777
-        checks.that(f"permissions of an outfile: {name}", (found, modes), (done(), expected))
-        checks.put("out", None)
+    for name, prepare, mode in (("a new one", "rm out", b"640\n"), ("one that is there", "chmod 604 out", b"604\n")):
+        found = checks.shell(f'echo before >out; {prepare}; umask 027; "$0" dec {FROM_PW} F5 out && stat -c %a out; rm out')
+        checks.that(f"permissions of an outfile: {name}", found, done(mode))
     leaves(checks, "a dash is a plain outfile", f"dec {FROM_PW} F5 -", done(), "-", b"hello")
     checks.put("-", None)
 

@@ -4,7 +4,6 @@ run ends by a signal. No contract sees the stack, so a body that takes 64 MiB of
 be proved.
 
     tests/programs/stack.py ARGON2 SCRYPT
-    tests/programs/stack.py --frames PROGRAM..      the largest frames of these programs, or libraries, by their object code
 
 The runs go over every length of a password, of a passphrase and of a salt, texts about the length of a piece, lengths
 of tags and costs that work otherwise, 0 to 40 words, and words and variables of up to 100,000 bytes. Those lie above
@@ -191,9 +190,9 @@ IN_A_LOOP = re.compile(r"\tsub +\$0x([0-9a-f]{1,8}),%r11$|\tlea +-0x([0-9a-f]{1,
 BETWEEN = re.compile(r"\t(?:movq +\$0x0|orq +\$0x0),(?:0x[0-9a-f]+)?\(%rsp\)$|\tcmp +%r11,%rsp$|\tjne ")
 
 
-def frames(program):
-    """The frames of a program's functions in bytes, the largest first."""
-    found, function, taken, is_loop = {}, None, 0, False
+def largest_frame(program):
+    """The largest frame of a program's functions in bytes, and whose it is."""
+    found, function, taken, is_loop = [], None, 0, False
     for line in said("objdump", "-d", "--no-show-raw-insn", program).splitlines():
         if begins := re.match(r"^[0-9a-f]+ <(.+)>:$", line):
             function, taken = begins[1], 0
@@ -205,25 +204,20 @@ def frames(program):
             is_loop = is_loop and "\tjne" not in line
         else:
             taken, is_loop = 0, False
-        if taken:
-            found[function] = max(found.get(function, 0), taken)
-    return sorted(((size, name) for name, size in found.items()), reverse=True)
+        found.append((taken, function or ""))
+    return max(found)
 
 
 def largest_frames(checks, programs):
     if not is_there("objdump", "the largest frames are not looked at"):
         return
     for name, program in programs.items():
-        size, function = frames(program)[0]
+        size, function = largest_frame(program)
         print(f"{name}: the largest frame has {size} bytes, in {function}")
         checks.that(f"{name}: no larger frame than {LARGEST_FRAME} bytes", size <= LARGEST_FRAME, True)
 
 
 def main():
-    if sys.argv[1:2] == ["--frames"]:
-        for program in sys.argv[2:]:
-            print("\n".join(f"{size}\t{function}" for size, function in frames(program)[:8]))
-        return
     if len(sys.argv) != 3:
         raise SystemExit(__doc__)
     programs = dict(zip(("argon2", "scrypt"), map(os.path.abspath, sys.argv[1:])))

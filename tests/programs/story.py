@@ -86,12 +86,6 @@ def in_shells(checks, programs, names, page, run):
             run(Shell(checks, name, programs, room, page))
 
 
-def blocks_of_readme(heading):
-    """The blocks of code below a heading of README."""
-    part = README.split(f"\n## {heading}\n")[1].split("\n## ")[0]
-    return [re.sub(r"^    ", "", it, flags=re.MULTILINE) for it in re.findall(r"(?:^    .*\n)+", part, re.MULTILINE)]
-
-
 def costs_timed(shell, loop):
     """The loop that times costs, for small ones."""
     status, said = shell.run("set -e\n" + loop.replace("14 15 16 17 18 19 20", "4 5"))
@@ -239,7 +233,8 @@ def compare_recipes(checks, programs):
 
 def parts_of_readme(shell):
     """The loop that times costs, and the check of a stored text in Python."""
-    costs_timed(shell, *blocks_of_readme("Which costs"))
+    (loop,) = re.findall(r"(?:^    .*\n)+", README.split("\n## Which costs\n")[1].split("\n## ")[0], re.MULTILINE)
+    costs_timed(shell, loop)
     stored = README.split("\n## Checking a stored hash\n")[1].split("\n# ")[0]
     (python,) = re.findall(r"^```python\n(.*?)^```", stored, re.MULTILINE | re.DOTALL)
     if SHARED.exists():
