@@ -2,13 +2,13 @@
 """Runs the tests of programs that nobody here wrote over a built library, by the adapters in tests/library/clients/: the test
 program of the reference implementation of Argon2 (src/test.c), the tests of argon2-cffi, and those of python-scrypt.
 
-    tests/library/clients.py FOLDER [--sources DIR]      FOLDER has libpikhsen.so.0, as bin/lib
+    tests/library/clients.py FOLDER DIR      FOLDER has libpikhsen.so.0, as bin/lib
 
 Says for each how many tests passed, failed and were left out, and each test that ends in another way than the library
 that it was written for, with the reason. Fails where another test fails, or one of these ends as it was written.
 
-Takes what is installed, and the sources and packages that are unpacked in DIR. It installs nothing and uses no network.
-Debian has them all, some of them in its newer suites alone:
+Takes the sources and packages that are unpacked in DIR, and Python's modules that are installed. It installs nothing and
+uses no network. Debian has them all, some of them in its newer suites alone:
 
     apt-get source --download-only argon2 python-argon2 python-scrypt
     apt-get download python3-cffi python3-cffi-backend python3-pycparser python3-ply python3-pytest python3-hypothesis \\
@@ -17,7 +17,6 @@ Debian has them all, some of them in its newer suites alone:
 
 python-scrypt needs no package. Not in the gate, since none of this is there. It takes some minutes and 1.5 GB.
 """
-import argparse
 import json
 import os
 import pathlib
@@ -46,9 +45,9 @@ ADAPTERS_OWN = {
 }
 
 
-def tree_with(folders, file, *others):
-    """Of the folders at or below these that have all these files the one with the last name: the newest version."""
-    trees = [it.parents[file.count("/")] for folder in folders for it in folder.rglob(file)]
+def tree_with(sources, file, *others):
+    """Of the folders below this one that have all these files the one with the last name: the newest version."""
+    trees = [it.parents[file.count("/")] for it in sources.rglob(file)]
     return max((it for it in trees if all((it / other).is_file() for other in others)), default=None)
 
 
@@ -127,39 +126,33 @@ def of_argon2_cffi(name, tree, adapter, header, environment):
 
 
 def main():
-    parser = argparse.ArgumentParser(description=__doc__, formatter_class=argparse.RawDescriptionHelpFormatter)
-    parser.add_argument("folder", metavar="FOLDER")
-    parser.add_argument("--sources", metavar="DIR")
-    given = parser.parse_args()
-    lib = pathlib.Path(given.folder).resolve()
+    if len(sys.argv) != 3:
+        raise SystemExit(__doc__)
+    lib, sources = (pathlib.Path(it).resolve() for it in sys.argv[1:])
     if not shutil.which("cc") or not (lib / "libpikhsen.so.0").is_file():
-        sys.exit(f"there is no C compiler, which the adapters need, or no libpikhsen.so.0 in {given.folder}")
+        sys.exit(f"there is no C compiler, which the adapters need, or no libpikhsen.so.0 in {lib}")
     right = []
     with tempfile.TemporaryDirectory() as work:
         work = pathlib.Path(work)
-        folders = [pathlib.Path(given.sources).resolve()] if given.sources else []
         link = ["-L", lib, "-l:libpikhsen.so.0", f"-Wl,-rpath,{lib}"]
-        packages = [str(it) for folder in folders for it in folder.rglob("dist-packages")]
-        environment = {**os.environ, "PYTHONPATH": ":".join(packages), "PYTHONDONTWRITEBYTECODE": "1"}
+        environment = {**os.environ, "PYTHONPATH": ":".join(map(str, sources.rglob("dist-packages"))), "PYTHONDONTWRITEBYTECODE": "1"}
         environment["HYPOTHESIS_STORAGE_DIRECTORY"] = str(work / "hypothesis")
 
-        tree, name = tree_with(folders, "src/test.c", "include/argon2.h"), "argon2's test program"
-        places = [*([tree / "include"] if tree else []), *(it / "usr/include" for it in folders), pathlib.Path("/usr/include")]
-        header, adapter = next((it / "argon2.h" for it in places if (it / "argon2.h").is_file()), None), None
+        tree, name = tree_with(sources, "src/test.c", "include/argon2.h"), "argon2's test program"
+        header, adapter = next(sources.rglob("argon2.h"), None), None
         if header:
             adapter = compiled(["-shared", "-fPIC", "-I", header.parent, ADAPTERS / "argon2.c", *link], work / "libargon2.so")
         right.append(of_test_program(name, tree, adapter, link, work) if tree else
                      left_out(name, "there are no sources of it with src/test.c and include/argon2.h"))
-        tree, name = tree_with(folders, "tests/test_low_level.py", "src/argon2/low_level.py"), "argon2-cffi"
+        tree, name = tree_with(sources, "tests/test_low_level.py", "src/argon2/low_level.py"), "argon2-cffi"
         right.append(of_argon2_cffi(name, tree, adapter, header, environment) if tree and adapter else
                      left_out(name, "there are no sources of it" if adapter else "there is no argon2.h, of which its adapter is made"))
-        tree = tree_with([*folders, pathlib.Path("/usr/lib/python3/dist-packages")], "scrypt/tests/test_scrypt.py")
-        name = "python-scrypt"
+        tree, name = tree_with(sources, "scrypt/tests/test_scrypt.py"), "python-scrypt"
         if tree:
             adapter = compiled(["-shared", "-fPIC", ADAPTERS / "scrypt.c", *link], work / "_scrypt.so")
             right.append(is_right(name, tree.name, of_python(PYTHONS[0], environment, work, name, adapter, tree)))
         else:
-            left_out(name, "neither sources nor package of it are there")
+            left_out(name, "there are neither sources nor a package of it")
     if all(it is None for it in right):
         sys.exit("nothing was run")
     sys.exit(1 if False in right else 0)
