@@ -32,7 +32,8 @@ def hashed(text):
     return (0, text, b"")
 
 
-# name, words, standard input, (status, standard output, standard error)
+# name, words, standard input, (status, standard output, standard error). Of words that are refused there is a row for each
+# line; crates/argon2_words_tests/src/vectors.rt has others.
 TABLE = [
     ("first run", "somesalt -d -t 1 -k 8 -e", b"password", hashed(FIRST)),
     ("kind i is the default", "somesalt -t 2 -m 8 -e", b"password", hashed(I_256)),
@@ -43,15 +44,11 @@ TABLE = [
     ("memory at its limit", "somesalt -t 2 -m 8 -e --maxmem 256", b"password", hashed(I_256)),
     ("memory above its limit", "somesalt -t 2 -m 8 -e --maxmem 255", b"password", refused(b"more memory needed than --maxmem allows")),
     ("no words", "", b"password", (1, b"", USAGE)),
-    ("help", "-h", b"password", (1, b"", USAGE)),
-    ("help after the salt", "somesalt -e -h", b"password", (1, b"", USAGE)),
     ("an unknown word", "somesalt -e -q", b"password", refused(b"unknown word")),
     ("a missing value", "somesalt -e -t", b"password", refused(b"missing value")),
     ("the first fault decides", "somesalt -t x -q", b"password", refused(b"bad number")),
     ("version 10", "somesalt -t 2 -m 8 -v 10 -e", b"password", hashed(I_256_10)),
-    ("version 10 in decimal", "somesalt -v 16 -e", b"password", refused(b"bad number")),
     ("no form of output", "somesalt", b"password", refused(b"exactly one of -e and -r is needed")),
-    ("both forms of output", "somesalt -e -r", b"password", refused(b"exactly one of -e and -r is needed")),
     ("a short salt", "seven77 -e", b"password", refused(b"salt length out of range")),
     ("little memory", "somesalt -k 15 -p 2 -e", b"password", refused(b"memory out of range")),
     ("no passes", "somesalt -t 0 -e", b"password", refused(b"passes out of range")),
