@@ -1,5 +1,5 @@
 #!/usr/bin/env python3
-"""Times libpikhsen from Python beside argon2-cffi and hashlib: hashes, keys, and files of 16 MiB there and back.
+"""Times libpikhsen from Python beside argon2-cffi and hashlib: hashes and keys.
 
     bench/c_face.py [ROUNDS]      over bin/lib/libpikhsen.so.0, which make lib makes
 
@@ -22,7 +22,7 @@ try:
     from argon2.low_level import Type, hash_secret_raw
 except ImportError:
     hash_secret_raw = None
-PASSWORD, SALT, TEXT = b"correct horse", b"sixteen bytes...", bytes(1 << 24)
+PASSWORD, SALT = b"correct horse", b"sixteen bytes..."
 
 
 def rows():
@@ -47,10 +47,6 @@ def main():
             least.note("ours", mine)
             least.note("other", theirs)
         print(f"{name}: {least['ours'] * 1e3:.2f} ms, {least['other'] * 1e3:.2f} ms, {least['ours'] / least['other']:.2f}")
-    file = pikhsen.encrypt(TEXT, PASSWORD, log_n=10)
-    both = [min(spent(it)[0] for _ in range(rounds())) for it in (
-        lambda: pikhsen.encrypt(TEXT, PASSWORD, log_n=10), lambda: pikhsen.decrypt(file, PASSWORD))]
-    print(f"a file of 16 MiB: encrypted in {both[0] * 1e3:.0f} ms, decrypted in {both[1] * 1e3:.0f} ms")
 
 
 main()
