@@ -1,7 +1,7 @@
 #!/usr/bin/env python3
 """The library and the module where packaging/install.sh puts them, and the packages for Debian: the same bytes each time
-and under each umask, each file in its package with its permissions, what each package says of itself, programs that run
-as they are unpacked, and how programs and library are made. What else is installed, tests/build/build_scripts.py looks at.
+and under each umask, each file in its package with its permissions, what each package says of itself, and how programs and
+library are made. What else is installed, tests/build/build_scripts.py looks at.
 
     tests/library/packages.py FOLDER      the folder in which libpikhsen.so.0 and libpikhsen.a lie
 """
@@ -16,7 +16,7 @@ import sys
 
 sys.path += map(str, pathlib.Path(__file__).resolve().parents[1].iterdir())  # the other folders of tests/
 import binaries
-from checking import Checks, is_there, over_library, said
+from checking import is_there, over_library, said
 from library_texts import HEADER, prototypes, ran, types
 from shown import library_runs
 
@@ -198,27 +198,12 @@ def scripts(checks, root):
 
 
 def programs_built(checks, root, level):
-    """The programs are those that were built for this level."""
+    """The programs are those that were built for this level, which tests/programs/ run."""
     for name in ("argon2", "scrypt"):
         program, of = root / "usr/bin" / name, f"{name} in the package for {level}"
         checks.that(of, program.read_bytes() == (TOP / "bin" / level / name).read_bytes(), True)
         binaries.hardened(checks, of, program, True)
         binaries.level(checks, of, program, level != "x86-64-v2")
-
-
-def programs_run(checks, folder, root):
-    """The programs run as they are unpacked."""
-    work = pathlib.Path(folder, "unpacked")
-    work.mkdir()
-    argon2, scrypt = (Checks(root / "usr/bin" / it, work, {}) for it in ("argon2", "scrypt"))
-    for program, crate in ((argon2, "argon_tool"), (scrypt, "scrypt_tool")):
-        words, given, printed = ((TOP / "crates" / crate / it).read_bytes() for it in ("args", "stdin", "stdout"))
-        found = program.run(words.decode().split(), given)
-        checks.that(f"{crate} as it is run where it is built, unpacked", found, (0, printed, b""))
-    scrypt.put("key", b"correct horse\n")
-    made = scrypt.run("enc --logN 4 -r 1 -p 1 --passphrase file:key - file".split(), b"Dear Ada")
-    opened = scrypt.run(["dec", "--passphrase", "file:key", "file"])
-    checks.that("scrypt, unpacked", (made, opened), ((0, b"", b""), (0, b"Dear Ada", b"")))
 
 
 def lint(checks, files):
@@ -266,14 +251,12 @@ def packages(checks, folder, lib):
             programs_built(checks, root, of[1])
         if of[0] == VERSION:
             shutil.copytree(root / "usr", whole / "usr", symlinks=True, dirs_exist_ok=True)
-    programs_run(checks, folder, pathlib.Path(folder, "root-pikhsen"))
     scripts(checks, pathlib.Path(folder, "root-python3-pikhsen"))
     root = pathlib.Path(folder, "root-libpikhsen0")
     names = "".join(f" {it}@PIKHSEN_0 0.1.0\n" for it in sorted(["PIKHSEN_0", *prototypes(HEADER)]))
     for name, text in (("shlibs", f"libpikhsen 0 libpikhsen0 (>= {VERSION})\n"), ("triggers", "activate-noawait ldconfig\n"),
                        ("symbols", f"libpikhsen.so.0 libpikhsen0 #MINVER#\n* Build-Depends-Package: libpikhsen-dev\n{names}")):
         checks.that(name, (root / "DEBIAN" / name).read_text(), text)
-    binaries.level(checks, "the library in the package", root / LIBRARIES / "libpikhsen.so.0", False)
     libraries = [it for it in ("libpikhsen.so.0", "libpikhsen.a", HIGHER) if pathlib.Path(lib, it).is_file()]
     other = [it for it in libraries if (whole / LIBRARIES / it).read_bytes() != pathlib.Path(lib, it).read_bytes()]
     checks.that("libraries in their packages that are others", other, [])
