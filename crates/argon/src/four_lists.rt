@@ -25,6 +25,7 @@ pub(crate) struct FourLists {
     pub(crate) d: u64x16,
 }
 
+// The words of four vectors, one vector after another.
 #[inline(always)]
 fn beside(one: u64x4, two: u64x4, three: u64x4, four: u64x4) -> u64x16
     ensures value { result ≡ sixteen_words one two three four }
