@@ -4,8 +4,7 @@
     bench/keep.py [BIN] [LOG_N..]       BIN is the folder of scrypt, bin without it; log2 N is 17 and 20
 
 Files of no text are made with r = 8, p = 1 and opened with S = 1, 4, 16 and 64. Peak is the greatest resident size of
-the process by GNU time, time its processor time (user and system), cores the bound 2 * r * p * N * (1 + S) that --maxops is held
-against.
+the process by GNU time, time its processor time (user and system).
 """
 import pathlib
 import sys
@@ -13,23 +12,20 @@ import tempfile
 
 from scratch import used, with_peak
 
-R = 8
-
 
 def main():
     folder = pathlib.Path(sys.argv[1] if len(sys.argv) > 1 else "bin").resolve()
     scrypt, logs = str(folder / "scrypt"), [int(it) for it in sys.argv[2:]] or [17, 20]
-    print("log2 N    S  table MiB  peak MiB  time s  elapsed s  cores")
+    print("log2 N    S  peak MiB  time s")
     with tempfile.TemporaryDirectory() as room:
         pathlib.Path(room, "pw").write_text("pw\n")
         for log_n in logs:
             limits = ["-M", str(1 << 40), "--maxops", str((1 << 63) - 1), "--passphrase", "file:pw"]
-            costs = ["--logN", str(log_n), "-r", str(R), "-p", "1"]
+            costs = ["--logN", str(log_n), "-r", "8", "-p", "1"]
             used([scrypt, "enc", *costs, *limits, "/dev/null", "file"], cwd=room)
             for keep in [1, 4, 16, 64]:
                 run, peak = with_peak([scrypt, "dec", "--keep", str(keep), *limits, "file", "back"], cwd=room)
-                table, cores = R * 2.0 ** (log_n - 13) / keep, 2 * R * (1 << log_n) * (1 + keep)
-                print(f"{log_n:6}{keep:5}{table:11g}{(peak or 0) / 1024:10.1f}{run.cpu:8.2f}{run.elapsed:11.2f}  {cores}", flush=True)
+                print(f"{log_n:6}{keep:5}{(peak or 0) / 1024:10.1f}{run.cpu:8.2f}", flush=True)
 
 
 main()

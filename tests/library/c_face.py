@@ -183,9 +183,6 @@ def secrets_from_c(checks, folder, lib, pikhsen):
     vector registers when it returns."""
     program = f"{folder}/secrets"
     checks.that("secrets.c, compiled", compile_c(TOP / "tests/library/secrets.c", lib, program, True, *STRICT, *WRAPPED), (0, ""))
-    of_two = [[it, "kept"] for it in ("painted", "freed", "again", "registers", "key")]
-    for words in ([], ["keys"], ["painted"], ["again"], ["registers"], *of_two):
-        checks.that(f"secrets.c, other words: {words}", ran(program, *words, stdin=subprocess.DEVNULL)[0], 2)
     levels = sorted(pathlib.Path(lib, "glibc-hwcaps").glob("*/libpikhsen.so.0"))
     of_levels = [program, *(over_shared(folder, it.parent.name, it.read_bytes()) for it in levels)]
     spoiled = over_shared(folder, "without-zeros", without_zeros(lib))
