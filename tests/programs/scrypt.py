@@ -136,6 +136,12 @@ OUTFILES = [
 ]
 
 
+def leaves(checks, name, words, expected, file, content):
+    """A line of a shell with these words ends so, and then the file has this content."""
+    found = checks.shell(f'"$0" {words}')
+    checks.that(name, (found, checks.content(file)), (expected, content))
+
+
 def outfiles(checks):
     for name, words, before, status, after in OUTFILES:
         checks.put("out", before)
@@ -146,12 +152,6 @@ def outfiles(checks):
         checks.that(f"permissions of an outfile: {name}", found, done(mode))
     leaves(checks, "a dash is a plain outfile", f"dec {FROM_PW} F5 -", done(), "-", b"hello")
     checks.put("-", None)
-
-
-def leaves(checks, name, words, expected, file, content):
-    """A line of a shell with these words ends so, and then the file has this content."""
-    found = checks.shell(f'"$0" {words}')
-    checks.that(name, (found, checks.content(file)), (expected, content))
 
 
 def standard_streams(checks):
