@@ -31,7 +31,8 @@ LIBRARIES = ("libsodium", "OpenSSL")  # not Debian's programs: they stand apart
 LEFT, SCALE, STEP, TOP, GAP = 250, 360, 32, 84, 16
 SECONDS = LEFT + int(1.45 * SCALE)
 WIDTH = SECONDS + 190
-# Colours for a light page and for a dark one: page, text, soft text, grid, v2, v3, Debian's.
+# Colours for a light page and for a dark one: page, text, soft text, grid, v2, v3, Debian's. Bars stand out from the page by
+# 3 and from each other by 2, as WCAG 2.2 measures contrast.
 LIGHT = "#ffffff #1f2328 #59636e #d1d9e0 #4493f8 #0a3069 #cf222e".split()
 DARK = "#0d1117 #e6edf3 #9198a1 #3d444d #316dca #a5d6ff #ff7b72".split()
 COLOURS = """.page{fill:%s} text{fill:%s} .soft{fill:%s} .grid{stroke:%s} .v2{fill:%s} .v3{fill:%s} .one{stroke:%s}"""
@@ -46,24 +47,6 @@ def read(path):
     title, head, *lines = pathlib.Path(path).read_text(encoding="utf-8").splitlines()
     rows = [dict(zip(head.split("\t"), line.split("\t"))) for line in lines]
     return title.lstrip("# "), {(row["work"], row["size"], row["level"]): row for row in rows}
-
-
-def contrast(one, other):
-    """How much lighter one colour is than the other, as WCAG 2.2 defines it."""
-    def light(colour):
-        parts = [int(colour[at:at + 2], 16) / 255 for at in (1, 3, 5)]
-        red, green, blue = (it / 12.92 if it <= 0.04045 else ((it + 0.055) / 1.055) ** 2.4 for it in parts)
-        return 0.2126 * red + 0.7152 * green + 0.0722 * blue
-
-    lesser, greater = sorted([light(one), light(other)])
-    return (greater + 0.05) / (lesser + 0.05)
-
-
-def faint():
-    """Bars and lines that are too close to the colour of their page, or a bar to that of the other level."""
-    return [f"{one} on {other}" for page, _, _, _, v2, v3, theirs in (LIGHT, DARK)
-            for one, other, least in ((v2, page, 3), (v3, page, 3), (theirs, page, 3), (v2, v3, 2))
-            if contrast(one, other) < least]
 
 
 def seconds(text):

@@ -222,10 +222,9 @@ screen = README.partition("\n# Using the programs\n")[0].count("\n")
 expect(screen < 45, "README.md", f"a first screen of fewer than 45 lines: there are {screen}")
 
 # Calls and clauses that carry a promise, and the picture of what they stand on; the definitions of each run.
-bars = ratios.drawn(TOP / "docs/benchmarks.tsv"), [f"bars that are seen: {it}" for it in ratios.faint()]
 for name, (picture, wrong), by in (
     ("docs/proof-map.svg", drawn(), "make map"), ("docs/proof-map-small.svg", small(), "make map"),
-    ("docs/benchmarks.svg", bars, "bench/ratios.py"),
+    ("docs/benchmarks.svg", (ratios.drawn(TOP / "docs/benchmarks.tsv"), []), "bench/ratios.py"),
 ):
     missing += wrong
     if not (TOP / name).exists() or picture != (TOP / name).read_text(encoding="utf-8"):
