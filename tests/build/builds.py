@@ -8,7 +8,8 @@ the same sources give the same bytes, wherever they are built.
 Before either, on a processor of the level x86-64-v3: `make run CPU=x86-64-v2`, `make run CPU=x86-64-v3` and `make lib`.
 Packages are made here, with the time that the table has, of the last commit before it. The package `pikhsen` has the
 table in it, and so no row. Where the toolchain, a tool or the sources of a row are others than those that the table names,
-or what was built is older than its sources or not there, that row cannot be compared: that is said, and is no failure.
+or what was built is older than its sources or not there, that row cannot be compared: that is said, and is no failure; but
+status 2 says that no row could be compared.
 """
 import hashlib
 import os
@@ -91,6 +92,9 @@ def compare(table, made, found):
             print(f"{level} {name}: not built here of these sources")
         else:
             checks.that(f"{level} {name}: its SHA-256", found.get(row), table.get(row))
+    if not checks.passed + checks.failed:
+        print("nothing could be compared", file=sys.stderr)
+        raise SystemExit(2)
     checks.end()
 
 
