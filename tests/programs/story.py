@@ -1,11 +1,12 @@
 #!/usr/bin/env python3
-"""Types the commands of README.md's first screen and its story in an empty folder and compares what comes. The login of
+"""Types the commands of README.md's first screen, those for a folder under a typed passphrase, also of a folder that is
+not there, and its story in an empty folder and compares what comes. The login of
 docs/LIBRARY.md's Rust program is that of a test, and the text that it enrols is what the built argon2 writes. Then the
 examples of both manual pages, in each shell that they are for, also where a command before a pipe fails, a password is
 wrong, and the stored text is empty; and what checks a stored text in Python, where the library is built.
 
     tests/programs/story.py FOLDER               in which the programs argon2 and scrypt lie
-    tests/programs/story.py --recipes FOLDER     the first screen and the examples of argon2's page, alone
+    tests/programs/story.py --recipes FOLDER     what is typed for README and the examples of argon2's page, alone
     tests/programs/story.py --prove              proves, builds and runs that Rust program over the crates (some minutes)
 """
 import os
@@ -19,7 +20,7 @@ import tempfile
 
 sys.path += map(str, pathlib.Path(__file__).resolve().parents[1].iterdir())  # the other folders of tests/
 from checking import Checks
-from scrypt_ask import AGAIN, ASKED, CHEAP, Terminal
+from scrypt_ask import CHEAP, Terminal
 
 TOP = pathlib.Path(__file__).resolve().parents[2]
 README = (TOP / "README.md").read_text(encoding="utf-8")
@@ -84,6 +85,12 @@ def in_shells(checks, programs, names, page, run):
             continue
         with tempfile.TemporaryDirectory() as room:
             run(Shell(checks, name, programs, room, page))
+
+
+def blocks_of_readme(heading):
+    """The blocks of code below a heading of README."""
+    part = README.split(f"\n## {heading}\n")[1].split("\n## ")[0]
+    return [re.sub(r"^    ", "", it, flags=re.MULTILINE) for it in re.findall(r"(?:^    .*\n)+", part, re.MULTILINE)]
 
 
 def costs_timed(shell, loop):
@@ -210,31 +217,48 @@ def argon2_examples(shell):
     expect("a key without a salt", shell.run(key, password=right), (1, "argon2: salt length out of range\n"))
 
 
+def typed(shell, text):
+    """Status, what is shown, and the questions, where a passphrase is typed at each question of these lines, at lower costs."""
+    cheap = re.sub(r"scrypt-ask enc( --logN \d+ -r 8 -p 1)?", f"scrypt-ask enc {CHEAP}", text)
+    terminal = Terminal(f"{shell.name} -c {shlex.quote(cheap)}", shell.room, shell.environment, os.getuid())
+    asked = terminal.answers_all(text)
+    return *terminal.ends()[:2], asked
+
+
+def typed_folder(shell):
+    """A folder is encrypted, got back and encrypted again; where `tar` fails, the older file stays."""
+    made, opened, again = blocks_of_readme("Typing a passphrase")
+    shell.run("mkdir letters; echo 'Dear Ada' >letters/to-ada; cp -r letters kept")
+    for name, text in (("a folder", made), ("got back", "rm -r letters\n" + opened), ("encrypted again", again), ("and got back", opened)):
+        status, said, asked = typed(shell, text)
+        shell.expect(name, (status, said), (0, asked))
+    shell.expect("what is there", shell.run("diff -r letters kept; ls"), (0, "kept\nletters\nletters.tar.scrypt\n"))
+    shell.run("cp letters.tar.scrypt before")
+    status, *_ = typed(shell, made.replace("tar -cf - letters |", "tar -cf - leters 2>/dev/null |"))
+    shell.expect("a folder that is not there", (status != 0, shell.run("cmp before letters.tar.scrypt")), (True, (0, "")))
+
+
 def first_screen(shell):
     """The commands of README's first screen after the first, which installs, pasted as they stand into an empty folder; at
-    lower costs, with a passphrase typed at each question."""
+    lower costs, with a passphrase typed at each question. No line follows one that asks, which would read it."""
     install, *commands = re.findall(r"^    (.*)$", README.partition("\n[^speed]:")[0], re.MULTILINE)
-    pasted = "\n".join(commands).replace("scrypt-ask enc", f"scrypt-ask enc {CHEAP}")
-    terminal = Terminal(f"{shell.name} -c {shlex.quote(pasted)}", shell.room, shell.environment, os.getuid())
-    for prompt in (ASKED, AGAIN, ASKED):
-        terminal.sees(prompt)
-        terminal.types("words\n")
-    status, said, _ = terminal.ends()
-    text = re.escape(f"{ASKED}\r\n{AGAIN}\r\n{ASKED}\r\n") + r"\$argon2id\$v=19\$m=65536,t=3,p=4\$[\w+/]+\$[\w+/]{43}\r\n"
+    status, said, asked = typed(shell, "\n".join(commands))
+    text = r"\$argon2id\$v=19\$m=65536,t=3,p=4\$[\w+/]+\$[\w+/]{43}\r\n" + re.escape(asked)
     found = install.startswith("make run && make install "), status, re.sub(f"^{text}$", "a hash", said)
     shell.expect("the first screen", found, (True, 0, "a hash"))
+    shell.expect("lines of the first screen that ask", [it for it in commands if "scrypt-ask" in it], commands[-1:])
     shell.expect("what was opened", shell.run("cat opened; cmp letter opened; cmp -s letter letter.scrypt"), (1, "Dear Ada\n"))
 
 
 def compare_recipes(checks, programs):
-    in_shells(checks, programs, ("bash", "zsh"), "README.md", first_screen)
+    for part in (first_screen, typed_folder):
+        in_shells(checks, programs, ("bash", "zsh"), "README.md", part)
     in_shells(checks, programs, ("bash", "dash", "zsh"), "argon2.1", argon2_examples)
 
 
 def parts_of_readme(shell):
     """The loop that times costs, and the check of a stored text in Python."""
-    (loop,) = re.findall(r"(?:^    .*\n)+", README.split("\n## Which costs\n")[1].split("\n## ")[0], re.MULTILINE)
-    costs_timed(shell, loop)
+    costs_timed(shell, *blocks_of_readme("Which costs"))
     stored = README.split("\n## Checking a stored hash\n")[1].split("\n# ")[0]
     (python,) = re.findall(r"^```python\n(.*?)^```", stored, re.MULTILINE | re.DOTALL)
     if SHARED.exists():
