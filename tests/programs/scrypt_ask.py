@@ -420,10 +420,10 @@ def refused_before_it_asks(room):
         "enc folder": "tar -cf - folder | scrypt-ask enc - folder.tar.scrypt\r\n", "enc folder/ out": "tar -cf - folder | scrypt-ask enc",
         "enc - out <folder": "tar -cf - FOLDER | scrypt-ask enc - FOLDER.tar.scrypt\r\n", "enc .": "tar -cf - FOLDER |",
         "enc letters folder": "outfile is a folder", "dec letters ./": "outfile is a folder",
-        "enc nothing out": "infile cannot be read", "dec nothing": "infile cannot be read", "dec folder": "infile cannot be read",
+        "enc nothing out": "infile is not found", "dec nothing": "infile is not found", "dec folder": "infile cannot be read",
         "enc letters ./letters": "infile and outfile are one file", "enc letters hard": "infile and outfile are one file",
         "enc letters also": "infile and outfile are one file", "enc - letters <letters": "infile and outfile are one file",
-        "enc letters self": "outfile is a link to nowhere", "enc letters nowhere/out": "no file can be made in the folder of outfile",
+        "enc letters self": "outfile is a link to nowhere", "enc letters nowhere/out": "the folder of outfile is not found",
         "enc letters /sys/out": "no file can be made in the folder of outfile",
     }
     for words, line in ours.items():
@@ -447,7 +447,7 @@ def refused_before_it_asks(room):
     (room.folder / "closed").chmod(0o755)
     # no terminal; no /dev/fd; a printf that is a program
     found = subprocess.run(["sh", "-c", room.line("enc letters out")], cwd=room.folder, capture_output=True, start_new_session=True)
-    line = b"scrypt-ask: there is no terminal to type a passphrase at\n"
+    line = b"scrypt-ask: there is no terminal to type a passphrase at: use scrypt --passphrase\n"
     room.that("without a terminal", (found.returncode, found.stdout, found.stderr), (1, b"", line))
     for old, new, line in (("/dev/fd", "/nowhere", "there is no /nowhere"), ("command -v", "which", "printf is a program here")):
         (room.top / "bin/changed").write_text(SCRIPT.read_text(encoding="utf-8").replace(old, new), encoding="utf-8")
