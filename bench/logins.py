@@ -13,7 +13,7 @@ import ctypes
 import ctypes.util
 import os
 
-from scratch import Least, built, head, rounds, spent, used
+from scratch import Least, built, rounds, spent, used
 
 # memory in KiB, passes, and how many logins a round has
 ROWS = [(64, 1, 4000), (64, 2, 2000), (64, 3, 2000), (4096, 3, 30), (19456, 2, 12), (65536, 3, 6)]
@@ -78,7 +78,7 @@ def main():
         print("skipped: no libargon2 is installed to be timed")
         return
     program = built("logins_bench", "argon argon_text comparison", "logins.txt")
-    head(f"user and system time, least of {rounds()}")
+    print(f"load {os.getloadavg()[0]:.1f}; user and system time, least of {rounds()}", flush=True)
     for row in ROWS:
         race(program, library, rounds(), *row)
     print(f"load at the end {os.getloadavg()[0]:.1f}")

@@ -10,14 +10,13 @@ import tempfile
 import time
 
 TOP = pathlib.Path(__file__).resolve().parent.parent
-ROOMS = []  # the scratch copies, which are deleted when Python ends
+ROOM = tempfile.TemporaryDirectory(prefix="pikhsen-bench-")  # for the scratch copy; it is deleted when Python ends
 Used = collections.namedtuple("Used", "cpu elapsed faults printed")
 
 
 def built(name, crates, source):
     """The program `name` over these crates, of the Rattle text in bench/`source`, built in a scratch copy, proved as all is."""
-    ROOMS.append(tempfile.TemporaryDirectory(prefix="pikhsen-bench-"))
-    room = pathlib.Path(ROOMS[-1].name)
+    room = pathlib.Path(ROOM.name)
     folder = room / "crates" / name
     shutil.copytree(TOP / "crates", room / "crates", symlinks=True)
     shutil.copy(TOP / "HANDLES", room)
@@ -69,10 +68,6 @@ class Least(dict):
         self[name] = min(value, self.get(name, value))
 
 
-def rounds(place=1):
-    """How often each does its work: the word at this place, or 7."""
-    return int(sys.argv[place]) if len(sys.argv) > place else 7
-
-
-def head(said):
-    print(f"processors {os.cpu_count()}, load {os.getloadavg()[0]:.1f}; {said}", flush=True)
+def rounds():
+    """How often each does its work: the first word, or 7."""
+    return int(sys.argv[1]) if len(sys.argv) > 1 else 7

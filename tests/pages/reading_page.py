@@ -3,19 +3,16 @@
 the laws of them, the types that they name, and what the notation and the words of the toolchain mean.
 
     tests/pages/reading_page.py [CALL..]   writes bin/reading/NAME.html, with the text of the toolchain's own definitions where the
-                                     toolchain's sources are, and NAME.pdf where a program that makes one is installed
+                                     toolchain's sources are; any browser prints it
 
 A call is written CRATE::FUNCTION; without one `run` of both programs is meant. tests/pages/reading.py says what a contract reaches;
 docs/notation.tsv and docs/words.tsv say what notation and words mean.
 """
 import functools
 import hashlib
-import os
 import pathlib
 import re
-import shutil
 import string
-import subprocess
 import sys
 import textwrap
 from html import escape
@@ -32,13 +29,6 @@ USE = re.compile(r"(?m)^ *(?:pub |ghost )?use Rattle\.([\w.]+?)(?:\.\{([^}]*)\}|
 KIT = "Definitions of the toolchain's libraries"
 # Where no standard has a rule, code that is read with one.
 CODE = ("crypto_aesctr.c of Tarsnap's scrypt", "reference implementation of Argon2 (run.c, encoding.c; version 0x10)")
-# The programs that make a PDF of a page, and their words.
-PRINTERS = {
-    **dict.fromkeys(("chromium", "chromium-browser", "google-chrome"), "--headless " + "--no-sandbox " * (os.geteuid() == 0)
-                    + "--disable-gpu --no-pdf-header-footer --print-to-pdf={out} {page}"),
-    "weasyprint": "{page} {out}",
-    **dict.fromkeys(("soffice", "libreoffice"), "--headless --convert-to pdf --outdir {folder} {page}"),
-}
 # What a contract over a trait leaves open.
 OVER = {
     "Host": """<p>The built programs run over a host of the crate <code>tools</code>, <code>SystemHost</code>, which tells what
@@ -405,18 +395,6 @@ def dedented(lines):
     return f"{first.strip()}\n{textwrap.dedent(others)}".rstrip()
 
 
-def printed(page):
-    """Makes a PDF beside a page, and says by what."""
-    name = next(filter(shutil.which, PRINTERS), None)
-    if not name:
-        return "no PDF: neither chromium nor weasyprint nor libreoffice is installed; a browser prints the page"
-    out = page.with_suffix(".pdf")
-    out.unlink(missing_ok=True)
-    words = [it.format(page=page.as_uri(), out=out, folder=out.parent) for it in PRINTERS[name].split()]
-    done = subprocess.run([name, *words], stdout=subprocess.DEVNULL, stderr=subprocess.DEVNULL, timeout=300)
-    return f"{out.relative_to(TOP)}, made by {name}" if done.returncode == 0 and out.is_file() else f"no PDF: {name} failed"
-
-
 def unknown(calls):
     """The words on the pages of these calls that no line of docs/words.tsv explains."""
     pages = [Page(call) for call in calls]
@@ -432,7 +410,7 @@ def main():
         page = folder / f"{PROGRAMS.get(call, call.replace('::', '_'))}.html"
         page.write_text(Page(call, whole=True).made(), encoding="utf-8")
         kit = "" if reading_kit.folder() else ", without the text of the toolchain's definitions, whose sources are not here"
-        print(f"{page.relative_to(TOP)}{kit}; {printed(page)}")
+        print(f"{page.relative_to(TOP)}{kit}")
 
 
 if __name__ == "__main__":
