@@ -39,12 +39,13 @@ test: $(filter bin/x86-64-v3/%,$(wildcard $(LEVELS:%=bin/%/scrypt))) ## the gate
 	@rm -rf bin/rooms && mkdir -p bin && printf '# begun:\t%s\n' $$(date +%s) >bin/gate.tsv
 	@$(MAKE) --no-print-directory -f tests/build/gate.mk -j -O gate LEVELS='$(LEVELS)'
 
-# A wrong line may need the programs or the library to be found. docs/audit says of which commit the last audit was.
+# A wrong line may need the programs or the library to be found. docs/audit gets the commit, and each edit that was not
+# refused at its goal, with which make audit fails.
 audit: bin/x86-64-v2/scrypt bin/lib/libpikhsen.so.0 ## tries each wrong body, definition and line, for docs/audit
 	@tests/edits/choice.py >bin/audit
 	tests/edits/wrong_lines.py --audit
 	tests/edits/refusals.py --audit
-	@tests/edits/choice.py | cmp - bin/audit && mv bin/audit docs/audit
+	@test "$$(tests/edits/choice.py)" = "$$(head -n 1 bin/audit)" && mv bin/audit docs/audit && test $$(wc -l <docs/audit) = 1
 
 map: ## draws docs/proof-map.svg and docs/proof-map-small.svg
 	tests/pages/proof_map.py docs/proof-map.svg docs/proof-map-small.svg

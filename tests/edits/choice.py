@@ -1,9 +1,9 @@
 #!/usr/bin/env python3
 """The choice: which edits that must fail are tried. Those of what differs from the last audit, and a tenth of the others.
 
-docs/audit names the commit at which `make audit` saw each edit refused at its goal, and the toolchain that it had. An edit
-is tried if its own lines are not those of that commit, or a file that its trial is over differs from that commit, be it
-committed or not. Of the others a tenth is tried, which the hash of the commit that is tested chooses. Every edit is tried
+docs/audit names the commit at which `make audit` tried each edit, the toolchain that it had, and then each edit that it did
+not see refused at its goal. Such an edit is tried, and one whose own lines are not those of that commit, or of which a file
+that its trial is over differs from that commit, be it committed or not. Of the others a tenth is tried, which the hash of the commit that is tested chooses. Every edit is tried
 where that commit is not known (a shallow clone, a copy without git) or is no ancestor, where the toolchain's logic is
 another, or what decides over refusals (RULES) differs; but never more than there is time for (BUDGET): the hash of the
 commit chooses what is left out, and edits whose own lines differ come first.
@@ -14,13 +14,14 @@ import hashlib
 import itertools
 import math
 import pathlib
+import re
 import sys
 
 sys.path += map(str, pathlib.Path(__file__).resolve().parents[1].iterdir())  # the other folders of tests/
 from edits import sections
 from tree import TOP, git
 
-AUDIT, PART = "docs/audit", 10
+AUDIT, MADE, PART = "docs/audit", TOP / "bin" / "audit", 10  # make audit makes the second, and then the first of it
 BUDGET = 12000  # seconds of the processors for the trials of a gate: two need two and a half hours then, with all that it does
 RULES = [*(f"tests/edits/{it}.py" for it in ("body_trial", "choice", "definition_trial", "definitions", "edits", "refusals",
                                              "toolchain", "wrong_lines")), "tests/sources/functions.py", "tests/pages/reading.py"]
@@ -31,12 +32,12 @@ class Choice:
 
     def __init__(self, logic, top=TOP):
         path, self.top, self.head = top / AUDIT, top, git("rev-parse", "HEAD", top=top) or ""
-        words = path.read_text(encoding="utf-8").split(maxsplit=2) if path.is_file() else []
-        self.commit, *toolchain = words if len(words) == 3 else ["none", "", ""]
+        line, *self.failed = (path.read_text(encoding="utf-8") if path.is_file() else "").splitlines() or [""]
+        self.commit, *toolchain = line.split(maxsplit=2) if line.count(" ") > 1 else ["none", "", ""]
         self.differing, self.every = set(), ""
         if git("merge-base", "--is-ancestor", self.commit, "HEAD", top=top) is None:
             self.every = f"the commit of the last audit, {self.commit}, is not known here"
-        elif logic and toolchain[1].strip() != logic:
+        elif logic and toolchain[1] != logic:
             self.every = f"the toolchain's logic is another than in the last audit, at {self.commit}"
         else:
             words = ["diff", "--name-only", "--no-renames", self.commit], ["ls-files", "--others", "--exclude-standard"]
@@ -45,8 +46,9 @@ class Choice:
                 self.every = f"what decides over refusals differs from that of the last audit, at {self.commit}"
 
     def differs(self, places):
-        """Whether a file that is one of these, or below one, is another than at the audit."""
-        return any(f"{file}/".startswith(f"{place}/") for place in places for file in self.differing)
+        """Whether a file that is one of these, or below one, is another than at the audit. Definitions of Inside/, which no
+        public contract reaches, are below no folder but Inside/ itself."""
+        return any(re.match(f"{re.escape(place)}/(?!Inside/)", f"{file}/") for place in places for file in self.differing)
 
     def is_edited(self, edit):
         """Whether the edit, with its goal, stands otherwise in its file than at the audit, or not at all."""
@@ -58,7 +60,7 @@ class Choice:
 
     def is_new(self, edit, places):
         """Whether an edit is tried whatever its turn, where its trial is over the files at or below these places."""
-        return bool(self.every) or self.differs(places) or self.is_edited(edit)
+        return bool(self.every) or edit.name in self.failed or self.differs(places) or self.is_edited(edit)
 
     def order(self, names):
         """These names in the order that the commit chooses."""

@@ -13,7 +13,7 @@ from edits import Edit, sections
 from tree import git
 
 BODY, BODIES = "file: src/lib.rt\n\n{0}\nold: {0}\nnew: other\nrefused: `returns-clause-{0}`\n", "wrong-bodies/lib.edits"
-FILES = {"src/lib.rt": "{0}", "specs/A.antt": "{0}", BODIES: BODY}
+FILES = {"src/lib.rt": "{0}", "specs/A.antt": "{0}", "specs/Inside/A.antt": "{0}", BODIES: BODY}
 TREE = {f"crates/{crate}/{path}": text.format(crate) for crate in "ab" for path, text in FILES.items()}
 TREE = {**TREE, "tests/edits/edits.py": "", "docs/page.md": "", AUDIT: ""}
 # What is another than at the audit, in which file, its text, and the wrong bodies that are new then; b stands on a.
@@ -23,6 +23,8 @@ ROWS = (
     ("a source", "crates/a/src/lib.rt", "a b", "a"),
     ("a file that git does not have", "crates/b/src/new.rt", "b", "b"),
     ("a definition below", "crates/a/specs/A.antt", "b", "ab"),
+    ("a definition below that is not public", "crates/a/specs/Inside/A.antt", "b", "a"),
+    ("an edit that was not refused", AUDIT, "{} kit logic 1\nb/b\n", "b"),
     ("a goal", f"crates/b/{BODIES}", BODY.format("b").replace("clause", "then"), "b"),
     ("an edit more", f"crates/b/{BODIES}", BODY.format("b") + "\nc\nold: b\nnew: c\n", "c"),
     ("a rule", "tests/edits/edits.py", "text", "ab"),
@@ -36,10 +38,11 @@ ROWS = (
 def new(top):
     """The wrong bodies that are new in this tree."""
     choice, found = Choice("logic 1", top), ""
-    for crate, places in ("a", ["crates/a/src", "crates/a/specs"]), ("b", ["crates/b/src", "crates/b/specs", "crates/a/specs"]):
+    for crate, below in ("a", []), ("b", ["crates/a/specs"]):
         path = top / "crates" / crate / BODIES
         edits = [Edit(path, *it) for it in sections(path.read_text(encoding="utf-8"))]
-        found += "".join(it.stem for it in edits if choice.is_new(it, places))
+        places = [f"crates/{crate}/{it}" for it in ("src", "specs", "specs/Inside")]
+        found += "".join(it.stem for it in edits if choice.is_new(it, [*places, *below]))
     return found
 
 

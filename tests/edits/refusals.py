@@ -27,7 +27,7 @@ import time
 sys.path += map(str, pathlib.Path(__file__).resolve().parents[1].iterdir())  # the other folders of tests/
 import body_trial
 import definition_trial
-from choice import Choice
+from choice import MADE, Choice
 from definitions import Definitions, wrong_definitions_of
 from edits import BODIES, edits_of, in_groups, write_goal
 from toolchain import LOGIC, left_by_ci, rt, told
@@ -68,12 +68,12 @@ class Crate:
 
     def places(self, edit):
         """What the trial of an edit is over: code, definitions and proofs of the crate, and for a wrong definition, where no
-        code is proved, its vectors in place of the code; and the definitions of the crates below. What a call below
-        promises is not among it, beyond these definitions."""
+        code is proved, its vectors in place of the code; and the public definitions of the crates below. What a call
+        below promises is not among it, beyond these definitions."""
         apart = f"{self.name}_tests"
         parts = ["src"] if edit in self.bodies else ["src/vectors.rt", f"../{apart}"]
         below = [f"../{it.name}/specs" for it in self.crate.below()]
-        return [os.path.normpath(f"crates/{self.name}/{it}") for it in ("specs", "proofs", *parts, *below)]
+        return [os.path.normpath(f"crates/{self.name}/{it}") for it in ("specs", "specs/Inside", "proofs", *parts, *below)]
 
     def proved(self):
         """The functions that are proved for a trial of what is tried now, and none where it is the whole crate. What the
@@ -246,10 +246,11 @@ def main():
         rt.in_lanes(run.tasks(every))
     if asked.audit:
         write_seconds(crates)
+        MADE.open("a").writelines(f"{name}\n" for name in run.failed)
     of_all = sum(len(it.bodies) + len(it.definitions) for it in crates)
     print(said, f"{run.all} of {of_all} tried, in {time.monotonic() - begun:.0f} s", sep="\n")
     print("".join(f"FAILED: {name}\n" for name in run.failed) + f"{run.passed} passed, {len(run.failed)} failed")
-    return 1 if run.failed or run.passed < run.all else 0
+    return 1 if run.failed and not asked.audit or run.passed + len(run.failed) < run.all else 0
 
 
 if __name__ == "__main__":

@@ -21,7 +21,7 @@ import tempfile
 import time
 
 sys.path += map(str, pathlib.Path(__file__).resolve().parents[1].iterdir())  # the other folders of tests/
-from choice import Choice
+from choice import MADE, Choice
 from edits import LINES, edits_in, write_goal
 from tree import TOP
 
@@ -120,7 +120,9 @@ def main():
     lost, left_out = [it.name for it in now if found[it] != it.goal], len(wanted) - len(now)
     print(said, f"{len(now)} of {len(edits)} tried, {left_out} left out, in {time.monotonic() - begun:.0f} s")
     print("".join(f"FAILED: {name}\n" for name in lost) + f"{len(now) - len(lost)} passed, {len(lost)} failed")
-    sys.exit(1 if lost or left_out and asked.audit else 0)
+    if asked.audit:
+        MADE.open("a").writelines(f"{name}\n" for name in lost)
+    sys.exit(bool(left_out if asked.audit else lost))
 
 
 if __name__ == "__main__":
