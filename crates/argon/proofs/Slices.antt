@@ -5,7 +5,7 @@ use Rattle.std.proofs.lemmas.Bool.Decides.{eqb_tells}
 use Rattle.std.proofs.Math.Nat.{mul-le-mul_right, mul-le-mul_left}
 use Rattle.argon.specs.Counts.{address_count, address_work, first_index, independent_segments, slice_work, work}
 use Rattle.argon.specs.Parameters.{Parameters, segment_len}
-use Rattle.argon.specs.Range.{IsInRange}
+use Rattle.argon.specs.Range.{IsInRangeWithAnyPassword}
 use Rattle.argon.specs.Reference.{is_independent}
 use Rattle.argon.proofs.Progress.{first_none}
 
@@ -148,7 +148,7 @@ slices_work_is c hs hp hk =
     all segments (omega arith)
 
 -- in range there are two columns a segment at least
-pub range_long : (p : Parameters) → IsInRange p → 2 ≤ segment_len p
+pub range_long : (p : Parameters) → IsInRangeWithAnyPassword p → 2 ≤ segment_len p
 range_long p h =
     elim (cases_lt (segment_len p) 2) [
       | inr le ↦ le

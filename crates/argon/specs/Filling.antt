@@ -2,7 +2,7 @@
 use Rattle.std.specs.Prelude.{◌≡◌, ℕ, ◌*◌, ◌/◌, ◌%◌, ◌<◌, ◌≤◌, Bool, true, ◌&&◌, nat_lt, List, length, Option, Some, None, if◌then◌else◌}
 use Rattle.argon.specs.Buffer.{HoldsNewest, number_after_slices}
 use Rattle.argon.specs.Parameters.{Parameters, block_count}
-use Rattle.argon.specs.Range.{IsInRange}
+use Rattle.argon.specs.Range.{IsInRangeWithAnyPassword}
 
 -- what contracts see of a matrix
 pub record Filling : Type 0 where
@@ -23,7 +23,7 @@ IsNewest filling =
 
 -- what holds of every matrix
 pub record IsFilling (filling : Filling) : Type 0 where
-  pub in_range : IsInRange filling.parameters
+  pub in_range : IsInRangeWithAnyPassword filling.parameters
   pub size : length filling.blocks ≡ block_count filling.parameters
   pub position : filling.slices_made ≤ 4 * filling.parameters.passes
   pub newest : filling.is_started ≡ true → IsNewest filling

@@ -2,7 +2,7 @@
 use Rattle.std.specs.Prelude.{◌≡◌}
 use Rattle.argon.specs.Kind.{type_number}
 use Rattle.argon.specs.Parameters.{Parameters, segment_len}
-use Rattle.argon.specs.Range.{IsInRange}
+use Rattle.argon.specs.Range.{IsInRangeWithAnyPassword}
 use Rattle.argon.specs.declared.params.Params.TheInside.{Inside}
 
 -- the numbers given
@@ -20,5 +20,5 @@ parameters_of params = record {
 
 -- what holds of the fields
 pub record IsParams (params : Inside) : Type 0 where
-  pub in_range : IsInRange (parameters_of params)
+  pub in_range : IsInRangeWithAnyPassword (parameters_of params)
   pub segment : params.segment_len ≡ segment_len (parameters_of params)

@@ -7,7 +7,7 @@ use Rattle.argon.specs.Buffer.{HoldsNewest}
 use Rattle.argon.specs.Counts.{address_count, address_work, blocks_of_segment}
 use Rattle.argon.specs.Filling.{Filling, HasNext}
 use Rattle.argon.specs.Parameters.{Parameters, block_count, lane_len, segment_len}
-use Rattle.argon.specs.Range.{IsInRange}
+use Rattle.argon.specs.Range.{IsInRangeWithAnyPassword}
 use Rattle.argon.specs.Reference.{is_independent}
 
 -- what contracts see of a weave
@@ -77,7 +77,7 @@ work_left weaving =
 
 -- what holds of every weave
 pub record IsWeaving (weaving : Weaving) : Type 0 where
-  pub in_range : IsInRange weaving.matrix.parameters
+  pub in_range : IsInRangeWithAnyPassword weaving.matrix.parameters
   pub next : HasNext weaving.matrix
   pub size : length weaving.matrix.blocks ≡ block_count weaving.matrix.parameters
   pub lanes : length weaving.left ≡ weaving.matrix.parameters.lanes

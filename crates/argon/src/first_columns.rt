@@ -6,7 +6,7 @@ ghost use Rattle.argon.specs.Argon2.{first_block, first_hash, with_length};
 ghost use Rattle.argon.specs.Buffer.{HoldsNewest};
 ghost use Rattle.argon.specs.Inputs.{AreInputsOf, inputs_of};
 ghost use Rattle.argon.specs.Parameters.{block_count};
-ghost use Rattle.argon.specs.Range.{IsInRange};
+ghost use Rattle.argon.specs.Range.{IsInRangeWithAnyPassword};
 
 use crate::block::Block;
 use crate::inputs::Inputs;
@@ -42,7 +42,7 @@ fn put_with_length(hash: &mut Blake2b, text: &[u8])
 
 /// H0, 64 bytes (step 1).
 pub(crate) fn first_hash(params: &Params, inputs: &Inputs<'_>) -> [u8; 64]
-    requires in_range { IsInRange params.now }
+    requires in_range { IsInRangeWithAnyPassword params.now }
     requires inputs { AreInputsOf params.now (inputs_of inputs.now) }
     ensures value { result ≡ first_hash params.now (inputs_of inputs.now) }
 {

@@ -4,7 +4,7 @@ ghost use Rattle.argon.specs.Argon2.{is_xored_in};
 ghost use Rattle.argon.specs.Counts.{independent_segments, work};
 ghost use Rattle.argon.specs.Kind.{type_number};
 ghost use Rattle.argon.specs.Parameters.{Parameters, block_count, segment_len};
-ghost use Rattle.argon.specs.Range.{IsInRange, admission, checked_parameters, is_between, is_version};
+ghost use Rattle.argon.specs.Range.{IsInRange, IsInRangeWithAnyPassword, admission, checked_parameters, checked_with_any_password, is_between, is_version};
 ghost use Rattle.argon.specs.Reference.{is_independent};
 
 use crate::addresses::address_count;
@@ -85,6 +85,57 @@ impl Params {
         }) }
         ensures in_range { IfOk result IsInRange }
     {
+        let params = Params::with_any_password(
+            kind,
+            version,
+            passes,
+            lanes,
+            memory_kib,
+            tag_len,
+            salt_len,
+            password_len,
+        )?;
+        if !is_between(1, password_len as u64, 127) {
+            return Err(ParamFault::PasswordLength);
+        }
+        Ok(params)
+    }
+
+    /// Tests the parameters of a hash as `new` does, with a password of any length that RFC 9106 allows: 0 to 2^32-1
+    /// bytes. That is tested last, too.
+    pub fn with_any_password(
+        kind: Kind,
+        version: u32,
+        passes: u32,
+        lanes: u32,
+        memory_kib: u32,
+        tag_len: usize,
+        salt_len: usize,
+        password_len: usize,
+    ) -> Result<Params, ParamFault>
+        requires version { is_version version ≡ true }
+        ensures exact { result ≡ checked_with_any_password (record {
+          kind = type_number kind;
+          version = version;
+          passes = passes;
+          lanes = lanes;
+          memory_kib = memory_kib;
+          tag_len = tag_len;
+          salt_len = salt_len;
+          password_len = password_len;
+        }) }
+        ensures value { IfOk result (λ p. p ≡ record {
+          kind = type_number kind;
+          version = version;
+          passes = passes;
+          lanes = lanes;
+          memory_kib = memory_kib;
+          tag_len = tag_len;
+          salt_len = salt_len;
+          password_len = password_len;
+        }) }
+        ensures in_range { IfOk result IsInRangeWithAnyPassword }
+    {
         if !is_between(1, passes as u64, 0xFFFF_FFFF) {
             return Err(ParamFault::Passes);
         }
@@ -100,7 +151,7 @@ impl Params {
         if !is_between(8, salt_len as u64, 255) {
             return Err(ParamFault::SaltLength);
         }
-        if !is_between(1, password_len as u64, 127) {
+        if password_len > 0xFFFF_FFFF {
             return Err(ParamFault::PasswordLength);
         }
         Ok(Params {
@@ -119,7 +170,7 @@ impl Params {
     // The same parameters once more.
     pub(crate) fn copied(&self) -> Params
         ensures same { result ≡ self.now }
-        ensures in_range { IsInRange self.now }
+        ensures in_range { IsInRangeWithAnyPassword self.now }
     {
         Params {
             kind: self.kind,
