@@ -1,5 +1,5 @@
 -- Whether a password gives the tag of a value, and why that is not answered.
-use Rattle.std.specs.Prelude.{◌≡◌, ◌||◌, ℕ, not, nat_lt, List, [], length, if◌then◌else◌, Option, Some, None}
+use Rattle.std.specs.Prelude.{◌≡◌, ◌||◌, ℕ, not, nat_le, nat_lt, List, [], length, if◌then◌else◌, Option, Some, None}
 use Rattle.argon.specs.Argon2.{Parameters, argon2_tag, block_count}
 use Rattle.argon.specs.Counts.{work}
 use Rattle.argon.specs.Kind.{type_number}
@@ -37,19 +37,23 @@ abbrev pub tag_of_password : Value → List ℕ → List ℕ
 tag_of_password v password = keyed_tag v password [] []
 
 -- why a password is not tested against a value, if it isn't, before memory is asked for: the first that holds of the
--- length of the password, the lengths of the secret and the associated data, the limit on memory, the limit on work
+-- length of the password, those of the secret and the associated data, all of which RFC 9106, 3.1, ends at 2^32-1
+-- bytes, the limit on memory, the limit on work
 abbrev pub keyed_fault : Value → List ℕ → ℕ → ℕ → ℕ → ℕ → Option VerifyFault
 keyed_fault v password secret_len associated_len max_kib max_ops =
-    if not (is_between 1 (length password) 127) then Some PasswordLength
+    if not (nat_le (length password) 0xFFFFFFFF) then Some PasswordLength
     else if nat_lt 0xFFFFFFFF secret_len || nat_lt 0xFFFFFFFF associated_len then Some InputLength
     else if nat_lt max_kib (block_count (parameters_with v password)) then Some MemoryLimit
     else if nat_lt max_ops (work (parameters_with v password)) then Some WorkLimit
     else None
 
--- why a password is not tested against a value, if it isn't, with no secret and no associated data: the first that
--- holds of the length of the password, the limit on memory, the limit on work
+-- why a password of 1 to 127 bytes, this project's own range, is not tested against a value, if it isn't, with no
+-- secret and no associated data: the first that holds of the length of the password, the limit on memory, the limit
+-- on work
 abbrev pub verify_fault : Value → List ℕ → ℕ → ℕ → Option VerifyFault
-verify_fault v password = keyed_fault v password 0 0
+verify_fault v password max_kib max_ops =
+    if not (is_between 1 (length password) 127) then Some PasswordLength
+    else keyed_fault v password 0 0 max_kib max_ops
 
 -- the fault that is reported is the first that holds; that of memory comes only where none holds
 abbrev pub IsToldFault : Option VerifyFault → VerifyFault → Type 0

@@ -19,8 +19,8 @@ pub enum ReadFault {
 /// those of the library for C; 12 is of `verify_keyed` alone.
 #[derive(Clone, Copy, Debug, PartialEq, Eq, Error)]
 pub enum VerifyFault {
-    /// 6: the length of the password, in bytes, is not 1 to 127.
-    #[error("the password is not 1 to 127 bytes long")]
+    /// 6: the length of the password, in bytes, is not 1 to 127, or for `verify_keyed` not 0 to 2^32-1.
+    #[error("the password is shorter or longer than allowed")]
     PasswordLength,
     /// 12: the secret, or the associated data, is 2^32 bytes or longer.
     #[error("the secret or the associated data is 2^32 bytes or longer")]

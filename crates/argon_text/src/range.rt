@@ -120,8 +120,8 @@ fn bytes_of(symbols: &[u8]) -> u64
     len / 4 * 3 + (len % 4).saturating_sub(1)
 }
 
-// Whether a number is in a range, its ends included.
-fn is_between(low: u64, number: u64, high: u64) -> bool
+/// Whether a number is in a range, its ends included.
+pub(crate) fn is_between(low: u64, number: u64, high: u64) -> bool
     ensures value { result ≡ is_between low number high }
 {
     low <= number && number <= high

@@ -1,12 +1,13 @@
 //! Whether a password gives the tag of a value.
-ghost use Rattle.std.specs.Prelude.{◌≡◌, ◌≢◌, ◌+◌, ◌<◌, ◌^◌, ◌↔◌, None, Ok, true, false, length, IfOk, IfErr, OnOk, OnErr, IsTrue};
+ghost use Rattle.std.specs.Prelude.{◌≡◌, ◌≢◌, ◌+◌, ◌<◌, ◌^◌, ◌↔◌, None, Ok, true, false, nat_le, length, IfOk, IfErr, OnOk, OnErr, IsTrue};
 ghost use Rattle.argon.specs.Counts.{work};
-ghost use Rattle.argon.specs.Range.{admission, is_between};
+ghost use Rattle.argon.specs.Range.{admission};
 ghost use Rattle.argon_text.specs.Verifying.{IsToldFault, keyed_fault, keyed_tag, parameters_with, tag_of_password, verify_fault};
 ghost use Rattle.argon_text.specs.View.{value_claimed};
 
 use crate::claim::Claim;
 use crate::fault::VerifyFault;
+use crate::range::is_between;
 use crate::room::Room;
 use argon::{Inputs, ParamFault, Params, Ticks};
 use comparison::are_same;
@@ -46,12 +47,17 @@ pub fn verify<R: Room>(
     ensures no_work { IfErr result (λ _. ticks.new ≡ ticks.old) }
     ensures count { IfOk result (λ _. ticks.new ≡ ticks.old + work (parameters_with (value_claimed claim.now) password.now)) }
 {
+    if !is_between(1, password.len() as u64, 127) {
+        return Err(VerifyFault::PasswordLength);
+    }
     verify_keyed(room, claim, password, &[], &[], max_kib, max_ops, ticks)
 }
 
 /// Whether the password gives the tag of the claim with this secret value and this associated data, as they
-/// were given when it was hashed (RFC 9106, 3.1: K and X); a text holds neither. All else is as for `verify`,
-/// and one fault more: 12 where the secret or the data is 2^32 bytes or longer, after 6 and before 7.
+/// were given when it was hashed (RFC 9106, 3.1: K and X); a text holds neither. The password has any length that the
+/// standard allows, 0 to 2^32-1 bytes: fault 6 is told where it is longer. So with no secret and no data this tests
+/// the passwords for which `verify` tells 6. All else is as for `verify`, and one fault more: 12 where the secret or the
+/// data is 2^32 bytes or longer, after 6 and before 7.
 pub fn verify_keyed<R: Room>(
     room: &mut R,
     claim: &Claim<'_>,
@@ -108,11 +114,11 @@ pub fn verify_keyed<R: Room>(
 // The parameters of the hash. All but the password's length are in range.
 fn params_of(claim: &Claim<'_>, password: &[u8]) -> Result<Params, VerifyFault>
     ensures parameters { IfOk result (λ params. params ≡ parameters_with (value_claimed claim.now) password.now) }
-    ensures admitted { IfOk result (λ _. is_between 1 (length password.now) 127 ≡ true) }
-    ensures fault { IfErr result (λ fault. (is_between 1 (length password.now) 127 ≡ false)
+    ensures admitted { IfOk result (λ _. nat_le (length password.now) 0xFFFFFFFF ≡ true) }
+    ensures fault { IfErr result (λ fault. (nat_le (length password.now) 0xFFFFFFFF ≡ false)
         × (fault ≡ VerifyFault.PasswordLength)) }
 {
-    match Params::new(
+    match Params::with_any_password(
         claim.kind,
         claim.version,
         claim.passes,
