@@ -1,12 +1,10 @@
 -- Where nothing refuses the test of a password, its work is within the limit.
-use Rattle.std.proofs.Common.{◌≡◌, ◌≤◌, ◌||◌, ℕ, Bool, true, false, not, nat_lt, List, length, Option, Some, None, refl, if◌then◌else◌}
+use Rattle.std.proofs.Common.{◌≡◌, ◌≤◌, ◌||◌, ℕ, Bool, true, false, not, nat_le, nat_lt, List, length, Some, None, refl, if◌then◌else◌}
 use Rattle.std.proofs.lemmas.Bool.{ltb-false}
 use Rattle.argon.specs.Argon2.{block_count}
 use Rattle.argon.specs.Counts.{work}
-use Rattle.argon.specs.Range.{is_between}
 use Rattle.argon_text.specs.Value.{Value}
 use Rattle.argon_text.specs.Verifying.{keyed_fault, parameters_with}
-use Rattle.argon_text.specs.declared.fault.VerifyFault.{VerifyFault}
 use Rattle.argon_text.specs.declared.fault.VerifyFault.TheVariants.{PasswordLength, InputLength, MemoryLimit, WorkLimit}
 
 -- four tests, in the order of the faults: where none is told, the last does not hold
@@ -28,5 +26,5 @@ pub work_within : (v : Value) (password : List ℕ) (secret_len associated_len m
     → work (parameters_with v password) ≤ max_ops
 work_within v password secret_len associated_len max_kib max_ops told =
     ltb-false max_ops (work (parameters_with v password))
-    (last_of_none (is_between 1 (length password) 127) (nat_lt 0xFFFFFFFF secret_len || nat_lt 0xFFFFFFFF associated_len)
+    (last_of_none (nat_le (length password) 0xFFFFFFFF) (nat_lt 0xFFFFFFFF secret_len || nat_lt 0xFFFFFFFF associated_len)
     (nat_lt max_kib (block_count (parameters_with v password))) (nat_lt max_ops (work (parameters_with v password))) told)

@@ -3,7 +3,7 @@ use Rattle.std.specs.Prelude.{◌≡◌, ◌==◌, ◌||◌, ◌⊎◌, ◌+◌,
 use Rattle.argon.specs.Argon2.{argon2_tag}
 use Rattle.argon.specs.Counts.{work}
 use Rattle.argon.specs.Parameters.{Inputs, Parameters}
-use Rattle.argon.specs.Range.{admission, checked_parameters, is_version}
+use Rattle.argon.specs.Range.{admission, checked_with_any_password, is_version}
 use Rattle.argon.specs.declared.fault.ParamFault.{ParamFault}
 use Rattle.argon.specs.declared.kind.Kind.{Kind}
 use Rattle.argon.specs.declared.kind.Kind.TheVariants.{D, I, Id}
@@ -47,12 +47,13 @@ abbrev pub number_or : {A : Type 0} → Result A ParamFault → ℕ → ℕ
 number_or (Ok _) rest = rest
 number_or (Err fault) _ = params_number fault
 
--- what the kind, the version and the ranges of the parameters are refused for, by its number; or 0
+-- what the kind, the version and the ranges of the parameters are refused for, by its number; or 0; the password has
+-- any length that RFC 9106, 3.1, allows
 abbrev pub params_status : Parameters → ℕ
 params_status parameters =
     if nat_lt 2 parameters.kind then no_kind
     else if not (is_version parameters.version) then no_version
-    else number_or (checked_parameters parameters) 0
+    else number_or (checked_with_any_password parameters) 0
 
 -- what the lengths of the secret and of the associated data are refused for, by its number; or 0
 abbrev pub inputs_status : ℕ → ℕ → ℕ

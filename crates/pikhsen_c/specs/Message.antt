@@ -10,7 +10,7 @@ sentence_of status =
     else if status == 3 then codes "Argon2: memory is not 8 * lanes to 2^32-1 KiB"
     else if status == 4 then codes "Argon2: the tag is not 4 to 4096 bytes long"
     else if status == 5 then codes "Argon2: the salt is not 8 to 255 bytes long"
-    else if status == 6 then codes "Argon2: the password is not 1 to 127 bytes long"
+    else if status == 6 then codes "Argon2: the password is 2^32 bytes or longer"
     else if status == 7 then codes "more memory is needed than the limit allows"
     else if status == 8 then codes "more work is needed than the limit allows"
     else if status == 9 then codes "memory was refused"

@@ -4,7 +4,7 @@ ghost use Rattle.argon.specs.Argon2.{argon2_tag};
 ghost use Rattle.argon.specs.Counts.{work};
 ghost use Rattle.argon.specs.Inputs.{inputs_of};
 ghost use Rattle.argon.specs.Kind.{type_number};
-ghost use Rattle.argon.specs.Range.{IsInRange, admission};
+ghost use Rattle.argon.specs.Range.{IsInRangeWithAnyPassword, admission};
 ghost use Rattle.pikhsen_c.specs.Argon2.{hash_status, inputs_given, kind_numbered, limits_status, parameters_given, params_status};
 ghost use Rattle.pikhsen_c.specs.Heap.{AsksOnce, asked_for_matrix};
 ghost use Rattle.pikhsen_c.specs.Inside.Settings.{parameters_of};
@@ -51,7 +51,7 @@ pub(crate) fn params_of(
     password_len: usize,
 ) -> Result<Params, u32>
     ensures parameters { IfOk result (λ params. params ≡ parameters_of settings.now tag_len salt_len password_len) }
-    ensures in_range { IfOk result IsInRange }
+    ensures in_range { IfOk result IsInRangeWithAnyPassword }
     ensures passed { OnOk result (params_status (parameters_of settings.now tag_len salt_len password_len) ≡ 0) }
     ensures status { IfErr result (λ status. params_status
         (parameters_of settings.now tag_len salt_len password_len) ≡ status) }
@@ -64,7 +64,7 @@ pub(crate) fn params_of(
     if settings.version != 0x10 && settings.version != 0x13 {
         return Err(status::ARGON2_VERSION);
     }
-    match Params::new(
+    match Params::with_any_password(
         kind,
         settings.version,
         settings.passes,

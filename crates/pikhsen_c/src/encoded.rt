@@ -2,7 +2,7 @@
 ghost use Rattle.std.specs.Prelude.{◌≡◌, ◌≢◌, ◌+◌, ◌^◌, ◌++◌, ◌<◌, ◌≤◌, ◌∷◌, ◌⊎◌, [], true, false, length, replicate, take, drop, IfOk, IfErr, Ok};
 ghost use Rattle.argon.specs.Argon2.{argon2_tag};
 ghost use Rattle.argon.specs.Counts.{work};
-ghost use Rattle.argon.specs.Range.{IsInRange, admission};
+ghost use Rattle.argon.specs.Range.{IsInRangeWithAnyPassword, admission};
 ghost use Rattle.argon_text.specs.EncodedText.{encoded_text};
 ghost use Rattle.pikhsen_c.specs.Argon2.{encoded_hash, encoded_keyed_hash, encoded_keyed_status, encoded_status, hash_status, inputs_given, kind_numbered, parameters_given, settings_status, text_of_zeros, value_given};
 ghost use Rattle.pikhsen_c.specs.Heap.{AsksTwice};

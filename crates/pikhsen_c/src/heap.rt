@@ -1,6 +1,6 @@
 //! The heap of the program that calls, as the functions for C have it: contracts see what was asked of it.
 ghost use Rattle.std.specs.Prelude.{◌≡◌, length, IfOk};
-ghost use Rattle.argon.specs.Range.{IsInRange};
+ghost use Rattle.argon.specs.Range.{IsInRangeWithAnyPassword};
 ghost use Rattle.pikhsen_c.specs.Argon2.{kind_numbered, text_of_zeros};
 ghost use Rattle.pikhsen_c.specs.Heap.{asked_for_matrix, asked_for_text, asked_for_workspace, asked_to_read, one_more};
 
@@ -104,7 +104,7 @@ fn text_of_zeros(
     salt: &[u8],
 ) -> Result<Text, AllocError>
     requires kind { kind ≡ kind_numbered params.now.kind }
-    requires in_range { IsInRange params.now }
+    requires in_range { IsInRangeWithAnyPassword params.now }
     requires salt { length salt.now ≡ params.now.salt_len }
     ensures text { IfOk result (λ text. text.list.items ≡ text_of_zeros params.now salt.now) }
 {

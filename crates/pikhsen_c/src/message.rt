@@ -18,7 +18,7 @@ fn sentence(status: u32) -> &'static str
         3 => "Argon2: memory is not 8 * lanes to 2^32-1 KiB",
         4 => "Argon2: the tag is not 4 to 4096 bytes long",
         5 => "Argon2: the salt is not 8 to 255 bytes long",
-        6 => "Argon2: the password is not 1 to 127 bytes long",
+        6 => "Argon2: the password is 2^32 bytes or longer",
         7 => "more memory is needed than the limit allows",
         8 => "more work is needed than the limit allows",
         9 => "memory was refused",

@@ -1,7 +1,7 @@
 //! Where memory comes from: the heap, or any other source, for which the functions that do the work are proved too.
 ghost use Rattle.std.specs.Prelude.{◌≡◌, ◌^◌, ℕ, Bool, true, List, is_ok, length, IfOk, IfErr, OnOk, IsErrOf};
 ghost use Rattle.argon.specs.Parameters.{Parameters};
-ghost use Rattle.argon.specs.Range.{IsInRange};
+ghost use Rattle.argon.specs.Range.{IsInRangeWithAnyPassword};
 ghost use Rattle.argon_text.specs.EncodedText.{IsTextOf};
 ghost use Rattle.argon_text.specs.Grammar.{HasNumbers, IsText, IsTextInRange};
 ghost use Rattle.argon_text.specs.Value.{IsValue};
@@ -34,7 +34,7 @@ pub(crate) trait Source: Room {
     /// The text that has zeros for a tag.
     fn text(&mut self, kind: Kind, params: &Params, salt: &[u8]) -> Result<Text, AllocError>
         requires kind { kind ≡ kind_numbered params.now.kind }
-        requires in_range { IsInRange params.now }
+        requires in_range { IsInRangeWithAnyPassword params.now }
         requires salt { length salt.now ≡ params.now.salt_len }
         ensures text { IfOk result (λ text. text.list.items ≡ text_of_zeros params.now salt.now) }
         ensures asked { self.new ≡ after_text self.old params.now salt.now (is_ok result) };

@@ -126,18 +126,21 @@ fn refusals_of_a_hash()
     ensures memory { hash_status (parameters_given 1 0x10 1 1 7 0 0 0) (2 ^ 32) (2 ^ 32) 0 0 ≡ 3 }
     ensures tag { hash_status (parameters_given 0 0x13 1 1 8 3 0 0) (2 ^ 32) (2 ^ 32) 0 0 ≡ 4 }
     ensures salt { hash_status (parameters_given 0 0x13 1 1 8 32 7 0) (2 ^ 32) (2 ^ 32) 0 0 ≡ 5 }
-    ensures password { hash_status (parameters_given 0 0x13 1 1 8 32 8 0) (2 ^ 32) (2 ^ 32) 0 0 ≡ 6 }
+    ensures password { hash_status (parameters_given 0 0x13 1 1 8 32 8 (2 ^ 32)) (2 ^ 32) (2 ^ 32) 0 0 ≡ 6 }
     ensures secret { hash_status (parameters_given 0 0x13 1 1 8 32 8 8) (2 ^ 32) 0 7 5 ≡ 12 }
     ensures associated { hash_status (parameters_given 0 0x13 1 1 8 32 8 8) 0 (2 ^ 32) 7 5 ≡ 12 }
     ensures memory_limit { hash_status (parameters_given 0 0x13 1 1 8 32 8 8) (2 ^ 32 - 1) (2 ^ 32 - 1) 7 5 ≡ 7 }
     ensures work_limit { hash_status (parameters_given 0 0x13 1 1 8 32 8 8) (2 ^ 32 - 1) (2 ^ 32 - 1) 8 5 ≡ 8 }
     ensures none { hash_status (parameters_given 0 0x13 1 1 8 32 8 8) (2 ^ 32 - 1) (2 ^ 32 - 1) 8 6 ≡ 0 }
+    ensures empty_password { hash_status (parameters_given 0 0x13 1 1 8 32 8 0) 0 0 8 6 ≡ 0 }
+    ensures longest_password { hash_status (parameters_given 0 0x13 1 1 8 32 8 (2 ^ 32 - 1)) 0 0 8 6 ≡ 0 }
 {}
 
 // A text: the parameters, the limits, and last the room, for the byte 0 after the text, too.
 fn refusals_of_a_text()
     ensures kind { encoded_status (parameters_given 3 0 0 0 0 0 0 0) (codes "somesalt") 0 0 0 ≡ 10 }
-    ensures password { encoded_status (parameters_given 0 0x13 1 1 8 32 8 0) (codes "somesalt") 0 0 0 ≡ 6 }
+    ensures password { encoded_status (parameters_given 0 0x13 1 1 8 32 8 (2 ^ 32)) (codes "somesalt") 0 0 0 ≡ 6 }
+    ensures empty_password { encoded_status (parameters_given 0 0x13 1 1 8 32 8 0) (codes "somesalt") 7 5 0 ≡ 7 }
     ensures memory_limit { encoded_status (parameters_given 0 0x13 1 1 8 32 8 8) (codes "somesalt") 7 5 0 ≡ 7 }
     ensures work_limit { encoded_status (parameters_given 0 0x13 1 1 8 32 8 8) (codes "somesalt") 8 5 0 ≡ 8 }
     ensures no_room_for_zero { room_status 81 81 ≡ 13 }
@@ -146,7 +149,7 @@ fn refusals_of_a_text()
 
 // The same with a secret and associated data: their lengths are tested after the parameters, before the limits.
 fn refusals_of_a_text_with_a_secret()
-    ensures password { encoded_keyed_status (parameters_given 0 0x13 1 1 8 32 8 0) (codes "somesalt") (2 ^ 32) 0 0 0 0 ≡ 6 }
+    ensures password { encoded_keyed_status (parameters_given 0 0x13 1 1 8 32 8 (2 ^ 32)) (codes "somesalt") (2 ^ 32) 0 0 0 0 ≡ 6 }
     ensures secret { encoded_keyed_status (parameters_given 0 0x13 1 1 8 32 8 8) (codes "somesalt") (2 ^ 32) 0 7 5 0 ≡ 12 }
     ensures associated { encoded_keyed_status (parameters_given 0 0x13 1 1 8 32 8 8) (codes "somesalt") 0 (2 ^ 32) 7 5 0 ≡ 12 }
     ensures memory_limit { encoded_keyed_status (parameters_given 0 0x13 1 1 8 32 8 8) (codes "somesalt")
@@ -228,7 +231,7 @@ fn sentences_of_numbers()
     ensures memory { sentence_of 3 ≡ codes "Argon2: memory is not 8 * lanes to 2^32-1 KiB" }
     ensures tag_length { sentence_of 4 ≡ codes "Argon2: the tag is not 4 to 4096 bytes long" }
     ensures salt_length { sentence_of 5 ≡ codes "Argon2: the salt is not 8 to 255 bytes long" }
-    ensures password_length { sentence_of 6 ≡ codes "Argon2: the password is not 1 to 127 bytes long" }
+    ensures password_length { sentence_of 6 ≡ codes "Argon2: the password is 2^32 bytes or longer" }
     ensures memory_limit { sentence_of 7 ≡ codes "more memory is needed than the limit allows" }
     ensures work_limit { sentence_of 8 ≡ codes "more work is needed than the limit allows" }
     ensures out_of_memory { sentence_of 9 ≡ codes "memory was refused" }
