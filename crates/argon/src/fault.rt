@@ -20,7 +20,7 @@ pub enum ParamFault {
     /// 5: the length of the salt, in bytes, is not 8 to 255.
     #[error("the salt is not 8 to 255 bytes long")]
     SaltLength,
-    /// 6: the length of the password, in bytes, is not 1 to 127, or of any password not 0 to 2^32-1.
+    /// 6: the length of the password, in bytes, is not 1 to 127, or for `with_any_password` not 0 to 2^32-1.
     #[error("the password is shorter or longer than allowed")]
     PasswordLength,
     /// 7: the matrix has more blocks of 1 KiB than are allowed.

@@ -101,8 +101,8 @@ impl Params {
         Ok(params)
     }
 
-    /// Tests the parameters of a hash as `new` does, with a password of any length that RFC 9106 allows: 0 to 2^32-1
-    /// bytes. That is tested last, too.
+    /// Tests the parameters of a hash as `new` does, but the password has any length that RFC 9106 allows: 0 to 2^32-1
+    /// bytes. An empty password is accepted: refuse it before you enrol it.
     pub fn with_any_password(
         kind: Kind,
         version: u32,

@@ -54,10 +54,11 @@ pub fn verify<R: Room>(
 }
 
 /// Whether the password gives the tag of the claim with this secret value and this associated data, as they
-/// were given when it was hashed (RFC 9106, 3.1: K and X); a text holds neither. The password has any length that the
-/// standard allows, 0 to 2^32-1 bytes: fault 6 is told where it is longer. So with no secret and no data this tests
-/// the passwords for which `verify` tells 6. All else is as for `verify`, and one fault more: 12 where the secret or the
-/// data is 2^32 bytes or longer, after 6 and before 7.
+/// were given when it was hashed (RFC 9106, 3.1: K and X); a text holds neither, and both may be empty. The password has
+/// any length that the standard allows, 0 to 2^32-1 bytes: fault 6 is told where it is longer. No limit counts its bytes,
+/// and all of them are read once, so the time of a call grows with their number: a service bounds the length of what a
+/// stranger sends before it calls. All else is as for `verify`, and one fault more: 12 where the secret or the data is
+/// 2^32 bytes or longer, after 6 and before 7.
 pub fn verify_keyed<R: Room>(
     room: &mut R,
     claim: &Claim<'_>,
