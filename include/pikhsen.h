@@ -56,7 +56,7 @@ enum pikhsen_status {
 	PIKHSEN_MEMORY = 3,            /* Argon2: memory is not 8 * lanes to 2^32-1 KiB */
 	PIKHSEN_TAG_LENGTH = 4,        /* Argon2: the tag is not 4 to 4096 bytes long */
 	PIKHSEN_SALT_LENGTH = 5,       /* Argon2: the salt is not 8 to 255 bytes long */
-	PIKHSEN_PASSWORD_LENGTH = 6,   /* Argon2: the password is not 1 to 127 bytes long */
+	PIKHSEN_PASSWORD_LENGTH = 6,   /* Argon2: the password is 2^32 bytes or longer */
 	PIKHSEN_MEMORY_LIMIT = 7,      /* more memory is needed than the limit allows */
 	PIKHSEN_WORK_LIMIT = 8,        /* more work is needed than the limit allows */
 	PIKHSEN_OUT_OF_MEMORY = 9,     /* memory was refused */
@@ -106,12 +106,13 @@ enum pikhsen_kind { PIKHSEN_ARGON2D = 0, PIKHSEN_ARGON2I = 1, PIKHSEN_ARGON2ID =
 unsigned int pikhsen_version(void);
 
 /*
- * Writes the tag of a password, as many bytes as out has, 4 to 4096. version is 0x13, or 0x10 for old hashes. It is
- * refused, before memory is requested, if it needs more than max_kib blocks of 1 KiB or max_ops block functions. The
- * number of blocks B is memory_kib, rounded down to a multiple of 4 * lanes. The block functions are passes * B - 2 *
- * lanes, and two more for every 128 blocks, or part of them, of each segment (B / (4 * lanes) blocks) whose accesses
- * do not depend on the password: there are 4 * lanes * passes of these for Argon2i, 2 * lanes for Argon2id, none for
- * Argon2d. So 2 * passes * memory_kib block functions are always enough; multiply as pikhsen_u64.
+ * Writes the tag of a password, as many bytes as out has, 4 to 4096. version is 0x13, or 0x10 for old hashes. The
+ * password has 0 to 2^32-1 bytes, as RFC 9106 has it: AN EMPTY PASSWORD IS ACCEPTED. The call is refused, before memory
+ * is requested, if it needs more than max_kib blocks of 1 KiB or max_ops block functions. The number of blocks B is
+ * memory_kib, rounded down to a multiple of 4 * lanes. The block functions are passes * B - 2 * lanes, and two more for
+ * every 128 blocks, or part of them, of each segment (B / (4 * lanes) blocks) whose accesses do not depend on the
+ * password: there are 4 * lanes * passes of these for Argon2i, 2 * lanes for Argon2id, none for Argon2d. So 2 * passes
+ * * memory_kib block functions are always enough; multiply as pikhsen_u64.
  */
 PIKHSEN_MUST_CHECK
 unsigned int pikhsen_argon2_hash(unsigned int kind, unsigned int version, unsigned int passes, unsigned int memory_kib,
@@ -125,8 +126,8 @@ unsigned int pikhsen_argon2_hash(unsigned int kind, unsigned int version, unsign
 
 /*
  * Hashes, and writes the encoded text, "$argon2id$v=19$m=..", with a byte 0 after it. The length without that byte goes
- * to *text_len, which is 0 after any result but PIKHSEN_OK. Limits as above. The salt must be new and random for each
- * password.
+ * to *text_len, which is 0 after any result but PIKHSEN_OK. Passwords and limits as above: refuse an empty password
+ * before you enrol it. The salt must be new and random for each password.
  */
 PIKHSEN_MUST_CHECK PIKHSEN_NOT_NULL(15)
 unsigned int pikhsen_argon2_encoded(unsigned int kind, unsigned int version, unsigned int passes,
@@ -139,8 +140,9 @@ unsigned int pikhsen_argon2_encoded(unsigned int kind, unsigned int version, uns
  * leaves that open. PIKHSEN_OK is 0, so compare with it: "if (pikhsen_argon2_verify(..))" takes a yes for a no. Nothing
  * may follow the text, not even a byte 0. A text without a version is one of version 0x10. A text can ask for 4 TiB and
  * for days, so limits, as above, are tested before memory for the hash is requested; memory for the text's salt and
- * tag, together less than text_len bytes, is requested before that. For a password of no bytes or of more than 127 the
- * result is PIKHSEN_PASSWORD_LENGTH: refuse it when it is enrolled, and treat it as a wrong one at a login.
+ * tag, together less than text_len bytes, is requested before that. No limit counts the bytes of the password, and all
+ * of them are read once, so the time of a call grows with their number: a service bounds the length of what a stranger
+ * sends before it calls.
  */
 PIKHSEN_MUST_CHECK
 unsigned int pikhsen_argon2_verify(const unsigned char *text, size_t text_len, const unsigned char *password,

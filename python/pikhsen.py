@@ -166,7 +166,7 @@ _SENTENCES: Dict[int, str] = {
     Status.MEMORY: "Argon2: memory is not 8 * lanes to 2^32-1 KiB",
     Status.TAG_LENGTH: "Argon2: the tag is not 4 to 4096 bytes long",
     Status.SALT_LENGTH: "Argon2: the salt is not 8 to 255 bytes long",
-    Status.PASSWORD_LENGTH: "Argon2: the password is not 1 to 127 bytes long",
+    Status.PASSWORD_LENGTH: "Argon2: the password is 2^32 bytes or longer",
     Status.MEMORY_LIMIT: "more memory is needed than the limit allows",
     Status.WORK_LIMIT: "more work is needed than the limit allows",
     Status.OUT_OF_MEMORY: "memory was refused",
@@ -535,9 +535,9 @@ def hash(
 ) -> bytes:
     """The tag of a password by Argon2 (RFC 9106), `length` bytes.
 
-    The password has 1 to 127 bytes, the salt 8 to 255, the tag 4 to 4096. `memory_kib` is in KiB, at least 8 for each
-    lane. If no others are given, the settings are those that RFC 9106 recommends second: 64 MiB, 3 passes, 4 lanes.
-    `version` is 0x13, or 0x10 for old hashes.
+    The password has 0 to 2^32-1 bytes: AN EMPTY PASSWORD IS ACCEPTED. The salt has 8 to 255 bytes, the tag 4 to 4096.
+    `memory_kib` is in KiB, at least 8 for each lane. If no others are given, the settings are those that RFC 9106
+    recommends second: 64 MiB, 3 passes, 4 lanes. `version` is 0x13, or 0x10 for old hashes.
 
     Raises LimitExceeded, before memory is taken, if it needs more than `max_kib` KiB (1 GiB if not given) or `max_ops`
     block functions, and Invalid if an argument is out of range.
@@ -557,8 +557,9 @@ def encode(
 ) -> str:
     """The encoded text of a password's hash, "$argon2id$v=19$m=..", to be kept and given to `verify`.
 
-    The salt is new, 16 bytes, if none is given. Settings and limits are those of `hash`. The text holds neither
-    `secret` nor `associated`: `verify` takes the same two again.
+    The salt is new, 16 bytes, if none is given. Settings, limits and the EMPTY PASSWORD THAT IS ACCEPTED are those of
+    `hash`: refuse an empty password before you enrol it. The text holds neither `secret` nor `associated`: `verify`
+    takes the same two again.
     """
     salt = os.urandom(16) if salt is None else _bytes(salt)
     length = _tag_length(length)
@@ -583,7 +584,9 @@ def verify(
 
     The text may come from a stranger and ask for 4 TiB and days, so LimitExceeded is raised, before memory for the hash
     is taken, if it needs more than `max_kib` KiB (1 GiB if not given) or `max_ops` block functions, about passes *
-    memory. Invalid is raised if it is no encoded text, or the password has not 1 to 127 bytes.
+    memory. Invalid is raised if it is no encoded text. No limit counts the bytes of the password, 0 to 2^32-1, and all
+    of them are read once, so the time of a call grows with their number: a service bounds the length of what a stranger
+    sends before it calls.
     """
     try:
         _call(

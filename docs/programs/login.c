@@ -4,12 +4,13 @@
 #include <string.h>
 #include <sys/random.h>
 
-/* The text to store for a new account: 64 MiB, 3 passes, 4 lanes, which RFC 9106 recommends second. */
+/* The text to store for a new account, unless the password is empty: 64 MiB, 3 passes, 4 lanes, which RFC 9106
+ * recommends second. */
 static int enrol(const char *password, unsigned char *text, size_t room, size_t *len)
 {
 	unsigned char salt[16];
 
-	return getrandom(salt, sizeof salt, 0) == sizeof salt
+	return *password != '\0' && getrandom(salt, sizeof salt, 0) == sizeof salt
 	    && pikhsen_argon2_encoded(PIKHSEN_ARGON2ID, 0x13, 3, 65536, 4, (const unsigned char *)password,
 		   strlen(password), salt, sizeof salt, 32, 65536, 1 << 18, text, room, len) == PIKHSEN_OK;
 }
@@ -21,7 +22,6 @@ static const char *answer(const unsigned char *text, size_t len, const char *pas
 	case PIKHSEN_OK:
 		return "welcome";
 	case PIKHSEN_MISMATCH:
-	case PIKHSEN_PASSWORD_LENGTH: /* no bytes, or more than 127 */
 		return "not you";
 	case PIKHSEN_MEMORY_LIMIT:
 	case PIKHSEN_WORK_LIMIT: /* the text asks for more */

@@ -1,20 +1,21 @@
 import pikhsen
 
 
+def enrol(password):
+    if not password:
+        raise ValueError("an empty password")
+    return pikhsen.encode(password)
+
+
 def answer(stored, password):
     try:
         # at most 1 GiB and 2^23 block functions
         return "welcome" if pikhsen.verify(stored, password) else "not you"
     except pikhsen.LimitExceeded:
         return "set a new password"
-    except pikhsen.Invalid as refused:
-        # no bytes, or more than 127
-        if refused.status == pikhsen.Status.PASSWORD_LENGTH:
-            return "not you"
-        raise
 
 
-stored = pikhsen.encode(b"correct horse")
+stored = enrol(b"correct horse")
 print(stored[:30] + "..")
 for password in (b"correct horse", b"battery staple"):
     print(answer(stored, password))

@@ -89,7 +89,9 @@ static const unsigned char zeros[32];
 #define SALT somesalt, 8
 #define EMPTY none, 0
 #define NOTHING NULL, 0
+#define TOO_LONG none, 1ul << 32
 #define ARGON2D PIKHSEN_ARGON2D, 0x13, 1, 8, 1
+#define ARGON2ID PIKHSEN_ARGON2ID, 0x13, 1, 8, 1
 #define RFC_9106 PIKHSEN_ARGON2ID, 0x13, 3, 32, 4, ones, 32, twos, 16
 #define SECRET threes, 8
 #define DATA fours, 12
@@ -242,14 +244,18 @@ static void null_with_length_0(void)
 	WANT(hash(tag) == PIKHSEN_OK);
 	TOLD(OK, pikhsen_argon2_hash(ARGON2D, PASSWORD, SALT, NOTHING, NOTHING, 8, 100, other, 32));
 	WANT(memcmp(tag, other, 32) == 0);
-	TOLD(PASSWORD_LENGTH, pikhsen_argon2_hash(ARGON2D, NOTHING, SALT, NOTHING, NOTHING, 8, 100, other, 32));
+	TOLD(OK, pikhsen_argon2_hash(ARGON2D, EMPTY, SALT, EMPTY, EMPTY, 8, 100, tag, 32));
+	TOLD(OK, pikhsen_argon2_hash(ARGON2D, NOTHING, SALT, NOTHING, NOTHING, 8, 100, other, 32));
+	WANT(memcmp(tag, other, 32) == 0);
 	TOLD(SALT_LENGTH, pikhsen_argon2_hash(ARGON2D, PASSWORD, NOTHING, NOTHING, NOTHING, 8, 100, other, 32));
 	TOLD(TAG_LENGTH, pikhsen_argon2_hash(ARGON2D, PASSWORD, SALT, NOTHING, NOTHING, 8, 100, NOTHING));
-	TOLD(PASSWORD_LENGTH, pikhsen_argon2_encoded(ARGON2D, NOTHING, SALT, 32, 8, 100, encoded, sizeof encoded, &len));
+	TOLD(OK, pikhsen_argon2_encoded(ARGON2D, NOTHING, SALT, 32, 8, 100, encoded, sizeof encoded, &len));
+	TOLD(OK, pikhsen_argon2_verify(encoded, len, NOTHING, 8, 100));
+	TOLD(OK, pikhsen_argon2_verify(encoded, len, EMPTY, 8, 100));
 	TOLD(SALT_LENGTH, pikhsen_argon2_encoded(ARGON2D, PASSWORD, NOTHING, 32, 8, 100, encoded, sizeof encoded, &len));
 	TOLD(BUFFER, pikhsen_argon2_encoded(ARGON2D, PASSWORD, SALT, 32, 8, 100, NOTHING, &len));
 	TOLD(NOT_ENCODED, pikhsen_argon2_verify(NOTHING, PASSWORD, 8, 100));
-	TOLD(PASSWORD_LENGTH, pikhsen_argon2_verify(KNOWN, NOTHING, 8, 100));
+	TOLD(MISMATCH, pikhsen_argon2_verify(KNOWN, NOTHING, 8, 100));
 	TOLD(NOT_ENCODED, pikhsen_argon2_settings(NOTHING, &settings));
 	TOLD(NOT_ENCODED, pikhsen_argon2_needs_rehash(NOTHING, &settings, &needs));
 	WANT(pikhsen_message(0, NOTHING, &made_len) == PIKHSEN_BUFFER && made_len == 0);
@@ -354,11 +360,67 @@ static void with_a_secret(void)
 	keyed_is_refused(PIKHSEN_INPUT_LENGTH, 8, 1ul << 32, 31, 103, other);
 	keyed_is_refused(PIKHSEN_MEMORY_LIMIT, 8, 12, 31, 103, other);
 	keyed_is_refused(PIKHSEN_WORK_LIMIT, 8, 12, 32, 103, other);
-	TOLD(PASSWORD_LENGTH, pikhsen_argon2_verify_keyed(keyed, keyed_len, ones, 0, SECRET, DATA, 32, 104));
+	TOLD(MISMATCH, pikhsen_argon2_verify_keyed(keyed, keyed_len, ones, 0, SECRET, DATA, 32, 104));
 	TOLD(NOT_ENCODED, pikhsen_argon2_verify_keyed(NOTHING, ones, 32, SECRET, DATA, 32, 104));
 	len = 7;
 	TOLD(BUFFER, pikhsen_argon2_encoded_keyed(RFC_9106, SECRET, DATA, 32, 32, 104, NOTHING, &len));
 	WANT(len == 0 && strcmp((char *)other, (const char *)known) == 0);
+}
+
+/* The length of a password whose bytes are all p, and its text by Debian's libargon2 (0~20171227). */
+static const struct {
+	size_t len;
+	const char *text;
+} lengths[] = {
+	{ 0, "$argon2id$v=19$m=8,t=1,p=1$c29tZXNhbHQ$Ze7t9R9ABr5D6ybRIUGCqX1Qh3Z+NIe/vISd0ygUVlE" },
+	{ 127, "$argon2id$v=19$m=8,t=1,p=1$c29tZXNhbHQ$X7UDfgEA10928A+8gOXYyEdqu8WXMfdT7BZQ/UdTsF4" },
+	{ 128, "$argon2id$v=19$m=8,t=1,p=1$c29tZXNhbHQ$lT5x55qHkB7o0WQDZVNJ3bSh1Bqkx4p99ie/SCC8zpw" },
+	{ 200, "$argon2id$v=19$m=8,t=1,p=1$c29tZXNhbHQ$3tbNRvV7sZKpjkf2UD6t8e6WHIkGc9uIZd0mt56AJyU" },
+	{ 1000000, "$argon2id$v=19$m=8,t=1,p=1$c29tZXNhbHQ$tCIEZwLxQnoIKtVKR1eyClr1cf47EdjtUdA71sEoYdo" },
+};
+static unsigned char many[1000001];
+
+/* Passwords of these lengths, and one of the other lengths, which is wrong. */
+static void any_password(void)
+{
+	unsigned char other[PIKHSEN_ENCODED_ROOM(8, 32)];
+	size_t i;
+
+	memset(many, 'p', sizeof many);
+	for (i = 0; i < sizeof lengths / sizeof *lengths; ++i) {
+		const unsigned char *of = (const unsigned char *)lengths[i].text;
+		const size_t of_len = strlen(lengths[i].text), right = lengths[i].len, wrong = right ^ 1;
+
+		TOLD(OK, pikhsen_argon2_encoded(ARGON2ID, many, right, SALT, 32, 8, 10, other, sizeof other, &len));
+		WANT(len == of_len && strcmp((char *)other, lengths[i].text) == 0);
+		TOLD(OK, pikhsen_argon2_encoded_keyed(ARGON2ID, many, right, SALT, EMPTY, EMPTY, 32, 8, 10, other,
+		    sizeof other, &len));
+		WANT(len == of_len && strcmp((char *)other, lengths[i].text) == 0);
+		TOLD(OK, pikhsen_argon2_verify(of, of_len, many, right, 8, 10));
+		TOLD(MISMATCH, pikhsen_argon2_verify(of, of_len, many, wrong, 8, 10));
+		TOLD(OK, pikhsen_argon2_verify_keyed(of, of_len, many, right, EMPTY, EMPTY, 8, 10));
+		TOLD(MISMATCH, pikhsen_argon2_verify_keyed(of, of_len, many, wrong, EMPTY, EMPTY, 8, 10));
+		TOLD(MISMATCH, pikhsen_argon2_verify_keyed(of, of_len, many, right, many, 1, EMPTY, 8, 10));
+	}
+}
+
+/* One that is longer is refused before secret and limits, and no byte of it is read. */
+static void long_password(void)
+{
+	unsigned char other[PIKHSEN_ENCODED_ROOM(8, 32)], tag[32];
+
+	TOLD(PASSWORD_LENGTH, pikhsen_argon2_hash(ARGON2ID, TOO_LONG, SALT, TOO_LONG, EMPTY, 7, 1, tag, 32));
+	TOLD(SALT_LENGTH, pikhsen_argon2_hash(ARGON2ID, TOO_LONG, somesalt, 7, EMPTY, EMPTY, 8, 10, tag, 32));
+	len = 7;
+	TOLD(PASSWORD_LENGTH, pikhsen_argon2_encoded(ARGON2ID, TOO_LONG, SALT, 32, 7, 1, other, sizeof other, &len));
+	WANT(len == 0);
+	len = 7;
+	TOLD(PASSWORD_LENGTH, pikhsen_argon2_encoded_keyed(ARGON2ID, TOO_LONG, SALT, TOO_LONG, EMPTY, 32, 7, 1, other,
+	    sizeof other, &len));
+	WANT(len == 0);
+	TOLD(PASSWORD_LENGTH, pikhsen_argon2_verify(KNOWN, TOO_LONG, 7, 1));
+	TOLD(PASSWORD_LENGTH, pikhsen_argon2_verify_keyed(KNOWN, TOO_LONG, TOO_LONG, EMPTY, 7, 1));
+	TOLD(NOT_ENCODED, pikhsen_argon2_verify(NOTHING, TOO_LONG, 7, 1));
 }
 
 /* Every sentence wants room for its bytes and for one more, and writes no other. */
@@ -408,6 +470,8 @@ int main(void)
 	WANT(pikhsen_scrypt_info(file, 63, &costs) == PIKHSEN_TOO_SHORT);
 	in_place();
 	with_a_secret();
+	any_password();
+	long_password();
 	settings_of_texts();
 	messages();
 	refused_by_limits();

@@ -31,11 +31,7 @@ PYTHONS = (sys.executable, "/usr/bin/python3")
 
 # Tests of argon2-cffi that end in another way over this library, with the reason. Those of their examples that are within
 # the limits of pikhsen.h must pass.
-PASSWORDS = "a password of 0 bytes, or of more than 127, is refused"
-DIFFERENCES = {
-    "tests/test_low_level.py::TestHash::test_hash_fast": PASSWORDS, "tests/test_legacy.py::TestHash::test_hash_fast": PASSWORDS,
-    "tests/test_low_level.py::test_argument_ranges": f"{PASSWORDS}, and a salt of more than 255",
-}
+DIFFERENCES = {"tests/test_low_level.py::test_argument_ranges": "a salt of more than 255 bytes is refused"}
 # Those that never come to the library, by the beginning of their names.
 LEFT_OUT = {"tests/test_packaging.py": "it reads what pip notes of an installed package"}
 # Tests of argon2's test program that the adapter answers alone, so that they say nothing of the library.

@@ -78,12 +78,11 @@ def from_python(checks, pikhsen):
         checks.that(f"wrong password of {told[:20]}", pikhsen.verify(told, b"passwore"), False)
     refused(checks, (
         ("MEMORY_LIMIT", {"max_kib": 65535}), ("WORK_LIMIT", {"max_ops": 1000}), ("NOT_ENCODED", {"text": text + "\0"}),
-        ("OUT_OF_RANGE", {"text": text.replace("m=65536", "m=31")}), ("PASSWORD_LENGTH", {"password": b""}),
+        ("OUT_OF_RANGE", {"text": text.replace("m=65536", "m=31")}),
     ), pikhsen.verify, text=text, password=b"password")
     rows = ("MEMORY_LIMIT", {"memory_kib": 1024, "max_kib": 1023}), ("SALT_LENGTH", {"memory_kib": 32, "salt": b"saltsal"})
     refused(checks, rows, pikhsen.hash, password=b"x", salt=b"saltsalt")
-    rows = ("WORK_LIMIT", {"memory_kib": 1024, "max_ops": 1023}), ("PASSWORD_LENGTH", {"memory_kib": 32, "password": b"x" * 128})
-    refused(checks, rows, pikhsen.encode, password=b"x")
+    refused(checks, [("WORK_LIMIT", {"memory_kib": 1024, "max_ops": 1023})], pikhsen.encode, password=b"x")
     names = "kind", "version", "passes", "memory_kib", "lanes", "length"
     rows = [(why, dict(zip(names, settings))) for why, *settings in (
         ("KIND", 3, 0, 0, 0, 0, 0), ("ARGON2_VERSION", 2, 0x11, 0, 0, 0, 0), ("PASSES", 0, 0x13, 0, 0, 0, 0),
@@ -94,6 +93,24 @@ def from_python(checks, pikhsen):
     refused(checks, rows, pikhsen.encode, b"x")
     longest = pikhsen.encode(b"x" * 127, passes=1, memory_kib=8, lanes=1, length=4096, salt=b"s" * 255)
     checks.that("longest text", pikhsen.verify(longest, b"x" * 127), True)
+
+
+# The length of a password whose bytes are all p, and its tag by Debian's libargon2 (0~20171227), for 8 KiB in one pass
+LENGTHS = {
+    0: "Ze7t9R9ABr5D6ybRIUGCqX1Qh3Z+NIe/vISd0ygUVlE", 127: "X7UDfgEA10928A+8gOXYyEdqu8WXMfdT7BZQ/UdTsF4",
+    128: "lT5x55qHkB7o0WQDZVNJ3bSh1Bqkx4p99ie/SCC8zpw", 200: "3tbNRvV7sZKpjkf2UD6t8e6WHIkGc9uIZd0mt56AJyU",
+    1_000_000: "tCIEZwLxQnoIKtVKR1eyClr1cf47EdjtUdA71sEoYdo",
+}
+
+
+def any_password_from_python(checks, pikhsen):
+    small = {"salt": b"somesalt", "passes": 1, "memory_kib": 8, "lanes": 1}
+    for length, symbols in LENGTHS.items():
+        text, password = f"$argon2id$v=19$m=8,t=1,p=1$c29tZXNhbHQ${symbols}", b"p" * length
+        checks.that(f"hash, a password of {length}", pikhsen.hash(password, **small), base64.b64decode(symbols + "="))
+        checks.that(f"encode, a password of {length}", pikhsen.encode(password, **small), text)
+        checks.that(f"verify, a password of {length}", pikhsen.verify(text, password), True)
+        checks.that(f"verify, a password of not {length}", pikhsen.verify(text, password + b"p"), False)
 
 
 def secrets_from_python(checks, pikhsen):
@@ -716,9 +733,9 @@ def calls(checks, folder, lib):
     """All that is tested of the module: over the library in one folder, with files of its own in another."""
     pikhsen = loaded(lib)
     for part in (
-        from_python, secrets_from_python, texts_of_others, keys_from_python, files_from_python, in_place_from_python,
-        settings_from_python, salts_from_python, buffers_from_python, threads_from_python, arguments_from_python,
-        limits_from_python, defaults_from_python, exceptions_from_python, signatures_from_python,
+        from_python, any_password_from_python, secrets_from_python, texts_of_others, keys_from_python, files_from_python,
+        in_place_from_python, settings_from_python, salts_from_python, buffers_from_python, threads_from_python,
+        arguments_from_python, limits_from_python, defaults_from_python, exceptions_from_python, signatures_from_python,
     ):
         part(checks, pikhsen)
     large_from_python(checks, folder, lib)

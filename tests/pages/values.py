@@ -42,6 +42,8 @@ NUMBERS = [
     ("scrypt's r and p", "at least 1, r * p below {}", "romix/src/costs.rt", r"u64::from\(r\) \* u64::from\(p\) >= (1 << \d+) "),
     ("passphrase of an encrypted file", "0 to {}", "scrypt_run/src/passphrase.rt", r"if len > (\d+) \{"),
     ("the text of an encrypted file", "below {}", "encfile/src/enc.rt", r"const TEXT_LIMIT: u64 = (.*);"),
+    ("secret, associated data, password of any length (library alone)", "0 to {}", "argon/src/params.rt",
+     r"if password_len > (\w+) \{"),
     ("scrypt's log2 N", "1 to {}", "romix/src/costs.rt", r"if !\(1\.\.=(\d+)\)\.contains\(&log_n\)"),
 ]
 # The options of argon2 are the texts of two files; those of scrypt stand in the definitions of one. Of the first how a text

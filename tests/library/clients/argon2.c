@@ -10,10 +10,7 @@
 #define NO_KIB UINT32_MAX
 #define NO_OPS UINT64_MAX
 
-/* The limits of pikhsen.h, where they are not those of argon2.h. */
-const uint32_t clients_shortest_password = 1, clients_longest_password = 127, clients_longest_salt = 255;
-
-static int told(unsigned int status, uint32_t lanes, size_t password_len, size_t salt_len, size_t tag_len)
+static int told(unsigned int status, uint32_t lanes, size_t salt_len, size_t tag_len)
 {
 	switch (status) {
 	case PIKHSEN_OK: return ARGON2_OK;
@@ -24,7 +21,7 @@ static int told(unsigned int status, uint32_t lanes, size_t password_len, size_t
 		return tag_len < 4 ? ARGON2_OUTPUT_TOO_SHORT : ARGON2_OUTPUT_TOO_LONG;
 	case PIKHSEN_SALT_LENGTH: case PIKHSEN_TEXT_SALT_LENGTH:
 		return salt_len < 8 ? ARGON2_SALT_TOO_SHORT : ARGON2_SALT_TOO_LONG;
-	case PIKHSEN_PASSWORD_LENGTH: return password_len ? ARGON2_PWD_TOO_LONG : ARGON2_PWD_TOO_SHORT;
+	case PIKHSEN_PASSWORD_LENGTH: return ARGON2_PWD_TOO_LONG;
 	case PIKHSEN_OUT_OF_MEMORY: return ARGON2_MEMORY_ALLOCATION_ERROR;
 	case PIKHSEN_KIND: return ARGON2_INCORRECT_TYPE;
 	case PIKHSEN_BUFFER: return ARGON2_ENCODING_FAIL;
@@ -48,7 +45,7 @@ int argon2_ctx(argon2_context *of, argon2_type type)
 		return missing(of);
 	return told(pikhsen_argon2_hash(type, of->version, of->t_cost, of->m_cost, of->lanes, of->pwd, of->pwdlen, of->salt,
 	    of->saltlen, of->secret, of->secretlen, of->ad, of->adlen, NO_KIB, NO_OPS, of->out, of->outlen), of->lanes,
-	    of->pwdlen, of->saltlen, of->outlen);
+	    of->saltlen, of->outlen);
 }
 
 /* Each of the two that is wanted is a call of its own. */
@@ -62,10 +59,10 @@ int argon2_hash(uint32_t passes, uint32_t kib, uint32_t lanes, const void *passw
 		return password ? ARGON2_SALT_PTR_MISMATCH : ARGON2_PWD_PTR_MISMATCH;
 	if (tag)
 		answer = told(pikhsen_argon2_hash(type, version, passes, kib, lanes, password, password_len, salt, salt_len, NULL,
-		    0, NULL, 0, NO_KIB, NO_OPS, tag, tag_len), lanes, password_len, salt_len, tag_len);
+		    0, NULL, 0, NO_KIB, NO_OPS, tag, tag_len), lanes, salt_len, tag_len);
 	if (text && answer == ARGON2_OK)
 		answer = told(pikhsen_argon2_encoded(type, version, passes, kib, lanes, password, password_len, salt, salt_len,
-		    tag_len, NO_KIB, NO_OPS, (unsigned char *)text, text_room, &text_len), lanes, password_len, salt_len, tag_len);
+		    tag_len, NO_KIB, NO_OPS, (unsigned char *)text, text_room, &text_len), lanes, salt_len, tag_len);
 	return answer;
 }
 
@@ -79,7 +76,7 @@ int argon2_verify(const char *text, const void *password, const size_t password_
 		return ARGON2_INCORRECT_TYPE;
 	if (status == PIKHSEN_OK)
 		status = pikhsen_argon2_verify(bytes, strlen(text), password, password_len, NO_KIB, NO_OPS);
-	return told(status, of.lanes, password_len, of.salt_len, of.tag_len);
+	return told(status, of.lanes, of.salt_len, of.tag_len);
 }
 
 /* Just the text and its byte 0: some store all of that. */

@@ -32,7 +32,7 @@ class Within:
     def argon2_hash(self, *given):
         import hypothesis
 
-        if not 1 <= given[4] <= 127 or not 8 <= given[6] <= 255:
+        if not 8 <= given[6] <= 255:
             hypothesis.reject()
         return self.lib.argon2_hash(*given)
 
