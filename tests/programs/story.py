@@ -306,7 +306,7 @@ def compare_enrolled(checks, folder):
     """The first line that the Rust program prints, by the program argon2 with the password, salt and settings that stand there."""
     program, shown = rust_program()
     password, salt = re.findall(r'enrol\(alloc, b"(.*)", b"(.*)"\)', program)[0]
-    passes, lanes, memory = re.findall(r"Params::new\(Kind::Id, 0x13, (\d+), (\d+), ([\d_]+), 32,", program)[0]
+    passes, lanes, memory = re.findall(r"0x13,\s+(\d+),\s+(\d+),\s+([\d_]+),\s+32,", program)[0]
     words = [salt, "-id", "-t", passes, "-p", lanes, "-k", memory.replace("_", ""), "-e"]
     found = checks.run(words, password.encode(), program=os.path.abspath(os.path.join(folder, "argon2")))
     checks.that("LIBRARY's enrolled text", found, (0, shown.splitlines(keepends=True)[0].encode(), b""))
