@@ -64,6 +64,10 @@ OF_C = """#define main main_of_page
 PROGRAM
 #undef main
 int main(int count, char **words) {
+    unsigned char text[PIKHSEN_ENCODED_ROOM(16, 32)];
+    size_t len;
+    if (enrol("", text, sizeof text, &len))
+        return 1;
     for (int at = 1; at < count; at += 2)
         puts(answer((const unsigned char *)words[at], strlen(words[at]), words[at + 1]));
     return 0;
@@ -71,7 +75,10 @@ int main(int count, char **words) {
 """
 OF_PYTHON = """
 import sys
-print(*map(answer, sys.argv[1::2], map(str.encode, sys.argv[2::2])), sep="\\n")
+try:
+    sys.exit(enrol(b""))
+except ValueError:
+    print(*map(answer, sys.argv[1::2], map(str.encode, sys.argv[2::2])), sep="\\n")
 """
 OF_PAGE = """#include <pikhsen.h>
 #include <stdio.h>
@@ -90,7 +97,8 @@ int main(int count, char **words) {
 
 
 def logins_run(checks, folder, lib):
-    """What the pages' logins say of texts of other programs, of those that ask for more, and of wrong passwords."""
+    """What the pages' logins say of texts of other programs, of those that ask for more, and of wrong passwords; they enrol
+    no empty one."""
     words, expected = [it for login in LOGINS for it in login[:2]], "".join(f"{said}\n" for _, _, said in LOGINS)
     source, program = pathlib.Path(folder, "logins.c"), f"{folder}/logins"
     source.write_text(OF_C.replace("PROGRAM", shown("c")[0]), encoding="utf-8")
