@@ -3,6 +3,7 @@ ghost use Rattle.std.specs.Prelude.{◌≡◌, ◌-◌, ◌<◌, ◌^◌, true, 
 ghost use Rattle.argon.specs.Range.{is_version};
 ghost use Rattle.argon.specs.Reference.{is_independent};
 
+mod any_password;
 mod examples;
 mod orders;
 mod plain;

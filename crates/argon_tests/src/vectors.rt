@@ -7,7 +7,7 @@ ghost use Rattle.argon.specs.Compression.{compression};
 ghost use Rattle.argon.specs.Counts.{addresses_begun, column_work, slice_work, work};
 ghost use Rattle.argon.specs.Inputs.{AreInputsOf, inputs_of};
 ghost use Rattle.argon.specs.Kind.{type_number};
-ghost use Rattle.argon.specs.Range.{admission, checked_parameters};
+ghost use Rattle.argon.specs.Range.{admission, checked_parameters, checked_with_any_password};
 ghost use Rattle.argon.specs.Reference.{is_independent, reference_lane, reference_set, reference_words, relative_place};
 ghost use Rattle.argon.specs.Vectors.{two_lanes};
 ghost use Rattle.argon.specs.Weaving.{lane_work_left, work_left};
@@ -432,4 +432,23 @@ fn faults_of_parameters()
     ensures admitted { admission two_lanes 1608 4916 ≡ Ok tt }
     ensures memory_limit { admission two_lanes 1607 4915 ≡ Err MemoryLimit }
     ensures work_limit { admission two_lanes 1608 4915 ≡ Err WorkLimit }
+{}
+
+// The same with any password, whose range is that of RFC 9106, 3.1: it is tested last.
+fn faults_of_parameters_with_any_password()
+    ensures in_range { checked_with_any_password two_lanes ≡ Ok two_lanes }
+    ensures empty { checked_with_any_password (record two_lanes { password_len = 0 }) ≡ Ok (record two_lanes { password_len = 0 }) }
+    ensures longest { checked_with_any_password (record two_lanes { password_len = 2 ^ 32 - 1 })
+        ≡ Ok (record two_lanes { password_len = 2 ^ 32 - 1 }) }
+    ensures password { checked_with_any_password (record two_lanes { tag_len = 4096; salt_len = 255; password_len = 2 ^ 32 }) ≡ Err PasswordLength }
+    ensures passes { checked_with_any_password (record two_lanes { passes = 0; lanes = 0; memory_kib = 0; tag_len = 0; salt_len = 0; password_len = 2 ^ 32 }) ≡ Err Passes }
+    ensures lanes { checked_with_any_password (record two_lanes { lanes = 0; memory_kib = 2 ^ 32; tag_len = 0; salt_len = 0; password_len = 2 ^ 32 }) ≡ Err Lanes }
+    ensures memory { checked_with_any_password (record two_lanes { memory_kib = 15; tag_len = 0; salt_len = 0; password_len = 2 ^ 32 }) ≡ Err Memory }
+    ensures tag { checked_with_any_password (record two_lanes { memory_kib = 16; tag_len = 3; salt_len = 0; password_len = 2 ^ 32 }) ≡ Err TagLength }
+    ensures salt { checked_with_any_password (record two_lanes { tag_len = 4; salt_len = 7; password_len = 2 ^ 32 }) ≡ Err SaltLength }
+    ensures passes_above { checked_with_any_password (record two_lanes { passes = 2 ^ 32 }) ≡ Err Passes }
+    ensures lanes_above { checked_with_any_password (record two_lanes { lanes = 2 ^ 24 }) ≡ Err Lanes }
+    ensures memory_above { checked_with_any_password (record two_lanes { memory_kib = 2 ^ 32 }) ≡ Err Memory }
+    ensures tag_above { checked_with_any_password (record two_lanes { tag_len = 4097 }) ≡ Err TagLength }
+    ensures salt_above { checked_with_any_password (record two_lanes { salt_len = 256 }) ≡ Err SaltLength }
 {}

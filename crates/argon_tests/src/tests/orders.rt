@@ -6,7 +6,7 @@ ghost use Rattle.argon.specs.Argon2.{argon2_tag};
 ghost use Rattle.argon.specs.Counts.{slice_work, work};
 ghost use Rattle.argon.specs.Filling.{Filling, HasNext};
 ghost use Rattle.argon.specs.Inputs.{AreInputsOf, inputs_of};
-ghost use Rattle.argon.specs.Range.{IsInRange};
+ghost use Rattle.argon.specs.Range.{IsInRangeWithAnyPassword};
 ghost use Rattle.argon.specs.Weaving.{work_left};
 ghost use Rattle.argon.specs.Woven.{IsWovenFrom, with_next_slice};
 
@@ -86,7 +86,7 @@ fn hash_by(
 )
     requires parameters { params.now ≡ reserved.parameters }
     requires lanes { reserved_lanes ≡ reserved.parameters }
-    requires in_range { IsInRange params.now }
+    requires in_range { IsInRangeWithAnyPassword params.now }
     requires inputs { AreInputsOf params.now (inputs_of inputs.now) }
     requires len { length out.old ≡ params.now.tag_len }
     ensures tag { out.new ≡ argon2_tag params.now (inputs_of inputs.now) }

@@ -1,8 +1,8 @@
 //! The ends of each range of the parameters, and the order of their faults.
 use argon::{Kind, ParamFault, Params};
 
-// Passes, lanes and memory, the lengths of tag, salt and password, and the fault.
-const RANGES: [([u32; 3], [usize; 3], Option<ParamFault>); 34] = [
+/// Passes, lanes and memory, the lengths of tag, salt and password, and the fault.
+pub const RANGES: [([u32; 3], [usize; 3], Option<ParamFault>); 34] = [
     ([1, 1, 8], [4, 8, 1], None),
     (
         [0xFFFF_FFFF, 0xFF_FFFF, 0xFFFF_FFFF],
