@@ -1,9 +1,11 @@
 //! Laws of the definitions: each function has no body, and its clauses are the law.
-ghost use Rattle.std.specs.Prelude.{◌≡◌, ◌≢◌, List, None, ℕ, true};
+ghost use Rattle.std.specs.Prelude.{◌≡◌, ◌≢◌, ◌≤◌, ◌^◌, List, None, Some, length, ℕ, true};
 ghost use Rattle.argon_text.specs.EncodedText.{IsTextOf, encoded_text, short_text};
 ghost use Rattle.argon_text.specs.Grammar.{Fields, HasFields, IsTextInRange, fields_of_value, value_of_fields};
 ghost use Rattle.argon_text.specs.Settings.{range_fault};
 ghost use Rattle.argon_text.specs.Value.{IsValue, Value, is_in_range};
+ghost use Rattle.argon_text.specs.Verifying.{keyed_fault};
+ghost use Rattle.argon_text.specs.declared.fault.VerifyFault.TheVariants.{PasswordLength};
 
 // A text has one reading: its fields are the only ones.
 fn one_reading()
@@ -26,4 +28,11 @@ fn one_value()
 // A value is in range where no part of it is out of range.
 fn in_range_of_no_fault()
     ensures none { (v : Value) → range_fault v ≡ None → is_in_range v ≡ true }
+{}
+
+// A password of 2^32 bytes or more (RFC 9106, 3.1) is refused before all else.
+fn long_passwords_are_refused()
+    ensures first { (v : Value) (password : List ℕ) (secret_len associated_len max_kib max_ops : ℕ)
+        → 2 ^ 32 ≤ length password
+        → keyed_fault v password secret_len associated_len max_kib max_ops ≡ Some PasswordLength }
 {}

@@ -74,9 +74,11 @@ fn faults_of_tests()
     ensures work { verify_fault known_value (codes "p") 8 5 ≡ Some WorkLimit }
 {}
 
-// The same with a secret and data of these lengths, tested after the password's. RFC 9106, 3.1, ends both at 2^32-1 bytes.
+// The same with a secret and data of these lengths, tested after the password's, and with any password: RFC 9106, 3.1, ends
+// all three at 2^32-1 bytes.
 fn faults_of_tests_with_a_secret()
-    ensures empty { keyed_fault known_value [] (2 ^ 32) (2 ^ 32) 7 5 ≡ Some PasswordLength }
+    ensures empty_password { keyed_fault known_value [] (2 ^ 32 - 1) (2 ^ 32 - 1) 8 6 ≡ None }
+    ensures long_password { keyed_fault known_value (replicate 128 7) (2 ^ 32 - 1) (2 ^ 32 - 1) 8 6 ≡ None }
     ensures secret { keyed_fault known_value (codes "p") (2 ^ 32) 0 7 5 ≡ Some InputLength }
     ensures associated { keyed_fault known_value (codes "p") 0 (2 ^ 32) 7 5 ≡ Some InputLength }
     ensures longest { keyed_fault known_value (codes "p") (2 ^ 32 - 1) (2 ^ 32 - 1) 8 6 ≡ None }

@@ -135,6 +135,68 @@ fn answers_with_a_secret(rt: HostRuntime) -> Result<(), Fail> {
     Ok(())
 }
 
+// The length of a password whose bytes are all `p`, and its text by Debian's libargon2 (0~20171227); the tag is also by
+// the `cryptography` module of Python (48.0.0).
+const LENGTHS: [(usize, &[u8]); 6] = [
+    (
+        0,
+        b"$argon2id$v=19$m=8,t=1,p=1$c29tZXNhbHQ$Ze7t9R9ABr5D6ybRIUGCqX1Qh3Z+NIe/vISd0ygUVlE",
+    ),
+    (
+        1,
+        b"$argon2id$v=19$m=8,t=1,p=1$c29tZXNhbHQ$USqLEgKlsm4am1QLS1IU1y/7n1YbZTsOcWPCUUlEYAo",
+    ),
+    (
+        127,
+        b"$argon2id$v=19$m=8,t=1,p=1$c29tZXNhbHQ$X7UDfgEA10928A+8gOXYyEdqu8WXMfdT7BZQ/UdTsF4",
+    ),
+    (
+        128,
+        b"$argon2id$v=19$m=8,t=1,p=1$c29tZXNhbHQ$lT5x55qHkB7o0WQDZVNJ3bSh1Bqkx4p99ie/SCC8zpw",
+    ),
+    (
+        200,
+        b"$argon2id$v=19$m=8,t=1,p=1$c29tZXNhbHQ$3tbNRvV7sZKpjkf2UD6t8e6WHIkGc9uIZd0mt56AJyU",
+    ),
+    (
+        1_000_000,
+        b"$argon2id$v=19$m=8,t=1,p=1$c29tZXNhbHQ$tCIEZwLxQnoIKtVKR1eyClr1cf47EdjtUdA71sEoYdo",
+    ),
+];
+
+// The numbers of what `verify_keyed` and `verify` answer to a password of so many bytes against a text.
+fn answered_of_length(alloc: Global, len: usize, text: &[u8]) -> Result<(u8, u8), Fail> {
+    let password = vec![in alloc; b'p'; len]?;
+    let encoded = Encoded::read(alloc, text)?;
+    let mut room = alloc;
+    let keyed = verify_keyed(
+        &mut room,
+        &Claim::of(&encoded),
+        &password,
+        &[],
+        &[],
+        8,
+        10,
+        &mut Ticks::new(alloc),
+    );
+    let plain = tested(alloc, &encoded, &password, 8, 10);
+    Ok((number_of(keyed), number_of(plain)))
+}
+
+#[test]
+fn passwords_of_any_length(rt: HostRuntime) -> Result<(), Fail> {
+    for (at, (len, text)) in LENGTHS.iter().enumerate() {
+        let is_short = 1 <= *len && *len <= 127;
+        let found = answered_of_length(rt.alloc(), *len, text)?;
+        assert_eq!(rt; found, (1, if is_short { 1 } else { 6 }), "{len}");
+        // the text of the next length is another's
+        let (_, other) = LENGTHS[(at + 1) % 6];
+        let found = answered_of_length(rt.alloc(), *len, other)?;
+        assert_eq!(rt; found, (0, if is_short { 0 } else { 6 }), "{len}");
+    }
+    Ok(())
+}
+
 // A tag with one byte changed is another tag, whichever byte it is.
 fn fits_changed(alloc: Global, place: usize) -> Result<bool, Fail> {
     let mut text = KNOWN.to_vec(alloc)?;
@@ -197,7 +259,16 @@ fn may_enter(alloc: Global, stored: &[u8], password: &[u8]) -> Result<bool, Veri
     // counts the work, for contracts alone
     let mut ticks = Ticks::new(alloc);
     // at most 1 GiB and 2^23 block functions, whoever wrote the text
-    verify(&mut room, &claim, password, 1 << 20, 1 << 23, &mut ticks)
+    verify_keyed(
+        &mut room,
+        &claim,
+        password,
+        &[],
+        &[],
+        1 << 20,
+        1 << 23,
+        &mut ticks,
+    )
 }
 
 #[test]
@@ -208,6 +279,7 @@ fn a_login(rt: HostRuntime) {
     for (text, password, expected) in [
         (stored.as_slice(), b"password".as_slice(), 1),
         (stored, b"pass word", 0),
+        (stored, b"", 0),
         (&stored[1..], b"password", 0),
         (
             b"$argon2id$v=19$m=1048580,t=1,p=1$c29tZXNhbHQ$AAAAAA",
