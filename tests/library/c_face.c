@@ -238,7 +238,7 @@ static void refused_by_limits(void)
 /* Null with length 0, for all bytes that a function takes: it is refused, or not, as "" is. */
 static void null_with_length_0(void)
 {
-	unsigned char tag[32], other[32], empty[128], made[128];
+	unsigned char tag[32], other[32];
 	size_t made_len = 7;
 
 	WANT(hash(tag) == PIKHSEN_OK);
@@ -259,6 +259,13 @@ static void null_with_length_0(void)
 	TOLD(NOT_ENCODED, pikhsen_argon2_settings(NOTHING, &settings));
 	TOLD(NOT_ENCODED, pikhsen_argon2_needs_rehash(NOTHING, &settings, &needs));
 	WANT(pikhsen_message(0, NOTHING, &made_len) == PIKHSEN_BUFFER && made_len == 0);
+}
+
+/* The same for keys and files. */
+static void null_for_scrypt(void)
+{
+	unsigned char tag[32], other[32], empty[128], made[128];
+	size_t made_len = 7;
 
 	TOLD(OK, pikhsen_scrypt(EMPTY, EMPTY, KEY, 1, WIDE, tag, 32));
 	TOLD(OK, pikhsen_scrypt(NOTHING, NOTHING, KEY, 1, WIDE, other, 32));
@@ -481,5 +488,6 @@ int main(void)
 	for (i = 0; i < (int)sizeof text; ++i)
 		WANT(text[i] == 0);
 	null_with_length_0();
+	null_for_scrypt();
 	return 0;
 }
