@@ -111,8 +111,8 @@ unsigned int pikhsen_version(void);
  * is requested, if it needs more than max_kib blocks of 1 KiB or max_ops block functions. The number of blocks B is
  * memory_kib, rounded down to a multiple of 4 * lanes. The block functions are passes * B - 2 * lanes, and two more for
  * every 128 blocks, or part of them, of each segment (B / (4 * lanes) blocks) whose accesses do not depend on the
- * password: there are 4 * lanes * passes of these for Argon2i, 2 * lanes for Argon2id, none for Argon2d. So 2 * passes
- * * memory_kib block functions are always enough; multiply as pikhsen_u64.
+ * password: there are 4 * lanes * passes of these for Argon2i, 2 * lanes for Argon2id, none for Argon2d. So
+ * 2 * passes * memory_kib block functions are always enough; multiply as pikhsen_u64.
  */
 PIKHSEN_MUST_CHECK
 unsigned int pikhsen_argon2_hash(unsigned int kind, unsigned int version, unsigned int passes, unsigned int memory_kib,
