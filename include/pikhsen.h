@@ -13,14 +13,16 @@
  *  - MEMORY THAT A FUNCTION WRITES MUST NOT OVERLAP ANYTHING ELSE THAT IS PASSED TO IT, and no other thread may touch
  *    it during the call. The library cannot see an overlap, and returns PIKHSEN_OK although what it wrote is wrong.
  *    What it writes need not be set before. Memory that it reads must not be written during the call.
- *  - No function keeps a state between calls, so any number of threads may call at the same time.
- *  - Memory comes from malloc and realloc alone, and all of it goes to free before the function returns; the three must
- *    be of one allocator. A call needs a stack of 64 KiB. It writes no file, reads no clock, starts no thread, sets no
- *    errno unless malloc does, and never ends the process.
- *  - Before a function that derives or hashes returns, it puts zeros over 32 KiB of the stack below its own frame,
- *    where its work was, over the memory of the hash or the derivation before that is freed, and into the vector
- *    registers; this is tested, not proved. Salt, tag and text of a hash are freed as they are. General registers may
- *    hold a piece of a key, which a later call of a function whose name is not bound yet may store: link with -z now.
+ *  - No function keeps a state between calls, but in a pikhsen_stream that it is given. So any number of threads may
+ *    call at the same time, each with streams of its own.
+ *  - Memory comes from malloc and realloc alone, and all of it goes to free before the function returns, but the block
+ *    of a stream that runs; the three must be of one allocator. A call needs a stack of 64 KiB. It writes no file,
+ *    reads no clock, starts no thread, sets no errno unless malloc does, and never ends the process.
+ *  - Before a function that derives, hashes or has a stream returns, it puts zeros over 32 KiB of the stack below its
+ *    own frame, where its work was, over the memory of the hash or the derivation and the block of a stream before that
+ *    is freed, and into the vector registers; this is tested, not proved. Salt, tag and text of a hash are freed as
+ *    they are. General registers may hold a piece of a key, which a later call of a function whose name is not bound
+ *    yet may store: link with -z now.
  *  - No function may be called from a signal handler, or in the forked child of a process with threads.
  */
 #ifndef PIKHSEN_H
@@ -86,7 +88,8 @@ enum pikhsen_status {
 	PIKHSEN_TEXT_LANES = 33,       /* text: its lanes are not 1 to 2^24-1 */
 	PIKHSEN_TEXT_MEMORY = 34,      /* text: its memory is not 8 * lanes to 2^32-1 KiB */
 	PIKHSEN_TEXT_TAG_LENGTH = 35,  /* text: its tag is not 4 to 4096 bytes long */
-	PIKHSEN_TEXT_SALT_LENGTH = 36  /* text: its salt is not 8 to 255 bytes long */
+	PIKHSEN_TEXT_SALT_LENGTH = 36, /* text: its salt is not 8 to 255 bytes long */
+	PIKHSEN_STREAM = 37            /* file: the stream runs already, or does not run in this direction */
 };
 
 /* So many bytes have room for every sentence of pikhsen_message, and the byte 0 after it. */
@@ -254,6 +257,76 @@ PIKHSEN_MUST_CHECK PIKHSEN_NOT_NULL(10)
 unsigned int pikhsen_scrypt_decrypt(const unsigned char *passphrase, size_t passphrase_len, unsigned int keep,
     pikhsen_u64 max_bytes, pikhsen_u64 max_ops, const unsigned char *file, size_t file_len, unsigned char *out,
     size_t out_len, size_t *text_len);
+
+/*
+ * A file in pieces, in memory that does not grow with it. A stream is one encryption or decryption, which the caller
+ * starts, feeds and finishes. It is all zeros at first:
+ *
+ *	pikhsen_stream stream = PIKHSEN_STREAM_NEW;
+ *
+ * A start takes one block of about 2.5 KiB by malloc, which has the keys; a finish, or pikhsen_stream_free, puts zeros
+ * over the block and frees it. Then the stream may be started again. While it runs, nobody writes, copies or moves the
+ * struct, and one call at a time uses it, from any thread: the library cannot see it if this is broken. A stream that
+ * runs and is neither finished nor freed leaves its keys in memory.
+ *
+ * PIKHSEN_STREAM: the stream runs where it is to be started, or does not run where it is to be fed or finished, or runs
+ * in the other direction. It is then as it was before the call, and so after any other refusal of a start or a feed.
+ */
+typedef struct {
+	unsigned char runs; /* 0; or 1 if an encryption runs, 2 if a decryption does */
+	void *state;
+} pikhsen_stream;
+#define PIKHSEN_STREAM_NEW { 0, NULL }
+
+/* The bytes of a file before its text and after it. */
+#define PIKHSEN_FILE_HEAD 96ul
+#define PIKHSEN_FILE_CODE 32ul
+
+/*
+ * Encrypts in pieces. The file is the PIKHSEN_FILE_HEAD bytes that start writes to head, then each piece of the text as
+ * feed encrypts it in its place, then the PIKHSEN_FILE_CODE bytes that finish writes to code: all together what
+ * pikhsen_scrypt_encrypt writes. Pieces are of any lengths. start refuses what pikhsen_scrypt_encrypt refuses, and all
+ * memory is requested before a key is derived. If head or code has another length, the result is PIKHSEN_BUFFER; if the
+ * text would reach 2^60 bytes, that of feed is PIKHSEN_TOO_LONG. After a refusal bytes, head and code are unchanged.
+ * Without what finish writes a file is not whole: each reader refuses it.
+ */
+PIKHSEN_MUST_CHECK PIKHSEN_NOT_NULL(11)
+unsigned int pikhsen_scrypt_encrypt_start(const unsigned char *passphrase, size_t passphrase_len,
+    const unsigned char *salt, size_t salt_len, unsigned int log_n, unsigned int r, unsigned int p, unsigned int keep,
+    pikhsen_u64 max_bytes, pikhsen_u64 max_ops, pikhsen_stream *stream, unsigned char *head, size_t head_len);
+PIKHSEN_MUST_CHECK PIKHSEN_NOT_NULL(1)
+unsigned int pikhsen_scrypt_encrypt_feed(pikhsen_stream *stream, unsigned char *bytes, size_t bytes_len);
+PIKHSEN_MUST_CHECK PIKHSEN_NOT_NULL(1)
+unsigned int pikhsen_scrypt_encrypt_finish(pikhsen_stream *stream, unsigned char *code, size_t code_len);
+
+/*
+ * Decrypts in pieces. start reads the first PIKHSEN_FILE_HEAD bytes of front, and feed, piece by piece, all that comes
+ * after them in the file. feed writes the text that it releases to the front of out, and the number of its bytes to
+ * *released: at most as many as the piece has, and 0 after any result but PIKHSEN_OK. out has at least
+ * PIKHSEN_FILE_CODE bytes more than the piece, else the result is PIKHSEN_BUFFER; what comes after the released bytes,
+ * up to so many, is left in no promised state. start refuses what pikhsen_scrypt_decrypt refuses, a wrong passphrase
+ * among it; keep and limits as there.
+ *
+ * WHAT feed RELEASES IS NOT YET TESTED: anyone may have changed the file. finish says whether that is so: PIKHSEN_OK
+ * only if all that was read is an encryption of all that was released. If the result is not 0, throw all of the text
+ * away: PIKHSEN_DAMAGED is told for a file that was changed or cut short. Until then act on none of it. After any
+ * result but PIKHSEN_STREAM the stream does not run.
+ */
+PIKHSEN_MUST_CHECK PIKHSEN_NOT_NULL(8)
+unsigned int pikhsen_scrypt_decrypt_start(const unsigned char *passphrase, size_t passphrase_len, unsigned int keep,
+    pikhsen_u64 max_bytes, pikhsen_u64 max_ops, const unsigned char *front, size_t front_len, pikhsen_stream *stream);
+PIKHSEN_MUST_CHECK PIKHSEN_NOT_NULL(1) PIKHSEN_NOT_NULL(6)
+unsigned int pikhsen_scrypt_decrypt_feed(pikhsen_stream *stream, const unsigned char *piece, size_t piece_len,
+    unsigned char *out, size_t out_len, size_t *released);
+PIKHSEN_MUST_CHECK PIKHSEN_NOT_NULL(1)
+unsigned int pikhsen_scrypt_decrypt_finish(pikhsen_stream *stream);
+
+/*
+ * Ends a stream in whatever state it is: if it runs, zeros are put over its block, and it is freed. Returns PIKHSEN_OK.
+ * The stream may be started again.
+ */
+PIKHSEN_NOT_NULL(1)
+unsigned int pikhsen_stream_free(pikhsen_stream *stream);
 
 #ifdef __cplusplus
 }

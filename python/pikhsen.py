@@ -155,6 +155,7 @@ class Status(enum.IntEnum):
     TEXT_MEMORY = 34
     TEXT_TAG_LENGTH = 35
     TEXT_SALT_LENGTH = 36
+    STREAM = 37
 
 
 # What the statuses say, as pikhsen.h and man 3 pikhsen do, but for BUFFER: of what a program in Python gives, the length of
@@ -197,6 +198,7 @@ _SENTENCES: Dict[int, str] = {
     Status.TEXT_MEMORY: "text: its memory is not 8 * lanes to 2^32-1 KiB",
     Status.TEXT_TAG_LENGTH: "text: its tag is not 4 to 4096 bytes long",
     Status.TEXT_SALT_LENGTH: "text: its salt is not 8 to 255 bytes long",
+    Status.STREAM: "file: the stream runs already, or does not run in this direction",
 }
 
 

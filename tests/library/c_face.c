@@ -117,6 +117,34 @@ static struct pikhsen_argon2_settings settings;
 static unsigned int needs;
 static size_t len;
 
+/* The file of `somesalt` in pieces, and then its text again. */
+static unsigned int in_two_pieces(void)
+{
+	unsigned char made[sizeof file], back[64];
+	pikhsen_stream stream = PIKHSEN_STREAM_NEW;
+	unsigned int told = pikhsen_scrypt_encrypt_start(PASSWORD, FILE_SALT, COSTS, 1, WIDE, &stream, made, 96);
+
+	WANT(stream.runs == (told == PIKHSEN_OK));
+	if (told != PIKHSEN_OK)
+		return told;
+	memcpy(made + 96, somesalt, 5);
+	TOLD(OK, pikhsen_scrypt_encrypt_feed(&stream, made + 96, 2));
+	TOLD(OK, pikhsen_scrypt_encrypt_feed(&stream, made + 98, 3));
+	TOLD(OK, pikhsen_scrypt_encrypt_finish(&stream, made + 101, 32));
+	WANT(stream.runs == 0);
+	told = pikhsen_scrypt_decrypt_start(PASSWORD, 1, WIDE, made, sizeof made, &stream);
+	WANT(stream.runs == 2 * (told == PIKHSEN_OK));
+	if (told != PIKHSEN_OK)
+		return told;
+	TOLD(OK, pikhsen_scrypt_decrypt_feed(&stream, made + 96, 32, back, 64, &len));
+	WANT(len == 0);
+	TOLD(OK, pikhsen_scrypt_decrypt_feed(&stream, made + 128, 5, back, 37, &len));
+	WANT(len == 5 && memcmp(back, somesalt, 5) == 0);
+	TOLD(OK, pikhsen_scrypt_decrypt_finish(&stream));
+	WANT(stream.runs == 0);
+	return PIKHSEN_OK;
+}
+
 static unsigned int one(int call, unsigned char *tag)
 {
 	unsigned int told;
@@ -138,6 +166,7 @@ static unsigned int one(int call, unsigned char *tag)
 		return pikhsen_argon2_encoded_keyed(RFC_9106, SECRET, DATA, 32, 32, 1000, keyed, sizeof keyed, &len);
 	case 11:
 		return pikhsen_argon2_verify_keyed(keyed, strlen((char *)keyed), ones, 32, SECRET, DATA, 32, 1000);
+	case 12: return in_two_pieces();
 	default: return pikhsen_scrypt_decrypt(PASSWORD, 1, WIDE, file, sizeof file, text, sizeof text, &len);
 	}
 }
@@ -296,6 +325,101 @@ static void in_place(void)
 	WANT(memcmp(place, somesalt, 8) == 0);
 }
 
+/* Pieces of any size make the file that pikhsen_scrypt_encrypt makes, and give its text again. */
+enum { LONGEST = 1000103 };
+static unsigned char long_text[LONGEST], whole[LONGEST + 128], pieces[LONGEST + 128], released[LONGEST + 32];
+
+static void in_pieces(size_t size, size_t length)
+{
+	pikhsen_stream stream = PIKHSEN_STREAM_NEW;
+	size_t at, piece, got = 0;
+
+	for (at = 0; at < length; ++at)
+		long_text[at] = (unsigned char)(at * 7 + (at >> 8));
+	TOLD(OK, pikhsen_scrypt_encrypt(PASSWORD, FILE_SALT, KEY, 1, WIDE, long_text, length, whole, length + 128));
+	memcpy(pieces + PIKHSEN_FILE_HEAD, long_text, length);
+	TOLD(OK, pikhsen_scrypt_encrypt_start(PASSWORD, FILE_SALT, KEY, 1, WIDE, &stream, pieces, PIKHSEN_FILE_HEAD));
+	for (at = 0; at < length; at += piece) {
+		piece = length - at < size ? length - at : size;
+		TOLD(OK, pikhsen_scrypt_encrypt_feed(&stream, pieces + PIKHSEN_FILE_HEAD + at, piece));
+	}
+	TOLD(OK, pikhsen_scrypt_encrypt_finish(&stream, pieces + PIKHSEN_FILE_HEAD + length, PIKHSEN_FILE_CODE));
+	WANT(memcmp(pieces, whole, length + 128) == 0);
+	TOLD(OK, pikhsen_scrypt_decrypt_start(PASSWORD, 1, WIDE, whole, PIKHSEN_FILE_HEAD, &stream));
+	for (at = 0; at < length + PIKHSEN_FILE_CODE; at += piece) {
+		piece = length + PIKHSEN_FILE_CODE - at < size ? length + PIKHSEN_FILE_CODE - at : size;
+		TOLD(OK, pikhsen_scrypt_decrypt_feed(&stream, whole + PIKHSEN_FILE_HEAD + at, piece, pieces, piece + 32, &len));
+		memcpy(released + got, pieces, len);
+		got += len;
+	}
+	WANT(got == length && memcmp(released, long_text, length) == 0);
+	TOLD(OK, pikhsen_scrypt_decrypt_finish(&stream));
+}
+
+/* A call of a stream is refused where it does not run in its direction; and then goes on as if there had been none. */
+static void streams(void)
+{
+	pikhsen_stream stream = PIKHSEN_STREAM_NEW;
+	unsigned char out[64], head[96], code[32];
+	long before = live;
+
+	TOLD(STREAM, pikhsen_scrypt_encrypt_feed(&stream, out, 5));
+	TOLD(STREAM, pikhsen_scrypt_encrypt_finish(&stream, code, 32));
+	TOLD(STREAM, pikhsen_scrypt_decrypt_feed(&stream, file + 96, 5, out, 64, &len));
+	TOLD(STREAM, pikhsen_scrypt_decrypt_finish(&stream));
+	TOLD(FILE_SALT, pikhsen_scrypt_encrypt_start(PASSWORD, zeros, 31, COSTS, 1, WIDE, &stream, head, 96));
+	TOLD(BUFFER, pikhsen_scrypt_encrypt_start(PASSWORD, FILE_SALT, COSTS, 1, WIDE, &stream, head, 95));
+	TOLD(TOO_SHORT, pikhsen_scrypt_decrypt_start(PASSWORD, 1, WIDE, file, 95, &stream));
+	TOLD(WRONG_PASSPHRASE, pikhsen_scrypt_decrypt_start(SALT, 1, WIDE, file, 96, &stream));
+	WANT(stream.runs == 0 && live == before);
+
+	TOLD(OK, pikhsen_scrypt_encrypt_start(PASSWORD, FILE_SALT, COSTS, 1, WIDE, &stream, head, 96));
+	TOLD(STREAM, pikhsen_scrypt_encrypt_start(PASSWORD, FILE_SALT, COSTS, 1, WIDE, &stream, head, 96));
+	TOLD(STREAM, pikhsen_scrypt_decrypt_start(PASSWORD, 1, WIDE, file, 96, &stream));
+	TOLD(STREAM, pikhsen_scrypt_decrypt_feed(&stream, file + 96, 5, out, 64, &len));
+	TOLD(STREAM, pikhsen_scrypt_decrypt_finish(&stream));
+	TOLD(BUFFER, pikhsen_scrypt_encrypt_finish(&stream, code, 31));
+	memcpy(out, somesalt, 5);
+	TOLD(OK, pikhsen_scrypt_encrypt_feed(&stream, out, 5));
+	TOLD(OK, pikhsen_scrypt_encrypt_finish(&stream, code, 32));
+	WANT(memcmp(head, file, 96) == 0 && memcmp(out, file + 96, 5) == 0 && memcmp(code, file + 101, 32) == 0);
+
+	TOLD(OK, pikhsen_scrypt_decrypt_start(PASSWORD, 1, WIDE, file, 96, &stream));
+	TOLD(STREAM, pikhsen_scrypt_encrypt_start(PASSWORD, FILE_SALT, COSTS, 1, WIDE, &stream, head, 96));
+	TOLD(STREAM, pikhsen_scrypt_encrypt_feed(&stream, out, 5));
+	TOLD(STREAM, pikhsen_scrypt_encrypt_finish(&stream, code, 32));
+	len = 7;
+	TOLD(BUFFER, pikhsen_scrypt_decrypt_feed(&stream, file + 96, 37, out, 68 - 4, &len));
+	WANT(len == 0);
+	TOLD(OK, pikhsen_scrypt_decrypt_feed(&stream, file + 96, 32, out, 64, &len));
+	TOLD(OK, pikhsen_scrypt_decrypt_feed(&stream, file + 128, 5, out, 37, &len));
+	WANT(len == 5 && memcmp(out, somesalt, 5) == 0);
+	TOLD(OK, pikhsen_scrypt_decrypt_finish(&stream));
+
+	/* a byte that is changed, and a file that is cut short */
+	TOLD(OK, pikhsen_scrypt_decrypt_start(PASSWORD, 1, WIDE, file, 96, &stream));
+	memcpy(code, file + 96, 32);
+	code[0] ^= 1;
+	TOLD(OK, pikhsen_scrypt_decrypt_feed(&stream, code, 32, out, 64, &len));
+	TOLD(OK, pikhsen_scrypt_decrypt_feed(&stream, file + 128, 5, out, 64, &len));
+	TOLD(DAMAGED, pikhsen_scrypt_decrypt_finish(&stream));
+	TOLD(OK, pikhsen_scrypt_decrypt_start(PASSWORD, 1, WIDE, file, 96, &stream));
+	TOLD(DAMAGED, pikhsen_scrypt_decrypt_finish(&stream));
+	TOLD(STREAM, pikhsen_scrypt_decrypt_finish(&stream));
+
+	/* freed in each state; and a struct that was never set is refused, not used */
+	TOLD(OK, pikhsen_scrypt_decrypt_start(PASSWORD, 1, WIDE, file, 96, &stream));
+	TOLD(OK, pikhsen_stream_free(&stream));
+	TOLD(OK, pikhsen_stream_free(&stream));
+	TOLD(OK, pikhsen_scrypt_encrypt_start(PASSWORD, FILE_SALT, COSTS, 1, WIDE, &stream, head, 96));
+	TOLD(OK, pikhsen_stream_free(&stream));
+	memset(&stream, 0xA5, sizeof stream);
+	TOLD(STREAM, pikhsen_scrypt_encrypt_start(PASSWORD, FILE_SALT, COSTS, 1, WIDE, &stream, head, 96));
+	TOLD(STREAM, pikhsen_scrypt_encrypt_feed(&stream, out, 5));
+	TOLD(OK, pikhsen_stream_free(&stream));
+	WANT(stream.runs == 0 && live == before);
+}
+
 static void settings_of_texts(void)
 {
 	/* texts with a value out of range, by the number of the first; verify has one number for all of them */
@@ -437,7 +561,7 @@ static void messages(void)
 	size_t said_len, room;
 	unsigned int status;
 
-	for (status = 0; status <= PIKHSEN_TEXT_SALT_LENGTH + 1; ++status) {
+	for (status = 0; status <= PIKHSEN_STREAM + 1; ++status) {
 		WANT(pikhsen_message(status, said, sizeof said, &said_len) == PIKHSEN_OK);
 		WANT(said_len == strlen((char *)said) && said_len > 0);
 		room = said_len;
@@ -460,9 +584,9 @@ int main(void)
 	memset(twos, 2, sizeof twos);
 	memset(threes, 3, sizeof threes);
 	memset(fours, 4, sizeof fours);
-	/* from 7 to 11, and then from 0 to 6, of which each needs what those before it made */
-	for (i = 7; i < 19; ++i)
-		WANT(on_small_stack(calls_refused, i % 12, tag) == PIKHSEN_OK);
+	/* from 7 to 12, and then from 0 to 6, of which each needs what those before it made */
+	for (i = 7; i < 20; ++i)
+		WANT(on_small_stack(calls_refused, i % 13, tag) == PIKHSEN_OK);
 	/* RFC 7914, section 12, the first vector's last derivation has these first bytes; keep is 4 */
 	WANT(tag[0] == 0x77 && tag[1] == 0xd6 && tag[2] == 0x57 && tag[3] == 0x62);
 	WANT(strcmp((char *)encoded, (const char *)known) == 0);
@@ -476,6 +600,12 @@ int main(void)
 	WANT(costs.log_n == 4 && costs.r == 3 && costs.p == 2);
 	WANT(pikhsen_scrypt_info(file, 63, &costs) == PIKHSEN_TOO_SHORT);
 	in_place();
+	in_pieces(1, 300);
+	in_pieces(4095, 20000);
+	in_pieces(4096, 20000);
+	in_pieces(65536, 140000);
+	in_pieces(1000003, LONGEST);
+	streams();
 	with_a_secret();
 	any_password();
 	long_password();

@@ -33,6 +33,7 @@ CRATE = "pikhsen_c"
 STRICT = ["-std=c89", "-pedantic", "-Wall", "-Wextra", "-Werror", "-D_POSIX_C_SOURCE=200112L"]
 CPP = ["-Wall", "-Wextra", "-pedantic", "-Werror", "-Wold-style-cast", "-Wconversion", "-Wsign-conversion"]
 # -z now: to bind a name at its first call would store vector registers, and a piece of a key may be in these
+STREAMS = ("to-pieces", "of-pieces", "pieces-freed")
 WRAPPED = ["-Wl,-z,now", "-Wl,--wrap=malloc,--wrap=realloc,--wrap=free"]
 
 
@@ -186,10 +187,11 @@ def secrets_from_c(checks, folder, lib, pikhsen):
     levels = sorted(pathlib.Path(lib, "glibc-hwcaps").glob("*/libpikhsen.so.0"))
     of_levels = [program, *(over_shared(folder, it.parent.name, it.read_bytes()) for it in levels)]
     spoiled = over_shared(folder, "without-zeros", without_zeros(lib))
-    # a matrix of 64 KiB; a table of 64 rows, or 16, of 1,024 bytes, and two rows, or three; four rows of 128 bytes, and
-    # two; and such of 8 MiB
+    # a matrix of 64 KiB; a table of 64 rows, or 16, of 1,024 bytes, and two rows, or three; the block of a stream; four
+    # rows of 128 bytes, and two; and such of 8 MiB
     frees = {**dict.fromkeys(("hash", "encoded", "verify", "keyed-text", "keyed-test"), 65536),
              **dict.fromkeys(("key", "encrypt", "in-place", "decrypt", "wrong"), 67584),
+             **dict.fromkeys(STREAMS, 67584 + 2496),
              "sparse": 19456, "small-key": 768, "large-hash": 8388608, "large-key": 8390656}
     for what, freed in frees.items():
         told = numbers_of_header()["WRONG_PASSPHRASE"][0] if what == "wrong" else 0
@@ -238,7 +240,7 @@ def searches_from_c(checks, program, pikhsen):
     pieces = {**of_key, **rows, **blocks, **other_blocks}
     file = pikhsen.encrypt(bytes(1000), b"pw", salt=salt, log_n=6, r=8, p=1)
     # the first two show that the search finds a key, on the stack too
-    for what in ("kept", "stack", "hash", "encoded", "verify", "key", "sparse", "encrypt", "decrypt"):
+    for what in ("kept", "stack", "hash", "encoded", "verify", "key", "sparse", "encrypt", "decrypt", *STREAMS):
         searched(checks, [program, what], file if what == "decrypt" else b"", lambda process: kept_pieces(process, pieces),
                  sorted(of_key) if what in ("kept", "stack") else [])
     # a row stands in its own order only before it is turned

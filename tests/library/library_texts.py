@@ -23,10 +23,12 @@ IN_C = {
     "&[u8]": ("const unsigned char *NAME", "size_t NAME_len"), "&mut [u8]": ("unsigned char *NAME", "size_t NAME_len"),
     "&mut usize": ("size_t *NAME",), "&mut u32": ("unsigned int *NAME",), "&mut PikhsenScryptCosts": ("struct pikhsen_scrypt_costs *NAME",),
     "&PikhsenArgon2Settings": ("const struct pikhsen_argon2_settings *NAME",),
-    "&mut PikhsenArgon2Settings": ("struct pikhsen_argon2_settings *NAME",),
+    "&mut PikhsenArgon2Settings": ("struct pikhsen_argon2_settings *NAME",), "&mut PikhsenStream": ("pikhsen_stream *NAME",),
 }
 # The exports that want no memory, and derive and hash nothing.
 NO_MACHINE = ["pikhsen_message", "pikhsen_scrypt_info", "pikhsen_version"]
+# Those that nothing refuses.
+ALWAYS_DONE = ["pikhsen_stream_free", "pikhsen_version"]
 # The faults whose numbers have names of their own in the header; those of RangeFault begin with TEXT.
 RENAMED = {
     "CostFault::Memory": "MEMORY_LIMIT", "CostFault::Work": "WORK_LIMIT", "HeaderFault::Version": "FORMAT_VERSION",
@@ -147,7 +149,7 @@ def compare_texts(checks):
     checks.that("room of a sentence, of the header and the contract", short in SOURCES["message"], True)
     found = re.findall(r"^PIKHSEN_MUST_CHECK((?: PIKHSEN_NOT_NULL\(\d+\))*)\nunsigned int (\w+)", HEADER, re.MULTILINE)
     must_check = {name: [int(place) for place in re.findall(r"\d+", attributes)] for attributes, name in found}
-    checks.that("answers that must be looked at", sorted([*must_check, "pikhsen_version"]), sorted(exports()))
+    checks.that("answers that must be looked at", sorted([*must_check, *ALWAYS_DONE]), sorted(exports()))
     declared = prototypes(HEADER)
     for name, places in must_check.items():
         checks.that(f"header: what may not be null of {name}", places, never_null(declared[name][1]))

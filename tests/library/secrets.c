@@ -2,7 +2,8 @@
  * What calls of libpikhsen leave in memory and in vector registers, for tests/library/c_face.py, in five ways. CALL is hash,
  * encoded, verify, keyed-text and keyed-test (these two with a secret and data), key, sparse (a key over every fourth
  * row of the table), encrypt, in-place (encrypt in the text's place), decrypt, wrong (decrypt with a wrong passphrase),
- * small-key (over rows of 128 bytes), or large-hash and large-key (over 8 MiB).
+ * to-pieces and of-pieces (encrypt and decrypt by a stream, from its start to its end), pieces-freed (a stream that is
+ * fed and freed), small-key (over rows of 128 bytes), or large-hash and large-key (over 8 MiB).
  *
  * Makes one call, says "0" where it was told PIKHSEN_OK, and waits for the end of standard input, so that its memory
  * can be searched for the key, and for what the key was made of:
@@ -62,6 +63,28 @@ typedef unsigned int (*call_t)(void);
 #define WIDE most, most
 #define OF_TEXT encoded, strlen((char *)encoded), passphrase, 2
 
+/* Calls of a stream, until one is refused. */
+static unsigned int to_pieces(int is_freed)
+{
+	pikhsen_stream stream = PIKHSEN_STREAM_NEW;
+	unsigned int told = pikhsen_scrypt_encrypt_start(PW_AND_SALT, 6, 8, 1, 1, WIDE, &stream, file, 96);
+
+	memcpy(file + 96, text, 1000);
+	told = told ? told : pikhsen_scrypt_encrypt_feed(&stream, file + 96, 1000);
+	if (is_freed)
+		return told ? told : pikhsen_stream_free(&stream);
+	return told ? told : pikhsen_scrypt_encrypt_finish(&stream, file + 1096, 32);
+}
+
+static unsigned int of_pieces(void)
+{
+	pikhsen_stream stream = PIKHSEN_STREAM_NEW;
+	unsigned int told = pikhsen_scrypt_decrypt_start(passphrase, 2, 1, WIDE, file, 96, &stream);
+
+	told = told ? told : pikhsen_scrypt_decrypt_feed(&stream, file + 96, 1032, text, 1064, &len);
+	return told ? told : pikhsen_scrypt_decrypt_finish(&stream);
+}
+
 /* Each call: its name, the function that makes it, the one that makes what it needs, and what it is. */
 #define CALLS(DO) \
 	DO("hash", hash, NULL, pikhsen_argon2_hash(ARGON2ID(64), none, 0, none, 0, 64, most, key, 64)) \
@@ -75,6 +98,9 @@ typedef unsigned int (*call_t)(void);
 	DO("in-place", encrypt_in_place, NULL, pikhsen_scrypt_encrypt_in_place(PW_AND_SALT, 6, 8, 1, 1, WIDE, file, 1128)) \
 	DO("decrypt", decrypt, encrypt, pikhsen_scrypt_decrypt(passphrase, 2, 1, WIDE, file, 1128, text, 1128, &len)) \
 	DO("wrong", decrypt_wrongly, encrypt, pikhsen_scrypt_decrypt(passphrase, 1, 1, WIDE, file, 1128, text, 1128, &len)) \
+	DO("to-pieces", encrypt_pieces, NULL, to_pieces(0)) \
+	DO("of-pieces", decrypt_pieces, encrypt, of_pieces()) \
+	DO("pieces-freed", free_pieces, NULL, to_pieces(1)) \
 	DO("small-key", derive_small, NULL, pikhsen_scrypt(PW_AND_SALT, 2, 1, 1, 1, WIDE, key, 64)) \
 	DO("large-hash", hash_large, NULL, pikhsen_argon2_hash(ARGON2ID(8192), none, 0, none, 0, 8192, most, key, 64)) \
 	DO("large-key", derive_large, NULL, pikhsen_scrypt(PW_AND_SALT, 13, 8, 1, 1, WIDE, key, 64))

@@ -54,7 +54,9 @@ WHY = {
     **{("scrypt_request.specs.Request", f"{name}_seen"): SEEN for name in ("request", "encryption", "task")},
     ("pikhsen_c.specs.Heap", "one_more"): "one of two numbers of a record goes up by one",
     **{("pikhsen_c.specs.Heap", name): "`one_more` of one field of a record" for name in (
-        "asked_for_matrix", "asked_for_text", "asked_for_workspace", "asked_to_read")},
+        "asked_for_matrix", "asked_for_text", "asked_for_workspace", "asked_for_state", "asked_to_read")},
+    ("pikhsen_c.specs.File", "cores_to_open"): "`sparse_cores` of the salt and the costs of a header",
+    ("pikhsen_c.specs.Stream", "Of"): "a type of statements",
     ("scrypt_request.specs.Request", "text_of"): SEEN,
     ("scrypt_run.specs.Encrypting", "decided"): "a choice between `encrypted_file` and `body`",
     ("scrypt_run.specs.Decrypting", "text_after"): "`released_text` of two parts, one after the other",

@@ -71,8 +71,10 @@ def expect(is_there, document, name):
 # The libraries of the toolchain that README trusts, and no other: one of them, libc, writes to any descriptor in a call
 # that no contract sees.
 TRUSTED = {"base64", "byteorder", "clap", "hex", "sha2", "thiserror"}
+# The parts of std that proofs by hand cite, by their own names; code names none of them.
+CITED = {"core", "std_alloc", "std_heap"}
 for name in sorted({*sum(CRATES.values(), [])} - {*CRATES}):
-    expect(name in TRUSTED, "crates.txt", f"{name} among the libraries of the toolchain that may be used")
+    expect(name in TRUSTED | CITED, "crates.txt", f"{name} among the libraries of the toolchain that may be used")
 
 # What a crate stands on, with what its tests alone name: rt ci would miss it only after all below is proved.
 for crate, listed in CRATES.items():
@@ -81,6 +83,8 @@ for crate, listed in CRATES.items():
     named = set(named) & {*CRATES, *sum(CRATES.values(), [])} - {crate}
     expect(named == set(listed), "crates.txt", f"{crate} with what it names alone: {', '.join(sorted(named))}")
     expect(not any(it.endswith("_tests") for it in listed), "crates.txt", f"{crate} with no crate of tests below it")
+    cited = {*re.findall(r"\w+", re.sub(r"//.*", "", SOURCES[crate]))} & CITED & {*listed}
+    expect(not cited, "crates.txt", f"{crate} with code that names none of {', '.join(sorted(cited))}")
 
 # The index of tests/.
 INDEX = (TOP / "tests/README.md").read_text(encoding="utf-8")

@@ -113,9 +113,14 @@ in_c '.read(' "a text is read for its settings and for the test of a password" s
     fail "something comes after zeros were put over the stack: $found"
 expect 'Drop for ' "a drop at the end of a function for C comes after the zeros over the stack" \
     crates/argon/src/blocks.rt crates/romix/src/words.rt
-for text in 'forget' 'ManuallyDrop' 'leak(' 'into_raw('; do
+for text in 'forget' 'ManuallyDrop' 'leak(' 'into_raw_with_allocator' 'from_raw_with_allocator'; do
     expect "$text" "all memory that is taken is freed"
 done
+# But for the block of a stream, which is compared whole, below: what is taken out of a stream goes back to it or is wiped.
+expect 'into_raw(' "a box is a pointer where C keeps it" crates/pikhsen_c/src/stream.rt
+expect 'from_raw(' "a pointer is a box again where C kept it" crates/pikhsen_c/src/stream.rt
+in_c '.take(stream)' "each call of a stream takes its box once" streaming streaming streaming streaming streaming
+in_c 'Running::free(' "a box that is not put back is wiped and freed" streaming streaming streaming
 expect_below crates/scrypt_run 'Enc::start(' "a derivation for a new file is begun once" \
     crates/scrypt_run/src/encrypt.rt
 expect_below crates/scrypt_run 'Dec::open(' "a derivation for a file that is read is begun once" \
@@ -140,7 +145,7 @@ compare 517ce490602582aa9455c57ec6ad931061fe682925ad39d58fb298c2a0be3c7c crates/
 # What calls the system has the runtime, which `main` gets and hands to `Real` alone, or makes a file of a descriptor, which is
 # unsafe. A run has a type parameter in the place of `Real`, and gives the system back, so nothing comes after it.
 ! found=$(cd "$code" && grep -roHE '\b(Host|Libc)Runtime\b|\bfrom_raw_fd\b|\bunsafe\b[^(]' crates | sort -u |
-    grep -vE '^crates/(system_calls/src/\w+|(argon|scrypt)_tool/src/main|comparison/src/lib|\w+_tests/.*)\.rt:' |
+    grep -vE '^crates/(system_calls/src/\w+|(argon|scrypt)_tool/src/main|(comparison/src/lib|pikhsen_c/src/stream)|\w+_tests/.*)\.rt:' |
     grep -vxF crates/scrypt_request/src/refusal.rt:HostRuntime) || # which its test takes
     fail "the system may be called by what is not compared whole: $found"
 # Of the heap neither: that it is asked for what a clause says, once, and that want of memory is reported where the heap
@@ -156,8 +161,9 @@ compare 7d3dc1b3eea0508bb0be62cb014654feb9119cfeaa93e8dd80e6c85d09bbc733 crates/
 compare 59cb45b19577aead6a56a6f27d15e590e3245cd4ce4aeafedc03dd7d41f426a5 crates/argon_text/src/read_room.rt
 compare 0718e36ffe70d272a0a6b73aba7e9fef2fa7764476b1d37b1c674c9033809646 crates/argon_text/src/room.rt
 compare 50a6af06f1848ac1af58182b15162c01fe175a8ec12a83a2a9b56c243488e022 crates/argon_text/src/text_room.rt
-compare 7ceac213d49993b594a65a894df70c5fde5357a7ae1eac3af8c5b22669884931 crates/pikhsen_c/src/heap.rt
+compare a43246279fe59cbd96a4737519a2c29c6138b81674e07643751aae82806ba3e3 crates/pikhsen_c/src/heap.rt
 compare 3a1324cba20a5a03fbb4015d8da8bd52dffebec8c00f221b7f16718dd0e8a79b crates/pikhsen_c/src/reading.rt
+compare e101d196f2d544731499f8ca4aa86bfbfe9c3037559fd68cb967a175a16ed31d crates/pikhsen_c/src/stream.rt
 compare 9b460b315d4860e9eca8bc2e229a0912a4cfc94bc96eb8b0c52a4ac5928deaba crates/pikhsen_c/src/text.rt
 compare ae1f648147b1db7b90b1c5e05e9653dfc10352ff9519f44bd8b26f1bae7c7d41 crates/romix/src/held.rt
 compare 0ec632df7fd9d7f234b3cca79d5bfbeada870f37e8be4a37216514037b908449 crates/romix/src/reservation.rt
@@ -170,7 +176,7 @@ expect '!are_same(&front[64..], ' "the code of a header is compared over all its
 expect 'are_same(&self.bytes, code)' "the final code is compared over all its bytes" crates/encfile/src/held.rt
 expect 'difference |= left[i] ^ right[i];' "the comparison looks at every byte" crates/comparison/src/lib.rt
 compare fb4363fe3d8f4754cafa6a15c5c1d3a150f77cd070cfa0065e07306138c5f572 crates/comparison/src/lib.rt
-compare 73e8068b5e2372ec631f8eb42d7afce95fc89541c66f2a76578b05058eb9e2bf crates/pikhsen_c/src/burning.rt
+compare 4f12194db0189383d0aa91ecb54a9adfc8857a513e2a7b39fd5ed2e3cc32bfdd crates/pikhsen_c/src/burning.rt
 for text in '==' '!=' '.eq(' '.ne(' '.cmp(' '.starts_with(' '.position('; do
     for file in pikhsen_c/src/heap pikhsen_c/src/keyed pikhsen_c/src/reading pikhsen_c/src/source \
         pikhsen_c/src/verifying argon_text/src/verify_password; do

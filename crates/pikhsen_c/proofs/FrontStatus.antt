@@ -2,8 +2,14 @@
 use Rattle.std.proofs.Common.{◌≡◌, ◌≤◌, ℕ, List, length, refl}
 use Rattle.std.proofs.lemmas.Bool.{le-ltb}
 use Rattle.pikhsen_c.specs.File.{front_status, opening_status}
+use Rattle.pikhsen_c.specs.Stream.{decrypt_start_status}
 
 pub front_is : (file : List ℕ) (keep max_bytes max_ops out_len : ℕ) → length file ≤ out_len → 96 ≤ length file
     → front_status file keep max_bytes max_ops out_len ≡ opening_status file keep max_bytes max_ops
 front_is file keep max_bytes max_ops out_len room long =
     rw (le-ltb out_len (length file) room, le-ltb (length file) 96 long) refl
+
+-- the same of the start of a stream
+pub start_is : (runs : ℕ) (front : List ℕ) (keep max_bytes max_ops : ℕ) → runs ≡ 0 → 96 ≤ length front
+    → decrypt_start_status runs front keep max_bytes max_ops ≡ opening_status front keep max_bytes max_ops
+start_is runs front keep max_bytes max_ops idle long = rw (idle, le-ltb (length front) 96 long) refl

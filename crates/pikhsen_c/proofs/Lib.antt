@@ -1,3 +1,4 @@
+pub mod AsBox
 pub mod FirstTold
 pub mod FrontStatus
 pub mod MovedText

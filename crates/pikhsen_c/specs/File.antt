@@ -1,9 +1,10 @@
 -- What a caller gives to the functions for encrypted files, and what they answer.
 use Rattle.std.specs.Prelude.{ℕ, ◌==◌, not, ◌+◌, ◌^◌, nat_lt, nat_le, List, length, take, Option, Some, None, if◌then◌else◌}
-use Rattle.encfile.specs.Header.{costs_of}
+use Rattle.encfile.specs.Header.{costs_of, salt_of}
 use Rattle.encfile.specs.HeaderFaults.{header_fault}
 use Rattle.encfile.specs.declared.fault.HeaderFault.{HeaderFault}
 use Rattle.romix.specs.Costs.{Parameters}
+use Rattle.romix.specs.Sparse.{sparse_cores}
 use Rattle.pikhsen_c.specs.Scrypt.{costs_status, limits_status, sparse_given}
 use Rattle.pikhsen_c.specs.Status.{first_told, header_number, long_text, short_file, wrong_buffer, wrong_salt}
 
@@ -49,3 +50,8 @@ front_status file keep max_bytes max_ops out_len =
     if nat_lt out_len (length file) then wrong_buffer
     else if nat_lt (length file) 96 then short_file
     else opening_status file keep max_bytes max_ops
+
+-- the cores that are run to open a file under a passphrase, right or wrong
+abbrev pub cores_to_open : List ℕ → List ℕ → ℕ → ℕ
+cores_to_open passphrase file keep =
+    sparse_cores passphrase (salt_of (take 64 file)) (sparse_given (costs_of (take 64 file)) keep)

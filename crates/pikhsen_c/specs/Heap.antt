@@ -25,6 +25,19 @@ asked_for_workspace heap granted = record heap { workspaces = one_more heap.work
 abbrev pub asked_to_read : Heap → Bool → Heap
 asked_to_read heap granted = record heap { readings = one_more heap.readings granted }
 
+-- the same for the state of a stream
+abbrev pub asked_for_state : Heap → Bool → Heap
+asked_for_state heap granted = record heap { states = one_more heap.states granted }
+
+-- two requests at most, for the state of a stream and then for the memory of its derivation: want of memory is told where
+-- one of the two was refused, and none is made before any other refusal but that of a passphrase
+pub record AsksToStart (status : ℕ) (before after : Heap) : Type 0 where
+  pub asked : status ≡ 0 → after ≡ asked_for_workspace (asked_for_state before true) true
+  pub asked_if_wrong : status ≡ wrong_passphrase → after ≡ asked_for_workspace (asked_for_state before true) true
+  pub refused : status ≡ out_of_memory
+      → (after ≡ asked_for_state before false) ⊎ (after ≡ asked_for_workspace (asked_for_state before true) false)
+  pub unasked : status ≢ 0 → status ≢ out_of_memory → status ≢ wrong_passphrase → after ≡ before
+
 -- one request of a kind at most, of a hash, a derivation or an encryption: it was granted where the call did its work,
 -- refused where want of memory is told, and not made before any other refusal
 pub record AsksOnce (asked_for : Heap → Bool → Heap) (status : ℕ) (before after : Heap) : Type 0 where

@@ -4,6 +4,8 @@ pub mod Message
 pub mod Argon2
 pub mod Scrypt
 pub mod File
+pub mod Kept
+pub mod Stream
 pub mod Heap
 pub mod Settings
 pub mod Inside

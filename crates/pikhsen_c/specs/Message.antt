@@ -41,4 +41,5 @@ sentence_of status =
     else if status == 34 then codes "text: its memory is not 8 * lanes to 2^32-1 KiB"
     else if status == 35 then codes "text: its tag is not 4 to 4096 bytes long"
     else if status == 36 then codes "text: its salt is not 8 to 255 bytes long"
+    else if status == 37 then codes "file: the stream runs already, or does not run in this direction"
     else codes "unknown number"

@@ -98,6 +98,10 @@ range_number range.Memory = 34
 range_number range.TagLength = 35
 range_number range.SaltLength = 36
 
+-- the number of a stream that runs already, or does not run in this direction
+abbrev pub no_stream : ℕ
+no_stream = 37
+
 -- the first of two numbers, if it is not 0, or else the second
 abbrev pub first_told : ℕ → ℕ → ℕ
 first_told first second = if first == 0 then second else first

@@ -55,7 +55,7 @@ fn copy_zeros(words: &mut [u64])
 // Whether all words are 0. They are gathered in one vector of 512 bytes, as much as the sixteen vector registers of
 // x86-64-v3 hold, and twice what those of x86-64-v2 do. So the compiled code writes each of them, and zeros at the end.
 #[inline(never)]
-fn are_zeros(words: &[u64]) -> bool
+pub(crate) fn are_zeros(words: &[u64]) -> bool
     ensures zeros { words.now ≡ replicate (length words.now) 0 → result ≡ true }
 {
     let (blocks, rest) = words.as_chunks::<64>();

@@ -7,14 +7,14 @@ ghost use Rattle.encfile.specs.EncryptedFile.{HasRightHeaderCode, IsEncryptionOf
 ghost use Rattle.encfile.specs.Encrypting.{HasEncrypted};
 ghost use Rattle.encfile.specs.Header.{IsHeaderOf, costs_of, salt_of};
 ghost use Rattle.encfile.specs.HeaderFaults.{header_fault};
-ghost use Rattle.pikhsen_c.specs.File.{encrypt_status, front_status, header_status, lengths_status, number_of, opening_status};
+ghost use Rattle.pikhsen_c.specs.File.{cores_to_open, encrypt_status, front_status, header_status, lengths_status, number_of, opening_status};
 ghost use Rattle.pikhsen_c.specs.Heap.{AsksOnce, AsksToOpen, asked_for_workspace};
 ghost use Rattle.pikhsen_c.specs.Scrypt.{costs_given, limits_status, sparse_given};
 ghost use Rattle.pikhsen_c.specs.Status.{damaged, long_text, out_of_memory, wrong_passphrase};
 
 use crate::burning::{Told, burn};
 use crate::machine::Machine;
-use crate::scrypt::{costs_of, workspace};
+use crate::scrypt::{admitted, costs_of, workspace};
 use crate::source::Source;
 use crate::status;
 use encfile::{Dec, Enc, Header, TooLong};
@@ -80,6 +80,7 @@ fn tested_lengths(salt: &[u8], text_len: usize, out_len: usize) -> Result<(), u3
     ensures room { OnOk result (out_len ≡ text_len + 128) }
     ensures status { IfErr result (λ status. lengths_status (length salt.now) text_len out_len ≡ status) }
     ensures at_least_13 { IfErr result (λ status. 13 ≤ status) }
+    ensures other { IfErr result (λ status. status ≢ wrong_passphrase) }
 {
     if salt.len() != 32 {
         return Err(status::FILE_SALT);
@@ -90,6 +91,32 @@ fn tested_lengths(salt: &[u8], text_len: usize, out_len: usize) -> Result<(), u3
     if out_len != text_len + 128 {
         return Err(status::BUFFER);
     }
+    Ok(())
+}
+
+/// What an encryption is refused for before memory is asked for, if it is, by its number.
+pub(crate) fn tested_encryption(
+    salt: &[u8],
+    log_n: u32,
+    r: u32,
+    p: u32,
+    keep: u32,
+    max_bytes: u64,
+    max_ops: u64,
+    text_len: usize,
+    out_len: usize,
+) -> Result<(), u32>
+    ensures passed { OnOk result (encrypt_status (costs_given log_n r p) keep max_bytes max_ops
+        (length salt.now) text_len out_len ≡ 0) }
+    ensures status { IfErr result (λ status. encrypt_status (costs_given log_n r p) keep max_bytes max_ops
+        (length salt.now) text_len out_len ≡ status) }
+    ensures at_least_1 { IfErr result (λ status. 1 ≤ status) }
+    ensures other { IfErr result (λ status. status ≢ out_of_memory) }
+    ensures right { IfErr result (λ status. status ≢ wrong_passphrase) }
+{
+    let costs = costs_of(log_n, r, p)?;
+    tested_lengths(salt, text_len, out_len)?;
+    admitted(&costs, keep, max_bytes, max_ops)?;
     Ok(())
 }
 
@@ -273,8 +300,30 @@ fn front_of(file: &[u8]) -> [u8; 96]
     front
 }
 
-// A decryption after the first 96 bytes of a file, or the number of what the file is refused for.
-fn opened<S: Source>(
+/// What a file is refused for before memory is asked for, if it is, by its number.
+pub(crate) fn tested_opening(
+    file: &[u8],
+    keep: u32,
+    max_bytes: u64,
+    max_ops: u64,
+) -> Result<(), u32>
+    requires long { 96 ≤ length file.now }
+    ensures passed { OnOk result (opening_status file.now keep max_bytes max_ops ≡ 0) }
+    ensures status { IfErr result (λ status. opening_status file.now keep max_bytes max_ops ≡ status) }
+    ensures at_least_1 { IfErr result (λ status. 1 ≤ status) }
+    ensures other { IfErr result (λ status. status ≢ out_of_memory) }
+    ensures below { IfErr result (λ status. status < wrong_passphrase) }
+{
+    let header = match header_of(file) {
+        Ok(header) => header,
+        Err(status) => return Err(status),
+    };
+    admitted(header.costs(), keep, max_bytes, max_ops)?;
+    Ok(())
+}
+
+/// A decryption after the first 96 bytes of a file, or the number of what the file is refused for.
+pub(crate) fn opened<S: Source>(
     source: &mut S,
     passphrase: &[u8],
     keep: u32,
@@ -309,10 +358,8 @@ fn opened<S: Source>(
         ≡ S.after_workspace source.old (sparse_given (costs_of (take 64 file.now)) keep) max_bytes max_ops false) }
     // There is one derivation, after which the passphrase alone is refused.
     ensures no_work { IfErr result (λ status. status ≢ wrong_passphrase → ticks.new ≡ ticks.old) }
-    ensures count { OnOk result (ticks.new ≡ ticks.old
-        + sparse_cores passphrase.now (salt_of (take 64 file.now)) (sparse_given (costs_of (take 64 file.now)) keep)) }
-    ensures count_if_wrong { IfErr result (λ status. status ≡ wrong_passphrase → ticks.new ≡ ticks.old
-        + sparse_cores passphrase.now (salt_of (take 64 file.now)) (sparse_given (costs_of (take 64 file.now)) keep)) }
+    ensures count { OnOk result (ticks.new ≡ ticks.old + cores_to_open passphrase.now file.now keep) }
+    ensures count_if_wrong { IfErr result (λ status. status ≡ wrong_passphrase → ticks.new ≡ ticks.old + cores_to_open passphrase.now file.now keep) }
 {
     let header = match header_of(file) {
         Ok(header) => header,
@@ -406,10 +453,8 @@ fn decrypt_in<S: Source>(
         ≡ S.after_workspace source.old (sparse_given (costs_of (take 64 file.now)) keep) max_bytes max_ops false }
     // No derivation begins before these refusals are ruled out, and then one.
     ensures no_work { result ≢ 0 → result < wrong_passphrase → ticks.new ≡ ticks.old }
-    ensures count { result ≡ 0 → ticks.new ≡ ticks.old
-        + sparse_cores passphrase.now (salt_of (take 64 file.now)) (sparse_given (costs_of (take 64 file.now)) keep) }
-    ensures count_if_wrong { wrong_passphrase ≤ result → ticks.new ≡ ticks.old
-        + sparse_cores passphrase.now (salt_of (take 64 file.now)) (sparse_given (costs_of (take 64 file.now)) keep) }
+    ensures count { result ≡ 0 → ticks.new ≡ ticks.old + cores_to_open passphrase.now file.now keep }
+    ensures count_if_wrong { wrong_passphrase ≤ result → ticks.new ≡ ticks.old + cores_to_open passphrase.now file.now keep }
 {
     *text_len = 0;
     if out.len() < file.len() {
@@ -473,10 +518,8 @@ pub extern "C" fn pikhsen_scrypt_decrypt(
     ensures no_blocks { result.machine.blocks ≡ machine.blocks }
     // No derivation begins before these refusals are ruled out, and then one.
     ensures no_work { result.status ≢ 0 → result.status < wrong_passphrase → result.machine.cores ≡ machine.cores }
-    ensures count { result.status ≡ 0 → result.machine.cores ≡ machine.cores
-        + sparse_cores passphrase.now (salt_of (take 64 file.now)) (sparse_given (costs_of (take 64 file.now)) keep) }
-    ensures count_if_wrong { wrong_passphrase ≤ result.status → result.machine.cores ≡ machine.cores
-        + sparse_cores passphrase.now (salt_of (take 64 file.now)) (sparse_given (costs_of (take 64 file.now)) keep) }
+    ensures count { result.status ≡ 0 → result.machine.cores ≡ machine.cores + cores_to_open passphrase.now file.now keep }
+    ensures count_if_wrong { wrong_passphrase ≤ result.status → result.machine.cores ≡ machine.cores + cores_to_open passphrase.now file.now keep }
 {
     let mut machine = machine;
     let told = decrypt_in(

@@ -1,11 +1,12 @@
 //! The heap of the program that calls, as the functions for C have it: contracts see what was asked of it.
-ghost use Rattle.std.specs.Prelude.{◌≡◌, length, IfOk};
+ghost use Rattle.std.specs.Prelude.{◌≡◌, length, IfOk, Some, is_ok, is_some, true};
 ghost use Rattle.argon.specs.Range.{IsInRangeWithAnyPassword};
 ghost use Rattle.pikhsen_c.specs.Argon2.{kind_numbered, text_of_zeros};
-ghost use Rattle.pikhsen_c.specs.Heap.{asked_for_matrix, asked_for_text, asked_for_workspace, asked_to_read, one_more};
+ghost use Rattle.pikhsen_c.specs.Heap.{asked_for_matrix, asked_for_state, asked_for_text, asked_for_workspace, asked_to_read, one_more};
 
 use crate::reading::Reading;
 use crate::source::Source;
+use crate::stream::{PikhsenStream, Running};
 use crate::text::Text;
 use argon::{Kind, Matrix, Params};
 use argon_text::{Encoded, ReadFault, Room};
@@ -31,6 +32,7 @@ pub struct Heap {
     texts: Requests,
     workspaces: Requests,
     readings: Requests,
+    states: Requests,
 }
 
 impl Requests {
@@ -43,6 +45,30 @@ impl Requests {
         } else {
             self.refused.plus_one();
         }
+    }
+}
+
+impl Heap {
+    /// Takes the block of a stream, with zeros in it.
+    pub(crate) fn block(&mut self) -> Result<Box<Running, Global>, AllocError>
+        ensures asked { self.new ≡ asked_for_state self.old (is_ok result) }
+    {
+        let block = Box::new(self.alloc, Running::Over([0; 311]));
+        self.states.count(block.is_ok());
+        match block {
+            Ok(block) => Ok(block),
+            Err(_) => Err(AllocError),
+        }
+    }
+
+    /// What a stream keeps, which does not run any more.
+    pub(crate) fn take(&self, stream: &mut PikhsenStream) -> Box<Running, Global>
+        requires full { is_some stream.old.kept.value ≡ true }
+        ensures kept { stream.old.kept.value ≡ Some result.value }
+        ensures over { stream.new.runs ≡ 0 }
+    {
+        stream.runs = 0;
+        stream.kept.take(self.alloc)
     }
 }
 

@@ -19,6 +19,8 @@ mod scrypt;
 mod settings;
 mod source;
 mod status;
+mod stream;
+mod streaming;
 mod text;
 mod vectors;
 mod verifying;
@@ -37,5 +39,11 @@ pub use machine::Machine;
 pub use message::pikhsen_message;
 pub use scrypt::pikhsen_scrypt;
 pub use settings::{PikhsenArgon2Settings, pikhsen_argon2_needs_rehash, pikhsen_argon2_settings};
+pub use stream::{Kept, PikhsenStream, Running};
+pub use streaming::{
+    pikhsen_scrypt_decrypt_feed, pikhsen_scrypt_decrypt_finish, pikhsen_scrypt_decrypt_start,
+    pikhsen_scrypt_encrypt_feed, pikhsen_scrypt_encrypt_finish, pikhsen_scrypt_encrypt_start,
+    pikhsen_stream_free,
+};
 pub use verifying::pikhsen_argon2_verify;
 pub use version::pikhsen_version;

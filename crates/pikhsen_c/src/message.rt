@@ -49,6 +49,7 @@ fn sentence(status: u32) -> &'static str
         34 => "text: its memory is not 8 * lanes to 2^32-1 KiB",
         35 => "text: its tag is not 4 to 4096 bytes long",
         36 => "text: its salt is not 8 to 255 bytes long",
+        37 => "file: the stream runs already, or does not run in this direction",
         _ => "unknown number",
     }
 }

@@ -34,9 +34,14 @@ pub(crate) fn costs_of(log_n: u32, r: u32, p: u32) -> Result<Costs, u32>
     }
 }
 
-// The costs with the rows kept whose number `keep` divides, where `keep` may be and the limits admit it; or
+/// The costs with the rows kept whose number `keep` divides, where `keep` may be and the limits admit it; or
 // the number of the first fault.
-fn admitted(costs: &Costs, keep: u32, max_bytes: u64, max_ops: u64) -> Result<Sparse, u32>
+pub(crate) fn admitted(
+    costs: &Costs,
+    keep: u32,
+    max_bytes: u64,
+    max_ops: u64,
+) -> Result<Sparse, u32>
     ensures sparse { IfOk result (λ sparse. sparse ≡ sparse_given costs.now keep) }
     ensures fits { IfOk result (λ sparse. SparseFitsMemory sparse (2 ^ 40)) }
     ensures passed { OnOk result (limits_status (sparse_given costs.now keep) max_bytes max_ops ≡ 0) }

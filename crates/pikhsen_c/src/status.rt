@@ -51,6 +51,9 @@ pub(crate) const TOO_LONG: u32 = 29;
 /// The salt of a file has not 32 bytes.
 pub(crate) const FILE_SALT: u32 = 30;
 
+/// The stream runs already, or does not run in this direction.
+pub(crate) const STREAM: u32 = 37;
+
 /// The number of what Argon2's parameters are refused for: 1 to 8.
 pub(crate) fn of_params(fault: ParamFault) -> u32
     ensures number { result ≡ params_number fault }

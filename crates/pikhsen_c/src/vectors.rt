@@ -13,7 +13,8 @@ ghost use Rattle.pikhsen_c.specs.File.{encrypt_status, front_status, header_stat
 ghost use Rattle.pikhsen_c.specs.Message.{sentence_of};
 ghost use Rattle.pikhsen_c.specs.Scrypt.{costs_given, limits_given, number_of as number_of_costs, scrypt_status};
 ghost use Rattle.pikhsen_c.specs.Settings.{number_of as number_of_range, settings_told};
-ghost use Rattle.pikhsen_c.specs.Status.{costs_number, damaged, first_told, header_number, mismatch, not_encoded, out_of_memory, out_of_range, params_number, wrong_passphrase};
+ghost use Rattle.pikhsen_c.specs.Stream.{decrypt_start_status, encrypt_start_status};
+ghost use Rattle.pikhsen_c.specs.Status.{costs_number, damaged, first_told, header_number, mismatch, no_stream, not_encoded, out_of_memory, out_of_range, params_number, wrong_passphrase};
 
 // PIKHSEN_PASSES to PIKHSEN_WORK_LIMIT.
 fn numbers_of_parameters()
@@ -80,6 +81,7 @@ fn numbers_told_late()
     ensures mismatch { mismatch ≡ 16 }
     ensures wrong_passphrase { wrong_passphrase ≡ 27 }
     ensures damaged { damaged ≡ 28 }
+    ensures stream { no_stream ≡ 37 }
 {}
 
 // 0 tells no fault.
@@ -173,6 +175,16 @@ fn text_of_a_hash_with_a_secret()
         (codes "k") (codes "x") ≡ known_text }
 {}
 
+// The start of a stream: that none runs, and then what an encryption of a text of no bytes, or a file, is refused for.
+fn refusals_of_a_start()
+    ensures encryption { encrypt_start_status 1 (costs_given 64 0 1) 3 0 0 31 0 ≡ 37 }
+    ensures costs { encrypt_start_status 0 (costs_given 64 0 1) 3 0 0 31 0 ≡ 17 }
+    ensures head { encrypt_start_status 0 (costs_given 4 1 1) 4 512 160 32 95 ≡ 13 }
+    ensures none { encrypt_start_status 0 (costs_given 4 1 1) 4 512 160 32 96 ≡ 0 }
+    ensures decryption { decrypt_start_status 2 [] 1 0 0 ≡ 37 }
+    ensures short { decrypt_start_status 0 [] 1 0 0 ≡ 26 }
+{}
+
 // What the text of the reference program says.
 fn value_of_the_reference_program()
     ensures value { value_given (parameters_given 0 0x13 1 1 8 32 8 8) (codes "somesalt") known_value.tag ≡ known_value }
@@ -262,5 +274,6 @@ fn sentences_of_numbers()
     ensures text_memory { sentence_of 34 ≡ codes "text: its memory is not 8 * lanes to 2^32-1 KiB" }
     ensures text_tag { sentence_of 35 ≡ codes "text: its tag is not 4 to 4096 bytes long" }
     ensures text_salt { sentence_of 36 ≡ codes "text: its salt is not 8 to 255 bytes long" }
+    ensures stream { sentence_of 37 ≡ codes "file: the stream runs already, or does not run in this direction" }
     ensures other { sentence_of 1000 ≡ codes "unknown number" }
 {}

@@ -1,0 +1,110 @@
+//! A file in pieces: what the caller keeps between calls.
+ghost use Rattle.std.specs.Prelude.{◌≡◌, Option, Some, None, is_some, replicate, true};
+ghost use Rattle.pikhsen_c.specs.Inside.Running.{is_decryption, is_encryption, kept_is};
+ghost use Rattle.pikhsen_c.specs.declared.stream.Running.{Running};
+
+use crate::burning::are_zeros;
+use crate::status::OUT_OF_MEMORY;
+use encfile::{Dec, Enc};
+use std::alloc::Global;
+use std::marker::Model;
+
+/// A running encryption or decryption; or zeros in its place, with the number 0 before them that the first has.
+#[derive(Drop)]
+pub enum Running {
+    Over([u64; 311]),
+    Enc(Enc),
+    Dec(Dec),
+}
+
+const _: () = prove!(size_of::<Running>() == 2496);
+
+impl Running {
+    ghost use Rattle.pikhsen_c.specs.declared.stream.Running.TheVariants.{Over};
+
+    /// What runs in the box. Zeros are put in its place.
+    pub(crate) fn out_of(boxed: &mut Box<Running, Global>) -> Running
+        ensures same { result ≡ boxed.old.value }
+        ensures zeros { boxed.new.value ≡ Over (replicate 311 0) }
+    {
+        Box::replace(boxed, Running::Over([0; 311]))
+    }
+
+    /// Frees a box of zeros, and hands an answer on. No contract sees memory that is free, and the compiler may leave out
+    /// a write that nothing reads. So the zeros are read again, and the answer hangs on them, as that of `burn` does.
+    #[inline(never)]
+    pub(crate) fn free(boxed: Box<Running, Global>, told: u32) -> u32
+        requires zeros { boxed.value ≡ Over (replicate 311 0) }
+        ensures same { result ≡ told }
+    {
+        let is_wiped = match &*boxed {
+            Running::Over(words) => are_zeros(words),
+            _ => false,
+        };
+        drop(boxed);
+        if is_wiped { told } else { OUT_OF_MEMORY }
+    }
+}
+
+/// A box with a running encryption or decryption, as its pointer; or nothing, whatever the pointer. A box cannot cross
+/// to C, and this can. Its two calls are proved by hand.
+#[repr(C)]
+#[derive(Drop)]
+pub struct Kept {
+    at: *mut (),
+    ghost value: { Option Running },
+}
+
+impl Model for Kept {
+    ghost use Rattle.pikhsen_c.specs.Kept.{kept_owns};
+    ghost use Rattle.pikhsen_c.specs.contracts.stream.Running.{the_row};
+
+    ghost also_owns = { λ kept. kept_owns the_row kept.at kept.value };
+}
+
+impl Kept {
+    // The box, as its pointer.
+    fn of(boxed: Box<Running, Global>) -> Kept
+        ensures value { result.value ≡ Some boxed.value }
+    {
+        let at = Box::into_raw(boxed) as *mut ();
+        Kept { at }
+    }
+
+    /// The box again. Nothing is left.
+    pub(crate) fn take(&mut self, alloc: Global) -> Box<Running, Global>
+        requires full { is_some self.old.value ≡ true }
+        ensures value { self.old.value ≡ Some result.value }
+        ensures empty { self.new.value ≡ None }
+    {
+        unsafe { Box::from_raw(alloc, self.at as *mut Running) }
+    }
+}
+
+/// What runs.
+pub(crate) const ENCRYPTION: u8 = 1;
+
+pub(crate) const DECRYPTION: u8 = 2;
+
+/// What C keeps between the calls for a file in pieces: which of the two runs, or 0, and its box.
+#[repr(C)]
+#[derive(Drop)]
+pub struct PikhsenStream {
+    pub(crate) runs: u8,
+    pub(crate) kept: Kept,
+    ghost encryption: { runs ≡ 1 → kept_is is_encryption kept.value ≡ true },
+    ghost decryption: { runs ≡ 2 → kept_is is_decryption kept.value ≡ true },
+}
+
+impl PikhsenStream {
+    /// A stream in which this runs.
+    pub(crate) fn of(runs: u8, boxed: Box<Running, Global>) -> PikhsenStream
+        requires encryption { runs ≡ 1 → is_encryption boxed.value ≡ true }
+        requires decryption { runs ≡ 2 → is_decryption boxed.value ≡ true }
+        ensures runs { result.runs ≡ runs }
+        ensures kept { result.kept.value ≡ Some boxed.value }
+    {
+        let kept = Kept::of(boxed);
+        PikhsenStream { runs, kept }
+    }
+}
