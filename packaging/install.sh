@@ -53,9 +53,9 @@ taken_away() {
         "${line%%  *}")
             rm -f "$below/$name"
             test "$what" = uninstall || tell "took away $name below $below, which this install does not put there"
-            cache=${name%/*}/__pycache__
-            if test "${name##*/}" = __init__.py && inside "$cache/it"; then # what Python compiled of it
-                rm -f "$below/$cache"/__init__.*.pyc
+            cache=${name%/*}/__pycache__ module=${name##*/}
+            if test "$module" != "${module%.py}" && inside "$cache/it"; then # what Python compiled of it
+                rm -f "$below/$cache/${module%.py}".*.pyc
                 rmdir "$below/$cache" 2>/dev/null || true
             fi
             continue
@@ -121,7 +121,9 @@ if test -n "$library"; then
     place 644 include/pikhsen.h include
     page man/pikhsen.3 share/man/man3
     # py.typed tells checkers that the module has types. It counts in a folder of the module's own alone.
-    place 644 python/pikhsen.py "$python/pikhsen" __init__.py
+    for name in __init__.py _files.py; do
+        place 644 "python/pikhsen/$name" "$python/pikhsen"
+    done
     place 644 /dev/null "$python/pikhsen" py.typed
     sed "s|@PREFIX@|$(escaped "$prefix")|; s|@LIB@|$(escaped "$lib")|; s|@VERSION@|$(cat VERSION)|" \
         packaging/pikhsen.pc.in >"$work/pc"

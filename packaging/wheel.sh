@@ -30,7 +30,7 @@ if test -z "$python"; then
 fi
 
 install -D -m 644 -t "$work/wheel" python/pyproject.toml VERSION
-install -D -m 644 -T python/pikhsen.py "$work/wheel/pikhsen/__init__.py"
+install -D -m 644 -t "$work/wheel/pikhsen" python/pikhsen/__init__.py python/pikhsen/_files.py
 install -m 644 -T /dev/null "$work/wheel/pikhsen/py.typed"
 install -m 644 -t "$work/wheel/pikhsen" "$library/libpikhsen.so.0"
 # That for a higher level, where it was built.

@@ -44,7 +44,8 @@ INSTALLED = {
     **{f"share/bash-completion/completions/{it}": f"completions/bash/{it}" for it in ("argon2", "scrypt", "scrypt-ask")},
     **{f"share/zsh/site-functions/_{it}": f"completions/zsh/_{it}" for it in ("argon2", "scrypt")},
     **{f"share/doc/pikhsen/{it}": it for it in ("README.md", "CHANGELOG.md")},
-    "share/pikhsen/pikhsen/__init__.py": "python/pikhsen.py", "share/pikhsen/pikhsen/py.typed": "/dev/null",
+    **{f"share/pikhsen/pikhsen/{it}": f"python/pikhsen/{it}" for it in ("__init__.py", "_files.py")},
+    "share/pikhsen/pikhsen/py.typed": "/dev/null",
 }
 FLAGS = """prefix={}
 libdir=${{prefix}}/{}
@@ -311,7 +312,8 @@ def is_taken_away(checks, room):
         (to / name).unlink()
     (to / lib / "libpikhsen.so").symlink_to("libpikhsen.so.7")
     (to / "share/pikhsen/pikhsen/__pycache__").mkdir()
-    (to / "share/pikhsen/pikhsen/__pycache__/__init__.cpython-39.pyc").touch()
+    for name in ("__init__", "_files"):
+        (to / f"share/pikhsen/pikhsen/__pycache__/{name}.cpython-39.pyc").touch()
     left = dict.fromkeys(["bin/scrypt", "share/doc/pikhsen/README.md", "share/zsh/another"], b"another's")
     for name, text in left.items():
         (to / name).write_bytes(text)

@@ -26,7 +26,7 @@ import python_module
 import python_wheel
 from checking import Checks, is_there, said
 from library_texts import HEADER, TOP, numbers_of_header, prototypes, ran
-from shown import INCLUDE, compile_c, library_runs, logins_run
+from shown import INCLUDE, compile_c, library_runs, logins_run, pieces_run
 from tree import below
 
 CRATE = "pikhsen_c"
@@ -277,6 +277,7 @@ def main():
         if "--header" in sys.argv:
             from_c(checks, folder, os.path.abspath(sys.argv[2]), is_watched=False)
             logins_run(checks, folder, os.path.abspath(sys.argv[2]))
+            pieces_run(checks, folder, os.path.abspath(sys.argv[2]))
             checks.end()
         lib = build(checks, folder)
         from_c(checks, folder, lib)
@@ -285,6 +286,7 @@ def main():
         comparisons.tags_of_texts(checks, lib, folder)
         library_runs(checks, folder, lib)
         logins_run(checks, folder, lib)
+        pieces_run(checks, folder, lib)
         packages.all_of(checks, folder, lib)
         python_wheel.all_of(checks, folder, lib)
     checks.end()

@@ -15,7 +15,8 @@ sys.path += map(str, pathlib.Path(__file__).resolve().parents[1].iterdir())  # t
 from checking import Checks, is_there, said
 
 TOP = pathlib.Path(__file__).resolve().parents[2]
-HEADER, MODULE, PAGE = ((TOP / it).read_text(encoding="utf-8") for it in ("include/pikhsen.h", "python/pikhsen.py", "man/pikhsen.3"))
+HEADER, MODULE, PAGE = ((TOP / it).read_text(encoding="utf-8") for it in ("include/pikhsen.h", "python/pikhsen/__init__.py", "man/pikhsen.3"))
+FILES = (TOP / "python/pikhsen/_files.py").read_text(encoding="utf-8")
 SOURCES = {it.stem: it.read_text(encoding="utf-8") for it in sorted((TOP / "crates/pikhsen_c/src").glob("*.rt"))}
 # How the parameter NAME of a type of the sources is written in C.
 IN_C = {
@@ -178,17 +179,25 @@ def compare_texts(checks):
 
 # What passes bytes in some forms, and a text: mypy says so where it need not be told to leave that error out.
 CALLER = """import array
+import io
 import mmap
+import pathlib
 import pikhsen
+import socket
+import sys
 
 
 def costs(file: pikhsen.BytesLike) -> int:
     return pikhsen.info(file).log_n
 
 
-with mmap.mmap(-1, 128) as file:
+with mmap.mmap(-1, 128) as file, pikhsen.Encryptor(b"pw") as encryptor:
     print(costs(file), pikhsen.decrypt(file, array.array("B", b"pw"), keep=2), pikhsen.verify("text", bytearray(b"pw")))
+    print(encryptor.update(file) + encryptor.finish())
+pikhsen.encrypt_file(sys.stdin.buffer, pathlib.Path("file"), b"pw", progress=print)
+pikhsen.decrypt_file(socket.socket().makefile("rb"), io.BytesIO(), b"pw")
 pikhsen.info("file")  # type: ignore[arg-type]
+pikhsen.encrypt_file(sys.stdin, "file", b"pw")  # type: ignore[arg-type]
 """
 
 

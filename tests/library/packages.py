@@ -46,7 +46,7 @@ FILES = {
         "usr/include/pikhsen.h", f"{LIBRARIES}/libpikhsen.a", f"{LIBRARIES}/libpikhsen.so -> libpikhsen.so.0",
         f"{LIBRARIES}/pkgconfig/pikhsen.pc", "usr/share/man/man3/pikhsen.3.gz",
     ],
-    "python3-pikhsen": [f"{MODULES}/__init__.py", f"{MODULES}/py.typed"],
+    "python3-pikhsen": [f"{MODULES}/{it}" for it in ("__init__.py", "_files.py", "py.typed")],
 }
 # What dpkg reads of each package beside control and md5sums.
 CONTROL = {"pikhsen": [], "libpikhsen0": ["shlibs", "symbols", "triggers"], "libpikhsen-dev": [], "python3-pikhsen": ["postinst", "prerm"]}

@@ -1,7 +1,8 @@
 #!/usr/bin/env python3
 """Calls the module for Python over a built library: RFC vectors, hashlib, each byte of a file changed, each cut, files
-in place, files on a disk, settings of texts, salts of its own, buffers that it wipes, all forms of bytes, limits,
-exceptions, threads, processes, Ctrl-C, what help shows first, and libraries that it must refuse.
+in place, and in pieces and on a disk (tests/library/python_files.py), settings of texts, salts of its own, buffers that
+it wipes, all forms of bytes, limits, exceptions, threads, processes, what help shows first, and libraries that it must
+refuse.
 
     tests/library/python_module.py FOLDER      the folder in which libpikhsen.so.0 lies
 """
@@ -30,31 +31,11 @@ from binaries import runs_v3
 from checking import compiled, over_library
 from encoded_texts import work_of
 from library_texts import TOP
+from python_files import BELOW_CHEAP, CHEAP, files_of_python, refusal, refused
 from scrypt_files import of_costs
 from shown import LIBRARY, STORED, with_module
 
 VERSION = (TOP / "VERSION").read_text(encoding="utf-8").strip()
-CHEAP = {"log_n": 4, "r": 1, "p": 1}
-# One less than files of these costs need.
-BELOW_CHEAP = ("MEMORY_LIMIT", {"max_bytes": 2047}), ("WORK_LIMIT", {"max_ops": 63})
-
-
-def refusal(call, *arguments, **named):
-    """The name of the status with which a call is refused, what the system says, or an exception; None where it is not."""
-    try:
-        call(*arguments, **named)
-    except Exception as told:  # the module's own, which is loaded by name
-        system_says = getattr(told, "strerror", None)
-        return getattr(getattr(told, "status", None), "name", system_says or type(told).__name__)
-    return None
-
-
-def refused(checks, rows, call, *arguments, **named):
-    """Each of these changes of what a call is given is refused, for the reason beside it."""
-    for why, others in rows:
-        checks.that(f"{call.__name__}, {why}: {others}", refusal(call, *arguments, **{**named, **others}), why)
-
-
 # RFC 9106, 5.1 to 5.3
 TAGS = {
     "D": "512b391b6f1162975371d30919734294f868e3be3984f3c1a13a4db9fabe4acb",
@@ -279,138 +260,6 @@ def large_from_python(checks, folder, lib):
     large.unlink()
 
 
-def leaves(checks, why, file, left, call, *arguments, **named):
-    """A call is refused for this reason, and leaves a file with these bytes, or none."""
-    found = refusal(call, *arguments, **named), file.read_bytes() if file.exists() else None
-    checks.that(f"{call.__name__}, {why}: {arguments[:1]} {named}", found, (why, left))
-
-
-def kept_files_from_python(checks, pikhsen, folder):
-    """Files on a disk: what `encrypt` makes and `decrypt` gives, in a new file, which is gone after a refusal."""
-    salt, exists, full = b"s" * 32, os.strerror(errno.EEXIST), os.strerror(errno.ENOSPC)
-    text, file, again, right = (pathlib.Path(folder, it) for it in ("text", "text.scrypt", "again", "right"))
-    for content in (b"", b"Dear Ada", bytes(range(256)) * 300):
-        text.write_bytes(content)
-        pikhsen.encrypt_file(text, str(file), b"pw", salt=salt, keep=4, **CHEAP)
-        whole = file.read_bytes()
-        checks.that(f"file, {len(content)}", whole, pikhsen.encrypt(content, b"pw", salt=salt, **CHEAP))
-        pikhsen.decrypt_file(os.fsencode(file), again, b"pw", keep=4)
-        checks.that(f"text of a file, {len(content)}", again.read_bytes(), content)
-        checks.that("modes of new files", [it.stat().st_mode & 0o777 for it in (file, again)], [0o600] * 2)
-        leaves(checks, exists, file, whole, pikhsen.encrypt_file, text, file, b"pw")
-        leaves(checks, exists, again, content, pikhsen.decrypt_file, file, again, b"pw")
-        again.unlink()
-        for why, given, named in (
-            ("DAMAGED", whole[:-1], {}), ("DAMAGED", whole + b"x", {}), ("CHECKSUM", whole[:63] + b"x" * 65, {}),
-            ("WRONG_PASSPHRASE", whole, {"passphrase": b"PW"}), ("TOO_SHORT", whole[:95], {}), ("TOO_SHORT", b"", {}),
-            *((why, whole, named) for why, named in BELOW_CHEAP), ("KEEP", whole, {"keep": 3}), ("MAGIC", b"x" * 200, {}),
-        ):
-            file.write_bytes(given)
-            leaves(checks, why, again, None, pikhsen.decrypt_file, file, again, **{"passphrase": b"pw", **named})
-            checks.that(f"decrypt_file, {why}: its source", file.read_bytes(), given)
-        file.unlink()
-    for why, named in (("LOG_N", {"log_n": 0}), ("FILE_SALT", {"salt": b"s" * 31}), *BELOW_CHEAP):
-        leaves(checks, why, file, None, pikhsen.encrypt_file, text, file, b"pw", **{**CHEAP, **named})
-    os.mkfifo(f"{folder}/pipe")
-    for name in (f"{folder}/pipe", folder, "/dev/null", "/proc/version"):
-        why = os.strerror(errno.EISDIR) if name == folder else "ValueError"
-        leaves(checks, why, file, None, pikhsen.encrypt_file, name, file, b"pw")
-        leaves(checks, why, file, None, pikhsen.decrypt_file, name, file, b"pw")
-    pikhsen.encrypt_file(text, right, b"pw", **CHEAP)
-    with open(file, "wb+") as opened:
-        for call, source, target in (
-            (pikhsen.encrypt_file, text, opened.fileno()), (pikhsen.decrypt_file, right, opened.fileno()),
-            (pikhsen.encrypt_file, opened.fileno(), again), (pikhsen.decrypt_file, opened.fileno(), again),
-        ):
-            leaves(checks, "TypeError", file, b"", call, source, target, b"pw")
-    file.unlink()
-
-    def meanwhile(steps):
-        for step in steps:
-            step()
-        raise OSError(errno.ENOSPC, full)
-
-    for steps, left in (((file.unlink, lambda: file.write_bytes(b"of another")), b"of another"), ((file.unlink,), None), ((), None)):
-        with mock.patch.object(os, "posix_fallocate", lambda *_: meanwhile(steps)):
-            leaves(checks, full, file, left, pikhsen.encrypt_file, text, file, b"pw", **CHEAP)
-        file.unlink(missing_ok=True)
-    about = pathlib.Path("/proc/meminfo").read_text(encoding="ascii")
-    memory = sum(map(int, re.findall(r"^(?:Mem|Swap)Total: +(\d+)", about, re.MULTILINE))) << 10
-    file.touch()
-    os.truncate(file, memory + (1 << 30))
-    checks.that("a file larger than the memory", len(pikhsen._content(file)), memory + (1 << 30))
-    file.unlink()
-    checks.that("an empty name", refusal(pikhsen.encrypt_file, text, "", b"pw"), exists)
-    pikhsen.encrypt_file(text, file, b"pw", **CHEAP)
-    checks.that("salts of two files", file.read_bytes()[16:48] == right.read_bytes()[16:48], False)
-    file.unlink()
-
-
-def disk_from_python(checks, pikhsen, folder):
-    """Of a file above 16 MiB limits and passphrase are tested before the disk is asked for room. A new file and its name
-    are synced; a folder that the file system does not sync, or that may not be read, is no failure."""
-    source, target = (pathlib.Path(folder, it) for it in ("sparse", "target"))
-    for more in (0, 1):
-        source.write_bytes(pikhsen.encrypt(b"", b"pw", **CHEAP)[:96])
-        os.truncate(source, (1 << 24) + more)
-        for why, named in (("WRONG_PASSPHRASE", {"passphrase": b"PW"}), ("KEEP", {"keep": 3}), *BELOW_CHEAP, ("DAMAGED", {})):
-            with mock.patch.object(os, "posix_fallocate", wraps=os.posix_fallocate) as room:
-                leaves(checks, why, target, None, pikhsen.decrypt_file, source, target, **{"passphrase": b"pw", **named})
-            checks.that(f"{why}, 16 MiB and {more}: asked for room", room.call_count, 1 if why == "DAMAGED" else 1 - more)
-    os.truncate(source, 0)
-    synced, opening = [], os.open
-
-    def noted(opened, number):
-        synced.append(os.readlink(f"/proc/self/fd/{opened}"))
-        if number and len(synced) == 2:
-            raise OSError(number, os.strerror(number))
-
-    def unreadable(name, flags, *mode):
-        if flags & os.O_DIRECTORY:
-            raise PermissionError
-        return opening(name, flags, *mode)
-
-    for number, instead in ((0, opening), (errno.EINVAL, opening), (errno.EIO, opening), (0, unreadable)):
-        why = os.strerror(number) if number == errno.EIO else None
-        synced.clear()
-        with mock.patch.object(os, "fsync", lambda opened: noted(opened, number)), mock.patch.object(os, "open", instead):
-            found = refusal(pikhsen.encrypt_file, source, target, b"pw", **CHEAP)
-        names = [str(target), folder][:1 if instead is unreadable else 2]
-        checks.that(f"synced, {number} {instead.__name__}", (found, target.exists(), synced), (why, why is None, names))
-        target.unlink(missing_ok=True)
-
-
-LARGE = """import pathlib, pikhsen, resource, sys, threading
-text, file, again = sys.argv[1:]
-done, most = threading.Event(), [0]
-def watch():
-    while not done.wait(0.001):
-        lines = pathlib.Path("/proc/self/status").read_text().splitlines()
-        most.append(next(int(it.split()[1]) for it in lines if it.startswith("RssAnon")))
-watching = threading.Thread(target=watch, daemon=True)
-watching.start()
-pikhsen.encrypt_file(text, file, b"pw", log_n=4)
-pikhsen.decrypt_file(file, again, b"pw")
-done.set()
-watching.join()
-print(max(most) < 32 << 10, len(most) > 10)
-resource.setrlimit(resource.RLIMIT_FSIZE, (1 << 20, resource.RLIM_INFINITY))
-pathlib.Path(again).unlink()
-try:
-    pikhsen.decrypt_file(file, again, b"pw")
-except OSError as refused:
-    print(refused.strerror, pathlib.Path(again).exists())
-"""
-
-
-def large_files_from_python(checks, folder, lib):
-    """128 MiB on a disk go through less than 32 MiB of memory; where the disk has no room, no file is left."""
-    names = [f"{folder}/{it}" for it in ("large", "large.scrypt", "text of large")]
-    with open(names[0], "wb") as large:
-        large.truncate(1 << 27)
-    checks.that("128 MiB on a disk", with_module(lib, "-c", LARGE, *names)[1], "True True\nFile too large False\n")
-
-
 def threads_from_python(checks, pikhsen):
     """Many calls side by side give what they give one after another."""
     def work(number):
@@ -422,32 +271,6 @@ def threads_from_python(checks, pikhsen):
     with concurrent.futures.ThreadPoolExecutor(8) as pool:
         together = list(pool.map(work, range(64)))
     checks.that("threads", together == [work(number) for number in range(64)], True)
-
-
-INTERRUPTED = """import os, pikhsen, signal, sys, threading, time
-signal.signal(signal.SIGINT, signal.default_int_handler)
-def interrupt():
-    # while the table is being filled: it has 256 MiB in all
-    while int(open("/proc/self/statm").read().split()[1]) < 1 << 14:
-        time.sleep(0.001)
-    os.kill(os.getpid(), signal.SIGINT)
-buffer = bytearray(200)
-for call in (lambda: pikhsen.encrypt_file(*sys.argv[1:], b"pw", log_n=18), lambda: pikhsen.encrypt_in_place(buffer, b"pw", log_n=18)):
-    threading.Thread(target=interrupt, daemon=True).start()
-    try:
-        call()
-    except KeyboardInterrupt:
-        print(os.path.exists(sys.argv[2]), bytes(buffer[:6]))
-"""
-
-
-def interrupted(checks, folder, lib):
-    """Ctrl-C during a call: that goes on to its end, and KeyboardInterrupt is raised. No new file is left."""
-    names = [f"{folder}/{it}" for it in ("short", "short.scrypt")]
-    pathlib.Path(names[0]).write_bytes(b"Dear Ada")
-    found = with_module(lib, "-c", INTERRUPTED, *names, timeout=120)
-    zeros = bytes(6)
-    checks.that("Ctrl-C during a call", found, (0, f"False {zeros}\nFalse {b'scrypt'}\n"))
 
 
 class Longer(bytes):
@@ -566,11 +389,12 @@ def signatures_from_python(checks, pikhsen):
         whole = re.sub("[A-Z]{4,}", lambda it: words[it[0]], short)
         told[name] = parameters_of(eval(f"lambda {whole}: 0", vars(pikhsen))), result
     functions = {it: getattr(pikhsen, it) for it in pikhsen.__all__ if inspect.isfunction(getattr(pikhsen, it))}
-    annotated = {name: inspect.signature(it).return_annotation for name, it in functions.items()}
+    annotated = {name: getattr(inspect.signature(it).return_annotation, "__name__", "None") for name, it in functions.items()}
+    streams = {it.__name__: it for it in (pikhsen.Encryptor, pikhsen.Decryptor)}
     checks.that("signatures at the head of the module", told, {
-        name: (parameters_of(it), getattr(annotated[name], "__name__", "None")) for name, it in functions.items()})
+        name: (parameters_of(it), annotated.get(name, name)) for name, it in {**functions, **streams}.items()})
     lines = pydoc.plain(pydoc.render_doc(pikhsen)).splitlines()
-    late = [it for it in functions if not any(line.strip().startswith(f"{it}(") for line in lines[:60])]
+    late = [it for it in told if not any(line.strip().startswith(f"{it}(") for line in lines[:60])]
     checks.that("functions that help does not show in its first 60 lines", late, [])
     checks.that("LIBRARY's table of functions", re.findall(r"^\| `(\w+\(.*\) -> \w+)` \| (.*) \|$", LIBRARY, re.MULTILINE), rows)
     checks.that("LIBRARY's words of that table", dict(re.findall(r"^\| `([A-Z]+)` \| `(.*)` \|$", LIBRARY, re.MULTILINE)), words)
@@ -710,7 +534,8 @@ def installed_for_levels(checks, folder, lib, other):
         higher = lower.parent / "glibc-hwcaps/x86-64-v3" / lower.name
         for parent in (module.parent, higher.parent):
             parent.mkdir(parents=True, exist_ok=True)
-        shutil.copy(TOP / "python/pikhsen.py", module)
+        for source in (TOP / "python/pikhsen").glob("*.py"):
+            shutil.copy(source, module.parent)
         shutil.copy(f"{lib}/libpikhsen.so.0", lower)
         variables = {"PYTHONPATH": str(module.parent.parent), "PIKHSEN_LIBRARY": None}
         for name, expected in (("of the lower level", VERSION), ("of the higher level", "0.1.99" if runs_v3() else VERSION)):
@@ -740,10 +565,7 @@ def calls(checks, folder, lib):
         part(checks, pikhsen)
     large_from_python(checks, folder, lib)
     with tempfile.TemporaryDirectory(dir=folder) as kept:
-        kept_files_from_python(checks, pikhsen, kept)
-        disk_from_python(checks, pikhsen, kept)
-        large_files_from_python(checks, kept, lib)
-        interrupted(checks, kept, lib)
+        files_of_python(checks, pikhsen, kept, lib)
     libraries_of_python(checks, pikhsen, folder, lib)
     return pikhsen
 

@@ -38,7 +38,8 @@ def made(lib, out, umask):
 def contents(checks, wheel, lib):
     """The module and the libraries are there as they are in the tree, for all to read; and what the wheel says of itself."""
     libraries = {f"pikhsen/{it}": pathlib.Path(lib, it) for it in ("libpikhsen.so.0", HIGHER) if pathlib.Path(lib, it).is_file()}
-    sources = {"pikhsen/__init__.py": TOP / "python/pikhsen.py", "pikhsen/py.typed": pathlib.Path("/dev/null"), **libraries}
+    modules = {f"pikhsen/{it}": TOP / "python/pikhsen" / it for it in ("__init__.py", "_files.py")}
+    sources = {**modules, "pikhsen/py.typed": pathlib.Path("/dev/null"), **libraries}
     with zipfile.ZipFile(wheel) as packed:
         files = {it.filename: oct(it.external_attr >> 16 & 0o777) for it in packed.infolist()}
         read = {it: packed.read(it) for it in files}

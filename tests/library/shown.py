@@ -2,8 +2,10 @@
 import os
 import pathlib
 import re
+import subprocess
 import sys
 
+from checking import is_there
 from library_texts import PAGE, TOP, ran
 
 INCLUDE = ["-I", str(TOP / "include")]
@@ -96,6 +98,51 @@ int main(int count, char **words) {
 """
 
 
+def examples_of_page():
+    """What the manual page shows, in its order."""
+    section = PAGE.split("\n.SH EXAMPLES\n")[1].replace("\\e", "\\")
+    return re.findall(r"\n\.nf\n(.*?\n)\.fi\n", section, re.DOTALL)
+
+
+def pieces_run(checks, folder, lib):
+    """The manual page's program for files in pieces: what it writes, opens and refuses, and when it says that what was
+    written is to be deleted."""
+    source, program = pathlib.Path(folder, "pieces.c"), f"{folder}/pieces"
+    source.write_text(examples_of_page()[2].replace("17, 8, 1, 1,", "10, 8, 1, 1,"), encoding="utf-8")
+    checks.that("the manual page's program, compiled", compile_c(source, lib, program, True, "-Wall", "-Wextra", "-Werror"), (0, ""))
+
+    def run(word, given, passphrase="pw", end="", out=subprocess.PIPE):
+        variables = {**os.environ, "PASSPHRASE": passphrase}
+        done = subprocess.run([program, word], input=given, stdout=out, stderr=subprocess.PIPE, env=variables)
+        return done.returncode, done.stdout, done.stderr.decode().replace("; delete what was written\n", " (written)\n")
+
+    for length in (0, 5, 300000):
+        text = bytes(it * 7 % 251 for it in range(length))
+        status, file, said = run("enc", text)
+        checks.that(f"the manual page's program, {length} bytes", (status, len(file), said), (0, length + 128, ""))
+        checks.that(f"the manual page's program opens {length} bytes", run("dec", file), (0, text, ""))
+    checks.that("the manual page's program, at lower costs", file[:16], b"scrypt\0\x0a\0\0\0\x08\0\0\0\x01")
+    if is_there("scrypt", "no other program opens what the manual page's program made"):
+        found = subprocess.run(["scrypt", "dec", "--passphrase", "env:PASSPHRASE", "-"], input=file, stdout=subprocess.PIPE,
+                               env={**os.environ, "PASSPHRASE": "pw"})
+        checks.that("scrypt opens what the manual page's program made", (found.returncode, found.stdout), (0, text))
+    damaged = "file: it is damaged, or cut short, after its first 96 bytes (written)\n"
+    for name, given, out, said in (
+        ("a byte changed", file[:-1] + bytes([file[-1] ^ 1]), text, damaged), ("cut", file[:200000], text[:200000 - 128], damaged),
+        ("longer", file + b"x", None, damaged), ("short", file[:95], b"", "file: it is shorter than 96 bytes, or than 64 to read its costs alone\n"),
+    ):
+        status, found, told = run("dec", given)
+        checks.that(f"the manual page's program, {name}", (status, told), (1, said))
+        checks.that(f"the manual page's program, {name}: what was written", found if out is not None else None, out)
+    checks.that("the manual page's program, another passphrase", run("dec", file, "PW"), (1, b"", "file: the passphrase is not the file's\n"))
+    checks.that("the manual page's program, no passphrase", run("enc", b"", ""), (1, b"", "PASSPHRASE is not set\n"))
+    checks.that("the manual page's program, another word", run("encrypt", b""), (1, b"", "the word is enc or dec\n"))
+    with open("/dev/full", "wb") as full:
+        checks.that("the manual page's program, a full disk", run("enc", b"", out=full)[::2], (1, "the output cannot be written (written)\n"))
+    found = ran("sh", "-c", f"PASSPHRASE=pw {program} enc <{folder} 2>&1 >/dev/null")
+    checks.that("the manual page's program, a folder", found, (1, "the input cannot be read; delete what was written\n"))
+
+
 def logins_run(checks, folder, lib):
     """What the pages' logins say of texts of other programs, of those that ask for more, and of wrong passwords; they enrol
     no empty one."""
@@ -111,8 +158,7 @@ def logins_run(checks, folder, lib):
     for text, said in zip([*TEXTS, *GREAT], says):
         pathlib.Path(folder, "stored").write_text(text + "\n", encoding="utf-8")
         checks.that(f"README's check, of {text[:34]}", with_module(lib, "-c", of_readme, cwd=folder), (0, f"{said}\n"))
-    parts = re.findall(r"\n\.nf\n(.*?)\n\.fi\n", PAGE.split("\n.SH EXAMPLES\n")[1], re.DOTALL)
-    enrol, check = (it.replace("\n", "\n    ") for it in parts)
+    enrol, check = (it.replace("\n", "\n    ") for it in examples_of_page()[:2])
     source.write_text(OF_PAGE.replace("ENROL", enrol).replace("CHECK", check), encoding="utf-8")
     checks.that("the manual page's example, compiled", compile_c(source, lib, program, True, "-Wall", "-Wextra", "-Werror"), (0, ""))
     checks.that("the manual page's example", ran(program), (0, "welcome\n"))

@@ -1,6 +1,6 @@
 #!/usr/bin/env python3
 """Compares each value of docs/values.tsv with all places in which it stands: code and definitions in crates/, manual pages,
-completions of zsh, and of bash as bash itself completes, include/pikhsen.h, python/pikhsen.py, README.md and docs/.
+completions of zsh, and of bash as bash itself completes, include/pikhsen.h, python/pikhsen/, README.md and docs/.
 
     tests/pages/values.py
     tests/pages/values.py --figures   prints the rows `figures` that the manual pages would have as they stand, to be read and
@@ -434,13 +434,22 @@ def library():
     library_texts.compare_texts(CHECKS)
 
 
+def functions_of_module():
+    """Each function of the module, and what makes an object of each of its classes, by its name."""
+    for node in (*ast.parse(library_texts.MODULE).body, *ast.parse(library_texts.FILES).body):
+        if isinstance(node, ast.FunctionDef):
+            yield node.name, node
+        elif isinstance(node, ast.ClassDef):
+            yield from ((node.name, it) for it in node.body if isinstance(it, ast.FunctionDef) and it.name == "__init__")
+
+
 def module():
     """The defaults of each function of the module; and what must stand in several texts in the same words, and how often."""
     kinds, made = {f"Kind.{name}": int(it) for it, name in rows("kind")}, []
-    for node in ast.parse(library_texts.MODULE).body:
-        if isinstance(node, ast.FunctionDef) and not node.name.startswith("_"):
-            that(f"{node.name}: nothing that may be left out stands before *", node.args.defaults, [])
-            made += [[node.name, it.arg, repr(value_of(default, kinds)) if default else "-"]
+    for name, node in functions_of_module():
+        if not name.startswith("_"):
+            that(f"{name}: nothing that may be left out stands before *", node.args.defaults, [])
+            made += [[name, it.arg, repr(value_of(default, kinds)) if default else "-"]
                      for it, default in zip(node.args.kwonlyargs, node.args.kw_defaults)]
     that("defaults of the module", sorted(made), sorted([name, it, value or "-"] for name, it, value in rows("default")))
     major = text_of("VERSION").split(".")[0]

@@ -1,6 +1,6 @@
 """Argon2, scrypt and scrypt's encrypted files, by libpikhsen.
 
-These are all functions; `help(pikhsen.verify)` says everything about one.
+These are all calls; `help(pikhsen.verify)` says everything about one.
 
 Hashes of passwords, by Argon2:
 
@@ -26,10 +26,14 @@ Encrypted files and keys, by scrypt:
         the encrypted file of a text
     decrypt(file, passphrase, *, BOUNDS) -> bytes
         the text of an encrypted file
-    encrypt_file(source, target, passphrase, *, salt=None, COSTS) -> None
-        makes an encrypted file on a disk of another file
-    decrypt_file(source, target, passphrase, *, BOUNDS) -> None
-        makes a file on a disk of an encrypted one
+    encrypt_file(source, target, passphrase, *, salt=None, progress=None, COSTS) -> None
+        encrypts a file of any length
+    decrypt_file(source, target, passphrase, *, progress=None, BOUNDS) -> None
+        decrypts a file of any length
+    Encryptor(passphrase, *, salt=None, COSTS) -> Encryptor
+        encrypts in pieces, by `update` and `finish`
+    Decryptor(passphrase, *, BOUNDS) -> Decryptor
+        decrypts in pieces, by `update` and `finish`
     encrypt_in_place(buffer, passphrase, *, salt=None, COSTS) -> None
         puts the encrypted file into the buffer of its text
     info(file) -> Costs
@@ -58,9 +62,9 @@ For example:
     b'Dear Ada'
 
 Passwords, salts and files are bytes, or anything else that holds bytes: a bytearray, a memoryview, an mmap. A text
-raises TypeError: `password.encode()` gives its bytes. Files on a disk, which may be larger than the memory, are for
-`encrypt_file` and `decrypt_file`. A refusal raises Refused, whose `status` says why, and numbers that are out of range
-raise Invalid, a ValueError.
+raises TypeError: `password.encode()` gives its bytes. Files that may be larger than the memory are for `encrypt_file`
+and `decrypt_file`, or, in pieces that a program makes itself, for Encryptor and Decryptor. A refusal raises Refused,
+whose `status` says why, and numbers that are out of range raise Invalid, a ValueError.
 
 Limits: `max_kib` is in KiB, `max_bytes` in bytes. The work of Argon2 is counted in block functions, one for each KiB
 and pass and a few more; that of scrypt in cores of Salsa20/8, 4 * r * p * 2 ** log_n of them with `keep` 1. On a Xeon
@@ -68,34 +72,33 @@ of 2.5 GHz a million block functions took 0.7 to 2.1 seconds, most at 256 MiB, a
 allows, 20 to 27.
 
 Ctrl-C does not shorten a call: it goes on to its end, and then KeyboardInterrupt is raised in place of its result.
-`encrypt_file` and `decrypt_file` then remove their new file; the buffer of `encrypt_in_place` may hold the file. So
-limits are what bounds the time. Ctrl-\\ ends the process at once, and leaves a part of a new file. A call that somebody
-may want to stop is best made in a process of its own.
+`encrypt_file` and `decrypt_file` heed it after the key, and after each piece, and leave no new file; the buffer of
+`encrypt_in_place` may hold the file. So limits are what bounds the time. Ctrl-\\ ends the process at once, and leaves a
+part of a new file, under a name that begins with ".pikhsen-". A call that somebody may want to stop is best made in a
+process of its own.
 
-Threads and processes: a call lets other threads run meanwhile, and any number of calls may run at a time. Work is best
-spread over threads; with processes use the start methods spawn or forkserver of multiprocessing, since the library must
-not be called in the forked child of a process with threads.
+Threads and processes: a call lets other threads run meanwhile, and any number of calls may run at a time, but for those
+of one Encryptor or Decryptor, which wait for each other. Work is best spread over threads; with processes use the start
+methods spawn or forkserver of multiprocessing, since the library must not be called in the forked child of a process
+with threads.
 
 The library is the file that the variable PIKHSEN_LIBRARY names; or the one that lies beside this module, as in a wheel,
 or that `make install` installed with it; or libpikhsen.so.0, if the system finds it. An empty value counts as none, and
 under Python's options -E and -I the variable is not read.
 """
-import contextlib
 import ctypes
 import enum
-import errno
-import mmap
 import operator
 import os
-import stat
 import sys
-from ctypes import POINTER, byref, c_char_p, c_size_t, c_uint, c_ulong
-from typing import TYPE_CHECKING, Callable, Dict, Iterator, List, NamedTuple, Optional, Type, Union
+from ctypes import POINTER, byref, c_char_p, c_size_t, c_ubyte, c_uint, c_ulong, c_void_p
+from typing import TYPE_CHECKING, Callable, Dict, List, NamedTuple, Optional, Type, Union
 
 __all__ = [
-    "BytesLike", "Costs", "Damaged", "Invalid", "Kind", "LimitExceeded", "NotAFile", "OutOfMemory", "Refused",
-    "Settings", "Status", "WrongPassphrase", "decrypt", "decrypt_file", "encode", "encrypt", "encrypt_file",
-    "encrypt_in_place", "hash", "info", "message", "needs_rehash", "scrypt", "settings", "verify", "version",
+    "BytesLike", "Costs", "Damaged", "Decryptor", "Encryptor", "Invalid", "Kind", "LimitExceeded", "NotAFile",
+    "OutOfMemory", "Refused", "Settings", "Status", "WrongPassphrase", "decrypt", "decrypt_file", "encode", "encrypt",
+    "encrypt_file", "encrypt_in_place", "hash", "info", "message", "needs_rehash", "scrypt", "settings", "verify",
+    "version",
 ]
 
 # What is taken for bytes: all that a memoryview can be made of, so no str. In Python 3.9 only checkers of types have a
@@ -293,6 +296,16 @@ class _Settings(ctypes.Structure):
     ]
 
 
+# A file in pieces. What the library keeps of it, the keys among it, is wiped and freed when nobody holds this any more.
+class _Stream(ctypes.Structure):
+    _fields_ = [("runs", c_ubyte), ("state", c_void_p)]
+
+    def free(self) -> None:
+        _lib.pikhsen_stream_free(byref(self))
+
+    __del__ = free
+
+
 # The first number of the version of the library that this module is made for.
 _MAJOR = 0
 _TOP = (1 << 32) - 1
@@ -317,6 +330,13 @@ _PARAMETERS = {
     "pikhsen_scrypt_encrypt": 2 * _BYTES + [c_uint] * 4 + _LIMITS + 2 * _BYTES,
     "pikhsen_scrypt_encrypt_in_place": 2 * _BYTES + [c_uint] * 4 + _LIMITS + _BYTES,
     "pikhsen_scrypt_decrypt": _BYTES + [c_uint] + _LIMITS + 2 * _BYTES + [POINTER(c_size_t)],
+    "pikhsen_scrypt_encrypt_start": 2 * _BYTES + [c_uint] * 4 + _LIMITS + [POINTER(_Stream)] + _BYTES,
+    "pikhsen_scrypt_encrypt_feed": [POINTER(_Stream)] + _BYTES,
+    "pikhsen_scrypt_encrypt_finish": [POINTER(_Stream)] + _BYTES,
+    "pikhsen_scrypt_decrypt_start": _BYTES + [c_uint] + _LIMITS + _BYTES + [POINTER(_Stream)],
+    "pikhsen_scrypt_decrypt_feed": [POINTER(_Stream)] + 2 * _BYTES + [POINTER(c_size_t)],
+    "pikhsen_scrypt_decrypt_finish": [POINTER(_Stream)],
+    "pikhsen_stream_free": [POINTER(_Stream)],
 }
 
 
@@ -451,71 +471,6 @@ def _buffer(length: int) -> "ctypes.Array[ctypes.c_char]":
 def _front(buffer: "ctypes.Array[ctypes.c_char]", length: int) -> bytes:
     # ctypes.string_at cuts a length to 32 bits.
     return memoryview(buffer)[:length].tobytes()
-
-
-# The most that `decrypt_file` asks of the disk before it knows that the passphrase is right.
-_SMALL = 1 << 24
-# Maps of files, of which ctypes takes only those that can be written. What is written to the first goes to the file.
-# The second is not written to, and the system sets no memory apart for that (MAP_NORESERVE).
-_SHARED, _PRIVATE = mmap.MAP_SHARED, mmap.MAP_PRIVATE | 0x4000
-
-
-def _mapped(file: int, length: int, flags: int) -> "ctypes.Array[ctypes.c_char]":
-    """The bytes of an opened file, which is mapped: the system reads and writes them as they are used."""
-    if not length:
-        return _buffer(0)
-    return (ctypes.c_char * length).from_buffer(mmap.mmap(file, length, flags=flags))
-
-
-def _content(path: Path) -> "ctypes.Array[ctypes.c_char]":
-    """The bytes of a regular file."""
-    # a pipe without a writer would hold up the opening
-    with open(os.fspath(path), "rb", opener=lambda name, flags: os.open(name, flags | os.O_NONBLOCK)) as file:
-        about = os.fstat(file.fileno())
-        # some files, as those of /proc, have no length and yet bytes
-        if not stat.S_ISREG(about.st_mode) or not about.st_size and file.read(1):
-            raise ValueError(f"no regular file, or one without a length: {os.fsdecode(path)!r}")
-        return _mapped(file.fileno(), about.st_size, _PRIVATE)
-
-
-def _with_room(file: int, length: int) -> "ctypes.Array[ctypes.c_char]":
-    """The bytes of a new file of this length, for which the disk has room."""
-    os.posix_fallocate(file, 0, length)
-    return _mapped(file, length, _SHARED)
-
-
-def _sync_folder(folder: Union[str, bytes]) -> None:
-    """Puts a new name in a folder on the disk, where its file system does that. Who may not read it cannot."""
-    try:
-        opened = os.open(folder, os.O_RDONLY | os.O_DIRECTORY)
-    except PermissionError:
-        return
-    try:
-        os.fsync(opened)
-    except OSError as refused:
-        if refused.errno != errno.EINVAL:
-            raise
-    finally:
-        os.close(opened)
-
-
-@contextlib.contextmanager
-def _new_file(path: Path) -> Iterator[int]:
-    """A new file. It and its name are on the disk at the end (but see _sync_folder), or, if what is done with it fails,
-    it is gone again."""
-    name = os.path.abspath(os.fspath(path))
-    with open(name, "xb+", opener=lambda name, flags: os.open(name, flags, 0o600)) as file:
-        made = file.fileno()
-        try:
-            yield made
-            os.fsync(made)
-            _sync_folder(os.path.dirname(name))
-        except BaseException:
-            # what was raised is not hidden, and what stands there instead by now is not removed
-            with contextlib.suppress(OSError):
-                if os.path.samestat(os.stat(name), os.fstat(made)):
-                    os.unlink(name)
-            raise
 
 
 def version() -> str:
@@ -734,57 +689,5 @@ def decrypt(
         ctypes.memset(out, 0, len(out))
 
 
-def encrypt_file(
-    source: Path, target: Path, passphrase: BytesLike, *, log_n: int = 17, r: int = 8, p: int = 1, keep: int = 1,
-    max_bytes: int = 1 << 32, max_ops: int = 1 << 33, salt: Optional[BytesLike] = None,
-) -> None:
-    """Encrypts the regular file `source` into the new file `target`. Both may be larger than the memory: they are
-    mapped, so the system reads and writes them piece by piece.
-
-    If there is a `target`, FileExistsError is raised, and it stays. The new file is for its owner alone (mode 600). If
-    the call raises, it is removed; if the process is killed, a part of it is left. Nobody may write to either file
-    during the call: if `source` becomes shorter, or the disk of `target` has less room than it said, the process is
-    killed (SIGBUS). All else is as for `encrypt`, A NEW SALT FOR EACH FILE and the EMPTY PASSPHRASE THAT IS ACCEPTED
-    among others.
-    """
-    text = _content(source)
-    with _new_file(target) as made:
-        # the map has no name here, else what is raised would hold on to the new file
-        number = _number(
-            _lib.pikhsen_scrypt_encrypt, _bytes(passphrase), _file_salt(salt), *_scrypt_settings(log_n, r, p, keep),
-            *_limits(max_bytes, max_ops), text, _with_room(made, len(text) + 128),
-        )
-        _judge(number)
-
-
-def decrypt_file(
-    source: Path, target: Path, passphrase: BytesLike, *, keep: int = 1, max_bytes: int = 1 << 30,
-    max_ops: int = 1 << 28,
-) -> None:
-    """Decrypts the encrypted file `source` into the new file `target`, if the whole file is right under the passphrase,
-    its final code included. Both may be larger than the memory, as for `encrypt_file`.
-
-    The text is in `target` before its final code is tested, so DO NOT USE IT BEFORE THE CALL RETURNS. If the file is
-    not right, the text is overwritten with zeros. Whatever the call raises, `target` is removed; if the process is
-    killed, it is left. What is raised, and the limits, are those of `decrypt`, and what `encrypt_file` says of both
-    files holds here, too.
-
-    Of a file of more than 16 MiB, limits and passphrase are tested before the disk is asked for room. So its key is
-    derived twice, each time within the limits.
-    """
-    file, text_len = _content(source), c_size_t()
-    length = len(file)
-    if length < 96:
-        raise NotAFile(Status.TOO_SHORT)
-    front = _front(file, 96)
-    info(front)
-    given = (_bytes(passphrase), _u32(keep), *_limits(max_bytes, max_ops))
-    with _new_file(target) as made:
-        if length > _SMALL:
-            # the header alone is a file that is cut short: damaged, if there is no reason before that
-            number = _number(_lib.pikhsen_scrypt_decrypt, *given, front, _buffer(96), byref(text_len))
-            if number != Status.DAMAGED:
-                _judge(number)
-        # no map has a name here, else what is raised would hold on to the new file
-        _judge(_number(_lib.pikhsen_scrypt_decrypt, *given, file, _with_room(made, length), byref(text_len)))
-        os.ftruncate(made, text_len.value)
+# made of what stands above
+from ._files import Decryptor, Encryptor, decrypt_file, encrypt_file

@@ -1,0 +1,343 @@
+"""Files in pieces, in memory and on a disk. Callers have this from the package."""
+import contextlib
+import ctypes
+import errno
+import io
+import os
+import stat
+import threading
+from ctypes import byref, c_size_t
+from typing import Any, Callable, Iterator, NoReturn, Optional, Protocol, Tuple, TypeVar, Union, runtime_checkable
+
+from . import (
+    BytesLike, NotAFile, Path, Status, _buffer, _bytes, _call, _file_salt, _front, _lib, _limits, _scrypt_settings,
+    _Stream, _u32,
+)
+
+
+@runtime_checkable
+class Readable(Protocol):
+    """A file that is opened for reading bytes."""
+
+    def read(self, size: int, /) -> Optional[BytesLike]: ...
+
+
+@runtime_checkable
+class Writable(Protocol):
+    """A file that is opened for writing bytes."""
+
+    def write(self, piece: bytes, /) -> Optional[int]: ...
+
+
+# What is told of the bytes of a source that are done, and of all that it has, or None where that is not known.
+Progress = Callable[[int, Optional[int]], object]
+_Self = TypeVar("_Self", bound="_InPieces")
+
+
+class _InPieces:
+    """What Encryptor and Decryptor share: a stream of the library, which may be in one call at a time."""
+
+    def __init__(self) -> None:
+        self._stream, self._turn, self._is_over = _Stream(), threading.Lock(), False
+
+    def close(self) -> None:
+        """Wipes and frees what is kept, the keys among it. After that `update` and `finish` raise ValueError."""
+        with self._turn:
+            self._end()
+
+    def _end(self) -> None:
+        self._is_over = True
+        self._stream.free()
+
+    @contextlib.contextmanager
+    def _step(self, is_last: bool = False) -> Iterator[None]:
+        """One call at a time. The last ends the stream, and so does one that raises, since its piece is lost."""
+        with self._turn:
+            if self._is_over:
+                raise ValueError(f"this {type(self).__name__} is finished or closed, or was refused")
+            with contextlib.ExitStack() as ends:
+                ends.callback(self._end)
+                yield
+                if not is_last:
+                    ends.pop_all()
+
+    def __enter__(self: _Self) -> _Self:
+        return self
+
+    def __exit__(self, *_: object) -> None:
+        self.close()
+
+    def __reduce__(self) -> NoReturn:
+        # two streams with one key betray their texts
+        raise TypeError(f"a {type(self).__name__} can't be copied or pickled")
+
+
+class Encryptor(_InPieces):
+    """Encrypts a text in pieces of any length, in memory that does not grow.
+
+        with pikhsen.Encryptor(b"passphrase") as encryptor:
+            for piece in pieces:
+                send(encryptor.update(piece))
+            send(encryptor.finish())
+
+    All that `update` and `finish` return, one after the other, is the file that `encrypt` makes of the whole text. The
+    first piece brings 96 bytes more than it has, and `finish` 32. WITHOUT THESE IT IS CUT SHORT, and opened by nobody.
+
+    Making one derives the key, so that takes the time and the memory, and raises what `encrypt` raises. All else is as
+    for that, A NEW SALT FOR EACH FILE and the EMPTY PASSPHRASE THAT IS ACCEPTED among others.
+
+    The keys are kept until `finish`, `close` or the end of a `with`, or until nobody has the object any more; then they
+    are wiped. After that, and after a call that raised anything but TypeError, every call raises ValueError. Threads
+    may share one; it can't be copied or pickled. A forked child has a copy: WHO GOES ON WITH BOTH encrypts two texts
+    with one key stream, which betrays them.
+    """
+
+    def __init__(
+        self, passphrase: BytesLike, *, log_n: int = 17, r: int = 8, p: int = 1, keep: int = 1,
+        max_bytes: int = 1 << 32, max_ops: int = 1 << 33, salt: Optional[BytesLike] = None,
+    ) -> None:
+        super().__init__()
+        head = _buffer(96)
+        _call(
+            _lib.pikhsen_scrypt_encrypt_start, _bytes(passphrase), _file_salt(salt),
+            *_scrypt_settings(log_n, r, p, keep), *_limits(max_bytes, max_ops), byref(self._stream), head,
+        )
+        self._head = head.raw
+
+    def update(self, data: BytesLike) -> bytes:
+        """The next bytes of the file, for the next bytes of the text."""
+        data = _bytes(data)
+        piece = (ctypes.c_char * len(data)).from_buffer_copy(data)
+        with self._step():
+            _call(_lib.pikhsen_scrypt_encrypt_feed, byref(self._stream), piece)
+            return self._after_head(piece.raw)
+
+    def finish(self) -> bytes:
+        """The last bytes of the file. There are always some."""
+        code = _buffer(32)
+        with self._step(is_last=True):
+            _call(_lib.pikhsen_scrypt_encrypt_finish, byref(self._stream), code)
+            return self._after_head(code.raw)
+
+    def _after_head(self, piece: bytes) -> bytes:
+        head, self._head = self._head, b""
+        return head + piece
+
+
+class Decryptor(_InPieces):
+    """Decrypts a file in pieces of any length, in memory that does not grow.
+
+        with pikhsen.Decryptor(b"passphrase") as decryptor:
+            for piece in pieces:
+                keep(decryptor.update(piece))
+            decryptor.finish()
+
+    THE TEXT COMES OUT BEFORE IT IS TESTED: only when `finish` has returned is it known that what `update` returned is
+    the text, all of it and unchanged. Do not use it before. IF `finish` RAISES, or is never reached, THROW IT AWAY.
+
+    The piece with the 96th byte of the file derives the key, so that takes the time and the memory, within the limits
+    that `decrypt` has, and raises what `decrypt` raises before it returns a text: NotAFile, Invalid, LimitExceeded,
+    OutOfMemory or WrongPassphrase. All else is as for Encryptor.
+    """
+
+    def __init__(
+        self, passphrase: BytesLike, *, keep: int = 1, max_bytes: int = 1 << 30, max_ops: int = 1 << 28
+    ) -> None:
+        super().__init__()
+        self._given: Tuple[object, ...] = (_bytes(passphrase), _u32(keep), *_limits(max_bytes, max_ops))
+        self._front = b""
+
+    def update(self, data: BytesLike) -> bytes:
+        """The text, NOT YET TESTED, that the next bytes of the file bring: 32 bytes less than have come after the first
+        96, since the last 32 bytes of a file are its final code."""
+        piece = _bytes(data)
+        with self._step():
+            if not self._stream.runs:
+                missing = 96 - len(self._front)
+                self._front, piece = self._front + piece[:missing], piece[missing:]
+                if len(self._front) < 96:
+                    return b""
+                given, self._given = self._given, ()
+                _call(_lib.pikhsen_scrypt_decrypt_start, *given, self._front, byref(self._stream))
+            return self._released(piece)
+
+    def _released(self, piece: bytes) -> bytes:
+        out, released = _buffer(len(piece) + 32), c_size_t()
+        try:
+            _call(_lib.pikhsen_scrypt_decrypt_feed, byref(self._stream), piece, out, byref(released))
+            return _front(out, released.value)
+        finally:
+            ctypes.memset(out, 0, len(out))
+
+    def finish(self) -> bytes:
+        """Tests the final code, and returns no more text, which is b"". If the file is damaged, or cut short, it raises
+        Damaged, or NotAFile if it had fewer than 96 bytes: throw away what `update` returned."""
+        with self._step(is_last=True):
+            if not self._stream.runs:
+                raise NotAFile(Status.TOO_SHORT)
+            _call(_lib.pikhsen_scrypt_decrypt_finish, byref(self._stream))
+        return b""
+
+
+# Files are read in pieces of so many bytes.
+_PIECE = 1 << 16
+
+
+@contextlib.contextmanager
+def _readable(source: Union[Path, Readable]) -> Iterator[Readable]:
+    """A file that is opened already, and stays so, or that of a path, which is closed at the end."""
+    if isinstance(source, (str, bytes, os.PathLike)) or not isinstance(source, Readable):
+        with open(os.fspath(source), "rb", buffering=0) as file:
+            yield file
+    else:
+        yield source
+
+
+@contextlib.contextmanager
+def _writable(target: Union[Path, Writable]) -> Iterator[Writable]:
+    """A file that is opened already, and stays so, or a new one of a path, which is there when all of it is."""
+    if isinstance(target, (str, bytes, os.PathLike)) or not isinstance(target, Writable):
+        with _new_file(target) as file:
+            yield file
+    else:
+        yield target
+
+
+def _length(source: Any) -> Optional[int]:
+    """How many bytes a regular file has left. Of others that is not known; and some, as those of /proc, tell 0."""
+    file = getattr(source, "raw", source)
+    if not isinstance(file, io.FileIO):
+        return None
+    about = os.fstat(file.fileno())
+    return about.st_size - source.tell() if stat.S_ISREG(about.st_mode) and about.st_size else None
+
+
+def _read(source: Readable) -> BytesLike:
+    """The next piece, which is empty at the end alone."""
+    piece = source.read(_PIECE)
+    if piece is None:
+        raise BlockingIOError(errno.EAGAIN, os.strerror(errno.EAGAIN))
+    return piece
+
+
+def _write(target: Writable, piece: bytes) -> None:
+    """Writes a whole piece: a raw file may take a part of it in each call, or nothing if it does not block."""
+    while piece:
+        count = target.write(piece)
+        if count is None and not isinstance(target, io.RawIOBase):
+            return
+        if not count:
+            raise BlockingIOError(errno.EAGAIN, os.strerror(errno.EAGAIN))
+        piece = piece[count:]
+
+
+def _sync_folder(folder: Union[str, bytes]) -> None:
+    """Puts a new name in a folder on the disk, where its file system does that. Who may not read it cannot."""
+    try:
+        opened = os.open(folder, os.O_RDONLY | os.O_DIRECTORY)
+    except PermissionError:
+        return
+    try:
+        os.fsync(opened)
+    except OSError as refused:
+        if refused.errno != errno.EINVAL:
+            raise
+    finally:
+        os.close(opened)
+
+
+def _rename(file: str, name: str) -> None:
+    """Gives a file another name, if there is no such file yet."""
+    try:
+        os.link(file, name)
+    except FileExistsError:
+        raise
+    except OSError:
+        # a file system that has one name for each file: an empty file takes that name, and is replaced
+        os.close(os.open(name, os.O_WRONLY | os.O_CREAT | os.O_EXCL, 0o600))
+        os.replace(file, name)
+    else:
+        os.unlink(file)
+
+
+@contextlib.contextmanager
+def _new_file(path: Path) -> Iterator[Writable]:
+    """A new file, which has another name until all is done. Then it and its name are on the disk (but see
+    _sync_folder); or, if anything fails, it is gone again."""
+    target = os.path.abspath(os.fsdecode(path))
+    if os.path.lexists(target):
+        raise FileExistsError(errno.EEXIST, os.strerror(errno.EEXIST), target)
+    folder = os.path.dirname(target)
+    beside = os.path.join(folder, f".pikhsen-{os.urandom(8).hex()}")
+    with open(beside, "xb", buffering=0, opener=lambda name, flags: os.open(name, flags, 0o600)) as file:
+        try:
+            yield file
+            os.fsync(file.fileno())
+            _rename(beside, target)
+            _sync_folder(folder)
+        except BaseException:
+            for name in (beside, target):
+                # what was raised is not hidden, and what stands there instead by now is not removed
+                with contextlib.suppress(OSError):
+                    if os.path.samestat(os.lstat(name), os.fstat(file.fileno())):
+                        os.unlink(name)
+            raise
+
+
+def _convert(
+    source: Readable, stream: Union[Encryptor, Decryptor], target: Writable, progress: Optional[Progress]
+) -> None:
+    """Writes what a stream makes of all that is read."""
+    done, length = 0, _length(source)
+    with stream:
+        while piece := _bytes(_read(source)):
+            _write(target, stream.update(piece))
+            done += len(piece)
+            if progress:
+                progress(done, length)
+        _write(target, stream.finish())
+
+
+def encrypt_file(
+    source: Union[Path, Readable], target: Union[Path, Writable], passphrase: BytesLike, *, log_n: int = 17, r: int = 8,
+    p: int = 1, keep: int = 1, max_bytes: int = 1 << 32, max_ops: int = 1 << 33, salt: Optional[BytesLike] = None,
+    progress: Optional[Progress] = None,
+) -> None:
+    """Encrypts the file `source` into the new file `target`, piece by piece: neither is in memory as a whole.
+
+    Each is a path, or a file that is opened for bytes and stays open, as `sys.stdin.buffer`, a pipe, or what the
+    `makefile` of a socket returns. `source` is read to its end. One that does not block raises BlockingIOError if it is
+    not ready.
+
+    If there is a `target` of this path, FileExistsError is raised, and it stays. A new one is for its owner alone (mode
+    600), and has its name only when it is whole and on the disk. If the call raises, there is none; if the process is
+    killed, a part of it is left beside, under a name that begins with ".pikhsen-". An opened file may have a part if
+    the call raises, and is not flushed.
+
+    `progress` is called after each piece, with the bytes of `source` that are done, and all that it had at first, or
+    None if that is not known, as of a pipe. What it raises ends the call.
+
+    All else is as for `encrypt`, A NEW SALT FOR EACH FILE and the EMPTY PASSPHRASE THAT IS ACCEPTED among others.
+    """
+    with _readable(source) as text, _writable(target) as file:
+        encryptor = Encryptor(
+            passphrase, log_n=log_n, r=r, p=p, keep=keep, max_bytes=max_bytes, max_ops=max_ops, salt=salt
+        )
+        _convert(text, encryptor, file, progress)
+
+
+def decrypt_file(
+    source: Union[Path, Readable], target: Union[Path, Writable], passphrase: BytesLike, *, keep: int = 1,
+    max_bytes: int = 1 << 30, max_ops: int = 1 << 28, progress: Optional[Progress] = None,
+) -> None:
+    """Decrypts the encrypted file `source` into the new file `target`, if the whole file is right under the passphrase,
+    its final code included. Both, and `progress`, are as for `encrypt_file`, and so is what is left if it raises.
+
+    So no text has the name `target` before it is tested; what was written if the file is not right is removed, and not
+    overwritten. BUT AN OPENED FILE GETS THE TEXT BEFORE THE TEST: do not use it before the call returns, and if it
+    raises, throw away what was written.
+
+    What is raised, and the limits, are those of `decrypt`. The key is derived before the first byte is written.
+    """
+    with _readable(source) as encrypted, _writable(target) as file:
+        _convert(encrypted, Decryptor(passphrase, keep=keep, max_bytes=max_bytes, max_ops=max_ops), file, progress)

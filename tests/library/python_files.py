@@ -1,0 +1,448 @@
+#!/usr/bin/env python3
+"""Files from Python: those that are given in pieces, those on a disk, and those that come and go through pipes and sockets.
+tests/library/python_module.py calls this."""
+import concurrent.futures
+import contextlib
+import copy
+import errno
+import gc
+import io
+import os
+import pathlib
+import pickle
+import socket
+import subprocess
+import sys
+import threading
+import time
+from unittest import mock
+
+sys.path += map(str, pathlib.Path(__file__).resolve().parents[1].iterdir())  # the other folders of tests/
+from checking import is_there
+from scrypt_files import F0, F5, of_costs
+from shown import with_module
+
+CHEAP = {"log_n": 4, "r": 1, "p": 1}
+# One less than files of these costs need.
+BELOW_CHEAP = ("MEMORY_LIMIT", {"max_bytes": 2047}), ("WORK_LIMIT", {"max_ops": 63})
+
+
+def refusal(call, *arguments, **named):
+    """The name of the status with which a call is refused, what the system says, or an exception; None where it is not."""
+    try:
+        call(*arguments, **named)
+    except Exception as told:  # the module's own, which is loaded by name
+        system_says = getattr(told, "strerror", None)
+        return getattr(getattr(told, "status", None), "name", system_says or type(told).__name__)
+    return None
+
+
+def refused(checks, rows, call, *arguments, **named):
+    """Each of these changes of what a call is given is refused, for the reason beside it."""
+    for why, others in rows:
+        checks.that(f"{call.__name__}, {why}: {others}", refusal(call, *arguments, **{**named, **others}), why)
+
+
+SALT, LENGTHS = b"s" * 32, (0, 1, 31, 32, 33, 63, 64, 95, 96, 97, 5000)
+EXISTS, FULL, NO_DATA = (os.strerror(it) for it in (errno.EEXIST, errno.ENOSPC, errno.EAGAIN))
+
+
+def in_pieces(stream, content, size):
+    """All that a stream gives for these bytes, in pieces of a size."""
+    return b"".join([*(stream.update(content[at:at + size]) for at in range(0, len(content), size)), stream.finish()])
+
+
+def streams_from_python(checks, pikhsen):
+    """In pieces of any length a file and its text are those that go through the library whole."""
+    for length in LENGTHS:
+        text = bytes(it * 7 % 251 for it in range(length))
+        file = pikhsen.encrypt(text, b"pw", salt=SALT, **CHEAP)
+        for size in (1, 16, 31, 32, 33, 96, 97, 6000):
+            made = in_pieces(pikhsen.Encryptor(b"pw", salt=SALT, keep=4, **CHEAP), text, size)
+            checks.that(f"{length} bytes in pieces of {size}", made, file)
+            checks.that(f"text of {length} bytes in pieces of {size}", in_pieces(pikhsen.Decryptor(b"pw", keep=4), file, size), text)
+        decryptor = pikhsen.Decryptor(b"pw")
+        released = [decryptor.update(file[at:at + 1]) for at in range(len(file))]
+        checks.that(f"when the text comes, {length}", [bool(it) for it in released], [at >= 128 for at in range(len(file))])
+    for text, file in ((b"", F0), (b"hello", F5)):
+        checks.that(f"{text}, as OpenSSL makes it", in_pieces(pikhsen.Encryptor(b"pw", salt=bytes(range(32)), **CHEAP), text, 2), file)
+        checks.that(f"{text}, of what OpenSSL makes", in_pieces(pikhsen.Decryptor(b"pw"), file, 50), text)
+
+
+def damage_in_pieces(checks, pikhsen):
+    """Each byte changed, each cut, costs and limits: a stream is refused for the reason of the whole file."""
+    file = pikhsen.encrypt(b"hello", b"pw", salt=SALT, **CHEAP)
+    changed = [file[:at] + bytes([file[at] ^ 1]) + file[at + 1:] for at in range(len(file))]
+    for name, files in (("changed", changed), ("cut", [file[:at] for at in range(len(file))]), ("longer", [file + b"x"])):
+        for size in (7, 96, 200):
+            found = [refusal(in_pieces, pikhsen.Decryptor(b"pw"), it, size) for it in files]
+            checks.that(f"each byte {name}, in pieces of {size}", found, [refusal(pikhsen.decrypt, it, b"pw") for it in files])
+    rows = ("LOG_N", {"log_n": 0}), ("FILE_SALT", {"salt": b"s" * 31}), ("KEEP", {"keep": 3}), ("TypeError", {"passphrase": "pw"})
+    refused(checks, (*rows, *BELOW_CHEAP), pikhsen.Encryptor, **{"passphrase": b"pw", **CHEAP})
+    for why, named in (("KEEP", {"keep": 3}), ("WRONG_PASSPHRASE", {"passphrase": b"PW"}), *BELOW_CHEAP):
+        found = refusal(pikhsen.Decryptor(**{"passphrase": b"pw", **named}).update, file[:96])
+        checks.that(f"Decryptor, {why}: at the 96th byte", found, why)
+    for costs, why in (((21, 8, 1), "MEMORY_LIMIT"), ((10, 8, (1 << 13) + 1), "WORK_LIMIT")):
+        checks.that(f"Decryptor's own limits, {why}", refusal(pikhsen.Decryptor(b"").update, of_costs(*costs) + bytes(64)), why)
+    refused(checks, [("TypeError", {"passphrase": "pw"}), ("TypeError", {"keep": "x"})], pikhsen.Decryptor, passphrase=b"pw")
+
+
+def left(stream):
+    with stream as same:
+        assert same is stream
+
+
+def streams_by_their_ends(pikhsen, file):
+    """Streams, each with what makes it, what ends it, and why that is refused."""
+    def encryptor():
+        return pikhsen.Encryptor(b"pw", **CHEAP)
+
+    def decryptor(given=file):
+        made = pikhsen.Decryptor(b"pw")
+        made.update(given)
+        return made
+
+    for name, end in (("finished", lambda it: it.finish()), ("closed", lambda it: it.close()), ("left", left)):
+        yield f"Encryptor, {name}", encryptor, end, None
+        yield f"Decryptor, {name}", decryptor, end, None
+    yield "Decryptor, closed before it has a key", lambda: decryptor(b"scrypt"), lambda it: it.close(), None
+    yield "Decryptor of a damaged file", lambda: decryptor(file + b"x"), lambda it: it.finish(), "DAMAGED"
+    yield "Decryptor of a short file", lambda: decryptor(b"scrypt"), lambda it: it.finish(), "TOO_SHORT"
+    yield "Decryptor of no file", lambda: decryptor(b""), lambda it: it.update(bytes(96)), "MAGIC"
+
+
+def ends_of_streams(checks, pikhsen):
+    """After its end, whatever that was, a stream does nothing more and keeps nothing; before it, it is not doubled."""
+    file = pikhsen.encrypt(b"Dear Ada", b"pw", **CHEAP)
+    for name, make, end, why in streams_by_their_ends(pikhsen, file):
+        stream = make()
+        for double in (copy.copy, copy.deepcopy, pickle.dumps):
+            checks.that(f"{name}: {double.__name__}", refusal(double, stream), "TypeError")
+        checks.that(f"{name}: a text", (refusal(stream.update, "text"), refusal(stream.update, None)), ("TypeError",) * 2)
+        checks.that(f"{name}: its end", refusal(end, stream), why)
+        checks.that(f"{name}: what is kept after it", stream._stream.runs, 0)
+        after = [refusal(call) for call in (lambda: stream.update(b""), lambda: stream.update(b"x"), stream.finish, stream.close)]
+        checks.that(f"{name}: calls after it", after, ["ValueError"] * 3 + [None])
+    freed, free = [], pikhsen._lib.pikhsen_stream_free
+
+    def noted(stream):
+        freed.append(stream._obj.runs != 0)
+        return free(stream)
+
+    def unfinished():
+        decryptor = pikhsen.Decryptor(b"pw")
+        decryptor.update(file)
+
+    with mock.patch.object(pikhsen._lib, "pikhsen_stream_free", noted):
+        for make in (lambda: pikhsen.Encryptor(b"pw", **CHEAP), unfinished, lambda: refusal(pikhsen.Encryptor, b"pw", log_n=0)):
+            make()
+            gc.collect()
+    checks.that("streams that nobody has any more", freed, [True, True, False])
+    lent, real = [], pikhsen._files._buffer
+    with mock.patch.object(pikhsen._files, "_buffer", lambda length: lent.append(real(length)) or lent[-1]):
+        unfinished()
+    checks.that("what was lent for a text", [(len(it), it.raw.strip(b"\0")) for it in lent], [(len(file) - 96 + 32, b"")])
+
+
+def threads_of_a_stream(checks, pikhsen):
+    """Threads that share a stream wait for each other: the library has it in one call at a time, and each piece once."""
+    feed, inside, most, one = pikhsen._lib.pikhsen_scrypt_encrypt_feed, [], [], threading.Lock()
+
+    def noted(*given):
+        inside.append(given)
+        most.append(len(inside))
+        time.sleep(0.001)
+        with one:  # two at a time would spoil the memory of this process
+            number = feed(*given)
+        inside.pop()
+        return number
+
+    encryptor = pikhsen.Encryptor(b"pw", salt=SALT, **CHEAP)
+    with mock.patch.object(pikhsen._lib, "pikhsen_scrypt_encrypt_feed", noted), concurrent.futures.ThreadPoolExecutor(8) as pool:
+        head = encryptor.update(b"")
+        pieces = list(pool.map(encryptor.update, [bytes(1000)] * 40))
+    whole = pikhsen.encrypt(bytes(40000), b"pw", salt=SALT, **CHEAP)
+    expected = [whole[at:at + 1000] for at in range(96, 40096, 1000)]
+    checks.that("threads of a stream: calls at a time", max(most), 1)
+    checks.that("threads of a stream", (head, sorted(pieces), encryptor.finish()), (whole[:96], sorted(expected), whole[-32:]))
+
+
+def streams_and_scrypt(checks, pikhsen, folder):
+    """What is made in pieces, the program scrypt opens; and what that makes is opened in pieces."""
+    if not is_there("scrypt", "no other program opens what is made in pieces"):
+        return
+    ours, theirs = (f"{folder}/{it}.scrypt" for it in ("ours", "theirs"))
+    key = {"env": {**os.environ, "KEY": "a passphrase"}, "check": True, "stdout": subprocess.PIPE}
+    text = bytes(range(256)) * 300
+    for size in (1000, 65536, 1 << 20):
+        pathlib.Path(ours).write_bytes(in_pieces(pikhsen.Encryptor(b"a passphrase", log_n=10), text, size))
+        opened = subprocess.run(["scrypt", "dec", "--passphrase", "env:KEY", ours], **key).stdout
+        checks.that(f"scrypt opens what was made in pieces of {size}", opened, text)
+        words = ["enc", "--logN", "10", "-r", "8", "-p", "1", "--passphrase", "env:KEY", "-", theirs]
+        subprocess.run(["scrypt", *words], input=text, **key)
+        found = in_pieces(pikhsen.Decryptor(b"a passphrase"), pathlib.Path(theirs).read_bytes(), size)
+        checks.that(f"what scrypt made, in pieces of {size}", found, text)
+
+
+def leaves(checks, why, file, content, call, *arguments, **named):
+    """A call is refused for this reason, and leaves a file with these bytes, or none, and nothing beside it."""
+    found = refusal(call, *arguments, **named), file.read_bytes() if file.exists() else None, parts(file.parent)
+    checks.that(f"{call.__name__}, {why}: {arguments[:1]} {named}", found, (why, content, []))
+
+
+def parts(folder):
+    """What has the name of a file that is not done."""
+    return sorted(pathlib.Path(folder).glob(".pikhsen-*"))
+
+
+def kept_files_from_python(checks, pikhsen, folder):
+    """Files on a disk: what `encrypt` makes and `decrypt` gives, in a new file, which is gone after a refusal."""
+    text, file, again = (pathlib.Path(folder, it) for it in ("text", "text.scrypt", "again"))
+    for content in (b"", b"Dear Ada", bytes(range(256)) * 300):
+        text.write_bytes(content)
+        pikhsen.encrypt_file(text, str(file), b"pw", salt=SALT, keep=4, **CHEAP)
+        whole = file.read_bytes()
+        checks.that(f"file, {len(content)}", whole, pikhsen.encrypt(content, b"pw", salt=SALT, **CHEAP))
+        pikhsen.decrypt_file(os.fsencode(file), again, b"pw", keep=4)
+        checks.that(f"text of a file, {len(content)}", again.read_bytes(), content)
+        checks.that("modes of new files", [it.stat().st_mode & 0o777 for it in (file, again)], [0o600] * 2)
+        leaves(checks, EXISTS, file, whole, pikhsen.encrypt_file, text, file, b"pw")
+        # and nothing is tested before that
+        leaves(checks, EXISTS, again, content, pikhsen.decrypt_file, file, again, b"PW")
+        again.unlink()
+        for why, given, named in (
+            ("DAMAGED", whole[:-1], {}), ("DAMAGED", whole + b"x", {}), ("CHECKSUM", whole[:63] + b"x" * 65, {}),
+            ("WRONG_PASSPHRASE", whole, {"passphrase": b"PW"}), ("TOO_SHORT", whole[:95], {}), ("TOO_SHORT", b"", {}),
+            *((why, whole, named) for why, named in BELOW_CHEAP), ("KEEP", whole, {"keep": 3}), ("MAGIC", b"x" * 200, {}),
+        ):
+            file.write_bytes(given)
+            leaves(checks, why, again, None, pikhsen.decrypt_file, file, again, **{"passphrase": b"pw", **named})
+            checks.that(f"decrypt_file, {why}: its source", file.read_bytes(), given)
+        file.unlink()
+    for why, named in (("LOG_N", {"log_n": 0}), ("FILE_SALT", {"salt": b"s" * 31}), *BELOW_CHEAP):
+        leaves(checks, why, file, None, pikhsen.encrypt_file, text, file, b"pw", **{**CHEAP, **named})
+    for call, costs, opened in (
+        (pikhsen.encrypt_file, CHEAP, io.BytesIO()), (pikhsen.decrypt_file, {}, io.BytesIO(pikhsen.encrypt(b"text", b"pw", **CHEAP))),
+    ):
+        leaves(checks, os.strerror(errno.EISDIR), file, None, call, folder, file, b"pw", **costs)
+        for source, target in ((5, file), (None, file), (text, 5), (io.StringIO("text"), file), (opened, io.StringIO())):
+            found = refusal(call, source, target, b"pw", **costs), file.exists(), parts(folder)
+            checks.that(f"{call.__name__} of what is no file: {type(source).__name__}, {type(target).__name__}", found, ("TypeError", False, []))
+    checks.that("an empty name", refusal(pikhsen.encrypt_file, text, "", b"pw"), EXISTS)
+    salts = []
+    for target in (file, again):
+        pikhsen.encrypt_file(text, target, b"pw", **CHEAP)
+        salts.append(target.read_bytes()[16:48])
+        target.unlink()
+    checks.that("salts of two files", salts[0] == salts[1], False)
+
+
+def names_of_new_files(checks, pikhsen, folder):
+    """A new file has its name when it is whole, and replaces none; also where a file has one name alone."""
+    source, target = (pathlib.Path(folder, it) for it in ("Dear", "Ada"))
+    content = bytes(range(256)) * 1000
+    source.write_bytes(pikhsen.encrypt(content, b"pw", **CHEAP))
+    seen = []
+
+    def look(*_):
+        seen.append((target.exists(), [it.stat().st_mode & 0o777 for it in parts(folder)]))
+
+    for links in (os.link, mock.Mock(side_effect=PermissionError(errno.EPERM, "no links"))):
+        with mock.patch.object(os, "link", links):
+            pikhsen.decrypt_file(source, target, b"pw", progress=look)
+            checks.that("a file that gets its name", (target.read_bytes(), parts(folder), {*map(str, seen)}), (content, [], {str((False, [0o600]))}))
+            target.unlink()
+            found = refusal(pikhsen.decrypt_file, source, target, b"pw", progress=lambda *_: target.write_bytes(b"of another"))
+            checks.that("a file that another made meanwhile", (found, target.exists() and target.read_bytes(), parts(folder)), (EXISTS, b"of another", []))
+        target.unlink()
+
+
+def parts_of_another(checks, pikhsen, folder):
+    """What stands in the place of a part that is gone is not removed."""
+    target = pathlib.Path(folder, "target")
+
+    def meanwhile(instead):
+        for it in parts(folder):
+            it.unlink()
+            if instead:
+                it.write_bytes(b"of another")
+        raise OSError(errno.ENOSPC, FULL)
+
+    for instead in (False, True):
+        found = refusal(pikhsen.encrypt_file, io.BytesIO(b"x"), target, b"pw", progress=lambda *_: meanwhile(instead), **CHEAP)
+        left = [it.read_bytes() for it in parts(folder)]
+        checks.that(f"a part that is gone, {instead}", (found, target.exists(), left), (FULL, False, [b"of another"] * instead))
+    parts(folder)[0].unlink()
+
+
+def synced_from_python(checks, pikhsen, folder):
+    """A new file and its name are synced; a folder that the file system does not sync, or that may not be read, is no
+    failure."""
+    target, synced, opening = pathlib.Path(folder, "target"), [], os.open
+
+    def noted(opened, number):
+        synced.append(os.path.basename(os.readlink(f"/proc/self/fd/{opened}"))[:9])
+        if number and len(synced) == 2:
+            raise OSError(number, os.strerror(number))
+
+    def unreadable(name, flags, *mode):
+        if flags & os.O_DIRECTORY:
+            raise PermissionError
+        return opening(name, flags, *mode)
+
+    for number, instead in ((0, opening), (errno.EINVAL, opening), (errno.EIO, opening), (0, unreadable)):
+        why = os.strerror(number) if number == errno.EIO else None
+        synced.clear()
+        with mock.patch.object(os, "fsync", lambda opened: noted(opened, number)), mock.patch.object(os, "open", instead):
+            found = refusal(pikhsen.encrypt_file, io.BytesIO(), target, b"pw", **CHEAP)
+        names = [".pikhsen-", os.path.basename(folder)[:9]][:1 if instead is unreadable else 2]
+        checks.that(f"synced, {number} {instead.__name__}", (found, target.exists(), parts(folder), synced), (why, why is None, [], names))
+        target.unlink(missing_ok=True)
+
+
+class Narrow(io.RawIOBase):
+    """A raw file that takes at most 1,000 bytes at a time, or, after so many bytes, none for now."""
+
+    def __init__(self, room=1 << 20):
+        self.taken, self.room = bytearray(), room
+
+    def writable(self):
+        return True
+
+    def write(self, given):
+        taken = bytes(given[:min(1000, self.room - len(self.taken))])
+        self.taken += taken
+        return len(taken) or None
+
+
+class Whole:
+    """What takes all that it is given, and says nothing, or says so; and brings all at once, or nothing for now."""
+
+    def __init__(self, content=None):
+        self.content, self.taken = content, bytearray()
+
+    def write(self, given):
+        self.taken += given
+
+    def read(self, _):
+        content, self.content = self.content, None
+        return content
+
+
+def pipe_ends():
+    reading, writing = os.pipe()
+    return open(reading, "rb"), open(writing, "wb")
+
+
+def socket_ends():
+    with contextlib.ExitStack() as sockets:
+        reading, writing = map(sockets.enter_context, socket.socketpair())
+        return reading.makefile("rb"), writing.makefile("wb")
+
+
+def opened_files_from_python(checks, pikhsen, folder):
+    """Files that are opened already: in memory, pipes, sockets, raw ones, and of types that Python has not."""
+    text = bytes(range(256)) * 1000
+    file = pikhsen.encrypt(text, b"pw", salt=SALT, **CHEAP)
+    path = pathlib.Path(folder, "opened")
+    path.write_bytes(b"before" + text)
+
+    for call, given, expected, named in (
+        (pikhsen.encrypt_file, text, file, {"salt": SALT, **CHEAP}), (pikhsen.decrypt_file, file, text, {}),
+    ):
+        for ends in (pipe_ends, socket_ends):
+            source, to = ends()
+            target, told = io.BytesIO(), []
+            with source:
+                threading.Thread(target=lambda: (to.write(given), to.close()), daemon=True).start()
+                call(source, target, b"pw", progress=lambda *it: told.append(it), **named)
+                checks.that(f"{call.__name__}, {ends.__name__}", (target.getvalue(), source.closed, target.closed), (expected, False, False))
+            checks.that(f"{call.__name__}, {ends.__name__}: progress", (told[-1], {it for _, it in told}), ((len(given), None), {None}))
+    for source in (open(path, "rb"), open(path, "rb", buffering=0)):
+        with source:
+            told, target = [], Narrow()
+            source.read(6)
+            pikhsen.encrypt_file(source, target, b"pw", salt=SALT, progress=lambda *it: told.append(it), **CHEAP)
+            checks.that("a raw target", bytes(target.taken), file)
+            whole = [(min(it, len(text)), len(text)) for it in range(65536, len(text) + 65536, 65536)]
+            checks.that("progress", told, whole)
+    silent = Whole(memoryview(text))
+    checks.that("what is opened and ends too early", refusal(pikhsen.encrypt_file, silent, silent, b"pw", salt=SALT, **CHEAP), NO_DATA)
+    checks.that("what says nothing of a write", bytes(silent.taken), file[:-32])
+    leaves(checks, NO_DATA, path.with_suffix(".new"), None, pikhsen.encrypt_file, Whole(), path.with_suffix(".new"), b"pw", **CHEAP)
+    checks.that("a raw target that is full", refusal(pikhsen.decrypt_file, io.BytesIO(file), Narrow(70000), b"pw"), NO_DATA)
+    target = io.BytesIO()
+    checks.that("damage, to an opened file", (refusal(pikhsen.decrypt_file, io.BytesIO(file[:-1]), target, b"pw"), target.getvalue()), ("DAMAGED", text[:-1]))
+    for name in ("/dev/null", "/proc/self/cmdline"):
+        target = io.BytesIO()
+        pikhsen.encrypt_file(name, target, b"pw", salt=SALT, **CHEAP)
+        checks.that(f"of {name}", target.getvalue(), pikhsen.encrypt(pathlib.Path(name).read_bytes(), b"pw", salt=SALT, **CHEAP))
+
+
+LARGE = """import pathlib, pikhsen, resource, sys, threading
+text, file, again = sys.argv[1:]
+done, most = threading.Event(), []
+def watch():
+    while not done.wait(0.001):
+        lines = pathlib.Path("/proc/self/status").read_text().splitlines()
+        most.append(next(int(it.split()[1]) for it in lines if it.startswith("RssAnon")))
+watching = threading.Thread(target=watch, daemon=True)
+watching.start()
+pikhsen.encrypt_file(text, file, b"pw", log_n=4)
+pikhsen.decrypt_file(file, again, b"pw")
+done.set()
+watching.join()
+print(max(most) < most[0] + (4 << 10), len(most) > 10)
+resource.setrlimit(resource.RLIMIT_FSIZE, (1 << 20, resource.RLIM_INFINITY))
+pathlib.Path(again).unlink()
+try:
+    pikhsen.decrypt_file(file, again, b"pw")
+except OSError as refused:
+    print(refused.strerror, pathlib.Path(again).exists(), [*pathlib.Path(again).parent.glob(".pikhsen-*")])
+"""
+
+
+def large_files_from_python(checks, folder, lib):
+    """32 MiB go through 4 MiB of memory more than before; where the disk has no room, no file is left."""
+    names = [f"{folder}/{it}" for it in ("large", "large.scrypt", "text of large")]
+    with open(names[0], "wb") as large:
+        large.truncate(1 << 25)
+    checks.that("32 MiB on a disk", with_module(lib, "-c", LARGE, *names)[1], "True True\nFile too large False []\n")
+
+
+INTERRUPTED = """import os, pikhsen, signal, sys, threading, time
+signal.signal(signal.SIGINT, signal.default_int_handler)
+def interrupt():
+    # while the table is being filled: it has 256 MiB in all
+    while int(open("/proc/self/statm").read().split()[1]) < 1 << 14:
+        time.sleep(0.001)
+    os.kill(os.getpid(), signal.SIGINT)
+buffer = bytearray(200)
+for call in (lambda: pikhsen.encrypt_file(*sys.argv[1:], b"pw", log_n=18), lambda: pikhsen.encrypt_in_place(buffer, b"pw", log_n=18)):
+    threading.Thread(target=interrupt, daemon=True).start()
+    try:
+        call()
+    except KeyboardInterrupt:
+        print(os.path.exists(sys.argv[2]), ".pikhsen-" in str(os.listdir(os.path.dirname(sys.argv[2]))), bytes(buffer[:6]))
+"""
+
+
+def interrupted(checks, folder, lib):
+    """Ctrl-C during a call: that goes on to its end, and KeyboardInterrupt is raised. No new file is left."""
+    names = [f"{folder}/{it}" for it in ("short", "short.scrypt")]
+    pathlib.Path(names[0]).write_bytes(b"Dear Ada")
+    found = with_module(lib, "-c", INTERRUPTED, *names, timeout=120)
+    zeros = bytes(6)
+    checks.that("Ctrl-C during a call", found, (0, f"False False {zeros}\nFalse False {b'scrypt'}\n"))
+
+
+def files_of_python(checks, pikhsen, folder, lib):
+    """All of this file: over the library in one folder, with files of its own in another."""
+    for part in (streams_from_python, damage_in_pieces, ends_of_streams, threads_of_a_stream):
+        part(checks, pikhsen)
+    for part in (
+        streams_and_scrypt, kept_files_from_python, names_of_new_files, parts_of_another, synced_from_python, opened_files_from_python,
+    ):
+        part(checks, pikhsen, folder)
+    large_files_from_python(checks, folder, lib)
+    interrupted(checks, folder, lib)
