@@ -279,8 +279,8 @@ typedef struct {
 #define PIKHSEN_STREAM_NEW { 0, NULL }
 
 /* The bytes of a file before its text and after it. */
-#define PIKHSEN_FILE_HEAD 96ul
-#define PIKHSEN_FILE_CODE 32ul
+#define PIKHSEN_FILE_HEAD 96
+#define PIKHSEN_FILE_CODE 32
 
 /*
  * Encrypts in pieces. The file is the PIKHSEN_FILE_HEAD bytes that start writes to head, then each piece of the text as

@@ -116,11 +116,11 @@ expect 'Drop for ' "a drop at the end of a function for C comes after the zeros 
 for text in 'forget' 'ManuallyDrop' 'leak(' 'into_raw_with_allocator' 'from_raw_with_allocator'; do
     expect "$text" "all memory that is taken is freed"
 done
-# But for the block of a stream, which is compared whole, below: what is taken out of a stream goes back to it or is wiped.
-expect 'into_raw(' "a box is a pointer where C keeps it" crates/pikhsen_c/src/stream.rt
-expect 'from_raw(' "a pointer is a box again where C kept it" crates/pikhsen_c/src/stream.rt
-in_c '.take(stream)' "each call of a stream takes its box once" streaming streaming streaming streaming streaming
-in_c 'Running::free(' "a box that is not put back is wiped and freed" streaming streaming streaming
+# But for the block of a stream: what is taken out of it goes back, as clauses say, or to a function that is compared whole.
+expect 'into_raw(' "all memory that is taken is freed" crates/pikhsen_c/src/stream.rt
+expect 'from_raw(' "all memory that is taken is freed" crates/pikhsen_c/src/stream.rt
+in_c '.take(stream)' "each call of a stream takes its block once" streaming streaming streaming streaming streaming
+in_c '(machine.heap.take(stream)' "what ends a stream wipes its block" streaming streaming streaming
 expect_below crates/scrypt_run 'Enc::start(' "a derivation for a new file is begun once" \
     crates/scrypt_run/src/encrypt.rt
 expect_below crates/scrypt_run 'Dec::open(' "a derivation for a file that is read is begun once" \
