@@ -293,7 +293,7 @@ def _convert(
         while piece := _bytes(_read(source)):
             _write(target, stream.update(piece))
             done += len(piece)
-            if progress:
+            if progress is not None:
                 progress(done, length)
         _write(target, stream.finish())
 
