@@ -1,4 +1,3 @@
-#!/usr/bin/env python3
 """Files from Python: those that are given in pieces, those on a disk, and those that come and go through pipes and sockets.
 tests/library/python_module.py calls this."""
 import concurrent.futures
