@@ -7,9 +7,10 @@
  *
  *  - Each but pikhsen_version returns a status of enum pikhsen_status. Unless it is PIKHSEN_OK, the output is
  *    unchanged, except as noted at the function. PIKHSEN_OK is 0: compare the result with it.
- *  - Bytes are a pointer and a length. A length is below 2^63. If it is 0, the pointer is never read, and may be null,
- *    as an empty slice of Go or Buffer of Node has it. That null is accepted is tested (tests/library/c_face.c), not
- *    proved. Other pointers must not be null, and must be aligned as their types are.
+ *  - Bytes are a pointer and a length: to char for passwords, passphrases and texts, which C has as strings, and to void
+ *    for others. A length is below 2^63, and has no byte 0 at a string's end in it. If it is 0, the pointer is never
+ *    read, and may be null, as an empty slice of Go or Buffer of Node has it. That null is accepted is tested
+ *    (tests/library/c_face.c), not proved. Other pointers must not be null, and must be aligned as their types are.
  *  - MEMORY THAT A FUNCTION WRITES MUST NOT OVERLAP ANYTHING ELSE THAT IS PASSED TO IT, and no other thread may touch
  *    it during the call. The library cannot see an overlap, and returns PIKHSEN_OK although what it wrote is wrong.
  *    What it writes need not be set before. Memory that it reads must not be written during the call.
@@ -101,7 +102,7 @@ enum pikhsen_status {
  * out is too small, the result is PIKHSEN_BUFFER.
  */
 PIKHSEN_MUST_CHECK PIKHSEN_NOT_NULL(4)
-unsigned int pikhsen_message(unsigned int status, unsigned char *out, size_t out_len, size_t *text_len);
+unsigned int pikhsen_message(unsigned int status, char *out, size_t out_len, size_t *text_len);
 
 enum pikhsen_kind { PIKHSEN_ARGON2D = 0, PIKHSEN_ARGON2I = 1, PIKHSEN_ARGON2ID = 2 };
 
@@ -119,9 +120,9 @@ unsigned int pikhsen_version(void);
  */
 PIKHSEN_MUST_CHECK
 unsigned int pikhsen_argon2_hash(unsigned int kind, unsigned int version, unsigned int passes, unsigned int memory_kib,
-    unsigned int lanes, const unsigned char *password, size_t password_len, const unsigned char *salt, size_t salt_len,
-    const unsigned char *secret, size_t secret_len, const unsigned char *associated, size_t associated_len,
-    unsigned int max_kib, pikhsen_u64 max_ops, unsigned char *out, size_t out_len);
+    unsigned int lanes, const char *password, size_t password_len, const void *salt, size_t salt_len,
+    const void *secret, size_t secret_len, const void *associated, size_t associated_len, unsigned int max_kib,
+    pikhsen_u64 max_ops, void *out, size_t out_len);
 
 /* So many bytes have room for every encoded text with a salt and a tag of these lengths, and the byte 0 after it. */
 #define PIKHSEN_ENCODED_ROOM(salt_len, tag_len) \
@@ -134,9 +135,9 @@ unsigned int pikhsen_argon2_hash(unsigned int kind, unsigned int version, unsign
  */
 PIKHSEN_MUST_CHECK PIKHSEN_NOT_NULL(15)
 unsigned int pikhsen_argon2_encoded(unsigned int kind, unsigned int version, unsigned int passes,
-    unsigned int memory_kib, unsigned int lanes, const unsigned char *password, size_t password_len,
-    const unsigned char *salt, size_t salt_len, size_t tag_len, unsigned int max_kib, pikhsen_u64 max_ops,
-    unsigned char *out, size_t out_len, size_t *text_len);
+    unsigned int memory_kib, unsigned int lanes, const char *password, size_t password_len, const void *salt,
+    size_t salt_len, size_t tag_len, unsigned int max_kib, pikhsen_u64 max_ops, char *out, size_t out_len,
+    size_t *text_len);
 
 /*
  * Returns PIKHSEN_OK if the password is that of an encoded text, and PIKHSEN_MISMATCH if it is not; any other result
@@ -148,8 +149,8 @@ unsigned int pikhsen_argon2_encoded(unsigned int kind, unsigned int version, uns
  * sends before it calls.
  */
 PIKHSEN_MUST_CHECK
-unsigned int pikhsen_argon2_verify(const unsigned char *text, size_t text_len, const unsigned char *password,
-    size_t password_len, unsigned int max_kib, pikhsen_u64 max_ops);
+unsigned int pikhsen_argon2_verify(const char *text, size_t text_len, const char *password, size_t password_len,
+    unsigned int max_kib, pikhsen_u64 max_ops);
 
 /*
  * The two functions above with a secret and associated data, as pikhsen_argon2_hash has them; either may be empty.
@@ -159,15 +160,14 @@ unsigned int pikhsen_argon2_verify(const unsigned char *text, size_t text_len, c
  */
 PIKHSEN_MUST_CHECK PIKHSEN_NOT_NULL(19)
 unsigned int pikhsen_argon2_encoded_keyed(unsigned int kind, unsigned int version, unsigned int passes,
-    unsigned int memory_kib, unsigned int lanes, const unsigned char *password, size_t password_len,
-    const unsigned char *salt, size_t salt_len, const unsigned char *secret, size_t secret_len,
-    const unsigned char *associated, size_t associated_len, size_t tag_len, unsigned int max_kib, pikhsen_u64 max_ops,
-    unsigned char *out, size_t out_len, size_t *text_len);
+    unsigned int memory_kib, unsigned int lanes, const char *password, size_t password_len, const void *salt,
+    size_t salt_len, const void *secret, size_t secret_len, const void *associated, size_t associated_len,
+    size_t tag_len, unsigned int max_kib, pikhsen_u64 max_ops, char *out, size_t out_len, size_t *text_len);
 
 PIKHSEN_MUST_CHECK
-unsigned int pikhsen_argon2_verify_keyed(const unsigned char *text, size_t text_len, const unsigned char *password,
-    size_t password_len, const unsigned char *secret, size_t secret_len, const unsigned char *associated,
-    size_t associated_len, unsigned int max_kib, pikhsen_u64 max_ops);
+unsigned int pikhsen_argon2_verify_keyed(const char *text, size_t text_len, const char *password, size_t password_len,
+    const void *secret, size_t secret_len, const void *associated, size_t associated_len, unsigned int max_kib,
+    pikhsen_u64 max_ops);
 
 /* What an encoded text says of its hash, with the lengths of its salt and its tag in place of their bytes. */
 struct pikhsen_argon2_settings {
@@ -182,8 +182,7 @@ struct pikhsen_argon2_settings {
  * PIKHSEN_TEXT_SALT_LENGTH.
  */
 PIKHSEN_MUST_CHECK PIKHSEN_NOT_NULL(3)
-unsigned int pikhsen_argon2_settings(const unsigned char *text, size_t text_len,
-    struct pikhsen_argon2_settings *settings);
+unsigned int pikhsen_argon2_settings(const char *text, size_t text_len, struct pikhsen_argon2_settings *settings);
 
 /*
  * Writes 0 to *needs if the settings of an encoded text, both lengths included, are those that are wanted, and 1 if any
@@ -192,7 +191,7 @@ unsigned int pikhsen_argon2_settings(const unsigned char *text, size_t text_len,
  * while the password is there for a new hash.
  */
 PIKHSEN_MUST_CHECK PIKHSEN_NOT_NULL(3) PIKHSEN_NOT_NULL(4)
-unsigned int pikhsen_argon2_needs_rehash(const unsigned char *text, size_t text_len,
+unsigned int pikhsen_argon2_needs_rehash(const char *text, size_t text_len,
     const struct pikhsen_argon2_settings *wanted, unsigned int *needs);
 
 /*
@@ -204,9 +203,9 @@ unsigned int pikhsen_argon2_needs_rehash(const unsigned char *text, size_t text_
  * or three with S above 1, come beside them, so where r is great and N / S small up to four times as much is taken.
  */
 PIKHSEN_MUST_CHECK
-unsigned int pikhsen_scrypt(const unsigned char *password, size_t password_len, const unsigned char *salt,
-    size_t salt_len, unsigned int log_n, unsigned int r, unsigned int p, unsigned int keep, pikhsen_u64 max_bytes,
-    pikhsen_u64 max_ops, unsigned char *out, size_t out_len);
+unsigned int pikhsen_scrypt(const char *password, size_t password_len, const void *salt, size_t salt_len,
+    unsigned int log_n, unsigned int r, unsigned int p, unsigned int keep, pikhsen_u64 max_bytes, pikhsen_u64 max_ops,
+    void *out, size_t out_len);
 
 /* What the header of a file says. */
 struct pikhsen_scrypt_costs {
@@ -221,7 +220,7 @@ struct pikhsen_scrypt_costs {
  * make such a header: it says what opening the file would take, and not who wrote it.
  */
 PIKHSEN_MUST_CHECK PIKHSEN_NOT_NULL(3)
-unsigned int pikhsen_scrypt_info(const unsigned char *file, size_t file_len, struct pikhsen_scrypt_costs *costs);
+unsigned int pikhsen_scrypt_info(const void *file, size_t file_len, struct pikhsen_scrypt_costs *costs);
 
 /*
  * Writes the encrypted file of a text. out_len is text_len + PIKHSEN_FILE_OVERHEAD. The salt has 32 bytes, AND MUST BE
@@ -231,9 +230,9 @@ unsigned int pikhsen_scrypt_info(const unsigned char *file, size_t file_len, str
  * LOST, and the result may be PIKHSEN_OK. pikhsen_scrypt_encrypt_in_place is for that.
  */
 PIKHSEN_MUST_CHECK
-unsigned int pikhsen_scrypt_encrypt(const unsigned char *passphrase, size_t passphrase_len, const unsigned char *salt,
-    size_t salt_len, unsigned int log_n, unsigned int r, unsigned int p, unsigned int keep, pikhsen_u64 max_bytes,
-    pikhsen_u64 max_ops, const unsigned char *text, size_t text_len, unsigned char *out, size_t out_len);
+unsigned int pikhsen_scrypt_encrypt(const char *passphrase, size_t passphrase_len, const void *salt, size_t salt_len,
+    unsigned int log_n, unsigned int r, unsigned int p, unsigned int keep, pikhsen_u64 max_bytes, pikhsen_u64 max_ops,
+    const void *text, size_t text_len, void *out, size_t out_len);
 
 /*
  * Encrypts in place: the text is all of out except its last PIKHSEN_FILE_OVERHEAD bytes, which need not be set, and the
@@ -242,9 +241,9 @@ unsigned int pikhsen_scrypt_encrypt(const unsigned char *passphrase, size_t pass
  * file.
  */
 PIKHSEN_MUST_CHECK
-unsigned int pikhsen_scrypt_encrypt_in_place(const unsigned char *passphrase, size_t passphrase_len,
-    const unsigned char *salt, size_t salt_len, unsigned int log_n, unsigned int r, unsigned int p, unsigned int keep,
-    pikhsen_u64 max_bytes, pikhsen_u64 max_ops, unsigned char *out, size_t out_len);
+unsigned int pikhsen_scrypt_encrypt_in_place(const char *passphrase, size_t passphrase_len, const void *salt,
+    size_t salt_len, unsigned int log_n, unsigned int r, unsigned int p, unsigned int keep, pikhsen_u64 max_bytes,
+    pikhsen_u64 max_ops, void *out, size_t out_len);
 
 /*
  * Writes the text of a file to the front of out, zeros after it, and its length to *text_len. out has at least file_len
@@ -254,9 +253,9 @@ unsigned int pikhsen_scrypt_encrypt_in_place(const unsigned char *passphrase, si
  * tested: give it memory that nobody else reads. Fewer than 96 bytes are PIKHSEN_TOO_SHORT. keep and limits as above.
  */
 PIKHSEN_MUST_CHECK PIKHSEN_NOT_NULL(10)
-unsigned int pikhsen_scrypt_decrypt(const unsigned char *passphrase, size_t passphrase_len, unsigned int keep,
-    pikhsen_u64 max_bytes, pikhsen_u64 max_ops, const unsigned char *file, size_t file_len, unsigned char *out,
-    size_t out_len, size_t *text_len);
+unsigned int pikhsen_scrypt_decrypt(const char *passphrase, size_t passphrase_len, unsigned int keep,
+    pikhsen_u64 max_bytes, pikhsen_u64 max_ops, const void *file, size_t file_len, void *out, size_t out_len,
+    size_t *text_len);
 
 /*
  * A file in pieces, in memory that does not grow with it. A stream is one encryption or decryption, which the caller
@@ -291,13 +290,13 @@ typedef struct {
  * Without what finish writes a file is not whole: each reader refuses it.
  */
 PIKHSEN_MUST_CHECK PIKHSEN_NOT_NULL(11)
-unsigned int pikhsen_scrypt_encrypt_start(const unsigned char *passphrase, size_t passphrase_len,
-    const unsigned char *salt, size_t salt_len, unsigned int log_n, unsigned int r, unsigned int p, unsigned int keep,
-    pikhsen_u64 max_bytes, pikhsen_u64 max_ops, pikhsen_stream *stream, unsigned char *head, size_t head_len);
+unsigned int pikhsen_scrypt_encrypt_start(const char *passphrase, size_t passphrase_len, const void *salt,
+    size_t salt_len, unsigned int log_n, unsigned int r, unsigned int p, unsigned int keep, pikhsen_u64 max_bytes,
+    pikhsen_u64 max_ops, pikhsen_stream *stream, void *head, size_t head_len);
 PIKHSEN_MUST_CHECK PIKHSEN_NOT_NULL(1)
-unsigned int pikhsen_scrypt_encrypt_feed(pikhsen_stream *stream, unsigned char *bytes, size_t bytes_len);
+unsigned int pikhsen_scrypt_encrypt_feed(pikhsen_stream *stream, void *bytes, size_t bytes_len);
 PIKHSEN_MUST_CHECK PIKHSEN_NOT_NULL(1)
-unsigned int pikhsen_scrypt_encrypt_finish(pikhsen_stream *stream, unsigned char *code, size_t code_len);
+unsigned int pikhsen_scrypt_encrypt_finish(pikhsen_stream *stream, void *code, size_t code_len);
 
 /*
  * Decrypts in pieces. start reads the first PIKHSEN_FILE_HEAD bytes of front, and feed, piece by piece, all that comes
@@ -313,11 +312,11 @@ unsigned int pikhsen_scrypt_encrypt_finish(pikhsen_stream *stream, unsigned char
  * result but PIKHSEN_STREAM the stream does not run.
  */
 PIKHSEN_MUST_CHECK PIKHSEN_NOT_NULL(8)
-unsigned int pikhsen_scrypt_decrypt_start(const unsigned char *passphrase, size_t passphrase_len, unsigned int keep,
-    pikhsen_u64 max_bytes, pikhsen_u64 max_ops, const unsigned char *front, size_t front_len, pikhsen_stream *stream);
+unsigned int pikhsen_scrypt_decrypt_start(const char *passphrase, size_t passphrase_len, unsigned int keep,
+    pikhsen_u64 max_bytes, pikhsen_u64 max_ops, const void *front, size_t front_len, pikhsen_stream *stream);
 PIKHSEN_MUST_CHECK PIKHSEN_NOT_NULL(1) PIKHSEN_NOT_NULL(6)
-unsigned int pikhsen_scrypt_decrypt_feed(pikhsen_stream *stream, const unsigned char *piece, size_t piece_len,
-    unsigned char *out, size_t out_len, size_t *released);
+unsigned int pikhsen_scrypt_decrypt_feed(pikhsen_stream *stream, const void *piece, size_t piece_len, void *out,
+    size_t out_len, size_t *released);
 PIKHSEN_MUST_CHECK PIKHSEN_NOT_NULL(1)
 unsigned int pikhsen_scrypt_decrypt_finish(pikhsen_stream *stream);
 

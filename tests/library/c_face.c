@@ -70,18 +70,19 @@ void free(void *at)
 }
 #endif
 
-static const unsigned char password[] = "password", somesalt[] = "somesalt", none[] = "";
+static const char password[] = "password", somesalt[] = "somesalt", none[] = "";
 
 /* printf password | argon2 somesalt -d -t 1 -k 8 -e, by the reference program */
-static const unsigned char known[] =
+static const char known[] =
     "$argon2d$v=19$m=8,t=1,p=1$c29tZXNhbHQ$xRnmA6xgPsGutbcexEpheePzl1sUwMl+ORTHnmNj4Xg";
 #define KNOWN_LEN (sizeof known - 1)
 #define KNOWN known, KNOWN_LEN
 
 /* RFC 9106, 5.3, its salt and tag by base64(1): with a secret of 8 bytes 3, and data of 12 bytes 4 */
-static const unsigned char known_keyed[] =
+static const char known_keyed[] =
     "$argon2id$v=19$m=32,t=3,p=4$AgICAgICAgICAgICAgICAg$DWQN9Y14dmwIwDejSotTydAe8EUtdbZetSUg6WsB5lk";
-static unsigned char ones[32], twos[16], threes[8], fours[12];
+static char ones[32];
+static unsigned char twos[16], threes[8], fours[12];
 static const unsigned char zeros[32];
 
 /* Arguments that belong together: what is hashed, the costs of a key and of a file, and limits that refuse none. */
@@ -110,8 +111,8 @@ static unsigned int hash(unsigned char *out)
 #error "there is too little room for a text"
 #endif
 
-static unsigned char keyed[PIKHSEN_ENCODED_ROOM(16, 32)];
-static unsigned char file[128 + 5], text[128 + 5], place[128 + 5], encoded[PIKHSEN_ENCODED_ROOM(8, 32)];
+static char keyed[PIKHSEN_ENCODED_ROOM(16, 32)], encoded[PIKHSEN_ENCODED_ROOM(8, 32)];
+static unsigned char file[128 + 5], text[128 + 5], place[128 + 5];
 static struct pikhsen_scrypt_costs costs;
 static struct pikhsen_argon2_settings settings;
 static unsigned int needs;
@@ -151,7 +152,7 @@ static unsigned int one(int call, unsigned char *tag)
 	switch (call) {
 	case 0: return hash(tag);
 	case 1: return pikhsen_argon2_encoded(ARGON2D, PASSWORD, SALT, 32, 8, 100, encoded, sizeof encoded, &len);
-	case 2: return pikhsen_argon2_verify(encoded, strlen((char *)encoded), PASSWORD, 8, 100);
+	case 2: return pikhsen_argon2_verify(encoded, strlen(encoded), PASSWORD, 8, 100);
 	case 3: return pikhsen_scrypt(EMPTY, EMPTY, KEY, 4, WIDE, tag, 32);
 	case 4: return pikhsen_scrypt_encrypt(PASSWORD, FILE_SALT, COSTS, 1, WIDE, somesalt, 5, file, sizeof file);
 	case 5: return pikhsen_scrypt_info(file, sizeof file, &costs);
@@ -165,7 +166,7 @@ static unsigned int one(int call, unsigned char *tag)
 	case 10:
 		return pikhsen_argon2_encoded_keyed(RFC_9106, SECRET, DATA, 32, 32, 1000, keyed, sizeof keyed, &len);
 	case 11:
-		return pikhsen_argon2_verify_keyed(keyed, strlen((char *)keyed), ones, 32, SECRET, DATA, 32, 1000);
+		return pikhsen_argon2_verify_keyed(keyed, strlen(keyed), ones, 32, SECRET, DATA, 32, 1000);
 	case 12: return in_two_pieces();
 	default: return pikhsen_scrypt_decrypt(PASSWORD, 1, WIDE, file, sizeof file, text, sizeof text, &len);
 	}
@@ -235,7 +236,7 @@ static void refused_by_limits(void)
 		{ PIKHSEN_MEMORY_LIMIT, 7, 100, 2047, 64, 6143, 384 },
 		{ PIKHSEN_WORK_LIMIT, 8, 5, 2048, 63, 6144, 383 },
 	}, *of;
-	const size_t encoded_len = strlen((char *)encoded);
+	const size_t encoded_len = strlen(encoded);
 	unsigned char tag[32];
 
 	asked = 0;
@@ -450,7 +451,7 @@ static void settings_of_texts(void)
 	WANT(pikhsen_argon2_needs_rehash(KNOWN, &wanted, &needs) == PIKHSEN_OK && needs == 1);
 	needs = 7;
 	for (i = 0; i < sizeof texts / sizeof *texts; ++i) {
-		const unsigned char *outside = (const unsigned char *)texts[i].text;
+		const char *outside = texts[i].text;
 		const size_t outside_len = strlen(texts[i].text);
 		const int is_text = texts[i].told != PIKHSEN_NOT_ENCODED;
 		WANT(pikhsen_argon2_settings(outside, outside_len, &settings) == texts[i].told);
@@ -463,28 +464,28 @@ static void settings_of_texts(void)
 
 /* Both functions with a secret and data refuse these lengths, or these limits. */
 static void keyed_is_refused(unsigned int told, size_t secret_len, size_t data_len, unsigned int kib,
-    unsigned int blocks, unsigned char out[PIKHSEN_ENCODED_ROOM(16, 32)])
+    unsigned int blocks, char out[PIKHSEN_ENCODED_ROOM(16, 32)])
 {
 	len = 7;
 	WANT(pikhsen_argon2_encoded_keyed(RFC_9106, threes, secret_len, fours, data_len, 32, kib, blocks, out,
 	    PIKHSEN_ENCODED_ROOM(16, 32), &len) == told && len == 0);
-	WANT(pikhsen_argon2_verify_keyed(keyed, strlen((char *)keyed), ones, 32, threes, secret_len, fours, data_len, kib,
+	WANT(pikhsen_argon2_verify_keyed(keyed, strlen(keyed), ones, 32, threes, secret_len, fours, data_len, kib,
 	    blocks) == told);
 }
 
 /* With a secret and data: the text of the standard's tag. */
 static void with_a_secret(void)
 {
-	const size_t keyed_len = strlen((char *)keyed);
-	unsigned char other[PIKHSEN_ENCODED_ROOM(16, 32)];
+	const size_t keyed_len = strlen(keyed);
+	char other[PIKHSEN_ENCODED_ROOM(16, 32)];
 
-	WANT(strcmp((char *)keyed, (const char *)known_keyed) == 0);
+	WANT(strcmp(keyed, known_keyed) == 0);
 	TOLD(MISMATCH, pikhsen_argon2_verify(keyed, keyed_len, ones, 32, 32, 1000));
 	/* with neither, what the two functions without them give */
 	TOLD(OK, pikhsen_argon2_verify_keyed(KNOWN, PASSWORD, NOTHING, NOTHING, 8, 6));
 	TOLD(OK, pikhsen_argon2_encoded_keyed(ARGON2D, PASSWORD, SALT, NOTHING, NOTHING, 32, 8, 6, other,
 	    sizeof other, &len));
-	WANT(len == KNOWN_LEN && strcmp((char *)other, (const char *)known) == 0);
+	WANT(len == KNOWN_LEN && strcmp(other, known) == 0);
 	/* 32 KiB and 104 block functions are needed; the lengths of secret and data are tested before, and no byte of these
 	 * is read */
 	keyed_is_refused(PIKHSEN_INPUT_LENGTH, 1ul << 32, 12, 31, 103, other);
@@ -495,7 +496,7 @@ static void with_a_secret(void)
 	TOLD(NOT_ENCODED, pikhsen_argon2_verify_keyed(NOTHING, ones, 32, SECRET, DATA, 32, 104));
 	len = 7;
 	TOLD(BUFFER, pikhsen_argon2_encoded_keyed(RFC_9106, SECRET, DATA, 32, 32, 104, NOTHING, &len));
-	WANT(len == 0 && strcmp((char *)other, (const char *)known) == 0);
+	WANT(len == 0 && strcmp(other, known) == 0);
 }
 
 /* The length of a password whose bytes are all p, and its text by Debian's libargon2 (0~20171227). */
@@ -509,24 +510,24 @@ static const struct {
 	{ 200, "$argon2id$v=19$m=8,t=1,p=1$c29tZXNhbHQ$3tbNRvV7sZKpjkf2UD6t8e6WHIkGc9uIZd0mt56AJyU" },
 	{ 1000000, "$argon2id$v=19$m=8,t=1,p=1$c29tZXNhbHQ$tCIEZwLxQnoIKtVKR1eyClr1cf47EdjtUdA71sEoYdo" },
 };
-static unsigned char many[1000001];
+static char many[1000001];
 
 /* Passwords of these lengths, and one of the other lengths, which is wrong. */
 static void any_password(void)
 {
-	unsigned char other[PIKHSEN_ENCODED_ROOM(8, 32)];
+	char other[PIKHSEN_ENCODED_ROOM(8, 32)];
 	size_t i;
 
 	memset(many, 'p', sizeof many);
 	for (i = 0; i < sizeof lengths / sizeof *lengths; ++i) {
-		const unsigned char *of = (const unsigned char *)lengths[i].text;
+		const char *of = lengths[i].text;
 		const size_t of_len = strlen(lengths[i].text), right = lengths[i].len, wrong = right ^ 1;
 
 		TOLD(OK, pikhsen_argon2_encoded(ARGON2ID, many, right, SALT, 32, 8, 10, other, sizeof other, &len));
-		WANT(len == of_len && strcmp((char *)other, lengths[i].text) == 0);
+		WANT(len == of_len && strcmp(other, lengths[i].text) == 0);
 		TOLD(OK, pikhsen_argon2_encoded_keyed(ARGON2ID, many, right, SALT, EMPTY, EMPTY, 32, 8, 10, other,
 		    sizeof other, &len));
-		WANT(len == of_len && strcmp((char *)other, lengths[i].text) == 0);
+		WANT(len == of_len && strcmp(other, lengths[i].text) == 0);
 		TOLD(OK, pikhsen_argon2_verify(of, of_len, many, right, 8, 10));
 		TOLD(MISMATCH, pikhsen_argon2_verify(of, of_len, many, wrong, 8, 10));
 		TOLD(OK, pikhsen_argon2_verify_keyed(of, of_len, many, right, EMPTY, EMPTY, 8, 10));
@@ -538,7 +539,8 @@ static void any_password(void)
 /* One that is longer is refused before secret and limits, and no byte of it is read. */
 static void long_password(void)
 {
-	unsigned char other[PIKHSEN_ENCODED_ROOM(8, 32)], tag[32];
+	char other[PIKHSEN_ENCODED_ROOM(8, 32)];
+	unsigned char tag[32];
 
 	TOLD(PASSWORD_LENGTH, pikhsen_argon2_hash(ARGON2ID, TOO_LONG, SALT, TOO_LONG, EMPTY, 7, 1, tag, 32));
 	TOLD(SALT_LENGTH, pikhsen_argon2_hash(ARGON2ID, TOO_LONG, somesalt, 7, EMPTY, EMPTY, 8, 10, tag, 32));
@@ -557,13 +559,13 @@ static void long_password(void)
 /* Every sentence wants room for its bytes and for one more, and writes no other. */
 static void messages(void)
 {
-	unsigned char said[PIKHSEN_MESSAGE_ROOM];
+	char said[PIKHSEN_MESSAGE_ROOM];
 	size_t said_len, room;
 	unsigned int status;
 
 	for (status = 0; status <= PIKHSEN_STREAM + 1; ++status) {
 		WANT(pikhsen_message(status, said, sizeof said, &said_len) == PIKHSEN_OK);
-		WANT(said_len == strlen((char *)said) && said_len > 0);
+		WANT(said_len == strlen(said) && said_len > 0);
 		room = said_len;
 		memset(said, 1, sizeof said);
 		WANT(pikhsen_message(status, said, room, &said_len) == PIKHSEN_BUFFER && said_len == 0 && said[0] == 1);
@@ -589,7 +591,7 @@ int main(void)
 		WANT(on_small_stack(calls_refused, i % 13, tag) == PIKHSEN_OK);
 	/* RFC 7914, section 12, the first vector's last derivation has these first bytes; keep is 4 */
 	WANT(tag[0] == 0x77 && tag[1] == 0xd6 && tag[2] == 0x57 && tag[3] == 0x62);
-	WANT(strcmp((char *)encoded, (const char *)known) == 0);
+	WANT(strcmp(encoded, known) == 0);
 
 	WANT(len == 5 && memcmp(text, somesalt, 5) == 0);
 	for (i = 5; i < (int)sizeof text; ++i)

@@ -72,7 +72,7 @@ def build(checks, folder):
 def warned_of(checks, folder, name, body, warnings):
     """The compiler warns of this in the body of a function, and of nothing else; or of nothing, and keeps a test of a pointer."""
     source, made = pathlib.Path(folder, "body.c"), pathlib.Path(folder, "body.s")
-    head = '#include "pikhsen.h"\nunsigned int f(const unsigned char *file, struct pikhsen_scrypt_costs *costs)\n'
+    head = '#include "pikhsen.h"\nunsigned int f(const void *file, struct pikhsen_scrypt_costs *costs)\n'
     source.write_text(f"{head}{{\n    {body}\n}}\n", encoding="utf-8")
     status, says = ran("gcc", *STRICT, "-O2", "-Wno-unused-parameter", *INCLUDE, "-S", source, "-o", made)
     found = re.findall(r"\[-W(?:error=)?([\w-]+)\]$", says, re.MULTILINE)
@@ -116,7 +116,7 @@ CALL = """#include "pikhsen.h"
 #error "the room is not a number of the preprocessor's"
 #endif
 int main() {
-    unsigned char room[PIKHSEN_ENCODED_ROOM(16, 32)], password[] = { 'x' }, salt[16] = { 0 };
+    char room[PIKHSEN_ENCODED_ROOM(16, 32)], password[] = { 'x' }, salt[16] = { 0 };
     size_t len = 16;
     bool has_room = sizeof room == PIKHSEN_ENCODED_ROOM(len, 32);
     unsigned int told = pikhsen_argon2_encoded(PIKHSEN_ARGON2ID, 0x13, 1, 8, 1, password, 1, salt, len, 32, 8, 100,

@@ -21,11 +21,15 @@ SOURCES = {it.stem: it.read_text(encoding="utf-8") for it in sorted((TOP / "crat
 # How the parameter NAME of a type of the sources is written in C.
 IN_C = {
     "Machine": (), "Told": ("unsigned int NAME",), "u32": ("unsigned int NAME",), "u64": ("pikhsen_u64 NAME",), "usize": ("size_t NAME",),
-    "&[u8]": ("const unsigned char *NAME", "size_t NAME_len"), "&mut [u8]": ("unsigned char *NAME", "size_t NAME_len"),
+    "&[u8]": ("const BYTES *NAME", "size_t NAME_len"), "&mut [u8]": ("BYTES *NAME", "size_t NAME_len"),
     "&mut usize": ("size_t *NAME",), "&mut u32": ("unsigned int *NAME",), "&mut PikhsenScryptCosts": ("struct pikhsen_scrypt_costs *NAME",),
     "&PikhsenArgon2Settings": ("const struct pikhsen_argon2_settings *NAME",),
     "&mut PikhsenArgon2Settings": ("struct pikhsen_argon2_settings *NAME",), "&mut PikhsenStream": ("pikhsen_stream *NAME",),
 }
+# What C has as a string is of char, and other bytes are of void: by its name, or by its function's, too.
+STRINGS = {"password", "passphrase", *(f"pikhsen_{it}" for it in (
+    "message out", "argon2_encoded out", "argon2_encoded_keyed out", "argon2_verify text", "argon2_verify_keyed text",
+    "argon2_settings text", "argon2_needs_rehash text"))}
 # The exports that want no memory, and derive and hash nothing.
 NO_MACHINE = ["pikhsen_message", "pikhsen_scrypt_info", "pikhsen_version"]
 # Those that nothing refuses.
@@ -54,7 +58,8 @@ def exports():
     found = {}
     for name, parameters, result in declared_exports():
         pairs = [it.strip().split(": ") for it in parameters.split(",") if it.strip()]
-        words = [word.replace("NAME", called) for called, kind in pairs for word in IN_C[kind]]
+        kinds = {called: "char" if STRINGS & {called, f"{name} {called}"} else "void" for called, _ in pairs}
+        words = [word.replace("NAME", called).replace("BYTES", kinds[called]) for called, kind in pairs for word in IN_C[kind]]
         found[name] = (IN_C[result][0].replace(" NAME", ""), words or ["void"])
     return found
 
@@ -72,7 +77,7 @@ def prototypes(text):
 def never_null(parameters):
     """The places of pointers without a length, counted from 1: only these may not be null."""
     plain = [it.removeprefix("const ") for it in parameters]
-    return [at for at, it in enumerate(plain, 1) if "*" in it and not it.startswith("unsigned char *")]
+    return [at for at, it in enumerate(plain, 1) if "*" in it and not it.startswith(("char *", "void *"))]
 
 
 def numbers_of_sources():

@@ -47,8 +47,9 @@
 #define NOINLINE __attribute__((noinline))
 
 static const pikhsen_u64 most = 1ul << 30;
-static const unsigned char passphrase[] = "pw", none[] = "";
-static unsigned char salt[32], text[1128], file[1128], key[64], encoded[PIKHSEN_ENCODED_ROOM(32, 32)];
+static const char passphrase[] = "pw", none[] = "";
+static unsigned char salt[32], text[1128], file[1128], key[64];
+static char encoded[PIKHSEN_ENCODED_ROOM(32, 32)];
 static size_t len;
 
 /* ---- the calls */
@@ -61,7 +62,7 @@ typedef unsigned int (*call_t)(void);
 #define PW_AND_SALT passphrase, 2, salt, 32
 #define TEXT encoded, sizeof encoded
 #define WIDE most, most
-#define OF_TEXT encoded, strlen((char *)encoded), passphrase, 2
+#define OF_TEXT encoded, strlen(encoded), passphrase, 2
 
 /* Calls of a stream, until one is refused. */
 static unsigned int to_pieces(int is_freed)

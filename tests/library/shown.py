@@ -66,12 +66,12 @@ OF_C = """#define main main_of_page
 PROGRAM
 #undef main
 int main(int count, char **words) {
-    unsigned char text[PIKHSEN_ENCODED_ROOM(16, 32)];
+    char text[PIKHSEN_ENCODED_ROOM(16, 32)];
     size_t len;
     if (enrol("", text, sizeof text, &len))
         return 1;
     for (int at = 1; at < count; at += 2)
-        puts(answer((const unsigned char *)words[at], strlen(words[at]), words[at + 1]));
+        puts(answer(words[at], strlen(words[at]), words[at + 1]));
     return 0;
 }
 """
@@ -87,7 +87,7 @@ OF_PAGE = """#include <pikhsen.h>
 #include <string.h>
 #include <sys/random.h>
 int main(int count, char **words) {
-    const unsigned char password[] = "correct horse";
+    const char password[] = "correct horse";
     size_t password_len = 13;
     ENROL
     if (count > 1)

@@ -62,20 +62,19 @@ int argon2_hash(uint32_t passes, uint32_t kib, uint32_t lanes, const void *passw
 		    0, NULL, 0, NO_KIB, NO_OPS, tag, tag_len), lanes, salt_len, tag_len);
 	if (text && answer == ARGON2_OK)
 		answer = told(pikhsen_argon2_encoded(type, version, passes, kib, lanes, password, password_len, salt, salt_len,
-		    tag_len, NO_KIB, NO_OPS, (unsigned char *)text, text_room, &text_len), lanes, salt_len, tag_len);
+		    tag_len, NO_KIB, NO_OPS, text, text_room, &text_len), lanes, salt_len, tag_len);
 	return answer;
 }
 
 int argon2_verify(const char *text, const void *password, const size_t password_len, argon2_type type)
 {
-	const unsigned char *bytes = (const unsigned char *)text;
 	struct pikhsen_argon2_settings of = {0};
-	unsigned int status = pikhsen_argon2_settings(bytes, strlen(text), &of);
+	unsigned int status = pikhsen_argon2_settings(text, strlen(text), &of);
 
 	if (status == PIKHSEN_OK && of.kind != (unsigned int)type)
 		return ARGON2_INCORRECT_TYPE;
 	if (status == PIKHSEN_OK)
-		status = pikhsen_argon2_verify(bytes, strlen(text), password, password_len, NO_KIB, NO_OPS);
+		status = pikhsen_argon2_verify(text, strlen(text), password, password_len, NO_KIB, NO_OPS);
 	return told(status, of.lanes, of.salt_len, of.tag_len);
 }
 

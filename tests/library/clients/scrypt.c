@@ -57,16 +57,16 @@ int exp_scryptenc_buf(const uint8_t *text, size_t text_len, uint8_t *out, const 
 		log_n += 1;
 	if (getrandom(salt, sizeof salt, 0) != sizeof salt)
 		return NO_SALT;
-	return told(pikhsen_scrypt_encrypt(passphrase, passphrase_len, salt, sizeof salt, log_n, 8, 1, 1, bytes, cores, text,
-	    text_len, out, text_len + PIKHSEN_FILE_OVERHEAD));
+	return told(pikhsen_scrypt_encrypt((const char *)passphrase, passphrase_len, salt, sizeof salt, log_n, 8, 1, 1,
+	    bytes, cores, text, text_len, out, text_len + PIKHSEN_FILE_OVERHEAD));
 }
 
 int exp_scryptdec_buf(const uint8_t *file, size_t file_len, uint8_t *out, size_t *out_len, const uint8_t *passphrase,
     size_t passphrase_len, size_t maxmem, double part, double seconds, int verbose, int force)
 {
 	(void)verbose, (void)force;
-	return told(pikhsen_scrypt_decrypt(passphrase, passphrase_len, 1, memory(maxmem, part), work(seconds), file, file_len,
-	    out, file_len, out_len));
+	return told(pikhsen_scrypt_decrypt((const char *)passphrase, passphrase_len, 1, memory(maxmem, part),
+	    work(seconds), file, file_len, out, file_len, out_len));
 }
 
 int exp_crypto_scrypt(const uint8_t *password, size_t password_len, const uint8_t *salt, size_t salt_len, uint64_t n,
@@ -76,6 +76,6 @@ int exp_crypto_scrypt(const uint8_t *password, size_t password_len, const uint8_
 
 	while (log_n < 63 && 1ul << log_n != n)
 		log_n += 1;
-	return told(pikhsen_scrypt(password, password_len, salt, salt_len, log_n, r, p, 1, UINT64_MAX, UINT64_MAX, out,
-	    out_len));
+	return told(pikhsen_scrypt((const char *)password, password_len, salt, salt_len, log_n, r, p, 1, UINT64_MAX,
+	    UINT64_MAX, out, out_len));
 }
