@@ -8,8 +8,8 @@ crates/CRATE/out/libCRATE.a; without one they are only proved. An older one is t
 
 A crate starts once all below it are proved; of several first the one with the longest chain of others above it. As many
 run side by side as there are processors, or as JOBS says, with 3 GB of free memory for each. A crate that starts where
-fewer can run shares its work among several processes. The crate that holds up most others goes first: the others are
-nice to it. What stands on a crate that is not proved is left out.
+fewer can run shares its work among several processes, and so does one that nearly holds up most others. The crate that
+holds up most others goes first: the others are nice to it. What stands on a crate that is not proved is left out.
 
 The toolchain lets one run at a time work in a crate and in what it stands on. So each crate is proved in a folder of
 its own below bin/rooms, with links to its files and to the libraries below it; what it makes goes to the crate's out/.
@@ -31,7 +31,8 @@ CRATES, ROOMS, LOGS = TOP / "crates", TOP / "bin/rooms", TOP / "bin/logs"
 MEMORY = 3 << 20  # KiB for a check: few take more
 MOST = 4  # processes that share the work of one crate: each loads the libraries anew, so more gain little
 BESIDE = 10  # how nice a crate is to the one that holds up most others
-SMALL = 50  # seconds of the processor below which a check mostly loads libraries, which each process would do again
+SMALL = 99  # seconds of the processor below which a check mostly loads libraries, which each process would do again
+NEAR = 0.8  # the part of the longest chain that begins with a crate, from which on it gets two processes
 
 
 # The seconds of the processor for a check of each crate from nothing, as docs/crates.tsv has them, if it is there. Only the
@@ -47,6 +48,8 @@ class Step:
     def __init__(self, name, crate, words, waits, makes=None):
         self.name, self.crate, self.words, self.waits, self.makes = name, crate, words, waits, makes
         self.weight = SECONDS.get(crate, 60) * (3 if "test" in words else 1)
+        # a program mostly loads what it links
+        self.is_small = self.weight <= SMALL or words[0] == "run"
         self.room, self.log = ROOMS / name, LOGS / name
 
     def command(self, jobs, leads):
@@ -206,11 +209,11 @@ def chains(steps):
     return longest
 
 
-def jobs_for(weight, others):
-    """How many processes prove a crate of this weight beside so many others that run or could: its share of the
-    processors. More would do the same work twice where no processor is idle."""
-    most = MOST if weight > SMALL else 1
-    return max(1, min(most, processors() // (others + 1)))
+def jobs_for(step, others, part=0.0):
+    """How many processes prove a crate beside so many others that run or could: its share of the processors, or two where
+    the chain that begins with it is nearly the longest. More would do the same work twice where no processor is idle."""
+    least = 2 if part >= NEAR and processors() > 2 else 1
+    return 1 if step.is_small else min(MOST, max(least, processors() // (others + 1)))
 
 
 def prove(steps):
@@ -239,9 +242,9 @@ def prove(steps):
             while ready and len(running) < most and not told:
                 step = ready.pop(0)
                 left.remove(step)
-                leads = all(longest[step.name] >= longest[it.name] for it in [*left, *running.values()])
-                jobs = jobs_for(step.weight, len(running) + len(ready))
-                running[step.start(uses, jobs, leads)] = step
+                part = longest[step.name] / max(longest[it.name] for it in [step, *left, *running.values()])
+                jobs = jobs_for(step, len(running) + len(ready), part)
+                running[step.start(uses, jobs, leads=part == 1)] = step
             if told:
                 stop()  # also what was just being started
             elif came:

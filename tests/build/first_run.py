@@ -174,11 +174,12 @@ def look_at_lines(checks, name, said, total, kept=0):
 
 def shares(checks):
     """A crate gets more processes the fewer others run or could, and the one that leads goes first."""
-    for processors, found in (("1", [1, 1, 1, 1]), ("2", [2, 1, 1, 1]), ("4", [4, 2, 1, 1]), ("64", [4, 4, 4, 4])):
+    step, small, program = (prove.Step(it, it, [word], []) for it, word in (("romix", "lib"), ("counter", "lib"), ("scrypt_tool", "run")))
+    for processors, found in (("1", [1, 1, 1, 1, 1]), ("2", [2, 1, 1, 1, 1]), ("4", [4, 2, 1, 1, 2]), ("64", [4, 4, 4, 4, 4])):
         os.environ["JOBS"] = processors
-        checks.that(f"processes, of {processors}", [prove.jobs_for(100, others) for others in range(4)], found)
-    checks.that("a small crate", prove.jobs_for(19, 0), 1)
-    step = prove.Step("romix", "romix", ["lib"], [])
+        beside = [prove.jobs_for(step, *it) for it in ((0,), (1,), (2,), (3,), (3, 0.9))]
+        checks.that(f"processes, of {processors}", beside, found)
+        checks.that(f"small crates and programs, of {processors}", [prove.jobs_for(it, 0, 1.0) for it in (small, program)], [1, 1])
     checks.that("the one that leads", step.command(4, True), ["rt", "lib", "--jobs", "4"])
     checks.that("one beside it", step.command(2, False), ["nice", "-n", "10", "rt", "lib", "--jobs", "2"])
 
