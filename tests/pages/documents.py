@@ -156,8 +156,7 @@ SENTENCES = {
     "man/argon2.1": [
         f"{off['`argon2 -id -t 3 -m 16`']} the processor time of three passes over 64 MiB",
         f"{off['`argon2 -id -t 1 -m 18`']} that of one pass over 256 MiB", f"64 MiB, and {login} seconds",
-        "took {0} to {2} of the processor time of those for v2 in {3} of {4} settings, and {1} in one".format(
-            *(to_v2["hashes"][at] for at in (0, -1, -2)), len(to_v2["hashes"]) - 1, len(to_v2["hashes"])),
+        f"took {spans_to_v2['hashes']} of the processor time of those for v2",
     ],
     "docs/BENCHMARKS.md": [
         f"`argon2` took {spans_v2['hashes']} of the time of Debian's if built for x86-64-v2, "
