@@ -7,7 +7,7 @@ sources where no contract sees what they do. A test must find each.
     tests/edits/wrong_lines.py [--told] NAME..  these; with --told what the test said of each is written as its goal
 
 How edits are written, says tests/edits/edits.py: `test:` names the test that must fail, and `refused:` has the first that it
-must then say. A test that fails over an unchanged copy finds nothing.
+must then say, after which it stops. A test that fails over an unchanged copy finds nothing.
 """
 import argparse
 import concurrent.futures
@@ -59,8 +59,9 @@ def said_by(test, lib, edit=None):
         for file, text in made[0].items() if made else ():
             (top / file).write_text(text, encoding="utf-8")
         words = [str(lib) if it == "LIB" else it for it in TESTS[test][0]]
-        ran = subprocess.run([top / test, *words], cwd=top, env={**os.environ, "PYTHONDONTWRITEBYTECODE": "1"},
-                             stdout=subprocess.PIPE, stderr=subprocess.STDOUT, text=True)
+        environment = {**os.environ, "PYTHONDONTWRITEBYTECODE": "1", "STOP_AT_FIRST": "1"}
+        ran = subprocess.run([top / test, *words], cwd=top, env=environment, stdout=subprocess.PIPE,
+                             stderr=subprocess.STDOUT, text=True)
         if ran.returncode == 0 or not made:
             return None
         said = SAID_OF_SOURCES if test in OF_SOURCES else SAID

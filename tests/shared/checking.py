@@ -27,6 +27,8 @@ class Checks:
         else:
             self.failed += 1
             print(f"FAILED {name}", *(f"  {said:8} {shortened(it)}" for said, it in difference(found, expected)), sep="\n")
+            if "STOP_AT_FIRST" in os.environ:
+                self.end()
 
     def run(self, words, given=b"", program=None, **more):
         """Status, standard output and standard error of the program with these words and this standard input."""
