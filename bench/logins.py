@@ -42,13 +42,10 @@ def logins_of(encode, memory, passes, count):
     return logins * (count // len(logins))
 
 
-def packed(logins):
-    return b"".join(bytes([len(password)]) + len(text).to_bytes(2, "big") + password + text for password, text in logins)
-
-
 def race(program, library, times, memory, passes, count):
     encode, verify = library
     logins = logins_of(encode, memory, passes, count)
+    given = b"".join(bytes([len(it)]) + len(text).to_bytes(2, "big") + it + text for it, text in logins)
     limits = [str(memory), "4294967295"]
     runs = {"verify": [program, *limits], "kept matrix": [program, *limits, str(memory), str(passes)]}
     cpu, faults = Least(), Least()
@@ -59,7 +56,7 @@ def race(program, library, times, memory, passes, count):
         cpu.note("libargon2", time)
         faults.note("libargon2", pages)
         for name, words in runs.items():
-            start, run = used(words), used(words, packed(logins))
+            start, run = used(words), used(words, given)
             if run.printed != b"yn" * (count // 2):
                 raise SystemExit(f"{name}: the answers are {run.printed[:20]!r}")
             for of, it in ((name, run), (f"{name}, start", start)):

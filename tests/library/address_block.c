@@ -42,7 +42,7 @@ static block g(block x, block y) {
 
 int main(int count, char **words) {
     if (count != 5) return 2;
-    int index = atoi(words[4]), found = 0;
+    int index = atoi(words[4]), inputs = 0, addresses = 0;
     at = (position){atoi(words[1]), atoi(words[2]), atoi(words[3]), 0};
     argon2i.memory = calloc(1608, sizeof(block));
     argon2i.segment_length = index + 1; /* the last column that is made, so that its address block is the last one */
@@ -50,17 +50,13 @@ int main(int count, char **words) {
     pthread_t thread;
     if (pthread_attr_init(&own) || pthread_attr_setstack(&own, stack, sizeof(stack))) return 2;
     if (pthread_create(&thread, &own, make_segment, 0) || pthread_join(thread, 0)) return 2;
-    block zero = {{0}}, input, address;
-    uint64_t counter = index / 128 + 1, z[] = {at.pass, at.lane, at.slice, 1608, 3, 1, counter};
+    block zero = {{0}}, input = {{at.pass, at.lane, at.slice, 1608, 3, 1, index / 128 + 1}};
+    block address = g(zero, g(zero, input));
     for (char *from = stack; from < stack + sizeof(stack) - sizeof(block); from += 8) {
-        memcpy(&input, from, sizeof(block));
-        if (memcmp(&input, z, sizeof(z)) || memcmp(input.v + 7, zero.v, 121 * 8)) continue;
-        address = g(zero, g(zero, input));
-        for (char *other = stack; other < stack + sizeof(stack) - sizeof(block); other += 8)
-            found += memcmp(other, &address, sizeof(block)) == 0;
-        printf("Z stands on the stack, and G(0, G(0, Z)) %d times\n", found);
-        break;
+        inputs += memcmp(from, &input, sizeof(block)) == 0;
+        addresses += memcmp(from, &address, sizeof(block)) == 0;
     }
-    if (!found) return 1;
+    printf("on the stack Z stands %d times, and G(0, G(0, Z)) %d times\n", inputs, addresses);
+    if (!inputs || !addresses) return 1;
     printf("J 0x%016llX\n", (unsigned long long)address.v[index % 128]);
 }

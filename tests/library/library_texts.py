@@ -1,7 +1,7 @@
 #!/usr/bin/env python3
-"""Reads what is written of libpikhsen, and compares it: header, sources, module for Python and manual page have the
-same functions, parameters, fields and versions. Their numbers and sentences are compared by tests/pages/values.py, which
-calls this.
+"""Reads what is written of libpikhsen, and compares it: header, sources and manual page have the same functions,
+parameters and versions. Their numbers and sentences, and those of the module for Python, are compared by
+tests/pages/values.py, which calls this.
 
     tests/library/library_texts.py
 """
@@ -15,6 +15,7 @@ sys.path += map(str, pathlib.Path(__file__).resolve().parents[1].iterdir())  # t
 from checking import Checks, is_there, said
 
 TOP = pathlib.Path(__file__).resolve().parents[2]
+VERSION = (TOP / "VERSION").read_text(encoding="utf-8").strip()
 HEADER, MODULE, PAGE = ((TOP / it).read_text(encoding="utf-8") for it in ("include/pikhsen.h", "python/pikhsen/__init__.py", "man/pikhsen.3"))
 FILES = (TOP / "python/pikhsen/_files.py").read_text(encoding="utf-8")
 SOURCES = {it.stem: it.read_text(encoding="utf-8") for it in sorted((TOP / "crates/pikhsen_c/src").glob("*.rt"))}
@@ -120,36 +121,16 @@ def kinds():
 
 
 def sentences():
-    """What each number says: in the sources, and in the definitions that their contracts cite; and what others say."""
+    """What each number says, and what others say: in the definition that the contracts cite."""
     defined = (TOP / "crates/pikhsen_c/specs/Message.antt").read_text(encoding="utf-8")
-    found = []
-    for form, other, text in ((r'^        (\d+) => "(.*)",$', r'^        _ => "(.*)",$', SOURCES["message"]),
-                              (r'if status == (\d+) then codes "(.*)"$', r'^    else codes "(.*)"$', defined)):
-        table = {int(number): says.replace('\\"', '"') for number, says in re.findall(form, text, re.MULTILINE)}
-        found.append((table, re.findall(other, text, re.MULTILINE)))
-    return found
-
-
-def fields(file, rust, c, python):
-    """The fields of what is told, in their order: of the sources, the header and the module."""
-    sources = re.search(rf"\npub struct {rust} \{{\n(.*?)\n\}}", SOURCES[file], re.DOTALL)[1]
-    header = re.search(rf"struct {c} \{{\n(.*?)\n\}};", HEADER, re.DOTALL)[1]
-    lines = re.findall(r"\t(\w[\w ]*?) (\w+(?:, \w+)*);", header)
-    module = re.search(rf"class {python}\(ctypes.Structure\):\n    _fields_ = \[(.*?)\]\n", MODULE, re.DOTALL)[1]
-    in_rust = {"unsigned int": "u32", "size_t": "usize", "c_uint": "u32", "c_size_t": "usize"}
-    of_c = [(it, in_rust.get(kind)) for kind, names in lines for it in names.split(", ")]
-    of_python = [(it, in_rust.get(kind)) for it, kind in re.findall(r'\("(\w+)", (\w+)\)', module)]
-    return [re.findall(r"pub (\w+): (\w+),", sources), of_c, of_python]
+    table = re.findall(r'if status == (\d+) then codes "(.*)"$', defined, re.MULTILINE)
+    others = re.findall(r'^    else codes "(.*)"$', defined, re.MULTILINE)
+    return {int(number): says.replace('\\"', '"') for number, says in table}, others
 
 
 def compare_texts(checks):
-    of_costs = fields("file", "PikhsenScryptCosts", "pikhsen_scrypt_costs", "_Costs")
-    checks.that("fields of the costs", of_costs, [[("log_n", "u32"), ("r", "u32"), ("p", "u32")]] * 3)
-    of_settings = fields("settings", "PikhsenArgon2Settings", "pikhsen_argon2_settings", "_Settings")
-    numbers = [(it, "u32") for it in ("kind", "version", "passes", "memory_kib", "lanes")]
-    checks.that("fields of settings", of_settings, [[*numbers, ("salt_len", "usize"), ("tag_len", "usize")]] * 3)
     of_header = dict(numbers_of_header().values())
-    checks.that("sentences of the sources and of their contracts", sentences(), [(of_header, ["unknown number"])] * 2)
+    checks.that("sentences of the contracts", sentences(), (of_header, ["unknown number"]))
     room = re.search(r"\n#define PIKHSEN_MESSAGE_ROOM (\d+)\n", HEADER)[1]
     short = f"    ensures room {{ {room} ≤ length out.old → result ≡ 0 }}\n"
     checks.that("room of a sentence, of the header and the contract", short in SOURCES["message"], True)
@@ -169,15 +150,14 @@ def compare_texts(checks):
     checks.that("prototypes of the manual page", prototypes(re.sub(r"\n +", " ", PAGE.split("\n.SH ")[2])), declared)
     overheads = (r"\n#define PIKHSEN_FILE_OVERHEAD (\d+)\n", HEADER), (r"PIKHSEN_FILE_OVERHEAD ,\n(\d+), bytes longer", PAGE)
     checks.that("overhead of a file, of the header and the manual page", [re.findall(*it) for it in overheads], [["128"]] * 2)
-    version = (TOP / "VERSION").read_text(encoding="utf-8").strip()
     asks, title, *_ = PAGE.split("\n")
     checks.that("the manual page asks for tbl", asks, "'\\\" t")
-    checks.that("version of the manual page", f'"Pikhsen {version}"' in title, True)
+    checks.that("version of the manual page", f'"Pikhsen {VERSION}"' in title, True)
     if is_there("mandoc", "the manual page is not looked at"):
         checks.that("manual page", said("mandoc", "-T", "lint", str(TOP / "man/pikhsen.3"), check=False), "")
     if is_there("mypy", "types of the Python module are not looked at"):
         checks.that("types of the Python module and of its callers", types(MYPYPATH=str(TOP / "python")), (0, ""))
-    number = sum(int(it) * power for it, power in zip(version.split("."), (10000, 100, 1)))
+    number = sum(int(it) * power for it, power in zip(VERSION.split("."), (10000, 100, 1)))
     checks.that("version of the header", re.findall(r"PIKHSEN_VERSION (\d+)u", HEADER), [str(number)])
     checks.that("version of the sources", f"\n    {number}\n}}" in SOURCES["version"], True)
 

@@ -17,14 +17,12 @@ import sys
 sys.path += map(str, pathlib.Path(__file__).resolve().parents[1].iterdir())  # the other folders of tests/
 import binaries
 from checking import is_there, over_library, said
-from library_texts import HEADER, prototypes, ran, types
+from library_texts import HEADER, TOP, VERSION, prototypes, ran, types
 from shown import library_runs
 
-TOP = pathlib.Path(__file__).resolve().parents[2]
 PROGRAMS = TOP / "bin/x86-64-v2"
 # The level for which one more package of the programs is made: the higher one, where they are built for it.
 MORE = "x86-64-v3" if (TOP / "bin/x86-64-v3/scrypt").exists() else "x86-64-v2"
-VERSION = (TOP / "VERSION").read_text(encoding="utf-8").strip()
 LIBRARIES, MODULES = "usr/lib/x86_64-linux-gnu", "usr/lib/python3/dist-packages/pikhsen"
 # The time of all files of the packages: any will do.
 EPOCH = 1234567890
@@ -60,9 +58,6 @@ FIELDS = {
 }
 # What lintian says of packages without a licence and an address of who keeps them: the owner of the project chooses.
 OF_THE_OWNER = {"no-copyright-file", "bogus-mail-host", "bogus-mail-host-in-debian-changelog"}
-
-
-# ---- what is installed
 
 
 def installed(checks, folder, lib):
@@ -112,9 +107,6 @@ def module_installed(checks, folder, modules):
         (site / "installed.pth").write_text(f"{modules}\n", encoding="utf-8")
         found = types("--python-executable", f"{folder}/venv/bin/python")
         checks.that("types of the installed module", found, (0, ""))
-
-
-# ---- the packages for Debian
 
 
 def listed(part, file):
@@ -183,18 +175,16 @@ def sums(checks, package, root):
 
 def scripts(checks, root):
     """What dpkg runs for the module, where the programs are that Debian's own packages call there, and where not."""
-    calls = root / "calls"
     for name, program in (("postinst", "py3compile"), ("prerm", "py3clean")):
         for how, expected in (("without", ""), ("with", f"{program} -p python3-pikhsen\n")):
             folder = root / f"{how}-{name}"
             folder.mkdir()
             os.symlink("/bin/sh", folder / "sh")
             if expected:
-                (folder / program).write_text(f'#!/bin/sh\necho {program} "$@" >>"{calls}"\n', encoding="utf-8")
+                (folder / program).write_text(f'#!/bin/sh\necho {program} "$@"\n', encoding="utf-8")
                 (folder / program).chmod(0o755)
-            calls.write_text("", encoding="utf-8")
-            status = subprocess.run(["/bin/sh", root / "DEBIAN" / name, "configure"], env={"PATH": str(folder)}).returncode
-            checks.that(f"{name}, {how} {program}", (status, calls.read_text()), (0, expected))
+            found = ran("/bin/sh", root / "DEBIAN" / name, "configure", env={"PATH": str(folder)})
+            checks.that(f"{name}, {how} {program}", found, (0, expected))
 
 
 def programs_built(checks, root, level):

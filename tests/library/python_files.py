@@ -14,11 +14,12 @@ import subprocess
 import sys
 import threading
 import time
+import types
 from unittest import mock
 
 sys.path += map(str, pathlib.Path(__file__).resolve().parents[1].iterdir())  # the other folders of tests/
 from checking import is_there
-from scrypt_files import F0, F5, of_costs
+from scrypt_files import F0, F5
 from shown import with_module
 
 CHEAP = {"log_n": 4, "r": 1, "p": 1}
@@ -26,20 +27,34 @@ CHEAP = {"log_n": 4, "r": 1, "p": 1}
 BELOW_CHEAP = ("MEMORY_LIMIT", {"max_bytes": 2047}), ("WORK_LIMIT", {"max_ops": 63})
 
 
-def refusal(call, *arguments, **named):
-    """The name of the status with which a call is refused, what the system says, or an exception; None where it is not."""
+def raised(call, *arguments, **named):
+    """What a call raises, which holds on to nothing that the call had, or None."""
     try:
         call(*arguments, **named)
     except Exception as told:  # the module's own, which is loaded by name
-        system_says = getattr(told, "strerror", None)
-        return getattr(getattr(told, "status", None), "name", system_says or type(told).__name__)
+        return told.with_traceback(None)
     return None
+
+
+def refusal(call, *arguments, **named):
+    """The name of the status with which a call is refused, what the system says, or an exception; else None."""
+    told = raised(call, *arguments, **named)
+    says = getattr(told, "strerror", None) or type(told).__name__
+    return told and getattr(getattr(told, "status", None), "name", says)
 
 
 def refused(checks, rows, call, *arguments, **named):
     """Each of these changes of what a call is given is refused, for the reason beside it."""
     for why, others in rows:
         checks.that(f"{call.__name__}, {why}: {others}", refusal(call, *arguments, **{**named, **others}), why)
+
+
+@contextlib.contextmanager
+def lent_by(module):
+    """The buffers that a module lends to the library meanwhile."""
+    lent, real = [], module._buffer
+    with mock.patch.object(module, "_buffer", lambda length: lent.append(real(length)) or lent[-1]):
+        yield lent
 
 
 SALT, LENGTHS = b"s" * 32, (0, 1, 31, 32, 33, 63, 64, 95, 96, 97, 5000)
@@ -81,8 +96,6 @@ def damage_in_pieces(checks, pikhsen):
     for why, named in (("KEEP", {"keep": 3}), ("WRONG_PASSPHRASE", {"passphrase": b"PW"}), *BELOW_CHEAP):
         found = refusal(pikhsen.Decryptor(**{"passphrase": b"pw", **named}).update, file[:96])
         checks.that(f"Decryptor, {why}: at the 96th byte", found, why)
-    for costs, why in (((21, 8, 1), "MEMORY_LIMIT"), ((10, 8, (1 << 13) + 1), "WORK_LIMIT")):
-        checks.that(f"Decryptor's own limits, {why}", refusal(pikhsen.Decryptor(b"").update, of_costs(*costs) + bytes(64)), why)
     refused(checks, [("TypeError", {"passphrase": "pw"}), ("TypeError", {"keep": "x"})], pikhsen.Decryptor, passphrase=b"pw")
 
 
@@ -93,16 +106,13 @@ def left(stream):
 
 def streams_by_their_ends(pikhsen, file):
     """Streams, each with what makes it, what ends it, and why that is refused."""
-    def encryptor():
-        return pikhsen.Encryptor(b"pw", **CHEAP)
-
     def decryptor(given=file):
         made = pikhsen.Decryptor(b"pw")
         made.update(given)
         return made
 
     for name, end in (("finished", lambda it: it.finish()), ("closed", lambda it: it.close()), ("left", left)):
-        yield f"Encryptor, {name}", encryptor, end, None
+        yield f"Encryptor, {name}", lambda: pikhsen.Encryptor(b"pw", **CHEAP), end, None
         yield f"Decryptor, {name}", decryptor, end, None
     yield "Decryptor, closed before it has a key", lambda: decryptor(b"scrypt"), lambda it: it.close(), None
     yield "Decryptor of a damaged file", lambda: decryptor(file + b"x"), lambda it: it.finish(), "DAMAGED"
@@ -137,24 +147,20 @@ def ends_of_streams(checks, pikhsen):
             make()
             gc.collect()
     checks.that("streams that nobody has any more", freed, [True, True, False])
-    lent, real = [], pikhsen._files._buffer
-    with mock.patch.object(pikhsen._files, "_buffer", lambda length: lent.append(real(length)) or lent[-1]):
+    with lent_by(pikhsen._files) as lent:
         unfinished()
     checks.that("what was lent for a text", [(len(it), it.raw.strip(b"\0")) for it in lent], [(len(file) - 96 + 32, b"")])
 
 
 def threads_of_a_stream(checks, pikhsen):
     """Threads that share a stream wait for each other: the library has it in one call at a time, and each piece once."""
-    feed, inside, most, one = pikhsen._lib.pikhsen_scrypt_encrypt_feed, [], [], threading.Lock()
+    feed, turn, waiting = pikhsen._lib.pikhsen_scrypt_encrypt_feed, threading.Lock(), []
 
     def noted(*given):
-        inside.append(given)
-        most.append(len(inside))
-        time.sleep(0.001)
-        with one:  # two at a time would spoil the memory of this process
-            number = feed(*given)
-        inside.pop()
-        return number
+        waiting.append(turn.locked())
+        with turn:  # two at a time would spoil the memory of this process
+            time.sleep(0.001)
+            return feed(*given)
 
     encryptor = pikhsen.Encryptor(b"pw", salt=SALT, **CHEAP)
     with mock.patch.object(pikhsen._lib, "pikhsen_scrypt_encrypt_feed", noted), concurrent.futures.ThreadPoolExecutor(8) as pool:
@@ -162,7 +168,7 @@ def threads_of_a_stream(checks, pikhsen):
         pieces = list(pool.map(encryptor.update, [bytes(1000)] * 40))
     whole = pikhsen.encrypt(bytes(40000), b"pw", salt=SALT, **CHEAP)
     expected = [whole[at:at + 1000] for at in range(96, 40096, 1000)]
-    checks.that("threads of a stream: calls at a time", max(most), 1)
+    checks.that("threads of a stream: calls at a time", any(waiting), False)
     checks.that("threads of a stream", (head, sorted(pieces), encryptor.finish()), (whole[:96], sorted(expected), whole[-32:]))
 
 
@@ -228,12 +234,6 @@ def kept_files_from_python(checks, pikhsen, folder):
             found = refusal(call, source, target, b"pw", **costs), file.exists(), parts(folder)
             checks.that(f"{call.__name__} of what is no file: {type(source).__name__}, {type(target).__name__}", found, ("TypeError", False, []))
     checks.that("an empty name", refusal(pikhsen.encrypt_file, text, "", b"pw"), EXISTS)
-    salts = []
-    for target in (file, again):
-        pikhsen.encrypt_file(text, target, b"pw", **CHEAP)
-        salts.append(target.read_bytes()[16:48])
-        target.unlink()
-    checks.that("salts of two files", salts[0] == salts[1], False)
 
 
 def names_of_new_files(checks, pikhsen, folder):
@@ -314,28 +314,14 @@ class Narrow(io.RawIOBase):
         return len(taken) or None
 
 
-class Whole:
-    """What takes all that it is given, and says nothing, or says so; and brings all at once, or nothing for now."""
-
-    def __init__(self, content=None):
-        self.content, self.taken = content, bytearray()
-
-    def write(self, given):
-        self.taken += given
-
-    def read(self, _):
-        content, self.content = self.content, None
-        return content
-
-
 def pipe_ends():
     reading, writing = os.pipe()
     return open(reading, "rb"), open(writing, "wb")
 
 
 def socket_ends():
-    with contextlib.ExitStack() as sockets:
-        reading, writing = map(sockets.enter_context, socket.socketpair())
+    reading, writing = socket.socketpair()
+    with reading, writing:
         return reading.makefile("rb"), writing.makefile("wb")
 
 
@@ -365,10 +351,13 @@ def opened_files_from_python(checks, pikhsen, folder):
             checks.that("a raw target", bytes(target.taken), file)
             whole = [(min(it, len(text)), len(text)) for it in range(65536, len(text) + 65536, 65536)]
             checks.that("progress", told, whole)
-    silent = Whole(memoryview(text))
-    checks.that("what is opened and ends too early", refusal(pikhsen.encrypt_file, silent, silent, b"pw", salt=SALT, **CHEAP), NO_DATA)
-    checks.that("what says nothing of a write", bytes(silent.taken), file[:-32])
-    leaves(checks, NO_DATA, path.with_suffix(".new"), None, pikhsen.encrypt_file, Whole(), path.with_suffix(".new"), b"pw", **CHEAP)
+    # it brings all at once, and then nothing for now; and it takes all that it is given, and says nothing
+    taken, new = bytearray(), path.with_suffix(".new")
+    silent = types.SimpleNamespace(read=mock.Mock(side_effect=[memoryview(text), None, None]), write=taken.extend)
+    found = refusal(pikhsen.encrypt_file, silent, silent, b"pw", salt=SALT, **CHEAP)
+    checks.that("what is opened and ends too early", found, NO_DATA)
+    checks.that("what says nothing of a write", bytes(taken), file[:-32])
+    leaves(checks, NO_DATA, new, None, pikhsen.encrypt_file, silent, new, b"pw", **CHEAP)
     checks.that("a raw target that is full", refusal(pikhsen.decrypt_file, io.BytesIO(file), Narrow(70000), b"pw"), NO_DATA)
     target = io.BytesIO()
     checks.that("damage, to an opened file", (refusal(pikhsen.decrypt_file, io.BytesIO(file[:-1]), target, b"pw"), target.getvalue()), ("DAMAGED", text[:-1]))
@@ -378,20 +367,15 @@ def opened_files_from_python(checks, pikhsen, folder):
         checks.that(f"of {name}", target.getvalue(), pikhsen.encrypt(pathlib.Path(name).read_bytes(), b"pw", salt=SALT, **CHEAP))
 
 
-LARGE = """import pathlib, pikhsen, resource, sys, threading
+LARGE = """import pathlib, pikhsen, resource, sys
 text, file, again = sys.argv[1:]
-done, most = threading.Event(), []
-def watch():
-    while not done.wait(0.001):
-        lines = pathlib.Path("/proc/self/status").read_text().splitlines()
-        most.append(next(int(it.split()[1]) for it in lines if it.startswith("RssAnon")))
-watching = threading.Thread(target=watch, daemon=True)
-watching.start()
+def most():
+    lines = pathlib.Path("/proc/self/status").read_text().splitlines()
+    return next(int(it.split()[1]) for it in lines if it.startswith("VmHWM"))
+before = most()
 pikhsen.encrypt_file(text, file, b"pw", log_n=4)
 pikhsen.decrypt_file(file, again, b"pw")
-done.set()
-watching.join()
-print(max(most) < most[0] + (4 << 10), len(most) > 10)
+print(most() < before + (4 << 10))
 resource.setrlimit(resource.RLIMIT_FSIZE, (1 << 20, resource.RLIM_INFINITY))
 pathlib.Path(again).unlink()
 try:
@@ -406,7 +390,7 @@ def large_files_from_python(checks, folder, lib):
     names = [f"{folder}/{it}" for it in ("large", "large.scrypt", "text of large")]
     with open(names[0], "wb") as large:
         large.truncate(1 << 25)
-    checks.that("32 MiB on a disk", with_module(lib, "-c", LARGE, *names)[1], "True True\nFile too large False []\n")
+    checks.that("32 MiB on a disk", with_module(lib, "-c", LARGE, *names)[1], "True\nFile too large False []\n")
 
 
 INTERRUPTED = """import os, pikhsen, signal, sys, threading, time

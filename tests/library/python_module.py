@@ -11,7 +11,6 @@ import base64
 import concurrent.futures
 import copy
 import ctypes
-import errno
 import hashlib
 import inspect
 import mmap
@@ -20,6 +19,7 @@ import pathlib
 import pickle
 import pydoc
 import re
+import resource
 import shutil
 import sys
 import tempfile
@@ -30,12 +30,11 @@ import values_table
 from binaries import runs_v3
 from checking import compiled, over_library
 from encoded_texts import work_of
-from library_texts import TOP
-from python_files import BELOW_CHEAP, CHEAP, files_of_python, refusal, refused
+from library_texts import TOP, VERSION
+from python_files import BELOW_CHEAP, CHEAP, files_of_python, lent_by, raised, refusal, refused
 from scrypt_files import of_costs
 from shown import LIBRARY, STORED, with_module
 
-VERSION = (TOP / "VERSION").read_text(encoding="utf-8").strip()
 # RFC 9106, 5.1 to 5.3
 TAGS = {
     "D": "512b391b6f1162975371d30919734294f868e3be3984f3c1a13a4db9fabe4acb",
@@ -57,21 +56,12 @@ def from_python(checks, pikhsen):
     for told in (text, old, old.replace("v=16$", "")):
         checks.that(f"right password of {told[:20]}", pikhsen.verify(told, b"password"), True)
         checks.that(f"wrong password of {told[:20]}", pikhsen.verify(told, b"passwore"), False)
-    refused(checks, (
-        ("MEMORY_LIMIT", {"max_kib": 65535}), ("WORK_LIMIT", {"max_ops": 1000}), ("NOT_ENCODED", {"text": text + "\0"}),
-        ("OUT_OF_RANGE", {"text": text.replace("m=65536", "m=31")}),
-    ), pikhsen.verify, text=text, password=b"password")
+    rows = ("MEMORY_LIMIT", {"max_kib": 65535}), ("WORK_LIMIT", {"max_ops": 1000})
+    refused(checks, rows, pikhsen.verify, text, b"password")
     rows = ("MEMORY_LIMIT", {"memory_kib": 1024, "max_kib": 1023}), ("SALT_LENGTH", {"memory_kib": 32, "salt": b"saltsal"})
     refused(checks, rows, pikhsen.hash, password=b"x", salt=b"saltsalt")
-    refused(checks, [("WORK_LIMIT", {"memory_kib": 1024, "max_ops": 1023})], pikhsen.encode, password=b"x")
-    names = "kind", "version", "passes", "memory_kib", "lanes", "length"
-    rows = [(why, dict(zip(names, settings))) for why, *settings in (
-        ("KIND", 3, 0, 0, 0, 0, 0), ("ARGON2_VERSION", 2, 0x11, 0, 0, 0, 0), ("PASSES", 0, 0x13, 0, 0, 0, 0),
-        ("LANES", 1, 0x13, 1, 0, 0, 0), ("MEMORY", 2, 0x10, 1, 7, 1, 0), ("TAG_LENGTH", 2, 0x13, 1, 8, 1, 3),
-        ("TAG_LENGTH", 2, 0x13, 1, 8, 1, 4097),
-    )]
-    refused(checks, rows, pikhsen.hash, b"x", b"saltsalt")
-    refused(checks, rows, pikhsen.encode, b"x")
+    rows = ("MEMORY_LIMIT", {"max_kib": 1023}), ("WORK_LIMIT", {"max_ops": 1023})
+    refused(checks, rows, pikhsen.encode, password=b"x", memory_kib=1024)
     longest = pikhsen.encode(b"x" * 127, passes=1, memory_kib=8, lanes=1, length=4096, salt=b"s" * 255)
     checks.that("longest text", pikhsen.verify(longest, b"x" * 127), True)
 
@@ -85,13 +75,21 @@ LENGTHS = {
 
 
 def any_password_from_python(checks, pikhsen):
-    small = {"salt": b"somesalt", "passes": 1, "memory_kib": 8, "lanes": 1}
+    """By the module, and by the library's functions without a secret, which it does not call."""
+    small, library = {"salt": b"somesalt", "passes": 1, "memory_kib": 8, "lanes": 1}, pikhsen._lib
     for length, symbols in LENGTHS.items():
         text, password = f"$argon2id$v=19$m=8,t=1,p=1$c29tZXNhbHQ${symbols}", b"p" * length
         checks.that(f"hash, a password of {length}", pikhsen.hash(password, **small), base64.b64decode(symbols + "="))
         checks.that(f"encode, a password of {length}", pikhsen.encode(password, **small), text)
         checks.that(f"verify, a password of {length}", pikhsen.verify(text, password), True)
         checks.that(f"verify, a password of not {length}", pikhsen.verify(text, password + b"p"), False)
+        out, settings = pikhsen._buffer(len(text) + 1), (pikhsen.Kind.ID, 0x13, 1, 8, 1)
+        given = *settings, password, b"somesalt", 32, 8, 10, out, ctypes.byref(ctypes.c_size_t())
+        found = pikhsen._number(library.pikhsen_argon2_encoded, *given), out.value.decode()
+        checks.that(f"encoded without a secret, a password of {length}", found, (pikhsen.Status.OK, text))
+        for given, status in ((password, pikhsen.Status.OK), (password + b"p", pikhsen.Status.MISMATCH)):
+            found = pikhsen._number(library.pikhsen_argon2_verify, text.encode(), given, 8, 10)
+            checks.that(f"verified without a secret, {len(given)} bytes for {length}", found, status)
 
 
 def secrets_from_python(checks, pikhsen):
@@ -134,14 +132,15 @@ def texts_of_others(checks, pikhsen):
 
 def keys_from_python(checks, pikhsen):
     # RFC 7914, 12, and the same by every S
-    for keep in (1, 2, 16):
-        found = pikhsen.scrypt(b"", b"", log_n=4, r=1, p=1, keep=keep)
-        checks.that(f"RFC 7914, 1, keep {keep}", found.hex()[:32], "77d6576238657b203b19ca42c18a0497")
+    found = {pikhsen.scrypt(b"", b"", **CHEAP, keep=keep).hex()[:32] for keep in (1, 2, 16)}
+    checks.that("RFC 7914, 1, by every keep", found, {"77d6576238657b203b19ca42c18a0497"})
     found = pikhsen.scrypt(b"pleaseletmein", b"SodiumChloride", log_n=14, keep=8)
     checks.that("RFC 7914, 3", found.hex()[:32], "7023bdcb3afd7348461c06cd81fd38eb")
     for length in (1, 31, 33, 100):
         found = pikhsen.scrypt(b"pw", b"NaCl", log_n=5, r=3, p=2, length=length)
         checks.that(f"hashlib, {length}", found, hashlib.scrypt(b"pw", salt=b"NaCl", n=32, r=3, p=2, dklen=length))
+    key = hashlib.scrypt(b"pw", salt=b"NaCl", n=1 << 17, r=8, p=1, dklen=64, maxmem=1 << 28)
+    checks.that("hashlib, where nothing else is given", pikhsen.scrypt(b"pw", b"NaCl"), key)
     checks.that("no bytes", pikhsen.scrypt(b"pw", b"NaCl", log_n=5, length=0), b"")
     rows = (
         ("LOG_N", {"log_n": 0, "r": 1}), ("LOG_N", {"log_n": 64}), ("LOG_N", {"log_n": 256 + 4}), ("ZERO", {"r": 0}), ("KEEP", {"keep": 3}),
@@ -156,10 +155,8 @@ def keys_from_python(checks, pikhsen):
 def files_from_python(checks, pikhsen):
     for text in (b"", b"hello", bytes(range(256)) * 300):
         file = pikhsen.encrypt(text, b"pw", **CHEAP)
-        checks.that(f"length, {len(text)}", len(file), len(text) + 128)
-        checks.that(f"text, {len(text)}", pikhsen.decrypt(file, b"pw", keep=4), text)
-        checks.that(f"wrong passphrase, {len(text)}", refusal(pikhsen.decrypt, file, b"PW"), "WRONG_PASSPHRASE")
-        checks.that(f"costs, {len(text)}", tuple(pikhsen.info(file)), (4, 1, 1))
+        found = pikhsen.decrypt(file, b"pw", keep=4), refusal(pikhsen.decrypt, file, b"PW"), pikhsen.info(file)
+        checks.that(f"file, {len(text)}", (len(file), *found), (len(text) + 128, text, "WRONG_PASSPHRASE", (4, 1, 1)))
     checks.that("salt", refusal(pikhsen.encrypt, b"", b"", salt=b"s" * 31), "FILE_SALT")
     salt = b"s" * 32
     file, by_keep = (pikhsen.encrypt(b"hello", b"pw", salt=salt, keep=keep, **CHEAP) for keep in (1, 8))
@@ -210,10 +207,6 @@ def in_place_from_python(checks, pikhsen):
     except pikhsen.Refused:
         buffer.append(0)
     checks.that("in place, a buffer that grows after a refusal", len(buffer), len(before) + 1)
-    one, other = bytearray(before), bytearray(before)
-    pikhsen.encrypt_in_place(one, b"pw", **CHEAP)
-    pikhsen.encrypt_in_place(other, b"pw", **CHEAP)
-    checks.that("in place, each with its own salt", one[16:48] == other[16:48], False)
 
 
 def settings_from_python(checks, pikhsen):
@@ -232,31 +225,31 @@ def settings_from_python(checks, pikhsen):
     stored = pikhsen.encode(b"password", **cheap)
     checks.that("a cheap text", pikhsen.needs_rehash(stored), True)
     checks.that("a cheap text that is wanted", pikhsen.needs_rehash(stored, **cheap), False)
-    for why, outside in (("TEXT_MEMORY", text.replace("m=65536", "m=31")), ("NOT_ENCODED", text + "\0"), ("NOT_ENCODED", "\ud800")):
+    for why, outside in (
+        ("TEXT_VERSION", text.replace("v=19", "v=18")), ("TEXT_PASSES", text.replace("t=2", "t=4294967296")),
+        ("TEXT_LANES", text.replace("p=4", "p=0")), ("TEXT_MEMORY", text.replace("m=65536", "m=31")),
+        ("TEXT_TAG_LENGTH", text[:-28]), ("TEXT_SALT_LENGTH", text.replace("c29tZXNhbHQ", "c29tZXNhbA")),
+        ("NOT_ENCODED", text + "\0"), ("NOT_ENCODED", text + "\n"), ("NOT_ENCODED", "\ud800"),
+    ):
         verified = "NOT_ENCODED" if why == "NOT_ENCODED" else "OUT_OF_RANGE"
-        for call, expected in ((pikhsen.settings, why), (pikhsen.needs_rehash, why), (lambda it: pikhsen.verify(it, b"x"), verified)):
-            checks.that(f"{call.__name__}: {why}", refusal(call, outside), expected)
+        found = [refusal(call, outside) for call in (pikhsen.settings, pikhsen.needs_rehash)]
+        checks.that(f"settings of {outside!r}", found, [why] * 2)
+        checks.that(f"verify of {outside!r}", refusal(pikhsen.verify, outside, b"x"), verified)
 
 
-NO_FILE = """import mmap, pikhsen, resource, sys
-with open(sys.argv[1], "rb") as file, mmap.mmap(file.fileno(), 0, access=mmap.ACCESS_READ) as content:
-    with open("/proc/self/statm") as sizes:
-        taken = int(sizes.read().split()[0]) * mmap.PAGESIZE
-    resource.setrlimit(resource.RLIMIT_AS, (taken + (64 << 20), resource.getrlimit(resource.RLIMIT_AS)[1]))
-    for call in (pikhsen.info, lambda it: pikhsen.decrypt(it, b"pw"), lambda it: pikhsen.info(memoryview(it)[4:])):
-        try:
-            print(call(content))
-        except (MemoryError, ValueError) as refused:
-            print(repr(refused))
-"""
-
-
-def large_from_python(checks, folder, lib):
+def large_from_python(checks, pikhsen, folder):
     """What is no file is refused before it is copied: a GiB of it, where 64 MiB are left to the process."""
-    large = pathlib.Path(folder, "large")
+    large, limits = pathlib.Path(folder, "large"), resource.getrlimit(resource.RLIMIT_AS)
     large.write_bytes(b"no file")
     os.truncate(large, 1 << 30)
-    checks.that("a GiB that is no file", with_module(lib, "-c", NO_FILE, large)[1], "NotAFile(<Status.MAGIC: 22>)\n" * 3)
+    with open(large, "rb") as file, mmap.mmap(file.fileno(), 0, access=mmap.ACCESS_READ) as content:
+        pages = int(pathlib.Path("/proc/self/statm").read_text(encoding="ascii").split()[0])
+        resource.setrlimit(resource.RLIMIT_AS, (pages * mmap.PAGESIZE + (64 << 20), limits[1]))
+        whys = [refusal(pikhsen.info, content), refusal(pikhsen.decrypt, content, b"pw")]
+        with memoryview(content) as view, view[4:] as end:
+            whys.append(refusal(pikhsen.info, end))
+        resource.setrlimit(resource.RLIMIT_AS, limits)
+    checks.that("a GiB that is no file", whys, ["MAGIC"] * 3)
     large.unlink()
 
 
@@ -317,38 +310,30 @@ def arguments_from_python(checks, pikhsen):
             ("verify", pikhsen.verify(form(text.encode()), form(b"password")), True),
         ):
             checks.that(f"{call}, {name}", found, expected)
-    for call in (
-        lambda: pikhsen.hash("password", salt), lambda: pikhsen.decrypt(8, b""), lambda: pikhsen.verify(None, b"x"),
-        lambda: pikhsen.hash(b"x", salt, passes=1.5), lambda: pikhsen.scrypt(b"", b"", log_n="4"),
-    ):
-        checks.that("a wrong type", refusal(call), "TypeError")
+    for call, *given in ((pikhsen.decrypt, 8, b""), (pikhsen.verify, None, b"x")):
+        checks.that(f"a wrong type for {call.__name__}", refusal(call, *given), "TypeError")
+    refused(checks, [("TypeError", {"passes": 1.5})], pikhsen.hash, b"x", salt)
+    refused(checks, [("TypeError", {"log_n": "4"})], pikhsen.scrypt, b"", b"")
     texts_from_python(checks, pikhsen, text)
     numbers_from_python(checks, pikhsen, text, file)
     checks.that("great limits", pikhsen.verify(text, b"password", max_kib=1 << 70, max_ops=1 << 70), True)
     for odd in ("\ud800", "$\u00e9", "\uff04argon2id$", text + "\ud800"):
-        try:
-            checks.that("a text that is not ASCII", pikhsen.verify(odd, b"password"), None)
-        except pikhsen.Invalid as told:
-            found = told.status.name, told.args, told.__context__
-            checks.that("what is told of it", found, ("NOT_ENCODED", (pikhsen.Status.NOT_ENCODED,), None))
-    for costs, why in (((21, 8, 1), "MEMORY_LIMIT"), ((10, 8, (1 << 13) + 1), "WORK_LIMIT")):
-        checks.that(f"decrypt's own limits, {why}", refusal(pikhsen.decrypt, of_costs(*costs) + bytes(64), b""), why)
+        told = raised(pikhsen.verify, odd, b"password")
+        found = type(told), told.args, told.__context__
+        checks.that("a text that is not ASCII", found, (pikhsen.Invalid, (pikhsen.Status.NOT_ENCODED,), None))
 
 
 def texts_from_python(checks, pikhsen, text):
     """A text in the place of bytes is refused with what to do, and is not shown."""
-    for name, call in (
-        ("hash", lambda: pikhsen.hash(b"x", "correct horse")), ("encode", lambda: pikhsen.encode("correct horse")),
-        ("verify", lambda: pikhsen.verify(text, "correct horse")), ("scrypt", lambda: pikhsen.scrypt("correct horse", b"")),
-        ("encrypt", lambda: pikhsen.encrypt("correct horse", b"")), ("decrypt", lambda: pikhsen.decrypt("correct horse", b"")),
-        ("encrypt_in_place", lambda: pikhsen.encrypt_in_place("correct horse", b"")), ("info", lambda: pikhsen.info("correct horse")),
+    horse = "correct horse"
+    for call, *given in (
+        (pikhsen.hash, b"x", horse), (pikhsen.encode, horse), (pikhsen.verify, text, horse),
+        (pikhsen.scrypt, horse, b""), (pikhsen.encrypt, horse, b""), (pikhsen.decrypt, horse, b""),
+        (pikhsen.encrypt_in_place, horse, b""), (pikhsen.info, horse),
     ):
-        says = ""
-        try:
-            call()
-        except TypeError as told:
-            says = str(told)
-        checks.that(f"{name}, a text: what is said", ('"..".encode()' in says, "horse" in says), (True, False))
+        told = raised(call, *given)
+        found = type(told), '"..".encode()' in str(told), "horse" in str(told)
+        checks.that(f"{call.__name__}, a text: what is said", found, (TypeError, True, False))
 
 
 def numbers_from_python(checks, pikhsen, text, file):
@@ -377,14 +362,12 @@ def limits_from_python(checks, pikhsen):
             refused(checks, rows, pikhsen.hash, b"x", b"saltsalt", max_ops=most, max_kib=blocks, **settings)
 
 
-SIGNATURE = re.compile(r"^    (\w+)\((.*)\) -> (\w+)\n        (.*)$", re.MULTILINE)
-
-
 def signatures_from_python(checks, pikhsen):
     """What `help` shows first, and LIBRARY's table, is each function as it is called."""
     words = {it: " ".join(text.split()) for it, text in re.findall(r"^    ([A-Z]+): ((?:.*,\n +)*.*)$", pikhsen.__doc__, re.MULTILINE)}
     told, rows = {}, []
-    for name, short, result, about in SIGNATURE.findall(pikhsen.__doc__):
+    signature = r"^    (\w+)\((.*)\) -> (\w+)\n        (.*)$"
+    for name, short, result, about in re.findall(signature, pikhsen.__doc__, re.MULTILINE):
         rows.append((f"{name}({short}) -> {result}", about))
         whole = re.sub("[A-Z]{4,}", lambda it: words[it[0]], short)
         told[name] = parameters_of(eval(f"lambda {whole}: 0", vars(pikhsen))), result
@@ -411,7 +394,8 @@ def salts_from_python(checks, pikhsen):
     """A salt that is not given is what the system gave for it."""
     for name, length, made_by in (
         ("text", 16, lambda: base64.b64decode(pikhsen.encode(b"password", passes=1, memory_kib=8, lanes=1).split("$")[4] + "==")),
-        ("file", 32, lambda: pikhsen.encrypt(b"Dear Ada", b"password", log_n=1, r=1, p=1)[16:48]),
+        ("file", 32, lambda: pikhsen.encrypt(b"Dear Ada", b"password", **CHEAP)[16:48]),
+        ("file in pieces", 32, lambda: pikhsen.Encryptor(b"password", **CHEAP).finish()[16:48]),
     ):
         with mock.patch.object(os, "urandom", side_effect=lambda count: bytes(range(count))) as system:
             checks.that(f"salt of a {name}, as the system gave it", (made_by(), system.call_count), (bytes(range(length)), 1))
@@ -420,59 +404,32 @@ def salts_from_python(checks, pikhsen):
 def buffers_from_python(checks, pikhsen):
     """What `decrypt` lends to the library is wiped, whatever comes of the call."""
     file = pikhsen.encrypt(b"Dear Ada" * 100, b"password", log_n=4)
-    lent, real = [], pikhsen._buffer
-
-    def noted(length):
-        lent.append(real(length))
-        return lent[-1]
-
     for name, given, password, why in (
         ("right", file, b"password", None), ("damaged", file[:-1], b"password", "DAMAGED"),
         ("wrong", file, b"passwore", "WRONG_PASSPHRASE"),
     ):
-        lent.clear()
-        with mock.patch.object(pikhsen, "_buffer", noted):
+        with lent_by(pikhsen) as lent:
             checks.that(f"decrypt, {name}", refusal(pikhsen.decrypt, given, password), why)
         checks.that(f"decrypt, {name}: what was lent", [len(it) for it in lent], [len(given)])
         checks.that(f"decrypt, {name}: what is left in it", [it.raw.strip(b"\0") for it in lent], [b""])
 
 
-def defaults_from_python(checks, pikhsen):
-    """What holds where nothing is given: settings, as hashlib and the text itself show them, and limits."""
-    salt = b"salt" * 4
-    text = pikhsen.encode(b"password", salt=salt)
-    tag = pikhsen.hash(b"password", salt)
-    encoded = "$".join(base64.b64encode(it).decode().rstrip("=") for it in (salt, tag))
-    checks.that("encode's own settings", text, f"$argon2id$v=19$m=65536,t=3,p=4${encoded}")
-    checks.that("hash's own length", len(tag), 32)
-    key = hashlib.scrypt(b"pw", salt=b"NaCl", n=1 << 17, r=8, p=1, dklen=64, maxmem=1 << 28)
-    checks.that("scrypt's own settings", pikhsen.scrypt(b"pw", b"NaCl"), key)
-    checks.that("encrypt's own costs", tuple(pikhsen.info(pikhsen.encrypt(b"", b"pw"))), (17, 8, 1))
-    for why, argon2, derivation, (kib, passes) in (
-        ("MEMORY_LIMIT", {"memory_kib": (1 << 20) + 16, "passes": 1}, {"log_n": 23}, ((1 << 20) + 16, 1)),
-        # 129 * 65,536 blocks; 4 * 8 * 2,049 * 2 ** 17 cores
-        ("WORK_LIMIT", {"passes": 129}, {"p": 2049}, (65536, 129)),
-    ):
-        great = f"$argon2id$v=19$m={kib},t={passes},p=4${encoded}"
-        for call, given, named in (
-            (pikhsen.hash, (b"x", salt), argon2), (pikhsen.encode, (b"x",), argon2), (pikhsen.verify, (great, b"x"), {}),
-            (pikhsen.scrypt, (b"", b""), derivation), (pikhsen.encrypt, (b"", b""), derivation),
-        ):
-            checks.that(f"own limits of {call.__name__}, {why}", refusal(call, *given, **named), why)
-
-
 def exceptions_from_python(checks, pikhsen):
-    rows = {name: (raises, says, other) for _, name, raises, says, other in ([*row, None][:5] for row in values_table.rows("status"))}
+    """Each is itself when it is copied, and of its families; and the library has its sentence, in just its room."""
+    sentences = {name: says for _, name, _, says, *_ in values_table.rows("status")}
     for status in pikhsen.Status:
-        raises, says, other = rows[status.name]
-        made = pikhsen._EXCEPTIONS.get(status, pikhsen.Invalid)(status)
-        checks.that(f"exception of {status!r}", type(made).__name__, raises or "Invalid")
+        made, says = pikhsen._EXCEPTIONS.get(status, pikhsen.Invalid)(status), sentences[status.name]
         for again in (pickle.loads(pickle.dumps(made)), copy.copy(made), copy.deepcopy(made)):
             checks.that(f"{made!r} again", (type(again), again.status, str(again)), (type(made), status, str(made)))
+        families = isinstance(made, ValueError), isinstance(made, MemoryError)
         is_value = status is not pikhsen.Status.OUT_OF_MEMORY
-        checks.that(f"family of {made!r}", (isinstance(made, ValueError), isinstance(made, MemoryError)), (is_value, not is_value))
-        checks.that(f"sentence of {status!r}", str(made), other or says)
-        checks.that(f"sentence of {status!r}, by the library", pikhsen.message(status), says)
+        checks.that(f"families of {made!r}", families, (is_value, not is_value))
+        checks.that(f"sentence of {status!r}", pikhsen.message(status), says)
+        for room, *expected in ((len(says), "BUFFER", b"", 0), (len(says) + 1, "OK", says.encode(), len(says))):
+            out, length = pikhsen._buffer(room), ctypes.c_size_t(7)
+            number = pikhsen._number(pikhsen._lib.pikhsen_message, status, out, ctypes.byref(length))
+            found = [pikhsen.Status(number).name, out.value, length.value]
+            checks.that(f"sentence of {status!r}, {room} bytes", found, expected)
     for number in (len(pikhsen.Status), 1 << 31, (1 << 32) - 1, 1 << 32, -1):
         checks.that(f"sentence of {number}", pikhsen.message(number), "unknown number")
     checks.that("memory", pikhsen.OutOfMemory.__mro__[1:3], (MemoryError, pikhsen.Refused))
@@ -486,9 +443,8 @@ for call in (lambda: pikhsen.hash(b"x", b"x"), lambda: pikhsen.verify("x", b"x")
         print(type(refused).__name__, int(refused.status), isinstance(refused, ValueError))
 """
 POOL = """import concurrent.futures, multiprocessing, pikhsen
-if __name__ == "__main__":
-    with concurrent.futures.ProcessPoolExecutor(1, multiprocessing.get_context("spawn")) as pool:
-        print(repr(pool.submit(pikhsen.decrypt, b"x", b"x").exception(60)))
+with concurrent.futures.ProcessPoolExecutor(1, multiprocessing.get_context("spawn")) as pool:
+    print(repr(pool.submit(pikhsen.decrypt, b"x", b"x").exception(60)))
 """
 
 
@@ -519,9 +475,8 @@ def libraries_of_python(checks, pikhsen, folder, lib):
         checks.that(f"a library {name}", (expected in last, last), (True, last))
     found = with_module(lib, "-c", STRANGE, variables={"PIKHSEN_LIBRARY": newer})[1]
     checks.that("numbers that are not known", found, "Refused 4000000000 False\nRefused 77 False\nOutOfMemory 9 False\n")
-    pool = pathlib.Path(folder, "pool.py")
-    pool.write_text(POOL, encoding="utf-8")
-    checks.that("a refusal in a pool of processes", with_module(lib, pool, timeout=120)[1], "NotAFile(<Status.TOO_SHORT: 26>)\n")
+    found = with_module(lib, "-c", POOL, timeout=120)[1]
+    checks.that("a refusal in a pool of processes", found, "NotAFile(<Status.TOO_SHORT: 26>)\n")
 
 
 def installed_for_levels(checks, folder, lib, other):
@@ -532,10 +487,8 @@ def installed_for_levels(checks, folder, lib, other):
     ):
         module, lower = pathlib.Path(folder, modules, "pikhsen/__init__.py"), pathlib.Path(folder, libraries, "libpikhsen.so.0")
         higher = lower.parent / "glibc-hwcaps/x86-64-v3" / lower.name
-        for parent in (module.parent, higher.parent):
-            parent.mkdir(parents=True, exist_ok=True)
-        for source in (TOP / "python/pikhsen").glob("*.py"):
-            shutil.copy(source, module.parent)
+        shutil.copytree(TOP / "python/pikhsen", module.parent, ignore=shutil.ignore_patterns("__pycache__"))
+        higher.parent.mkdir(parents=True)
         shutil.copy(f"{lib}/libpikhsen.so.0", lower)
         variables = {"PYTHONPATH": str(module.parent.parent), "PIKHSEN_LIBRARY": None}
         for name, expected in (("of the lower level", VERSION), ("of the higher level", "0.1.99" if runs_v3() else VERSION)):
@@ -544,30 +497,23 @@ def installed_for_levels(checks, folder, lib, other):
             shutil.copy(other, higher)
 
 
-def loaded(lib):
-    """The module, over the library in this folder."""
+def calls(checks, folder, lib):
+    """All that is tested of the module: over the library in one folder, with files of its own in another."""
     os.environ["PIKHSEN_LIBRARY"] = f"{lib}/libpikhsen.so.0"
     sys.dont_write_bytecode = True
     sys.path.insert(0, str(TOP / "python"))
     import pikhsen
 
-    return pikhsen
-
-
-def calls(checks, folder, lib):
-    """All that is tested of the module: over the library in one folder, with files of its own in another."""
-    pikhsen = loaded(lib)
     for part in (
         from_python, any_password_from_python, secrets_from_python, texts_of_others, keys_from_python, files_from_python,
         in_place_from_python, settings_from_python, salts_from_python, buffers_from_python, threads_from_python,
-        arguments_from_python, limits_from_python, defaults_from_python, exceptions_from_python, signatures_from_python,
+        arguments_from_python, limits_from_python, exceptions_from_python, signatures_from_python,
     ):
         part(checks, pikhsen)
-    large_from_python(checks, folder, lib)
+    large_from_python(checks, pikhsen, folder)
     with tempfile.TemporaryDirectory(dir=folder) as kept:
         files_of_python(checks, pikhsen, kept, lib)
     libraries_of_python(checks, pikhsen, folder, lib)
-    return pikhsen
 
 
 if __name__ == "__main__":

@@ -16,8 +16,8 @@ import zipfile
 sys.path += map(str, pathlib.Path(__file__).resolve().parents[1].iterdir())  # the other folders of tests/
 from binaries import runs_v3
 from checking import over_library
-from library_texts import TOP, ran
-from packages import EPOCH, HIGHER, VERSION, newest_libc
+from library_texts import TOP, VERSION, ran
+from packages import EPOCH, HIGHER, newest_libc
 from shown import shown
 
 NAME = f"pikhsen-{VERSION}-py3-none-linux_x86_64.whl"
@@ -74,8 +74,7 @@ def installed(checks, folder, wheel, lib):
     for name, variables, library in (("inside", {}, inside), ("that is named", {"PIKHSEN_LIBRARY": named}, named)):
         found = ran(python, "-c", LOADED, env=variables, cwd=folder)
         checks.that(f"a wheel, installed: the library {name}", found, (0, f"{library}\n{VERSION}\n"))
-    program, lines = shown("python")
-    printed = "".join(line + "\n" for line in lines if not line.startswith("$ "))
+    program, _, printed = shown("python")
     checks.that("LIBRARY's login.py, over the wheel", ran(python, "-c", program, env={}, cwd=folder), (0, printed))
     checks.that("pip uninstall", ran(*pip, "uninstall", "--yes", "pikhsen"), (0, ""))
     checks.that("what pip leaves", [it.name for it in site.glob("pikhsen*")], [])

@@ -1,39 +1,22 @@
 /*
- * What calls of libpikhsen leave in memory and in vector registers, for tests/library/c_face.py, in five ways. CALL is hash,
- * encoded, verify, keyed-text and keyed-test (these two with a secret and data), key, sparse (a key over every fourth
- * row of the table), encrypt, in-place (encrypt in the text's place), decrypt, wrong (decrypt with a wrong passphrase),
- * to-pieces and of-pieces (encrypt and decrypt by a stream, from its start to its end), pieces-freed (a stream that is
- * fed and freed), small-key (over rows of 128 bytes), or large-hash and large-key (over 8 MiB).
+ * What calls of libpikhsen leave in memory and in vector registers, for tests/library/c_face.py. CALL is one of the
+ * table below.
  *
- * Makes one call, says "0" where it was told PIKHSEN_OK, and waits for the end of standard input, so that its memory
- * can be searched for the key, and for what the key was made of:
- *
- *     secrets kept        a key by scrypt, which stays where the call wrote it
- *     secrets stack       the same, in an array on the stack
- *     secrets decrypt     the text of the file of 1,128 bytes that is standard input's beginning
- *     secrets CALL        any other call; a key is wiped after it
- *
- * Or makes one call, says the same, and makes the call again and again, for a minute if nobody ends the process before,
- * so that what a key is made of can be found while it is still there:
- *
- *     secrets again CALL
- *
- * Or paints the stack below the frame of a function, makes one call from there, and looks at the paint:
- *
- *     secrets painted CALL
- *
- * Or makes one call, and looks at each block of memory when the library frees it, or, where the call also frees the
- * text of a hash, which is no secret, at each of 1,024 bytes and more. The linker puts the functions below in the place
- * of the C library's (--wrap):
- *
- *     secrets freed CALL
- *     secrets freed seven       frees 1,024 bytes that are all 7
- *
- * Or puts zeros into all vector registers that the processor has, makes one call, and says which of them are not 0 as
- * soon as it returns: of the sixteen of 16 bytes, or of 32 with AVX, or of the thirty-two of 64 bytes with AVX-512:
- *
- *     secrets registers CALL
- *     secrets registers three   leaves a piece of a key in the register of number 3
+ *     secrets CALL            makes the call, says "0" where it was told PIKHSEN_OK, wipes the key that it gave, and
+ *                             waits for the end of standard input, so that its memory can be searched for what is
+ *                             left
+ *     secrets kept            the same of a key by scrypt, which stays where the call wrote it
+ *     secrets stack           the same, in an array on the stack
+ *     secrets again CALL      says the same, and makes the call again and again, for a minute if nobody ends the
+ *                             process before, so that what a key is made of can be found while it is still there
+ *     secrets painted CALL    paints the stack below the frame of a function, makes the call from there, and looks at
+ *                             the paint
+ *     secrets freed CALL      looks at each block of memory when the library frees it, or, where the call also frees
+ *                             the text of a hash, which is no secret, at each of 1,024 bytes and more: the linker
+ *                             puts the functions below in the place of the C library's (--wrap)
+ *     secrets registers CALL  puts zeros into all vector registers that the processor has, makes the call, and says
+ *                             which of them are not 0 as soon as it returns: of the sixteen of 16 bytes, or of 32
+ *                             with AVX, or of the thirty-two of 64 bytes with AVX-512
  *
  * Any other words end it with status 2.
  */
@@ -51,8 +34,6 @@ static const char passphrase[] = "pw", none[] = "";
 static unsigned char salt[32], text[1128], file[1128], key[64];
 static char encoded[PIKHSEN_ENCODED_ROOM(32, 32)];
 static size_t len;
-
-/* ---- the calls */
 
 typedef unsigned int (*call_t)(void);
 
@@ -86,7 +67,13 @@ static unsigned int of_pieces(void)
 	return told ? told : pikhsen_scrypt_decrypt_finish(&stream);
 }
 
-/* Each call: its name, the function that makes it, the one that makes what it needs, and what it is. */
+static unsigned int free_seven(void), leave_key_in_three(void);
+
+/*
+ * Each call: its name, the function that makes it, the one that makes what it needs, and what it is. keyed-text and
+ * keyed-test have a secret and data; sparse is a key over every fourth row of the table; wrong has another passphrase;
+ * pieces-freed is a stream that is fed and freed. The last two leave something, so that it is seen to be found.
+ */
 #define CALLS(DO) \
 	DO("hash", hash, NULL, pikhsen_argon2_hash(ARGON2ID(64), none, 0, none, 0, 64, most, key, 64)) \
 	DO("encoded", encode, NULL, pikhsen_argon2_encoded(ARGON2ID(64), 32, 64, most, TEXT, &len)) \
@@ -104,11 +91,11 @@ static unsigned int of_pieces(void)
 	DO("pieces-freed", free_pieces, NULL, to_pieces(1)) \
 	DO("small-key", derive_small, NULL, pikhsen_scrypt(PW_AND_SALT, 2, 1, 1, 1, WIDE, key, 64)) \
 	DO("large-hash", hash_large, NULL, pikhsen_argon2_hash(ARGON2ID(8192), none, 0, none, 0, 8192, most, key, 64)) \
-	DO("large-key", derive_large, NULL, pikhsen_scrypt(PW_AND_SALT, 13, 8, 1, 1, WIDE, key, 64))
+	DO("large-key", derive_large, NULL, pikhsen_scrypt(PW_AND_SALT, 13, 8, 1, 1, WIDE, key, 64)) \
+	DO("seven", seven, NULL, free_seven()) \
+	DO("three", three, NULL, leave_key_in_three())
 #define FUNCTION(name, call, before, answer) static unsigned int call(void) { return answer; }
 CALLS(FUNCTION)
-
-/* ---- the memory that the library takes and frees */
 
 /* How many bytes were freed in blocks of this size and more, and how many of these bytes were not 0. */
 static size_t least = 1, freed, not_zero;
@@ -172,8 +159,6 @@ static unsigned int free_seven(void)
 	return PIKHSEN_OK;
 }
 
-/* ---- by name */
-
 #define ROW(name, call, before, answer) {name, call, before},
 static const struct {
 	const char *name;
@@ -191,16 +176,18 @@ static call_t call_of(const char *name)
 	return NULL;
 }
 
-/* ---- for the search */
+/* Says "0" where a call was told PIKHSEN_OK; whether that could be said. */
+static int is_said(unsigned int told)
+{
+	return write(1, told == PIKHSEN_OK ? "0\n" : "1\n", 2) == 2;
+}
 
 /* Says what a call was told, and waits; the status with which the process ends. */
 static int wait_after(unsigned int told)
 {
 	char end;
 
-	if (write(1, told == PIKHSEN_OK ? "0\n" : "1\n", 2) != 2)
-		return 1;
-	return read(0, &end, 1) < 0;
+	return !is_said(told) || read(0, &end, 1) < 0;
 }
 
 /* Waits while the frame that has the key is not yet left. */
@@ -220,8 +207,6 @@ static int wait_after_call(const char *what)
 		return wait_after(derive());
 	if (strcmp(what, "stack") == 0)
 		return wait_with_key_on_stack();
-	if (strcmp(what, "decrypt") == 0)
-		return fread(file, 1, sizeof file, stdin) == sizeof file ? wait_after(decrypt()) : 1;
 	call = call_of(what);
 	if (call == NULL)
 		return 2;
@@ -236,14 +221,11 @@ static int again(call_t call)
 	unsigned int told = call();
 
 	alarm(60);
-	if (write(1, told == PIKHSEN_OK ? "0\n" : "1\n", 2) != 2)
-		return 1;
-	while (told == PIKHSEN_OK)
-		told = call();
+	if (is_said(told))
+		while (told == PIKHSEN_OK)
+			told = call();
 	return 1;
 }
-
-/* ---- on a painted stack */
 
 /*
  * Distances, in bytes below the frame of painted(). The first 1,024 are left out: there are the frames between it and
@@ -288,8 +270,6 @@ static NOINLINE int painted(call_t call)
 	return 0;
 }
 
-/* ---- what is freed */
-
 static int look_at_freed(call_t call)
 {
 	unsigned int told;
@@ -300,37 +280,31 @@ static int look_at_freed(call_t call)
 	return 0;
 }
 
-/* ---- in vector registers */
-
 enum { REGISTERS = 32, WIDTH = 64 };
 
 static unsigned char registers[REGISTERS][WIDTH];
 
-#define FIRST(DO) DO(0) DO(1) DO(2) DO(3) DO(4) DO(5) DO(6) DO(7) DO(8) DO(9) DO(10) DO(11) DO(12) DO(13) DO(14) DO(15)
-#define OTHER(DO)                                                                                                     \
-	DO(16) DO(17) DO(18) DO(19) DO(20) DO(21) DO(22) DO(23) DO(24) DO(25) DO(26) DO(27) DO(28) DO(29) DO(30) DO(31)
+#define FIRST "0, 1, 2, 3, 4, 5, 6, 7, 8, 9, 10, 11, 12, 13, 14, 15"
+#define OTHER "16, 17, 18, 19, 20, 21, 22, 23, 24, 25, 26, 27, 28, 29, 30, 31"
 
-#define CLEAR_XMM(n) __asm__ volatile("pxor %%xmm" #n ", %%xmm" #n : : : "xmm" #n);
-#define CLEAR_YMM(n) __asm__ volatile("vpxor %%ymm" #n ", %%ymm" #n ", %%ymm" #n : : : "xmm" #n);
-#define CLEAR_ZMM(n) __asm__ volatile("vpxorq %%zmm" #n ", %%zmm" #n ", %%zmm" #n : : : "memory");
-
-#define STORE_XMM(n) __asm__ volatile("movdqu %%xmm" #n ", %0" : "=m"(registers[n]));
-#define STORE_YMM(n) __asm__ volatile("vmovdqu %%ymm" #n ", %0" : "=m"(registers[n]));
-#define STORE_ZMM(n) __asm__ volatile("vmovdqu64 %%zmm" #n ", %0" : "=m"(registers[n]));
+/* An instruction for each register of these numbers, which stand in the place of its \n. */
+#define EACH(numbers, instruction) ".irp n, " numbers "\n" instruction "\n.endr"
 
 /* Between the call and the stores no register may be used for anything else: so there is a function for each kind. */
-#define CALL_WITH(registers, CLEAR, STORE)                                                                            \
-	static NOINLINE unsigned int call_with_##registers(call_t call)                                                   \
+#define CALL_WITH(kind, numbers, clear, store)                                                                        \
+	static NOINLINE unsigned int call_with_##kind(call_t call)                                                        \
 	{                                                                                                                 \
 		unsigned int told;                                                                                            \
                                                                                                                       \
-		CLEAR told = call();                                                                                          \
-		STORE return told;                                                                                            \
+		__asm__ volatile(EACH(numbers, clear) : : : "memory");                                                        \
+		told = call();                                                                                                \
+		__asm__ volatile(EACH(numbers, store) : : "r"(registers) : "memory");                                         \
+		return told;                                                                                                  \
 	}
 
-CALL_WITH(xmm, FIRST(CLEAR_XMM), FIRST(STORE_XMM))
-CALL_WITH(ymm, FIRST(CLEAR_YMM), FIRST(STORE_YMM))
-CALL_WITH(zmm, FIRST(CLEAR_YMM) FIRST(CLEAR_ZMM) OTHER(CLEAR_ZMM), FIRST(STORE_ZMM) OTHER(STORE_ZMM))
+CALL_WITH(xmm, FIRST, "pxor %%xmm\\n, %%xmm\\n", "movdqu %%xmm\\n, 64 * \\n(%0)")
+CALL_WITH(ymm, FIRST, "vpxor %%ymm\\n, %%ymm\\n, %%ymm\\n", "vmovdqu %%ymm\\n, 64 * \\n(%0)")
+CALL_WITH(zmm, FIRST ", " OTHER, "vpxorq %%zmm\\n, %%zmm\\n, %%zmm\\n", "vmovdqu64 %%zmm\\n, 64 * \\n(%0)")
 
 static unsigned int leave_key_in_three(void)
 {
@@ -367,17 +341,10 @@ int main(int count, char **words)
 	memset(salt, 7, sizeof salt);
 	if (count == 2)
 		return wait_after_call(words[1]);
-	for (at = 0; count == 3 && at < sizeof looks / sizeof looks[0]; ++at) {
-		if (strcmp(words[1], looks[at].name) != 0)
-			continue;
-		if (looks[at].look == look_at_freed && strcmp(words[2], "seven") == 0)
-			call = free_seven;
-		else if (looks[at].look == look_at_registers && strcmp(words[2], "three") == 0)
-			call = leave_key_in_three;
-		else
-			call = call_of(words[2]);
-		least = call == encode || call == verify || call == encode_keyed || call == verify_keyed ? 1024 : 1;
-		return call == NULL ? 2 : looks[at].look(call);
-	}
+	call = count == 3 ? call_of(words[2]) : NULL;
+	least = call == encode || call == verify || call == encode_keyed || call == verify_keyed ? 1024 : 1;
+	for (at = 0; call != NULL && at < sizeof looks / sizeof looks[0]; ++at)
+		if (strcmp(words[1], looks[at].name) == 0)
+			return looks[at].look(call);
 	return 2;
 }

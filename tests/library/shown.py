@@ -44,9 +44,11 @@ def compile_c(source, lib, out, static, *flags, compiler="gcc"):
 
 
 def shown(language):
-    """LIBRARY's program in this language, and what is typed to run it with what comes; None where there is none."""
+    """LIBRARY's program in this language, and what is typed to run it, and what comes."""
     found = re.search(rf"^```{language}\n(.*?)^```\n\n.*?\n\n((?:    [^\n]*\n)+)", LIBRARY, re.MULTILINE | re.DOTALL)
-    return found and (found[1], re.sub(r"^    ", "", found[2], flags=re.MULTILINE).splitlines())
+    typed = re.findall(r"^    \$ (.*\n)", found[2], re.MULTILINE)
+    printed = re.findall(r"^    (?!\$ )(.*\n)", found[2], re.MULTILINE)
+    return found[1], "".join(typed), "".join(printed)
 
 
 def library_runs(checks, folder, lib, include=TOP / "include", module=TOP / "python"):
@@ -54,11 +56,9 @@ def library_runs(checks, folder, lib, include=TOP / "include", module=TOP / "pyt
     environment = {**os.environ, "LD_LIBRARY_PATH": str(lib), "LIBRARY_PATH": str(lib), "C_INCLUDE_PATH": str(include)}
     environment.update(PYTHONPATH=str(module), PYTHONDONTWRITEBYTECODE="1", PIKHSEN_LIBRARY="")
     for language, file in (("c", "login.c"), ("python", "login.py")):
-        program, lines = shown(language) or ("", ["$ false"])
+        program, typed, printed = shown(language)
         pathlib.Path(folder, file).write_text(program, encoding="utf-8")
-        typed = [line[2:] for line in lines if line.startswith("$ ")]
-        printed = "".join(line + "\n" for line in lines if not line.startswith("$ "))
-        found = ran("sh", "-ec", "\n".join(typed), cwd=folder, env=environment)
+        found = ran("sh", "-ec", typed, cwd=folder, env=environment)
         checks.that(f"LIBRARY's {file}", found, (0, printed))
 
 
@@ -111,7 +111,7 @@ def pieces_run(checks, folder, lib):
     source.write_text(examples_of_page()[2].replace("17, 8, 1, 1,", "10, 8, 1, 1,"), encoding="utf-8")
     checks.that("the manual page's program, compiled", compile_c(source, lib, program, True, "-Wall", "-Wextra", "-Werror"), (0, ""))
 
-    def run(word, given, passphrase="pw", end="", out=subprocess.PIPE):
+    def run(word, given, passphrase="pw", out=subprocess.PIPE):
         variables = {**os.environ, "PASSPHRASE": passphrase}
         done = subprocess.run([program, word], input=given, stdout=out, stderr=subprocess.PIPE, env=variables)
         return done.returncode, done.stdout, done.stderr.decode().replace("; delete what was written\n", " (written)\n")
@@ -127,16 +127,17 @@ def pieces_run(checks, folder, lib):
                                env={**os.environ, "PASSPHRASE": "pw"})
         checks.that("scrypt opens what the manual page's program made", (found.returncode, found.stdout), (0, text))
     damaged = "file: it is damaged, or cut short, after its first 96 bytes (written)\n"
-    for name, given, out, said in (
-        ("a byte changed", file[:-1] + bytes([file[-1] ^ 1]), text, damaged), ("cut", file[:200000], text[:200000 - 128], damaged),
-        ("longer", file + b"x", None, damaged), ("short", file[:95], b"", "file: it is shorter than 96 bytes, or than 64 to read its costs alone\n"),
+    short = "file: it is shorter than 96 bytes, or than 64 to read its costs alone\n"
+    for name, out, says, *given in (
+        ("a byte changed", text, damaged, "dec", file[:-1] + bytes([file[-1] ^ 1])),
+        ("cut", text[:200000 - 128], damaged, "dec", file[:200000]), ("longer", text, damaged, "dec", file + b"x"),
+        ("short", b"", short, "dec", file[:95]),
+        ("another passphrase", b"", "file: the passphrase is not the file's\n", "dec", file, "PW"),
+        ("no passphrase", b"", "PASSPHRASE is not set\n", "enc", b"", ""),
+        ("another word", b"", "the word is enc or dec\n", "encrypt", b""),
     ):
-        status, found, told = run("dec", given)
-        checks.that(f"the manual page's program, {name}", (status, told), (1, said))
-        checks.that(f"the manual page's program, {name}: what was written", found if out is not None else None, out)
-    checks.that("the manual page's program, another passphrase", run("dec", file, "PW"), (1, b"", "file: the passphrase is not the file's\n"))
-    checks.that("the manual page's program, no passphrase", run("enc", b"", ""), (1, b"", "PASSPHRASE is not set\n"))
-    checks.that("the manual page's program, another word", run("encrypt", b""), (1, b"", "the word is enc or dec\n"))
+        status, found, said = run(*given)
+        checks.that(f"the manual page's program, {name}", (status, found[:len(text)], said), (1, out, says))
     with open("/dev/full", "wb") as full:
         checks.that("the manual page's program, a full disk", run("enc", b"", out=full)[::2], (1, "the output cannot be written (written)\n"))
     found = ran("sh", "-c", f"PASSPHRASE=pw {program} enc <{folder} 2>&1 >/dev/null")
