@@ -16,12 +16,11 @@ import shutil
 import signal
 import subprocess
 import sys
-import tempfile
 import time
 
 sys.path += map(str, pathlib.Path(__file__).resolve().parents[1].iterdir())  # the other folders of tests/
 import binaries
-from checking import Checks, is_there
+from checking import is_there, over_programs
 from first_run import LEVEL, PROGRAMS, STAND_IN, TOP, Tree
 from library_texts import HEADER, prototypes, ran
 
@@ -140,21 +139,11 @@ def programs_are_built(checks, room, level):
 def both_levels_are_built(checks, room):
     for level in (LEVEL, OTHER):
         programs_are_built(checks, room, level)
-    # a level that is chosen is built anew: its older programs go before, in bin/ too
-    room.write("scrypt_tool", "slow\n")
-    running = room.start_at("scrypt_tool", "packaging/build.sh", OTHER)
-    checks.that("build.sh: older programs of the level, while it proves", room.there([*PROGRAMS[:2], "bin/level", *OTHERS]), [])
-    os.killpg(running.pid, signal.SIGTERM)
-    running.communicate(timeout=30)
-    room.write("scrypt_tool", "as it was\n")
     there = [*PROGRAMS, "bin/level"]
     room.older(there)
     found = room.run("packaging/build.sh", "x86-64-v4")[0], room.there(there)
     checks.that("a level that there is not", found, (2, there))
-
-
-def a_level_without_programs(checks, room):
-    """chosen.sh changes nothing where a program of the level is missing."""
+    # chosen.sh changes nothing where a program of the level is missing
     there = [*PROGRAMS[:2], "bin/level"]
     for missing in OTHERS:
         room.older([*there, *OTHERS])
@@ -184,13 +173,15 @@ def proofs_fail(checks, room):
 
 
 def is_stopped(checks, room):
-    """A signal that reaches the script alone or with all that it began leaves no program and no library."""
+    """A signal to a script and all that it began leaves no program and no library. Older ones go before the proof, from
+    bin/, too, where they are of the level that is proved."""
     for script, words, makes, there, crate in (
-        ("build.sh", [LEVEL], PROGRAMS[2:], [*PROGRAMS, PACKAGE], "host"),
+        ("build.sh", [LEVEL], [*PROGRAMS, "bin/level"], [*PROGRAMS, PACKAGE], "host"),
         ("lib.sh", ["bin/lib", LEVEL], LIBRARIES, [*LIBRARIES, PACKAGE], "blake"),
     ):
         for number in (signal.SIGTERM, signal.SIGINT):
             room.older(there)
+            (room.top / "bin/level").write_text(f"{LEVEL}\n")
             room.write(crate, f"slow {script} {number}\n")
             running = room.start_at(crate, f"packaging/{script}", *words)
             checks.that(f"{script}: what it makes, while it proves", room.there(makes), [])
@@ -230,9 +221,11 @@ def library_is_made(checks, room):
 def libraries_fail(checks, room):
     """A proof, a linker or a compiler that fails leaves no library, neither in place of the new one nor beside it."""
     there, archive = [*LIBRARIES, PACKAGE, WHEEL], "crates/pikhsen_c/out/libpikhsen_c.a"
-    room.older([*there, archive])
+    room.older([*there, archive, *PROGRAMS])
     room.write("pikhsen_c", "broken\n")
-    room.leaves(checks, "lib.sh, a proof that fails", there, "packaging/lib.sh", "bin/lib", OTHER, LEVEL)
+    said = room.leaves(checks, "lib.sh, a proof that fails", [*there, archive], "make", "lib")
+    found = room.begun(), "| pikhsen_c::there: no proof" in said, room.there(PROGRAMS)
+    checks.that("lib.sh, a proof that fails: begun, why, the programs", found, (["pikhsen_c"], True, [*PROGRAMS]))
     room.write("pikhsen_c", "as it was\n")
     room.run("packaging/lib.sh", "bin/lib", LEVEL)
     checks.that("lib.sh, mended", room.there(LIBRARIES), LIBRARIES[:2])
@@ -262,17 +255,6 @@ def below(folder):
     return {name: os.readlink(it) if it.is_symlink() else it.read_bytes() if it.is_file() else None for name, it in paths.items()}
 
 
-def to_be_installed(room, prefix):
-    """What is to lie below a prefix beside the list: manual pages name documents by where they are installed."""
-    docs = {f"share/doc/pikhsen/docs/{it.name}": f"docs/{it.name}" for it in (room.top / "docs").glob("*.*")}  # docs/audit is for the gate
-    held = {to: (room.top / file).read_bytes() for to, file in {**INSTALLED, **docs}.items()}
-    for to in held:
-        if "/man/" in to:
-            held[to] = held[to].replace(b"/usr/local/share/doc/", f"{prefix}/share/doc/".encode())
-    flags = FLAGS.format(prefix, "lib", room.texts("VERSION")[0].strip()).encode()
-    return {**held, "lib/libpikhsen.so": "libpikhsen.so.0", "lib/pkgconfig/pikhsen.pc": flags}
-
-
 def is_installed(checks, room):
     """Each file is there with its bytes and its permissions, whatever the umask is, and no other is; and all is listed."""
     to, another = room.folder / "this & that|other", room.folder / "another"
@@ -283,7 +265,15 @@ def is_installed(checks, room):
     room.older([*PROGRAMS[:2], "bin/level", *LIBRARIES])
     checks.that("make install", room.run("make", "install", f"PREFIX={to}", umask=0o077)[0], 0)
     checks.that("a link in the place of a program", another.read_text(), "another's")
-    wanted, found = to_be_installed(room, to), {name: text for name, text in below(to).items() if text is not None}
+    docs = [f"docs/{it.name}" for it in (room.top / "docs").glob("*.*")]  # docs/audit is for the gate
+    files = {**INSTALLED, **{f"share/doc/pikhsen/{it}": it for it in docs}}
+    wanted = {it: (room.top / file).read_bytes() for it, file in files.items()}
+    for it in wanted:
+        if "/man/" in it:  # manual pages name documents by where they are installed
+            wanted[it] = wanted[it].replace(b"/usr/local/share/doc/", f"{to}/share/doc/".encode())
+    flags = FLAGS.format(to, "lib", room.texts("VERSION")[0].strip()).encode()
+    wanted.update({"lib/libpikhsen.so": "libpikhsen.so.0", "lib/pkgconfig/pikhsen.pc": flags})
+    found = {name: text for name, text in below(to).items() if text is not None}
     checks.that("files, installed", sorted(found), sorted([*wanted, LIST]))
     checks.that("files, installed, and what they hold", [it for it in wanted if found.get(it) != wanted[it]], [])
     modes = {it: oct((to / it).stat().st_mode & 0o7777) for it in found}
@@ -398,20 +388,17 @@ def prefixes_are_refused(checks, room):
         room.stand_in(name, None)
 
 
-def main():
-    checks = Checks("none")
-    with tempfile.TemporaryDirectory(prefix="pikhsen-scripts-") as folder:
-        room = Room(folder)
-        parts = [both_levels_are_built, a_level_without_programs, proofs_fail]
-        if is_there("gcc", "packaging/lib.sh is not looked at"):
-            room.compile_library()
-            parts += [library_is_made, libraries_fail, is_stopped]
-        parts += [packages_fail, is_installed, is_taken_away, another_is_installed_over_it, a_list_leads_out, prefixes_are_refused]
-        for part in parts:
-            part(checks, room)
-    checks.end()
+def main(checks, folder):
+    room = Room(folder)
+    parts = [both_levels_are_built, proofs_fail]
+    if is_there("gcc", "packaging/lib.sh is not looked at"):
+        room.compile_library()
+        parts += [library_is_made, libraries_fail, is_stopped]
+    parts += [packages_fail, is_installed, is_taken_away, another_is_installed_over_it, a_list_leads_out]
+    for part in [*parts, prefixes_are_refused]:
+        part(checks, room)
 
 
 if __name__ == "__main__":
     sys.dont_write_bytecode = True
-    main()
+    over_programs(main, __doc__)

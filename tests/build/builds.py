@@ -6,10 +6,9 @@ the same sources give the same bytes, wherever they are built.
     tests/build/builds.py --write      writes the table at a release, when all else is committed
 
 Before either, on a processor of the level x86-64-v3: `make run CPU=x86-64-v2`, `make run CPU=x86-64-v3` and `make lib`.
-Packages are made here, with the time that the table has, of the last commit before it. The package `pikhsen` has the
-table in it, and so no row. Where the toolchain, a tool or the sources of a row are others than those that the table names,
-or what was built is older than its sources or not there, that row cannot be compared: that is said, and is no failure; but
-status 2 says that no row could be compared.
+Packages are made here, with the time that the table has; `pikhsen` has the table in it, and so no row. A row of
+another toolchain, tool or sources, or of what was not built of these, cannot be compared: that is said, and is no
+failure; status 2 says that none could be.
 """
 import hashlib
 import os

@@ -1,11 +1,11 @@
 #!/usr/bin/env python3
-"""Runs make run, make lib and make check in a copy of the tree, over a stand-in for rt that proves nothing.
+"""Runs make run and make check in a copy of the tree, over a stand-in for rt that proves nothing.
 
     tests/build/first_run.py
 
 Each crate is begun once, and only after all that it stands on; each has its line when it is proved. A failure stops
-what stands on it alone, is told with its last lines, and leaves no program and no library of older sources, nor does a
-run that is stopped, which ends all that it began.
+what stands on it alone, is told with its last lines, and leaves no program of older sources, nor does a run that is
+stopped, which ends all that it began.
 """
 import os
 import pathlib
@@ -14,11 +14,10 @@ import shutil
 import signal
 import subprocess
 import sys
-import tempfile
 import time
 
 sys.path += map(str, pathlib.Path(__file__).resolve().parents[1].iterdir())  # the other folders of tests/
-from checking import Checks
+from checking import over_programs
 
 TOP = pathlib.Path(__file__).resolve().parents[2]
 sys.path.insert(0, str(TOP / "packaging"))
@@ -196,9 +195,6 @@ def succeeds(checks, tree):
     checks.that("processes for a crate", words["romix"][:2], ["lib", "--jobs"])
     tree.make("run", f"CPU={LEVEL}")
     checks.that("nothing changed", tree.noted(), [])
-
-
-def proves_what_changed(checks, tree):
     tree.write("scrypt_run", "other\n")
     status, said = tree.make("run", f"CPU={LEVEL}", "JOBS=3")
     checks.that("a change", status, 0)
@@ -225,17 +221,6 @@ def fails(checks, tree):
     tree.write("scrypt_run", "mended\n")
     status, said = tree.make("run", f"CPU={LEVEL}")
     checks.that("mended", (status, tree.begun(), tree.there(PROGRAMS)), (0, sorted(SCRYPT), list(PROGRAMS)))
-
-
-def library_fails(checks, tree):
-    libraries = ["bin/lib/libpikhsen.a", "bin/lib/libpikhsen.so.0", "crates/pikhsen_c/out/libpikhsen_c.a"]
-    tree.older(libraries)
-    tree.write("pikhsen_c", "broken\n")
-    status, said = tree.make("lib")
-    checks.that("a library that fails", (status != 0, tree.there(libraries)), (True, []))
-    checks.that("a library that fails: begun", tree.begun(), ["pikhsen_c"])
-    checks.that("a library that fails: why", "| pikhsen_c::there: no proof" in said, True)
-    checks.that("a library that fails: the programs stay", tree.there(PROGRAMS), list(PROGRAMS))
 
 
 def is_stopped(checks, tree):
@@ -282,15 +267,12 @@ def checks_what_changed(checks, tree):
             checks.that(f"{name}: the lines", len([it for it in said if LINE.fullmatch(it)]), 25)
 
 
-def main():
-    checks = Checks("make")
+def main(checks, folder):
     shares(checks)
-    with tempfile.TemporaryDirectory(prefix="pikhsen-first-run-") as folder:
-        tree = Tree(folder)
-        for test in (succeeds, proves_what_changed, fails, library_fails, is_stopped, checks_what_changed):
-            test(checks, tree)
-    checks.end()
+    tree = Tree(folder)
+    for test in (succeeds, fails, is_stopped, checks_what_changed):
+        test(checks, tree)
 
 
 if __name__ == "__main__":
-    main()
+    over_programs(main, __doc__)

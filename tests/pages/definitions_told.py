@@ -102,20 +102,12 @@ def kind(lines):
     return "statement" if re.search(r"→ Type 0$", lines[0].strip()) or re.search(r"→ Type 0 \w", text) else "function"
 
 
-def reached():
-    """The definitions that the calls reach, by crate in the order of crates.txt and by file."""
-    files, items = reading.all_files(), {}
-    for call in reading.CALLS:
-        for item in reading.reached_by(call, files):
-            if item[1]:
-                items.setdefault(item, set()).add(call)
-    order = list(below())
-    return sorted(items, key=lambda it: (order.index(it[0].split(".")[0]), it[0])), files
-
-
 def page():
     """The page, and what has neither an equation nor a reason."""
-    items, files = reached()
+    files, found, order = reading.all_files(), {}, list(below())
+    for call in reading.CALLS:
+        found.update(dict.fromkeys(it for it in reading.reached_by(call, files) if it[1]))
+    items = sorted(found, key=lambda it: (order.index(it[0].split(".")[0]), it[0]))
     by, falls, untold, counts = nearest(), refused(), [], collections.Counter()
     made, crate = "", ""
     for module, item in items:

@@ -1,10 +1,7 @@
 #!/usr/bin/env python3
-"""Whether crates.txt lists for each crate the libraries that it names, and what the documents name is there: files,
-links, definitions, tests, clauses and calls; whether tests/README.md lists what stands below tests/; whether the pictures in
-docs/, and the parts that tests/pages/pages.py makes of data, are what would be made now; whether README's first screen, its
-words, the words of all pages and those that are written by hand are few enough; whether the figures of speed on the pages
-are those of docs/benchmarks.tsv; and whether all of them name one version. What they say of options, messages and numbers
-is compared by tests/pages/values.py.
+"""Whether what the documents name is there, each kind of name below its comment; whether what is made of data is what
+would be made now; whether pages are short enough; and whether figures of speed are those of docs/benchmarks.tsv. What
+pages say of options, messages and numbers is compared by tests/pages/values.py.
 
 Reads README.md and the other pages, docs/ and man/ against crates/, prints each name that it does not find, and fails
 where there is one.
@@ -25,13 +22,13 @@ import ratios
 from definitions import Definitions, wrong_definitions_of
 from edits import BODIES, LINES, edits_in, edits_of
 from pages import is_definition
+from promises import IN_BACKTICKS
 from proof_map import drawn, small
 
 PAGES = sorted(TOP.glob("*.md"))
 MANUALS = sorted((TOP / "man").glob("*.1"))
 DOCUMENTS = [*PAGES, *sorted((TOP / "docs").glob("*.md")), *MANUALS]
 TEXTS = {it: it.read_text(encoding="utf-8") for it in DOCUMENTS}
-IN_BACKTICKS = re.compile(r"`([^`]+)`")
 # How a goal is called: of a return, a call, a loop or a type; or it is a lemma's, or an error of the types. That a number
 # fits is no contract's.
 GOAL = re.compile(

@@ -47,18 +47,14 @@ def functions(crate):
     return found
 
 
-def handed_on(crate):
-    """The functions of other crates that a crate hands on as its own."""
-    for owner, names in re.findall(r"^pub use (\w+)::\{?([^;}]*)\}?;", "\n".join(code(crate).values()), re.MULTILINE):
-        for name in names.split(", "):
-            if name[0].islower() and name in FUNCTIONS.get(owner, {}):
-                yield name, FUNCTIONS[owner][name]
-
-
 CRATES = {name: line.partition(":")[2].split() for name, line in prove.listed().items()}  # with what each stands on
 FUNCTIONS = {crate: functions(crate) for crate in CRATES}
 for each, below in CRATES.items():
-    FUNCTIONS[each].update(handed_on(each))
+    # functions of other crates that it hands on as its own
+    for owner, names in re.findall(r"^pub use (\w+)::\{?([^;}]*)\}?;", "\n".join(code(each).values()), re.MULTILINE):
+        for name in names.split(", "):
+            if name[0].islower() and name in FUNCTIONS.get(owner, {}):
+                FUNCTIONS[each][name] = FUNCTIONS[owner][name]
     FUNCTIONS[each.removesuffix("_tests")].update(FUNCTIONS[each])
     if "host" in below:
         FUNCTIONS[each]["Host"] = set()

@@ -14,6 +14,7 @@ import re
 import sys
 from xml.sax.saxutils import escape
 
+import values_table
 from promises import CRATES, ROOT, code, promises, read
 
 WIDTH, COLUMNS = 1200, [(30, 372), (446, 336), (826, 344)]
@@ -24,8 +25,8 @@ FOR_C = (240, 734)
 SYSTEM = "the system's calls"
 
 
-def rows(kind):
-    return [line.split("\t")[1:] for line in read("docs/proof-map.tsv").splitlines() if line.startswith(f"{kind}\t")]
+def rows(kind, name="proof-map.tsv"):
+    return values_table.rows(kind, ROOT / "docs" / name, "-")
 
 
 STANDARDS = [dict(it.split(": ") for it in row) for row in rows("standards")]
@@ -134,9 +135,8 @@ def notes(crate):
 
 def standards(crate):
     """The standards that docs/definitions.tsv names for the crate, and that of the kit's sha2 where it cites it."""
-    lines = (line.split("\t") for line in read("docs/definitions.tsv").splitlines())
     cites = any("use Rattle.sha2." in file.read_text("utf-8") for file in (ROOT / "crates" / crate / "specs").rglob("*.antt"))
-    sources = " ".join([*(cells[3] for cells in lines if cells[0] == crate), *["FIPS 180-4"] * cites])
+    sources = " ".join([*(source for *_, source, _ in rows(crate, "definitions.tsv")), *["FIPS 180-4"] * cites])
     return {name for row in STANDARDS for name in row if re.search(rf"\b{name}\b", sources)}
 
 

@@ -6,19 +6,19 @@ the laws of them, the types that they name, and what the notation and the words 
                                      toolchain's sources are; any browser prints it
 
 A call is written CRATE::FUNCTION; without one `run` of both programs is meant. tests/pages/reading.py says what a contract reaches;
-docs/notation.tsv and docs/words.tsv say what notation and words mean.
+docs/words.tsv says what notation and words mean.
 """
 import functools
 import hashlib
-import pathlib
 import re
 import string
 import sys
-import textwrap
 from html import escape
+from inspect import cleandoc
 
 import reading
 import reading_kit
+import values_table
 from reading import CRATES, TOP
 
 PROGRAMS = {"scrypt_tool::run": "scrypt", "argon_tool::run": "argon2"}
@@ -26,6 +26,7 @@ CLAUSE = re.compile(r"^\s+(requires|ensures)\*? (\w+) \{ ?(.*)$")
 TOKEN = re.compile(r"(\s+|[(){}\[\],;.])")
 DECLARED = re.compile(r"use (Rattle\.(\w+)\.specs\.declared\.([a-z_0-9.]*)\.?([A-Z]\w*)[\w.]*?)(?:\.\{([^}]*)\}| as (\w+))?;?$", re.M)
 USE = re.compile(r"(?m)^ *(?:pub |ghost )?use Rattle\.([\w.]+?)(?:\.\{([^}]*)\}| as (\w+))")
+WORDS = TOP / "docs" / "words.tsv"
 KIT = "Definitions of the toolchain's libraries"
 # Where no standard has a rule, code that is read with one.
 CODE = ("crypto_aesctr.c of Tarsnap's scrypt", "reference implementation of Argon2 (run.c, encoding.c; version 0x10)")
@@ -42,39 +43,6 @@ contract knows a byte: that it does what a system that tells its bytes must do i
 ON_HEAP = """<p>Contracts do not see the heap: nothing here promises that a run does not end with the refusal of memory, and
 nothing that salts cannot be guessed.</p>
 """
-FRAME = """<!DOCTYPE html>
-<html lang=en><meta charset=utf-8><meta name=viewport content="width=device-width"><title>$title</title>
-<style>
-:root{color-scheme:light dark}
-body{margin:0 auto;max-width:62rem;padding:1.5rem;font:15px/1.5 Helvetica,Arial,"Liberation Sans",sans-serif}
-h1{font-size:1.6rem}h2{font-size:1.15rem;margin:2.2rem 0 .3rem;border-bottom:1px solid gray}h3{font-size:1rem;margin:1.6rem 0 .2rem}
-p{margin:.4rem 0}pre{margin:.1rem 0;padding:.3rem .6rem;border:1px solid silver;white-space:pre-wrap;overflow-wrap:anywhere}
-pre,code,dt{font:12.5px/1.45 "DejaVu Sans Mono","Liberation Mono",Menlo,Consolas,monospace}
-a{text-decoration:none}h2 a,.n a{color:inherit}:target{outline:2px solid}.s,.g,.n{font-size:.86em}.n{columns:3}
-.d{margin:.9rem 0 0}.d p{margin:0}.g{margin:1rem 0 0;padding-top:.5rem;border-top:1px dotted gray}
-dl{display:grid;grid-template-columns:minmax(9rem,17rem) 1fr;gap:.25rem 1rem}dt{overflow-wrap:anywhere}dd{margin:0}
-ol{padding-left:2.2rem;columns:2 18rem}
-@page{size:A4;margin:16mm 15mm 18mm;@bottom-left{content:"$title";font:8pt sans-serif}
-@bottom-right{content:counter(page) " / " counter(pages);font:8pt sans-serif}}
-@media print{body{font-size:9.5pt;max-width:none;padding:0}pre,code,dt{font-size:7.5pt}a{color:inherit}
-h2,h3,.d p{break-after:avoid}.d,.g,dl>*{break-inside:avoid}}
-</style>
-<h1>$title</h1>
-<p>Pikhsen $version. This page has all of this repository's text that a reader has to find right to believe the call
-<code>$call</code>: its contract, and the $count definitions in $files files ($lines lines) that the contract reaches, in the order in
-which the files are first cited. That the program meets the contract is proved by the toolchain, and needs no reader. Read it against
-$standards, whose sections stand in brackets$pages.</p>
-<p class=s>Made by tests/pages/reading_page.py. Sum of all sections: $sum. A signature stands as long as the sum of its section does.</p>
-<h2>Contents</h2><ol>
-$contents</ol>
-$sections<h2>Names, and the sections that define them</h2><p class=n>$names</p>
-</html>
-"""
-
-
-def meanings(name):
-    """What docs/notation.tsv or docs/words.tsv says of each form or word."""
-    return dict(line.split("\t") for line in (TOP / "docs" / name).read_text(encoding="utf-8").splitlines()[1:])
 
 
 def parted(text):
@@ -179,7 +147,7 @@ class Page:
         self.places = {it: f"{letter}{at}" for letter, items in (("d", self.items + self.law_items), ("k", self.kit))
                        for at, it in enumerate(items)}
         self.types, self.words, self.unknown, self.sections = {}, set(), set(), []
-        self.standards_of, self.meanings = described(), meanings("words.tsv")
+        self.standards_of, self.meanings = described(), dict(values_table.rows("word", WORDS, "-"))
 
     def laws_of(self):
         """The laws that speak of what the call reaches alone, and of files of definitions for laws: name, text, imports, note."""
@@ -258,9 +226,9 @@ class Page:
     def clauses_of(lines, link):
         """A function's head and its clauses, each with its name."""
         head, found = clauses([line for line in lines if not re.match(r"\}|$", line)])
-        text = re.sub(r"\s*\{$", "", dedented(head))
+        text = re.sub(r"\s*\{$", "", cleandoc("\n".join(head)))
         return (f"<div class=d><pre>{link(text)}</pre></div>" if text.strip() else "") + "".join(
-            f"<div class=d><p><b>{kind} <code>{name}</code></b> {formatted(' '.join(note))}</p><pre>{link(dedented([said]))}</pre></div>"
+            f"<div class=d><p><b>{kind} <code>{name}</code></b> {formatted(' '.join(note))}</p><pre>{link(cleandoc(said))}</pre></div>"
             for kind, name, note, said in found)
 
     def definitions(self, title, items, files, base):
@@ -339,7 +307,7 @@ class Page:
         self.section(f"The contract of {self.name}", contracts + open_, "".join(text for text, _ in self.texts))
         self.section("Notation", "<p>Definitions are written in antt, the language of the toolchain's proofs. They are functions on "
                      "lists of numbers, and statements; nothing of them is run by the program.</p>"
-                     + listed(meanings("notation.tsv").items()))
+                     + listed(values_table.rows("notation", WORDS, "-")))
         self.definitions("", self.items, self.files, CRATES)
         if self.laws:
             self.laws_section()
@@ -350,7 +318,7 @@ class Page:
         self.words_section()
         count, files, lines = reading.sizes(self.items, self.files)
         standards, pages = self.standards()
-        frame = string.Template(FRAME)
+        frame = string.Template((TOP / "tests/pages/reading_page.html").read_text(encoding="utf-8"))
         return frame.substitute(
             title=f"What {PROGRAMS.get(self.call, self.name)} is proved to do", version=(TOP / "VERSION").read_text(encoding="utf-8").strip(), call=self.call,
             count=count, files=files, lines=lines, standards=standards, pages=pages, names=self.index(),
@@ -387,12 +355,6 @@ def formatted(text):
 
 def paragraphs(note):
     return "".join(f"<p>{formatted(' '.join(it.split()))}</p>" for it in "\n".join(note).split("\n\n") if it.strip())
-
-
-def dedented(lines):
-    """Lines without the indentation that all but the first share."""
-    first, _, others = "\n".join(lines).partition("\n")
-    return f"{first.strip()}\n{textwrap.dedent(others)}".rstrip()
 
 
 def unknown(calls):

@@ -13,6 +13,7 @@ import re
 import shutil
 import subprocess
 import sys
+import types
 
 sys.path += map(str, pathlib.Path(__file__).resolve().parents[1].iterdir())  # the other folders of tests/
 import library_texts
@@ -72,19 +73,9 @@ def normal(text):
     return re.sub(r"\b(?:2\^|1 << )(\d+)(-1\b)?", lambda it: str(2 ** int(it[1]) - bool(it[2])), text)
 
 
-def number(text):
+def number(text, **names):
     """The number that an expression of the sources is, as 1 << 12, (1 << 40) + 1 or 0xFFFF_FFFF."""
-    return value_of(ast.parse(text, mode="eval").body)
-
-
-def value_of(node, names=()):
-    """What an expression is worth: a literal, a name among these, a shift or a sum."""
-    if isinstance(node, ast.Attribute):
-        return dict(names)[ast.unparse(node)]
-    if isinstance(node, ast.BinOp):
-        left, right = value_of(node.left, names), value_of(node.right, names)
-        return left << right if isinstance(node.op, ast.LShift) else left + right
-    return ast.literal_eval(node)
+    return eval(text, {"__builtins__": {}}, names)
 
 
 def plain(roff):
@@ -276,12 +267,9 @@ def messages_of_sources(program):
 
 
 def messages_of_pages():
-    """docs/REFUSALS.md has each number with its line; what any page shows as a line of a program is a message."""
+    """docs/REFUSALS.md has no other numbers; what any page shows as a line of a program is a message."""
     for program in PROGRAMS:
         part = text_of("docs/REFUSALS.md").split(f"\n## {program}\n")[1].split("\n## ")[0]
-        lines = dict(re.findall(r"^\| ([AS][\d.]+\w?) \|.*\| `(.*?)`(?: \(with plain bars\))? \|$", part, re.MULTILINE))
-        that(f"docs/REFUSALS.md: messages of {program}", {it: line.replace("\\|", "|") for it, line in lines.items()},
-             {it.number: it.line for it in messages(program)})
         # the steps of both lists, and RFC 4648 or so, are no values
         unknown_numbers(f"docs/REFUSALS.md: numbers of {program}", normal(re.sub(r"\b[AS]\d[\d.]*\w?\b", "", part)),
                         form=r"(?<![\w.^])(?:0x\d+|\d\d+)\b(?!\.\d)")
@@ -292,7 +280,7 @@ def messages_of_pages():
 
 
 def ranges_of_pages():
-    """What docs/REFUSALS.md says of the numbers that options take and that are in range, and docs/FORMATS.md of ranges."""
+    """What docs/REFUSALS.md says of the numbers that options take and that are in range."""
     page, argon2, scrypt = normal(text_of("docs/REFUSALS.md")), options("argon2"), options("scrypt")
     text, made = " ".join(page.split()), {}
     taken = text.split("What an option takes: ")[1].split("A number is one to twenty")[0].replace("exactly `10` or `13`", "13 or 10")
@@ -308,10 +296,6 @@ def ranges_of_pages():
         that(f"docs/REFUSALS.md: {it}", whens[it].startswith(f"{words} not {RANGES[quantity][0]}"), True)
     for word in ("-M", "--maxops"):
         that(f"docs/REFUSALS.md: S1, {word}", f"`{word}` not {scrypt[word].range}" in whens["S1"], True)
-    part = text_of("docs/FORMATS.md").split("\n## Ranges\n")[1].split("\n## ")[0]
-    cells = [[it.strip().replace("`", "") for it in line.split("|")[1:3]] for line in part.splitlines() if line.startswith("| ")]
-    that("docs/FORMATS.md: quantities and ranges", [(name, normal(it).removesuffix(" bytes")) for name, it in cells[1:]],
-         [(name, range_ + (f"; {given} if not given" if given else "")) for name, (range_, given) in RANGES.items()])
 
 
 def completed(program, *words):
@@ -445,11 +429,11 @@ def functions_of_module():
 
 def module():
     """The defaults of each function of the module; and what must stand in several texts in the same words, and how often."""
-    kinds, made = {f"Kind.{name}": int(it) for it, name in rows("kind")}, []
+    kinds, made = types.SimpleNamespace(**{name: int(it) for it, name in rows("kind")}), []
     for name, node in functions_of_module():
         if not name.startswith("_"):
             that(f"{name}: nothing that may be left out stands before *", node.args.defaults, [])
-            made += [[name, it.arg, repr(value_of(default, kinds)) if default else "-"]
+            made += [[name, it.arg, repr(number(ast.unparse(default), Kind=kinds)) if default else "-"]
                      for it, default in zip(node.args.kwonlyargs, node.args.kw_defaults)]
     that("defaults of the module", sorted(made), sorted([name, it, value or "-"] for name, it, value in rows("default")))
     major = text_of("VERSION").split(".")[0]

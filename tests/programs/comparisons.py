@@ -3,7 +3,7 @@
 place of a wrong byte alone. Each code and each tag is compared over all its bytes, so the counts are the same. No
 contract sees that, and of time nothing is promised.
 
-    tests/programs/comparisons.py SCRYPT      the codes of an encrypted file: of its header, and of the whole
+    tests/programs/comparisons.py FOLDER      the codes of an encrypted file: of its header, and of the whole
 
 The tags of texts of hashes are for tests/library/c_face.py.
 """
@@ -12,10 +12,9 @@ import pathlib
 import re
 import subprocess
 import sys
-import tempfile
 
 sys.path += map(str, pathlib.Path(__file__).resolve().parents[1].iterdir())  # the other folders of tests/
-from checking import Checks, is_there
+from checking import is_there, over_programs
 from scrypt_files import F5, FROM_PW, LINES
 from shown import compile_c
 
@@ -56,16 +55,6 @@ def changed(text, place):
     return text[:place] + bytes([text[place] ^ 1]) + text[place + 1:]
 
 
-def codes_of_files(checks, program, folder):
-    pathlib.Path(folder, "pw").write_bytes(b"pw\n")
-    for name, begin, line in (("header", 64, "S10"), ("file", len(F5) - 32, "S11")):
-        runs = []
-        for place in PLACES:
-            pathlib.Path(folder, "file").write_bytes(changed(F5, begin + place))
-            runs.append(counted([program, "dec", *FROM_PW.split(), "file"], folder))
-        same(checks, f"the code of a {name}", runs, 1, LINES[line])
-
-
 def tags_of_texts(checks, library, folder):
     """The tags of texts of hashes, by the library in this folder."""
     if not is_there(*UNCOUNTED):
@@ -82,26 +71,24 @@ def tags_of_texts(checks, library, folder):
     same(checks, "the tag of a text", runs, 16)
 
 
-def sees_what_stops(checks, folder):
-    """The counts of cmp, which stops at the first word that differs, are seen to differ."""
-    pathlib.Path(folder, "left").write_bytes(bytes(32))
+def main(checks, folder, program):
+    if not is_there(*UNCOUNTED):
+        return
+    checks.put("pw", b"pw\n")
+    for name, begin, line in (("header", 64, "S10"), ("file", len(F5) - 32, "S11")):
+        runs = []
+        for place in PLACES:
+            checks.put("file", changed(F5, begin + place))
+            runs.append(counted([program, "dec", *FROM_PW.split(), "file"], folder))
+        same(checks, f"the code of a {name}", runs, 1, LINES[line])
+    # cmp stops at the first word that differs, so its counts are seen to differ
+    checks.put("left", bytes(32))
     counts = set()
     for place in PLACES:
-        pathlib.Path(folder, "right").write_bytes(changed(bytes(32), place))
+        checks.put("right", changed(bytes(32), place))
         counts.add(counted(["cmp", "-s", "left", "right"], folder)[2])
     checks.that("counts of a comparison that stops", len(counts) > 1, True)
 
 
-def main():
-    if len(sys.argv) != 2:
-        raise SystemExit(__doc__)
-    checks = Checks(sys.argv[1])
-    if is_there(*UNCOUNTED):
-        with tempfile.TemporaryDirectory() as folder:
-            codes_of_files(checks, checks.program, folder)
-            sees_what_stops(checks, folder)
-    checks.end()
-
-
 if __name__ == "__main__":
-    main()
+    over_programs(main, __doc__, "scrypt")

@@ -2,7 +2,7 @@
 """Decrypts a small encrypted file in every damaged form: cut to each length, with each of its bits changed, and with 1 to 100 bytes
 more. Each form comes byte by byte, in pieces of 31 bytes, and whole, and the output is a file that held something before.
 
-    tests/programs/damage.py SCRYPT
+    tests/programs/damage.py FOLDER      in which the programs lie
 """
 import array
 import concurrent.futures
@@ -17,7 +17,7 @@ import time
 import pathlib
 
 sys.path += map(str, pathlib.Path(__file__).resolve().parents[1].iterdir())  # the other folders of tests/
-from checking import TIME_LIMIT, Checks
+from checking import TIME_LIMIT, over_programs
 from scrypt_files import F5, FROM_PW, LINES
 
 BEFORE = b"before"
@@ -88,18 +88,14 @@ def decrypted(program, file, size, folder):
         return running.returncode, said, out.read_bytes()
 
 
-def main():
-    if len(sys.argv) != 2:
-        raise SystemExit(__doc__)
-    checks = Checks(sys.argv[1])
-    with tempfile.TemporaryDirectory() as folder, concurrent.futures.ThreadPoolExecutor(os.cpu_count()) as threads:
+def main(checks, folder, program):
+    with concurrent.futures.ThreadPoolExecutor(os.cpu_count()) as threads:
         for size in SIZES:
-            ran = [(name, threads.submit(decrypted, checks.program, file, size, folder), expected) for name, file, expected in forms()]
-            for name, answer, expected in ran:
+            ran = [(*it, threads.submit(decrypted, program, it[1], size, folder)) for it in forms()]
+            for name, _, expected, answer in ran:
                 status, said, text = answer.result()
                 found = (status, said, (text[:5], len(text)) if name.endswith("more") else text)
                 checks.that(f"{name}, in pieces of {size}", found, expected)
-    checks.end()
 
 
-main()
+over_programs(main, __doc__, "scrypt")

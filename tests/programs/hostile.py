@@ -1,10 +1,9 @@
 #!/usr/bin/env python3
-"""Runs the built programs over a system that refuses: each request for memory, alone and from there on, each that is too large, all
-memory above a limit, and each call that opens, looks at, reads, writes or empties a file, or brings it to the disk, which fails, is
-interrupted, or comes short.
-And looks at the memory of a hash or a key when it is freed: it holds zeros.
+"""Runs the built programs over a system that refuses: each request for memory, alone and from there on, each that is
+too large, all memory above a limit, and each call, which fails, is interrupted, or comes short. And looks at the
+memory of a hash or a key when it is freed: it holds zeros.
 
-    tests/programs/hostile.py ARGON2 SCRYPT
+    tests/programs/hostile.py FOLDER      in which the programs argon2 and scrypt lie
 
 hostile_system.c, which stands between a program and the system, is compiled here. Without a C compiler only the memory
 of the whole process is limited, and its calls are looked at. Expected hashes are those of Debian's argon2
@@ -25,7 +24,7 @@ from dataclasses import dataclass
 import pathlib
 
 sys.path += map(str, pathlib.Path(__file__).resolve().parents[1].iterdir())  # the other folders of tests/
-from checking import Checks, compiled, is_there
+from checking import compiled, is_there, over_programs
 from scrypt_files import COSTS, ENVIRONMENT, F0, F5, FILES, FIXED, FROM_PW, HEADER, LINES, SALT, header_of
 
 
@@ -166,15 +165,14 @@ class System:
                 pathlib.Path(self.threads.folder, name).write_bytes(content)
         return self.threads.folder
 
-    def run(self, run, hostile=None, **more):
-        """Status, standard output, standard error and the content of `out` after this run."""
+    def run(self, run, hostile=None, before=(), **more):
+        """Status, standard output, standard error and `out` after this run, with these words before its own."""
         out = pathlib.Path(self.folder(), "out")
         out.unlink(missing_ok=True)
         environment = ENVIRONMENT if hostile is None else {**ENVIRONMENT, "LD_PRELOAD": self.library, **hostile}
-        ran = subprocess.run(
-            [self.programs[run.program], *run.words.split()], input=run.given, stdout=subprocess.PIPE, stderr=subprocess.PIPE,
-            cwd=self.folder(), env=environment, timeout=60, **more
-        )
+        words = [*before, self.programs[run.program], *run.words.split()]
+        how = {"cwd": self.folder(), "env": environment, "timeout": 60, **more}
+        ran = subprocess.run(words, input=run.given, capture_output=True, **how)
         return ran.returncode, ran.stdout, ran.stderr, out.read_bytes() if out.exists() else None
 
     def logged(self, run, **hostile):
@@ -338,11 +336,9 @@ def no_other_calls(checks, system):
     """The calls that hostile_system.c sees are all that the system sees of their kinds, once the program began."""
     if not is_there("strace", "the calls that the system sees are not looked at"):
         return
-    strace = shutil.which("strace")
+    strace, log = shutil.which("strace"), pathlib.Path(system.folder(), "trace")
     for run in RUNS:
-        log = pathlib.Path(system.folder(), "trace")
-        words = [strace, "-qq", "-e", f"trace={','.join([*KINDS, *NEVER])}", "-o", log, system.programs[run.program], *run.words.split()]
-        subprocess.run(words, input=run.given, stdout=subprocess.PIPE, stderr=subprocess.PIPE, cwd=system.folder(), env=ENVIRONMENT)
+        system.run(run, before=[strace, "-qq", "-e", f"trace={','.join([*KINDS, *NEVER])}", "-o", log])
         traced = log.read_text(encoding="ascii", errors="replace").splitlines()
         begun = [number for number, line in enumerate(traced) if '"/", ' in line]
         names = [line.split("(")[0] for line in traced[begun[0]:]] if begun else traced
@@ -354,33 +350,22 @@ def no_other_calls(checks, system):
     checks.that("a named pipe is not brought to the disk", (ran.returncode, ran.stdout, log.read_bytes()), (0, F5, b""))
 
 
-def over_the_library(checks, system, threads):
-    """All that is refused by hostile_system.c."""
-    tables = [(run, *(threads.submit(test, system, run) for test in (failing_calls, memory))) for run in RUNS]
-    for run, called, requested in tables:
-        checks.that(f"a call refused: {run.name()}", called.result(), [])
-        checks.that(f"memory refused: {run.name()}", requested.result(), (True, []))
-    largest_requests(checks, system)
-    freed_blocks(checks, system)
-    salts(checks, system)
-
-
-def main():
-    if len(sys.argv) != 3:
-        raise SystemExit(__doc__)
-    checks = Checks(sys.argv[1])
-    programs = dict(zip(("argon2", "scrypt"), map(os.path.abspath, sys.argv[1:])))
-    with tempfile.TemporaryDirectory() as folder, concurrent.futures.ThreadPoolExecutor(os.cpu_count()) as threads:
+def main(checks, folder, argon2, scrypt):
+    with concurrent.futures.ThreadPoolExecutor(os.cpu_count()) as threads:
         library = os.path.join(folder, "hostile_system.so")
-        system = System(programs, folder, library)
+        system = System({"argon2": argon2, "scrypt": scrypt}, folder, library)
         if is_there("cc", "requests for memory and calls are not refused one by one"):
             source = pathlib.Path(__file__).with_name("hostile_system.c").read_text(encoding="utf-8")
             compiled(source, library, "-O1", "-shared", "-fPIC")
-            over_the_library(checks, system, threads)
+            tables = [(run, *(threads.submit(test, system, run) for test in (failing_calls, memory))) for run in RUNS]
+            for run, called, requested in tables:
+                checks.that(f"a call refused: {run.name()}", called.result(), [])
+                checks.that(f"memory refused: {run.name()}", requested.result(), (True, []))
+            for part in (largest_requests, freed_blocks, salts):
+                part(checks, system)
         for run, limited in [(run, threads.submit(limits, system, run)) for run in RUNS]:
             checks.that(f"memory limited: {run.name()}", limited.result(), (["plain"], []))
         no_other_calls(checks, system)
-    checks.end()
 
 
-main()
+over_programs(main, __doc__, "argon2", "scrypt")

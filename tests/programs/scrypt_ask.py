@@ -1,14 +1,12 @@
 #!/usr/bin/env python3
 """Runs scrypt-ask at terminals, in each shell that may be /bin/sh: what is typed and shown, what scrypt gets, signals and
-stops while it asks and while scrypt works, the file that is made, what is refused before a passphrase is asked for, and the
-lines that the manual pages show.
+stops while it asks and while scrypt works, the file that is made, and what is refused before a passphrase is asked for.
 
     tests/programs/scrypt_ask.py FOLDER [SHELL ..]    the folder in which scrypt lies; the shells, as dash, or all of them
 """
 import os
 import pathlib
 import pty
-import re
 import select
 import shlex
 import shutil
@@ -133,16 +131,6 @@ class Terminal:
             is_shown |= self.sees(prompt)
             self.types(text)
         return is_shown
-
-    def answers_all(self, line, text="words\n"):
-        """Types this at each question of the commands of a line, and says how the questions look."""
-        asked = ""
-        for command in re.findall(r"scrypt-ask (enc|dec) ", line):
-            for prompt in (ASKED, AGAIN)[: 1 + (command == "enc")]:
-                self.sees(asked + prompt)
-                self.types(text)
-                asked += f"{prompt}\r\n"
-        return asked
 
     def signals(self, number, typed=None):
         """Sends a signal, or types its key, until it is told that the run has stopped or ended: a shell may look for
@@ -456,43 +444,12 @@ def refused_before_it_asks(room):
     room.that("what is there after all this", (room.names(), room.held("out"), room.held("letters")), (before, b"older", b"Dear Ada"))
 
 
-def shown_lines():
-    """The lines that the manual pages show, in their order."""
-    texts = []
-    for page in ("scrypt-ask", "scrypt"):
-        part = (TOP / f"man/{page}.1").read_text(encoding="utf-8").split("\n.SH EXAMPLES\n")[1].split("\n.SH ")[0]
-        texts += re.findall(r"^\.nf\n(.*?)^\.fi$", re.sub(r"&&\n *", "&& ", part.replace("\\-", "-")), re.MULTILINE | re.DOTALL)
-    return [line.strip() for text in texts for line in text.splitlines() if re.match(r" *(scrypt-ask|.*\| scrypt-ask) ", line)]
-
-
-def pages(room):
-    """What the manual pages show does what they say, at lower costs."""
-    (room.top / "path").mkdir()
-    text = SCRIPT.read_text(encoding="utf-8").replace("#!/bin/sh\n", f"#!/usr/bin/env -S {SHELLS[room.shell]}\n")
-    (room.top / "path/scrypt-ask").write_text(text, encoding="utf-8")
-    (room.top / "path/scrypt-ask").chmod(0o755)
-    room.clear()
-    (room.folder / "letters").mkdir()
-    (room.folder / "letters/to-ada").write_bytes(b"Dear Ada")
-    subprocess.run(["tar", "-cf", "letters.tar", "letters"], cwd=room.folder, check=True)
-    held, lines = room.held("letters.tar"), shown_lines()
-    room.that("lines on the pages", (len(lines), [it.split()[0] for it in lines].count("tar")), (8, 1))
-    for line in lines:
-        cheap = re.sub(r"--logN \d+", "--logN 4", line) if "--logN" in line else line.replace("scrypt-ask enc", f"scrypt-ask enc {CHEAP}")
-        path = f"PATH={shlex.quote(str(room.top))}/path:{shlex.quote(str(room.top))}/bin:$PATH"
-        terminal = Terminal(f"sh -c {shlex.quote(f'{path}; {cheap}')}", room.folder, dict(os.environ), os.getuid())
-        asked = terminal.answers_all(line)
-        listed = "letters/\r\nletters/to-ada\r\n" if "-tf" in line else ""
-        found = terminal.ends()
-        room.that(line, (found, room.held("letters.tar") == held), ((0, asked + listed, True), True))
-
-
 def main():
     if len(sys.argv) < 2:
         raise SystemExit(__doc__)
     checks = Checks(os.path.join(sys.argv[1], "scrypt"))
     parts = (typed_and_opened, refused_as_typed, signals_while_it_asks, signals_while_scrypt_works, what_scrypt_gets, files,
-             refused_before_it_asks, pages)
+             refused_before_it_asks)
     for shell in sys.argv[2:] or SHELLS:
         if is_there(SHELLS[shell].split()[0], f"scrypt-ask is not run in {shell}"):
             with tempfile.TemporaryDirectory() as folder:

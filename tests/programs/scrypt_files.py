@@ -34,7 +34,7 @@ def header_of(log_n, r, p):
 # What lies in the folder in which the program runs.
 FILES = {
     "empty": b"", "hello": b"hello", "F0": F0, "F5": F5,
-    **{f"F5-cut-{length}": F5[:length] for length in (130, 127, 95)}, "F5-longer": F5 + b"\0", "F5-version-1": F5[:6] + b"\1" + F5[7:],
+    **{f"F5-cut-{length}": F5[:length] for length in (130, 127, 95)}, "F5-version-1": F5[:6] + b"\1" + F5[7:],
     "huge": header_of(63, 1, 1), "no-r": header_of(4, 0, 1), "no-log-n": header_of(0, 1, 1),
     "4-gib-and-more": header_of(23, 8, 1), "much-work": header_of(20, 1, 4096),
     "pw": b"pw\n", "pw-cr-lf": b"pw\r\nsecond line", "pw-alone": b"pw", "other-pw": b"pv\n", "pw-bytes": b"\xff\x01\x80pw\n",

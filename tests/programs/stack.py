@@ -3,24 +3,23 @@
 run ends by a signal. No contract sees the stack, so a body that takes 64 MiB of it at one length of the password would
 be proved.
 
-    tests/programs/stack.py ARGON2 SCRYPT
+    tests/programs/stack.py FOLDER      in which the programs lie
 
-The runs go over every length of a password, of a passphrase and of a salt, texts about the length of a piece, lengths
-of tags and costs that work otherwise, 0 to 40 words, and words and variables of up to 100,000 bytes. Those lie above
-the stack and count in its limit, so their bytes are added to it.
+The runs go over every length of a password, of a passphrase and of a salt, texts about the length of a piece, other
+tags and costs, 0 to 40 words, and words and variables of up to 100,000 bytes, which count in the limit and are added
+to it.
 """
+import collections
 import concurrent.futures
-import dataclasses
 import itertools
 import os
 import pathlib
 import re
 import subprocess
 import sys
-import tempfile
 
 sys.path += map(str, pathlib.Path(__file__).resolve().parents[1].iterdir())  # the other folders of tests/
-from checking import Checks, compiled, is_there, said
+from checking import compiled, is_there, over_programs, said
 from scrypt_files import FROM_PW, SALT
 
 # In KiB. The limit counts what lies above the stack, too, and the up to 8 KiB by which Linux moves its beginning.
@@ -33,24 +32,17 @@ PIECES = (*range(301), 4095, 4096, 4097, 8191, 8192, 8193)
 CUTS = (*range(0, 140, 3), 4224, 8320)
 
 
-@dataclasses.dataclass(frozen=True)
-class Run:
-    """What is run: a program, its words as a shell reads them, the file on its standard input, variables before it, and
-    how many bytes these have beyond some hundred."""
+# What is run: a program, its words as a shell reads them, the file on its standard input, variables before it, and how
+# many bytes these have beyond some hundred.
+Run = collections.namedtuple("Run", "name program words given variables more", defaults=("/dev/null", "", 0))
 
-    name: str
-    program: str
-    words: str
-    given: str = "/dev/null"
-    variables: str = ""
-    more: int = 0
 
-    def line(self, number, small):
-        """A line of a shell, which itself keeps the stack that it has."""
-        limit = (SMALL if small else LARGE) + -(-self.more // 1024)
-        export = f"export {self.variables}; " if self.variables else ""
-        command = f'ulimit -Ss {limit}; {export}exec "${self.program}" {self.words} <{self.given}'
-        return f"({command}); printf '\\nended {number} %s\\n' $?\n"
+def line_of(run, number, small):
+    """A line of a shell, which itself keeps the stack that it has."""
+    limit = (SMALL if small else LARGE) + -(-run.more // 1024)
+    export = f"export {run.variables}; " if run.variables else ""
+    command = f'ulimit -Ss {limit}; {export}exec "${run.program}" {run.words} <{run.given}'
+    return f"({command}); printf '\\nended {number} %s\\n' $?\n"
 
 
 def runs_of_argon2():
@@ -122,7 +114,7 @@ def run_all(runs, folder, programs, small):
     count = len(os.sched_getaffinity(0))
 
     def part(chosen):
-        text = "".join(run.line(number, small) for number, run in chosen)
+        text = "".join(line_of(run, number, small) for number, run in chosen)
         ran = subprocess.run(["sh", "-s"], input=text.encode(), stdout=subprocess.PIPE, stderr=subprocess.STDOUT,
                              cwd=folder, env=programs, check=False)
         ended = re.findall(rb"(.*?)\nended (\d+) (\d+)\n", ran.stdout, re.DOTALL)
@@ -141,23 +133,6 @@ def compare(runs, folder, programs):
     wrong = [(run.name, few, many) for run, few, many in zip(runs, small, large)
              if few != many or few is None or few[0] not in (0, 1)]
     return wrong, large
-
-
-def make_files(folder):
-    for length in {*range(2051), *PIECES}:
-        pathlib.Path(folder, f"p-{length}").write_bytes(b"p" * length)
-    for name, text in (("pw", b"pw\n"), ("hello", b"hello")):
-        pathlib.Path(folder, name).write_bytes(text)
-
-
-def make_encrypted(folder, runs, ended):
-    """The files of texts, as runs wrote them."""
-    made = {int(run.name.split()[3]): out for run, (_, out) in zip(runs, ended) if re.fullmatch(r"a text of \d+ bytes", run.name)}
-    for length, out in made.items():
-        pathlib.Path(folder, f"file-{length}").write_bytes(out)
-    for length in CUTS:
-        pathlib.Path(folder, f"cut-{length}").write_bytes(made[8193][:length])
-    pathlib.Path(folder, "file").write_bytes(made[5])
 
 
 # Takes 64 MiB of the stack at one length of what it reads, and writes nothing.
@@ -208,35 +183,33 @@ def largest_frame(program):
     return max(found)
 
 
-def largest_frames(checks, programs):
-    if not is_there("objdump", "the largest frames are not looked at"):
-        return
-    for name, program in programs.items():
+def main(checks, folder, argon2, scrypt):
+    programs = {"argon2": argon2, "scrypt": scrypt}
+    for length in {*range(2051), *PIECES}:
+        checks.put(f"p-{length}", b"p" * length)
+    checks.put("pw", b"pw\n")
+    checks.put("hello", b"hello")
+    runs = [*runs_of_argon2(), *runs_of_scrypt()]
+    wrong, ended = compare(runs, folder, programs)
+    # the files of texts, as runs wrote them, and parts of one
+    made = {run.name: out for run, (_, out) in zip(runs, ended)}
+    for length in PIECES:
+        checks.put(f"file-{length}", made[f"a text of {length} bytes"])
+    for length in CUTS:
+        checks.put(f"cut-{length}", made["a text of 8193 bytes"][:length])
+    checks.put("file", made["a text of 5 bytes"])
+    over_files = [*runs_over_files()]
+    wrong += compare(over_files, folder, programs)[0]
+    checks.passed += len(runs) + len(over_files) - len(wrong)
+    for name, small, large in wrong:
+        checks.that(f"with a stack of {SMALL} KiB: {name}", small, large)
+    statuses = [it[0] for it in ended if it]
+    checks.that("some runs end well, and some do not", (0 in statuses, 1 in statuses), (True, True))
+    finds_what_is_deep(checks, folder)
+    for name, program in programs.items() if is_there("objdump", "the largest frames are not looked at") else ():
         size, function = largest_frame(program)
         print(f"{name}: the largest frame has {size} bytes, in {function}")
         checks.that(f"{name}: no larger frame than {LARGEST_FRAME} bytes", size <= LARGEST_FRAME, True)
 
 
-def main():
-    if len(sys.argv) != 3:
-        raise SystemExit(__doc__)
-    programs = dict(zip(("argon2", "scrypt"), map(os.path.abspath, sys.argv[1:])))
-    checks = Checks(sys.argv[1])
-    with tempfile.TemporaryDirectory() as folder:
-        make_files(folder)
-        runs = [*runs_of_argon2(), *runs_of_scrypt()]
-        wrong, ended = compare(runs, folder, programs)
-        make_encrypted(folder, runs, ended)
-        over_files = [*runs_over_files()]
-        wrong += compare(over_files, folder, programs)[0]
-        checks.passed += len(runs) + len(over_files) - len(wrong)
-        for name, small, large in wrong:
-            checks.that(f"with a stack of {SMALL} KiB: {name}", small, large)
-        statuses = [it[0] for it in ended if it]
-        checks.that("some runs end well, and some do not", (0 in statuses, 1 in statuses), (True, True))
-        finds_what_is_deep(checks, folder)
-    largest_frames(checks, programs)
-    checks.end()
-
-
-main()
+over_programs(main, __doc__, "argon2", "scrypt")

@@ -1,26 +1,26 @@
 #!/usr/bin/env python3
-"""Types the commands of README.md's first screen, those for a folder under a typed passphrase, also of a folder that is
-not there, and its story in an empty folder and compares what comes. The login of
-docs/LIBRARY.md's Rust program is that of a test, and the text that it enrols is what the built argon2 writes. Then the
-examples of both manual pages, in each shell that they are for, also where a command before a pipe fails, a password is
-wrong, and the stored text is empty; and what checks a stored text in Python, where the library is built.
+"""Does what README and the manual pages show: README's first screen, a folder under a typed passphrase, and the
+story; the examples of the pages, in each shell that they are for, also where a command before a pipe fails, a
+password is wrong, or the stored text is empty; and what checks a stored text in Python, where the library is built.
+The login of docs/LIBRARY.md's Rust program is that of a test, and the text that it enrols is what the built argon2
+writes.
 
     tests/programs/story.py FOLDER               in which the programs argon2 and scrypt lie
-    tests/programs/story.py --recipes FOLDER     what is typed for README and the examples of argon2's page, alone
+    tests/programs/story.py --recipes FOLDER     what is typed for README, and the examples of scrypt-ask and argon2
     tests/programs/story.py --prove              proves, builds and runs that Rust program over the crates (some minutes)
 """
 import os
 import pathlib
 import re
 import shlex
-import shutil
 import subprocess
 import sys
 import tempfile
+import textwrap
 
 sys.path += map(str, pathlib.Path(__file__).resolve().parents[1].iterdir())  # the other folders of tests/
-from checking import Checks
-from scrypt_ask import CHEAP, Terminal
+from checking import Checks, is_there
+from scrypt_ask import AGAIN, ASKED, CHEAP, Terminal
 
 TOP = pathlib.Path(__file__).resolve().parents[2]
 README = (TOP / "README.md").read_text(encoding="utf-8")
@@ -44,12 +44,9 @@ def examples(page, heading="EXAMPLES"):
     for text in re.findall(r"^\.nf\n(.*?)^\.fi$", section, re.MULTILINE | re.DOTALL):
         for written, meant in ((r"\-", "-"), (r"\(aq", "'"), (r"\e", "\\")):
             text = text.replace(written, meant)
-        lines = text.splitlines(keepends=True)
-        if not any(line.startswith("$ ") for line in lines):
-            found.append((text, ""))
-            continue
-        typed = [line.removeprefix("$ ") for line in lines if line.startswith(("$ ", "    "))]
-        found.append(("".join(typed), "".join(line for line in lines if not line.startswith(("$ ", "    ")))))
+        begin = ("$ ", "    ") if re.search(r"^\$ ", text, re.MULTILINE) else ""  # how lines that are typed begin
+        typed = "".join(line.removeprefix("$ ") for line in text.splitlines(keepends=True) if line.startswith(begin))
+        found.append((typed, "".join(line for line in text.splitlines(keepends=True) if not line.startswith(begin))))
     return found
 
 
@@ -80,17 +77,15 @@ class Shell:
 def in_shells(checks, programs, names, page, run):
     """Runs what is for these shells in each, in an empty folder."""
     for name in names:
-        if shutil.which(name) is None:
-            print(f"skipped: the examples of {page} in {name}, which is not there")
-            continue
-        with tempfile.TemporaryDirectory() as room:
-            run(Shell(checks, name, programs, room, page))
+        if is_there(name, f"the examples of {page} are not tried in it"):
+            with tempfile.TemporaryDirectory() as room:
+                run(Shell(checks, name, programs, room, page))
 
 
 def blocks_of_readme(heading):
     """The blocks of code below a heading of README."""
     part = README.split(f"\n## {heading}\n")[1].split("\n## ")[0]
-    return [re.sub(r"^    ", "", it, flags=re.MULTILINE) for it in re.findall(r"(?:^    .*\n)+", part, re.MULTILINE)]
+    return [textwrap.dedent(it) for it in re.findall(r"(?:^    .*\n)+", part, re.MULTILINE)]
 
 
 def costs_timed(shell, loop):
@@ -220,8 +215,12 @@ def argon2_examples(shell):
 def typed(shell, text):
     """Status, what is shown, and the questions, where a passphrase is typed at each question of these lines, at lower costs."""
     cheap = re.sub(r"scrypt-ask enc( --logN \d+ -r 8 -p 1)?", f"scrypt-ask enc {CHEAP}", text)
-    terminal = Terminal(f"{shell.name} -c {shlex.quote(cheap)}", shell.room, shell.environment, os.getuid())
-    asked = terminal.answers_all(text)
+    terminal, asked = Terminal(f"{shell.name} -c {shlex.quote(cheap)}", shell.room, shell.environment, os.getuid()), ""
+    for command in re.findall(r"scrypt-ask (enc|dec) ", text):
+        for prompt in (ASKED, AGAIN)[: 1 + (command == "enc")]:
+            terminal.sees(asked + prompt)
+            terminal.types("words\n")
+            asked += f"{prompt}\r\n"
     return *terminal.ends()[:2], asked
 
 
@@ -250,9 +249,20 @@ def first_screen(shell):
     shell.expect("what was opened", shell.run("cat opened; cmp letter opened; cmp -s letter letter.scrypt"), (1, "Dear Ada\n"))
 
 
+def asking_examples(shell):
+    """The examples of scrypt-ask in the manual pages: the text comes back each time."""
+    shell.run("mkdir letters; echo 'Dear Ada' >letters/to-ada; tar -cf letters.tar letters; cp letters.tar kept")
+    texts = [text for page in ("scrypt-ask.1", "scrypt.1") for text, _ in examples(page) if "scrypt-ask" in text]
+    for text in texts:
+        status, said, asked = typed(shell, text)
+        listed = "letters/\r\nletters/to-ada\r\n" if "tar -tf" in text else ""
+        shell.expect(text, (status, said, shell.run("cmp letters.tar kept")), (0, asked + listed, (0, "")))
+    shell.expect("examples of scrypt-ask", len(texts), 6)
+
+
 def compare_recipes(checks, programs):
-    for part in (first_screen, typed_folder):
-        in_shells(checks, programs, ("bash", "zsh"), "README.md", part)
+    for page, part in (("README.md", first_screen), ("README.md", typed_folder), ("scrypt-ask.1", asking_examples)):
+        in_shells(checks, programs, ("bash", "zsh"), page, part)
     in_shells(checks, programs, ("bash", "dash", "zsh"), "argon2.1", argon2_examples)
 
 
@@ -269,23 +279,11 @@ def parts_of_readme(shell):
         print("skipped: a stored text in Python, since bin/lib/libpikhsen.so.0 is not built")
 
 
-def compare_login(checks, programs, typed):
-    """The login of the story lets nobody in where the stored text is empty, and argon2 refuses the password."""
-    (encoded,) = [command for command, _ in typed if command.startswith("encoded()")]
-    (login,) = [command for command, answer in typed if answer == "welcome\n"]
-    with tempfile.TemporaryDirectory() as room:
-        shell = Shell(checks, "bash", programs, room)
-        for stored in (": >stored", "echo >stored", "rm stored"):
-            for password in ("''", "$(printf %200d 0)", "'correct horse'"):
-                status, said = shell.run(f"{stored}; {encoded}\n" + login.replace("'correct horse'", password))
-                checks.that(f"README: {password} after {stored}", (status != 0, "welcome" in said), (True, False))
-
-
 def rust_program():
-    (program,) = re.findall(r"^```rust\n(.*?)^```", LIBRARY, re.MULTILINE | re.DOTALL)
-    after = LIBRARY.split("```rust\n" + program)[1]
-    shown = re.search(r"It prints:\n\n((?:    .*\n)+)", after)[1]
-    return program, re.sub(r"^    ", "", shown, flags=re.MULTILINE)
+    """The Rust program of docs/LIBRARY.md, and what the page says that it prints."""
+    program = (TOP / "docs/programs/accounts.txt").read_text(encoding="utf-8")
+    shown = re.search(r"It prints:\n\n((?:    .*\n)+)", LIBRARY.split(program)[1])[1]
+    return program, textwrap.dedent(shown)
 
 
 def functions(text):
@@ -293,18 +291,15 @@ def functions(text):
     return {found[2]: found[1] for found in re.finditer(r"^(fn (\w+)\(.*?^\}\n)", text, re.MULTILINE | re.DOTALL)}
 
 
-def compare_functions(checks):
+def compare_library(checks, folder):
+    """The Rust program's functions are those of a test, and the first line that it prints is what the program argon2
+    makes of the password, salt and settings that stand there."""
     files = [it for it in sorted(TOP.glob("crates/*/src/**/*.rt")) if "tests" in it.parts[-2:] or it.name == "tests.rt"]
-    tested = functions("".join(it.read_text(encoding="utf-8") for it in files))
-    shown = functions(rust_program()[0])
-    checks.that("LIBRARY's login is a test's", "may_enter" in shown and "may_enter" in tested, True)
-    for name in sorted(shown.keys() & tested.keys() - {"main"}):
-        checks.that(f"LIBRARY's {name} is that of a test", shown[name], tested[name])
-
-
-def compare_enrolled(checks, folder):
-    """The first line that the Rust program prints, by the program argon2 with the password, salt and settings that stand there."""
-    program, shown = rust_program()
+    tested, (program, shown) = functions("".join(it.read_text(encoding="utf-8") for it in files)), rust_program()
+    of_program = functions(program)
+    checks.that("LIBRARY's login is a test's", "may_enter" in of_program and "may_enter" in tested, True)
+    for name in sorted(of_program.keys() & tested.keys() - {"main"}):
+        checks.that(f"LIBRARY's {name} is that of a test", of_program[name], tested[name])
     password, salt = re.findall(r'enrol\(alloc, b"(.*)", b"(.*)"\)', program)[0]
     passes, lanes, memory = re.findall(r"0x13,\s+(\d+),\s+(\d+),\s+([\d_]+),\s+32,", program)[0]
     words = [salt, "-id", "-t", passes, "-p", lanes, "-k", memory.replace("_", ""), "-e"]
@@ -335,8 +330,7 @@ def main():
     if sys.argv[1] == "--prove":
         return prove()
     checks = Checks(os.path.join(sys.argv[1], "scrypt"))
-    compare_functions(checks)
-    compare_enrolled(checks, sys.argv[1])
+    compare_library(checks, sys.argv[1])
     typed = story()
     with tempfile.TemporaryDirectory() as room:
         script = "".join(f"{command}\necho '{END}'\n" for command, _ in typed)
@@ -344,7 +338,15 @@ def main():
     checks.that("as many answers as commands", len(found), len(typed))
     for (command, expected), answer in zip(typed, found):
         checks.that(f"README: {command}", answer, expected)
-    compare_login(checks, sys.argv[1], typed)
+    # its login lets nobody in where the stored text is empty, and argon2 refuses the password
+    (encoded,) = [command for command, _ in typed if command.startswith("encoded()")]
+    (login,) = [command for command, answer in typed if answer == "welcome\n"]
+    with tempfile.TemporaryDirectory() as room:
+        shell = Shell(checks, "bash", sys.argv[1], room)
+        for stored in (": >stored", "echo >stored", "rm stored"):
+            for password in ("''", "$(printf %200d 0)", "'correct horse'"):
+                status, said = shell.run(f"{stored}; {encoded}\n" + login.replace("'correct horse'", password))
+                checks.that(f"README: {password} after {stored}", (status != 0, "welcome" in said), (True, False))
     in_shells(checks, sys.argv[1], ("bash", "zsh"), "README.md", parts_of_readme)
     compare_recipes(checks, sys.argv[1])
     in_shells(checks, sys.argv[1], ("bash", "zsh"), "scrypt.1", scrypt_examples)

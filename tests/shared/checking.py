@@ -26,16 +26,17 @@ class Checks:
             self.passed += 1
         else:
             self.failed += 1
-            print(f"FAILED {name}", *(f"  {said:8} {shortened(it)}" for said, it in difference(found, expected)), sep="\n")
+            print(f"FAILED {name}")
+            for which, it in difference(found, expected):
+                text = repr(it)
+                print(f"  {which:8} {text if len(text) < 600 else text[:400] + ' .. ' + text[-100:]}")
             if "STOP_AT_FIRST" in os.environ:
                 self.end()
 
     def run(self, words, given=b"", program=None, **more):
         """Status, standard output and standard error of the program with these words and this standard input."""
-        ran = subprocess.run(
-            [program or self.program, *words], input=given, stdout=subprocess.PIPE, stderr=subprocess.PIPE,
-            cwd=self.folder, env=self.environment, timeout=TIME_LIMIT, **more
-        )
+        how = {"cwd": self.folder, "env": self.environment, "timeout": TIME_LIMIT, **more}
+        ran = subprocess.run([program or self.program, *words], input=given, capture_output=True, **how)
         return ran.returncode, ran.stdout, ran.stderr
 
     def shell(self, text, given=b""):
@@ -85,12 +86,19 @@ class Checks:
         raise SystemExit(1 if self.failed else 0)
 
 
-def over_library(test):
-    """Runs a test over the library in the folder that the first word names, with a folder of its own."""
-    checks = Checks("none")
+def over_programs(test, usage, *names):
+    """Runs a test in a folder of its own, over the programs of these names in the folder that the one word names."""
+    if len(sys.argv) != 1 + bool(names):
+        raise SystemExit(usage)
+    programs = [os.path.abspath(os.path.join(sys.argv[1], it)) for it in names]
     with tempfile.TemporaryDirectory() as folder:
-        test(checks, folder, os.path.abspath(sys.argv[1]))
+        checks = Checks(programs[0] if programs else "none", folder)
+        test(checks, folder, *programs)
     checks.end()
+
+
+def over_library(test):
+    over_programs(test, "the folder in which the library lies is expected", "")
 
 
 def difference(found, expected):
@@ -101,11 +109,6 @@ def difference(found, expected):
         if any(alone):
             return zip(("too many", "missing"), alone)
     return ("found", found), ("expected", expected)
-
-
-def shortened(found):
-    text = repr(found)
-    return text if len(text) < 600 else text[:400] + " .. " + text[-100:]
 
 
 def is_there(program, without):

@@ -3,9 +3,8 @@
 
 Prints the tables of crates/argon_text_tests/src/tests/near_misses.rt: for each byte of the known text, what reading
 answers where another byte stands in its place; of that and of the short text, where a byte is left out, where it
-comes twice, and of each prefix.
-0: it is read; 1: it is not in the grammar; 2: a value is out of range. With that file's name it prints nothing, and
-fails where the file has other answers.
+comes twice, and of each prefix. 0: it is read; 1: it is not in the grammar; 2: a value is out of range. With that
+file's name it prints nothing, and fails where the file has other answers.
 """
 import base64
 import pathlib

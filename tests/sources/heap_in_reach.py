@@ -1,17 +1,18 @@
 #!/usr/bin/env python3
-"""Compares whole each function that has the heap in reach, and in argon_text each that has a list.
+"""Compares whole each function that has the heap in reach, and in argon_text each that has a list; and whole files.
 
 The heap (`Global`) can be copied, and no contract sees what is requested of it: a function that has it could take
 memory, or make a counter and work on that, beside what its clauses say. So the others get a source of memory, whose
-requests contracts count. Each function with `Global` or any other `Allocator` in its head, or that takes the heap out of
-a list, has its row in tests/sources/heap_in_reach.tsv with a sum of its body, as it was read: it passes the heap on, once, and does nothing else with it. White
-space and comments do not count, and these words stand nowhere else, except in `use` lines. A list keeps its allocator,
-and can grow: so where a password is tested, in argon_text, each function with a list (a `Vec`, a `String`, an `Encoded`)
-in its head has its row there, too. Left out are files that tests/sources/sources.sh compares whole, tests, and the host and the
-system in memory, which no program uses.
+requests contracts count. Each function with `Global` or any other `Allocator` in its head, or that takes the heap out
+of a list, has its row in tests/sources/heap_in_reach.tsv with a sum of its body, as it was read: it passes the heap
+on, once, and does nothing else with it. White space and comments do not count, and these words stand nowhere else,
+except in `use` lines. A list keeps its allocator, and can grow: so where a password is tested, in argon_text, each
+function with a list (a `Vec`, a `String`, an `Encoded`) in its head has its row there, too. A file that is compared
+whole, as each of system_calls, has one row for all that is in it. Left out are tests, and the host and the system in
+memory, which no program uses.
 
-    tests/sources/heap_in_reach.py          fails if a body differs, if one is missing here, or if the heap is named elsewhere
-    tests/sources/heap_in_reach.py --told   prints the rows of these functions as they are now: read the bodies before you copy them
+    tests/sources/heap_in_reach.py          fails if a sum differs, a row is missing, or the heap is named elsewhere
+    tests/sources/heap_in_reach.py --told   prints the rows as they are now: read what they are of before you copy them
 """
 import hashlib
 import pathlib
@@ -23,9 +24,8 @@ from functions import FUNCTION, IMPL, opens_at, path_of
 from tree import TOP
 from uncommented import without_comments
 
-# Files that have no part in a program, or that tests/sources/sources.sh compares whole.
+# Files that have no part in a program.
 OTHERS = {"host/src/growth.rt", "host/src/memory.rt", "tools/src/memory_system.rt", "tools/src/memory_source.rt"}
-WHOLE = re.compile(r"^compare \w+ crates/(\S+)$", re.MULTILINE)
 TEST_MODULE = re.compile(r"(?:pub(?:\([^)]*\))? )?mod (?:tests|fixtures|refusing)\b")
 TEST_MODULE_ANYWHERE = re.compile(r"\bmod\s+(?:tests|fixtures|refusing)\b")
 TESTS = re.compile(r"(^|/)(tests|fixtures|refusing)(/|\.rt$)")
@@ -58,7 +58,9 @@ def functions_of(path):
         named = [line for line in lines[start:opens + 1] if HEAP.search(line)]
         named += [line for line in lines[opens + 1:ends] if re.search(r"\ballocator\b", line)]
         above = [it for it in map(IMPL.match, lines[:start]) if it and head[1]]
-        if named or crate == "argon_text" and has_list("\n".join(lines[start:opens + 1]), above):
+        whole = "\n".join(lines[start:opens + 1])
+        has_list = LIST.search(whole) or re.search(r"\b[sS]elf\b", whole) and above and above[-1][2] == "Encoded"
+        if named or crate == "argon_text" and has_list:
             name = path_of(TOP / "crates" / crate, file, above[-1] if above else None, head[2])
             if f"{crate}::{name}" in found:
                 others.append(lines[start])  # one of two of this name would not be looked at
@@ -68,45 +70,48 @@ def functions_of(path):
     return found, others
 
 
-def has_list(head, above):
-    """Whether a function with this head, in the last of these blocks, has a list."""
-    return LIST.search(head) or (re.search(r"\b[sS]elf\b", head) and above and above[-1][2] == "Encoded")
-
-
 def sum_of(body):
     """A sum of a body without white space, and without commas before a bracket that closes."""
     return hashlib.sha256(re.sub(r",(?=[\])}])", "", re.sub(r"\s+", "", body)).encode()).hexdigest()
 
 
-def read_all():
-    """All functions that have the heap, and the lines that name it elsewhere."""
-    whole = {*WHOLE.findall((TOP / "tests/sources/sources.sh").read_text(encoding="utf-8"))} | OTHERS
-    found, others = {}, []
+def sum_of_file(name):
+    """A sum of a file without lines of comments, and without white space."""
+    lines = (TOP / name).read_text(encoding="utf-8").splitlines() if (TOP / name).is_file() else []
+    code = "".join(it for it in lines if not it.lstrip(" ").startswith("//"))
+    return hashlib.sha256(code.replace(" ", "").encode()).hexdigest()
+
+
+def read_all(whole):
+    """The sum of each of these files and of each function that has the heap, and the lines that name it elsewhere."""
+    sums, others = {it: sum_of_file(it) for it in whole}, []
     for path in sorted((TOP / "crates").glob("*/src/**/*.rt")):
-        name = str(path.relative_to(TOP / "crates"))
-        if name not in whole and not TESTS.search(name):
+        name = str(path.relative_to(TOP))
+        if name not in whole and name.removeprefix("crates/") not in OTHERS and not TESTS.search(name):
             functions, lines = functions_of(path)
-            found.update(functions)
-            others += [f"crates/{name}: {line.strip()}" for line in lines]
-    return found, others
+            sums.update({it: sum_of(body) for it, body in functions.items()})
+            others += [f"{name}: {line.strip()}" for line in lines]
+    return sums, others
 
 
 def main():
-    found, others = read_all()
-    now = {name: sum_of(body) for name, body in found.items()}
+    then = dict(line.split("\t") for line in READ.read_text(encoding="utf-8").splitlines())
+    of_system = [str(it.relative_to(TOP)) for it in (TOP / "crates/system_calls/src").rglob("*") if it.is_file()]
+    now, others = read_all({*of_system, *(it for it in then if it.startswith("crates/"))})
     if sys.argv[1:] == ["--told"]:
         print("".join(f"{name}\t{it}\n" for name, it in sorted(now.items())), end="")
         return 0
-    then = dict(line.split("\t") for line in READ.read_text(encoding="utf-8").splitlines())
     wrong = [f"{line}: the heap is named there, or this cannot be compared" for line in others]
     for name in sorted({*now, *then}):
-        if name not in then:
+        if name in of_system and name not in then:
+            wrong.append(f"a file of system_calls is not compared: {name}")
+        elif name not in then:
             wrong.append(f"{name} has the heap, or a list, and no row in {READ.name}")
         elif name not in now:
             wrong.append(f"{name} has neither the heap nor a list any more, and a row in {READ.name}")
         elif now[name] != then[name]:
             wrong.append(f"{name} is not what was read when its row was put into {READ.name}; its sum is {now[name]}")
-    print("\n".join(wrong) or f"functions that have the heap, or in argon_text a list, compared whole: {len(now)}")
+    print("\n".join(wrong) or f"functions and files, compared whole: {len(now)}")
     return 1 if wrong else 0
 
 

@@ -6,6 +6,4 @@ pub mod Numbers
 pub mod Symbols
 pub mod Readings
 pub mod Answering
-pub mod PuttingTags
-pub mod DecodedLength
 pub mod RangeFaults

@@ -1,6 +1,3 @@
 -- What loops keep.
-mod Interrupted
-mod Left
 mod Opened
 mod Parts
-mod Taking

@@ -1,10 +1,10 @@
--- A stream that is read part by part into a buffer.
+-- A stream that is read part by part into a buffer, and a call that is interrupted.
 use Rattle.std.proofs.Common.{◌≡◌, ◌≤◌, ◌==◌, ℕ, ◌+◌, ◌-◌, Bool, false, List, [], ◌++◌, Some, arith, length, min, take, drop, slice_range, refl, sym, ap, ◌∙◌, subst, le_refl, drop_at, length-take-le, length-drop}
 use Rattle.std.proofs.lemmas.Slice.{take-put_mid_below}
 use Rattle.std.proofs.lemmas.Grind.{common_steps}
 use Rattle.std.proofs.Math.Seq.{take-add}
 use Rattle.host.specs.Secret.{IsBeginning}
-use Rattle.tools.specs.World.{Reads, TakesFrom, World, after_read, source_at, with_source}
+use Rattle.tools.specs.World.{Files, Reads, TakesFrom, World, after_read, source_at, with_source}
 use Rattle.tools.specs.declared.system.Reading.{Reading}
 use Rattle.tools.specs.declared.system.Reading.TheVariants as reading
 use borrow.Rule.Slice.PartMut.{put_mid, post_of}
@@ -150,3 +150,12 @@ beginning_at_put r at room buf part before now within h end same =
 pub beginning_when_full : (r : Reading) (at : ℕ) (buf : List ℕ) (before now : World) → at ≡ length buf → IsRead r at buf before now
     → IsBeginning (Some (source_at r before).left) at buf
 beginning_when_full r at buf before now all h = (full at (length buf) (length (source_at r before).left) h.fits all, h.bytes)
+
+-- ---- a read or a write that was interrupted so often
+
+-- nothing has changed, and it was asked for so many times
+pub record IsInterrupted (times : ℕ) (before now : World) (files_before files_now : Files) (tries_before tries_now : ℕ)
+    : Type 0 where
+  pub same : now ≡ before
+  pub same_files : files_now ≡ files_before
+  pub counted : tries_now ≡ tries_before + times

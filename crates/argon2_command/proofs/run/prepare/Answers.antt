@@ -1,11 +1,31 @@
-use Rattle.std.proofs.Common.{rules, ◌≡◌, List, Result, Err, MatchResult, map, string_bytes, sym, subst}
+-- What argon2 answers to a standard input, by what the words and that input give.
+use Rattle.std.proofs.Common.{◌≡◌, inl, inr, refl, ℕ, List, Some, Ok, Err, rules, Result, MatchResult, map, string_bytes, sym, subst}
+use Rattle.argon.specs.Argon2.{Parameters}
 use Rattle.host.specs.Seen.{Text}
-use Rattle.argon2_words.specs.RequestView.{request_of}
+use Rattle.argon2_command.specs.Output.{admitted_parameters, output_for, output_line, password_in}
+use Rattle.argon2_words.specs.Refusal.{IsLate}
+use Rattle.argon2_words.specs.Request.{Request, argon2_request}
 use Rattle.argon2_command.specs.Run.{IsToldForSome, SucceedsForSome}
 use Rattle.argon2_words.specs.declared.refusal.Argon2Refusal.{Argon2Refusal}
+use Rattle.argon2_words.specs.RequestView.{request_of}
 use Rattle.argon2_words.specs.declared.refusal.Argon2Refusal.TheVariants.{OutOfMemory}
-use Rattle.argon2_command.proofs.InputsOfArgon2.{late_told, parameters_told, succeeds}
 use Rattle.argon2_command.proofs.run.prepare.Goals as goal
+
+parameters_told : (words : List Text) (q : Request) (password : List ℕ) (r : Argon2Refusal) → argon2_request words ≡ Ok q
+    → password_in (Some password) ≡ Ok password → admitted_parameters q password ≡ Err r → IsToldForSome words r
+parameters_told words q password r taken given refused = (Some password, inl (rw (taken, given, refused) refl))
+
+answers : (words : List Text) (q : Request) (password : List ℕ) (p : Parameters) → argon2_request words ≡ Ok q
+    → password_in (Some password) ≡ Ok password → admitted_parameters q password ≡ Ok p → output_for words (Some password) ≡ Ok (output_line q password p)
+answers words q password p taken given admitted = rw (taken, given, admitted) refl
+
+succeeds : (words : List Text) (q : Request) (password : List ℕ) (p : Parameters) → argon2_request words ≡ Ok q
+    → password_in (Some password) ≡ Ok password → admitted_parameters q password ≡ Ok p → SucceedsForSome words
+succeeds words q password p taken given admitted = (Some password, rw (answers words q password p taken given admitted) refl)
+
+-- want of memory and the output's fault may be told where some input gives an output
+late_told : (words : List Text) (r : Argon2Refusal) → SucceedsForSome words → IsLate r → IsToldForSome words r
+late_told words r h late = (h.0, inr (late, h.1))
 
 pub returns-in_err-params-clause-some_input : goal.returns-in_err-params-clause-some_input
 returns-in_err-params-clause-some_input g c =

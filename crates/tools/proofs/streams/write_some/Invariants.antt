@@ -1,6 +1,6 @@
 -- An interrupted write puts nothing, and is counted.
 use Rattle.std.proofs.Common.{IsTrue}
-use Rattle.tools.proofs.Interrupted.{IsInterrupted}
+use Rattle.tools.proofs.Parts.{IsInterrupted}
 use Rattle.tools.proofs.streams.write_some.Given as goal
 
 abbrev pub invariant-loop : goal.invariant-loop
