@@ -1,9 +1,14 @@
--- What a file is refused for, when there is room for its text and it is long enough for a header.
-use Rattle.std.proofs.Common.{◌≡◌, ◌≤◌, ℕ, List, length, refl}
-use Rattle.std.proofs.lemmas.Bool.{le-ltb}
+-- Which number is told: the first of two that is not 0; of a file, that of what is refused after its lengths.
+use Rattle.std.proofs.Common.{◌≡◌, ◌≤◌, ℕ, List, length, refl, arith}
+use Rattle.std.proofs.lemmas.Bool.{le-ltb, ne_eqb}
 use Rattle.pikhsen_c.specs.File.{front_status, opening_status}
+use Rattle.pikhsen_c.specs.Status.{first_told}
 use Rattle.pikhsen_c.specs.Stream.{decrypt_start_status}
 
+pub first_is : (first second status : ℕ) → first ≡ status → 1 ≤ status → first_told first second ≡ status
+first_is first second status same some = rw (ne_eqb first 0 (λ none. omega (arith, none, same, some))) same
+
+-- there is room for its text, and it is long enough for a header
 pub front_is : (file : List ℕ) (keep max_bytes max_ops out_len : ℕ) → length file ≤ out_len → 96 ≤ length file
     → front_status file keep max_bytes max_ops out_len ≡ opening_status file keep max_bytes max_ops
 front_is file keep max_bytes max_ops out_len room long =

@@ -1,5 +1,5 @@
 -- What a caller gives to the functions for Argon2, and what they answer.
-use Rattle.std.specs.Prelude.{◌≡◌, ◌==◌, ◌||◌, ◌⊎◌, ◌+◌, ◌≤◌, ℕ, not, nat_lt, nat_le, List, [], length, replicate, Result, Ok, Err, Option, None, if◌then◌else◌}
+use Rattle.std.specs.Prelude.{◌≡◌, ◌==◌, ◌||◌, ◌≢◌, ◌⊎◌, ◌+◌, ◌<◌, ◌≤◌, ℕ, not, nat_lt, nat_le, List, [], length, replicate, Result, Ok, Err, Option, Some, None, if◌then◌else◌}
 use Rattle.argon.specs.Argon2.{argon2_tag}
 use Rattle.argon.specs.Counts.{work}
 use Rattle.argon.specs.Parameters.{Inputs, Parameters}
@@ -8,11 +8,12 @@ use Rattle.argon.specs.declared.fault.ParamFault.{ParamFault}
 use Rattle.argon.specs.declared.kind.Kind.{Kind}
 use Rattle.argon.specs.declared.kind.Kind.TheVariants.{D, I, Id}
 use Rattle.argon_text.specs.EncodedText.{IsTextOf, encoded_text}
-use Rattle.argon_text.specs.Grammar.{HasNumbers}
+use Rattle.argon_text.specs.Grammar.{HasNumbers, IsText, IsTextInRange}
 use Rattle.argon_text.specs.Value.{IsValue, Value}
 use Rattle.argon_text.specs.Verifying.{keyed_fault, keyed_tag, parameters_with}
 use Rattle.argon_text.specs.declared.fault.VerifyFault.{VerifyFault}
-use Rattle.pikhsen_c.specs.Status.{first_told, long_input, no_kind, no_version, params_number, wrong_buffer}
+use Rattle.argon_text.specs.declared.fault.VerifyFault.TheVariants as verify
+use Rattle.pikhsen_c.specs.Status.{first_told, long_input, long_password, mismatch, much_memory, much_work, no_kind, no_version, not_encoded, out_of_memory, out_of_range, params_number, wrong_buffer}
 
 -- the parameters of these numbers (RFC 9106, 3.1)
 abbrev pub parameters_given : ℕ → ℕ → ℕ → ℕ → ℕ → ℕ → ℕ → ℕ → Parameters
@@ -101,23 +102,16 @@ text_of_zeros parameters salt = encoded_text (value_given parameters salt (repli
 abbrev pub room_status : ℕ → ℕ → ℕ
 room_status text_len out_len = if nat_le out_len text_len then wrong_buffer else 0
 
--- what an encoded text is refused for by its parameters and the limits, by its number; or 0
-abbrev pub settings_status : Parameters → ℕ → ℕ → ℕ
-settings_status parameters max_kib max_ops =
-    first_told (params_status parameters) (limits_status parameters max_kib max_ops)
-
--- what an encoded text with no secret and no associated data is refused for before memory is asked for, by its
--- number; or 0
-abbrev pub encoded_status : Parameters → List ℕ → ℕ → ℕ → ℕ → ℕ
-encoded_status parameters salt max_kib max_ops out_len =
-    first_told (settings_status parameters max_kib max_ops) (room_status (length (text_of_zeros parameters salt)) out_len)
-
 -- what an encoded text with a secret and associated data of these lengths is refused for before memory is asked for,
 -- by its number; or 0
 abbrev pub encoded_keyed_status : Parameters → List ℕ → ℕ → ℕ → ℕ → ℕ → ℕ → ℕ
 encoded_keyed_status parameters salt secret_len associated_len max_kib max_ops out_len =
     first_told (hash_status parameters secret_len associated_len max_kib max_ops)
     (room_status (length (text_of_zeros parameters salt)) out_len)
+
+-- the same with no secret and no associated data
+abbrev pub encoded_status : Parameters → List ℕ → ℕ → ℕ → ℕ → ℕ
+encoded_status parameters salt = encoded_keyed_status parameters salt 0 0
 
 -- ---- the test of a password
 
@@ -130,11 +124,6 @@ pub record HasKeyedPassword (text password secret associated : List ℕ) (max_ki
   pub admitted : keyed_fault value password (length secret) (length associated) max_kib max_ops ≡ None
   pub same : keyed_tag value password secret associated ≡ value.tag
 
--- the text is that of a value within the limits, and the password gives the value's tag, with no secret and no
--- associated data
-abbrev pub HasPassword : List ℕ → List ℕ → ℕ → ℕ → Type 0
-HasPassword text password = HasKeyedPassword text password [] []
-
 -- the text is that of a value within the limits, and the password gives a tag that is not the value's, with a secret
 -- value K and associated data X (3.1)
 pub record HasOtherKeyedPassword (text password secret associated : List ℕ) (max_kib max_ops : ℕ) : Type 0 where
@@ -144,24 +133,14 @@ pub record HasOtherKeyedPassword (text password secret associated : List ℕ) (m
   pub admitted : keyed_fault value password (length secret) (length associated) max_kib max_ops ≡ None
   pub other : keyed_tag value password secret associated ≡ value.tag → ⊥
 
--- the text is that of a value within the limits, and the password gives a tag that is not the value's, with no secret
--- and no associated data
-abbrev pub HasOtherPassword : List ℕ → List ℕ → ℕ → ℕ → Type 0
-HasOtherPassword text password = HasOtherKeyedPassword text password [] []
-
 -- the text is that of a value for which this is the first fault of the lengths and the limits, or none; the secret
 -- and the associated data have these lengths
-pub record IsKeyedJudged (first : Option VerifyFault) (text password : List ℕ) (secret_len associated_len max_kib max_ops : ℕ)
-    : Type 0 where
+pub record IsKeyedJudged (first : Option VerifyFault) (text password : List ℕ)
+    (secret_len associated_len max_kib max_ops : ℕ) : Type 0 where
   pub value : Value
   pub valid : IsValue value
   pub written : IsTextOf value text
   pub refused : keyed_fault value password secret_len associated_len max_kib max_ops ≡ first
-
--- the text is that of a value for which this is the first fault of the password's length and the limits, or none;
--- there is no secret and no associated data
-abbrev pub IsJudged : Option VerifyFault → List ℕ → List ℕ → ℕ → ℕ → Type 0
-IsJudged first text password = IsKeyedJudged first text password 0 0
 
 -- memory may be refused for this text: it is asked for where the numbers of the text are read, and for the hash where
 -- nothing else refuses it; the secret and the associated data have these lengths
@@ -169,10 +148,29 @@ abbrev pub MayLackKeyedMemory : List ℕ → List ℕ → ℕ → ℕ → ℕ �
 MayLackKeyedMemory text password secret_len associated_len max_kib max_ops =
     HasNumbers text ⊎ IsKeyedJudged None text password secret_len associated_len max_kib max_ops
 
--- memory may be refused for this text, with no secret and no associated data: it is asked for where the numbers of
--- the text are read, and for the hash where nothing else refuses it
-abbrev pub MayLackMemory : List ℕ → List ℕ → ℕ → ℕ → Type 0
-MayLackMemory text password = MayLackKeyedMemory text password 0 0
+-- what each number of the test of a password says of the text, with a secret value K and associated data X (3.1)
+pub record IsVerdict (text password secret associated : List ℕ) (max_kib max_ops status : ℕ) : Type 0 where
+  pub right : status ≡ 0 → HasKeyedPassword text password secret associated max_kib max_ops
+  pub wrong : status ≡ mismatch → HasOtherKeyedPassword text password secret associated max_kib max_ops
+  pub not_in_grammar : status ≡ not_encoded → IsText text → ⊥
+  pub outside : status ≡ out_of_range → IsText text × (IsTextInRange text → ⊥)
+  pub password_len : status ≡ long_password
+      → IsKeyedJudged (Some verify.PasswordLength) text password (length secret) (length associated) max_kib max_ops
+  pub input_len : status ≡ long_input
+      → IsKeyedJudged (Some verify.InputLength) text password (length secret) (length associated) max_kib max_ops
+  pub memory_limit : status ≡ much_memory
+      → IsKeyedJudged (Some verify.MemoryLimit) text password (length secret) (length associated) max_kib max_ops
+  pub work_limit : status ≡ much_work
+      → IsKeyedJudged (Some verify.WorkLimit) text password (length secret) (length associated) max_kib max_ops
+  pub memory : status ≡ out_of_memory
+      → MayLackKeyedMemory text password (length secret) (length associated) max_kib max_ops
+
+-- a number that the test of a password answers: 0, 6 to 9, 12, or 14 to 16
+pub record IsVerifyNumber (status : ℕ) : Type 0 where
+  pub low : 0 < status → long_password ≤ status
+  pub gap : out_of_memory < status → long_input ≤ status
+  pub gap_after_12 : long_input < status → not_encoded ≤ status
+  pub high : status ≤ mismatch
 
 -- the count of block functions rose by those of one hash, of this password under the parameters of this text, and these
 -- are at most `max_ops`
@@ -182,3 +180,9 @@ pub record CountsTest (text password : List ℕ) (max_ops before after : ℕ) : 
   pub written : IsTextOf value text
   pub counted : after ≡ before + work (parameters_with value password)
   pub admitted : work (parameters_with value password) ≤ max_ops
+
+-- no block function is run before every refusal is ruled out, and then those of one hash, also for a wrong password
+pub record WorksToVerify (text password : List ℕ) (max_ops status before after : ℕ) : Type 0 where
+  pub no_work : status ≢ 0 → status ≢ mismatch → after ≡ before
+  pub count : status ≡ 0 → CountsTest text password max_ops before after
+  pub count_if_wrong : status ≡ mismatch → CountsTest text password max_ops before after

@@ -1,5 +1,5 @@
--- What each number says, in the words of include/pikhsen.h.
-use Rattle.std.specs.Prelude.{ℕ, ◌==◌, List, codes, if◌then◌else◌}
+-- What each number says, in the words of include/pikhsen.h; and how a text is written.
+use Rattle.std.specs.Prelude.{◌≡◌, ◌==◌, ◌+◌, ◌++◌, ◌∷◌, ℕ, List, [], codes, drop, take, if◌then◌else◌}
 
 -- the sentence of a number, or that it has none
 abbrev pub sentence_of : ℕ → List ℕ
@@ -43,3 +43,9 @@ sentence_of status =
     else if status == 36 then codes "text: its salt is not 8 to 255 bytes long"
     else if status == 37 then codes "file: the stream runs already, or does not run in this direction"
     else codes "unknown number"
+
+-- a text stands at the front of a buffer, a byte 0 is after it, and what is after that is as it was
+pub record IsWritten (bytes : List ℕ) (len : ℕ) (old new : List ℕ) : Type 0 where
+  pub text : take len new ≡ bytes
+  pub end : take (len + 1) new ≡ bytes ++ 0 ∷ []
+  pub rest : drop (len + 1) new ≡ drop (len + 1) old

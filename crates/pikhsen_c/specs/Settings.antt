@@ -1,12 +1,12 @@
 -- What an encoded text says of its hash's settings.
-use Rattle.std.specs.Prelude.{◌≡◌, ◌≤◌, ℕ, List, length, Option, Some, None}
+use Rattle.std.specs.Prelude.{◌≡◌, ◌<◌, ◌≤◌, ℕ, List, length, Option, Some, None}
 use Rattle.argon.specs.Kind.{type_number}
 use Rattle.argon_text.specs.EncodedText.{IsTextOf}
-use Rattle.argon_text.specs.Grammar.{Fields, HasFields, value_of_fields}
+use Rattle.argon_text.specs.Grammar.{Fields, HasFields, HasNumbers, IsText, value_of_fields}
 use Rattle.argon_text.specs.Settings.{range_fault}
 use Rattle.argon_text.specs.Value.{IsValue, Value}
 use Rattle.argon_text.specs.declared.range.RangeFault.{RangeFault}
-use Rattle.pikhsen_c.specs.Status.{range_number}
+use Rattle.pikhsen_c.specs.Status.{not_encoded, out_of_memory, range_number}
 use Rattle.pikhsen_c.specs.declared.settings.PikhsenArgon2Settings.{PikhsenArgon2Settings}
 
 -- the settings of a value, as the functions for C answer them
@@ -44,4 +44,16 @@ number_of (Some fault) = range_number fault
 
 -- the number is that of the first part of what the text says that is out of range; 0 where none is
 abbrev pub IsOutOfRange : List ℕ → ℕ → Type 0
-IsOutOfRange text status = (fields : Fields) × HasFields text fields × (status ≡ number_of (range_fault (value_of_fields fields)))
+IsOutOfRange text status =
+    (fields : Fields) × HasFields text fields × (status ≡ number_of (range_fault (value_of_fields fields)))
+
+-- what each number of the reading of settings says of the text: there is no other than 0, 9, 14 and 31 to 36. Each
+-- part of a text that may be out of range has a number of its own, and the first is told
+pub record IsReadingOf (text : List ℕ) (status : ℕ) : Type 0 where
+  pub not_in_grammar : status ≡ not_encoded → IsText text → ⊥
+  pub out_of_range : 31 ≤ status → IsOutOfRange text status
+  pub memory : status ≡ out_of_memory → HasNumbers text
+  pub low : 0 < status → out_of_memory ≤ status
+  pub gap : out_of_memory < status → not_encoded ≤ status
+  pub gap_after_14 : not_encoded < status → 31 ≤ status
+  pub high : status ≤ 36

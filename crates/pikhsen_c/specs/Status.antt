@@ -1,5 +1,5 @@
 -- The numbers that say to a program in C what came of a call: one table, and 0 where the call did what it says.
-use Rattle.std.specs.Prelude.{ℕ, ◌==◌, if◌then◌else◌}
+use Rattle.std.specs.Prelude.{◌≡◌, ◌≢◌, ℕ, ◌==◌, if◌then◌else◌}
 use Rattle.argon.specs.declared.fault.ParamFault.{ParamFault}
 use Rattle.argon.specs.declared.fault.ParamFault.TheVariants as params
 use Rattle.romix.specs.declared.fault.CostFault.{CostFault}
@@ -19,6 +19,18 @@ params_number params.SaltLength = 5
 params_number params.PasswordLength = 6
 params_number params.MemoryLimit = 7
 params_number params.WorkLimit = 8
+
+-- 6: the number of a password of 2^32 bytes or more
+abbrev pub long_password : ℕ
+long_password = params_number params.PasswordLength
+
+-- 7: the number of more memory than the limit allows
+abbrev pub much_memory : ℕ
+much_memory = params_number params.MemoryLimit
+
+-- 8: the number of more work than the limit allows
+abbrev pub much_work : ℕ
+much_work = params_number params.WorkLimit
 
 -- the number where memory was refused
 abbrev pub out_of_memory : ℕ
@@ -105,3 +117,15 @@ no_stream = 37
 -- the first of two numbers, if it is not 0, or else the second
 abbrev pub first_told : ℕ → ℕ → ℕ
 first_told first second = if first == 0 then second else first
+
+-- the number is that of the first refusal, or 0 where nothing is refused; or memory was refused, which was asked for
+-- where nothing else is refused
+pub record TellsFirst (first status : ℕ) : Type 0 where
+  pub fault : status ≢ out_of_memory → status ≡ first
+  pub memory : status ≡ out_of_memory → first ≡ 0
+
+-- the same of a file that is opened, where some numbers are told late, after memory was granted
+pub record TellsFirstOrLate (IsLate : Type 0) (first status : ℕ) : Type 0 where
+  pub fault : status ≢ out_of_memory → (IsLate → ⊥) → status ≡ first
+  pub memory : status ≡ out_of_memory → first ≡ 0
+  pub late : IsLate → first ≡ 0

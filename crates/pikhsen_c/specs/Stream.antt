@@ -31,7 +31,8 @@ KeptReads None passphrase file = ⊥
 KeptReads (Some run) passphrase file = Reads run passphrase file
 
 -- the stream runs, and has encrypted this text so far, for the file of this passphrase, salt and costs
-pub record HasFed (stream : PikhsenStream) (passphrase salt : List ℕ) (costs : Parameters) (text : List ℕ) : Type 0 where
+pub record HasFed (stream : PikhsenStream) (passphrase salt : List ℕ) (costs : Parameters) (text : List ℕ)
+    : Type 0 where
   pub runs : stream.runs ≡ 1
   pub kept : KeptEncrypts stream.kept.value passphrase salt costs text
 

@@ -1,14 +1,14 @@
 //! Hashes by Argon2.
-ghost use Rattle.std.specs.Prelude.{◌≡◌, ◌≢◌, ◌+◌, ◌≤◌, ◌<◌, length, Ok, IfSome, IfOk, IfErr, OnOk, None, true, false};
+ghost use Rattle.std.specs.Prelude.{◌≡◌, ◌≢◌, ◌≤◌, ◌<◌, length, Ok, IfSome, IfOk, IfErr, OnOk, None};
 ghost use Rattle.argon.specs.Argon2.{argon2_tag};
 ghost use Rattle.argon.specs.Counts.{work};
 ghost use Rattle.argon.specs.Inputs.{inputs_of};
 ghost use Rattle.argon.specs.Kind.{type_number};
 ghost use Rattle.argon.specs.Range.{IsInRangeWithAnyPassword, admission};
 ghost use Rattle.pikhsen_c.specs.Argon2.{hash_status, inputs_given, kind_numbered, limits_status, parameters_given, params_status};
-ghost use Rattle.pikhsen_c.specs.Heap.{AsksOnce, asked_for_matrix};
+ghost use Rattle.pikhsen_c.specs.Heap.{AsksOnce, WorksOnce, asked_for_matrix};
 ghost use Rattle.pikhsen_c.specs.Inside.Settings.{parameters_of};
-ghost use Rattle.pikhsen_c.specs.Status.{out_of_memory};
+ghost use Rattle.pikhsen_c.specs.Status.{TellsFirst, out_of_memory};
 
 use crate::burning::{Told, burn};
 use crate::machine::Machine;
@@ -105,26 +105,19 @@ fn hash_in<S: Source>(
 ) -> u32
     ensures tag { result ≡ 0 → out.new ≡ argon2_tag (parameters_of settings.now
         (length out.old) (length inputs.now.salt.now) (length inputs.now.password.now)) (inputs_of inputs.now) }
-    ensures status { result ≢ out_of_memory → result ≡ hash_status (parameters_of settings.now
+    ensures first { TellsFirst (hash_status (parameters_of settings.now
         (length out.old) (length inputs.now.salt.now) (length inputs.now.password.now))
-        (length inputs.now.secret.now) (length inputs.now.associated.now) settings.now.max_kib settings.now.max_ops }
-    ensures memory { result ≡ out_of_memory → hash_status (parameters_of settings.now
-        (length out.old) (length inputs.now.salt.now) (length inputs.now.password.now))
-        (length inputs.now.secret.now) (length inputs.now.associated.now) settings.now.max_kib settings.now.max_ops ≡ 0 }
+        (length inputs.now.secret.now) (length inputs.now.associated.now)
+        settings.now.max_kib settings.now.max_ops) result }
     ensures untouched { result ≢ 0 → out.new ≡ out.old }
-    // Nothing is asked of the source before every other refusal is ruled out, by the caller's own limits.
-    ensures unasked { result ≢ 0 → result ≢ out_of_memory → source.new ≡ source.old }
-    // And then the matrix alone, under these limits; want of memory is told where that was refused, and only there.
-    ensures asked { result ≡ 0 → source.new ≡ S.after_matrix source.old (parameters_of settings.now
+    // Nothing is asked of the source before every other refusal is ruled out, and then the matrix alone, under the
+    // caller's own limits; want of memory is told where that was refused, and only there.
+    ensures asked { AsksOnce (S.after_matrix source.old (parameters_of settings.now
         (length out.old) (length inputs.now.salt.now) (length inputs.now.password.now))
-        settings.now.max_kib settings.now.max_ops true }
-    ensures refused { result ≡ out_of_memory → source.new ≡ S.after_matrix source.old (parameters_of settings.now
-        (length out.old) (length inputs.now.salt.now) (length inputs.now.password.now))
-        settings.now.max_kib settings.now.max_ops false }
+        settings.now.max_kib settings.now.max_ops) result source.old source.new }
     // No hash begins before every refusal is ruled out, and then one.
-    ensures no_work { result ≢ 0 → ticks.new ≡ ticks.old }
-    ensures count { result ≡ 0 → ticks.new ≡ ticks.old + work (parameters_of settings.now
-        (length out.old) (length inputs.now.salt.now) (length inputs.now.password.now)) }
+    ensures works { WorksOnce (work (parameters_of settings.now
+        (length out.old) (length inputs.now.salt.now) (length inputs.now.password.now))) result ticks.old ticks.new }
 {
     let params = match params_of(
         settings,
@@ -169,23 +162,18 @@ pub extern "C" fn pikhsen_argon2_hash(
     ensures tag { result.status ≡ 0 → out.new ≡ argon2_tag (parameters_given kind version passes lanes memory_kib
         (length out.old) (length salt.now) (length password.now))
         (inputs_given password.now salt.now secret.now associated.now) }
-    ensures status { result.status ≢ out_of_memory → result.status
-        ≡ hash_status (parameters_given kind version passes lanes memory_kib
-        (length out.old) (length salt.now) (length password.now))
-        (length secret.now) (length associated.now) max_kib max_ops }
     // Memory is asked for, and refused, only where nothing else is.
-    ensures memory { result.status ≡ out_of_memory → hash_status (parameters_given kind version passes lanes memory_kib
+    ensures first { TellsFirst (hash_status (parameters_given kind version passes lanes memory_kib
         (length out.old) (length salt.now) (length password.now))
-        (length secret.now) (length associated.now) max_kib max_ops ≡ 0 }
+        (length secret.now) (length associated.now) max_kib max_ops) result.status }
     ensures untouched { result.status ≢ 0 → out.new ≡ out.old }
     // What was asked of the heap.
-    ensures asked { AsksOnce asked_for_matrix result.status machine.heap result.machine.heap }
+    ensures asked { AsksOnce (asked_for_matrix machine.heap) result.status machine.heap result.machine.heap }
     ensures no_cores { result.machine.cores ≡ machine.cores }
     // No hash begins before every refusal is ruled out, and then one.
-    ensures no_work { result.status ≢ 0 → result.machine.blocks ≡ machine.blocks }
-    ensures count { result.status ≡ 0 → result.machine.blocks ≡ machine.blocks
-        + work (parameters_given kind version passes lanes memory_kib
-        (length out.old) (length salt.now) (length password.now)) }
+    ensures works { WorksOnce (work (parameters_given kind version passes lanes memory_kib
+        (length out.old) (length salt.now) (length password.now)))
+        result.status machine.blocks result.machine.blocks }
 {
     let mut machine = machine;
     let settings = Settings {

@@ -5,8 +5,8 @@ use crate::machine::Machine;
 use crate::status::OUT_OF_MEMORY;
 use std::simd::u64x64;
 
-/// What a function for C returns: its number, which is all that C sees, and the machine that it was handed. `burn` alone
-/// makes one.
+/// What a function for C returns: its number, which is all that C sees, and the machine that it was handed. `burn`
+/// alone makes one.
 #[repr(C)]
 #[derive(Drop)]
 pub struct Told {
@@ -14,9 +14,10 @@ pub struct Told {
     machine: Machine,
 }
 
-/// Puts zeros where the frames of a call were that has returned, and hands its answer on. No contract sees these bytes,
-/// and the compiler may leave out a write that nothing reads. So they are read again, and the answer hangs on it: want of
-/// memory is told if one is not 0, which is proved never to be. tests/library/c_face.py looks at the stack of a program.
+/// Puts zeros where the frames of a call were that has returned, and hands its answer on. No contract sees these
+/// bytes, and the compiler may leave out a write that nothing reads. So they are read again, and the answer hangs on
+/// it: want of memory is told if one is not 0, which is proved never to be. tests/library/c_face.py looks at the
+/// stack of a program.
 #[inline(never)]
 pub(crate) fn burn(told: u32, machine: Machine) -> Told
     ensures same { result.status ≡ told }

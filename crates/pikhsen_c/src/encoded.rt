@@ -1,13 +1,14 @@
 //! Encoded texts of hashes by Argon2.
-ghost use Rattle.std.specs.Prelude.{◌≡◌, ◌≢◌, ◌+◌, ◌^◌, ◌++◌, ◌<◌, ◌≤◌, ◌∷◌, ◌⊎◌, [], true, false, length, replicate, take, drop, IfOk, IfErr, Ok};
+ghost use Rattle.std.specs.Prelude.{◌≡◌, ◌≢◌, ◌+◌, ◌^◌, ◌++◌, ◌<◌, ◌≤◌, ◌∷◌, [], length, replicate, take, drop, IfOk, IfErr, Ok};
 ghost use Rattle.argon.specs.Argon2.{argon2_tag};
 ghost use Rattle.argon.specs.Counts.{work};
 ghost use Rattle.argon.specs.Range.{IsInRangeWithAnyPassword, admission};
 ghost use Rattle.argon_text.specs.EncodedText.{encoded_text};
-ghost use Rattle.pikhsen_c.specs.Argon2.{encoded_hash, encoded_keyed_hash, encoded_keyed_status, encoded_status, hash_status, inputs_given, kind_numbered, parameters_given, settings_status, text_of_zeros, value_given};
-ghost use Rattle.pikhsen_c.specs.Heap.{AsksTwice};
+ghost use Rattle.pikhsen_c.specs.Argon2.{encoded_hash, encoded_keyed_hash, encoded_keyed_status, encoded_status, hash_status, inputs_given, kind_numbered, parameters_given, text_of_zeros, value_given};
+ghost use Rattle.pikhsen_c.specs.Heap.{AsksTwice, WorksOnce, asked_for_matrix, asked_for_text};
 ghost use Rattle.pikhsen_c.specs.Inside.Settings.{parameters_of};
-ghost use Rattle.pikhsen_c.specs.Status.{out_of_memory, wrong_buffer};
+ghost use Rattle.pikhsen_c.specs.Message.{IsWritten};
+ghost use Rattle.pikhsen_c.specs.Status.{out_of_memory};
 
 use crate::argon2::{Settings, admitted, kind_of, params_of};
 use crate::burning::{Told, burn};
@@ -77,13 +78,9 @@ pub(crate) fn encode_in<S: Source>(
     text_len: &mut usize,
     ticks: &mut Ticks,
 ) -> u32
-    ensures text { result ≡ 0 → take text_len.new out.new
-        ≡ encoded_keyed_hash (parameters_of settings.now tag_len (length salt.now) (length password.now))
-        password.now salt.now secret.now associated.now }
-    ensures end { result ≡ 0 → take (text_len.new + 1) out.new
-        ≡ encoded_keyed_hash (parameters_of settings.now tag_len (length salt.now) (length password.now))
-        password.now salt.now secret.now associated.now ++ 0 ∷ [] }
-    ensures rest { result ≡ 0 → drop (text_len.new + 1) out.new ≡ drop (text_len.new + 1) out.old }
+    ensures written { result ≡ 0 → IsWritten
+        (encoded_keyed_hash (parameters_of settings.now tag_len (length salt.now) (length password.now))
+        password.now salt.now secret.now associated.now) text_len.new out.old out.new }
     ensures status { result ≢ out_of_memory → result
         ≡ encoded_keyed_status (parameters_of settings.now tag_len (length salt.now) (length password.now)) salt.now
         (length secret.now) (length associated.now) settings.now.max_kib settings.now.max_ops (length out.old) }
@@ -92,28 +89,16 @@ pub(crate) fn encode_in<S: Source>(
         (length secret.now) (length associated.now) settings.now.max_kib settings.now.max_ops ≡ 0 }
     ensures untouched { result ≢ 0 → out.new ≡ out.old }
     ensures nothing { result ≢ 0 → text_len.new ≡ 0 }
-    // Nothing is asked of the source before settings, lengths and limits are tested.
-    ensures unasked { result ≢ 0 → result ≢ out_of_memory → result ≢ wrong_buffer → source.new ≡ source.old }
-    // That the buffer is too small is told after the text alone was asked for, and granted.
-    ensures small { result ≡ wrong_buffer → source.new ≡ S.after_text source.old
-        (parameters_of settings.now tag_len (length salt.now) (length password.now)) salt.now true }
-    // After the text the matrix alone is asked for, under the caller's own limits.
-    ensures asked { result ≡ 0 → source.new ≡ S.after_matrix (S.after_text source.old
-        (parameters_of settings.now tag_len (length salt.now) (length password.now)) salt.now true)
-        (parameters_of settings.now tag_len (length salt.now) (length password.now))
-        settings.now.max_kib settings.now.max_ops true }
-    // Want of memory is told where one of the two was refused, the second only where the buffer has room.
-    ensures refused { result ≡ out_of_memory → (source.new ≡ S.after_text source.old
-        (parameters_of settings.now tag_len (length salt.now) (length password.now)) salt.now false)
-        ⊎ ((source.new ≡ S.after_matrix (S.after_text source.old
-        (parameters_of settings.now tag_len (length salt.now) (length password.now)) salt.now true)
-        (parameters_of settings.now tag_len (length salt.now) (length password.now))
-        settings.now.max_kib settings.now.max_ops false) × (encoded_keyed_status
-        (parameters_of settings.now tag_len (length salt.now) (length password.now)) salt.now
-        (length secret.now) (length associated.now) settings.now.max_kib settings.now.max_ops (length out.old) ≡ 0)) }
-    ensures no_work { result ≢ 0 → ticks.new ≡ ticks.old }
-    ensures count { result ≡ 0 → ticks.new
-        ≡ ticks.old + work (parameters_of settings.now tag_len (length salt.now) (length password.now)) }
+    // Nothing is asked of the source before settings, lengths and limits are tested. That the buffer is too small is
+    // told after the text alone was asked for, and granted; otherwise the matrix alone, under the caller's own
+    // limits.
+    ensures asked { let parameters = parameters_of settings.now tag_len (length salt.now) (length password.now) in
+        AsksTwice (S.after_text source.old parameters salt.now)
+        (λ source. S.after_matrix source parameters settings.now.max_kib settings.now.max_ops)
+        (encoded_keyed_status parameters salt.now (length secret.now) (length associated.now)
+        settings.now.max_kib settings.now.max_ops (length out.old)) result source.old source.new }
+    ensures works { WorksOnce (work (parameters_of settings.now tag_len (length salt.now) (length password.now)))
+        result ticks.old ticks.new }
 {
     *text_len = 0;
     let params = match params_of(settings, tag_len, salt.len(), password.len()) {
@@ -171,30 +156,25 @@ pub extern "C" fn pikhsen_argon2_encoded(
     out: &mut [u8],
     text_len: &mut usize,
 ) -> Told
-    ensures text { result.status ≡ 0 → take text_len.new out.new
-        ≡ encoded_hash (parameters_given kind version passes lanes memory_kib
-        tag_len (length salt.now) (length password.now)) password.now salt.now }
-    ensures end { result.status ≡ 0 → take (text_len.new + 1) out.new
-        ≡ encoded_hash (parameters_given kind version passes lanes memory_kib
-        tag_len (length salt.now) (length password.now)) password.now salt.now ++ 0 ∷ [] }
-    // What is after it stays.
-    ensures rest { result.status ≡ 0 → drop (text_len.new + 1) out.new ≡ drop (text_len.new + 1) out.old }
+    ensures written { result.status ≡ 0 → IsWritten (encoded_hash (parameters_given kind version passes lanes memory_kib
+        tag_len (length salt.now) (length password.now)) password.now salt.now) text_len.new out.old out.new }
     ensures status { result.status ≢ out_of_memory → result.status
         ≡ encoded_status (parameters_given kind version passes lanes memory_kib
         tag_len (length salt.now) (length password.now)) salt.now max_kib max_ops (length out.old) }
     // Memory is asked for, and refused, only where the settings are not.
-    ensures memory { result.status ≡ out_of_memory → settings_status (parameters_given kind version passes lanes
-        memory_kib tag_len (length salt.now) (length password.now)) max_kib max_ops ≡ 0 }
+    ensures memory { result.status ≡ out_of_memory → hash_status (parameters_given kind version passes lanes
+        memory_kib tag_len (length salt.now) (length password.now)) 0 0 max_kib max_ops ≡ 0 }
     ensures untouched { result.status ≢ 0 → out.new ≡ out.old }
     ensures nothing { result.status ≢ 0 → text_len.new ≡ 0 }
     // What was asked of the heap.
-    ensures asked { AsksTwice result.status machine.heap result.machine.heap }
+    ensures asked { AsksTwice (asked_for_text machine.heap) asked_for_matrix
+        (encoded_status (parameters_given kind version passes lanes memory_kib
+        tag_len (length salt.now) (length password.now)) salt.now max_kib max_ops (length out.old))
+        result.status machine.heap result.machine.heap }
     ensures no_cores { result.machine.cores ≡ machine.cores }
     // No hash begins before every refusal is ruled out, and then one.
-    ensures no_work { result.status ≢ 0 → result.machine.blocks ≡ machine.blocks }
-    ensures count { result.status ≡ 0 → result.machine.blocks ≡ machine.blocks
-        + work (parameters_given kind version passes lanes memory_kib
-        tag_len (length salt.now) (length password.now)) }
+    ensures works { WorksOnce (work (parameters_given kind version passes lanes memory_kib
+        tag_len (length salt.now) (length password.now))) result.status machine.blocks result.machine.blocks }
 {
     let mut machine = machine;
     let settings = Settings {

@@ -1,5 +1,5 @@
 //! scrypt's encrypted files, whole in memory.
-ghost use Rattle.std.specs.Prelude.{◌≡◌, ◌≢◌, ℕ, ◌+◌, ◌-◌, ◌^◌, ◌<◌, ◌≤◌, List, [], length, replicate, take, drop, true, false, IfOk, IfErr, OnOk, OnErr};
+ghost use Rattle.std.specs.Prelude.{◌≡◌, ◌≢◌, ℕ, ◌+◌, ◌-◌, ◌^◌, ◌<◌, ◌≤◌, List, [], length, replicate, take, drop, IfOk, IfErr, OnOk, OnErr};
 ghost use Rattle.romix.specs.Costs.{Parameters};
 ghost use Rattle.romix.specs.Sparse.{sparse_cores};
 ghost use Rattle.encfile.specs.Decrypting.{HasRead};
@@ -7,14 +7,16 @@ ghost use Rattle.encfile.specs.EncryptedFile.{HasRightHeaderCode, IsEncryptionOf
 ghost use Rattle.encfile.specs.Encrypting.{HasEncrypted};
 ghost use Rattle.encfile.specs.Header.{IsHeaderOf, costs_of, salt_of};
 ghost use Rattle.encfile.specs.HeaderFaults.{header_fault};
-ghost use Rattle.pikhsen_c.specs.File.{cores_to_open, encrypt_status, front_status, header_status, lengths_status, number_of, opening_status};
-ghost use Rattle.pikhsen_c.specs.Heap.{AsksOnce, AsksToOpen, asked_for_workspace};
-ghost use Rattle.pikhsen_c.specs.Scrypt.{costs_given, limits_status, sparse_given};
-ghost use Rattle.pikhsen_c.specs.Status.{damaged, long_text, out_of_memory, wrong_passphrase};
+ghost use Rattle.pikhsen_c.specs.File.{cores_to_open, encrypt_status, front_status, header_status, lengths_status, number_of};
+ghost use Rattle.pikhsen_c.specs.Heap.{AsksOnce, AsksToOpen, WorksOnce, WorksToOpen, asked_for_workspace};
+ghost use Rattle.pikhsen_c.specs.Inside.Numbers.{IsEarly, number_told};
+ghost use Rattle.pikhsen_c.specs.Inside.Settings.{ask_under, cores_set, costs_set, encryption_refusal, front_refusal, length_lent, opening_refusal, text_lent};
+ghost use Rattle.pikhsen_c.specs.Scrypt.{costs_given, sparse_given};
+ghost use Rattle.pikhsen_c.specs.Status.{TellsFirst, TellsFirstOrLate, damaged, long_text, wrong_passphrase};
 
 use crate::burning::{Told, burn};
 use crate::machine::Machine;
-use crate::scrypt::{admitted, costs_of, workspace};
+use crate::scrypt::{ScryptLimits, ScryptSettings, admitted, costs_of, workspace};
 use crate::source::Source;
 use crate::status;
 use encfile::{Dec, Enc, Header, TooLong};
@@ -35,8 +37,7 @@ fn header_of(file: &[u8]) -> Result<Header, u32>
     ensures header { IfOk result (λ header. IsHeaderOf (take 64 file.now) header) }
     ensures costs { IfOk result (λ header. header.costs ≡ costs_of (take 64 file.now)) }
     ensures salt { IfOk result (λ header. header.salt ≡ salt_of (take 64 file.now)) }
-    ensures passed { OnOk result (number_of (header_fault (take 64 file.now)) ≡ 0) }
-    ensures status { IfErr result (λ status. number_of (header_fault (take 64 file.now)) ≡ status) }
+    ensures status { number_of (header_fault (take 64 file.now)) ≡ number_told result }
     ensures at_least_22 { IfErr result (λ status. 22 ≤ status) }
     ensures below { IfErr result (λ status. status ≤ 25) }
 {
@@ -74,13 +75,11 @@ pub extern "C" fn pikhsen_scrypt_info(file: &[u8], costs: &mut PikhsenScryptCost
 
 // Whether salt, text and file have lengths that fit, or the number of the first fault.
 fn tested_lengths(salt: &[u8], text_len: usize, out_len: usize) -> Result<(), u32>
-    ensures passed { OnOk result (lengths_status (length salt.now) text_len out_len ≡ 0) }
+    ensures status { lengths_status (length salt.now) text_len out_len ≡ number_told result }
     ensures salt { OnOk result (length salt.now ≡ 32) }
     ensures text { OnOk result (text_len < 2 ^ 60) }
     ensures room { OnOk result (out_len ≡ text_len + 128) }
-    ensures status { IfErr result (λ status. lengths_status (length salt.now) text_len out_len ≡ status) }
-    ensures at_least_13 { IfErr result (λ status. 13 ≤ status) }
-    ensures other { IfErr result (λ status. status ≢ wrong_passphrase) }
+    ensures early { IfErr result IsEarly }
 {
     if salt.len() != 32 {
         return Err(status::FILE_SALT);
@@ -96,27 +95,17 @@ fn tested_lengths(salt: &[u8], text_len: usize, out_len: usize) -> Result<(), u3
 
 /// What an encryption is refused for before memory is asked for, if it is, by its number.
 pub(crate) fn tested_encryption(
+    settings: &ScryptSettings,
     salt: &[u8],
-    log_n: u32,
-    r: u32,
-    p: u32,
-    keep: u32,
-    max_bytes: u64,
-    max_ops: u64,
     text_len: usize,
     out_len: usize,
 ) -> Result<(), u32>
-    ensures passed { OnOk result (encrypt_status (costs_given log_n r p) keep max_bytes max_ops
-        (length salt.now) text_len out_len ≡ 0) }
-    ensures status { IfErr result (λ status. encrypt_status (costs_given log_n r p) keep max_bytes max_ops
-        (length salt.now) text_len out_len ≡ status) }
-    ensures at_least_1 { IfErr result (λ status. 1 ≤ status) }
-    ensures other { IfErr result (λ status. status ≢ out_of_memory) }
-    ensures right { IfErr result (λ status. status ≢ wrong_passphrase) }
+    ensures status { encryption_refusal settings.now (length salt.now) text_len out_len ≡ number_told result }
+    ensures early { IfErr result IsEarly }
 {
-    let costs = costs_of(log_n, r, p)?;
+    let costs = costs_of(settings.log_n, settings.r, settings.p)?;
     tested_lengths(salt, text_len, out_len)?;
-    admitted(&costs, keep, max_bytes, max_ops)?;
+    admitted(&costs, &settings.limits)?;
     Ok(())
 }
 
@@ -124,118 +113,109 @@ pub(crate) fn tested_encryption(
 /// number of what it is refused for.
 pub(crate) fn begun<S: Source>(
     source: &mut S,
+    settings: &ScryptSettings,
     passphrase: &[u8],
     salt: &[u8],
-    log_n: u32,
-    r: u32,
-    p: u32,
-    keep: u32,
-    max_bytes: u64,
-    max_ops: u64,
     text_len: usize,
     out_len: usize,
     ticks: &mut Ticks,
 ) -> Result<Enc, u32>
-    ensures begun { IfOk result (λ enc. HasEncrypted enc passphrase.now salt.now (costs_given log_n r p) []) }
+    ensures begun { IfOk result (λ enc. HasEncrypted enc passphrase.now salt.now (costs_set settings.now) []) }
     ensures text { OnOk result (text_len < 2 ^ 60) }
     ensures room { OnOk result (out_len ≡ text_len + 128) }
-    ensures passed { OnOk result (encrypt_status (costs_given log_n r p) keep max_bytes max_ops
-        (length salt.now) text_len out_len ≡ 0) }
-    ensures status { IfErr result (λ status. status ≢ out_of_memory → encrypt_status (costs_given log_n r p) keep
-        max_bytes max_ops (length salt.now) text_len out_len ≡ status) }
-    ensures memory { IfErr result (λ status. status ≡ out_of_memory → encrypt_status (costs_given log_n r p) keep
-        max_bytes max_ops (length salt.now) text_len out_len ≡ 0) }
+    ensures first { TellsFirst (encryption_refusal settings.now (length salt.now) text_len out_len)
+        (number_told result) }
     ensures at_least_1 { IfErr result (λ status. 1 ≤ status) }
     // Nothing is asked of the source before every other refusal is ruled out, and then it is asked once.
-    ensures unasked { IfErr result (λ status. status ≢ out_of_memory → source.new ≡ source.old) }
-    ensures asked { OnOk result (source.new
-        ≡ S.after_workspace source.old (sparse_given (costs_given log_n r p) keep) max_bytes max_ops true) }
-    ensures refused { IfErr result (λ status. status ≡ out_of_memory → source.new
-        ≡ S.after_workspace source.old (sparse_given (costs_given log_n r p) keep) max_bytes max_ops false) }
+    ensures asked { AsksOnce (ask_under S.after_workspace settings.now.limits (costs_set settings.now) source.old)
+        (number_told result) source.old source.new }
     // No derivation begins before every refusal is ruled out, and then one.
-    ensures no_work { IfErr result (λ _. ticks.new ≡ ticks.old) }
-    ensures count { OnOk result (ticks.new
-        ≡ ticks.old + sparse_cores passphrase.now salt.now (sparse_given (costs_given log_n r p) keep)) }
+    ensures works { WorksOnce (cores_set settings.now passphrase.now salt.now)
+        (number_told result) ticks.old ticks.new }
 {
-    let costs = costs_of(log_n, r, p)?;
+    let costs = costs_of(settings.log_n, settings.r, settings.p)?;
     tested_lengths(salt, text_len, out_len)?;
     let mut whole_salt = [0u8; 32];
     whole_salt.copy_from_slice(salt);
-    let mut workspace = workspace(source, &costs, keep, max_bytes, max_ops)?;
+    let mut workspace = workspace(source, &costs, &settings.limits)?;
     Ok(Enc::start(&costs, &whole_salt, passphrase, &mut workspace, ticks))
 }
 
-// The file of the text, by an encryption of nothing yet. It is never too long.
-fn put_file(enc: Enc, text: &[u8], out: &mut [u8]) -> Result<(), TooLong>
-    requires room { length out.old ≡ length text.now + 128 }
-    requires short { length text.now < 2 ^ 60 }
+// The length of the text, where so many bytes are there for its file: of the one that is given, or else of all of these
+// but the last 128.
+fn length_of(text: Option<&[u8]>, out_len: usize) -> usize
+    ensures length { result ≡ length_lent text.entry out_len }
+{
+    match text {
+        Some(text) => text.len(),
+        None => out_len.saturating_sub(128),
+    }
+}
+
+// Puts the text to where it stands in a file.
+fn place_text(text: Option<&[u8]>, out: &mut [u8])
+    requires room { length out.old ≡ length_lent text (length out.old) + 128 }
+    ensures placed { take (length out.old - 128) (drop 96 out.new) ≡ text_lent text.entry out.old }
+{
+    let text_len = out.len() - 128;
+    match text {
+        Some(text) => out[96..96 + text_len].copy_from_slice(text),
+        None => out.copy_within(..text_len, 96),
+    }
+}
+
+// Makes the file of the text that stands in its place, by an encryption of nothing yet. It is never too long.
+fn put_file(enc: Enc, out: &mut [u8]) -> Result<(), TooLong>
+    requires room { 128 ≤ length out.old }
+    requires short { length out.old < 2 ^ 60 + 128 }
     ensures file { OnOk result ((passphrase salt : List ℕ) (costs : Parameters)
         → HasEncrypted enc passphrase salt costs []
-        → out.new ≡ encrypted_file passphrase salt costs text.now) }
+        → out.new ≡ encrypted_file passphrase salt costs (take (length out.old - 128) (drop 96 out.old))) }
     ensures never { OnErr result ((passphrase salt : List ℕ) (costs : Parameters)
         → HasEncrypted enc passphrase salt costs [] → ⊥) }
 {
     let mut enc = enc;
+    let text_len = out.len() - 128;
     let (head, rest) = out.split_at_mut(96);
-    let (body, code) = rest.split_at_mut(text.len());
+    let (body, code) = rest.split_at_mut(text_len);
     head.copy_from_slice(&enc.header());
-    body.copy_from_slice(text);
     enc.feed(body)?;
     code.copy_from_slice(&enc.finish());
     Ok(())
 }
 
-// The file of a text, with memory from `source`: one request.
+// The file of a text, which is given or lies at the front of `out`, with memory from `source`: one request.
 #[inline(never)]
 fn encrypt_in<S: Source>(
     source: &mut S,
+    settings: &ScryptSettings,
     passphrase: &[u8],
     salt: &[u8],
-    log_n: u32,
-    r: u32,
-    p: u32,
-    keep: u32,
-    max_bytes: u64,
-    max_ops: u64,
-    text: &[u8],
+    text: Option<&[u8]>,
     out: &mut [u8],
     ticks: &mut Ticks,
 ) -> u32
-    ensures file { result ≡ 0 → out.new ≡ encrypted_file passphrase.now salt.now (costs_given log_n r p) text.now }
-    ensures status { result ≢ out_of_memory → result ≡ encrypt_status (costs_given log_n r p) keep max_bytes max_ops
-        (length salt.now) (length text.now) (length out.old) }
-    ensures memory { result ≡ out_of_memory → encrypt_status (costs_given log_n r p) keep max_bytes max_ops
-        (length salt.now) (length text.now) (length out.old) ≡ 0 }
+    ensures file { result ≡ 0 → out.new
+        ≡ encrypted_file passphrase.now salt.now (costs_set settings.now) (text_lent text.entry out.old) }
+    ensures first { TellsFirst (encryption_refusal settings.now (length salt.now)
+        (length_lent text.entry (length out.old)) (length out.old)) result }
     ensures untouched { result ≢ 0 → out.new ≡ out.old }
     // Nothing is asked of the source before every other refusal is ruled out, and then it is asked once.
-    ensures unasked { result ≢ 0 → result ≢ out_of_memory → source.new ≡ source.old }
-    ensures asked { result ≡ 0 → source.new
-        ≡ S.after_workspace source.old (sparse_given (costs_given log_n r p) keep) max_bytes max_ops true }
-    ensures refused { result ≡ out_of_memory → source.new
-        ≡ S.after_workspace source.old (sparse_given (costs_given log_n r p) keep) max_bytes max_ops false }
+    ensures asked { AsksOnce (ask_under S.after_workspace settings.now.limits (costs_set settings.now) source.old)
+        result source.old source.new }
     // No derivation begins before every refusal is ruled out, and then one.
-    ensures no_work { result ≢ 0 → ticks.new ≡ ticks.old }
-    ensures count { result ≡ 0 → ticks.new
-        ≡ ticks.old + sparse_cores passphrase.now salt.now (sparse_given (costs_given log_n r p) keep) }
+    ensures works { WorksOnce (cores_set settings.now passphrase.now salt.now) result ticks.old ticks.new }
 {
-    match begun(
-        source,
-        passphrase,
-        salt,
-        log_n,
-        r,
-        p,
-        keep,
-        max_bytes,
-        max_ops,
-        text.len(),
-        out.len(),
-        ticks,
-    ) {
-        Ok(enc) => match put_file(enc, text, out) {
-            Ok(()) => status::OK,
-            Err(_) => status::TOO_LONG,
-        },
+    let out_len = out.len();
+    let text_len = length_of(text, out_len);
+    match begun(source, settings, passphrase, salt, text_len, out_len, ticks) {
+        Ok(enc) => {
+            place_text(text, out);
+            match put_file(enc, out) {
+                Ok(()) => status::OK,
+                Err(_) => status::TOO_LONG,
+            }
+        }
         Err(status) => status,
     }
 }
@@ -257,33 +237,64 @@ pub extern "C" fn pikhsen_scrypt_encrypt(
 ) -> Told
     ensures file { result.status ≡ 0
         → out.new ≡ encrypted_file passphrase.now salt.now (costs_given log_n r p) text.now }
-    ensures status { result.status ≢ out_of_memory → result.status
-        ≡ encrypt_status (costs_given log_n r p) keep max_bytes max_ops
-        (length salt.now) (length text.now) (length out.old) }
     // Memory is asked for, and refused, only where nothing else is.
-    ensures memory { result.status ≡ out_of_memory → encrypt_status (costs_given log_n r p) keep max_bytes max_ops
-        (length salt.now) (length text.now) (length out.old) ≡ 0 }
+    ensures first { TellsFirst (encrypt_status (costs_given log_n r p) keep max_bytes max_ops
+        (length salt.now) (length text.now) (length out.old)) result.status }
     ensures untouched { result.status ≢ 0 → out.new ≡ out.old }
     // What was asked of the heap.
-    ensures asked { AsksOnce asked_for_workspace result.status machine.heap result.machine.heap }
+    ensures asked { AsksOnce (asked_for_workspace machine.heap) result.status machine.heap result.machine.heap }
     ensures no_blocks { result.machine.blocks ≡ machine.blocks }
     // No derivation begins before every refusal is ruled out, and then one.
-    ensures no_work { result.status ≢ 0 → result.machine.cores ≡ machine.cores }
-    ensures count { result.status ≡ 0 → result.machine.cores ≡ machine.cores
-        + sparse_cores passphrase.now salt.now (sparse_given (costs_given log_n r p) keep) }
+    ensures works { WorksOnce (sparse_cores passphrase.now salt.now (sparse_given (costs_given log_n r p) keep))
+        result.status machine.cores result.machine.cores }
 {
     let mut machine = machine;
+    let settings = ScryptSettings::new(log_n, r, p, keep, max_bytes, max_ops);
     let told = encrypt_in(
         &mut machine.heap,
+        &settings,
         passphrase,
         salt,
-        log_n,
-        r,
-        p,
-        keep,
-        max_bytes,
-        max_ops,
-        text,
+        Some(text),
+        out,
+        &mut machine.cores,
+    );
+    burn(told, machine)
+}
+
+/// The file of the text that is all of `out` but its last 128 bytes, which need not be set. The file takes its place.
+#[unsafe(no_mangle)]
+pub extern "C" fn pikhsen_scrypt_encrypt_in_place(
+    machine: Machine,
+    passphrase: &[u8],
+    salt: &[u8],
+    log_n: u32,
+    r: u32,
+    p: u32,
+    keep: u32,
+    max_bytes: u64,
+    max_ops: u64,
+    out: &mut [u8],
+) -> Told
+    ensures file { result.status ≡ 0 → out.new ≡ encrypted_file passphrase.now salt.now (costs_given log_n r p)
+        (take (length out.old - 128) out.old) }
+    ensures first { TellsFirst (encrypt_status (costs_given log_n r p) keep max_bytes max_ops
+        (length salt.now) (length out.old - 128) (length out.old)) result.status }
+    // The text stays where it is not encrypted.
+    ensures untouched { result.status ≢ 0 → out.new ≡ out.old }
+    ensures asked { AsksOnce (asked_for_workspace machine.heap) result.status machine.heap result.machine.heap }
+    ensures no_blocks { result.machine.blocks ≡ machine.blocks }
+    ensures works { WorksOnce (sparse_cores passphrase.now salt.now (sparse_given (costs_given log_n r p) keep))
+        result.status machine.cores result.machine.cores }
+{
+    let mut machine = machine;
+    let settings = ScryptSettings::new(log_n, r, p, keep, max_bytes, max_ops);
+    let told = encrypt_in(
+        &mut machine.heap,
+        &settings,
+        passphrase,
+        salt,
+        None,
         out,
         &mut machine.cores,
     );
@@ -301,34 +312,24 @@ fn front_of(file: &[u8]) -> [u8; 96]
 }
 
 /// What a file is refused for before memory is asked for, if it is, by its number.
-pub(crate) fn tested_opening(
-    file: &[u8],
-    keep: u32,
-    max_bytes: u64,
-    max_ops: u64,
-) -> Result<(), u32>
+pub(crate) fn tested_opening(file: &[u8], limits: &ScryptLimits) -> Result<(), u32>
     requires long { 96 ≤ length file.now }
-    ensures passed { OnOk result (opening_status file.now keep max_bytes max_ops ≡ 0) }
-    ensures status { IfErr result (λ status. opening_status file.now keep max_bytes max_ops ≡ status) }
-    ensures at_least_1 { IfErr result (λ status. 1 ≤ status) }
-    ensures other { IfErr result (λ status. status ≢ out_of_memory) }
-    ensures below { IfErr result (λ status. status < wrong_passphrase) }
+    ensures status { opening_refusal limits.now file.now ≡ number_told result }
+    ensures early { IfErr result IsEarly }
 {
     let header = match header_of(file) {
         Ok(header) => header,
         Err(status) => return Err(status),
     };
-    admitted(header.costs(), keep, max_bytes, max_ops)?;
+    admitted(header.costs(), limits)?;
     Ok(())
 }
 
 /// A decryption after the first 96 bytes of a file, or the number of what the file is refused for.
 pub(crate) fn opened<S: Source>(
     source: &mut S,
+    limits: &ScryptLimits,
     passphrase: &[u8],
-    keep: u32,
-    max_bytes: u64,
-    max_ops: u64,
     file: &[u8],
     ticks: &mut Ticks,
 ) -> Result<Dec, u32>
@@ -336,36 +337,25 @@ pub(crate) fn opened<S: Source>(
     ensures opened { IfOk result (λ dec. HasRead dec passphrase.now (take 96 file.now)) }
     ensures nothing { OnOk result (released_text (take 96 file.now) passphrase.now ≡ []) }
     ensures right { OnOk result (HasRightHeaderCode (take 96 file.now) passphrase.now) }
-    ensures passed { OnOk result (opening_status file.now keep max_bytes max_ops ≡ 0) }
-    ensures status { IfErr result (λ status. status ≢ out_of_memory → status ≢ wrong_passphrase
-        → opening_status file.now keep max_bytes max_ops ≡ status) }
-    ensures memory { IfErr result (λ status. status ≡ out_of_memory
-        → opening_status file.now keep max_bytes max_ops ≡ 0) }
-    ensures admitted { IfErr result (λ status. status ≡ wrong_passphrase
-        → opening_status file.now keep max_bytes max_ops ≡ 0) }
     ensures wrong { IfErr result (λ status. status ≡ wrong_passphrase
         → HasRightHeaderCode (take 96 file.now) passphrase.now → ⊥) }
+    ensures first { TellsFirstOrLate (number_told result ≡ wrong_passphrase)
+        (opening_refusal limits.now file.now) (number_told result) }
     ensures at_least_1 { IfErr result (λ status. 1 ≤ status) }
     ensures below { IfErr result (λ status. status ≤ 27) }
-    // Nothing is asked of the source before the header and the caller's own limits are tested, and then it is asked once.
-    ensures unasked { IfErr result (λ status. status ≢ out_of_memory → status ≢ wrong_passphrase
-        → source.new ≡ source.old) }
-    ensures asked { OnOk result (source.new
-        ≡ S.after_workspace source.old (sparse_given (costs_of (take 64 file.now)) keep) max_bytes max_ops true) }
-    ensures asked_if_wrong { IfErr result (λ status. status ≡ wrong_passphrase → source.new
-        ≡ S.after_workspace source.old (sparse_given (costs_of (take 64 file.now)) keep) max_bytes max_ops true) }
-    ensures refused { IfErr result (λ status. status ≡ out_of_memory → source.new
-        ≡ S.after_workspace source.old (sparse_given (costs_of (take 64 file.now)) keep) max_bytes max_ops false) }
+    // Nothing is asked of the source before header and limits are tested, and then it is asked once.
+    ensures asked { AsksToOpen (number_told result ≡ wrong_passphrase)
+        (ask_under S.after_workspace limits.now (costs_of (take 64 file.now)) source.old)
+        (number_told result) source.old source.new }
     // There is one derivation, after which the passphrase alone is refused.
-    ensures no_work { IfErr result (λ status. status ≢ wrong_passphrase → ticks.new ≡ ticks.old) }
-    ensures count { OnOk result (ticks.new ≡ ticks.old + cores_to_open passphrase.now file.now keep) }
-    ensures count_if_wrong { IfErr result (λ status. status ≡ wrong_passphrase → ticks.new ≡ ticks.old + cores_to_open passphrase.now file.now keep) }
+    ensures works { WorksToOpen (number_told result ≡ wrong_passphrase)
+        (cores_to_open passphrase.now file.now limits.now.keep) (number_told result) ticks.old ticks.new }
 {
     let header = match header_of(file) {
         Ok(header) => header,
         Err(status) => return Err(status),
     };
-    let mut workspace = match workspace(source, header.costs(), keep, max_bytes, max_ops) {
+    let mut workspace = match workspace(source, header.costs(), limits) {
         Ok(workspace) => workspace,
         Err(status) => return Err(status),
     };
@@ -417,10 +407,8 @@ fn clear_after(len: usize, out: &mut [u8])
 #[inline(never)]
 fn decrypt_in<S: Source>(
     source: &mut S,
+    limits: &ScryptLimits,
     passphrase: &[u8],
-    keep: u32,
-    max_bytes: u64,
-    max_ops: u64,
     file: &[u8],
     out: &mut [u8],
     text_len: &mut usize,
@@ -429,11 +417,8 @@ fn decrypt_in<S: Source>(
     ensures whole { result ≡ 0 → IsEncryptionOf file.now passphrase.now (take text_len.new out.new) }
     ensures rest { result ≡ 0 → drop text_len.new out.new ≡ replicate (length out.old - text_len.new) 0 }
     ensures nothing { result ≢ 0 → text_len.new ≡ 0 }
-    ensures status { result ≢ 0 → result ≢ out_of_memory → result < wrong_passphrase
-        → result ≡ front_status file.now keep max_bytes max_ops (length out.old) }
-    ensures admitted { result ≡ 0 → front_status file.now keep max_bytes max_ops (length out.old) ≡ 0 }
-    ensures memory { result ≡ out_of_memory → front_status file.now keep max_bytes max_ops (length out.old) ≡ 0 }
-    ensures late { wrong_passphrase ≤ result → front_status file.now keep max_bytes max_ops (length out.old) ≡ 0 }
+    ensures first { TellsFirstOrLate (wrong_passphrase ≤ result)
+        (front_refusal limits.now file.now (length out.old)) result }
     ensures wrong { result ≡ wrong_passphrase → HasRightHeaderCode (take 96 file.now) passphrase.now → ⊥ }
     ensures right { wrong_passphrase < result → HasRightHeaderCode (take 96 file.now) passphrase.now }
     ensures damaged { result ≡ damaged
@@ -442,19 +427,13 @@ fn decrypt_in<S: Source>(
     ensures high { result ≤ 29 }
     ensures zeros { wrong_passphrase < result → out.new ≡ replicate (length out.old) 0 }
     ensures untouched { result ≢ 0 → result ≤ wrong_passphrase → out.new ≡ out.old }
-    // Nothing is asked of the source before the buffer, the header and the caller's own limits are tested.
-    ensures unasked { result ≢ 0 → result ≢ out_of_memory → result < wrong_passphrase → source.new ≡ source.old }
-    // And then it is asked once; want of memory is told where that was refused, and only there.
-    ensures asked { result ≡ 0 → source.new
-        ≡ S.after_workspace source.old (sparse_given (costs_of (take 64 file.now)) keep) max_bytes max_ops true }
-    ensures asked_if_wrong { wrong_passphrase ≤ result → source.new
-        ≡ S.after_workspace source.old (sparse_given (costs_of (take 64 file.now)) keep) max_bytes max_ops true }
-    ensures refused { result ≡ out_of_memory → source.new
-        ≡ S.after_workspace source.old (sparse_given (costs_of (take 64 file.now)) keep) max_bytes max_ops false }
+    // Nothing is asked of the source before buffer, header and limits are tested, and then it is asked once; want of
+    // memory is told where that was refused, and only there.
+    ensures asked { AsksToOpen (wrong_passphrase ≤ result)
+        (ask_under S.after_workspace limits.now (costs_of (take 64 file.now)) source.old) result source.old source.new }
     // No derivation begins before these refusals are ruled out, and then one.
-    ensures no_work { result ≢ 0 → result < wrong_passphrase → ticks.new ≡ ticks.old }
-    ensures count { result ≡ 0 → ticks.new ≡ ticks.old + cores_to_open passphrase.now file.now keep }
-    ensures count_if_wrong { wrong_passphrase ≤ result → ticks.new ≡ ticks.old + cores_to_open passphrase.now file.now keep }
+    ensures works { WorksToOpen (wrong_passphrase ≤ result) (cores_to_open passphrase.now file.now limits.now.keep)
+        result ticks.old ticks.new }
 {
     *text_len = 0;
     if out.len() < file.len() {
@@ -463,7 +442,7 @@ fn decrypt_in<S: Source>(
     if file.len() < 96 {
         return status::TOO_SHORT;
     }
-    let dec = match opened(source, passphrase, keep, max_bytes, max_ops, file, ticks) {
+    let dec = match opened(source, limits, passphrase, file, ticks) {
         Ok(dec) => dec,
         Err(status) => return status,
     };
@@ -497,13 +476,8 @@ pub extern "C" fn pikhsen_scrypt_decrypt(
     ensures rest { result.status ≡ 0 → drop text_len.new out.new ≡ replicate (length out.old - text_len.new) 0 }
     ensures nothing { result.status ≢ 0 → text_len.new ≡ 0 }
     // What is refused whatever the passphrase is told by the first fault, and nothing else is then told.
-    ensures status { result.status ≢ 0 → result.status ≢ out_of_memory → result.status < wrong_passphrase
-        → result.status ≡ front_status file.now keep max_bytes max_ops (length out.old) }
-    ensures admitted { result.status ≡ 0 → front_status file.now keep max_bytes max_ops (length out.old) ≡ 0 }
-    ensures memory { result.status ≡ out_of_memory
-        → front_status file.now keep max_bytes max_ops (length out.old) ≡ 0 }
-    ensures late { wrong_passphrase ≤ result.status
-        → front_status file.now keep max_bytes max_ops (length out.old) ≡ 0 }
+    ensures first { TellsFirstOrLate (wrong_passphrase ≤ result.status)
+        (front_status file.now keep max_bytes max_ops (length out.old)) result.status }
     ensures wrong { result.status ≡ wrong_passphrase → HasRightHeaderCode (take 96 file.now) passphrase.now → ⊥ }
     ensures right { wrong_passphrase < result.status → HasRightHeaderCode (take 96 file.now) passphrase.now }
     ensures damaged { result.status ≡ damaged
@@ -514,20 +488,23 @@ pub extern "C" fn pikhsen_scrypt_decrypt(
     ensures zeros { wrong_passphrase < result.status → out.new ≡ replicate (length out.old) 0 }
     ensures untouched { result.status ≢ 0 → result.status ≤ wrong_passphrase → out.new ≡ out.old }
     // What was asked of the heap.
-    ensures asked { AsksToOpen result.status machine.heap result.machine.heap }
+    ensures asked { AsksToOpen (wrong_passphrase ≤ result.status) (asked_for_workspace machine.heap)
+        result.status machine.heap result.machine.heap }
     ensures no_blocks { result.machine.blocks ≡ machine.blocks }
     // No derivation begins before these refusals are ruled out, and then one.
-    ensures no_work { result.status ≢ 0 → result.status < wrong_passphrase → result.machine.cores ≡ machine.cores }
-    ensures count { result.status ≡ 0 → result.machine.cores ≡ machine.cores + cores_to_open passphrase.now file.now keep }
-    ensures count_if_wrong { wrong_passphrase ≤ result.status → result.machine.cores ≡ machine.cores + cores_to_open passphrase.now file.now keep }
+    ensures works { WorksToOpen (wrong_passphrase ≤ result.status) (cores_to_open passphrase.now file.now keep)
+        result.status machine.cores result.machine.cores }
 {
     let mut machine = machine;
-    let told = decrypt_in(
-        &mut machine.heap,
-        passphrase,
+    let limits = ScryptLimits {
         keep,
         max_bytes,
         max_ops,
+    };
+    let told = decrypt_in(
+        &mut machine.heap,
+        &limits,
+        passphrase,
         file,
         out,
         text_len,

@@ -10,7 +10,6 @@ mod burning;
 mod encoded;
 mod file;
 mod heap;
-mod in_place;
 mod keyed;
 mod machine;
 mod message;
@@ -30,10 +29,10 @@ pub use argon2::pikhsen_argon2_hash;
 pub use burning::Told;
 pub use encoded::pikhsen_argon2_encoded;
 pub use file::{
-    PikhsenScryptCosts, pikhsen_scrypt_decrypt, pikhsen_scrypt_encrypt, pikhsen_scrypt_info,
+    PikhsenScryptCosts, pikhsen_scrypt_decrypt, pikhsen_scrypt_encrypt,
+    pikhsen_scrypt_encrypt_in_place, pikhsen_scrypt_info,
 };
 pub use heap::Heap;
-pub use in_place::pikhsen_scrypt_encrypt_in_place;
 pub use keyed::{pikhsen_argon2_encoded_keyed, pikhsen_argon2_verify_keyed};
 pub use machine::Machine;
 pub use message::pikhsen_message;

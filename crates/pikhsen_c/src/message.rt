@@ -1,7 +1,7 @@
 //! What each number says.
-ghost use Rattle.std.specs.Prelude.{◌≡◌, ◌≢◌, ◌+◌, ◌≤◌, ◌<◌, ◌++◌, ◌∷◌, [], length, take, drop};
+ghost use Rattle.std.specs.Prelude.{◌≡◌, ◌≢◌, ◌≤◌, ◌<◌, length};
 ghost use Rattle.pikhsen_c.specs.Argon2.{room_status};
-ghost use Rattle.pikhsen_c.specs.Message.{sentence_of};
+ghost use Rattle.pikhsen_c.specs.Message.{IsWritten, sentence_of};
 
 use crate::encoded::copy_text;
 use crate::status;
@@ -57,10 +57,7 @@ fn sentence(status: u32) -> &'static str
 /// What a number says, at the front of `out`, and a byte 0 after it; its length, without that byte, goes to `text_len`.
 #[unsafe(no_mangle)]
 pub extern "C" fn pikhsen_message(status: u32, out: &mut [u8], text_len: &mut usize) -> u32
-    ensures text { result ≡ 0 → take text_len.new out.new ≡ sentence_of status }
-    ensures end { result ≡ 0 → take (text_len.new + 1) out.new ≡ sentence_of status ++ 0 ∷ [] }
-    // What is after it stays.
-    ensures rest { result ≡ 0 → drop (text_len.new + 1) out.new ≡ drop (text_len.new + 1) out.old }
+    ensures written { result ≡ 0 → IsWritten (sentence_of status) text_len.new out.old out.new }
     ensures status { result ≡ room_status (length (sentence_of status)) (length out.old) }
     ensures room { 80 ≤ length out.old → result ≡ 0 }
     ensures untouched { result ≢ 0 → out.new ≡ out.old }

@@ -3,8 +3,8 @@ ghost use Rattle.std.specs.Prelude.{◌≡◌};
 
 use argon_text::{Claim, Encoded, Settings};
 
-/// What was read of a text. It lends salt and tag as bytes alone: a list would lend its allocator, so whoever had it could
-/// take memory, or make a counter, beside the source.
+/// What was read of a text. It lends salt and tag as bytes alone: a list would lend its allocator, so whoever had it
+/// could take memory, or make a counter, beside the source.
 #[derive(Drop)]
 pub(crate) struct Reading {
     encoded: Encoded,

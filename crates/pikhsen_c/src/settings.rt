@@ -1,10 +1,10 @@
 //! The settings that an encoded text says, and whether a hash is to be made anew.
 ghost use Rattle.std.specs.Prelude.{◌≡◌, ◌≢◌, ◌≤◌, ◌<◌, true};
-ghost use Rattle.argon_text.specs.Grammar.{HasNumbers, IsText, IsTextInRange};
+ghost use Rattle.argon_text.specs.Grammar.{IsText, IsTextInRange};
 ghost use Rattle.argon_text.specs.View.{value_of};
 ghost use Rattle.pikhsen_c.specs.Heap.{AsksToRead};
-ghost use Rattle.pikhsen_c.specs.Inside.Requests.{had_memory, had_memory_to_read};
-ghost use Rattle.pikhsen_c.specs.Settings.{HasSettings, IsCompared, IsOutOfRange, settings_told};
+ghost use Rattle.pikhsen_c.specs.Inside.Numbers.{had_memory, had_memory_to_read};
+ghost use Rattle.pikhsen_c.specs.Settings.{HasSettings, IsCompared, IsOutOfRange, IsReadingOf, settings_told};
 ghost use Rattle.pikhsen_c.specs.Status.{not_encoded, out_of_memory};
 
 use crate::burning::{Told, burn};
@@ -88,13 +88,7 @@ fn why_not(text: &[u8], fault: ReadFault) -> u32
 // The settings of a text, with memory from `source`: for its salt and its tag.
 fn settings_in<S: Source>(source: &mut S, text: &[u8], settings: &mut PikhsenArgon2Settings) -> u32
     ensures found { result ≡ 0 → HasSettings text.now settings.new }
-    ensures not_in_grammar { result ≡ not_encoded → IsText text.now → ⊥ }
-    ensures out_of_range { 31 ≤ result → IsOutOfRange text.now result }
-    ensures memory { result ≡ out_of_memory → HasNumbers text.now }
-    ensures low { 0 < result → 9 ≤ result }
-    ensures gap { 9 < result → 14 ≤ result }
-    ensures gap_after_14 { 14 < result → 31 ≤ result }
-    ensures high { result ≤ 36 }
+    ensures reading { IsReadingOf text.now result }
     ensures untouched { result ≢ 0 → settings.new ≡ settings.old }
     // Its reading is asked for, once; want of memory is told where that was refused, and only there.
     ensures asked { source.new ≡ S.after_reading source.old text.now (had_memory result) }
@@ -116,15 +110,7 @@ pub extern "C" fn pikhsen_argon2_settings(
     settings: &mut PikhsenArgon2Settings,
 ) -> Told
     ensures found { result.status ≡ 0 → HasSettings text.now settings.new }
-    ensures not_in_grammar { result.status ≡ not_encoded → IsText text.now → ⊥ }
-    // Each part of a text that may be out of range has a number of its own, and the first is told.
-    ensures out_of_range { 31 ≤ result.status → IsOutOfRange text.now result.status }
-    ensures memory { result.status ≡ out_of_memory → HasNumbers text.now }
-    // There is no other number.
-    ensures low { 0 < result.status → 9 ≤ result.status }
-    ensures gap { 9 < result.status → 14 ≤ result.status }
-    ensures gap_after_14 { 14 < result.status → 31 ≤ result.status }
-    ensures high { result.status ≤ 36 }
+    ensures reading { IsReadingOf text.now result.status }
     ensures untouched { result.status ≢ 0 → settings.new ≡ settings.old }
     // What was asked of the heap.
     ensures asked { AsksToRead result.status machine.heap result.machine.heap }
@@ -144,13 +130,7 @@ fn needs_rehash_in<S: Source>(
     needs: &mut u32,
 ) -> u32
     ensures compared { result ≡ 0 → IsCompared text.now wanted.now needs.new }
-    ensures not_in_grammar { result ≡ not_encoded → IsText text.now → ⊥ }
-    ensures out_of_range { 31 ≤ result → IsOutOfRange text.now result }
-    ensures memory { result ≡ out_of_memory → HasNumbers text.now }
-    ensures low { 0 < result → 9 ≤ result }
-    ensures gap { 9 < result → 14 ≤ result }
-    ensures gap_after_14 { 14 < result → 31 ≤ result }
-    ensures high { result ≤ 36 }
+    ensures reading { IsReadingOf text.now result }
     ensures untouched { result ≢ 0 → needs.new ≡ needs.old }
     // Its reading is asked for, once; want of memory is told where that was refused, and only there.
     ensures asked { source.new ≡ S.after_reading source.old text.now (had_memory result) }
@@ -174,14 +154,7 @@ pub extern "C" fn pikhsen_argon2_needs_rehash(
     needs: &mut u32,
 ) -> Told
     ensures compared { result.status ≡ 0 → IsCompared text.now wanted.now needs.new }
-    ensures not_in_grammar { result.status ≡ not_encoded → IsText text.now → ⊥ }
-    ensures out_of_range { 31 ≤ result.status → IsOutOfRange text.now result.status }
-    ensures memory { result.status ≡ out_of_memory → HasNumbers text.now }
-    // There is no other number.
-    ensures low { 0 < result.status → 9 ≤ result.status }
-    ensures gap { 9 < result.status → 14 ≤ result.status }
-    ensures gap_after_14 { 14 < result.status → 31 ≤ result.status }
-    ensures high { result.status ≤ 36 }
+    ensures reading { IsReadingOf text.now result.status }
     ensures untouched { result.status ≢ 0 → needs.new ≡ needs.old }
     // What was asked of the heap.
     ensures asked { AsksToRead result.status machine.heap result.machine.heap }

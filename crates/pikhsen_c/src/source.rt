@@ -8,7 +8,7 @@ ghost use Rattle.argon_text.specs.Value.{IsValue};
 ghost use Rattle.argon_text.specs.View.{value_of};
 ghost use Rattle.romix.specs.SparseCosts.{SparseFitsMemory, SparseParameters};
 ghost use Rattle.pikhsen_c.specs.Argon2.{kind_numbered, text_of_zeros};
-ghost use Rattle.pikhsen_c.specs.Inside.Requests.{had_memory_to_read};
+ghost use Rattle.pikhsen_c.specs.Inside.Numbers.{had_memory_to_read};
 ghost use Rattle.pikhsen_c.specs.Scrypt.{limits_status};
 
 use crate::reading::Reading;
@@ -60,5 +60,6 @@ pub(crate) trait Source: Room {
             → IsText text.now × (IsTextInRange text.now → ⊥) }
         ensures out_of_memory { IsErrOf result ReadFault.OutOfMemory → HasNumbers text.now }
         ensures asked { OnOk result (self.new ≡ after_reading self.old text.now true) }
-        ensures refused { IfErr result (λ fault. self.new ≡ after_reading self.old text.now (had_memory_to_read fault)) };
+        ensures refused { IfErr result (λ fault. self.new
+            ≡ after_reading self.old text.now (had_memory_to_read fault)) };
 }

@@ -1,8 +1,7 @@
 //! The numbers that tell a program in C what came of a call. No number changes its meaning, ever.
 ghost use Rattle.std.specs.Prelude.{◌≡◌, ◌≢◌, ◌≤◌, ◌<◌};
 ghost use Rattle.pikhsen_c.specs.Status.{costs_number, header_number, params_number, range_number};
-ghost use Rattle.pikhsen_c.specs.Inside.Numbers.{read_number, verify_number};
-ghost use Rattle.pikhsen_c.specs.Inside.Requests.{had_memory, had_memory_to_read};
+ghost use Rattle.pikhsen_c.specs.Inside.Numbers.{had_memory, had_memory_to_read, read_number, verify_number};
 
 use argon::ParamFault;
 use argon_text::{RangeFault, ReadFault, VerifyFault};

@@ -30,8 +30,9 @@ impl Running {
         Box::replace(boxed, Running::Over([0; 311]))
     }
 
-    /// Frees a box of zeros, and hands an answer on. No contract sees memory that is free, and the compiler may leave out
-    /// a write that nothing reads. So the zeros are read again, and the answer hangs on them, as that of `burn` does.
+    /// Frees a box of zeros, and hands an answer on. No contract sees memory that is free, and the compiler may leave
+    /// out a write that nothing reads. So the zeros are read again, and the answer hangs on them, as that of `burn`
+    /// does.
     #[inline(never)]
     pub(crate) fn free(boxed: Box<Running, Global>, told: u32) -> u32
         requires zeros { boxed.value ≡ Over (replicate 311 0) }

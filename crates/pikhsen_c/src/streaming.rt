@@ -3,16 +3,18 @@ ghost use Rattle.std.specs.Prelude.{◌≡◌, ◌≢◌, ℕ, ◌+◌, ◌-◌,
 ghost use Rattle.romix.specs.Sparse.{sparse_cores};
 ghost use Rattle.encfile.specs.EncryptedFile.{HasRightHeaderCode, body, released_text};
 ghost use Rattle.pikhsen_c.specs.File.{cores_to_open};
-ghost use Rattle.pikhsen_c.specs.Heap.{AsksToStart};
+ghost use Rattle.pikhsen_c.specs.Heap.{AsksToStart, WorksOnce, WorksToOpen};
 ghost use Rattle.pikhsen_c.specs.Inside.Running.{is_decryption, is_encryption};
+ghost use Rattle.pikhsen_c.specs.Inside.Settings.{cores_set, costs_set, decryption_start_refusal, encryption_start_refusal};
 ghost use Rattle.pikhsen_c.specs.Scrypt.{costs_given, sparse_given};
-ghost use Rattle.pikhsen_c.specs.Status.{damaged, long_text, no_stream, out_of_memory, wrong_buffer, wrong_passphrase};
+ghost use Rattle.pikhsen_c.specs.Status.{TellsFirst, TellsFirstOrLate, damaged, long_text, no_stream, wrong_buffer, wrong_passphrase};
 ghost use Rattle.pikhsen_c.specs.Stream.{AreLast, AreNext, Encrypts, FeedsOn, FeedsWhatFits, HasFed, HasGot, IsAsBefore, IsDamaged, IsReleased, IsWhole, Reads, ReadsOn, ReadsWhatFits, decrypt_start_status, encrypt_start_status};
 
 use crate::burning::{Told, burn};
 use crate::file::{begun, opened, tested_encryption, tested_opening};
 use crate::heap::Heap;
 use crate::machine::Machine;
+use crate::scrypt::{ScryptLimits, ScryptSettings};
 use crate::status;
 use crate::stream::{DECRYPTION, ENCRYPTION, PikhsenStream, Running};
 use romix::Ticks;
@@ -22,46 +24,33 @@ use std::alloc::Global;
 #[inline(never)]
 fn encrypt_start_in(
     heap: &mut Heap,
+    settings: &ScryptSettings,
     passphrase: &[u8],
     salt: &[u8],
-    log_n: u32,
-    r: u32,
-    p: u32,
-    keep: u32,
-    max_bytes: u64,
-    max_ops: u64,
     stream: &mut PikhsenStream,
     head: &mut [u8],
     ticks: &mut Ticks,
 ) -> u32
-    ensures begun { result ≡ 0 → HasFed stream.new passphrase.now salt.now (costs_given log_n r p) [] }
-    ensures head { result ≡ 0 → head.new ≡ body passphrase.now salt.now (costs_given log_n r p) [] }
-    ensures status { result ≢ out_of_memory → result ≡ encrypt_start_status stream.old.runs (costs_given log_n r p)
-        keep max_bytes max_ops (length salt.now) (length head.old) }
-    ensures memory { result ≡ out_of_memory → encrypt_start_status stream.old.runs (costs_given log_n r p)
-        keep max_bytes max_ops (length salt.now) (length head.old) ≡ 0 }
+    ensures begun { result ≡ 0 → HasFed stream.new passphrase.now salt.now (costs_set settings.now) [] }
+    ensures head { result ≡ 0 → head.new ≡ body passphrase.now salt.now (costs_set settings.now) [] }
+    ensures first { TellsFirst (encryption_start_refusal stream.old.runs settings.now
+        (length salt.now) (length head.old)) result }
     ensures untouched { result ≢ 0 → head.new ≡ head.old }
     ensures unchanged { result ≢ 0 → stream.new ≡ stream.old }
     ensures asked { AsksToStart result heap.old heap.new }
-    ensures no_work { result ≢ 0 → ticks.new ≡ ticks.old }
-    ensures count { result ≡ 0 → ticks.new
-        ≡ ticks.old + sparse_cores passphrase.now salt.now (sparse_given (costs_given log_n r p) keep) }
+    ensures works { WorksOnce (cores_set settings.now passphrase.now salt.now) result ticks.old ticks.new }
 {
     if stream.runs != 0 {
         return status::STREAM;
     }
     let file_len = head.len() + 32;
-    if let Err(status) = tested_encryption(
-        salt, log_n, r, p, keep, max_bytes, max_ops, 0, file_len,
-    ) {
+    if let Err(status) = tested_encryption(settings, salt, 0, file_len) {
         return status;
     }
     let Ok(mut block) = heap.block() else {
         return status::OUT_OF_MEMORY;
     };
-    match begun(
-        heap, passphrase, salt, log_n, r, p, keep, max_bytes, max_ops, 0, file_len, ticks,
-    ) {
+    match begun(heap, settings, passphrase, salt, 0, file_len, ticks) {
         Ok(enc) => {
             head.copy_from_slice(&enc.header());
             drop(Box::replace(&mut block, Running::Enc(enc)));
@@ -89,31 +78,24 @@ pub extern "C" fn pikhsen_scrypt_encrypt_start(
 ) -> Told
     ensures begun { result.status ≡ 0 → HasFed stream.new passphrase.now salt.now (costs_given log_n r p) [] }
     ensures head { result.status ≡ 0 → head.new ≡ body passphrase.now salt.now (costs_given log_n r p) [] }
-    ensures status { result.status ≢ out_of_memory → result.status ≡ encrypt_start_status stream.old.runs
-        (costs_given log_n r p) keep max_bytes max_ops (length salt.now) (length head.old) }
     // Memory is asked for, and refused, only where nothing else is.
-    ensures memory { result.status ≡ out_of_memory → encrypt_start_status stream.old.runs (costs_given log_n r p)
-        keep max_bytes max_ops (length salt.now) (length head.old) ≡ 0 }
+    ensures first { TellsFirst (encrypt_start_status stream.old.runs (costs_given log_n r p) keep max_bytes max_ops
+        (length salt.now) (length head.old)) result.status }
     ensures untouched { result.status ≢ 0 → head.new ≡ head.old }
     ensures unchanged { result.status ≢ 0 → stream.new ≡ stream.old }
     ensures asked { AsksToStart result.status machine.heap result.machine.heap }
     ensures no_blocks { result.machine.blocks ≡ machine.blocks }
     // No derivation begins before every refusal is ruled out, and then one.
-    ensures no_work { result.status ≢ 0 → result.machine.cores ≡ machine.cores }
-    ensures count { result.status ≡ 0 → result.machine.cores ≡ machine.cores
-        + sparse_cores passphrase.now salt.now (sparse_given (costs_given log_n r p) keep) }
+    ensures works { WorksOnce (sparse_cores passphrase.now salt.now (sparse_given (costs_given log_n r p) keep))
+        result.status machine.cores result.machine.cores }
 {
     let mut machine = machine;
+    let settings = ScryptSettings::new(log_n, r, p, keep, max_bytes, max_ops);
     let told = encrypt_start_in(
         &mut machine.heap,
+        &settings,
         passphrase,
         salt,
-        log_n,
-        r,
-        p,
-        keep,
-        max_bytes,
-        max_ops,
         stream,
         head,
         &mut machine.cores,
@@ -211,10 +193,8 @@ pub extern "C" fn pikhsen_scrypt_encrypt_finish(
 #[inline(never)]
 fn decrypt_start_in(
     heap: &mut Heap,
+    limits: &ScryptLimits,
     passphrase: &[u8],
-    keep: u32,
-    max_bytes: u64,
-    max_ops: u64,
     front: &[u8],
     stream: &mut PikhsenStream,
     ticks: &mut Ticks,
@@ -223,18 +203,12 @@ fn decrypt_start_in(
     ensures nothing { result ≡ 0 → released_text (take 96 front.now) passphrase.now ≡ [] }
     ensures right { result ≡ 0 → HasRightHeaderCode (take 96 front.now) passphrase.now }
     ensures wrong { result ≡ wrong_passphrase → HasRightHeaderCode (take 96 front.now) passphrase.now → ⊥ }
-    ensures status { result ≢ out_of_memory → result ≢ wrong_passphrase
-        → result ≡ decrypt_start_status stream.old.runs front.now keep max_bytes max_ops }
-    ensures memory { result ≡ out_of_memory
-        → decrypt_start_status stream.old.runs front.now keep max_bytes max_ops ≡ 0 }
-    ensures late { result ≡ wrong_passphrase
-        → decrypt_start_status stream.old.runs front.now keep max_bytes max_ops ≡ 0 }
+    ensures first { TellsFirstOrLate (result ≡ wrong_passphrase)
+        (decryption_start_refusal stream.old.runs limits.now front.now) result }
     ensures unchanged { result ≢ 0 → stream.new ≡ stream.old }
     ensures asked { AsksToStart result heap.old heap.new }
-    ensures no_work { result ≢ 0 → result ≢ wrong_passphrase → ticks.new ≡ ticks.old }
-    ensures count { result ≡ 0 → ticks.new ≡ ticks.old + cores_to_open passphrase.now front.now keep }
-    ensures count_if_wrong { result ≡ wrong_passphrase
-        → ticks.new ≡ ticks.old + cores_to_open passphrase.now front.now keep }
+    ensures works { WorksToOpen (result ≡ wrong_passphrase)
+        (cores_to_open passphrase.now front.now limits.now.keep) result ticks.old ticks.new }
 {
     if stream.runs != 0 {
         return status::STREAM;
@@ -242,13 +216,13 @@ fn decrypt_start_in(
     if front.len() < 96 {
         return status::TOO_SHORT;
     }
-    if let Err(status) = tested_opening(front, keep, max_bytes, max_ops) {
+    if let Err(status) = tested_opening(front, limits) {
         return status;
     }
     let Ok(mut block) = heap.block() else {
         return status::OUT_OF_MEMORY;
     };
-    match opened(heap, passphrase, keep, max_bytes, max_ops, front, ticks) {
+    match opened(heap, limits, passphrase, front, ticks) {
         Ok(dec) => {
             drop(Box::replace(&mut block, Running::Dec(dec)));
             *stream = PikhsenStream::of(DECRYPTION, block);
@@ -273,30 +247,26 @@ pub extern "C" fn pikhsen_scrypt_decrypt_start(
     ensures nothing { result.status ≡ 0 → released_text (take 96 front.now) passphrase.now ≡ [] }
     ensures right { result.status ≡ 0 → HasRightHeaderCode (take 96 front.now) passphrase.now }
     ensures wrong { result.status ≡ wrong_passphrase → HasRightHeaderCode (take 96 front.now) passphrase.now → ⊥ }
-    ensures status { result.status ≢ out_of_memory → result.status ≢ wrong_passphrase
-        → result.status ≡ decrypt_start_status stream.old.runs front.now keep max_bytes max_ops }
     // Memory is asked for, and refused, only where nothing else is; and so is a passphrase.
-    ensures memory { result.status ≡ out_of_memory
-        → decrypt_start_status stream.old.runs front.now keep max_bytes max_ops ≡ 0 }
-    ensures late { result.status ≡ wrong_passphrase
-        → decrypt_start_status stream.old.runs front.now keep max_bytes max_ops ≡ 0 }
+    ensures first { TellsFirstOrLate (result.status ≡ wrong_passphrase)
+        (decrypt_start_status stream.old.runs front.now keep max_bytes max_ops) result.status }
     ensures unchanged { result.status ≢ 0 → stream.new ≡ stream.old }
     ensures asked { AsksToStart result.status machine.heap result.machine.heap }
     ensures no_blocks { result.machine.blocks ≡ machine.blocks }
     // There is one derivation, after which the passphrase alone is refused.
-    ensures no_work { result.status ≢ 0 → result.status ≢ wrong_passphrase → result.machine.cores ≡ machine.cores }
-    ensures count { result.status ≡ 0
-        → result.machine.cores ≡ machine.cores + cores_to_open passphrase.now front.now keep }
-    ensures count_if_wrong { result.status ≡ wrong_passphrase
-        → result.machine.cores ≡ machine.cores + cores_to_open passphrase.now front.now keep }
+    ensures works { WorksToOpen (result.status ≡ wrong_passphrase) (cores_to_open passphrase.now front.now keep)
+        result.status machine.cores result.machine.cores }
 {
     let mut machine = machine;
-    let told = decrypt_start_in(
-        &mut machine.heap,
-        passphrase,
+    let limits = ScryptLimits {
         keep,
         max_bytes,
         max_ops,
+    };
+    let told = decrypt_start_in(
+        &mut machine.heap,
+        &limits,
+        passphrase,
         front,
         stream,
         &mut machine.cores,

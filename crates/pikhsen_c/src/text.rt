@@ -5,8 +5,8 @@ ghost use Rattle.argon_text.specs.Value.{Value};
 
 use argon_text::put_tag;
 
-/// The encoded text of a hash that is being made. Its length does not change, and it lends bytes alone: a list lends its
-/// allocator, so whoever had it could take memory, or make a counter, beside the source.
+/// The encoded text of a hash that is being made. Its length does not change, and it lends bytes alone: a list lends
+/// its allocator, so whoever had it could take memory, or make a counter, beside the source.
 #[derive(Drop)]
 pub(crate) struct Text {
     list: Vec<u8>,

@@ -14,7 +14,7 @@ ghost use Rattle.pikhsen_c.specs.Message.{sentence_of};
 ghost use Rattle.pikhsen_c.specs.Scrypt.{costs_given, limits_given, number_of as number_of_costs, scrypt_status};
 ghost use Rattle.pikhsen_c.specs.Settings.{number_of as number_of_range, settings_told};
 ghost use Rattle.pikhsen_c.specs.Stream.{decrypt_start_status, encrypt_start_status};
-ghost use Rattle.pikhsen_c.specs.Status.{costs_number, damaged, first_told, header_number, mismatch, no_stream, not_encoded, out_of_memory, out_of_range, params_number, wrong_passphrase};
+ghost use Rattle.pikhsen_c.specs.Status.{costs_number, damaged, first_told, header_number, long_password, mismatch, much_memory, much_work, no_stream, not_encoded, out_of_memory, out_of_range, params_number, wrong_passphrase};
 
 // PIKHSEN_PASSES to PIKHSEN_WORK_LIMIT.
 fn numbers_of_parameters()
@@ -75,6 +75,9 @@ fn settings_of_the_known_value()
 
 // The numbers that no order below tells.
 fn numbers_told_late()
+    ensures long_password { long_password ≡ 6 }
+    ensures much_memory { much_memory ≡ 7 }
+    ensures much_work { much_work ≡ 8 }
     ensures out_of_memory { out_of_memory ≡ 9 }
     ensures not_encoded { not_encoded ≡ 14 }
     ensures out_of_range { out_of_range ≡ 15 }
@@ -118,8 +121,8 @@ fn places_of_what_is_given()
     ensures p { (costs_given 4 3 5).p ≡ 5 }
 {}
 
-// A hash: the kind, the version, each range, the lengths of secret and associated data, the limits. The last parameters have
-// 8 blocks, of which 6 are made from other ones (RFC 9106, 3.2).
+// A hash: the kind, the version, each range, the lengths of secret and associated data, the limits. The last
+// parameters have 8 blocks, of which 6 are made from other ones (RFC 9106, 3.2).
 fn refusals_of_a_hash()
     ensures kind { hash_status (parameters_given 3 0 0 0 0 0 0 0) (2 ^ 32) (2 ^ 32) 0 0 ≡ 10 }
     ensures version { hash_status (parameters_given 2 0x12 0 0 0 0 0 0) (2 ^ 32) (2 ^ 32) 0 0 ≡ 11 }
@@ -151,9 +154,12 @@ fn refusals_of_a_text()
 
 // The same with a secret and associated data: their lengths are tested after the parameters, before the limits.
 fn refusals_of_a_text_with_a_secret()
-    ensures password { encoded_keyed_status (parameters_given 0 0x13 1 1 8 32 8 (2 ^ 32)) (codes "somesalt") (2 ^ 32) 0 0 0 0 ≡ 6 }
-    ensures secret { encoded_keyed_status (parameters_given 0 0x13 1 1 8 32 8 8) (codes "somesalt") (2 ^ 32) 0 7 5 0 ≡ 12 }
-    ensures associated { encoded_keyed_status (parameters_given 0 0x13 1 1 8 32 8 8) (codes "somesalt") 0 (2 ^ 32) 7 5 0 ≡ 12 }
+    ensures password { encoded_keyed_status (parameters_given 0 0x13 1 1 8 32 8 (2 ^ 32))
+        (codes "somesalt") (2 ^ 32) 0 0 0 0 ≡ 6 }
+    ensures secret { encoded_keyed_status (parameters_given 0 0x13 1 1 8 32 8 8)
+        (codes "somesalt") (2 ^ 32) 0 7 5 0 ≡ 12 }
+    ensures associated { encoded_keyed_status (parameters_given 0 0x13 1 1 8 32 8 8)
+        (codes "somesalt") 0 (2 ^ 32) 7 5 0 ≡ 12 }
     ensures memory_limit { encoded_keyed_status (parameters_given 0 0x13 1 1 8 32 8 8) (codes "somesalt")
         (2 ^ 32 - 1) (2 ^ 32 - 1) 7 5 0 ≡ 7 }
     ensures work_limit { encoded_keyed_status (parameters_given 0 0x13 1 1 8 32 8 8) (codes "somesalt")
@@ -187,11 +193,13 @@ fn refusals_of_a_start()
 
 // What the text of the reference program says.
 fn value_of_the_reference_program()
-    ensures value { value_given (parameters_given 0 0x13 1 1 8 32 8 8) (codes "somesalt") known_value.tag ≡ known_value }
+    ensures value { value_given (parameters_given 0 0x13 1 1 8 32 8 8)
+        (codes "somesalt") known_value.tag ≡ known_value }
 {}
 
-// A key: the costs, its length, which rows are kept, and the limits. With S = 4 a quarter of the 2,048 bytes of V is kept, and
-// at most 2 * r * p * N * (1 + S) cores are run (RFC 7914, 4 to 6). No more than 2^40 bytes are asked for, whatever the limit.
+// A key: the costs, its length, which rows are kept, and the limits. With S = 4 a quarter of the 2,048 bytes of V is
+// kept, and at most 2 * r * p * N * (1 + S) cores are run (RFC 7914, 4 to 6). No more than 2^40 bytes are asked for,
+// whatever the limit.
 fn refusals_of_a_key()
     ensures log_n { scrypt_status (costs_given 0 0 0) 3 0 0 (2 ^ 40) ≡ 17 }
     ensures zero { scrypt_status (costs_given 4 0 1) 3 0 0 (2 ^ 40) ≡ 18 }
@@ -209,8 +217,8 @@ fn refusals_of_a_key()
     ensures cores { (limits_given 2048 64).max_ops ≡ 64 }
 {}
 
-// An encryption: the costs, the lengths of salt, text and file, which rows are kept, and the limits. A file has 128 bytes more
-// than its text (FORMAT of Tarsnap's scrypt).
+// An encryption: the costs, the lengths of salt, text and file, which rows are kept, and the limits. A file has 128
+// bytes more than its text (FORMAT of Tarsnap's scrypt).
 fn refusals_of_an_encryption()
     ensures costs { encrypt_status (costs_given 64 0 1) 3 0 0 31 (2 ^ 60) 0 ≡ 17 }
     ensures salt { encrypt_status (costs_given 4 1 1) 3 0 0 31 (2 ^ 60) 0 ≡ 30 }

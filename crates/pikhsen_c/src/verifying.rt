@@ -1,22 +1,19 @@
 //! The test of a password against an encoded text.
-ghost use Rattle.std.specs.Prelude.{◌≡◌, ◌≢◌, ◌+◌, ◌≤◌, ◌<◌, ◌⊎◌, None, Some, length, true, false};
+ghost use Rattle.std.specs.Prelude.{◌≡◌, ◌≢◌, ◌≤◌, ◌<◌, [], None, length};
 ghost use Rattle.argon.specs.Counts.{work};
-ghost use Rattle.argon_text.specs.EncodedText.{IsTextOf};
-ghost use Rattle.argon_text.specs.Grammar.{HasNumbers, IsText, IsTextInRange};
-ghost use Rattle.argon_text.specs.Value.{IsValue, Value};
 ghost use Rattle.argon_text.specs.Verifying.{keyed_fault, keyed_tag, parameters_with};
-ghost use Rattle.argon_text.specs.View.{value_claimed, value_of};
-ghost use Rattle.pikhsen_c.specs.Argon2.{CountsTest, HasKeyedPassword, HasOtherKeyedPassword, HasOtherPassword, HasPassword, IsJudged, IsKeyedJudged, MayLackKeyedMemory, MayLackMemory};
-ghost use Rattle.pikhsen_c.specs.Heap.{AsksToVerify};
-ghost use Rattle.pikhsen_c.specs.Inside.Verifying.{IsTold};
-ghost use Rattle.pikhsen_c.specs.Status.{long_input, mismatch, not_encoded, out_of_memory, out_of_range};
+ghost use Rattle.argon_text.specs.View.{value_claimed};
+ghost use Rattle.pikhsen_c.specs.Argon2.{IsVerdict, IsVerifyNumber, WorksToVerify};
+ghost use Rattle.pikhsen_c.specs.Heap.{AsksToOpen, AsksToVerify, WorksToOpen, asked_for_matrix, asked_to_read};
+ghost use Rattle.pikhsen_c.specs.Inside.Numbers.{IsTold};
+ghost use Rattle.pikhsen_c.specs.Status.{long_input, mismatch};
 
 use crate::burning::{Told, burn};
 use crate::machine::Machine;
 use crate::source::Source;
 use crate::status;
 use argon::Ticks;
-use argon_text::{Claim, VerifyFault, verify_keyed};
+use argon_text::{Claim, verify_keyed};
 
 // What the test of a password answers, by its number.
 fn answered<S: Source>(
@@ -33,31 +30,21 @@ fn answered<S: Source>(
         (length secret.now) (length associated.now) max_kib max_ops ≡ None }
     ensures right { result ≡ 0
         → keyed_tag (value_claimed claim.now) password.now secret.now associated.now ≡ claim.now.tag.now }
-    ensures admitted_if_wrong { result ≡ 16 → keyed_fault (value_claimed claim.now) password.now
+    ensures admitted_if_wrong { result ≡ mismatch → keyed_fault (value_claimed claim.now) password.now
         (length secret.now) (length associated.now) max_kib max_ops ≡ None }
-    ensures wrong { result ≡ 16
+    ensures wrong { result ≡ mismatch
         → keyed_tag (value_claimed claim.now) password.now secret.now associated.now ≡ claim.now.tag.now → ⊥ }
     ensures first_fault { IsTold result (keyed_fault (value_claimed claim.now) password.now
         (length secret.now) (length associated.now) max_kib max_ops) }
-    ensures low { 0 < result → 6 ≤ result }
-    ensures gap { 9 < result → 12 ≤ result }
-    ensures gap_after_12 { 12 < result → 16 ≤ result }
-    ensures high { result ≤ 16 }
-    // Nothing is asked of the source before every other refusal is ruled out.
-    ensures unasked { result ≢ 0 → result ≢ 16 → result ≢ 9 → source.new ≡ source.old }
-    // And then the matrix alone, under the caller's own limits; want of memory is told where that was refused.
-    ensures asked { result ≡ 0 → source.new ≡ S.after_matrix source.old
-        (parameters_with (value_claimed claim.now) password.now) max_kib max_ops true }
-    ensures asked_if_wrong { result ≡ 16 → source.new ≡ S.after_matrix source.old
-        (parameters_with (value_claimed claim.now) password.now) max_kib max_ops true }
-    ensures refused { result ≡ 9 → source.new ≡ S.after_matrix source.old
-        (parameters_with (value_claimed claim.now) password.now) max_kib max_ops false }
+    ensures number { IsVerifyNumber result }
+    ensures known { long_input < result → mismatch ≤ result }
+    // Nothing is asked of the source before every other refusal is ruled out, and then the matrix alone, under the
+    // caller's own limits; want of memory is told where that was refused.
+    ensures asked { AsksToOpen (result ≡ mismatch) (S.after_matrix source.old
+        (parameters_with (value_claimed claim.now) password.now) max_kib max_ops) result source.old source.new }
     // No block function is run before every refusal is ruled out, and then those of one hash.
-    ensures no_work { result ≢ 0 → result ≢ 16 → ticks.new ≡ ticks.old }
-    ensures count { result ≡ 0
-        → ticks.new ≡ ticks.old + work (parameters_with (value_claimed claim.now) password.now) }
-    ensures count_if_wrong { result ≡ 16
-        → ticks.new ≡ ticks.old + work (parameters_with (value_claimed claim.now) password.now) }
+    ensures works { WorksToOpen (result ≡ mismatch) (work (parameters_with (value_claimed claim.now) password.now))
+        result ticks.old ticks.new }
 {
     match verify_keyed(
         source, claim, password, secret, associated, max_kib, max_ops, ticks,
@@ -80,46 +67,15 @@ pub(crate) fn verify_in<S: Source>(
     max_ops: u64,
     ticks: &mut Ticks,
 ) -> u32
-    ensures right { result ≡ 0
-        → HasKeyedPassword text.now password.now secret.now associated.now max_kib max_ops }
-    ensures wrong { result ≡ mismatch
-        → HasOtherKeyedPassword text.now password.now secret.now associated.now max_kib max_ops }
-    ensures not_in_grammar { result ≡ not_encoded → IsText text.now → ⊥ }
-    ensures out_of_range { result ≡ out_of_range → IsText text.now × (IsTextInRange text.now → ⊥) }
-    ensures password_len { result ≡ 6 → IsKeyedJudged (Some VerifyFault.PasswordLength) text.now password.now
-        (length secret.now) (length associated.now) max_kib max_ops }
-    ensures input_len { result ≡ long_input → IsKeyedJudged (Some VerifyFault.InputLength) text.now password.now
-        (length secret.now) (length associated.now) max_kib max_ops }
-    ensures memory_limit { result ≡ 7 → IsKeyedJudged (Some VerifyFault.MemoryLimit) text.now password.now
-        (length secret.now) (length associated.now) max_kib max_ops }
-    ensures work_limit { result ≡ 8 → IsKeyedJudged (Some VerifyFault.WorkLimit) text.now password.now
-        (length secret.now) (length associated.now) max_kib max_ops }
-    ensures memory { result ≡ out_of_memory → MayLackKeyedMemory text.now password.now
-        (length secret.now) (length associated.now) max_kib max_ops }
-    ensures low { 0 < result → 6 ≤ result }
-    ensures gap { 9 < result → 12 ≤ result }
-    ensures gap_after_12 { 12 < result → 14 ≤ result }
-    ensures high { result ≤ 16 }
-    // The text is read once, and nothing more is asked for where it or the test is refused for another reason than memory.
-    ensures unasked { result ≢ 0 → result ≢ mismatch → result ≢ out_of_memory
-        → source.new ≡ S.after_reading source.old text.now true }
-    // Otherwise the matrix of one hash, under the caller's own limits.
-    ensures asked { result ≡ 0 → (value : Value) × IsValue value × IsTextOf value text.now × (source.new
-        ≡ S.after_matrix (S.after_reading source.old text.now true) (parameters_with value password.now)
-        max_kib max_ops true) }
-    ensures asked_if_wrong { result ≡ mismatch → (value : Value) × IsValue value × IsTextOf value text.now × (source.new
-        ≡ S.after_matrix (S.after_reading source.old text.now true) (parameters_with value password.now)
-        max_kib max_ops true) }
-    // Want of memory is told where one of the two was refused, the second only within the limits.
-    ensures refused { result ≡ out_of_memory
-        → (source.new ≡ S.after_reading source.old text.now false)
-        ⊎ ((judged : IsKeyedJudged None text.now password.now (length secret.now) (length associated.now)
-        max_kib max_ops) × (source.new ≡ S.after_matrix (S.after_reading source.old text.now true)
-        (parameters_with judged.value password.now) max_kib max_ops false)) }
-    // No block function is run before every refusal is ruled out, and then those of one hash.
-    ensures no_work { result ≢ 0 → result ≢ mismatch → ticks.new ≡ ticks.old }
-    ensures count { result ≡ 0 → CountsTest text.now password.now max_ops ticks.old ticks.new }
-    ensures count_if_wrong { result ≡ mismatch → CountsTest text.now password.now max_ops ticks.old ticks.new }
+    ensures verdict { IsVerdict text.now password.now secret.now associated.now max_kib max_ops result }
+    ensures number { IsVerifyNumber result }
+    // The text is read once. Nothing more is asked for where it or the test is refused for another reason than
+    // memory, and otherwise the matrix of one hash, under the caller's own limits; want of memory is told where one
+    // was refused.
+    ensures asked { AsksToVerify (S.after_reading source.old text.now)
+        (λ source value. S.after_matrix source (parameters_with value password.now) max_kib max_ops)
+        text.now password.now (length secret.now) (length associated.now) max_kib max_ops result source.new }
+    ensures works { WorksToVerify text.now password.now max_ops result ticks.old ticks.new }
 {
     let reading = match source.read(text) {
         Ok(reading) => reading,
@@ -141,31 +97,15 @@ pub extern "C" fn pikhsen_argon2_verify(
     max_kib: u32,
     max_ops: u64,
 ) -> Told
-    ensures right { result.status ≡ 0 → HasPassword text.now password.now max_kib max_ops }
-    ensures wrong { result.status ≡ mismatch → HasOtherPassword text.now password.now max_kib max_ops }
-    ensures not_in_grammar { result.status ≡ not_encoded → IsText text.now → ⊥ }
-    ensures out_of_range { result.status ≡ out_of_range → IsText text.now × (IsTextInRange text.now → ⊥) }
-    ensures password_len { result.status ≡ 6
-        → IsJudged (Some VerifyFault.PasswordLength) text.now password.now max_kib max_ops }
-    ensures memory_limit { result.status ≡ 7
-        → IsJudged (Some VerifyFault.MemoryLimit) text.now password.now max_kib max_ops }
-    ensures work_limit { result.status ≡ 8
-        → IsJudged (Some VerifyFault.WorkLimit) text.now password.now max_kib max_ops }
-    ensures memory { result.status ≡ out_of_memory → MayLackMemory text.now password.now max_kib max_ops }
+    ensures verdict { IsVerdict text.now password.now [] [] max_kib max_ops result.status }
     // There is no other number.
-    ensures low { 0 < result.status → 6 ≤ result.status }
-    ensures gap { 9 < result.status → 14 ≤ result.status }
-    ensures high { result.status ≤ 16 }
+    ensures number { IsVerifyNumber result.status }
+    ensures no_input { result.status ≢ long_input }
     // What was asked of the heap.
-    ensures asked { AsksToVerify (IsJudged None text.now password.now max_kib max_ops)
-        result.status machine.heap result.machine.heap }
+    ensures asked { AsksToVerify (asked_to_read machine.heap) (λ heap _ granted. asked_for_matrix heap granted)
+        text.now password.now 0 0 max_kib max_ops result.status result.machine.heap }
     ensures no_cores { result.machine.cores ≡ machine.cores }
-    // No block function is run before every refusal is ruled out, and then those of one hash.
-    ensures no_work { result.status ≢ 0 → result.status ≢ mismatch → result.machine.blocks ≡ machine.blocks }
-    ensures count { result.status ≡ 0
-        → CountsTest text.now password.now max_ops machine.blocks result.machine.blocks }
-    ensures count_if_wrong { result.status ≡ mismatch
-        → CountsTest text.now password.now max_ops machine.blocks result.machine.blocks }
+    ensures works { WorksToVerify text.now password.now max_ops result.status machine.blocks result.machine.blocks }
 {
     let mut machine = machine;
     let told = verify_in(

@@ -1,11 +1,15 @@
 use Rattle.std.proofs.Common.{◌≡◌, ℕ, List, take, arith, ap, sym, subst, ◌∙◌}
 use Rattle.std.proofs.lemmas.List.{take-take}
 use Rattle.encfile.specs.Header.{IsHeaderOf}
-use Rattle.pikhsen_c.proofs.FirstTold.{first_is}
+use Rattle.pikhsen_c.proofs.FrontStatus.{first_is}
 use Rattle.pikhsen_c.proofs.file.opened.Goals as goal
 
-pub returns-in-Err-clause-status : goal.returns-in-Err-clause-status
-returns-in-Err-clause-status g c = λ memory wrong. first_is _ _ _ c.in-Err.ensures.status (omega (arith, c.in-Err.ensures.at_least_22))
+pub returns-in-Err-clause-first : goal.returns-in-Err-clause-first
+returns-in-Err-clause-first g c = record {
+  fault = λ _ _. sym (first_is _ _ _ c.in-Err.ensures.status (omega (arith, c.in-Err.ensures.at_least_22)));
+  memory = λ memory. absurd (omega (arith, memory, c.in-Err.ensures.at_least_22));
+  late = λ wrong. absurd (omega (arith, wrong, c.in-Err.ensures.below));
+}
 
 pub open-requires-clause-header : goal.open-requires-clause-header
 open-requires-clause-header g c =

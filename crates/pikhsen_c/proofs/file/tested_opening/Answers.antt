@@ -1,5 +1,5 @@
 use Rattle.std.proofs.Common.{arith}
-use Rattle.pikhsen_c.proofs.FirstTold.{first_is}
+use Rattle.pikhsen_c.proofs.FrontStatus.{first_is}
 use Rattle.pikhsen_c.proofs.file.tested_opening.Goals as goal
 
 pub returns-in-Err-clause-status : goal.returns-in-Err-clause-status
