@@ -85,6 +85,16 @@ class Step:
         """What came of a run that ended well: a library that is as it was proved before has nothing to say."""
         return f"{self.name}, {f'{self.seconds:.0f} s' if self.log.stat().st_size else 'as it was proved before'}"
 
+    def sample(self):
+        """What a program that was just built prints over the words and the input that its crate has for it, if any."""
+        folder = CRATES / self.crate
+        if self.words[0] != "run" or not (folder / "args").is_file():
+            return None
+        words = (folder / "args").read_text(encoding="utf-8").split()
+        with open(folder / "stdin", "rb") as given:
+            ran = subprocess.run([folder / self.makes, *words], stdin=given, stdout=subprocess.PIPE, text=True)
+        return f"{' '.join([self.crate, *words])} prints: {ran.stdout.strip()}"
+
     def why(self):
         """The last lines of what a run said that did not end well, and where the others are."""
         said = self.log.read_text(encoding="utf-8", errors="replace").rstrip("\n").split("\n")
@@ -257,6 +267,8 @@ def prove(steps):
             if step.end(os.waitstatus_to_exitcode(status), used):
                 proved.add(step.name)
                 came = f"{len(proved):2d} of {len(steps)} {step.line()}"
+                if shown := step.sample():
+                    say(shown)
             else:
                 failed.append(step.name)
                 came = step.why()

@@ -90,6 +90,8 @@ class Tree:
         for name in prove.listed():
             (self.top / "crates" / name / "src").mkdir(parents=True)
             self.write(name, "as it was\n")
+        (self.top / "crates/argon_tool/args").write_text("somesalt\n-e\n")
+        (self.top / "crates/argon_tool/stdin").write_text("password")
         for name in ("build", "pages", "sources"):
             (self.top / "tests" / name).mkdir(parents=True)
         shutil.copy(TOP / "tests/build/changed.py", self.top / "tests/build")
@@ -187,6 +189,7 @@ def succeeds(checks, tree):
     status, said = tree.make("run", f"CPU={LEVEL}", "JOBS=2")
     checks.that("make run", (status, tree.there(PROGRAMS)), (0, list(PROGRAMS)))
     checks.that("make run: its end", said[-1].split()[0], "argon_tool")
+    checks.that("make run: a sample", sum("argon_tool somesalt -e prints: argon_tool" in it for it in said), 1)
     look_at_order(checks, "make run", tree, OF_PROGRAMS, 2)
     look_at_lines(checks, "make run", said, len(OF_PROGRAMS))
     words = {crate: words for _, crate, words in tree.noted("begin")}
