@@ -22,10 +22,18 @@ def code(crate):
     return {"::".join(file.relative_to(base).with_suffix("").parts): file.read_text(encoding="utf-8") for file in files}
 
 
+def records(crate):
+    """The names of the fields of each record that a crate defines."""
+    texts = "\n".join(file.read_text(encoding="utf-8") for file in (ROOT / "crates" / crate / "specs").rglob("*.antt"))
+    found = re.findall(r"^pub record (\w+)[^=]*? where\n((?:  .*\n)+)", texts + "\n", re.MULTILINE)
+    return {name: re.findall(r"^  pub (\w+) :", fields, re.MULTILINE) for name, fields in found}
+
+
 def functions(crate):
-    """The clauses of each function of a crate, by its name, after that of its type or trait; and its types. Where functions
-    of several modules have one name, each is told by its path."""
-    found, free = {}, {}
+    """The clauses of each function of a crate, by its name, after that of its type or trait; and its types. A clause that
+    cites a record has its fields, as `first.memory`. Where functions of several modules have one name, each is told by its
+    path."""
+    found, free, fields = {}, {}, records(crate)
     for module, text in code(crate).items():
         owner, name = "", None
         for line in text.splitlines():
@@ -39,8 +47,9 @@ def functions(crate):
                 found.setdefault(name, set())
                 if not function[1]:
                     free.setdefault(function[2], []).append(name)
-            elif name and (clause := re.match(r"\s+(?:ensures|requires) (\w+) \{", line)):
-                found[name].add(clause[1])
+            elif name and (clause := re.match(r"\s+(?:ensures|requires) (\w+) \{(.*)", line)):
+                cited = (it for word in re.findall(r"\w+", clause[2]) for it in fields.get(word, ()))
+                found[name].update([clause[1], *(f"{clause[1]}.{it}" for it in cited)])
     for name, (path, *others) in free.items():
         if not others:
             found[name] = found.pop(path)

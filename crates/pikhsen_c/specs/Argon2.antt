@@ -13,7 +13,7 @@ use Rattle.argon_text.specs.Value.{IsValue, Value}
 use Rattle.argon_text.specs.Verifying.{keyed_fault, keyed_tag, parameters_with}
 use Rattle.argon_text.specs.declared.fault.VerifyFault.{VerifyFault}
 use Rattle.argon_text.specs.declared.fault.VerifyFault.TheVariants as verify
-use Rattle.pikhsen_c.specs.Status.{first_told, long_input, long_password, mismatch, much_memory, much_work, no_kind, no_version, not_encoded, out_of_memory, out_of_range, params_number, wrong_buffer}
+use Rattle.pikhsen_c.specs.Status.{first_told, long_input, long_password, mismatch, above_memory_limit, above_work_limit, no_kind, no_version, not_encoded, out_of_memory, out_of_range, params_number, wrong_buffer}
 
 -- the parameters of these numbers (RFC 9106, 3.1)
 abbrev pub parameters_given : ℕ → ℕ → ℕ → ℕ → ℕ → ℕ → ℕ → ℕ → Parameters
@@ -158,9 +158,9 @@ pub record IsVerdict (text password secret associated : List ℕ) (max_kib max_o
       → IsKeyedJudged (Some verify.PasswordLength) text password (length secret) (length associated) max_kib max_ops
   pub input_len : status ≡ long_input
       → IsKeyedJudged (Some verify.InputLength) text password (length secret) (length associated) max_kib max_ops
-  pub memory_limit : status ≡ much_memory
+  pub memory_limit : status ≡ above_memory_limit
       → IsKeyedJudged (Some verify.MemoryLimit) text password (length secret) (length associated) max_kib max_ops
-  pub work_limit : status ≡ much_work
+  pub work_limit : status ≡ above_work_limit
       → IsKeyedJudged (Some verify.WorkLimit) text password (length secret) (length associated) max_kib max_ops
   pub memory : status ≡ out_of_memory
       → MayLackKeyedMemory text password (length secret) (length associated) max_kib max_ops

@@ -42,7 +42,8 @@ pub record AsksOnce {Source : Type 0} (ask : Bool → Source) (status : ℕ) (be
   pub refused : status ≡ out_of_memory → after ≡ ask false
   pub unasked : status ≢ 0 → status ≢ out_of_memory → after ≡ before
 
--- the same of a file that is opened, where it was granted, too, where a number is told late
+-- the same of a file that is opened, or a password that is tested, where it was granted, too, where a number is told
+-- late: that the passphrase, the rest of the file or the password is wrong
 pub record AsksToOpen {Source : Type 0} (IsLate : Type 0) (ask : Bool → Source) (status : ℕ) (before after : Source)
     : Type 0 where
   pub asked : status ≡ 0 → after ≡ ask true
@@ -96,7 +97,7 @@ pub record WorksOnce (work status before after : ℕ) : Type 0 where
   pub no_work : status ≢ 0 → after ≡ before
   pub count : status ≡ 0 → after ≡ before + work
 
--- the same of a file that is opened, where it was done, too, where a number is told late
+-- the same of a file that is opened, or a password that is tested, where it was done, too, where a number is told late
 pub record WorksToOpen (IsLate : Type 0) (work status before after : ℕ) : Type 0 where
   pub no_work : status ≢ 0 → (IsLate → ⊥) → after ≡ before
   pub count : status ≡ 0 → after ≡ before + work

@@ -25,12 +25,12 @@ abbrev pub long_password : ℕ
 long_password = params_number params.PasswordLength
 
 -- 7: the number of more memory than the limit allows
-abbrev pub much_memory : ℕ
-much_memory = params_number params.MemoryLimit
+abbrev pub above_memory_limit : ℕ
+above_memory_limit = params_number params.MemoryLimit
 
 -- 8: the number of more work than the limit allows
-abbrev pub much_work : ℕ
-much_work = params_number params.WorkLimit
+abbrev pub above_work_limit : ℕ
+above_work_limit = params_number params.WorkLimit
 
 -- the number where memory was refused
 abbrev pub out_of_memory : ℕ

@@ -156,8 +156,9 @@ pub extern "C" fn pikhsen_argon2_encoded(
     out: &mut [u8],
     text_len: &mut usize,
 ) -> Told
-    ensures written { result.status ≡ 0 → IsWritten (encoded_hash (parameters_given kind version passes lanes memory_kib
-        tag_len (length salt.now) (length password.now)) password.now salt.now) text_len.new out.old out.new }
+    ensures written { result.status ≡ 0 → IsWritten (encoded_hash (parameters_given kind version passes lanes
+        memory_kib tag_len (length salt.now) (length password.now))
+        password.now salt.now) text_len.new out.old out.new }
     ensures status { result.status ≢ out_of_memory → result.status
         ≡ encoded_status (parameters_given kind version passes lanes memory_kib
         tag_len (length salt.now) (length password.now)) salt.now max_kib max_ops (length out.old) }

@@ -10,7 +10,7 @@ ghost use Rattle.encfile.specs.HeaderFaults.{header_fault};
 ghost use Rattle.pikhsen_c.specs.File.{cores_to_open, encrypt_status, front_status, header_status, lengths_status, number_of};
 ghost use Rattle.pikhsen_c.specs.Heap.{AsksOnce, AsksToOpen, WorksOnce, WorksToOpen, asked_for_workspace};
 ghost use Rattle.pikhsen_c.specs.Inside.Numbers.{IsEarly, number_told};
-ghost use Rattle.pikhsen_c.specs.Inside.Settings.{ask_under, cores_set, costs_set, encryption_refusal, front_refusal, length_lent, opening_refusal, text_lent};
+ghost use Rattle.pikhsen_c.specs.Inside.Settings.{ask_under, cores_of_settings, costs_of_settings, encryption_refusal, front_refusal, length_lent, opening_refusal, text_lent};
 ghost use Rattle.pikhsen_c.specs.Scrypt.{costs_given, sparse_given};
 ghost use Rattle.pikhsen_c.specs.Status.{TellsFirst, TellsFirstOrLate, damaged, long_text, wrong_passphrase};
 
@@ -120,17 +120,17 @@ pub(crate) fn begun<S: Source>(
     out_len: usize,
     ticks: &mut Ticks,
 ) -> Result<Enc, u32>
-    ensures begun { IfOk result (λ enc. HasEncrypted enc passphrase.now salt.now (costs_set settings.now) []) }
+    ensures begun { IfOk result (λ enc. HasEncrypted enc passphrase.now salt.now (costs_of_settings settings.now) []) }
     ensures text { OnOk result (text_len < 2 ^ 60) }
     ensures room { OnOk result (out_len ≡ text_len + 128) }
     ensures first { TellsFirst (encryption_refusal settings.now (length salt.now) text_len out_len)
         (number_told result) }
     ensures at_least_1 { IfErr result (λ status. 1 ≤ status) }
     // Nothing is asked of the source before every other refusal is ruled out, and then it is asked once.
-    ensures asked { AsksOnce (ask_under S.after_workspace settings.now.limits (costs_set settings.now) source.old)
+    ensures asked { AsksOnce (ask_under S.after_workspace settings.now.limits (costs_of_settings settings.now) source.old)
         (number_told result) source.old source.new }
     // No derivation begins before every refusal is ruled out, and then one.
-    ensures works { WorksOnce (cores_set settings.now passphrase.now salt.now)
+    ensures works { WorksOnce (cores_of_settings settings.now passphrase.now salt.now)
         (number_told result) ticks.old ticks.new }
 {
     let costs = costs_of(settings.log_n, settings.r, settings.p)?;
@@ -141,8 +141,7 @@ pub(crate) fn begun<S: Source>(
     Ok(Enc::start(&costs, &whole_salt, passphrase, &mut workspace, ticks))
 }
 
-// The length of the text, where so many bytes are there for its file: of the one that is given, or else of all of these
-// but the last 128.
+// The length of the text that is given, or else of a buffer of `out_len` bytes without its last 128.
 fn length_of(text: Option<&[u8]>, out_len: usize) -> usize
     ensures length { result ≡ length_lent text.entry out_len }
 {
@@ -196,15 +195,15 @@ fn encrypt_in<S: Source>(
     ticks: &mut Ticks,
 ) -> u32
     ensures file { result ≡ 0 → out.new
-        ≡ encrypted_file passphrase.now salt.now (costs_set settings.now) (text_lent text.entry out.old) }
+        ≡ encrypted_file passphrase.now salt.now (costs_of_settings settings.now) (text_lent text.entry out.old) }
     ensures first { TellsFirst (encryption_refusal settings.now (length salt.now)
         (length_lent text.entry (length out.old)) (length out.old)) result }
     ensures untouched { result ≢ 0 → out.new ≡ out.old }
     // Nothing is asked of the source before every other refusal is ruled out, and then it is asked once.
-    ensures asked { AsksOnce (ask_under S.after_workspace settings.now.limits (costs_set settings.now) source.old)
+    ensures asked { AsksOnce (ask_under S.after_workspace settings.now.limits (costs_of_settings settings.now) source.old)
         result source.old source.new }
     // No derivation begins before every refusal is ruled out, and then one.
-    ensures works { WorksOnce (cores_set settings.now passphrase.now salt.now) result ticks.old ticks.new }
+    ensures works { WorksOnce (cores_of_settings settings.now passphrase.now salt.now) result ticks.old ticks.new }
 {
     let out_len = out.len();
     let text_len = length_of(text, out_len);

@@ -5,7 +5,7 @@ ghost use Rattle.romix.specs.Sparse.{sparse_cores};
 ghost use Rattle.romix.specs.SparseCosts.{SparseFitsMemory};
 ghost use Rattle.pikhsen_c.specs.Heap.{AsksOnce, WorksOnce, asked_for_workspace};
 ghost use Rattle.pikhsen_c.specs.Inside.Numbers.{IsEarly, number_told};
-ghost use Rattle.pikhsen_c.specs.Inside.Settings.{ask_under, cores_set, costs_refusal, costs_set, key_refusal};
+ghost use Rattle.pikhsen_c.specs.Inside.Settings.{ask_under, cores_of_settings, limits_refusal, costs_of_settings, derivation_refusal};
 ghost use Rattle.pikhsen_c.specs.Scrypt.{costs_given, costs_status, scrypt_status, sparse_given};
 ghost use Rattle.pikhsen_c.specs.Status.{TellsFirst};
 
@@ -75,11 +75,11 @@ pub(crate) fn costs_of(log_n: u32, r: u32, p: u32) -> Result<Costs, u32>
 }
 
 /// The costs with the rows kept whose number `keep` divides, where `keep` may be and the limits admit it; or
-// the number of the first fault.
+/// the number of the first fault.
 pub(crate) fn admitted(costs: &Costs, limits: &ScryptLimits) -> Result<Sparse, u32>
     ensures sparse { IfOk result (λ sparse. sparse ≡ sparse_given costs.now limits.now.keep) }
     ensures fits { IfOk result (λ sparse. SparseFitsMemory sparse (2 ^ 40)) }
-    ensures status { costs_refusal limits.now costs.now ≡ number_told result }
+    ensures status { limits_refusal limits.now costs.now ≡ number_told result }
     ensures early { IfErr result IsEarly }
     ensures below { IfErr result (λ status. status ≤ 21) }
 {
@@ -105,7 +105,7 @@ pub(crate) fn workspace<S: Source>(
 ) -> Result<Workspace, u32>
     ensures sparse { IfOk result (λ workspace. workspace.sparse ≡ sparse_given costs.now limits.now.keep) }
     ensures costs { IfOk result (λ workspace. workspace.sparse.costs ≡ costs.now) }
-    ensures first { TellsFirst (costs_refusal limits.now costs.now) (number_told result) }
+    ensures first { TellsFirst (limits_refusal limits.now costs.now) (number_told result) }
     ensures at_least_1 { IfErr result (λ status. 1 ≤ status) }
     ensures below { IfErr result (λ status. status ≤ 21) }
     // Nothing is asked of the source before `keep` and the caller's own limits are tested, and then it is asked once,
@@ -132,12 +132,12 @@ fn derive_in<S: Source>(
 ) -> u32
     ensures key { result ≡ 0 → out.new
         ≡ scrypt password.now salt.now (2 ^ settings.now.log_n) settings.now.r settings.now.p (length out.old) }
-    ensures first { TellsFirst (key_refusal settings.now (length out.old)) result }
+    ensures first { TellsFirst (derivation_refusal settings.now (length out.old)) result }
     ensures untouched { result ≢ 0 → out.new ≡ out.old }
-    ensures asked { AsksOnce (ask_under S.after_workspace settings.now.limits (costs_set settings.now) source.old)
+    ensures asked { AsksOnce (ask_under S.after_workspace settings.now.limits (costs_of_settings settings.now) source.old)
         result source.old source.new }
     // No derivation begins before every refusal is ruled out, and then one.
-    ensures works { WorksOnce (cores_set settings.now password.now salt.now) result ticks.old ticks.new }
+    ensures works { WorksOnce (cores_of_settings settings.now password.now salt.now) result ticks.old ticks.new }
 {
     let costs = match costs_of(settings.log_n, settings.r, settings.p) {
         Ok(costs) => costs,

@@ -5,7 +5,7 @@ ghost use Rattle.encfile.specs.EncryptedFile.{HasRightHeaderCode, body, released
 ghost use Rattle.pikhsen_c.specs.File.{cores_to_open};
 ghost use Rattle.pikhsen_c.specs.Heap.{AsksToStart, WorksOnce, WorksToOpen};
 ghost use Rattle.pikhsen_c.specs.Inside.Running.{is_decryption, is_encryption};
-ghost use Rattle.pikhsen_c.specs.Inside.Settings.{cores_set, costs_set, decryption_start_refusal, encryption_start_refusal};
+ghost use Rattle.pikhsen_c.specs.Inside.Settings.{cores_of_settings, costs_of_settings, decryption_start_refusal, encryption_start_refusal};
 ghost use Rattle.pikhsen_c.specs.Scrypt.{costs_given, sparse_given};
 ghost use Rattle.pikhsen_c.specs.Status.{TellsFirst, TellsFirstOrLate, damaged, long_text, no_stream, wrong_buffer, wrong_passphrase};
 ghost use Rattle.pikhsen_c.specs.Stream.{AreLast, AreNext, Encrypts, FeedsOn, FeedsWhatFits, HasFed, HasGot, IsAsBefore, IsDamaged, IsReleased, IsWhole, Reads, ReadsOn, ReadsWhatFits, decrypt_start_status, encrypt_start_status};
@@ -31,14 +31,14 @@ fn encrypt_start_in(
     head: &mut [u8],
     ticks: &mut Ticks,
 ) -> u32
-    ensures begun { result ≡ 0 → HasFed stream.new passphrase.now salt.now (costs_set settings.now) [] }
-    ensures head { result ≡ 0 → head.new ≡ body passphrase.now salt.now (costs_set settings.now) [] }
+    ensures begun { result ≡ 0 → HasFed stream.new passphrase.now salt.now (costs_of_settings settings.now) [] }
+    ensures head { result ≡ 0 → head.new ≡ body passphrase.now salt.now (costs_of_settings settings.now) [] }
     ensures first { TellsFirst (encryption_start_refusal stream.old.runs settings.now
         (length salt.now) (length head.old)) result }
     ensures untouched { result ≢ 0 → head.new ≡ head.old }
     ensures unchanged { result ≢ 0 → stream.new ≡ stream.old }
     ensures asked { AsksToStart result heap.old heap.new }
-    ensures works { WorksOnce (cores_set settings.now passphrase.now salt.now) result ticks.old ticks.new }
+    ensures works { WorksOnce (cores_of_settings settings.now passphrase.now salt.now) result ticks.old ticks.new }
 {
     if stream.runs != 0 {
         return status::STREAM;

@@ -14,7 +14,7 @@ ghost use Rattle.pikhsen_c.specs.Message.{sentence_of};
 ghost use Rattle.pikhsen_c.specs.Scrypt.{costs_given, limits_given, number_of as number_of_costs, scrypt_status};
 ghost use Rattle.pikhsen_c.specs.Settings.{number_of as number_of_range, settings_told};
 ghost use Rattle.pikhsen_c.specs.Stream.{decrypt_start_status, encrypt_start_status};
-ghost use Rattle.pikhsen_c.specs.Status.{costs_number, damaged, first_told, header_number, long_password, mismatch, much_memory, much_work, no_stream, not_encoded, out_of_memory, out_of_range, params_number, wrong_passphrase};
+ghost use Rattle.pikhsen_c.specs.Status.{costs_number, damaged, first_told, header_number, long_password, mismatch, above_memory_limit, above_work_limit, no_stream, not_encoded, out_of_memory, out_of_range, params_number, wrong_passphrase};
 
 // PIKHSEN_PASSES to PIKHSEN_WORK_LIMIT.
 fn numbers_of_parameters()
@@ -76,8 +76,8 @@ fn settings_of_the_known_value()
 // The numbers that no order below tells.
 fn numbers_told_late()
     ensures long_password { long_password ≡ 6 }
-    ensures much_memory { much_memory ≡ 7 }
-    ensures much_work { much_work ≡ 8 }
+    ensures above_memory_limit { above_memory_limit ≡ 7 }
+    ensures above_work_limit { above_work_limit ≡ 8 }
     ensures out_of_memory { out_of_memory ≡ 9 }
     ensures not_encoded { not_encoded ≡ 14 }
     ensures out_of_range { out_of_range ≡ 15 }

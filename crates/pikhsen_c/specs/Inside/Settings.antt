@@ -18,12 +18,12 @@ abbrev pub parameters_of : Settings → ℕ → ℕ → ℕ → Parameters
 parameters_of s = parameters_given s.kind s.version s.passes s.lanes s.memory_kib
 
 -- the costs of these settings
-abbrev pub costs_set : ScryptSettings → Costs
-costs_set s = costs_given s.log_n s.r s.p
+abbrev pub costs_of_settings : ScryptSettings → Costs
+costs_of_settings s = costs_given s.log_n s.r s.p
 
 -- the cores of a derivation from this password and salt
-abbrev pub cores_set : ScryptSettings → List ℕ → List ℕ → ℕ
-cores_set s password salt = sparse_cores password salt (sparse_given (costs_set s) s.limits.keep)
+abbrev pub cores_of_settings : ScryptSettings → List ℕ → List ℕ → ℕ
+cores_of_settings s password salt = sparse_cores password salt (sparse_given (costs_of_settings s) s.limits.keep)
 
 -- what a request for the memory of a derivation of these costs leaves of a source, by what `after_workspace` says of it
 abbrev pub ask_under : {Source : Type 0} → (Source → SparseParameters → ℕ → ℕ → Bool → Source) → ScryptLimits → Costs
@@ -32,22 +32,22 @@ ask_under after_workspace l costs before = after_workspace before (sparse_given 
 
 -- ---- what is refused by them before memory is asked for, by its number; or 0
 
--- costs
-abbrev pub costs_refusal : ScryptLimits → Costs → ℕ
-costs_refusal l costs = limits_status (sparse_given costs l.keep) l.max_bytes l.max_ops
+-- costs, by what `keep` and the limits admit
+abbrev pub limits_refusal : ScryptLimits → Costs → ℕ
+limits_refusal l costs = limits_status (sparse_given costs l.keep) l.max_bytes l.max_ops
 
 -- the derivation of a key of this length
-abbrev pub key_refusal : ScryptSettings → ℕ → ℕ
-key_refusal s = scrypt_status (costs_set s) s.limits.keep s.limits.max_bytes s.limits.max_ops
+abbrev pub derivation_refusal : ScryptSettings → ℕ → ℕ
+derivation_refusal s = scrypt_status (costs_of_settings s) s.limits.keep s.limits.max_bytes s.limits.max_ops
 
 -- an encryption, by the lengths of salt, text and file
 abbrev pub encryption_refusal : ScryptSettings → ℕ → ℕ → ℕ → ℕ
-encryption_refusal s = encrypt_status (costs_set s) s.limits.keep s.limits.max_bytes s.limits.max_ops
+encryption_refusal s = encrypt_status (costs_of_settings s) s.limits.keep s.limits.max_bytes s.limits.max_ops
 
 -- the start of an encryption, by what runs and the lengths of salt and head
 abbrev pub encryption_start_refusal : ℕ → ScryptSettings → ℕ → ℕ → ℕ
 encryption_start_refusal runs s =
-    encrypt_start_status runs (costs_set s) s.limits.keep s.limits.max_bytes s.limits.max_ops
+    encrypt_start_status runs (costs_of_settings s) s.limits.keep s.limits.max_bytes s.limits.max_ops
 
 -- a file of at least 96 bytes
 abbrev pub opening_refusal : ScryptLimits → List ℕ → ℕ

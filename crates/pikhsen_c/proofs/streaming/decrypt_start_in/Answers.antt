@@ -55,8 +55,8 @@ returns-in-Err-clause-first c =
     (omega (arith, c.if-stream-ne0.false)) (omega (arith, c.if-front-lt96.false)) in
     record {
       fault = λ _ _. sym (same ∙ c.in-Err.ensures.status);
-      memory = λ memory. absurd (c.in-Err.ensures.early.other memory);
-      late = λ wrong. absurd (c.in-Err.ensures.early.right wrong);
+      memory = λ memory. absurd (c.in-Err.ensures.early.not_memory memory);
+      late = λ wrong. absurd (c.in-Err.ensures.early.not_passphrase wrong);
     }
 
 pub returns-in_default-block-clause-first : goal.returns-in_default-block-clause-first
