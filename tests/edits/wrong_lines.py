@@ -15,10 +15,10 @@ import os
 import pathlib
 import re
 import shutil
-import subprocess
 import sys
 import tempfile
 import time
+from subprocess import PIPE, STDOUT, run
 
 sys.path += map(str, pathlib.Path(__file__).resolve().parents[1].iterdir())  # the other folders of tests/
 from choice import MADE, Choice
@@ -60,8 +60,7 @@ def said_by(test, lib, edit=None):
             (top / file).write_text(text, encoding="utf-8")
         words = [str(lib) if it == "LIB" else it for it in TESTS[test][0]]
         environment = {**os.environ, "PYTHONDONTWRITEBYTECODE": "1", "STOP_AT_FIRST": "1"}
-        ran = subprocess.run([top / test, *words], cwd=top, env=environment, stdout=subprocess.PIPE,
-                             stderr=subprocess.STDOUT, text=True)
+        ran = run([top / test, *words], cwd=top, env=environment, stdout=PIPE, stderr=STDOUT, text=True)
         if ran.returncode == 0 or not made:
             return None
         said = SAID_OF_SOURCES if test in OF_SOURCES else SAID
@@ -73,7 +72,7 @@ def said_by(test, lib, edit=None):
 def library_for(edits, folder):
     """A folder with the built library, where a test of these needs one."""
     if any("LIB" in TESTS[it.test][0] for it in edits):
-        subprocess.run([TOP / "packaging/lib.sh", folder], check=True)
+        run([TOP / "packaging/lib.sh", folder], check=True)
         # in the place of that for the higher level, whose code no test of an edit looks at
         higher = pathlib.Path(folder, "glibc-hwcaps/x86-64-v3")
         higher.mkdir(parents=True)
