@@ -43,9 +43,9 @@ int argon2_ctx(argon2_context *of, argon2_type type)
 {
 	if (missing(of) != ARGON2_OK)
 		return missing(of);
-	return told(pikhsen_argon2_hash(type, of->version, of->t_cost, of->m_cost, of->lanes, of->pwd, of->pwdlen, of->salt,
-	    of->saltlen, of->secret, of->secretlen, of->ad, of->adlen, NO_KIB, NO_OPS, of->out, of->outlen), of->lanes,
-	    of->saltlen, of->outlen);
+	return told(pikhsen_argon2_hash(type, of->version, of->t_cost, of->m_cost, of->lanes, (char *)of->pwd, of->pwdlen,
+	    of->salt, of->saltlen, of->secret, of->secretlen, of->ad, of->adlen, NO_KIB, NO_OPS, of->out, of->outlen),
+	    of->lanes, of->saltlen, of->outlen);
 }
 
 /* Each of the two that is wanted is a call of its own. */
