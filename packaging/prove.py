@@ -90,7 +90,7 @@ class Step:
         folder = CRATES / self.crate
         if self.words[0] != "run" or not (folder / "args").is_file():
             return None
-        words = (folder / "args").read_text(encoding="utf-8").split()
+        words = (folder / "args").read_text(encoding="utf-8").splitlines()
         with open(folder / "stdin", "rb") as given:
             ran = subprocess.run([folder / self.makes, *words], stdin=given, stdout=subprocess.PIPE, text=True)
         return f"{' '.join([self.crate, *words])} prints: {ran.stdout.strip()}"

@@ -77,7 +77,7 @@ def sum_of(body):
 
 def sum_of_file(name):
     """A sum of a file without lines of comments, and without white space."""
-    lines = (TOP / name).read_text(encoding="utf-8").splitlines() if (TOP / name).is_file() else []
+    lines = (TOP / name).read_text(encoding="utf-8").split("\n") if (TOP / name).is_file() else []
     code = "".join(it for it in lines if not it.lstrip(" ").startswith("//"))
     return hashlib.sha256(code.replace(" ", "").encode()).hexdigest()
 
