@@ -1,5 +1,5 @@
 //! Hashes by Argon2.
-ghost use Rattle.std.specs.Prelude.{◌≡◌, ◌≢◌, ◌≤◌, ◌<◌, length, Ok, IfSome, IfOk, IfErr, OnOk, None};
+ghost use Rattle.std.specs.Prelude.{◌≡◌, ◌≢◌, ◌^◌, ◌<◌, length, Ok, IfSome, IfOk, IfErr, OnOk, None};
 ghost use Rattle.argon.specs.Argon2.{argon2_tag};
 ghost use Rattle.argon.specs.Counts.{work};
 ghost use Rattle.argon.specs.Inputs.{inputs_of};
@@ -7,6 +7,7 @@ ghost use Rattle.argon.specs.Kind.{type_number};
 ghost use Rattle.argon.specs.Range.{IsInRangeWithAnyPassword, admission};
 ghost use Rattle.pikhsen_c.specs.Argon2.{hash_status, inputs_given, kind_numbered, limits_status, parameters_given, params_status};
 ghost use Rattle.pikhsen_c.specs.Heap.{AsksOnce, WorksOnce, asked_for_matrix};
+ghost use Rattle.pikhsen_c.specs.Inside.Numbers.{IsEarly, number_told};
 ghost use Rattle.pikhsen_c.specs.Inside.Settings.{parameters_of};
 ghost use Rattle.pikhsen_c.specs.Status.{TellsFirst, out_of_memory};
 
@@ -42,9 +43,9 @@ pub(crate) fn kind_of(number: u32) -> Option<Kind>
     }
 }
 
-/// The parameters of these settings, if the type and the version are there and the others in range; or the
-/// number of the first fault.
-pub(crate) fn params_of(
+// The parameters of these settings, if the type and the version are there and the others in range; or the
+// number of the first fault.
+fn params_of(
     settings: &Settings,
     tag_len: usize,
     salt_len: usize,
@@ -52,11 +53,8 @@ pub(crate) fn params_of(
 ) -> Result<Params, u32>
     ensures parameters { IfOk result (λ params. params ≡ parameters_of settings.now tag_len salt_len password_len) }
     ensures in_range { IfOk result IsInRangeWithAnyPassword }
-    ensures passed { OnOk result (params_status (parameters_of settings.now tag_len salt_len password_len) ≡ 0) }
-    ensures status { IfErr result (λ status. params_status
-        (parameters_of settings.now tag_len salt_len password_len) ≡ status) }
-    ensures at_least_1 { IfErr result (λ status. 1 ≤ status) }
-    ensures other { IfErr result (λ status. status ≢ out_of_memory) }
+    ensures status { params_status (parameters_of settings.now tag_len salt_len password_len) ≡ number_told result }
+    ensures early { IfErr result IsEarly }
 {
     let Some(kind) = kind_of(settings.kind) else {
         return Err(status::KIND);
@@ -79,18 +77,46 @@ pub(crate) fn params_of(
     }
 }
 
-/// Whether the limits admit the parameters, or the number of the first fault.
-pub(crate) fn admitted(params: &Params, settings: &Settings) -> Result<(), u32>
+// Whether the limits admit the parameters, or the number of the first fault.
+fn admitted(params: &Params, settings: &Settings) -> Result<(), u32>
     ensures admitted { OnOk result (admission params.now settings.now.max_kib settings.now.max_ops ≡ Ok tt) }
-    ensures passed { OnOk result (limits_status params.now settings.now.max_kib settings.now.max_ops ≡ 0) }
-    ensures status { IfErr result (λ status.
-        limits_status params.now settings.now.max_kib settings.now.max_ops ≡ status) }
-    ensures at_least_1 { IfErr result (λ status. 1 ≤ status) }
-    ensures other { IfErr result (λ status. status ≢ out_of_memory) }
+    ensures status { limits_status params.now settings.now.max_kib settings.now.max_ops ≡ number_told result }
+    ensures early { IfErr result IsEarly }
 {
     match params.admitted(settings.max_kib, settings.max_ops) {
         Ok(()) => Ok(()),
         Err(fault) => Err(status::of_params(fault)),
+    }
+}
+
+/// The parameters of a hash, if nothing refuses it before memory is asked for; or the number of the first fault.
+pub(crate) fn tested_hash(
+    settings: &Settings,
+    tag_len: usize,
+    salt_len: usize,
+    password_len: usize,
+    secret_len: usize,
+    associated_len: usize,
+) -> Result<Params, u32>
+    ensures parameters { IfOk result (λ params. params ≡ parameters_of settings.now tag_len salt_len password_len) }
+    ensures in_range { IfOk result IsInRangeWithAnyPassword }
+    ensures admitted { IfOk result (λ params. admission params settings.now.max_kib settings.now.max_ops ≡ Ok tt) }
+    ensures secret { OnOk result (secret_len < 2 ^ 32) }
+    ensures associated { OnOk result (associated_len < 2 ^ 32) }
+    ensures status { hash_status (parameters_of settings.now tag_len salt_len password_len)
+        secret_len associated_len settings.now.max_kib settings.now.max_ops ≡ number_told result }
+    ensures early { IfErr result IsEarly }
+{
+    let params = match params_of(settings, tag_len, salt_len, password_len) {
+        Ok(params) => params,
+        Err(status) => return Err(status),
+    };
+    if secret_len > 0xFFFF_FFFF || associated_len > 0xFFFF_FFFF {
+        return Err(status::INPUT_LENGTH);
+    }
+    match admitted(&params, settings) {
+        Ok(()) => Ok(params),
+        Err(status) => Err(status),
     }
 }
 
@@ -119,21 +145,17 @@ fn hash_in<S: Source>(
     ensures works { WorksOnce (work (parameters_of settings.now
         (length out.old) (length inputs.now.salt.now) (length inputs.now.password.now))) result ticks.old ticks.new }
 {
-    let params = match params_of(
+    let params = match tested_hash(
         settings,
         out.len(),
         inputs.salt.len(),
         inputs.password.len(),
+        inputs.secret.len(),
+        inputs.associated.len(),
     ) {
         Ok(params) => params,
         Err(status) => return status,
     };
-    if inputs.secret.len() > 0xFFFF_FFFF || inputs.associated.len() > 0xFFFF_FFFF {
-        return status::INPUT_LENGTH;
-    }
-    if let Err(status) = admitted(&params, settings) {
-        return status;
-    }
     let Ok(mut matrix) = source.matrix(&params, settings.max_kib, settings.max_ops) else {
         return status::OUT_OF_MEMORY;
     };

@@ -10,7 +10,7 @@ ghost use Rattle.pikhsen_c.specs.Inside.Settings.{parameters_of};
 ghost use Rattle.pikhsen_c.specs.Message.{IsWritten};
 ghost use Rattle.pikhsen_c.specs.Status.{out_of_memory};
 
-use crate::argon2::{Settings, admitted, kind_of, params_of};
+use crate::argon2::{Settings, tested_hash};
 use crate::burning::{Told, burn};
 use crate::machine::Machine;
 use crate::source::Source;
@@ -101,20 +101,18 @@ pub(crate) fn encode_in<S: Source>(
         result ticks.old ticks.new }
 {
     *text_len = 0;
-    let params = match params_of(settings, tag_len, salt.len(), password.len()) {
+    let params = match tested_hash(
+        settings,
+        tag_len,
+        salt.len(),
+        password.len(),
+        secret.len(),
+        associated.len(),
+    ) {
         Ok(params) => params,
         Err(status) => return status,
     };
-    let Some(kind) = kind_of(settings.kind) else {
-        return status::KIND;
-    };
-    if secret.len() > 0xFFFF_FFFF || associated.len() > 0xFFFF_FFFF {
-        return status::INPUT_LENGTH;
-    }
-    if let Err(status) = admitted(&params, settings) {
-        return status;
-    }
-    let Ok(mut text) = source.text(kind, &params, salt) else {
+    let Ok(mut text) = source.text(&params, salt) else {
         return status::OUT_OF_MEMORY;
     };
     if out.len() <= text.as_slice().len() {

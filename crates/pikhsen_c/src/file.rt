@@ -20,7 +20,7 @@ use crate::scrypt::{ScryptLimits, ScryptSettings, admitted, costs_of, workspace}
 use crate::source::Source;
 use crate::status;
 use encfile::{Dec, Enc, Header, TooLong};
-use romix::Ticks;
+use romix::{Ticks, Workspace};
 
 /// What a file asks for.
 #[repr(C)]
@@ -324,6 +324,35 @@ pub(crate) fn tested_opening(file: &[u8], limits: &ScryptLimits) -> Result<(), u
     Ok(())
 }
 
+// The header of a file, and the memory of the derivation that opens it; or the number of what the file is refused for.
+fn memory_to_open<S: Source>(
+    source: &mut S,
+    limits: &ScryptLimits,
+    file: &[u8],
+) -> Result<(Header, Workspace), u32>
+    requires long { 96 ≤ length file.now }
+    ensures header { IfOk result (λ both. IsHeaderOf (take 64 file.now) both.0) }
+    ensures costs { IfOk result (λ both. both.0.costs ≡ costs_of (take 64 file.now)) }
+    ensures salt { IfOk result (λ both. both.0.salt ≡ salt_of (take 64 file.now)) }
+    ensures sparse { IfOk result (λ both.
+        both.1.sparse ≡ sparse_given (costs_of (take 64 file.now)) limits.now.keep) }
+    ensures first { TellsFirst (opening_refusal limits.now file.now) (number_told result) }
+    ensures at_least_1 { IfErr result (λ status. 1 ≤ status) }
+    ensures below { IfErr result (λ status. status ≤ 25) }
+    // Nothing is asked of the source before header and limits are tested, and then it is asked once.
+    ensures asked { AsksOnce (ask_under S.after_workspace limits.now (costs_of (take 64 file.now)) source.old)
+        (number_told result) source.old source.new }
+{
+    let header = match header_of(file) {
+        Ok(header) => header,
+        Err(status) => return Err(status),
+    };
+    match workspace(source, header.costs(), limits) {
+        Ok(workspace) => Ok((header, workspace)),
+        Err(status) => Err(status),
+    }
+}
+
 /// A decryption after the first 96 bytes of a file, or the number of what the file is refused for.
 pub(crate) fn opened<S: Source>(
     source: &mut S,
@@ -350,16 +379,15 @@ pub(crate) fn opened<S: Source>(
     ensures works { WorksToOpen (number_told result ≡ wrong_passphrase)
         (cores_to_open passphrase.now file.now limits.now.keep) (number_told result) ticks.old ticks.new }
 {
-    let header = match header_of(file) {
-        Ok(header) => header,
+    let (header, workspace) = match memory_to_open(source, limits, file) {
+        Ok(both) => both,
         Err(status) => return Err(status),
     };
-    let mut workspace = match workspace(source, header.costs(), limits) {
-        Ok(workspace) => workspace,
-        Err(status) => return Err(status),
-    };
+    let mut workspace = workspace;
     let front = front_of(file);
-    match Dec::open(&front, header, passphrase, &mut workspace, ticks) {
+    let dec = Dec::open(&front, header, passphrase, &mut workspace, ticks);
+    drop(workspace);
+    match dec {
         Ok(dec) => Ok(dec),
         Err(_) => Err(status::WRONG_PASSPHRASE),
     }

@@ -1,14 +1,14 @@
 //! The heap of the program that calls, as the functions for C have it: contracts see what was asked of it.
 ghost use Rattle.std.specs.Prelude.{◌≡◌, length, IfOk, Some, is_ok, is_some, true};
 ghost use Rattle.argon.specs.Range.{IsInRangeWithAnyPassword};
-ghost use Rattle.pikhsen_c.specs.Argon2.{kind_numbered, text_of_zeros};
+ghost use Rattle.pikhsen_c.specs.Argon2.{text_of_zeros};
 ghost use Rattle.pikhsen_c.specs.Heap.{asked_for_matrix, asked_for_state, asked_for_text, asked_for_workspace, asked_to_read, one_more};
 
 use crate::reading::Reading;
 use crate::source::Source;
 use crate::stream::{PikhsenStream, Running};
 use crate::text::Text;
-use argon::{Kind, Matrix, Params};
+use argon::{Matrix, Params};
 use argon_text::{Encoded, ReadFault, Room};
 use counter::Count;
 use romix::{Sparse, Workspace};
@@ -94,8 +94,8 @@ impl Source for Heap {
 
     ghost after_reading = { λ heap _ granted. asked_to_read heap granted };
 
-    fn text(&mut self, kind: Kind, params: &Params, salt: &[u8]) -> Result<Text, AllocError> {
-        let text = text_of_zeros(self.alloc, kind, params, salt);
+    fn text(&mut self, params: &Params, salt: &[u8]) -> Result<Text, AllocError> {
+        let text = text_of_zeros(self.alloc, params, salt);
         self.texts.count(text.is_ok());
         text
     }
@@ -123,19 +123,13 @@ impl Source for Heap {
 }
 
 // The text that has zeros for a tag.
-fn text_of_zeros(
-    alloc: Global,
-    kind: Kind,
-    params: &Params,
-    salt: &[u8],
-) -> Result<Text, AllocError>
-    requires kind { kind ≡ kind_numbered params.now.kind }
+fn text_of_zeros(alloc: Global, params: &Params, salt: &[u8]) -> Result<Text, AllocError>
     requires in_range { IsInRangeWithAnyPassword params.now }
     requires salt { length salt.now ≡ params.now.salt_len }
     ensures text { IfOk result (λ text. text.list.items ≡ text_of_zeros params.now salt.now) }
 {
     let encoded = Encoded {
-        kind,
+        kind: params.kind(),
         version: params.version(),
         memory: params.memory_kib(),
         passes: params.passes(),

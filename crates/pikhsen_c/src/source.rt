@@ -7,13 +7,13 @@ ghost use Rattle.argon_text.specs.Grammar.{HasNumbers, IsText, IsTextInRange};
 ghost use Rattle.argon_text.specs.Value.{IsValue};
 ghost use Rattle.argon_text.specs.View.{value_of};
 ghost use Rattle.romix.specs.SparseCosts.{SparseFitsMemory, SparseParameters};
-ghost use Rattle.pikhsen_c.specs.Argon2.{kind_numbered, text_of_zeros};
+ghost use Rattle.pikhsen_c.specs.Argon2.{text_of_zeros};
 ghost use Rattle.pikhsen_c.specs.Inside.Numbers.{had_memory_to_read};
 ghost use Rattle.pikhsen_c.specs.Scrypt.{limits_status};
 
 use crate::reading::Reading;
 use crate::text::Text;
-use argon::{Kind, Params};
+use argon::Params;
 use argon_text::{ReadFault, Room};
 use romix::{Sparse, Workspace};
 use std::alloc::AllocError;
@@ -32,8 +32,7 @@ pub(crate) trait Source: Room {
     ghost after_reading: { Self → List ℕ → Bool → Self };
 
     /// The text that has zeros for a tag.
-    fn text(&mut self, kind: Kind, params: &Params, salt: &[u8]) -> Result<Text, AllocError>
-        requires kind { kind ≡ kind_numbered params.now.kind }
+    fn text(&mut self, params: &Params, salt: &[u8]) -> Result<Text, AllocError>
         requires in_range { IsInRangeWithAnyPassword params.now }
         requires salt { length salt.now ≡ params.now.salt_len }
         ensures text { IfOk result (λ text. text.list.items ≡ text_of_zeros params.now salt.now) }
