@@ -3,7 +3,7 @@ ghost use Rattle.std.specs.Prelude.{◌≡◌, ◌≤◌, ◌+◌, ◌^◌, fals
 ghost use Rattle.host.specs.Faults.{AreBelow};
 ghost use Rattle.host.specs.Grants.{GrantsAll};
 ghost use Rattle.host.specs.Seen.{IsFresh};
-ghost use Rattle.scrypt_request.specs.Refusal.{counted_by, may_follow_work};
+ghost use Rattle.scrypt_request.specs.Refusal.{CountsFault, may_follow_work};
 ghost use Rattle.scrypt_run.specs.Run.{most_cores};
 ghost use Rattle.scrypt_run.specs.Work.{EndsAfterWork, RequestWorks};
 ghost use Rattle.scrypt_request.specs.declared.refusal.ScryptRefusal.{ScryptRefusal};
@@ -27,8 +27,7 @@ fn attempt<H: Host>(
     requires room { AreBelow (2 ^ 63) (H.faults host.old) }
     requires fresh { IsTrue H.tells → IsFresh (H.seen host.old) }
     requires granted { GrantsAll (H.grants host.old) }
-    ensures counts { MatchResult result (λ _. H.faults host.new ≡ H.faults host.old)
-        (λ r. H.faults host.new ≡ counted_by r (H.faults host.old)) }
+    ensures counts { CountsFault result (H.faults host.old) (H.faults host.new) }
     ensures words { OnOk result (IsOk (scrypt_request (map string_bytes words.now))) }
     ensures words_refused { (refusal : ScryptRefusal)
         → scrypt_request (map string_bytes words.now) ≡ Err refusal → (r : ScryptRefusal) × (result ≡ Err r)

@@ -1,5 +1,5 @@
 -- The refusals of scrypt: the line of each, and the count of the host's failures that it raises.
-use Rattle.std.specs.Prelude.{◌≡◌, Bool, true, false, codes}
+use Rattle.std.specs.Prelude.{◌≡◌, Bool, true, false, codes, Result, MatchResult}
 use Rattle.host.specs.Seen.{Text}
 use Rattle.host.specs.Faults.{Faults, input_failed, output_failed, secret_failed, salt_failed}
 use Rattle.scrypt_request.specs.declared.refusal.ScryptRefusal.{ScryptRefusal}
@@ -13,6 +13,10 @@ counted_by refusal.OutputFault f = output_failed f
 counted_by refusal.PassphraseFault f = secret_failed f
 counted_by refusal.SaltFault f = salt_failed f
 counted_by r f = f
+
+-- a step with this result, and the counts before and after it: a refusal raises its own, and nothing else raises any
+abbrev pub CountsFault : {A : Type 0} → Result A ScryptRefusal → Faults → Faults → Type 0
+CountsFault result before after = MatchResult result (λ _. after ≡ before) (λ r. after ≡ counted_by r before)
 
 -- the refusal is none of a failing host call
 abbrev pub RaisesNoCount : ScryptRefusal → Type 0

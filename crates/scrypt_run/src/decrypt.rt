@@ -1,5 +1,5 @@
 //! `scrypt dec`: the text of an encrypted file.
-ghost use Rattle.std.specs.Prelude.{◌≡◌, ◌+◌, ◌≤◌, ◌^◌, true, false, ℕ, List, ◌++◌, take, length, MatchResult, IfOk, IfErr, OnOk, IsTrue};
+ghost use Rattle.std.specs.Prelude.{◌≡◌, ◌+◌, ◌≤◌, ◌^◌, true, false, ℕ, List, ◌++◌, take, length, IfOk, IfErr, OnOk, IsTrue};
 ghost use Rattle.romix.specs.Allowance.{with_keep_of};
 ghost use Rattle.romix.specs.Costs.{cores};
 ghost use Rattle.encfile.specs.Decrypting.{HasRead};
@@ -13,7 +13,7 @@ ghost use Rattle.host.specs.Seen.{IsFresh, after_ask};
 ghost use Rattle.scrypt_run.specs.Asking.{EndsAsking, EndsAskingFor, WasGranted, asks_workspace};
 ghost use Rattle.scrypt_run.specs.Decrypting.{DecryptRefused, DecryptSucceeds, Decrypted, text_after};
 ghost use Rattle.scrypt_run.specs.Passphrase.{HasPassphrase, first_line_at};
-ghost use Rattle.scrypt_request.specs.Refusal.{counted_by, follows_work, may_follow_work};
+ghost use Rattle.scrypt_request.specs.Refusal.{CountsFault, follows_work, may_follow_work};
 ghost use Rattle.scrypt_request.specs.Request.{HasAllowedLimits, allowance_of, task_seen, text_of};
 ghost use Rattle.scrypt_run.specs.Admission.{IsAdmitted};
 ghost use Rattle.scrypt_run.specs.Inside.Decrypting.{OpenRefused, ReleaseRefused};
@@ -47,8 +47,7 @@ fn open<R: Room, H: Host>(
     requires costs { sparse.now.costs ≡ header.costs }
     requires keep { sparse.now.keep ≡ task.now.keep }
     requires admitted { IsAdmitted sparse.now task.now.limits }
-    ensures counts { MatchResult result (λ _. H.faults host.new ≡ H.faults host.old)
-        (λ r. H.faults host.new ≡ counted_by r (H.faults host.old)) }
+    ensures counts { CountsFault result (H.faults host.old) (H.faults host.new) }
     ensures granted { H.grants host.new ≡ with_secret_asked (H.grants host.old) }
     ensures asks { IsTrue H.tells →
         H.seen host.new ≡ after_ask (source_of task.now.source) (H.seen host.old) }
@@ -93,8 +92,7 @@ fn release<H: Host>(host: &mut H, dec: &mut Dec) -> Result<(), ScryptRefusal>
     requires writable { (H.grants host.old).writable ≡ true }
     requires new { length_read dec.old ≡ 0 }
     requires read { (passphrase front : List ℕ) × HasRead dec.old passphrase front }
-    ensures counts { MatchResult result (λ _. H.faults host.new ≡ H.faults host.old)
-        (λ r. H.faults host.new ≡ counted_by r (H.faults host.old)) }
+    ensures counts { CountsFault result (H.faults host.old) (H.faults host.new) }
     ensures read { IsTrue H.tells → OnOk result ((passphrase front : List ℕ)
         → HasRead dec.old passphrase front
         → HasRead dec.new passphrase (front ++ (H.seen host.old).input)) }
@@ -133,8 +131,7 @@ fn finish<H: Host>(host: &mut H, outfile: Option<&str>, dec: Dec) -> Result<(), 
     requires readable { (H.grants host.old).readable ≡ true }
     requires new { length_read dec ≡ 0 }
     requires read { (passphrase front : List ℕ) × HasRead dec passphrase front }
-    ensures counts { MatchResult result (λ _. H.faults host.new ≡ H.faults host.old)
-        (λ r. H.faults host.new ≡ counted_by r (H.faults host.old)) }
+    ensures counts { CountsFault result (H.faults host.old) (H.faults host.new) }
     ensures decrypted { IsTrue H.tells → OnOk result ((passphrase front : List ℕ)
         → HasRead dec passphrase front
         → Decrypted passphrase front (text_of outfile.entry)
@@ -172,8 +169,7 @@ pub(crate) fn decrypt<R: Room, H: Host>(
     requires fresh { IsTrue H.tells → IsFresh (H.seen host.old) }
     requires granted { GrantsAll (H.grants host.old) }
     requires limits { HasAllowedLimits (task_seen task.now) }
-    ensures counts { MatchResult result (λ _. H.faults host.new ≡ H.faults host.old)
-        (λ r. H.faults host.new ≡ counted_by r (H.faults host.old)) }
+    ensures counts { CountsFault result (H.faults host.old) (H.faults host.new) }
     ensures succeeds { IsTrue H.tells → OnOk result
         (DecryptSucceeds (task_seen task.now) (H.seen host.old) (H.seen host.new)) }
     ensures refused { IsTrue H.tells → IfErr result (λ r.

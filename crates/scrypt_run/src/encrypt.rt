@@ -1,5 +1,5 @@
 //! `scrypt enc`: the file of a text.
-ghost use Rattle.std.specs.Prelude.{◌≡◌, ◌+◌, ◌≤◌, ◌^◌, true, false, ℕ, List, [], Some, None, length, option_map, MatchResult, IfOk, IfErr, OnOk, OnErr, IsTrue};
+ghost use Rattle.std.specs.Prelude.{◌≡◌, ◌+◌, ◌≤◌, ◌^◌, true, false, ℕ, List, [], Some, None, length, option_map, IfOk, IfErr, OnOk, OnErr, IsTrue};
 ghost use Rattle.romix.specs.Costs.{Parameters, cores};
 ghost use Rattle.encfile.specs.EncryptedFile.{body};
 ghost use Rattle.encfile.specs.Encrypting.{HasEncrypted};
@@ -10,7 +10,7 @@ ghost use Rattle.host.specs.Seen.{IsFresh, after_ask, after_open_input};
 ghost use Rattle.scrypt_run.specs.Asking.{EndsAsking, asks_workspace};
 ghost use Rattle.scrypt_run.specs.Encrypting.{EncryptRefused, EncryptSucceeds, IsEncrypted, after_salting, costs_refusal_of, salt_used};
 ghost use Rattle.scrypt_run.specs.Passphrase.{HasPassphrase, first_line_at};
-ghost use Rattle.scrypt_request.specs.Refusal.{counted_by, follows_work, is_want, may_follow_work};
+ghost use Rattle.scrypt_request.specs.Refusal.{CountsFault, follows_work, is_want, may_follow_work};
 ghost use Rattle.scrypt_request.specs.Request.{HasAllowedLimits, encryption_seen, task_seen, text_of};
 ghost use Rattle.scrypt_run.specs.Admission.{IsAdmitted};
 ghost use Rattle.scrypt_run.specs.Inside.Encrypting.{StartRefused, TextNotOpened, WriteRefused};
@@ -32,8 +32,7 @@ fn open_text<H: Host>(host: &mut H, asked: &Encryption<'_>) -> Result<Sparse, Sc
     requires room { AreBelow (2 ^ 63) (H.faults host.old) }
     requires unopened { (H.grants host.old).input ≡ true }
     requires allowed { HasAllowedLimits (task_seen asked.now.task) }
-    ensures counts { MatchResult result (λ _. H.faults host.new ≡ H.faults host.old)
-        (λ r. H.faults host.new ≡ counted_by r (H.faults host.old)) }
+    ensures counts { CountsFault result (H.faults host.old) (H.faults host.new) }
     ensures granted { OnOk result (H.grants host.new ≡ with_input_opened (H.grants host.old)) }
     ensures passes { OnOk result (costs_refusal_of (encryption_seen asked.now) ≡ None) }
     ensures costs { IfOk result (λ sparse. sparse.costs ≡ asked.now.costs) }
@@ -56,8 +55,7 @@ fn open_text<H: Host>(host: &mut H, asked: &Encryption<'_>) -> Result<Sparse, Sc
 fn read_salt<H: Host>(host: &mut H, salt: Option<[u8; 32]>) -> Result<[u8; 32], ScryptRefusal>
     requires room { AreBelow (2 ^ 63) (H.faults host.old) }
     requires unsalted { (H.grants host.old).salt ≡ true }
-    ensures counts { MatchResult result (λ _. H.faults host.new ≡ H.faults host.old)
-        (λ r. H.faults host.new ≡ counted_by r (H.faults host.old)) }
+    ensures counts { CountsFault result (H.faults host.old) (H.faults host.new) }
     ensures still_readable { OnOk result ((H.grants host.new).readable ≡ (H.grants host.old).readable) }
     ensures still_unasked { OnOk result ((H.grants host.new).output ≡ (H.grants host.old).output) }
     ensures salts { IsTrue H.tells →
@@ -91,8 +89,7 @@ fn start<R: Room, H: Host>(
     requires costs { sparse.now.costs ≡ asked.now.costs }
     requires keep { sparse.now.keep ≡ asked.now.task.keep }
     requires admitted { IsAdmitted sparse.now asked.now.task.limits }
-    ensures counts { MatchResult result (λ _. H.faults host.new ≡ H.faults host.old)
-        (λ r. H.faults host.new ≡ counted_by r (H.faults host.old)) }
+    ensures counts { CountsFault result (H.faults host.old) (H.faults host.new) }
     ensures still_readable { OnOk result ((H.grants host.new).readable ≡ (H.grants host.old).readable) }
     ensures still_unasked { OnOk result ((H.grants host.new).output ≡ (H.grants host.old).output) }
     ensures asks { IsTrue H.tells → OnOk result (H.seen host.new ≡ after_salting asked.now.salt
@@ -138,8 +135,7 @@ fn write_body<H: Host>(host: &mut H, enc: &mut Enc) -> Result<(), ScryptRefusal>
     requires writable { (H.grants host.old).writable ≡ true }
     requires begun { (passphrase salt : List ℕ) × (costs : Parameters)
         × HasEncrypted enc.old passphrase salt costs [] }
-    ensures counts { MatchResult result (λ _. H.faults host.new ≡ H.faults host.old)
-        (λ r. H.faults host.new ≡ counted_by r (H.faults host.old)) }
+    ensures counts { CountsFault result (H.faults host.old) (H.faults host.new) }
     ensures still_writable { OnOk result ((H.grants host.new).writable ≡ true) }
     ensures encrypted { IsTrue H.tells → (passphrase salt : List ℕ) (costs : Parameters)
         → HasEncrypted enc.old passphrase salt costs []
@@ -182,8 +178,7 @@ fn write_file<H: Host>(host: &mut H, outfile: Option<&str>, enc: Enc) -> Result<
     requires readable { (H.grants host.old).readable ≡ true }
     requires begun { (passphrase salt : List ℕ) × (costs : Parameters)
         × HasEncrypted enc passphrase salt costs [] }
-    ensures counts { MatchResult result (λ _. H.faults host.new ≡ H.faults host.old)
-        (λ r. H.faults host.new ≡ counted_by r (H.faults host.old)) }
+    ensures counts { CountsFault result (H.faults host.old) (H.faults host.new) }
     ensures written { IsTrue H.tells → (passphrase salt : List ℕ) (costs : Parameters)
         → HasEncrypted enc passphrase salt costs []
         → OnOk result (IsEncrypted passphrase salt costs (text_of outfile.entry)
@@ -223,8 +218,7 @@ pub(crate) fn encrypt<R: Room, H: Host>(
     requires fresh { IsTrue H.tells → IsFresh (H.seen host.old) }
     requires granted { GrantsAll (H.grants host.old) }
     requires limits { HasAllowedLimits (task_seen asked.now.task) }
-    ensures counts { MatchResult result (λ _. H.faults host.new ≡ H.faults host.old)
-        (λ r. H.faults host.new ≡ counted_by r (H.faults host.old)) }
+    ensures counts { CountsFault result (H.faults host.old) (H.faults host.new) }
     ensures succeeds { IsTrue H.tells → OnOk result (EncryptSucceeds (encryption_seen asked.now)
         (H.seen host.old) (H.seen host.new)) }
     ensures refused { IsTrue H.tells → IfErr result (λ r. EncryptRefused r

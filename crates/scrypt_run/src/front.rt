@@ -1,12 +1,12 @@
 //! The first 96 bytes of a file, and the checks that need no passphrase.
-ghost use Rattle.std.specs.Prelude.{◌≡◌, ◌<◌, ◌≤◌, ◌^◌, true, false, ℕ, Some, None, take, length, option_map, MatchResult, IfOk, IfErr, OnOk, OnErr, IsTrue};
+ghost use Rattle.std.specs.Prelude.{◌≡◌, ◌<◌, ◌≤◌, ◌^◌, true, false, ℕ, Some, None, take, length, option_map, IfOk, IfErr, OnOk, OnErr, IsTrue};
 ghost use Rattle.encfile.specs.Front.{format_refusal, limits_refusal};
 ghost use Rattle.encfile.specs.Header.{IsHeaderOf, costs_of, salt_of};
 ghost use Rattle.host.specs.Faults.{AreBelow, input_failed};
 ghost use Rattle.host.specs.Grants.{with_input_opened};
 ghost use Rattle.host.specs.Seen.{after_pull};
 ghost use Rattle.scrypt_run.specs.Front.{FrontRefused};
-ghost use Rattle.scrypt_request.specs.Refusal.{counted_by, follows_work, is_want};
+ghost use Rattle.scrypt_request.specs.Refusal.{CountsFault, follows_work, is_want};
 ghost use Rattle.scrypt_run.specs.Refusal.{refusal_of};
 ghost use Rattle.scrypt_request.specs.Request.{HasAllowedLimits, allowance_of, task_seen, text_of};
 ghost use Rattle.scrypt_run.specs.Admission.{IsAdmitted};
@@ -53,8 +53,7 @@ fn pull_front<H: Host>(host: &mut H, front: &mut [u8; 96]) -> Result<usize, Host
 fn read_front<H: Host>(host: &mut H, infile: Option<&str>) -> Result<[u8; 96], ScryptRefusal>
     requires room { AreBelow (2 ^ 63) (H.faults host.old) }
     requires unopened { (H.grants host.old).input ≡ true }
-    ensures counts { MatchResult result (λ _. H.faults host.new ≡ H.faults host.old)
-        (λ r. H.faults host.new ≡ counted_by r (H.faults host.old)) }
+    ensures counts { CountsFault result (H.faults host.old) (H.faults host.new) }
     ensures granted { OnOk result (H.grants host.new ≡ with_input_opened (H.grants host.old)) }
     ensures long { IsTrue H.tells → OnOk result (96 ≤ length (H.seen host.old).input) }
     ensures front { IsTrue H.tells →
@@ -116,8 +115,7 @@ pub(crate) fn open_front<H: Host>(
 ) -> Result<([u8; 96], Header), ScryptRefusal>
     requires room { AreBelow (2 ^ 63) (H.faults host.old) }
     requires unopened { (H.grants host.old).input ≡ true }
-    ensures counts { MatchResult result (λ _. H.faults host.new ≡ H.faults host.old)
-        (λ r. H.faults host.new ≡ counted_by r (H.faults host.old)) }
+    ensures counts { CountsFault result (H.faults host.old) (H.faults host.new) }
     ensures granted { OnOk result (H.grants host.new ≡ with_input_opened (H.grants host.old)) }
     ensures long { IsTrue H.tells → OnOk result (96 ≤ length (H.seen host.old).input) }
     ensures front { IsTrue H.tells →
@@ -153,8 +151,7 @@ pub(crate) fn open_admitted_front<H: Host>(
     requires room { AreBelow (2 ^ 63) (H.faults host.old) }
     requires unopened { (H.grants host.old).input ≡ true }
     requires allowed { HasAllowedLimits (task_seen task.now) }
-    ensures counts { MatchResult result (λ _. H.faults host.new ≡ H.faults host.old)
-        (λ r. H.faults host.new ≡ counted_by r (H.faults host.old)) }
+    ensures counts { CountsFault result (H.faults host.old) (H.faults host.new) }
     ensures granted { OnOk result (H.grants host.new ≡ with_input_opened (H.grants host.old)) }
     ensures long { IsTrue H.tells → OnOk result (96 ≤ length (H.seen host.old).input) }
     ensures front { IsTrue H.tells →

@@ -1,11 +1,11 @@
 //! `scrypt info`: the costs of a file, told without a passphrase.
-ghost use Rattle.std.specs.Prelude.{◌≡◌, ◌^◌, MatchResult, IfErr, OnOk, IsTrue};
+ghost use Rattle.std.specs.Prelude.{◌≡◌, ◌^◌, IfErr, OnOk, IsTrue};
 ghost use Rattle.host.specs.Faults.{AreBelow};
 ghost use Rattle.host.specs.Grants.{GrantsAll};
 ghost use Rattle.host.specs.Seen.{IsFresh};
 ghost use Rattle.scrypt_run.specs.Asking.{EndsAskingFor, WasGranted};
 ghost use Rattle.scrypt_run.specs.Inspecting.{InspectRefused, InspectSucceeds};
-ghost use Rattle.scrypt_request.specs.Refusal.{counted_by};
+ghost use Rattle.scrypt_request.specs.Refusal.{CountsFault};
 ghost use Rattle.scrypt_request.specs.Request.{text_of};
 
 use crate::front::open_front;
@@ -23,8 +23,7 @@ pub(crate) fn inspect<R: Room, H: Host>(
     requires room { AreBelow (2 ^ 63) (H.faults host.old) }
     requires fresh { IsTrue H.tells → IsFresh (H.seen host.old) }
     requires granted { GrantsAll (H.grants host.old) }
-    ensures counts { MatchResult result (λ _. H.faults host.new ≡ H.faults host.old)
-        (λ r. H.faults host.new ≡ counted_by r (H.faults host.old)) }
+    ensures counts { CountsFault result (H.faults host.old) (H.faults host.new) }
     ensures succeeds { IsTrue H.tells → OnOk result
         (InspectSucceeds (text_of infile.entry) (H.seen host.old) (H.seen host.new)) }
     ensures refused { IsTrue H.tells → IfErr result (λ r.

@@ -1,11 +1,11 @@
 //! The passphrase of a run: the first line of its source.
-ghost use Rattle.std.specs.Prelude.{◌≡◌, ◌<◌, ◌≤◌, ◌^◌, true, false, ℕ, List, take, length, MatchResult, IfOk, IfErr, IsTrue};
+ghost use Rattle.std.specs.Prelude.{◌≡◌, ◌<◌, ◌≤◌, ◌^◌, true, false, ℕ, List, take, length, IfOk, IfErr, IsTrue};
 ghost use Rattle.host.specs.Faults.{AreBelow};
 ghost use Rattle.host.specs.Grants.{with_secret_asked};
 ghost use Rattle.host.specs.Secret.{source_of};
 ghost use Rattle.host.specs.Seen.{after_ask};
 ghost use Rattle.scrypt_run.specs.Passphrase.{HasPassphrase, PassphraseRefused, first_line, first_line_at, is_line_end};
-ghost use Rattle.scrypt_request.specs.Refusal.{counted_by, follows_work, is_want};
+ghost use Rattle.scrypt_request.specs.Refusal.{CountsFault, follows_work, is_want};
 
 use host::{Host, Source};
 use scrypt_request::ScryptRefusal;
@@ -61,8 +61,7 @@ pub(crate) fn read_passphrase<H: Host>(
 ) -> Result<Passphrase, ScryptRefusal>
     requires room { AreBelow (2 ^ 63) (H.faults host.old) }
     requires unasked { (H.grants host.old).secret ≡ true }
-    ensures counts { MatchResult result (λ _. H.faults host.new ≡ H.faults host.old)
-        (λ r. H.faults host.new ≡ counted_by r (H.faults host.old)) }
+    ensures counts { CountsFault result (H.faults host.old) (H.faults host.new) }
     ensures granted { H.grants host.new ≡ with_secret_asked (H.grants host.old) }
     ensures asks { IsTrue H.tells →
         H.seen host.new ≡ after_ask (source_of source.entry) (H.seen host.old) }

@@ -1,10 +1,10 @@
 //! A run for a request.
-ghost use Rattle.std.specs.Prelude.{◌≡◌, ◌+◌, ◌≤◌, ◌^◌, false, MatchResult, IfErr, OnOk, IsTrue};
+ghost use Rattle.std.specs.Prelude.{◌≡◌, ◌+◌, ◌≤◌, ◌^◌, false, IfErr, OnOk, IsTrue};
 ghost use Rattle.host.specs.Faults.{AreBelow};
 ghost use Rattle.host.specs.Grants.{GrantsAll};
 ghost use Rattle.host.specs.Seen.{IsFresh};
 ghost use Rattle.scrypt_run.specs.Asking.{RequestAsked, RequestGranted};
-ghost use Rattle.scrypt_request.specs.Refusal.{counted_by, may_follow_work};
+ghost use Rattle.scrypt_request.specs.Refusal.{CountsFault, may_follow_work};
 ghost use Rattle.scrypt_request.specs.Request.{IsAllowed, request_seen};
 ghost use Rattle.scrypt_run.specs.Run.{KeepsAll, RequestRefused, RequestSucceeds, cores_asked, most_cores};
 ghost use Rattle.scrypt_run.specs.Work.{EndsAfterWork, RequestWorks};
@@ -42,8 +42,7 @@ pub fn run<R: Room, H: Host>(
     requires fresh { IsTrue H.tells → IsFresh (H.seen host.old) }
     requires granted { GrantsAll (H.grants host.old) }
     requires allowed { IsAllowed (request_seen request.now) }
-    ensures counts { MatchResult result (λ _. H.faults host.new ≡ H.faults host.old)
-        (λ r. H.faults host.new ≡ counted_by r (H.faults host.old)) }
+    ensures counts { CountsFault result (H.faults host.old) (H.faults host.new) }
     ensures succeeds { IsTrue H.tells → OnOk result (RequestSucceeds (request_seen request.now)
         (H.seen host.old) (H.seen host.new)) }
     ensures refused { IsTrue H.tells → IfErr result (λ r. RequestRefused r
