@@ -1,4 +1,4 @@
-use Rattle.std.proofs.Common.{◌≡◌, ℕ, List, take, arith, ap, refl, sym, subst, ◌∙◌}
+use Rattle.std.proofs.Common.{◌≡◌, ℕ, List, take, arith, ap, sym, subst, ◌∙◌}
 use Rattle.std.proofs.lemmas.List.{take-take}
 use Rattle.encfile.specs.Header.{IsHeaderOf}
 use Rattle.pikhsen_c.proofs.file.opened.Goals as goal
@@ -9,17 +9,3 @@ open-dec-requires-clause-header g c =
     let same : take 64 file ≡ take 64 c.front_of-front.result =
     sym (take-take 64 96 file (omega arith)) ∙ ap (λ (front : List ℕ). take 64 front) (sym c.front_of-front.ensures.front) in
     subst (λ (bytes : List ℕ). IsHeaderOf bytes c.in-Ok.both.0) same c.in-Ok.ensures.header
-
-pub returns-in-Ok-dec-clause-works : goal.returns-in-Ok-dec-clause-works
-returns-in-Ok-dec-clause-works g c = record {
-  no_work = λ some _. absurd (some refl);
-  count = λ _. rw (← c.in-Ok.ensures.salt, ← c.in-Ok.ensures.sparse) c.open-dec.ensures.count;
-  count_if_late = λ late. absurd (omega (arith, late));
-}
-
-pub returns-in-Err-dec-clause-works : goal.returns-in-Err-dec-clause-works
-returns-in-Err-dec-clause-works g c = record {
-  no_work = λ _ early. absurd (early refl);
-  count = λ done. absurd (omega (arith, done));
-  count_if_late = λ _. rw (← c.in-Ok.ensures.salt, ← c.in-Ok.ensures.sparse) c.open-dec.ensures.count;
-}
