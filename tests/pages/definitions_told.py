@@ -46,11 +46,11 @@ Of {wrong} definitions, these or others, a wrong one was refused.
 """
 SEEN = "the value of the code as contracts see it: field by field"
 WHY = {
-    ("tools.specs.Held", ""): "field by field, a host of a system: the statements of `SystemHost` are read against it",
+    ("tools.specs.RunState", ""): "field by field, a host of a system: the statements of `SystemHost` are read against it",
     ("tools.specs.World", ""): "field by field, a system: the calls of `System` are read against it",
     ("tools.specs.Identity", "is_regular"): "a choice between two forms",
     ("tools.specs.Words", ""): "an item of a list",
-    **{("host.specs.Secret", name): SEEN for name in ("source_of", "secret_of")}, ("argon_text.specs.View", "value_claimed"): SEEN,
+    **{("host.specs.Secret", name): SEEN for name in ("source_of", "secret_of")}, ("argon_text.specs.View", "value_viewed"): SEEN,
     **{("scrypt_request.specs.Request", f"{name}_seen"): SEEN for name in ("request", "encryption", "task")},
     ("pikhsen_c.specs.Heap", "one_more"): "one of two numbers of a record goes up by one",
     **{("pikhsen_c.specs.Heap", name): "`one_more` of one field of a record" for name in (

@@ -68,13 +68,13 @@ expect 'tick(' "the counters tick in the one block function and the one core" \
 
 # Memory is reserved, and work begun, in one place for each way to it, where contracts say what was tested before.
 expect '::reserve(' "only a source of memory reserves, on the condition that limits admit the work" \
-    crates/argon_text/src/room.rt crates/argon2_command/src/room.rt crates/pikhsen_c/src/heap.rt \
-    crates/pikhsen_c/src/heap.rt crates/scrypt_run/src/room.rt
+    crates/argon_text/src/hash_memory.rt crates/argon2_command/src/run_memory.rt crates/pikhsen_c/src/heap.rt \
+    crates/pikhsen_c/src/heap.rt crates/scrypt_run/src/run_memory.rt
 expect '.decode(' "a salt or a tag is decoded once" crates/argon_text/src/read_room.rt
 expect '.allocator()' "no function takes the heap out of what it is lent, but the writing of a text" \
     crates/argon_text/src/encoded.rt
 expect 'vec![in' "lists of a given length are made by the sources of memory, and for the words of the process" \
-    crates/argon/src/room.rt crates/argon/src/room.rt crates/argon2_command/src/bytes.rt \
+    crates/argon/src/matrix_memory.rt crates/argon/src/matrix_memory.rt crates/argon2_command/src/bytes.rt \
     crates/pikhsen_c/src/heap.rt crates/romix/src/reservation.rt crates/tools/src/arguments.rt
 expect 'with_capacity(' "room for a given length is asked for by the sources of memory alone, which use lists"
 expect_below crates/argon_text '.hash(' "a hash is made once" crates/argon_text/src/verify_password.rt
@@ -133,10 +133,10 @@ expect_below crates/scrypt_run 'Dec::open(' "a derivation for a file that is rea
 # A comparison that ends at the first byte that differs tells by its time where that is, and no contract sees time.
 expect 'are_same(tag, claim.tag)' "tags are compared over all their bytes" crates/argon_text/src/verify_password.rt
 expect '!are_same(&front[64..], ' "the code of a header is compared over all its bytes" crates/encfile/src/dec.rt
-expect 'are_same(&self.bytes, code)' "the final code is compared over all its bytes" crates/encfile/src/held.rt
+expect 'are_same(&self.bytes, code)' "the final code is compared over all its bytes" crates/encfile/src/tail.rt
 expect 'difference |= left[i] ^ right[i];' "the comparison looks at every byte" crates/comparison/src/lib.rt
 for text in '==' '!=' '.eq(' '.ne(' '.cmp(' '.starts_with(' '.position('; do
-    for file in pikhsen_c/src/heap pikhsen_c/src/keyed pikhsen_c/src/reading pikhsen_c/src/source \
+    for file in pikhsen_c/src/heap pikhsen_c/src/keyed pikhsen_c/src/reading pikhsen_c/src/call_memory \
         pikhsen_c/src/verifying argon_text/src/verify_password; do
         expect_below "crates/$file.rt" "$text" "what tests a password compares by are_same alone"
     done

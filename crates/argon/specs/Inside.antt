@@ -1,6 +1,6 @@
 -- Definitions that private contracts and proofs cite; no public contract reaches them.
 pub mod FourWords
-pub mod Held
+pub mod WipedBlocks
 pub mod NextSlice
 pub mod Places
 pub mod Planning

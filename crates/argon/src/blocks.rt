@@ -2,13 +2,13 @@
 ghost use Rattle.std.specs.Prelude.{◌≡◌, length, replicate};
 
 use crate::block::Block;
-use crate::held::Held;
+use crate::wiped_blocks::WipedBlocks;
 
 /// The blocks of a matrix, lane after lane, or the address blocks of lanes. The tag can be computed
 /// from a matrix, and a guess be tested against its first blocks, so the memory goes back to the
 /// heap with zeros alone; so does that of address blocks, in which a block of a matrix could be left.
 pub(crate) struct Blocks {
-    pub(crate) held: Held,
+    pub(crate) held: WipedBlocks,
 }
 
 impl Drop for Blocks {

@@ -2,10 +2,10 @@
 ghost use Rattle.std.specs.Prelude.{◌≡◌, ◌⊎◌, false, true, IfOk, OnErr, OnOk};
 
 use crate::blocks::Blocks;
-use crate::held::Held;
+use crate::matrix_memory::MatrixMemory;
 use crate::numbers::Numbers;
 use crate::params::Params;
-use crate::room::Room;
+use crate::wiped_blocks::WipedBlocks;
 use std::alloc::{AllocError, Global};
 use std::marker::Model;
 
@@ -37,7 +37,7 @@ impl Model for Lanes {
 /// Takes the memory for the lanes of these parameters from a source of your own: a number of four bytes for each, and then
 /// a block of 1,024 bytes for each, unless the first request is refused. `AllocError` where one is refused, and then
 /// nothing is held.
-pub fn reserve_from<R: Room>(room: &mut R, params: &Params) -> Result<Lanes, AllocError>
+pub fn reserve_from<R: MatrixMemory>(room: &mut R, params: &Params) -> Result<Lanes, AllocError>
     ensures parameters { IfOk result (λ lanes. lanes ≡ params.now) }
     ensures asked { OnOk result (room.new
         ≡ R.after_blocks (R.after_numbers room.old params.now.lanes true) params.now.lanes true) }
@@ -46,7 +46,7 @@ pub fn reserve_from<R: Room>(room: &mut R, params: &Params) -> Result<Lanes, All
 {
     let count = params.lanes() as usize;
     let mut left = room.numbers(count)?;
-    let held = Held::new(room.blocks(count)?);
+    let held = WipedBlocks::new(room.blocks(count)?);
     left.fill(0);
     Ok(Lanes {
         params: params.copied(),

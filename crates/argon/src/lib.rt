@@ -36,7 +36,7 @@
 //! [`Params::is_independent`] says which segments these are.
 //!
 //! [`compression::compression`] is the compression function G alone, on any two blocks, and [`Matrix::as_blocks`] are
-//! those of the matrix. Who has a source of memory of their own, a [`Room`], takes a matrix from it by
+//! those of the matrix. Who has a source of memory of their own, a [`MatrixMemory`], takes a matrix from it by
 //! [`matrix::reserve_from`], and lanes by [`lanes::reserve_from`].
 #![tactic(auto)]
 
@@ -47,34 +47,34 @@ pub mod compression;
 mod fault;
 mod first_columns;
 mod four_lists;
-mod held;
 mod inputs;
 mod kind;
 pub mod lanes;
 pub mod matrix;
+mod matrix_memory;
 mod numbers;
 mod params;
 mod permutation;
 mod places;
 mod plan;
-mod room;
 mod segment;
 mod store_block;
 mod tag;
 mod ticks;
 mod weave;
+mod wiped_blocks;
 
 pub use block::{Block, write_xor, write_xor_over};
 pub use fault::ParamFault;
-pub use held::GrantedBlocks;
 pub use inputs::Inputs;
 pub use kind::Kind;
 pub use lanes::Lanes;
 pub use matrix::Matrix;
+pub use matrix_memory::MatrixMemory;
 pub use numbers::Numbers;
 pub use params::Params;
 pub use places::Place;
 pub use plan::plan_segment;
-pub use room::Room;
 pub use ticks::Ticks;
 pub use weave::Weave;
+pub use wiped_blocks::GrantedBlocks;

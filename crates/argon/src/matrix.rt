@@ -10,13 +10,13 @@ ghost use Rattle.argon.specs.Woven.{with_next_slice};
 use crate::block::Block;
 use crate::blocks::Blocks;
 use crate::first_columns::{first_hash, put_first_columns};
-use crate::held::Held;
 use crate::inputs::Inputs;
+use crate::matrix_memory::MatrixMemory;
 use crate::params::Params;
-use crate::room::Room;
 use crate::segment::fill_slice;
 use crate::tag::{write_tag, xor_last_column};
 use crate::ticks::Ticks;
+use crate::wiped_blocks::WipedBlocks;
 use std::alloc::{AllocError, Global};
 use std::marker::Model;
 
@@ -50,7 +50,7 @@ impl Model for Matrix {
 /// Takes the memory of a hash with these parameters from a source of your own: m' blocks of 1,024 bytes (RFC 9106, section
 /// 3.2, step 2), in one request. `AllocError` where it is refused, and then nothing is held. The matrix is not started,
 /// whatever stands in the blocks.
-pub fn reserve_from<R: Room>(room: &mut R, params: &Params) -> Result<Matrix, AllocError>
+pub fn reserve_from<R: MatrixMemory>(room: &mut R, params: &Params) -> Result<Matrix, AllocError>
     ensures asked { room.new ≡ R.after_blocks room.old (block_count params.now) (is_ok result) }
     ensures parameters { IfOk result (λ matrix. matrix.parameters ≡ params.now) }
     ensures size { IfOk result (λ matrix. length matrix.blocks ≡ block_count params.now) }
@@ -63,7 +63,7 @@ pub fn reserve_from<R: Room>(room: &mut R, params: &Params) -> Result<Matrix, Al
         is_started: false,
         slices_made: 0,
         blocks: Blocks {
-            held: Held::new(blocks),
+            held: WipedBlocks::new(blocks),
         },
     })
 }

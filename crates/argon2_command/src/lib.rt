@@ -8,10 +8,10 @@ mod bytes;
 mod line;
 mod output;
 mod password;
-mod room;
 mod run;
+mod run_memory;
 
 pub use argon2_words::Argon2Refusal;
 pub use bytes::Bytes;
-pub use room::Room;
 pub use run::{argon2, attempt};
+pub use run_memory::RunMemory;

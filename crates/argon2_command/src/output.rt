@@ -9,7 +9,7 @@ ghost use Rattle.argon2_words.specs.RequestView.{request_of};
 use crate::bytes::Bytes;
 use crate::line::put_tag;
 use crate::password::Password;
-use crate::room::Room;
+use crate::run_memory::RunMemory;
 use argon::{Inputs, Matrix, Params, Ticks};
 use argon2_words::{Argon2Refusal, Request};
 use std::alloc::AllocError;
@@ -62,7 +62,7 @@ fn hash_into(
 
 /// The whole output of a run, with its line feed. All memory is taken before the hash: until then the
 /// line is that of a tag of zeros.
-pub fn output<R: Room>(
+pub fn output<R: RunMemory>(
     room: &mut R,
     request: &Request<'_>,
     password: &Password,

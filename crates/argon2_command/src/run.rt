@@ -16,14 +16,14 @@ ghost use Rattle.argon2_words.specs.declared.refusal.Argon2Refusal.{Argon2Refusa
 use crate::bytes::Bytes;
 use crate::output::{output, parameters};
 use crate::password::read_password;
-use crate::room::Room;
+use crate::run_memory::RunMemory;
 use argon::Ticks;
 use argon2_words::{Argon2Refusal, read_request};
 use host::{Host, refuse, write_output};
 use std::alloc::Global;
 
 // Reads the words and the password, and makes the whole output.
-fn prepare<R: Room, H: Host>(
+fn prepare<R: RunMemory, H: Host>(
     room: &mut R,
     words: &[String],
     host: &mut H,
@@ -80,7 +80,7 @@ fn prepare<R: Room, H: Host>(
 ///
 /// `ticks` counts the block functions: none where a fault comes before the output, and the work of the
 /// request's hash after success or `OutputFault`.
-pub fn attempt<R: Room, H: Host>(
+pub fn attempt<R: RunMemory, H: Host>(
     room: &mut R,
     words: &[String],
     host: &mut H,

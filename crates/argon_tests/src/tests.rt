@@ -14,8 +14,8 @@ mod version_0x10;
 use argon::compression::{Scratch, compression};
 use argon::matrix::reserve_from;
 use argon::{
-    Block, GrantedBlocks, Inputs, Kind, Lanes, Matrix, Numbers, ParamFault, Params, Place, Room,
-    Ticks, lanes, plan_segment, write_xor, write_xor_over,
+    Block, GrantedBlocks, Inputs, Kind, Lanes, Matrix, MatrixMemory, Numbers, ParamFault, Params,
+    Place, Ticks, lanes, plan_segment, write_xor, write_xor_over,
 };
 use reference_tags::{LONGER_RUNS, LONGEST, OTHER_RUNS, RUNS, Row};
 use std::alloc::{AllocError, Global};
@@ -465,7 +465,7 @@ impl Refusing {
     }
 }
 
-impl Room for Refusing {
+impl MatrixMemory for Refusing {
     ghost after_blocks = { λ room _ _. record room { left = room.left - 1; unasked = room.unasked - 1 } };
 
     ghost after_numbers = { λ room _ _. record room { left = room.left - 1; unasked = room.unasked - 1 } };

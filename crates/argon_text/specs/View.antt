@@ -1,6 +1,6 @@
 -- What contracts see of this crate's types.
 use Rattle.argon_text.specs.Value.{Value}
-use Rattle.argon_text.specs.declared.claim.Claim.{Claim}
+use Rattle.argon_text.specs.declared.hash_view.HashView.{HashView}
 use Rattle.argon_text.specs.declared.encoded.Encoded.{Encoded}
 
 -- the value of an `Encoded`, without where its bytes lie in memory
@@ -15,9 +15,9 @@ value_of e = record {
   tag = e.tag.items;
 }
 
--- the value of a `Claim`, by the bytes that are lent
-abbrev pub value_claimed : Claim → Value
-value_claimed claim = record {
+-- the value of a `HashView`, by the bytes that are lent
+abbrev pub value_viewed : HashView → Value
+value_viewed claim = record {
   kind = claim.kind;
   version = claim.version;
   memory = claim.memory;

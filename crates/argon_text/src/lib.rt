@@ -12,7 +12,7 @@
 //! ```
 //! let text = b"$argon2i$v=19$m=256,t=2,p=1$c29tZXNhbHQ$iekCn0Y3spW+sCcFanM2xBT63UP2sghkUoHLIUpWRS8";
 //! let encoded = Encoded::read(alloc, text)?;
-//! let claim = Claim::of(&encoded);
+//! let claim = HashView::of(&encoded);
 //! let mut room = alloc;
 //! let mut ticks = Ticks::new(alloc);
 //! assert!(rt; verify(&mut room, &claim, b"password", 256, 526, &mut ticks)?);
@@ -23,25 +23,25 @@
 //! ```
 #![tactic(auto)]
 
-mod claim;
 mod encoded;
 mod fault;
 mod fields;
+mod hash_memory;
+mod hash_view;
 mod range;
 mod read;
 mod read_room;
-mod room;
 mod settings;
 mod text_room;
 mod verify_password;
 
-pub use claim::Claim;
 pub use encoded::{Encoded, put_tag};
 pub use fault::{ReadFault, VerifyFault};
+pub use hash_memory::HashMemory;
+pub use hash_view::HashView;
 pub use range::{RangeFault, range_fault};
 pub use read::read_from;
 pub use read_room::ReadRoom;
-pub use room::Room;
 pub use settings::Settings;
 pub use text_room::TextRoom;
 pub use verify_password::{verify, verify_keyed};

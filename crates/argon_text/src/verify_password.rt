@@ -3,12 +3,12 @@ ghost use Rattle.std.specs.Prelude.{◌≡◌, ◌≢◌, ◌+◌, ◌<◌, ◌^
 ghost use Rattle.argon.specs.Counts.{work};
 ghost use Rattle.argon.specs.Range.{admission};
 ghost use Rattle.argon_text.specs.Verifying.{IsToldFault, keyed_fault, keyed_tag, parameters_with, tag_of_password, verify_fault};
-ghost use Rattle.argon_text.specs.View.{value_claimed};
+ghost use Rattle.argon_text.specs.View.{value_viewed};
 
-use crate::claim::Claim;
 use crate::fault::VerifyFault;
+use crate::hash_memory::HashMemory;
+use crate::hash_view::HashView;
 use crate::range::is_between;
-use crate::room::Room;
 use argon::{Inputs, ParamFault, Params, Ticks};
 use comparison::are_same;
 use std::alloc::AllocError;
@@ -22,30 +22,30 @@ use std::alloc::AllocError;
 /// functions of the one hash.
 /// The faults, by their numbers, the first that holds: 6 where the password has not 1 to 127 bytes, 7 where `max_kib` is
 /// too little, 8 where `max_ops` is, 9 where memory was refused.
-pub fn verify<R: Room>(
+pub fn verify<R: HashMemory>(
     room: &mut R,
-    claim: &Claim<'_>,
+    claim: &HashView<'_>,
     password: &[u8],
     max_kib: u32,
     max_ops: u64,
     ticks: &mut Ticks,
 ) -> Result<bool, VerifyFault>
     ensures answer { IfOk result (λ same. IsTrue same
-        ↔ tag_of_password (value_claimed claim.now) password.now ≡ claim.now.tag.now) }
+        ↔ tag_of_password (value_viewed claim.now) password.now ≡ claim.now.tag.now) }
     // There is an answer only where the password's length and both limits are kept.
-    ensures admitted { IfOk result (λ _. verify_fault (value_claimed claim.now) password.now max_kib max_ops ≡ None) }
+    ensures admitted { IfOk result (λ _. verify_fault (value_viewed claim.now) password.now max_kib max_ops ≡ None) }
     // What is told is the first that holds, and memory was asked for where none does.
-    ensures fault { IfErr result (IsToldFault (verify_fault (value_claimed claim.now) password.now max_kib max_ops)) }
+    ensures fault { IfErr result (IsToldFault (verify_fault (value_viewed claim.now) password.now max_kib max_ops)) }
     // Nothing is asked of the source of memory before every other refusal is ruled out.
     ensures unasked { IfErr result (λ fault. fault ≢ VerifyFault.OutOfMemory → room.new ≡ room.old) }
     // And then the matrix alone, under the caller's own limits; want of memory is told where that was refused.
     ensures asked { IfOk result (λ _. room.new ≡ R.after_matrix room.old
-        (parameters_with (value_claimed claim.now) password.now) max_kib max_ops true) }
+        (parameters_with (value_viewed claim.now) password.now) max_kib max_ops true) }
     ensures refused { IfErr result (λ fault. fault ≡ VerifyFault.OutOfMemory → room.new ≡ R.after_matrix room.old
-        (parameters_with (value_claimed claim.now) password.now) max_kib max_ops false) }
+        (parameters_with (value_viewed claim.now) password.now) max_kib max_ops false) }
     // No block function is run before every refusal is ruled out, that of memory too, and then those of one hash.
     ensures no_work { IfErr result (λ _. ticks.new ≡ ticks.old) }
-    ensures count { IfOk result (λ _. ticks.new ≡ ticks.old + work (parameters_with (value_claimed claim.now) password.now)) }
+    ensures count { IfOk result (λ _. ticks.new ≡ ticks.old + work (parameters_with (value_viewed claim.now) password.now)) }
 {
     if !is_between(1, password.len() as u64, 127) {
         return Err(VerifyFault::PasswordLength);
@@ -59,9 +59,9 @@ pub fn verify<R: Room>(
 /// and all of them are read once, so the time of a call grows with their number: a service bounds the length of what a
 /// stranger sends before it calls. All else is as for `verify`, and one fault more: 12 where the secret or the data is
 /// 2^32 bytes or longer, after 6 and before 7.
-pub fn verify_keyed<R: Room>(
+pub fn verify_keyed<R: HashMemory>(
     room: &mut R,
-    claim: &Claim<'_>,
+    claim: &HashView<'_>,
     password: &[u8],
     secret: &[u8],
     associated: &[u8],
@@ -70,23 +70,23 @@ pub fn verify_keyed<R: Room>(
     ticks: &mut Ticks,
 ) -> Result<bool, VerifyFault>
     ensures answer { IfOk result (λ same. IsTrue same
-        ↔ keyed_tag (value_claimed claim.now) password.now secret.now associated.now ≡ claim.now.tag.now) }
+        ↔ keyed_tag (value_viewed claim.now) password.now secret.now associated.now ≡ claim.now.tag.now) }
     // There is an answer only where the lengths and both limits are kept.
     ensures admitted { IfOk result (λ _.
-        keyed_fault (value_claimed claim.now) password.now (length secret.now) (length associated.now) max_kib max_ops ≡ None) }
+        keyed_fault (value_viewed claim.now) password.now (length secret.now) (length associated.now) max_kib max_ops ≡ None) }
     // What is told is the first that holds, and memory was asked for where none does.
     ensures fault { IfErr result (IsToldFault
-        (keyed_fault (value_claimed claim.now) password.now (length secret.now) (length associated.now) max_kib max_ops)) }
+        (keyed_fault (value_viewed claim.now) password.now (length secret.now) (length associated.now) max_kib max_ops)) }
     // Nothing is asked of the source of memory before every other refusal is ruled out.
     ensures unasked { IfErr result (λ fault. fault ≢ VerifyFault.OutOfMemory → room.new ≡ room.old) }
     // And then the matrix alone, under the caller's own limits; want of memory is told where that was refused.
     ensures asked { IfOk result (λ _. room.new ≡ R.after_matrix room.old
-        (parameters_with (value_claimed claim.now) password.now) max_kib max_ops true) }
+        (parameters_with (value_viewed claim.now) password.now) max_kib max_ops true) }
     ensures refused { IfErr result (λ fault. fault ≡ VerifyFault.OutOfMemory → room.new ≡ R.after_matrix room.old
-        (parameters_with (value_claimed claim.now) password.now) max_kib max_ops false) }
+        (parameters_with (value_viewed claim.now) password.now) max_kib max_ops false) }
     // No block function is run before every refusal is ruled out, that of memory too, and then those of one hash.
     ensures no_work { IfErr result (λ _. ticks.new ≡ ticks.old) }
-    ensures count { IfOk result (λ _. ticks.new ≡ ticks.old + work (parameters_with (value_claimed claim.now) password.now)) }
+    ensures count { IfOk result (λ _. ticks.new ≡ ticks.old + work (parameters_with (value_viewed claim.now) password.now)) }
 {
     let params = params_of(claim, password)?;
     if secret.len() > 0xFFFF_FFFF || associated.len() > 0xFFFF_FFFF {
@@ -113,8 +113,8 @@ pub fn verify_keyed<R: Room>(
 }
 
 // The parameters of the hash. All but the password's length are in range.
-fn params_of(claim: &Claim<'_>, password: &[u8]) -> Result<Params, VerifyFault>
-    ensures parameters { IfOk result (λ params. params ≡ parameters_with (value_claimed claim.now) password.now) }
+fn params_of(claim: &HashView<'_>, password: &[u8]) -> Result<Params, VerifyFault>
+    ensures parameters { IfOk result (λ params. params ≡ parameters_with (value_viewed claim.now) password.now) }
     ensures admitted { IfOk result (λ _. nat_le (length password.now) 0xFFFFFFFF ≡ true) }
     ensures fault { IfErr result (λ fault. (nat_le (length password.now) 0xFFFFFFFF ≡ false)
         × (fault ≡ VerifyFault.PasswordLength)) }
@@ -135,10 +135,10 @@ fn params_of(claim: &Claim<'_>, password: &[u8]) -> Result<Params, VerifyFault>
 }
 
 // Writes the tag of these inputs, under parameters that the limits admit.
-fn write_tag<R: Room>(
+fn write_tag<R: HashMemory>(
     room: &mut R,
     params: &Params,
-    claim: &Claim<'_>,
+    claim: &HashView<'_>,
     inputs: &Inputs<'_>,
     max_kib: u32,
     max_ops: u64,
@@ -146,12 +146,12 @@ fn write_tag<R: Room>(
     ticks: &mut Ticks,
 ) -> Result<(), AllocError>
     requires admitted { admission params.now max_kib max_ops ≡ Ok tt }
-    requires parameters { params.now ≡ parameters_with (value_claimed claim.now) inputs.now.password.now }
+    requires parameters { params.now ≡ parameters_with (value_viewed claim.now) inputs.now.password.now }
     requires salt { inputs.now.salt.now ≡ claim.now.salt.now }
     requires secret { length inputs.now.secret.now < 2 ^ 32 }
     requires associated { length inputs.now.associated.now < 2 ^ 32 }
     requires size { length out.old ≡ length claim.now.tag.now }
-    ensures tag { OnOk result (out.new ≡ keyed_tag (value_claimed claim.now) inputs.now.password.now
+    ensures tag { OnOk result (out.new ≡ keyed_tag (value_viewed claim.now) inputs.now.password.now
         inputs.now.secret.now inputs.now.associated.now) }
     ensures asked { OnOk result (room.new ≡ R.after_matrix room.old params.now max_kib max_ops true) }
     ensures refused { OnErr result (room.new ≡ R.after_matrix room.old params.now max_kib max_ops false) }

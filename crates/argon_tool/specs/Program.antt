@@ -6,7 +6,7 @@ use Rattle.host.specs.Seen.{Seen, Text}
 use Rattle.argon2_command.specs.Run.{Refuses, Succeeds}
 use Rattle.argon2_words.specs.Refusal.{line_of}
 use Rattle.argon2_words.specs.declared.refusal.Argon2Refusal.TheVariants as refusal
-use Rattle.tools.specs.Held.{Leaves, host_over}
+use Rattle.tools.specs.RunState.{Leaves, host_over}
 use Rattle.tools.specs.Words.{LacksText}
 use Rattle.tools.specs.World.{World}
 use Rattle.tools.specs.declared.arguments.WordsFault.TheVariants as words_fault

@@ -10,8 +10,8 @@ ghost use Rattle.encfile.specs.Decrypting.{Decrypts, HasRead};
 
 use crate::fault::{Damaged, TooLong, WrongPassphrase};
 use crate::header::Header;
-use crate::held::Held;
 use crate::keys::{derived_key, final_code, header_code, key_stream, running_code};
+use crate::tail::Tail;
 use aes_ctr::Ctr;
 use comparison::are_same;
 use macs::Hmac;
@@ -31,7 +31,7 @@ const REST_LIMIT: u64 = (1 << 60) + 32;
 pub struct Dec {
     ctr: Ctr,
     hmac: Hmac,
-    held: Held,
+    held: Tail,
 }
 
 impl Dec {
@@ -42,7 +42,7 @@ impl Dec {
         Dec {
             ctr: key_stream(keys),
             hmac: running_code(keys, front),
-            held: Held::new(),
+            held: Tail::new(),
         }
     }
 

@@ -51,8 +51,8 @@ mod enc;
 mod fault;
 mod header;
 mod header_bytes;
-mod held;
 mod keys;
+mod tail;
 
 pub use dec::Dec;
 pub use enc::Enc;

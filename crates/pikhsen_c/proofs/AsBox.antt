@@ -37,10 +37,10 @@ abbrev pub E : Bx
 E = record { row = X; laws = LX; al = record { row = A; laws = LA; g = ghosts; d = dict; drops = nothing-to-drop A } }
 
 -- what a full handle has
-pub record Held {X : Type 0} (m : Option X) : Type 0 where
+pub record Full {X : Type 0} (m : Option X) : Type 0 where
   pub value : X
   pub same : m ≡ Some value
 
-pub held : {X : Type 0} (m : Option X) → is_some m ≡ true → Held m
+pub held : {X : Type 0} (m : Option X) → is_some m ≡ true → Full m
 held (Some x) full = record { value = x; same = refl }
 held None full = absurd (false≢true full)

@@ -1,5 +1,5 @@
--- What a call asked of the heap, and how much work it did, by the number that it answers. Each call of `Room` or
--- `Source` is one request: how many of each kind were granted, and refused.
+-- What a call asked of the heap, and how much work it did, by the number that it answers. Each call of `HashMemory` or
+-- `CallMemory` is one request: how many of each kind were granted, and refused.
 use Rattle.std.specs.Prelude.{◌≡◌, ◌≢◌, ◌⊎◌, ℕ, ◌+◌, Bool, true, false, List, None}
 use Rattle.argon_text.specs.EncodedText.{IsTextOf}
 use Rattle.argon_text.specs.Value.{IsValue, Value}

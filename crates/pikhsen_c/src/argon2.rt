@@ -11,10 +11,10 @@ ghost use Rattle.pikhsen_c.specs.Inside.Numbers.{IsEarly, number_told};
 ghost use Rattle.pikhsen_c.specs.Inside.Settings.{parameters_of};
 ghost use Rattle.pikhsen_c.specs.Status.{TellsFirst, out_of_memory};
 
-use crate::burning::{Told, burn};
+use crate::call_memory::CallMemory;
 use crate::machine::Machine;
-use crate::source::Source;
 use crate::status;
+use crate::wiping::{Answer, wipe_stack};
 use argon::{Inputs, Kind, Params, Ticks};
 
 /// What a caller sets, and the limits of what may be taken.
@@ -122,7 +122,7 @@ pub(crate) fn tested_hash(
 
 // The tag of these inputs, with memory from `source`: one request, for the matrix.
 #[inline(never)]
-fn hash_in<S: Source>(
+fn hash_in<S: CallMemory>(
     source: &mut S,
     settings: &Settings,
     inputs: &Inputs<'_>,
@@ -180,7 +180,7 @@ pub extern "C" fn pikhsen_argon2_hash(
     max_kib: u32,
     max_ops: u64,
     out: &mut [u8],
-) -> Told
+) -> Answer
     ensures tag { result.status ≡ 0 → out.new ≡ argon2_tag (parameters_given kind version passes lanes memory_kib
         (length out.old) (length salt.now) (length password.now))
         (inputs_given password.now salt.now secret.now associated.now) }
@@ -220,5 +220,5 @@ pub extern "C" fn pikhsen_argon2_hash(
         out,
         &mut machine.blocks,
     );
-    burn(told, machine)
+    wipe_stack(told, machine)
 }

@@ -11,11 +11,11 @@ ghost use Rattle.pikhsen_c.specs.Message.{IsWritten};
 ghost use Rattle.pikhsen_c.specs.Status.{out_of_memory};
 
 use crate::argon2::{Settings, tested_hash};
-use crate::burning::{Told, burn};
+use crate::call_memory::CallMemory;
 use crate::machine::Machine;
-use crate::source::Source;
 use crate::status;
 use crate::text::Text;
+use crate::wiping::{Answer, wipe_stack};
 use argon::{Inputs, Matrix, Ticks};
 
 // Hashes, and writes the tag over the zeros of the text. It can ask for no memory.
@@ -66,7 +66,7 @@ pub(crate) fn copy_text(text: &[u8], out: &mut [u8])
 
 /// The encoded text of a password's hash, with memory from `source`: for the text, and then for the matrix.
 #[inline(never)]
-pub(crate) fn encode_in<S: Source>(
+pub(crate) fn encode_in<S: CallMemory>(
     source: &mut S,
     settings: &Settings,
     password: &[u8],
@@ -153,7 +153,7 @@ pub extern "C" fn pikhsen_argon2_encoded(
     max_ops: u64,
     out: &mut [u8],
     text_len: &mut usize,
-) -> Told
+) -> Answer
     ensures written { result.status ≡ 0 → IsWritten (encoded_hash (parameters_given kind version passes lanes
         memory_kib tag_len (length salt.now) (length password.now))
         password.now salt.now) text_len.new out.old out.new }
@@ -197,5 +197,5 @@ pub extern "C" fn pikhsen_argon2_encoded(
         text_len,
         &mut machine.blocks,
     );
-    burn(told, machine)
+    wipe_stack(told, machine)
 }

@@ -14,11 +14,11 @@ ghost use Rattle.pikhsen_c.specs.Inside.Settings.{ask_under, cores_of_settings, 
 ghost use Rattle.pikhsen_c.specs.Scrypt.{costs_given, sparse_given};
 ghost use Rattle.pikhsen_c.specs.Status.{TellsFirst, TellsFirstOrLate, damaged, long_text, wrong_passphrase};
 
-use crate::burning::{Told, burn};
+use crate::call_memory::CallMemory;
 use crate::machine::Machine;
 use crate::scrypt::{ScryptLimits, ScryptSettings, admitted, costs_of, workspace};
-use crate::source::Source;
 use crate::status;
+use crate::wiping::{Answer, wipe_stack};
 use encfile::{Dec, Enc, Header, TooLong};
 use romix::{Ticks, Workspace};
 
@@ -111,7 +111,7 @@ pub(crate) fn tested_encryption(
 
 /// The encryption of a text of this length, of which nothing is fed yet, with memory from `source`: one request. Or the
 /// number of what it is refused for.
-pub(crate) fn begun<S: Source>(
+pub(crate) fn begun<S: CallMemory>(
     source: &mut S,
     settings: &ScryptSettings,
     passphrase: &[u8],
@@ -185,7 +185,7 @@ fn put_file(enc: Enc, out: &mut [u8]) -> Result<(), TooLong>
 
 // The file of a text, which is given or lies at the front of `out`, with memory from `source`: one request.
 #[inline(never)]
-fn encrypt_in<S: Source>(
+fn encrypt_in<S: CallMemory>(
     source: &mut S,
     settings: &ScryptSettings,
     passphrase: &[u8],
@@ -233,7 +233,7 @@ pub extern "C" fn pikhsen_scrypt_encrypt(
     max_ops: u64,
     text: &[u8],
     out: &mut [u8],
-) -> Told
+) -> Answer
     ensures file { result.status ≡ 0
         → out.new ≡ encrypted_file passphrase.now salt.now (costs_given log_n r p) text.now }
     // Memory is asked for, and refused, only where nothing else is.
@@ -258,7 +258,7 @@ pub extern "C" fn pikhsen_scrypt_encrypt(
         out,
         &mut machine.cores,
     );
-    burn(told, machine)
+    wipe_stack(told, machine)
 }
 
 /// The file of the text that is all of `out` but its last 128 bytes, which need not be set. The file takes its place.
@@ -274,7 +274,7 @@ pub extern "C" fn pikhsen_scrypt_encrypt_in_place(
     max_bytes: u64,
     max_ops: u64,
     out: &mut [u8],
-) -> Told
+) -> Answer
     ensures file { result.status ≡ 0 → out.new ≡ encrypted_file passphrase.now salt.now (costs_given log_n r p)
         (take (length out.old - 128) out.old) }
     ensures first { TellsFirst (encrypt_status (costs_given log_n r p) keep max_bytes max_ops
@@ -297,7 +297,7 @@ pub extern "C" fn pikhsen_scrypt_encrypt_in_place(
         out,
         &mut machine.cores,
     );
-    burn(told, machine)
+    wipe_stack(told, machine)
 }
 
 // The first 96 bytes of a file.
@@ -325,7 +325,7 @@ pub(crate) fn tested_opening(file: &[u8], limits: &ScryptLimits) -> Result<(), u
 }
 
 // The header of a file, and the memory of the derivation that opens it; or the number of what the file is refused for.
-fn memory_to_open<S: Source>(
+fn memory_to_open<S: CallMemory>(
     source: &mut S,
     limits: &ScryptLimits,
     file: &[u8],
@@ -354,7 +354,7 @@ fn memory_to_open<S: Source>(
 }
 
 /// A decryption after the first 96 bytes of a file, or the number of what the file is refused for.
-pub(crate) fn opened<S: Source>(
+pub(crate) fn opened<S: CallMemory>(
     source: &mut S,
     limits: &ScryptLimits,
     passphrase: &[u8],
@@ -432,7 +432,7 @@ fn clear_after(len: usize, out: &mut [u8])
 
 // The text of a file, with memory from `source`: one request.
 #[inline(never)]
-fn decrypt_in<S: Source>(
+fn decrypt_in<S: CallMemory>(
     source: &mut S,
     limits: &ScryptLimits,
     passphrase: &[u8],
@@ -498,7 +498,7 @@ pub extern "C" fn pikhsen_scrypt_decrypt(
     file: &[u8],
     out: &mut [u8],
     text_len: &mut usize,
-) -> Told
+) -> Answer
     ensures whole { result.status ≡ 0 → IsEncryptionOf file.now passphrase.now (take text_len.new out.new) }
     ensures rest { result.status ≡ 0 → drop text_len.new out.new ≡ replicate (length out.old - text_len.new) 0 }
     ensures nothing { result.status ≢ 0 → text_len.new ≡ 0 }
@@ -537,5 +537,5 @@ pub extern "C" fn pikhsen_scrypt_decrypt(
         text_len,
         &mut machine.cores,
     );
-    burn(told, machine)
+    wipe_stack(told, machine)
 }

@@ -4,12 +4,12 @@ ghost use Rattle.argon.specs.Range.{IsInRangeWithAnyPassword};
 ghost use Rattle.pikhsen_c.specs.Argon2.{text_of_zeros};
 ghost use Rattle.pikhsen_c.specs.Heap.{asked_for_matrix, asked_for_state, asked_for_text, asked_for_workspace, asked_to_read, one_more};
 
+use crate::call_memory::CallMemory;
 use crate::reading::Reading;
-use crate::source::Source;
 use crate::stream::{PikhsenStream, Running};
 use crate::text::Text;
 use argon::{Matrix, Params};
-use argon_text::{Encoded, ReadFault, Room};
+use argon_text::{Encoded, HashMemory, ReadFault};
 use counter::Count;
 use romix::{Sparse, Workspace};
 use std::alloc::{AllocError, Global};
@@ -22,7 +22,7 @@ pub struct Requests {
     refused: Count,
 }
 
-/// The heap, and how many requests of each kind it granted and refused, each call of `Room` and `Source` being one. It
+/// The heap, and how many requests of each kind it granted and refused, each call of `HashMemory` and `CallMemory` being one. It
 /// takes no bytes. No code but this file makes one, or takes the allocator out of it.
 #[repr(C)]
 #[derive(Drop)]
@@ -72,7 +72,7 @@ impl Heap {
     }
 }
 
-impl Room for Heap {
+impl HashMemory for Heap {
     ghost after_matrix = { λ heap _ _ _ granted. asked_for_matrix heap granted };
 
     fn matrix(
@@ -87,7 +87,7 @@ impl Room for Heap {
     }
 }
 
-impl Source for Heap {
+impl CallMemory for Heap {
     ghost after_text = { λ heap _ _ granted. asked_for_text heap granted };
 
     ghost after_workspace = { λ heap _ _ _ granted. asked_for_workspace heap granted };

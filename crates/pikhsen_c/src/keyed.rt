@@ -8,10 +8,10 @@ ghost use Rattle.pikhsen_c.specs.Message.{IsWritten};
 ghost use Rattle.pikhsen_c.specs.Status.{out_of_memory};
 
 use crate::argon2::Settings;
-use crate::burning::{Told, burn};
 use crate::encoded::encode_in;
 use crate::machine::Machine;
 use crate::verifying::verify_in;
+use crate::wiping::{Answer, wipe_stack};
 
 /// The encoded text of a password's hash with a secret value and associated data, as `pikhsen_argon2_encoded` gives it
 /// without.
@@ -32,7 +32,7 @@ pub extern "C" fn pikhsen_argon2_encoded_keyed(
     max_ops: u64,
     out: &mut [u8],
     text_len: &mut usize,
-) -> Told
+) -> Answer
     ensures written { result.status ≡ 0 → IsWritten (encoded_keyed_hash (parameters_given kind version passes lanes
         memory_kib tag_len (length salt.now) (length password.now))
         password.now salt.now secret.now associated.now) text_len.new out.old out.new }
@@ -79,7 +79,7 @@ pub extern "C" fn pikhsen_argon2_encoded_keyed(
         text_len,
         &mut machine.blocks,
     );
-    burn(told, machine)
+    wipe_stack(told, machine)
 }
 
 /// Whether the password is that of an encoded text, with the secret value and the associated data of its hash: 0 where
@@ -94,7 +94,7 @@ pub extern "C" fn pikhsen_argon2_verify_keyed(
     associated: &[u8],
     max_kib: u32,
     max_ops: u64,
-) -> Told
+) -> Answer
     ensures verdict { IsVerdict text.now password.now secret.now associated.now max_kib max_ops result.status }
     // There is no other number.
     ensures number { IsVerifyNumber result.status }
@@ -116,5 +116,5 @@ pub extern "C" fn pikhsen_argon2_verify_keyed(
         max_ops,
         &mut machine.blocks,
     );
-    burn(told, machine)
+    wipe_stack(told, machine)
 }

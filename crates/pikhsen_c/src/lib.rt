@@ -6,7 +6,7 @@
 #![tactic(auto)]
 
 mod argon2;
-mod burning;
+mod call_memory;
 mod encoded;
 mod file;
 mod heap;
@@ -16,7 +16,6 @@ mod message;
 mod reading;
 mod scrypt;
 mod settings;
-mod source;
 mod status;
 mod stream;
 mod streaming;
@@ -24,9 +23,9 @@ mod text;
 mod vectors;
 mod verifying;
 mod version;
+mod wiping;
 
 pub use argon2::pikhsen_argon2_hash;
-pub use burning::Told;
 pub use encoded::pikhsen_argon2_encoded;
 pub use file::{
     PikhsenScryptCosts, pikhsen_scrypt_decrypt, pikhsen_scrypt_encrypt,
@@ -46,3 +45,4 @@ pub use streaming::{
 };
 pub use verifying::pikhsen_argon2_verify;
 pub use version::pikhsen_version;
+pub use wiping::Answer;

@@ -1,7 +1,7 @@
 //! What was read of a text, whose lists are not lent.
 ghost use Rattle.std.specs.Prelude.{◌≡◌};
 
-use argon_text::{Claim, Encoded, Settings};
+use argon_text::{Encoded, HashView, Settings};
 
 /// What was read of a text. It lends salt and tag as bytes alone: a list would lend its allocator, so whoever had it
 /// could take memory, or make a counter, beside the source.
@@ -12,7 +12,7 @@ pub(crate) struct Reading {
 
 impl Reading {
     ghost use Rattle.argon_text.specs.Settings.{settings_of};
-    ghost use Rattle.argon_text.specs.View.{value_claimed, value_of};
+    ghost use Rattle.argon_text.specs.View.{value_viewed, value_of};
 
     /// What was read.
     pub(crate) fn new(encoded: Encoded) -> Reading
@@ -22,10 +22,10 @@ impl Reading {
     }
 
     /// What it lends to the test of a password.
-    pub(crate) fn claim(&self) -> Claim<'_>
-        ensures value { value_claimed result ≡ value_of self.now.encoded }
+    pub(crate) fn claim(&self) -> HashView<'_>
+        ensures value { value_viewed result ≡ value_of self.now.encoded }
     {
-        Claim::of(&self.encoded)
+        HashView::of(&self.encoded)
     }
 
     /// The settings that the text says.

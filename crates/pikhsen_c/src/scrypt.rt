@@ -9,10 +9,10 @@ ghost use Rattle.pikhsen_c.specs.Inside.Settings.{ask_under, cores_of_settings, 
 ghost use Rattle.pikhsen_c.specs.Scrypt.{costs_given, costs_status, scrypt_status, sparse_given};
 ghost use Rattle.pikhsen_c.specs.Status.{TellsFirst};
 
-use crate::burning::{Told, burn};
+use crate::call_memory::CallMemory;
 use crate::machine::Machine;
-use crate::source::Source;
 use crate::status;
+use crate::wiping::{Answer, wipe_stack};
 use romix::{Costs, Limits, Sparse, Ticks, Workspace};
 
 // No more bytes are asked for, whatever the limit of a caller.
@@ -98,7 +98,7 @@ pub(crate) fn admitted(costs: &Costs, limits: &ScryptLimits) -> Result<Sparse, u
 }
 
 /// Takes the memory of a derivation that the limits admit; or the number of what it is refused for.
-pub(crate) fn workspace<S: Source>(
+pub(crate) fn workspace<S: CallMemory>(
     source: &mut S,
     costs: &Costs,
     limits: &ScryptLimits,
@@ -122,7 +122,7 @@ pub(crate) fn workspace<S: Source>(
 
 // The key of a password, with memory from `source`: one request.
 #[inline(never)]
-fn derive_in<S: Source>(
+fn derive_in<S: CallMemory>(
     source: &mut S,
     settings: &ScryptSettings,
     password: &[u8],
@@ -170,7 +170,7 @@ pub extern "C" fn pikhsen_scrypt(
     max_bytes: u64,
     max_ops: u64,
     out: &mut [u8],
-) -> Told
+) -> Answer
     ensures key { result.status ≡ 0 → out.new ≡ scrypt password.now salt.now (2 ^ log_n) r p (length out.old) }
     // Memory is asked for, and refused, only where nothing else is.
     ensures first { TellsFirst (scrypt_status (costs_given log_n r p) keep max_bytes max_ops (length out.old))
@@ -193,5 +193,5 @@ pub extern "C" fn pikhsen_scrypt(
         out,
         &mut machine.cores,
     );
-    burn(told, machine)
+    wipe_stack(told, machine)
 }

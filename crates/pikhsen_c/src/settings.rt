@@ -7,11 +7,11 @@ ghost use Rattle.pikhsen_c.specs.Inside.Numbers.{had_memory, had_memory_to_read}
 ghost use Rattle.pikhsen_c.specs.Settings.{HasSettings, IsCompared, IsOutOfRange, IsReadingOf, settings_told};
 ghost use Rattle.pikhsen_c.specs.Status.{not_encoded, out_of_memory};
 
-use crate::burning::{Told, burn};
+use crate::call_memory::CallMemory;
 use crate::machine::Machine;
 use crate::reading::Reading;
-use crate::source::Source;
 use crate::status;
+use crate::wiping::{Answer, wipe_stack};
 use argon_text::{ReadFault, range_fault};
 
 /// What an encoded text says but for the bytes of its salt and its tag, of which it has the lengths.
@@ -86,7 +86,11 @@ fn why_not(text: &[u8], fault: ReadFault) -> u32
 }
 
 // The settings of a text, with memory from `source`: for its salt and its tag.
-fn settings_in<S: Source>(source: &mut S, text: &[u8], settings: &mut PikhsenArgon2Settings) -> u32
+fn settings_in<S: CallMemory>(
+    source: &mut S,
+    text: &[u8],
+    settings: &mut PikhsenArgon2Settings,
+) -> u32
     ensures found { result ≡ 0 → HasSettings text.now settings.new }
     ensures reading { IsReadingOf text.now result }
     ensures untouched { result ≢ 0 → settings.new ≡ settings.old }
@@ -108,7 +112,7 @@ pub extern "C" fn pikhsen_argon2_settings(
     machine: Machine,
     text: &[u8],
     settings: &mut PikhsenArgon2Settings,
-) -> Told
+) -> Answer
     ensures found { result.status ≡ 0 → HasSettings text.now settings.new }
     ensures reading { IsReadingOf text.now result.status }
     ensures untouched { result.status ≢ 0 → settings.new ≡ settings.old }
@@ -119,11 +123,11 @@ pub extern "C" fn pikhsen_argon2_settings(
 {
     let mut machine = machine;
     let told = settings_in(&mut machine.heap, text, settings);
-    burn(told, machine)
+    wipe_stack(told, machine)
 }
 
 // Whether a text has these settings, with memory from `source`: for its salt and its tag.
-fn needs_rehash_in<S: Source>(
+fn needs_rehash_in<S: CallMemory>(
     source: &mut S,
     text: &[u8],
     wanted: &PikhsenArgon2Settings,
@@ -152,7 +156,7 @@ pub extern "C" fn pikhsen_argon2_needs_rehash(
     text: &[u8],
     wanted: &PikhsenArgon2Settings,
     needs: &mut u32,
-) -> Told
+) -> Answer
     ensures compared { result.status ≡ 0 → IsCompared text.now wanted.now needs.new }
     ensures reading { IsReadingOf text.now result.status }
     ensures untouched { result.status ≢ 0 → needs.new ≡ needs.old }
@@ -163,5 +167,5 @@ pub extern "C" fn pikhsen_argon2_needs_rehash(
 {
     let mut machine = machine;
     let told = needs_rehash_in(&mut machine.heap, text, wanted, needs);
-    burn(told, machine)
+    wipe_stack(told, machine)
 }

@@ -3,8 +3,8 @@ ghost use Rattle.std.specs.Prelude.{◌≡◌, Option, Some, None, is_some, repl
 ghost use Rattle.pikhsen_c.specs.Inside.Running.{is_decryption, is_encryption, kept_is};
 ghost use Rattle.pikhsen_c.specs.declared.stream.Running.{Running};
 
-use crate::burning::are_zeros;
 use crate::status::OUT_OF_MEMORY;
+use crate::wiping::are_zeros;
 use encfile::{Dec, Enc};
 use std::alloc::Global;
 use std::marker::Model;
@@ -31,7 +31,7 @@ impl Running {
     }
 
     /// Frees a box of zeros, and hands an answer on. No contract sees memory that is free, and the compiler may leave
-    /// out a write that nothing reads. So the zeros are read again, and the answer hangs on them, as that of `burn`
+    /// out a write that nothing reads. So the zeros are read again, and the answer hangs on them, as that of `wipe_stack`
     /// does.
     #[inline(never)]
     pub(crate) fn free(boxed: Box<Running, Global>, told: u32) -> u32

@@ -10,13 +10,13 @@ ghost use Rattle.pikhsen_c.specs.Scrypt.{costs_given, sparse_given};
 ghost use Rattle.pikhsen_c.specs.Status.{TellsFirst, TellsFirstOrLate, damaged, long_text, no_stream, wrong_buffer, wrong_passphrase};
 ghost use Rattle.pikhsen_c.specs.Stream.{AreLast, AreNext, Encrypts, FeedsOn, FeedsWhatFits, HasFed, HasGot, IsAsBefore, IsDamaged, IsReleased, IsWhole, Reads, ReadsOn, ReadsWhatFits, decrypt_start_status, encrypt_start_status};
 
-use crate::burning::{Told, burn};
 use crate::file::{begun, opened, tested_encryption, tested_opening};
 use crate::heap::Heap;
 use crate::machine::Machine;
 use crate::scrypt::{ScryptLimits, ScryptSettings};
 use crate::status;
 use crate::stream::{DECRYPTION, ENCRYPTION, PikhsenStream, Running};
+use crate::wiping::{Answer, wipe_stack};
 use romix::Ticks;
 use std::alloc::Global;
 
@@ -75,7 +75,7 @@ pub extern "C" fn pikhsen_scrypt_encrypt_start(
     max_ops: u64,
     stream: &mut PikhsenStream,
     head: &mut [u8],
-) -> Told
+) -> Answer
     ensures begun { result.status ≡ 0 → HasFed stream.new passphrase.now salt.now (costs_given log_n r p) [] }
     ensures head { result.status ≡ 0 → head.new ≡ body passphrase.now salt.now (costs_given log_n r p) [] }
     // Memory is asked for, and refused, only where nothing else is.
@@ -100,7 +100,7 @@ pub extern "C" fn pikhsen_scrypt_encrypt_start(
         head,
         &mut machine.cores,
     );
-    burn(told, machine)
+    wipe_stack(told, machine)
 }
 
 // Encrypts the next bytes of the text in place.
@@ -130,7 +130,7 @@ pub extern "C" fn pikhsen_scrypt_encrypt_feed(
     machine: Machine,
     stream: &mut PikhsenStream,
     bytes: &mut [u8],
-) -> Told
+) -> Answer
     ensures fed { result.status ≡ 0 → FeedsOn (HasFed stream.old) (HasFed stream.new) bytes.old }
     ensures written { result.status ≡ 0 → AreNext (HasFed stream.old) bytes.old bytes.new }
     ensures fits { FeedsWhatFits (HasFed stream.old) (length bytes.old) result.status }
@@ -146,7 +146,7 @@ pub extern "C" fn pikhsen_scrypt_encrypt_feed(
         told = encrypted(&mut boxed, bytes);
         *stream = PikhsenStream::of(ENCRYPTION, boxed);
     }
-    burn(told, machine)
+    wipe_stack(told, machine)
 }
 
 // Ends an encryption, and gives the last 32 bytes of its file.
@@ -170,7 +170,7 @@ pub extern "C" fn pikhsen_scrypt_encrypt_finish(
     machine: Machine,
     stream: &mut PikhsenStream,
     code: &mut [u8],
-) -> Told
+) -> Answer
     ensures code { result.status ≡ 0 → AreLast (HasFed stream.old) code.new }
     ensures buffer { length code.old ≢ 32 → result.status ≡ wrong_buffer }
     ensures other { length code.old ≡ 32 → stream.old.runs ≢ 1 → result.status ≡ no_stream }
@@ -186,7 +186,7 @@ pub extern "C" fn pikhsen_scrypt_encrypt_finish(
     } else if stream.runs == ENCRYPTION {
         told = last_bytes(machine.heap.take(stream), code);
     }
-    burn(told, machine)
+    wipe_stack(told, machine)
 }
 
 // Begins a decryption, with two requests: for the stream's block, and then for the memory of the derivation.
@@ -242,7 +242,7 @@ pub extern "C" fn pikhsen_scrypt_decrypt_start(
     max_ops: u64,
     front: &[u8],
     stream: &mut PikhsenStream,
-) -> Told
+) -> Answer
     ensures begun { result.status ≡ 0 → HasGot stream.new passphrase.now (take 96 front.now) }
     ensures nothing { result.status ≡ 0 → released_text (take 96 front.now) passphrase.now ≡ [] }
     ensures right { result.status ≡ 0 → HasRightHeaderCode (take 96 front.now) passphrase.now }
@@ -271,7 +271,7 @@ pub extern "C" fn pikhsen_scrypt_decrypt_start(
         stream,
         &mut machine.cores,
     );
-    burn(told, machine)
+    wipe_stack(told, machine)
 }
 
 // Reads the next bytes of the file, and tells how many bytes of text are released.
@@ -310,7 +310,7 @@ pub extern "C" fn pikhsen_scrypt_decrypt_feed(
     piece: &[u8],
     out: &mut [u8],
     released: &mut usize,
-) -> Told
+) -> Answer
     ensures read { result.status ≡ 0 → ReadsOn (HasGot stream.old) (HasGot stream.new) piece.now }
     ensures released { result.status ≡ 0 → IsReleased (HasGot stream.old) piece.now (take released.new out.new) }
     ensures within { result.status ≡ 0 → released.new ≤ length piece.now }
@@ -335,7 +335,7 @@ pub extern "C" fn pikhsen_scrypt_decrypt_feed(
         told = decrypted(&mut boxed, piece, out, released);
         *stream = PikhsenStream::of(DECRYPTION, boxed);
     }
-    burn(told, machine)
+    wipe_stack(told, machine)
 }
 
 // Ends a decryption, and tells whether the file is an encryption of the text that was released.
@@ -361,7 +361,7 @@ fn judged(boxed: Box<Running, Global>) -> u32
 pub extern "C" fn pikhsen_scrypt_decrypt_finish(
     machine: Machine,
     stream: &mut PikhsenStream,
-) -> Told
+) -> Answer
     ensures whole { result.status ≡ 0 → IsWhole (HasGot stream.old) }
     ensures damaged { result.status ≡ damaged → IsDamaged (HasGot stream.old) }
     ensures other { stream.old.runs ≢ 2 → result.status ≡ no_stream }
@@ -374,7 +374,7 @@ pub extern "C" fn pikhsen_scrypt_decrypt_finish(
     if stream.runs == DECRYPTION {
         told = judged(machine.heap.take(stream));
     }
-    burn(told, machine)
+    wipe_stack(told, machine)
 }
 
 // Ends what runs in the box.
@@ -389,7 +389,7 @@ fn ended(boxed: Box<Running, Global>) -> u32
 
 /// Ends a stream in whatever state it is.
 #[unsafe(no_mangle)]
-pub extern "C" fn pikhsen_stream_free(machine: Machine, stream: &mut PikhsenStream) -> Told
+pub extern "C" fn pikhsen_stream_free(machine: Machine, stream: &mut PikhsenStream) -> Answer
     ensures done { result.status ≡ 0 }
     ensures over { stream.new.runs ≡ 0 }
     ensures machine { result.machine ≡ machine }
@@ -399,5 +399,5 @@ pub extern "C" fn pikhsen_stream_free(machine: Machine, stream: &mut PikhsenStre
         told = ended(machine.heap.take(stream));
     }
     stream.runs = 0;
-    burn(told, machine)
+    wipe_stack(told, machine)
 }

@@ -2,23 +2,23 @@
 ghost use Rattle.std.specs.Prelude.{◌≡◌, ◌≢◌, ◌≤◌, ◌<◌, [], None, length};
 ghost use Rattle.argon.specs.Counts.{work};
 ghost use Rattle.argon_text.specs.Verifying.{keyed_fault, keyed_tag, parameters_with};
-ghost use Rattle.argon_text.specs.View.{value_claimed};
+ghost use Rattle.argon_text.specs.View.{value_viewed};
 ghost use Rattle.pikhsen_c.specs.Argon2.{IsVerdict, IsVerifyNumber, WorksToVerify};
 ghost use Rattle.pikhsen_c.specs.Heap.{AsksToOpen, AsksToVerify, WorksToOpen, asked_for_matrix, asked_to_read};
 ghost use Rattle.pikhsen_c.specs.Inside.Numbers.{IsTold};
 ghost use Rattle.pikhsen_c.specs.Status.{long_input, mismatch};
 
-use crate::burning::{Told, burn};
+use crate::call_memory::CallMemory;
 use crate::machine::Machine;
-use crate::source::Source;
 use crate::status;
+use crate::wiping::{Answer, wipe_stack};
 use argon::Ticks;
-use argon_text::{Claim, verify_keyed};
+use argon_text::{HashView, verify_keyed};
 
 // What the test of a password answers, by its number.
-fn answered<S: Source>(
+fn answered<S: CallMemory>(
     source: &mut S,
-    claim: &Claim<'_>,
+    claim: &HashView<'_>,
     password: &[u8],
     secret: &[u8],
     associated: &[u8],
@@ -26,24 +26,24 @@ fn answered<S: Source>(
     max_ops: u64,
     ticks: &mut Ticks,
 ) -> u32
-    ensures admitted { result ≡ 0 → keyed_fault (value_claimed claim.now) password.now
+    ensures admitted { result ≡ 0 → keyed_fault (value_viewed claim.now) password.now
         (length secret.now) (length associated.now) max_kib max_ops ≡ None }
     ensures right { result ≡ 0
-        → keyed_tag (value_claimed claim.now) password.now secret.now associated.now ≡ claim.now.tag.now }
-    ensures admitted_if_wrong { result ≡ mismatch → keyed_fault (value_claimed claim.now) password.now
+        → keyed_tag (value_viewed claim.now) password.now secret.now associated.now ≡ claim.now.tag.now }
+    ensures admitted_if_wrong { result ≡ mismatch → keyed_fault (value_viewed claim.now) password.now
         (length secret.now) (length associated.now) max_kib max_ops ≡ None }
     ensures wrong { result ≡ mismatch
-        → keyed_tag (value_claimed claim.now) password.now secret.now associated.now ≡ claim.now.tag.now → ⊥ }
-    ensures first_fault { IsTold result (keyed_fault (value_claimed claim.now) password.now
+        → keyed_tag (value_viewed claim.now) password.now secret.now associated.now ≡ claim.now.tag.now → ⊥ }
+    ensures first_fault { IsTold result (keyed_fault (value_viewed claim.now) password.now
         (length secret.now) (length associated.now) max_kib max_ops) }
     ensures number { IsVerifyNumber result }
     ensures known { long_input < result → mismatch ≤ result }
     // Nothing is asked of the source before every other refusal is ruled out, and then the matrix alone, under the
     // caller's own limits; want of memory is told where that was refused.
     ensures asked { AsksToOpen (result ≡ mismatch) (S.after_matrix source.old
-        (parameters_with (value_claimed claim.now) password.now) max_kib max_ops) result source.old source.new }
+        (parameters_with (value_viewed claim.now) password.now) max_kib max_ops) result source.old source.new }
     // No block function is run before every refusal is ruled out, and then those of one hash.
-    ensures works { WorksToOpen (result ≡ mismatch) (work (parameters_with (value_claimed claim.now) password.now))
+    ensures works { WorksToOpen (result ≡ mismatch) (work (parameters_with (value_viewed claim.now) password.now))
         result ticks.old ticks.new }
 {
     match verify_keyed(
@@ -57,7 +57,7 @@ fn answered<S: Source>(
 
 /// The same of a text, with memory from `source`: for what the text says, and then for the hash.
 #[inline(never)]
-pub(crate) fn verify_in<S: Source>(
+pub(crate) fn verify_in<S: CallMemory>(
     source: &mut S,
     text: &[u8],
     password: &[u8],
@@ -96,7 +96,7 @@ pub extern "C" fn pikhsen_argon2_verify(
     password: &[u8],
     max_kib: u32,
     max_ops: u64,
-) -> Told
+) -> Answer
     ensures verdict { IsVerdict text.now password.now [] [] max_kib max_ops result.status }
     // There is no other number.
     ensures number { IsVerifyNumber result.status }
@@ -118,5 +118,5 @@ pub extern "C" fn pikhsen_argon2_verify(
         max_ops,
         &mut machine.blocks,
     );
-    burn(told, machine)
+    wipe_stack(told, machine)
 }

@@ -2,4 +2,4 @@
 pub mod Diagonals
 pub mod Lanes
 pub mod Table
-pub mod Held
+pub mod WipedWords

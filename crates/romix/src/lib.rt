@@ -29,7 +29,6 @@
 mod block_mix_by_rows;
 mod costs;
 mod fault;
-mod held;
 mod lanes;
 mod limits;
 mod parts;
@@ -39,16 +38,17 @@ mod salsa20;
 mod sparse;
 mod table;
 mod ticks;
+mod wiped_words;
 mod words;
 mod workspace;
 
 pub use block_mix_by_rows::block_mix;
 pub use costs::Costs;
 pub use fault::CostFault;
-pub use held::GrantedWords;
 pub use limits::Limits;
 pub use reservation::Reservation;
 pub use salsa20::salsa8;
 pub use sparse::Sparse;
 pub use ticks::Ticks;
+pub use wiped_words::GrantedWords;
 pub use workspace::{Workspace, reserve_from};

@@ -1,7 +1,7 @@
 //! Where the lists of a workspace come from.
 ghost use Rattle.std.specs.Prelude.{◌≡◌, ℕ, Bool, IfOk, is_ok, vec_len};
 
-use crate::held::GrantedWords;
+use crate::wiped_words::GrantedWords;
 use std::alloc::{AllocError, Global};
 
 /// A source of the lists of words that a workspace holds. The allocator is one; a caller's own may count what

@@ -1,12 +1,12 @@
 //! Words that are overwritten before their memory is freed.
 ghost use Rattle.std.specs.Prelude.{◌≡◌, length, replicate};
 
-use crate::held::Held;
+use crate::wiped_words::WipedWords;
 
 /// Words that come from a password, in memory of their own. A guess can be tested against them for
 /// the price of a few hashes, so the memory goes back to the heap with zeros alone.
 pub(crate) struct Words {
-    pub(crate) held: Held,
+    pub(crate) held: WipedWords,
 }
 
 impl Drop for Words {

@@ -7,11 +7,11 @@ ghost use Rattle.romix.specs.SparseCosts.{SparseFitsMemory, cores_bound};
 ghost use Rattle.romix.specs.Workspace.{HasLengths};
 ghost use Rattle.romix.specs.Requests.{after_rows};
 
-use crate::held::Held;
 use crate::parts::mix_parts;
 use crate::reservation::Reservation;
 use crate::sparse::Sparse;
 use crate::ticks::Ticks;
+use crate::wiped_words::WipedWords;
 use crate::words::Words;
 use std::alloc::{AllocError, Global};
 use std::marker::Model;
@@ -83,16 +83,16 @@ pub fn reserve_from<R: Reservation>(
     Ok(Workspace {
         sparse: *sparse,
         table: Words {
-            held: Held::new(table),
+            held: WipedWords::new(table),
         },
         row: Words {
-            held: Held::new(row),
+            held: WipedWords::new(row),
         },
         other_row: Words {
-            held: Held::new(other_row),
+            held: WipedWords::new(other_row),
         },
         spare_row: Words {
-            held: Held::new(spare_row),
+            held: WipedWords::new(spare_row),
         },
     })
 }

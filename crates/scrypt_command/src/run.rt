@@ -1,11 +1,11 @@
 //! A whole run of `scrypt`.
-ghost use Rattle.std.specs.Prelude.{◌≡◌, ◌≤◌, ◌+◌, ◌^◌, false, Err, MatchResult, IfOk, IfErr, IsOk, OnOk, IsTrue, map, string_bytes};
+ghost use Rattle.std.specs.Prelude.{◌≡◌, ◌≤◌, ◌+◌, ◌^◌, Err, MatchResult, IfOk, IfErr, IsOk, OnOk, IsTrue, map, string_bytes};
 ghost use Rattle.host.specs.Faults.{AreBelow};
 ghost use Rattle.host.specs.Grants.{GrantsAll};
 ghost use Rattle.host.specs.Seen.{IsFresh};
-ghost use Rattle.scrypt_request.specs.Refusal.{CountsFault, may_follow_work};
+ghost use Rattle.scrypt_request.specs.Refusal.{CountsFault, CountsNoEarlyWork};
 ghost use Rattle.scrypt_run.specs.Run.{most_cores};
-ghost use Rattle.scrypt_run.specs.Work.{EndsAfterWork, RequestWorks};
+ghost use Rattle.scrypt_run.specs.Work.{EndsAfterWork, RequestWorks, CountsNoOtherWork};
 ghost use Rattle.scrypt_request.specs.declared.refusal.ScryptRefusal.{ScryptRefusal};
 ghost use Rattle.scrypt_words.specs.Request.{scrypt_request};
 ghost use Rattle.scrypt_command.specs.Run.{IsRefused, Refuses, Succeeds, TellsOfWords, TellsWords};
@@ -40,15 +40,14 @@ fn attempt<H: Host>(
     // Words that are refused cost no core, and others no more than their limit.
     ensures work_bound { MatchResult (scrypt_request (map string_bytes words.now))
         (λ request. ticks.new ≤ ticks.old + most_cores request) (λ _. ticks.new ≡ ticks.old) }
-    ensures no_work { IfErr result (λ r. may_follow_work r ≡ false → ticks.new ≡ ticks.old) }
+    ensures no_work { CountsNoEarlyWork result ticks.old ticks.new }
     // What ends well, or is refused after the derivation, counts exactly one.
     ensures count { IsTrue H.tells → OnOk result (IfOk (scrypt_request (map string_bytes words.now))
         (λ request. RequestWorks request (H.seen host.old) ticks.old ticks.new)) }
     ensures worked { IsTrue H.tells → IfErr result (λ r. EndsAfterWork r (H.seen host.new)
         → IfOk (scrypt_request (map string_bytes words.now))
         (λ request. RequestWorks request (H.seen host.old) ticks.old ticks.new)) }
-    ensures unworked { IsTrue H.tells → IfErr result (λ r.
-        (EndsAfterWork r (H.seen host.new) → ⊥) → ticks.new ≡ ticks.old) }
+    ensures unworked { IsTrue H.tells → CountsNoOtherWork result (H.seen host.new) ticks.old ticks.new }
 {
     let mut room = alloc;
     match read_request(alloc, words) {

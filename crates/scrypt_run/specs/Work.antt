@@ -1,5 +1,5 @@
 -- What a run counts: the Salsa20/8 cores of its one derivation.
-use Rattle.std.specs.Prelude.{◌≡◌, ◌+◌, ◌⊎◌, true, ℕ, List, Option, None}
+use Rattle.std.specs.Prelude.{◌≡◌, ◌+◌, ◌⊎◌, true, ℕ, List, Option, None, Result, IfErr}
 use Rattle.romix.specs.Allowance.{with_keep_of}
 use Rattle.romix.specs.Sparse.{sparse_cores}
 use Rattle.romix.specs.SparseCosts.{SparseParameters}
@@ -41,3 +41,8 @@ RequestWorks (inspect infile) s before after = after ≡ before
 -- 96 bytes
 abbrev pub EndsAfterWork : ScryptRefusal → Seen → Type 0
 EndsAfterWork r s = (follows_work r ≡ true) ⊎ (s.output_asked ≡ None → ⊥)
+
+-- a run with this result, after which the host is as `seen` says, and the count of cores before and after it: one that
+-- did not end after its derivation leaves it as it was
+abbrev pub CountsNoOtherWork : {A : Type 0} → Result A ScryptRefusal → Seen → ℕ → ℕ → Type 0
+CountsNoOtherWork result seen before after = IfErr result (λ r. (EndsAfterWork r seen → ⊥) → after ≡ before)

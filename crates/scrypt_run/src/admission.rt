@@ -1,8 +1,8 @@
 //! The costs of a derivation, held against what a run allows.
-ghost use Rattle.std.specs.Prelude.{◌≡◌, Some, None, true, false, option_map, IfOk, IfErr, OnOk};
+ghost use Rattle.std.specs.Prelude.{◌≡◌, Some, None, true, option_map, IfOk, IfErr, OnOk};
 ghost use Rattle.romix.specs.SparseCosts.{is_keep};
 ghost use Rattle.encfile.specs.Front.{costs_refusal};
-ghost use Rattle.scrypt_request.specs.Refusal.{RaisesNoCount, follows_work, is_want};
+ghost use Rattle.scrypt_request.specs.Refusal.{RaisesNoCount, MayPrecedeWork, IsNoWant};
 ghost use Rattle.scrypt_run.specs.Refusal.{refusal_of};
 ghost use Rattle.scrypt_request.specs.Request.{allowance_of, task_seen};
 ghost use Rattle.scrypt_run.specs.Admission.{IsAdmitted};
@@ -21,9 +21,9 @@ pub(crate) fn admit(costs: &Costs, task: &Task<'_>) -> Result<Sparse, ScryptRefu
         (costs_refusal costs.now (allowance_of (task_seen task.now)) ≡ None) }
     ensures refused { IfErr result (λ r. option_map refusal_of
         (costs_refusal costs.now (allowance_of (task_seen task.now))) ≡ Some r) }
-    ensures uncounted { IfErr result (λ r. RaisesNoCount r) }
-    ensures early { IfErr result (λ r. follows_work r ≡ false) }
-    ensures no_want { IfErr result (λ r. is_want r ≡ false) }
+    ensures uncounted { IfErr result RaisesNoCount }
+    ensures early { IfErr result MayPrecedeWork }
+    ensures no_want { IfErr result IsNoWant }
 {
     let sparse = match Sparse::new(costs, task.keep) {
         Ok(sparse) => sparse,

@@ -13,17 +13,17 @@ ghost use Rattle.host.specs.Seen.{IsFresh, after_ask};
 ghost use Rattle.scrypt_run.specs.Asking.{EndsAsking, EndsAskingFor, WasGranted, asks_workspace};
 ghost use Rattle.scrypt_run.specs.Decrypting.{DecryptRefused, DecryptSucceeds, Decrypted, text_after};
 ghost use Rattle.scrypt_run.specs.Passphrase.{HasPassphrase, first_line_at};
-ghost use Rattle.scrypt_request.specs.Refusal.{CountsFault, follows_work, may_follow_work};
+ghost use Rattle.scrypt_request.specs.Refusal.{CountsFault, follows_work, MayFollowWork, CountsNoEarlyWork};
 ghost use Rattle.scrypt_request.specs.Request.{HasAllowedLimits, allowance_of, task_seen, text_of};
 ghost use Rattle.scrypt_run.specs.Admission.{IsAdmitted};
 ghost use Rattle.scrypt_run.specs.Inside.Decrypting.{OpenRefused, ReleaseRefused};
 ghost use Rattle.scrypt_run.specs.Steps.{after_passing};
 ghost use Rattle.scrypt_run.specs.Text.{EndsText};
-ghost use Rattle.scrypt_run.specs.Work.{DecryptWorks, DerivesOnce, EndsAfterWork};
+ghost use Rattle.scrypt_run.specs.Work.{DecryptWorks, DerivesOnce, EndsAfterWork, CountsNoOtherWork};
 
 use crate::front::open_admitted_front;
 use crate::passphrase::read_passphrase;
-use crate::room::Room;
+use crate::run_memory::RunMemory;
 use encfile::{Dec, Header};
 use host::{Host, push_all};
 use romix::{Sparse, Ticks};
@@ -31,7 +31,7 @@ use scrypt_request::{ScryptRefusal, Task};
 
 // Reads the passphrase, takes the memory of the derivation, and tests the passphrase against the
 // code of the header. The memory is there when the work begins.
-fn open<R: Room, H: Host>(
+fn open<R: RunMemory, H: Host>(
     room: &mut R,
     host: &mut H,
     task: &Task<'_>,
@@ -41,7 +41,7 @@ fn open<R: Room, H: Host>(
     ticks: &mut Ticks,
 ) -> Result<Dec, ScryptRefusal>
     requires room { AreBelow (2 ^ 63) (H.faults host.old) }
-    requires unasked { (H.grants host.old).secret ≡ true }
+    requires unasked { IsTrue (H.grants host.old).secret }
     requires header { IsHeaderOf (take 64 front.now) header }
     requires allowed { HasAllowedLimits (task_seen task.now) }
     requires costs { sparse.now.costs ≡ header.costs }
@@ -68,7 +68,7 @@ fn open<R: Room, H: Host>(
     ensures work { sparse.now.keep ≡ 1 →
         OnOk result (ticks.new ≡ ticks.old + cores header.costs) }
     ensures work_bound { ticks.new ≤ ticks.old + task.now.limits.max_ops }
-    ensures no_work { IfErr result (λ r. may_follow_work r ≡ false → ticks.new ≡ ticks.old) }
+    ensures no_work { CountsNoEarlyWork result ticks.old ticks.new }
     ensures memory_granted { OnOk result (room.new ≡ asks_workspace R.after_workspace room.old
         (task_seen task.now) header.costs true) }
     ensures memory_asked { IfErr result (λ r. EndsAsking (asks_workspace R.after_workspace room.old
@@ -88,8 +88,8 @@ fn open<R: Room, H: Host>(
 // written before the next is pulled.
 fn release<H: Host>(host: &mut H, dec: &mut Dec) -> Result<(), ScryptRefusal>
     requires room { AreBelow (2 ^ 63) (H.faults host.old) }
-    requires readable { (H.grants host.old).readable ≡ true }
-    requires writable { (H.grants host.old).writable ≡ true }
+    requires readable { IsTrue (H.grants host.old).readable }
+    requires writable { IsTrue (H.grants host.old).writable }
     requires new { length_read dec.old ≡ 0 }
     requires read { (passphrase front : List ℕ) × HasRead dec.old passphrase front }
     ensures counts { CountsFault result (H.faults host.old) (H.faults host.new) }
@@ -104,7 +104,7 @@ fn release<H: Host>(host: &mut H, dec: &mut Dec) -> Result<(), ScryptRefusal>
         → HasRead dec.old passphrase front
         → EndsText r (2 ^ 60 + 32) 4128 (text_after passphrase front)
         (text_after passphrase front) (H.seen host.old) (H.seen host.new)) }
-    ensures late { IfErr result (λ r. may_follow_work r ≡ true) }
+    ensures late { IfErr result MayFollowWork }
 {
     let mut buf = [0u8; 4096];
     let mut out = [0u8; 4128];
@@ -127,8 +127,8 @@ fn release<H: Host>(host: &mut H, dec: &mut Dec) -> Result<(), ScryptRefusal>
 // Opens the output, writes the text, and tests the final code.
 fn finish<H: Host>(host: &mut H, outfile: Option<&str>, dec: Dec) -> Result<(), ScryptRefusal>
     requires room { AreBelow (2 ^ 63) (H.faults host.old) }
-    requires unasked { (H.grants host.old).output ≡ true }
-    requires readable { (H.grants host.old).readable ≡ true }
+    requires unasked { IsTrue (H.grants host.old).output }
+    requires readable { IsTrue (H.grants host.old).readable }
     requires new { length_read dec ≡ 0 }
     requires read { (passphrase front : List ℕ) × HasRead dec passphrase front }
     ensures counts { CountsFault result (H.faults host.old) (H.faults host.new) }
@@ -140,7 +140,7 @@ fn finish<H: Host>(host: &mut H, outfile: Option<&str>, dec: Dec) -> Result<(), 
         → HasRead dec passphrase front
         → ReleaseRefused r passphrase front (text_of outfile.entry)
         (H.seen host.old) (H.seen host.new)) }
-    ensures late { IfErr result (λ r. may_follow_work r ≡ true) }
+    ensures late { IfErr result MayFollowWork }
 {
     let Ok(()) = host.open_output(outfile) else {
         return Err(ScryptRefusal::OutputFault);
@@ -159,7 +159,7 @@ fn finish<H: Host>(host: &mut H, outfile: Option<&str>, dec: Dec) -> Result<(), 
 /// The output is opened once the passphrase is found right, and no refusal after that takes back
 /// what was written. The text can be trusted only after `Ok`, since the final code is tested when
 /// all of it is written.
-pub(crate) fn decrypt<R: Room, H: Host>(
+pub(crate) fn decrypt<R: RunMemory, H: Host>(
     room: &mut R,
     host: &mut H,
     task: &Task<'_>,
@@ -178,12 +178,11 @@ pub(crate) fn decrypt<R: Room, H: Host>(
         (DecryptWorks (task_seen task.now) (H.seen host.old) ticks.old ticks.new) }
     ensures worked { IsTrue H.tells → IfErr result (λ r. EndsAfterWork r (H.seen host.new)
         → DecryptWorks (task_seen task.now) (H.seen host.old) ticks.old ticks.new) }
-    ensures unworked { IsTrue H.tells → IfErr result (λ r.
-        (EndsAfterWork r (H.seen host.new) → ⊥) → ticks.new ≡ ticks.old) }
+    ensures unworked { IsTrue H.tells → CountsNoOtherWork result (H.seen host.new) ticks.old ticks.new }
     ensures work { IsTrue H.tells → task.now.keep ≡ 1 → OnOk result
         (ticks.new ≡ ticks.old + cores (costs_of (H.seen host.old).input)) }
     ensures work_bound { ticks.new ≤ ticks.old + task.now.limits.max_ops }
-    ensures no_work { IfErr result (λ r. may_follow_work r ≡ false → ticks.new ≡ ticks.old) }
+    ensures no_work { CountsNoEarlyWork result ticks.old ticks.new }
     // Memory is asked for once, for the derivation of the header's costs, and only once the limits have passed.
     ensures memory_granted { OnOk result (WasGranted H.tells (H.seen host.old).input
         (asks_workspace R.after_workspace room.old (task_seen task.now)) room.new) }

@@ -1,27 +1,27 @@
 //! `scrypt enc`: the file of a text.
-ghost use Rattle.std.specs.Prelude.{◌≡◌, ◌+◌, ◌≤◌, ◌^◌, true, false, ℕ, List, [], Some, None, length, option_map, IfOk, IfErr, OnOk, OnErr, IsTrue};
+ghost use Rattle.std.specs.Prelude.{◌≡◌, ◌+◌, ◌≤◌, ◌^◌, true, ℕ, List, [], Some, None, length, IfOk, IfErr, OnOk, OnErr, IsTrue};
 ghost use Rattle.romix.specs.Costs.{Parameters, cores};
 ghost use Rattle.encfile.specs.EncryptedFile.{body};
 ghost use Rattle.encfile.specs.Encrypting.{HasEncrypted};
 ghost use Rattle.host.specs.Faults.{AreBelow};
-ghost use Rattle.host.specs.Grants.{GrantsAll, with_input_opened};
+ghost use Rattle.host.specs.Grants.{GrantsAll};
 ghost use Rattle.host.specs.Secret.{source_of};
 ghost use Rattle.host.specs.Seen.{IsFresh, after_ask, after_open_input};
 ghost use Rattle.scrypt_run.specs.Asking.{EndsAsking, asks_workspace};
 ghost use Rattle.scrypt_run.specs.Encrypting.{EncryptRefused, EncryptSucceeds, IsEncrypted, after_salting, costs_refusal_of, salt_used};
 ghost use Rattle.scrypt_run.specs.Passphrase.{HasPassphrase, first_line_at};
-ghost use Rattle.scrypt_request.specs.Refusal.{CountsFault, follows_work, is_want, may_follow_work};
+ghost use Rattle.scrypt_request.specs.Refusal.{CountsFault, MayPrecedeWork, IsNoWant, MayFollowWork, CountsNoEarlyWork};
 ghost use Rattle.scrypt_request.specs.Request.{HasAllowedLimits, encryption_seen, task_seen, text_of};
 ghost use Rattle.scrypt_run.specs.Admission.{IsAdmitted};
 ghost use Rattle.scrypt_run.specs.Inside.Encrypting.{StartRefused, TextNotOpened, WriteRefused};
-ghost use Rattle.scrypt_run.specs.Steps.{after_passing};
+ghost use Rattle.scrypt_run.specs.Steps.{after_passing, OpensInput};
 ghost use Rattle.scrypt_run.specs.Text.{EndsText};
-ghost use Rattle.scrypt_run.specs.Work.{EncryptWorks, EndsAfterWork};
+ghost use Rattle.scrypt_run.specs.Work.{EncryptWorks, EndsAfterWork, CountsNoOtherWork};
 ghost use Rattle.scrypt_request.specs.declared.refusal.ScryptRefusal.TheVariants.{SaltFault};
 
 use crate::admission::admit;
 use crate::passphrase::read_passphrase;
-use crate::room::Room;
+use crate::run_memory::RunMemory;
 use encfile::Enc;
 use host::{Host, push_all};
 use romix::{Sparse, Ticks};
@@ -30,10 +30,10 @@ use scrypt_request::{Encryption, ScryptRefusal};
 // Holds the costs against the limits, and opens the input.
 fn open_text<H: Host>(host: &mut H, asked: &Encryption<'_>) -> Result<Sparse, ScryptRefusal>
     requires room { AreBelow (2 ^ 63) (H.faults host.old) }
-    requires unopened { (H.grants host.old).input ≡ true }
+    requires unopened { IsTrue (H.grants host.old).input }
     requires allowed { HasAllowedLimits (task_seen asked.now.task) }
     ensures counts { CountsFault result (H.faults host.old) (H.faults host.new) }
-    ensures granted { OnOk result (H.grants host.new ≡ with_input_opened (H.grants host.old)) }
+    ensures granted { OpensInput result (H.grants host.old) (H.grants host.new) }
     ensures passes { OnOk result (costs_refusal_of (encryption_seen asked.now) ≡ None) }
     ensures costs { IfOk result (λ sparse. sparse.costs ≡ asked.now.costs) }
     ensures keep { IfOk result (λ sparse. sparse.keep ≡ asked.now.task.keep) }
@@ -42,8 +42,8 @@ fn open_text<H: Host>(host: &mut H, asked: &Encryption<'_>) -> Result<Sparse, Sc
         ≡ after_open_input (text_of asked.now.task.infile) (H.seen host.old)) }
     ensures refused { IsTrue H.tells → IfErr result (λ r.
         TextNotOpened r (encryption_seen asked.now) (H.seen host.old) (H.seen host.new)) }
-    ensures early { IfErr result (λ r. follows_work r ≡ false) }
-    ensures no_want { IfErr result (λ r. is_want r ≡ false) }
+    ensures early { IfErr result MayPrecedeWork }
+    ensures no_want { IfErr result IsNoWant }
 {
     let sparse = admit(&asked.costs, &asked.task)?;
     host.open_input(asked.task.infile)
@@ -54,7 +54,7 @@ fn open_text<H: Host>(host: &mut H, asked: &Encryption<'_>) -> Result<Sparse, Sc
 // The salt that was asked for, or the host's.
 fn read_salt<H: Host>(host: &mut H, salt: Option<[u8; 32]>) -> Result<[u8; 32], ScryptRefusal>
     requires room { AreBelow (2 ^ 63) (H.faults host.old) }
-    requires unsalted { (H.grants host.old).salt ≡ true }
+    requires unsalted { IsTrue (H.grants host.old).salt }
     ensures counts { CountsFault result (H.faults host.old) (H.faults host.new) }
     ensures still_readable { OnOk result ((H.grants host.new).readable ≡ (H.grants host.old).readable) }
     ensures still_unasked { OnOk result ((H.grants host.new).output ≡ (H.grants host.old).output) }
@@ -75,7 +75,7 @@ fn read_salt<H: Host>(host: &mut H, salt: Option<[u8; 32]>) -> Result<[u8; 32], 
 
 // Reads the passphrase and the salt, takes the memory of the derivation, and derives the keys. Here nothing
 // is refused any more once the work begins.
-fn start<R: Room, H: Host>(
+fn start<R: RunMemory, H: Host>(
     room: &mut R,
     host: &mut H,
     asked: &Encryption<'_>,
@@ -83,8 +83,8 @@ fn start<R: Room, H: Host>(
     ticks: &mut Ticks,
 ) -> Result<Enc, ScryptRefusal>
     requires room { AreBelow (2 ^ 63) (H.faults host.old) }
-    requires unasked { (H.grants host.old).secret ≡ true }
-    requires unsalted { (H.grants host.old).salt ≡ true }
+    requires unasked { IsTrue (H.grants host.old).secret }
+    requires unsalted { IsTrue (H.grants host.old).salt }
     requires allowed { HasAllowedLimits (task_seen asked.now.task) }
     requires costs { sparse.now.costs ≡ asked.now.costs }
     requires keep { sparse.now.keep ≡ asked.now.task.keep }
@@ -102,7 +102,7 @@ fn start<R: Room, H: Host>(
     ensures refused { IsTrue H.tells → IfErr result (λ r. StartRefused r asked.now.salt
         (first_line_at (source_of asked.now.task.source) (H.seen host.old))
         (after_ask (source_of asked.now.task.source) (H.seen host.old)) (H.seen host.new)) }
-    ensures early { IfErr result (λ r. follows_work r ≡ false) }
+    ensures early { IfErr result MayPrecedeWork }
     ensures count { IsTrue H.tells → OnOk result (EncryptWorks (encryption_seen asked.now)
         (H.seen host.old) ticks.old ticks.new) }
     ensures work { sparse.now.keep ≡ 1 →
@@ -131,8 +131,8 @@ fn start<R: Room, H: Host>(
 // Writes the first 96 bytes of the file, and the input's text as it is encrypted.
 fn write_body<H: Host>(host: &mut H, enc: &mut Enc) -> Result<(), ScryptRefusal>
     requires room { AreBelow (2 ^ 63) (H.faults host.old) }
-    requires readable { (H.grants host.old).readable ≡ true }
-    requires writable { (H.grants host.old).writable ≡ true }
+    requires readable { IsTrue (H.grants host.old).readable }
+    requires writable { IsTrue (H.grants host.old).writable }
     requires begun { (passphrase salt : List ℕ) × (costs : Parameters)
         × HasEncrypted enc.old passphrase salt costs [] }
     ensures counts { CountsFault result (H.faults host.old) (H.faults host.new) }
@@ -148,7 +148,7 @@ fn write_body<H: Host>(host: &mut H, enc: &mut Enc) -> Result<(), ScryptRefusal>
         → HasEncrypted enc.old passphrase salt costs []
         → IfErr result (λ r. EndsText r (2 ^ 60) 4096 (body passphrase salt costs)
         (body passphrase salt costs) (H.seen host.old) (H.seen host.new)) }
-    ensures late { IfErr result (λ r. may_follow_work r ≡ true) }
+    ensures late { IfErr result MayFollowWork }
 {
     let Ok(()) = push_all(host, &enc.header()) else {
         return Err(ScryptRefusal::OutputFault);
@@ -174,8 +174,8 @@ fn write_body<H: Host>(host: &mut H, enc: &mut Enc) -> Result<(), ScryptRefusal>
 // Opens the output, and writes the file of the input's text.
 fn write_file<H: Host>(host: &mut H, outfile: Option<&str>, enc: Enc) -> Result<(), ScryptRefusal>
     requires room { AreBelow (2 ^ 63) (H.faults host.old) }
-    requires unasked { (H.grants host.old).output ≡ true }
-    requires readable { (H.grants host.old).readable ≡ true }
+    requires unasked { IsTrue (H.grants host.old).output }
+    requires readable { IsTrue (H.grants host.old).readable }
     requires begun { (passphrase salt : List ℕ) × (costs : Parameters)
         × HasEncrypted enc passphrase salt costs [] }
     ensures counts { CountsFault result (H.faults host.old) (H.faults host.new) }
@@ -187,7 +187,7 @@ fn write_file<H: Host>(host: &mut H, outfile: Option<&str>, enc: Enc) -> Result<
         → HasEncrypted enc passphrase salt costs []
         → IfErr result (λ r. WriteRefused r passphrase salt costs (text_of outfile.entry)
         (H.seen host.old) (H.seen host.new)) }
-    ensures late { IfErr result (λ r. may_follow_work r ≡ true) }
+    ensures late { IfErr result MayFollowWork }
 {
     let Ok(()) = host.open_output(outfile) else {
         return Err(ScryptRefusal::OutputFault);
@@ -208,7 +208,7 @@ fn write_file<H: Host>(host: &mut H, outfile: Option<&str>, enc: Enc) -> Result<
 /// output can't be opened. Then, as the file is written, S12, S13 and S14. What was written stays.
 /// The work is one derivation with the request's costs, salt and S. It begins when S15 can come no
 /// more, and it is done before the output is opened.
-pub(crate) fn encrypt<R: Room, H: Host>(
+pub(crate) fn encrypt<R: RunMemory, H: Host>(
     room: &mut R,
     host: &mut H,
     asked: &Encryption<'_>,
@@ -227,12 +227,11 @@ pub(crate) fn encrypt<R: Room, H: Host>(
         (H.seen host.old) ticks.old ticks.new) }
     ensures worked { IsTrue H.tells → IfErr result (λ r. EndsAfterWork r (H.seen host.new)
         → EncryptWorks (encryption_seen asked.now) (H.seen host.old) ticks.old ticks.new) }
-    ensures unworked { IsTrue H.tells → IfErr result (λ r.
-        (EndsAfterWork r (H.seen host.new) → ⊥) → ticks.new ≡ ticks.old) }
+    ensures unworked { IsTrue H.tells → CountsNoOtherWork result (H.seen host.new) ticks.old ticks.new }
     ensures work { asked.now.task.keep ≡ 1 →
         OnOk result (ticks.new ≡ ticks.old + cores asked.now.costs) }
     ensures work_bound { ticks.new ≤ ticks.old + asked.now.task.limits.max_ops }
-    ensures no_work { IfErr result (λ r. may_follow_work r ≡ false → ticks.new ≡ ticks.old) }
+    ensures no_work { CountsNoEarlyWork result ticks.old ticks.new }
     // Memory is asked for once, for the derivation, and only once the limits have passed.
     ensures memory_granted { OnOk result (room.new ≡ asks_workspace R.after_workspace room.old
         (task_seen asked.now.task) asked.now.costs true) }

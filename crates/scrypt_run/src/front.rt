@@ -1,16 +1,15 @@
 //! The first 96 bytes of a file, and the checks that need no passphrase.
-ghost use Rattle.std.specs.Prelude.{◌≡◌, ◌<◌, ◌≤◌, ◌^◌, true, false, ℕ, Some, None, take, length, option_map, IfOk, IfErr, OnOk, OnErr, IsTrue};
+ghost use Rattle.std.specs.Prelude.{◌≡◌, ◌<◌, ◌≤◌, ◌^◌, ℕ, Some, None, take, length, option_map, IfOk, IfErr, OnOk, OnErr, IsTrue};
 ghost use Rattle.encfile.specs.Front.{format_refusal, limits_refusal};
 ghost use Rattle.encfile.specs.Header.{IsHeaderOf, costs_of, salt_of};
 ghost use Rattle.host.specs.Faults.{AreBelow, input_failed};
-ghost use Rattle.host.specs.Grants.{with_input_opened};
 ghost use Rattle.host.specs.Seen.{after_pull};
-ghost use Rattle.scrypt_run.specs.Front.{FrontRefused};
-ghost use Rattle.scrypt_request.specs.Refusal.{CountsFault, follows_work, is_want};
+ghost use Rattle.scrypt_run.specs.Front.{FrontRefused, HasFront};
+ghost use Rattle.scrypt_request.specs.Refusal.{CountsFault, MayPrecedeWork, IsNoWant};
 ghost use Rattle.scrypt_run.specs.Refusal.{refusal_of};
 ghost use Rattle.scrypt_request.specs.Request.{HasAllowedLimits, allowance_of, task_seen, text_of};
 ghost use Rattle.scrypt_run.specs.Admission.{IsAdmitted};
-ghost use Rattle.scrypt_run.specs.Steps.{after_reading};
+ghost use Rattle.scrypt_run.specs.Steps.{after_reading, OpensInput};
 
 use crate::admission::admit;
 use crate::refusal::header_refusal;
@@ -22,7 +21,7 @@ use scrypt_request::{ScryptRefusal, Task};
 // Pulls 96 bytes, or all where there are fewer, and says how many.
 fn pull_front<H: Host>(host: &mut H, front: &mut [u8; 96]) -> Result<usize, HostFault>
     requires room { AreBelow (2 ^ 63) (H.faults host.old) }
-    requires readable { (H.grants host.old).readable ≡ true }
+    requires readable { IsTrue (H.grants host.old).readable }
     ensures bound { IfOk result (λ n. n ≤ 96) }
     ensures granted { IfOk result (λ n. 96 ≤ n → H.grants host.new ≡ H.grants host.old) }
     ensures counts { OnOk result (H.faults host.new ≡ H.faults host.old) }
@@ -52,10 +51,10 @@ fn pull_front<H: Host>(host: &mut H, front: &mut [u8; 96]) -> Result<usize, Host
 // Opens the input and reads its first 96 bytes.
 fn read_front<H: Host>(host: &mut H, infile: Option<&str>) -> Result<[u8; 96], ScryptRefusal>
     requires room { AreBelow (2 ^ 63) (H.faults host.old) }
-    requires unopened { (H.grants host.old).input ≡ true }
+    requires unopened { IsTrue (H.grants host.old).input }
     ensures counts { CountsFault result (H.faults host.old) (H.faults host.new) }
-    ensures granted { OnOk result (H.grants host.new ≡ with_input_opened (H.grants host.old)) }
-    ensures long { IsTrue H.tells → OnOk result (96 ≤ length (H.seen host.old).input) }
+    ensures granted { OpensInput result (H.grants host.old) (H.grants host.new) }
+    ensures long { IsTrue H.tells → OnOk result (HasFront (H.seen host.old).input) }
     ensures front { IsTrue H.tells →
         IfOk result (λ front. front ≡ take 96 (H.seen host.old).input) }
     ensures reads { IsTrue H.tells → OnOk result
@@ -63,8 +62,8 @@ fn read_front<H: Host>(host: &mut H, infile: Option<&str>) -> Result<[u8; 96], S
     ensures refused { IsTrue H.tells → IfErr result (λ r.
         FrontRefused r (format_refusal (H.seen host.old).input) (text_of infile.entry)
         (H.seen host.old) (H.seen host.new)) }
-    ensures early { IfErr result (λ r. follows_work r ≡ false) }
-    ensures no_want { IfErr result (λ r. is_want r ≡ false) }
+    ensures early { IfErr result MayPrecedeWork }
+    ensures no_want { IfErr result IsNoWant }
 {
     let Ok(()) = host.open_input(infile) else {
         return Err(ScryptRefusal::InputFault);
@@ -85,8 +84,8 @@ fn read_header(front: &[u8; 96]) -> Result<Header, ScryptRefusal>
     ensures header { IfOk result (λ header. IsHeaderOf (take 64 front.now) header) }
     ensures costs { IfOk result (λ header. header.costs ≡ costs_of front.now) }
     ensures salt { IfOk result (λ header. header.salt ≡ salt_of front.now) }
-    ensures early { IfErr result (λ r. follows_work r ≡ false) }
-    ensures no_want { IfErr result (λ r. is_want r ≡ false) }
+    ensures early { IfErr result MayPrecedeWork }
+    ensures no_want { IfErr result IsNoWant }
 {
     Header::of_front(front).map_err(header_refusal)
 }
@@ -102,8 +101,8 @@ fn test_limits(front: &[u8; 96], header: &Header, task: &Task<'_>) -> Result<Spa
     ensures admitted { IfOk result (λ sparse. IsAdmitted sparse task.now.limits) }
     ensures refused { IfErr result (λ r. option_map refusal_of
         (limits_refusal front.now (allowance_of (task_seen task.now))) ≡ Some r) }
-    ensures early { IfErr result (λ r. follows_work r ≡ false) }
-    ensures no_want { IfErr result (λ r. is_want r ≡ false) }
+    ensures early { IfErr result MayPrecedeWork }
+    ensures no_want { IfErr result IsNoWant }
 {
     admit(header.costs(), task)
 }
@@ -114,10 +113,10 @@ pub(crate) fn open_front<H: Host>(
     infile: Option<&str>,
 ) -> Result<([u8; 96], Header), ScryptRefusal>
     requires room { AreBelow (2 ^ 63) (H.faults host.old) }
-    requires unopened { (H.grants host.old).input ≡ true }
+    requires unopened { IsTrue (H.grants host.old).input }
     ensures counts { CountsFault result (H.faults host.old) (H.faults host.new) }
-    ensures granted { OnOk result (H.grants host.new ≡ with_input_opened (H.grants host.old)) }
-    ensures long { IsTrue H.tells → OnOk result (96 ≤ length (H.seen host.old).input) }
+    ensures granted { OpensInput result (H.grants host.old) (H.grants host.new) }
+    ensures long { IsTrue H.tells → OnOk result (HasFront (H.seen host.old).input) }
     ensures front { IsTrue H.tells →
         IfOk result (λ read. read.0 ≡ take 96 (H.seen host.old).input) }
     ensures header { IfOk result (λ read. IsHeaderOf (take 64 read.0) read.1) }
@@ -134,8 +133,8 @@ pub(crate) fn open_front<H: Host>(
     ensures refused { IsTrue H.tells → IfErr result (λ r.
         FrontRefused r (format_refusal (H.seen host.old).input) (text_of infile.entry)
         (H.seen host.old) (H.seen host.new)) }
-    ensures early { IfErr result (λ r. follows_work r ≡ false) }
-    ensures no_want { IfErr result (λ r. is_want r ≡ false) }
+    ensures early { IfErr result MayPrecedeWork }
+    ensures no_want { IfErr result IsNoWant }
 {
     let front = read_front(host, infile)?;
     let header = read_header(&front)?;
@@ -149,11 +148,11 @@ pub(crate) fn open_admitted_front<H: Host>(
     task: &Task<'_>,
 ) -> Result<([u8; 96], Header, Sparse), ScryptRefusal>
     requires room { AreBelow (2 ^ 63) (H.faults host.old) }
-    requires unopened { (H.grants host.old).input ≡ true }
+    requires unopened { IsTrue (H.grants host.old).input }
     requires allowed { HasAllowedLimits (task_seen task.now) }
     ensures counts { CountsFault result (H.faults host.old) (H.faults host.new) }
-    ensures granted { OnOk result (H.grants host.new ≡ with_input_opened (H.grants host.old)) }
-    ensures long { IsTrue H.tells → OnOk result (96 ≤ length (H.seen host.old).input) }
+    ensures granted { OpensInput result (H.grants host.old) (H.grants host.new) }
+    ensures long { IsTrue H.tells → OnOk result (HasFront (H.seen host.old).input) }
     ensures front { IsTrue H.tells →
         IfOk result (λ read. read.0 ≡ take 96 (H.seen host.old).input) }
     ensures header { IfOk result (λ read. IsHeaderOf (take 64 read.0) read.1) }
@@ -171,8 +170,8 @@ pub(crate) fn open_admitted_front<H: Host>(
     ensures refused { IsTrue H.tells → IfErr result (λ r. FrontRefused r
         (limits_refusal (H.seen host.old).input (allowance_of (task_seen task.now)))
         (text_of task.now.infile) (H.seen host.old) (H.seen host.new)) }
-    ensures early { IfErr result (λ r. follows_work r ≡ false) }
-    ensures no_want { IfErr result (λ r. is_want r ≡ false) }
+    ensures early { IfErr result MayPrecedeWork }
+    ensures no_want { IfErr result IsNoWant }
 {
     let (front, header) = open_front(host, task.infile)?;
     let sparse = test_limits(&front, &header, task)?;

@@ -9,13 +9,13 @@ ghost use Rattle.scrypt_request.specs.Refusal.{CountsFault};
 ghost use Rattle.scrypt_request.specs.Request.{text_of};
 
 use crate::front::open_front;
-use crate::room::Room;
+use crate::run_memory::RunMemory;
 use host::{Host, write_output};
 use scrypt_request::ScryptRefusal;
 
 /// Writes a line with the costs of the input of this name to standard output, which is opened once the
 /// header was read and the line stands in memory.
-pub(crate) fn inspect<R: Room, H: Host>(
+pub(crate) fn inspect<R: RunMemory, H: Host>(
     room: &mut R,
     host: &mut H,
     infile: Option<&str>,

@@ -51,10 +51,10 @@ mod inspect;
 mod line;
 mod passphrase;
 mod refusal;
-mod room;
+mod run_memory;
 mod run_request;
 
 pub use line::Line;
-pub use room::Room;
+pub use run_memory::RunMemory;
 pub use run_request::run;
 pub use scrypt_request::{Encryption, Request, ScryptRefusal, Task};

@@ -1,11 +1,11 @@
 //! The passphrase of a run: the first line of its source.
-ghost use Rattle.std.specs.Prelude.{◌≡◌, ◌<◌, ◌≤◌, ◌^◌, true, false, ℕ, List, take, length, IfOk, IfErr, IsTrue};
+ghost use Rattle.std.specs.Prelude.{◌≡◌, ◌<◌, ◌≤◌, ◌^◌, ℕ, List, take, length, IfOk, IfErr, IsTrue};
 ghost use Rattle.host.specs.Faults.{AreBelow};
 ghost use Rattle.host.specs.Grants.{with_secret_asked};
 ghost use Rattle.host.specs.Secret.{source_of};
 ghost use Rattle.host.specs.Seen.{after_ask};
 ghost use Rattle.scrypt_run.specs.Passphrase.{HasPassphrase, PassphraseRefused, first_line, first_line_at, is_line_end};
-ghost use Rattle.scrypt_request.specs.Refusal.{CountsFault, follows_work, is_want};
+ghost use Rattle.scrypt_request.specs.Refusal.{CountsFault, MayPrecedeWork, IsNoWant};
 
 use host::{Host, Source};
 use scrypt_request::ScryptRefusal;
@@ -60,7 +60,7 @@ pub(crate) fn read_passphrase<H: Host>(
     source: Source<'_>,
 ) -> Result<Passphrase, ScryptRefusal>
     requires room { AreBelow (2 ^ 63) (H.faults host.old) }
-    requires unasked { (H.grants host.old).secret ≡ true }
+    requires unasked { IsTrue (H.grants host.old).secret }
     ensures counts { CountsFault result (H.faults host.old) (H.faults host.new) }
     ensures granted { H.grants host.new ≡ with_secret_asked (H.grants host.old) }
     ensures asks { IsTrue H.tells →
@@ -69,8 +69,8 @@ pub(crate) fn read_passphrase<H: Host>(
         (HasPassphrase (first_line_at (source_of source.entry) (H.seen host.old))) }
     ensures refused { IsTrue H.tells → IfErr result (λ r.
         PassphraseRefused r (first_line_at (source_of source.entry) (H.seen host.old))) }
-    ensures early { IfErr result (λ r. follows_work r ≡ false) }
-    ensures no_want { IfErr result (λ r. is_want r ≡ false) }
+    ensures early { IfErr result MayPrecedeWork }
+    ensures no_want { IfErr result IsNoWant }
 {
     let mut room = [0u8; 2049];
     let n = host

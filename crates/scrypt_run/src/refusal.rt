@@ -1,7 +1,7 @@
 //! The refusal of a header's fault.
-ghost use Rattle.std.specs.Prelude.{◌≡◌, false};
+ghost use Rattle.std.specs.Prelude.{◌≡◌};
 ghost use Rattle.encfile.specs.Front.{header_refusal};
-ghost use Rattle.scrypt_request.specs.Refusal.{follows_work, is_want};
+ghost use Rattle.scrypt_request.specs.Refusal.{MayPrecedeWork, IsNoWant};
 ghost use Rattle.scrypt_run.specs.Refusal.{refusal_of};
 
 use encfile::HeaderFault;
@@ -11,8 +11,8 @@ use scrypt_request::ScryptRefusal;
 #[tactic(auto, unfolding(encfile::specs::Front::header_refusal))]
 pub(crate) fn header_refusal(fault: HeaderFault) -> ScryptRefusal
     ensures refusal { result ≡ refusal_of (header_refusal fault) }
-    ensures early { follows_work result ≡ false }
-    ensures no_want { is_want result ≡ false }
+    ensures early { MayPrecedeWork result }
+    ensures no_want { IsNoWant result }
 {
     match fault {
         HeaderFault::Version => ScryptRefusal::UnsupportedVersion,

@@ -1,18 +1,18 @@
 //! A run for a request.
-ghost use Rattle.std.specs.Prelude.{◌≡◌, ◌+◌, ◌≤◌, ◌^◌, false, IfErr, OnOk, IsTrue};
+ghost use Rattle.std.specs.Prelude.{◌≡◌, ◌+◌, ◌≤◌, ◌^◌, IfErr, OnOk, IsTrue};
 ghost use Rattle.host.specs.Faults.{AreBelow};
 ghost use Rattle.host.specs.Grants.{GrantsAll};
 ghost use Rattle.host.specs.Seen.{IsFresh};
 ghost use Rattle.scrypt_run.specs.Asking.{RequestAsked, RequestGranted};
-ghost use Rattle.scrypt_request.specs.Refusal.{CountsFault, may_follow_work};
+ghost use Rattle.scrypt_request.specs.Refusal.{CountsFault, CountsNoEarlyWork};
 ghost use Rattle.scrypt_request.specs.Request.{IsAllowed, request_seen};
 ghost use Rattle.scrypt_run.specs.Run.{KeepsAll, RequestRefused, RequestSucceeds, cores_asked, most_cores};
-ghost use Rattle.scrypt_run.specs.Work.{EndsAfterWork, RequestWorks};
+ghost use Rattle.scrypt_run.specs.Work.{EndsAfterWork, RequestWorks, CountsNoOtherWork};
 
 use crate::decrypt::decrypt;
 use crate::encrypt::encrypt;
 use crate::inspect::inspect;
-use crate::room::Room;
+use crate::run_memory::RunMemory;
 use host::Host;
 use romix::Ticks;
 use scrypt_request::{Request, ScryptRefusal};
@@ -32,7 +32,7 @@ use scrypt_request::{Request, ScryptRefusal};
 /// the salt or want of memory refuse, and never more than the limit on work. A run that ends well, or
 /// is refused by S10, S11, S13 or S14, or by S12 with its output opened, has counted exactly one
 /// derivation, with the request's S; `info` none.
-pub fn run<R: Room, H: Host>(
+pub fn run<R: RunMemory, H: Host>(
     room: &mut R,
     host: &mut H,
     request: &Request<'_>,
@@ -51,12 +51,11 @@ pub fn run<R: Room, H: Host>(
         (H.seen host.old) ticks.old ticks.new) }
     ensures worked { IsTrue H.tells → IfErr result (λ r. EndsAfterWork r (H.seen host.new)
         → RequestWorks (request_seen request.now) (H.seen host.old) ticks.old ticks.new) }
-    ensures unworked { IsTrue H.tells → IfErr result (λ r.
-        (EndsAfterWork r (H.seen host.new) → ⊥) → ticks.new ≡ ticks.old) }
+    ensures unworked { IsTrue H.tells → CountsNoOtherWork result (H.seen host.new) ticks.old ticks.new }
     ensures work { IsTrue H.tells → KeepsAll (request_seen request.now) → OnOk result (ticks.new
         ≡ ticks.old + cores_asked (request_seen request.now) (H.seen host.old)) }
     ensures work_bound { ticks.new ≤ ticks.old + most_cores (request_seen request.now) }
-    ensures no_work { IfErr result (λ r. may_follow_work r ≡ false → ticks.new ≡ ticks.old) }
+    ensures no_work { CountsNoEarlyWork result ticks.old ticks.new }
     ensures memory_granted { OnOk result (RequestGranted R.after_workspace R.after_line H.tells
         (H.seen host.old).input (request_seen request.now) room.old room.new) }
     ensures memory_asked { IfErr result (λ r. RequestAsked R.after_workspace R.after_line H.tells

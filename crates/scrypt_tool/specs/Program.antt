@@ -6,7 +6,7 @@ use Rattle.host.specs.Seen.{Seen, Text}
 use Rattle.scrypt_command.specs.Run.{Refuses, Succeeds}
 use Rattle.scrypt_request.specs.Refusal.{counted_by, line_of}
 use Rattle.scrypt_request.specs.declared.refusal.ScryptRefusal.TheVariants as refusal
-use Rattle.tools.specs.Held.{Leaves, host_over}
+use Rattle.tools.specs.RunState.{Leaves, host_over}
 use Rattle.tools.specs.Words.{LacksText}
 use Rattle.tools.specs.World.{IsSettled, IsUnsettled, World}
 use Rattle.tools.specs.declared.arguments.WordsFault.TheVariants as words_fault

@@ -2,6 +2,6 @@
 pub mod Identity
 pub mod Words
 pub mod World
-pub mod Held
+pub mod RunState
 pub mod Memory
 pub mod Numbers

@@ -2,7 +2,7 @@
 ghost use Rattle.std.specs.Prelude.{◌≡◌, ◌≤◌, ℕ, List, None, drop, length, option_map, IfOk, OnOk, IsTrue, Some, codes};
 ghost use Rattle.host.specs.Secret.{IsBeginning, source_of};
 ghost use Rattle.host.specs.Seen.{env};
-ghost use Rattle.tools.specs.Held.{bytes_in, opened_for, salt_of, secret_in, secret_left};
+ghost use Rattle.tools.specs.RunState.{bytes_in, opened_for, salt_of, secret_in, secret_left};
 ghost use Rattle.tools.specs.World.{LeavesAllBut, OpensNoOther, stands_at};
 ghost use Rattle.tools.specs.declared.system.Reading.TheVariants as reading;
 

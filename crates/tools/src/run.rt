@@ -4,7 +4,7 @@ ghost use Rattle.host.specs.Asked.{asked_source};
 ghost use Rattle.host.specs.Grants.{nothing_asked, with_input_opened, with_output_asked, with_output_opened, with_salt_asked, with_secret_asked};
 ghost use Rattle.host.specs.Secret.{IsBeginning, secret_of, source_of};
 ghost use Rattle.host.specs.Seen.{after_ask, after_ask_output, after_open_input, after_open_output, after_pull, after_push, after_salt, after_say, env};
-ghost use Rattle.tools.specs.Held.{Leaves, host_seen, secret_left};
+ghost use Rattle.tools.specs.RunState.{Leaves, host_seen, secret_left};
 ghost use Rattle.tools.specs.World.{IsSettled, IsUnsettled, IsUnused, after_line};
 
 use crate::inputs::{read_salt, read_secret};
@@ -53,7 +53,7 @@ pub enum OutputStage {
 /// `may_ask_for_salt` tell whether it holds. A line is said once; a second is a fault.
 ///
 /// A run cannot be dropped: its end is `into_system`, which hands back the system as the run left it. So nothing is
-/// done to a system after what contracts see. Contracts see a `Held`.
+/// done to a system after what contracts see. Contracts see a `RunState`.
 pub struct Run<S: System> {
     system: S,
     input: InputStage,
@@ -66,9 +66,9 @@ pub struct Run<S: System> {
 impl<S: System> Model for Run<S> {
     ghost use Rattle.std.specs.Prelude.{option_map, IsTrue};
     ghost use Rattle.host.specs.Asked.{asked_source};
-    ghost use Rattle.tools.specs.Held.{Held, IsAt, grants_at};
+    ghost use Rattle.tools.specs.RunState.{RunState, IsAt, grants_at};
 
-    ghost Value = { Held };
+    ghost Value = { RunState };
 
     ghost view = { λ r. record {
       world = S.world r.system;

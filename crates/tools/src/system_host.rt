@@ -2,7 +2,7 @@
 ghost use Rattle.std.specs.Prelude.{◌≡◌, ◌-◌, ◌≤◌, ◌^◌, true, IsTrue};
 ghost use Rattle.host.specs.Grants.{nothing_asked};
 ghost use Rattle.host.specs.Faults.{AreBelow, no_faults, output_failed};
-ghost use Rattle.tools.specs.Held.{EndsWithLine, Leaves, host_over, host_seen};
+ghost use Rattle.tools.specs.RunState.{EndsWithLine, Leaves, host_over, host_seen};
 ghost use Rattle.tools.specs.World.{IsSettled, IsUnsettled, IsUnused};
 
 use crate::counts::{Counts, counted};

@@ -3,7 +3,7 @@ ghost use Rattle.std.specs.Prelude.{◌≡◌, ◌-◌, Some};
 ghost use Rattle.argon2_command_tests.specs.declared.tests.refusing.Asked.TheVariants as asked;
 
 use argon::{Matrix, Params};
-use argon2_command::{Bytes, Room};
+use argon2_command::{Bytes, RunMemory};
 use argon2_words::{Request, Settings};
 use std::alloc::{AllocError, Global};
 
@@ -37,7 +37,7 @@ impl Refusing {
     }
 }
 
-impl Room for Refusing {
+impl RunMemory for Refusing {
     ghost after_zeros = { λ room _ _. record room { left = room.left - 1; last = Some asked.Zeros } };
 
     ghost after_line = { λ room _ _ _. record room { left = room.left - 1; last = Some asked.Line } };

@@ -1,6 +1,6 @@
 //! The example at the head of `argon_text`.
 use argon::Ticks;
-use argon_text::{Claim, Encoded, verify};
+use argon_text::{Encoded, HashView, verify};
 use std::test::Fail;
 
 #[test]
@@ -9,7 +9,7 @@ fn example(rt: HostRuntime) -> Result<(), Fail> {
     let text =
         b"$argon2i$v=19$m=256,t=2,p=1$c29tZXNhbHQ$iekCn0Y3spW+sCcFanM2xBT63UP2sghkUoHLIUpWRS8";
     let encoded = Encoded::read(alloc, text)?;
-    let claim = Claim::of(&encoded);
+    let claim = HashView::of(&encoded);
     let mut room = alloc;
     let mut ticks = Ticks::new(alloc);
     assert!(rt; verify(&mut room, &claim, b"password", 256, 526, &mut ticks)?);

@@ -2,7 +2,7 @@
 ghost use Rattle.std.specs.Prelude.{◌≡◌, ◌-◌};
 
 use argon::{Matrix, Params};
-use argon_text::{ReadRoom, Room, TextRoom};
+use argon_text::{HashMemory, ReadRoom, TextRoom};
 use base64::DecodeAllocError;
 use std::alloc::{AllocError, Global};
 
@@ -38,7 +38,7 @@ impl ReadRoom for Refusing {
     }
 }
 
-impl Room for Refusing {
+impl HashMemory for Refusing {
     ghost after_matrix = { λ room _ _ _ _. record room { left = room.left - 1; unasked = room.unasked - 1 } };
 
     fn matrix(

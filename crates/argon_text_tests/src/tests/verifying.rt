@@ -2,7 +2,7 @@
 use super::reference_texts::{KNOWN, ROWS};
 use super::refusing::Refusing;
 use argon::Ticks;
-use argon_text::{Claim, Encoded, ReadFault, VerifyFault, verify, verify_keyed};
+use argon_text::{Encoded, HashView, ReadFault, VerifyFault, verify, verify_keyed};
 use std::alloc::Global;
 use std::test::Fail;
 
@@ -18,7 +18,7 @@ fn tested(
     let mut ticks = Ticks::new(alloc);
     verify(
         &mut room,
-        &Claim::of(encoded),
+        &HashView::of(encoded),
         password,
         max_kib,
         max_ops,
@@ -115,7 +115,7 @@ fn answered_keyed(
     let mut room = alloc;
     let found = verify_keyed(
         &mut room,
-        &Claim::of(&encoded),
+        &HashView::of(&encoded),
         &[1; 32],
         secret,
         associated,
@@ -171,7 +171,7 @@ fn answered_of_length(alloc: Global, len: usize, text: &[u8]) -> Result<(u8, u8)
     let mut room = alloc;
     let keyed = verify_keyed(
         &mut room,
-        &Claim::of(&encoded),
+        &HashView::of(&encoded),
         &password,
         &[],
         &[],
@@ -224,7 +224,7 @@ fn answered_with(alloc: Global, left: u32, max_ops: u64) -> Result<u8, Fail> {
     };
     let found = verify(
         &mut room,
-        &Claim::of(&encoded),
+        &HashView::of(&encoded),
         b"password",
         256,
         max_ops,
@@ -253,7 +253,7 @@ fn may_enter(alloc: Global, stored: &[u8], password: &[u8]) -> Result<bool, Veri
         Err(_) => return Ok(false),
     };
     // settings, salt and tag of the text
-    let claim = Claim::of(&encoded);
+    let claim = HashView::of(&encoded);
     // the memory of the hash is from the heap
     let mut room = alloc;
     // counts the work, for contracts alone

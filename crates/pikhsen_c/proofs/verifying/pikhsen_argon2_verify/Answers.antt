@@ -27,6 +27,6 @@ no_input_fault text password max_kib max_ops judged =
 
 pub returns-clause-no_input : goal.returns-clause-no_input
 returns-clause-no_input c =
-    rw (c.burn.ensures.same)
+    rw (c.wipe_stack.ensures.same)
     (λ told. no_input_fault c.args.text.now c.args.password.now
     c.args.max_kib c.args.max_ops (c.verify_in-told.ensures.verdict.input_len told))

@@ -5,7 +5,7 @@ use Rattle.argon.specs.Counts.{work}
 use Rattle.argon_text.specs.EncodedText.{IsTextOf}
 use Rattle.argon_text.specs.Value.{IsValue, Value}
 use Rattle.argon_text.specs.Verifying.{keyed_fault, parameters_with}
-use Rattle.argon_text.specs.View.{value_claimed}
+use Rattle.argon_text.specs.View.{value_viewed}
 use Rattle.argon_text.specs.declared.fault.VerifyFault.TheVariants.{PasswordLength, InputLength, MemoryLimit, WorkLimit}
 use Rattle.pikhsen_c.proofs.verifying.verify_in.Goals as goal
 
@@ -36,7 +36,7 @@ work_within v password secret_len associated_len max_kib max_ops told =
 
 pub returns-clause-verdict : goal.returns-clause-verdict
 returns-clause-verdict g c =
-    let value : Value = value_claimed c.claim-claim.result in
+    let value : Value = value_viewed c.claim-claim.result in
     let valid : IsValue value = subst IsValue (sym c.claim-claim.ensures.value) c.in-Ok.ensures.value in
     let written : IsTextOf value c.args.text.now =
     subst (λ (v : Value). IsTextOf v c.args.text.now) (sym c.claim-claim.ensures.value) c.in-Ok.ensures.found in
@@ -67,7 +67,7 @@ returns-clause-verdict g c =
 
 pub returns-clause-asked : goal.returns-clause-asked
 returns-clause-asked g c =
-    let value : Value = value_claimed c.claim-claim.result in
+    let value : Value = value_viewed c.claim-claim.result in
     let valid : IsValue value = subst IsValue (sym c.claim-claim.ensures.value) c.in-Ok.ensures.value in
     let written : IsTextOf value c.args.text.now =
     subst (λ (v : Value). IsTextOf v c.args.text.now) (sym c.claim-claim.ensures.value) c.in-Ok.ensures.found in
@@ -78,7 +78,7 @@ returns-clause-asked g c =
         valid,
         written,
         c.answered.ensures.asked.asked told
-            ∙ ap (λ source. g.S.Room.after_matrix source (parameters_with value c.args.password.now)
+            ∙ ap (λ source. g.S.HashMemory.after_matrix source (parameters_with value c.args.password.now)
             c.args.max_kib c.args.max_ops true) c.in-Ok.ensures.asked,
       );
       asked_if_wrong = λ told. (
@@ -86,21 +86,21 @@ returns-clause-asked g c =
         valid,
         written,
         c.answered.ensures.asked.asked_if_late told
-            ∙ ap (λ source. g.S.Room.after_matrix source (parameters_with value c.args.password.now)
+            ∙ ap (λ source. g.S.HashMemory.after_matrix source (parameters_with value c.args.password.now)
             c.args.max_kib c.args.max_ops true) c.in-Ok.ensures.asked,
       );
       unasked = λ some wrong memory. c.answered.ensures.asked.unasked some memory wrong ∙ c.in-Ok.ensures.asked;
       refused = λ told. inr (
         record { value = value; valid = valid; written = written; refused = first.memory told },
         c.answered.ensures.asked.refused told
-            ∙ ap (λ source. g.S.Room.after_matrix source (parameters_with value c.args.password.now)
+            ∙ ap (λ source. g.S.HashMemory.after_matrix source (parameters_with value c.args.password.now)
             c.args.max_kib c.args.max_ops false) c.in-Ok.ensures.asked,
       );
     }
 
 pub returns-clause-works : goal.returns-clause-works
 returns-clause-works g c =
-    let value : Value = value_claimed c.claim-claim.result in
+    let value : Value = value_viewed c.claim-claim.result in
     let valid : IsValue value = subst IsValue (sym c.claim-claim.ensures.value) c.in-Ok.ensures.value in
     let written : IsTextOf value c.args.text.now =
     subst (λ (v : Value). IsTextOf v c.args.text.now) (sym c.claim-claim.ensures.value) c.in-Ok.ensures.found in

@@ -7,7 +7,7 @@ use Rattle.scrypt_request.specs.Refusal.{counted_by, line_of}
 use Rattle.scrypt_request.specs.Request.{Request, encrypt, decrypt, inspect}
 use Rattle.scrypt_run.specs.Run.{RequestSucceeds}
 use Rattle.scrypt_tool.specs.Program.{FailsSync}
-use Rattle.tools.specs.Held.{Held, host_seen}
+use Rattle.tools.specs.RunState.{RunState, host_seen}
 use Rattle.tools.specs.World.{IsUnsettled, World}
 use Rattle.scrypt_request.specs.declared.refusal.ScryptRefusal.TheVariants as refusal
 use Rattle.scrypt_tool.proofs.program.run.Goals as goal
@@ -35,7 +35,7 @@ unfolding IsTrueThen
 used-where true asked some = refl
 used-where false asked some = elim (subst IsTrueThen (sym some) tt) [ ]
 
-writable : (words : List Text) (h : Held) (before : Seen) → Succeeds words before (host_seen h) → h.grants.writable ≡ true
+writable : (words : List Text) (h : RunState) (before : Seen) → Succeeds words before (host_seen h) → h.grants.writable ≡ true
 writable words h before s = used-where h.grants.writable h.world.output_asked (opens-by s.request before (host_seen h) s.succeeds)
 
 -- the output could not be brought to the disk

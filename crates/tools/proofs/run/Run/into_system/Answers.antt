@@ -1,7 +1,7 @@
 -- What a run leaves of a system.
 use Rattle.std.proofs.Common.{◌≡◌, Bool, true, false, Option, None, Some, refl, sym, subst, ap, is_none, if◌then◌else◌, option_map}
 use Rattle.host.specs.Seen.{SecretSource, Text}
-use Rattle.tools.specs.Held.{Held, IsAt, Leaves, grants_at, host_seen, is_in_use}
+use Rattle.tools.specs.RunState.{RunState, IsAt, Leaves, grants_at, host_seen, is_in_use}
 use Rattle.tools.specs.World.{Files, World}
 use Rattle.tools.specs.declared.run.InputStage.{InputStage}
 use Rattle.tools.specs.declared.run.OutputStage.{OutputStage}
@@ -20,7 +20,7 @@ unemptied-where false asked is_emptied named unused none = unused refl
 unemptied-where true None is_emptied named unused none = elim (subst IsFalse (sym (named refl)) tt) [ ]
 unemptied-where true (Some name) is_emptied named unused none = elim (subst IsFalse (ap is_none none) tt) [ ]
 
-leaves-at : (h : Held) (input_stage : InputStage) (output_stage : OutputStage) (asked : Option SecretSource) (salted told : Bool)
+leaves-at : (h : RunState) (input_stage : InputStage) (output_stage : OutputStage) (asked : Option SecretSource) (salted told : Bool)
     (w : World) (f : Files) → h ≡ record { world = w; grants = grants_at input_stage output_stage asked salted; asked = asked; salted = salted }
     → IsAt input_stage output_stage asked salted told (grants_at input_stage output_stage asked salted) w f → Leaves w (host_seen h)
 leaves-at h input_stage output_stage asked salted told w f is at = subst (λ k. Leaves w (host_seen k)) (sym is) (record {

@@ -2,7 +2,7 @@ use Rattle.std.proofs.Common.{◌≡◌, ℕ, ◌+◌, ◌-◌, ◌≤◌, List,
 use Rattle.std.proofs.lemmas.List.{take_at}
 use Rattle.std.proofs.lemmas.Slice.{drop-append-drop, drop-put_mid, take-put_mid}
 use Rattle.encfile.proofs.Pieces.{cut_at}
-use Rattle.encfile.proofs.held.Held.take_in.Goals as goal
+use Rattle.encfile.proofs.tail.Tail.take_in.Goals as goal
 
 pub returns-clause-joined : goal.returns-clause-joined
 returns-clause-joined c =

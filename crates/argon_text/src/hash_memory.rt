@@ -9,7 +9,7 @@ use std::alloc::{AllocError, Global};
 /// Where `verify` and `verify_keyed` take the memory of a hash: the heap (`Global`), or a type of the caller's that
 /// counts requests or refuses some. Contracts see how many there are, of what, and what came of each; but of the heap
 /// they see nothing, since it has no state.
-pub trait Room {
+pub trait HashMemory {
     // The state in which a request for the matrix of a hash with these parameters, which limits of so many KiB and block
     // functions admit, leaves the source; `true`: it was granted.
     ghost after_matrix: { Self → Parameters → ℕ → ℕ → Bool → Self };
@@ -22,7 +22,7 @@ pub trait Room {
         ensures asked { self.new ≡ after_matrix self.old params.now max_kib max_ops (is_ok result) };
 }
 
-impl Room for Global {
+impl HashMemory for Global {
     ghost after_matrix = { λ room _ _ _ _. room };
 
     fn matrix(

@@ -14,13 +14,13 @@ ghost use Rattle.pikhsen_c.specs.Scrypt.{limits_status};
 use crate::reading::Reading;
 use crate::text::Text;
 use argon::Params;
-use argon_text::{ReadFault, Room};
+use argon_text::{HashMemory, ReadFault};
 use romix::{Sparse, Workspace};
 use std::alloc::AllocError;
 
-/// The requests for memory of a call; those for a matrix are those of `Room`. Contracts see which were made, in which
+/// The requests for memory of a call; those for a matrix are those of `HashMemory`. Contracts see which were made, in which
 /// order, under which limits, and whether they were granted: the last argument of each function below says so.
-pub(crate) trait Source: Room {
+pub(crate) trait CallMemory: HashMemory {
     // The state in which a request for the text of a hash that has zeros for a tag leaves the source; `true`: it was
     // granted.
     ghost after_text: { Self → Parameters → List ℕ → Bool → Self };

@@ -5,11 +5,11 @@ use crate::machine::Machine;
 use crate::status::OUT_OF_MEMORY;
 use std::simd::u64x64;
 
-/// What a function for C returns: its number, which is all that C sees, and the machine that it was handed. `burn`
+/// What a function for C returns: its number, which is all that C sees, and the machine that it was handed. `wipe_stack`
 /// alone makes one.
 #[repr(C)]
 #[derive(Drop)]
-pub struct Told {
+pub struct Answer {
     status: u32,
     machine: Machine,
 }
@@ -19,13 +19,13 @@ pub struct Told {
 /// it: want of memory is told if one is not 0, which is proved never to be. tests/library/c_face.py looks at the
 /// stack of a program.
 #[inline(never)]
-pub(crate) fn burn(told: u32, machine: Machine) -> Told
+pub(crate) fn wipe_stack(told: u32, machine: Machine) -> Answer
     ensures same { result.status ≡ told }
     ensures machine { result.machine ≡ machine }
 {
     let mut room = [u64::MAX; 4096];
     let status = if wipe(&mut room) { told } else { OUT_OF_MEMORY };
-    Told { status, machine }
+    Answer { status, machine }
 }
 
 // Puts zeros over the words, and answers whether all of them are there. On the way vector registers are filled with

@@ -13,7 +13,7 @@ use Rattle.tools.specs.declared.run.OutputStage.TheVariants as output
 
 -- what contracts see of the host over a system: the system; the calls that are granted; the secret source that was
 -- asked, and whether a salt was asked for, whatever came of it
-pub record Held : Type 0 where
+pub record RunState : Type 0 where
   pub world : World
   pub grants : Grants
   pub asked : Option SecretSource
@@ -108,7 +108,7 @@ secret_left (env name) n w = w.secret.left
 secret_left (file name) n w = drop n (bytes_in (lookup w.files name))
 
 -- what is seen of the host that is made of a system and of how far a run has come
-abbrev pub host_seen : Held → Seen
+abbrev pub host_seen : RunState → Seen
 host_seen h = record {
   input = h.world.input.left;
   output = h.world.output;
@@ -132,7 +132,7 @@ host_over w = host_seen (record { world = w; grants = nothing_asked; asked = Non
 -- opened at most the source that the host was asked for, and random bytes at most for a salt; and it emptied nothing
 -- but an output that it opened
 pub record Leaves (after : World) (seen : Seen) : Type 0 where
-  pub held : Held
+  pub held : RunState
   pub over : held.world ≡ after
   pub same : host_seen held ≡ seen
   pub secret : OpensNoOther (opened_for seen.asked) after.secret

@@ -1,6 +1,6 @@
 use Rattle.std.proofs.Common.{◌≡◌, ◌+◌, ◌-◌, ◌/◌, ◌≤◌, ℕ, List, arith, drop, length, refl, replicate, take}
 use Rattle.std.proofs.lemmas.List.{drop-replicate, take-append-drop, take-replicate}
-use Rattle.pikhsen_c.proofs.burning.copy_zeros.Goals as goal
+use Rattle.pikhsen_c.proofs.wiping.copy_zeros.Goals as goal
 
 zeros_again : (words : List ℕ) (part : ℕ) → words ≡ replicate (length words) 0 → part + part ≤ length words
     → take part (drop part words) ≡ take part words

@@ -9,12 +9,12 @@ const CODE_LEN: usize = 32;
 
 // At most 32 bytes, in an array. Contracts see them as a list.
 #[derive(Drop)]
-pub(crate) struct Held {
+pub(crate) struct Tail {
     bytes: [u8; CODE_LEN],
     len: usize,
 }
 
-impl Model for Held {
+impl Model for Tail {
     ghost use Rattle.std.specs.Prelude.{ℕ, ◌≤◌, List, take};
 
     ghost Value = { List ℕ };
@@ -24,12 +24,12 @@ impl Model for Held {
     ghost invariant = { λ h. h.len ≤ 32 };
 }
 
-impl Held {
+impl Tail {
     // No bytes.
-    pub(crate) fn new() -> Held
+    pub(crate) fn new() -> Tail
         ensures nothing { result ≡ [] }
     {
-        Held {
+        Tail {
             bytes: [0; CODE_LEN],
             len: 0,
         }

@@ -1,6 +1,6 @@
 use Rattle.std.proofs.Common.{◌≡◌, ℕ, List, take, arith, sym, ◌∙◌}
 use Rattle.std.proofs.lemmas.List.{take_all}
-use Rattle.encfile.proofs.held.Held.is.Goals as goal
+use Rattle.encfile.proofs.tail.Tail.is.Goals as goal
 
 pub returns-then-self-eq-CODE_LEN : goal.returns-then-self-eq-CODE_LEN
 returns-then-self-eq-CODE_LEN c =

@@ -1,7 +1,7 @@
 use Rattle.std.proofs.Common.{◌≡◌, ◌∷◌, ◌-◌, ◌*◌, ◌/◌, ◌<◌, ◌≤◌, ℕ, List, [], zero, suc, arith, ap, refl, length, replicate, slice_index_or}
 use Rattle.std.proofs.lemmas.List.{take-replicate, drop-replicate, get_or-replicate}
 use Rattle.std.specs.Simd.{first_chunks}
-use Rattle.pikhsen_c.proofs.burning.are_zeros.Goals as goal
+use Rattle.pikhsen_c.proofs.wiping.are_zeros.Goals as goal
 
 chunks_of_zeros : (n k len : ℕ) → k * n ≤ len → first_chunks {X = ℕ} n k (replicate len 0) ≡ replicate k (replicate n 0)
 chunks_of_zeros n zero len room = refl

@@ -17,7 +17,7 @@ use std::alloc::{AllocError, Global};
 /// caller's that counts requests or refuses some. All of them are made before the hash.
 /// Contracts see how many there are, of what, and which of them are granted. What is given cannot grow,
 /// and hands on no heap.
-pub trait Room {
+pub trait RunMemory {
     // What a request for so many bytes leaves of the source, granted or refused.
     ghost after_zeros: { Self → ℕ → Bool → Self };
 
@@ -47,7 +47,7 @@ pub trait Room {
         ensures asked { self.new ≡ after_matrix self.old params.now (is_ok result) };
 }
 
-impl Room for Global {
+impl RunMemory for Global {
     ghost after_zeros = { λ room _ _. room };
 
     ghost after_line = { λ room _ _ _. room };

@@ -9,7 +9,7 @@ use argon::Kind;
 /// has them without an `Encoded`. The ranges are those of `Encoded`. Salt and tag are bytes alone: a list would lend its
 /// allocator too, and memory could be asked for beside the source.
 #[derive(Drop)]
-pub struct Claim<'a> {
+pub struct HashView<'a> {
     /// Argon2d, Argon2i or Argon2id.
     pub kind: Kind,
     /// The version of Argon2: 0x10 or 0x13.
@@ -27,14 +27,14 @@ pub struct Claim<'a> {
     pub ghost in_range: { are_in_range version memory passes lanes (length salt.now) (length tag.now) ≡ true },
 }
 
-impl<'a> Claim<'a> {
-    ghost use Rattle.argon_text.specs.View.{value_claimed, value_of};
+impl<'a> HashView<'a> {
+    ghost use Rattle.argon_text.specs.View.{value_viewed, value_of};
 
     /// What this value lends.
-    pub fn of(encoded: &'a Encoded) -> Claim<'a>
-        ensures value { value_claimed result ≡ value_of encoded.now }
+    pub fn of(encoded: &'a Encoded) -> HashView<'a>
+        ensures value { value_viewed result ≡ value_of encoded.now }
     {
-        Claim {
+        HashView {
             kind: encoded.kind,
             version: encoded.version,
             memory: encoded.memory,

@@ -2,7 +2,7 @@
 //! nor take memory from its heap.
 ghost use Rattle.std.specs.Prelude.{◌≡◌, length, replicate};
 ghost use Rattle.std.specs.Borrow.{sem};
-ghost use Rattle.romix.specs.Inside.Held.{LendsWords};
+ghost use Rattle.romix.specs.Inside.WipedWords.{LendsWords};
 
 /// Words that a source of memory grants. They are let go of as they are, so nobody can write to them
 /// before a workspace holds them.
@@ -20,20 +20,20 @@ impl GrantedWords {
     }
 }
 
-/// A list of words that can be let go of by [`Held::free`] alone, when each of them is 0. It has no
+/// A list of words that can be let go of by [`WipedWords::free`] alone, when each of them is 0. It has no
 /// `Drop`, so that it cannot be forgotten, and it lends its words, never the list, so that none can be
 /// cut off.
-pub(crate) struct Held {
+pub(crate) struct WipedWords {
     list: Vec<u32>,
 }
 
-impl Held {
+impl WipedWords {
     /// Takes the words in.
-    pub(crate) fn new(granted: GrantedWords) -> Held
+    pub(crate) fn new(granted: GrantedWords) -> WipedWords
         ensures list { result.list ≡ granted.list }
     {
         let GrantedWords { list } = granted;
-        Held { list }
+        WipedWords { list }
     }
 
     /// The words, as many as before.
@@ -49,6 +49,6 @@ impl Held {
     pub(crate) fn free(self)
         requires wiped { self.list.items ≡ replicate (length self.list.items) 0 }
     {
-        let Held { list: _freed } = self;
+        let WipedWords { list: _freed } = self;
     }
 }

@@ -1,15 +1,15 @@
 //! Where the memory of a matrix and of lanes comes from: the heap, or a source of the caller's own.
 ghost use Rattle.std.specs.Prelude.{◌≡◌, ℕ, Bool, IfOk, is_ok, vec_len};
 
-use crate::held::GrantedBlocks;
 use crate::numbers::Numbers;
+use crate::wiped_blocks::GrantedBlocks;
 use std::alloc::{AllocError, Global};
 
 /// A source of the memory of a matrix and of lanes: the heap, which `Matrix::reserve` and `Lanes::reserve` use, or one of
 /// your own, which counts requests, say, or refuses some. [`matrix::reserve_from`](crate::matrix::reserve_from) and
 /// [`lanes::reserve_from`](crate::lanes::reserve_from) take it. Contracts see how many requests there are, of what size, and
 /// which of them are granted. What is granted can't grow, and hands on no heap.
-pub trait Room {
+pub trait MatrixMemory {
     // What a request for so many blocks leaves of the source, granted or refused.
     ghost after_blocks: { Self → ℕ → Bool → Self };
 
@@ -28,7 +28,7 @@ pub trait Room {
         ensures asked { self.new ≡ after_numbers self.old count (is_ok result) };
 }
 
-impl Room for Global {
+impl MatrixMemory for Global {
     ghost after_blocks = { λ room _ _. room };
 
     ghost after_numbers = { λ room _ _. room };

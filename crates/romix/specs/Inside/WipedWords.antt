@@ -3,9 +3,9 @@
 use Rattle.std.specs.Prelude.{List, ℕ}
 use Rattle.std.specs.Borrow.{Array, Fml, Lends, MutBor, u32}
 use Rattle.std.specs.Vec.{with_items}
-use Rattle.romix.specs.declared.held.Held.{Held}
-use Rattle.romix.specs.contracts.held.Held.{the_row}
+use Rattle.romix.specs.declared.wiped_words.WipedWords.{WipedWords}
+use Rattle.romix.specs.contracts.wiped_words.WipedWords.{the_row}
 
 -- The list ends with the words that were last left in what it lent.
-abbrev pub LendsWords : MutBor Held → MutBor (List ℕ) → Fml
+abbrev pub LendsWords : MutBor WipedWords → MutBor (List ℕ) → Fml
 LendsWords held words = Lends the_row (Array u32 0) held words (λ left. record held.now { list = with_items held.now.list left })

@@ -2,7 +2,7 @@
 //! nor take memory from its heap.
 ghost use Rattle.std.specs.Prelude.{◌≡◌, length, replicate, vec_len};
 ghost use Rattle.std.specs.Borrow.{sem};
-ghost use Rattle.argon.specs.Inside.Held.{LendsBlocks};
+ghost use Rattle.argon.specs.Inside.WipedBlocks.{LendsBlocks};
 
 use crate::block::Block;
 
@@ -22,20 +22,20 @@ impl GrantedBlocks {
     }
 }
 
-/// A list of blocks that can be let go of by [`Held::free`] alone, when each word of each block in it is
+/// A list of blocks that can be let go of by [`WipedBlocks::free`] alone, when each word of each block in it is
 /// 0. It has no `Drop`, so that it cannot be forgotten, and it lends its blocks, never the list, so that
 /// none can be cut off.
-pub(crate) struct Held {
+pub(crate) struct WipedBlocks {
     list: Vec<Block>,
 }
 
-impl Held {
+impl WipedBlocks {
     /// Takes the blocks in.
-    pub(crate) fn new(granted: GrantedBlocks) -> Held
+    pub(crate) fn new(granted: GrantedBlocks) -> WipedBlocks
         ensures list { result.list ≡ granted.list }
     {
         let GrantedBlocks { list } = granted;
-        Held { list }
+        WipedBlocks { list }
     }
 
     /// The blocks.
@@ -60,6 +60,6 @@ impl Held {
     pub(crate) fn free(self)
         requires wiped { self.list.items ≡ replicate (length self.list.items) (replicate 128 0) }
     {
-        let Held { list: _freed } = self;
+        let WipedBlocks { list: _freed } = self;
     }
 }

@@ -11,7 +11,7 @@ use std::alloc::{AllocError, Global};
 
 /// The requests for memory of a run, which has no other source. Contracts see how many there are, of
 /// what, and which of them are granted. What is given cannot grow, and hands on no heap.
-pub trait Room {
+pub trait RunMemory {
     // What a request for the memory of a derivation leaves of the source, granted or refused.
     ghost after_workspace: { Self → SparseParameters → Bool → Self };
 
@@ -33,7 +33,7 @@ pub trait Room {
         ensures asked { self.new ≡ after_line self.old costs.now (is_ok result) };
 }
 
-impl Room for Global {
+impl RunMemory for Global {
     ghost after_workspace = { λ room _ _. room };
 
     ghost after_line = { λ room _ _. room };
