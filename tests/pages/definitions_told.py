@@ -55,7 +55,7 @@ WHY = {
     ("pikhsen_c.specs.Heap", "one_more"): "one of two numbers of a record goes up by one",
     **{("pikhsen_c.specs.Heap", name): "`one_more` of one field of a record" for name in (
         "asked_for_matrix", "asked_for_text", "asked_for_workspace", "asked_for_state", "asked_to_read")},
-    ("pikhsen_c.specs.File", "cores_to_open"): "`sparse_cores` of the salt and the costs of a header",
+    **dict.fromkeys((("pikhsen_c.specs.File", "cores_to_open"), ("pikhsen_c.specs.Scrypt", "cores_given")), "`sparse_cores` of costs"),
     ("pikhsen_c.specs.Stream", "Of"): "a type of statements",
     ("scrypt_request.specs.Request", "text_of"): SEEN,
     ("scrypt_run.specs.Encrypting", "decided"): "a choice between `encrypted_file` and `body`",

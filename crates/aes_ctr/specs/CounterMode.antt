@@ -1,7 +1,7 @@
 -- The Counter mode (NIST SP 800-38A, 6.5) over AES-256, with the counter blocks of scrypt's encrypted files: the
 -- nonce is 0 (FORMAT of Tarsnap's scrypt, version 0), and nonce and number of the block have 64 bits each, the
 -- highest byte first (Tarsnap's code, crypto_aesctr.c; FORMAT does not say it).
-use Rattle.std.specs.Prelude.{ℕ, ◌+◌, ◌/◌, ◌%◌, List, [], ◌∷◌, ◌++◌, bit_xor, slice_index}
+use Rattle.std.specs.Prelude.{◌≡◌, ℕ, ◌+◌, ◌/◌, ◌%◌, ◌<◌, ◌^◌, List, [], ◌∷◌, ◌++◌, bit_xor, length, slice_index}
 use Rattle.std.specs.Int.{w64, to_be_bytes}
 use Rattle.aes_ctr.specs.Aes.{aes256}
 
@@ -26,6 +26,14 @@ counter_mode_from key i (byte ∷ text) = bit_xor byte (key_stream key i) ∷ co
 -- the text xored with the key stream from its first byte on (SP 800-38A, 6.5)
 abbrev pub counter_mode : List ℕ → List ℕ → List ℕ
 counter_mode key text = counter_mode_from key 0 text
+
+-- a text became what it is xored with the key stream from place i on (SP 800-38A, 6.5)
+abbrev pub XorsKeyStream : List ℕ → ℕ → List ℕ → List ℕ → Type 0
+XorsKeyStream key i before after = after ≡ counter_mode_from key i before
+
+-- the end of a text that begins at place i of the key stream is a place below 2^64
+abbrev pub FitsKeyStream : ℕ → List ℕ → Type 0
+FitsKeyStream i text = i + length text < 2 ^ 64
 
 -- what contracts see of a `Ctr`: the 32 bytes of the key, and the place in its key stream, in bytes
 pub record KeyStreamPlace : Type 0 where

@@ -1,6 +1,6 @@
 //! The Counter mode in pieces.
 ghost use Rattle.std.specs.Prelude.{◌≡◌, ◌+◌, ◌/◌, ◌%◌, ◌<◌, ◌^◌, length};
-ghost use Rattle.aes_ctr.specs.CounterMode.{counter_mode_from, key_stream_block};
+ghost use Rattle.aes_ctr.specs.CounterMode.{key_stream_block, FitsKeyStream, XorsKeyStream};
 
 use crate::block_cipher::Aes256;
 use crate::key_planes::KeyPlanes;
@@ -68,8 +68,8 @@ impl Ctr {
 
     // Byte by byte, from any position on.
     fn apply_bytes(&mut self, bytes: &mut [u8])
-        requires room { self.old.position + length bytes.old < 2 ^ 64 }
-        ensures xored { bytes.new ≡ counter_mode_from self.old.key self.old.position bytes.old }
+        requires room { FitsKeyStream self.old.position bytes.old }
+        ensures xored { XorsKeyStream self.old.key self.old.position bytes.old bytes.new }
         ensures position { self.new.position ≡ self.old.position + length bytes.old }
         ensures key { self.new.key ≡ self.old.key }
     {
@@ -84,8 +84,8 @@ impl Ctr {
     fn apply_blocks(&mut self, bytes: &mut [u8])
         requires block_begins { self.old.position % 16 ≡ 0 }
         requires whole_blocks { length bytes.old % 16 ≡ 0 }
-        requires room { self.old.position + length bytes.old < 2 ^ 64 }
-        ensures xored { bytes.new ≡ counter_mode_from self.old.key self.old.position bytes.old }
+        requires room { FitsKeyStream self.old.position bytes.old }
+        ensures xored { XorsKeyStream self.old.key self.old.position bytes.old bytes.new }
         ensures position { self.new.position ≡ self.old.position + length bytes.old }
         ensures key { self.new.key ≡ self.old.key }
     {
@@ -98,8 +98,8 @@ impl Ctr {
     ///
     /// So the pieces of a text, applied one after the other, become what the text becomes in one piece.
     pub fn apply(&mut self, bytes: &mut [u8])
-        requires room { self.old.position + length bytes.old < 2 ^ 64 }
-        ensures xored { bytes.new ≡ counter_mode_from self.old.key self.old.position bytes.old }
+        requires room { FitsKeyStream self.old.position bytes.old }
+        ensures xored { XorsKeyStream self.old.key self.old.position bytes.old bytes.new }
         ensures position { self.new.position ≡ self.old.position + length bytes.old }
         ensures key { self.new.key ≡ self.old.key }
     {

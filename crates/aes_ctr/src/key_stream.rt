@@ -2,7 +2,8 @@
 ghost use Rattle.std.specs.Prelude.{◌≡◌, ◌+◌, ◌*◌, ◌%◌, ◌<◌, ◌≤◌, ◌^◌, ◌++◌, ℕ, List, bit_xor, length};
 ghost use Rattle.std.specs.Simd.Lanes.{zip2};
 ghost use Rattle.aes_ctr.specs.Aes.{key_schedule};
-ghost use Rattle.aes_ctr.specs.CounterMode.{counter_block, counter_mode_from, key_stream_block};
+ghost use Rattle.aes_ctr.specs.CounterMode.{counter_block, key_stream_block, FitsKeyStream, XorsKeyStream};
+ghost use Rattle.aes_ctr.specs.Inside.PlaneSteps.{XorsByPlanes};
 ghost use Rattle.aes_ctr.specs.Planes.{AreKeyPlanes, plane};
 
 use crate::block_cipher::Aes256;
@@ -33,7 +34,7 @@ fn xor_into(bytes: &mut [u8], stream: u8x16)
 
 fn xor_block(aes: &Aes256, number: u64, bytes: &mut [u8])
     requires one_block { length bytes.old ≡ 16 }
-    ensures xored { bytes.new ≡ counter_mode_from aes.now (16 * number) bytes.old }
+    ensures xored { XorsKeyStream aes.now (16 * number) bytes.old bytes.new }
 {
     xor_into(bytes, u8x16::from_array(key_stream_block(aes, number)));
 }
@@ -77,8 +78,7 @@ fn xor_into_pair(bytes: &mut [u8], stream: u8x32)
 fn xor_sixteen_blocks(planes: &KeyPlanes, number: u64, bytes: &mut [u8])
     requires sixteen_blocks { length bytes.old ≡ 256 }
     requires room { number + 16 ≤ 2 ^ 64 }
-    ensures xored { (key : List ℕ) → AreKeyPlanes (key_schedule key) planes.now
-        → bytes.new ≡ counter_mode_from key (16 * number) bytes.old }
+    ensures xored { XorsByPlanes planes.now number bytes.old bytes.new }
 {
     let stream = sixteen_blocks(planes, number);
     for i in 0..8 {
@@ -88,9 +88,8 @@ fn xor_sixteen_blocks(planes: &KeyPlanes, number: u64, bytes: &mut [u8])
 
 fn xor_groups_of_sixteen(planes: &KeyPlanes, number: u64, bytes: &mut [u8])
     requires whole_groups { length bytes.old % 256 ≡ 0 }
-    requires room { 16 * number + length bytes.old < 2 ^ 64 }
-    ensures xored { (key : List ℕ) → AreKeyPlanes (key_schedule key) planes.now
-        → bytes.new ≡ counter_mode_from key (16 * number) bytes.old }
+    requires room { FitsKeyStream (16 * number) bytes.old }
+    ensures xored { XorsByPlanes planes.now number bytes.old bytes.new }
 {
     for i in 0..bytes.len() / 256 {
         xor_sixteen_blocks(
@@ -103,8 +102,8 @@ fn xor_groups_of_sixteen(planes: &KeyPlanes, number: u64, bytes: &mut [u8])
 
 fn xor_single_blocks(aes: &Aes256, number: u64, bytes: &mut [u8])
     requires whole_blocks { length bytes.old % 16 ≡ 0 }
-    requires room { 16 * number + length bytes.old < 2 ^ 64 }
-    ensures xored { bytes.new ≡ counter_mode_from aes.now (16 * number) bytes.old }
+    requires room { FitsKeyStream (16 * number) bytes.old }
+    ensures xored { XorsKeyStream aes.now (16 * number) bytes.old bytes.new }
 {
     for i in 0..bytes.len() / 16 {
         xor_block(aes, number + i as u64, &mut bytes[16 * i..16 * i + 16]);
@@ -118,8 +117,8 @@ fn xor_single_blocks(aes: &Aes256, number: u64, bytes: &mut [u8])
 pub fn xor_blocks(aes: &Aes256, planes: &KeyPlanes, number: u64, bytes: &mut [u8])
     requires planes { AreKeyPlanes (key_schedule aes.now) planes.now }
     requires whole_blocks { length bytes.old % 16 ≡ 0 }
-    requires room { 16 * number + length bytes.old < 2 ^ 64 }
-    ensures xored { bytes.new ≡ counter_mode_from aes.now (16 * number) bytes.old }
+    requires room { FitsKeyStream (16 * number) bytes.old }
+    ensures xored { XorsKeyStream aes.now (16 * number) bytes.old bytes.new }
 {
     let grouped = bytes.len() / 256 * 256;
     let (groups, singles) = bytes.split_at_mut(grouped);

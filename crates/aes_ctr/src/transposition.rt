@@ -3,7 +3,7 @@
 //! places one after the other, each by exchanging bits of two vectors that are 1, 2 or 4 apart.
 ghost use Rattle.std.specs.Prelude.{◌≡◌, ◌-◌, ◌*◌, ◌/◌, ◌%◌, ◌^◌, ◌<◌, ℕ, Bool, bit_and, if◌then◌else◌};
 ghost use Rattle.aes_ctr.specs.Planes.{bits, plane};
-ghost use Rattle.aes_ctr.specs.Inside.PlaneSteps.{AreParts, AreSwapped, IsPair};
+ghost use Rattle.aes_ctr.specs.Inside.PlaneSteps.{AreParts, AreSwapped, IsPair, ArePairs};
 
 use crate::planes::Planes;
 use std::simd::prelude::*;
@@ -38,7 +38,7 @@ fn upper_bits(distance: u8, low: u8, first: u8x32, second: u8x32) -> u8x32
 #[inline(always)]
 fn swapped_by_one(planes: Planes) -> Planes
     ensures swapped { AreSwapped 1 planes result }
-    ensures bytes { (k : ℕ) → k < 8 → IsPair (plane planes k) × IsPair (plane result k) }
+    ensures bytes { ArePairs planes result }
 {
     let [a, b, c, d, e, f, g, h] = planes;
     [
@@ -57,7 +57,7 @@ fn swapped_by_one(planes: Planes) -> Planes
 #[inline(always)]
 fn swapped_by_two(planes: Planes) -> Planes
     ensures swapped { AreSwapped 2 planes result }
-    ensures bytes { (k : ℕ) → k < 8 → IsPair (plane planes k) × IsPair (plane result k) }
+    ensures bytes { ArePairs planes result }
 {
     let [a, b, c, d, e, f, g, h] = planes;
     [
@@ -76,7 +76,7 @@ fn swapped_by_two(planes: Planes) -> Planes
 #[inline(always)]
 fn swapped_by_four(planes: Planes) -> Planes
     ensures swapped { AreSwapped 4 planes result }
-    ensures bytes { (k : ℕ) → k < 8 → IsPair (plane planes k) × IsPair (plane result k) }
+    ensures bytes { ArePairs planes result }
 {
     let [a, b, c, d, e, f, g, h] = planes;
     [
@@ -95,7 +95,7 @@ fn swapped_by_four(planes: Planes) -> Planes
 #[inline(always)]
 pub(crate) fn transposed(planes: Planes) -> Planes
     ensures transposed { (b k : ℕ) → b < 8 → k < 8 → bits b (plane result k) ≡ bits k (plane planes b) }
-    ensures bytes { (k : ℕ) → k < 8 → IsPair (plane planes k) × IsPair (plane result k) }
+    ensures bytes { ArePairs planes result }
 {
     swapped_by_four(swapped_by_two(swapped_by_one(planes)))
 }

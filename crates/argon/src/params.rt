@@ -4,6 +4,7 @@ ghost use Rattle.argon.specs.Argon2.{is_xored_in};
 ghost use Rattle.argon.specs.Counts.{independent_segments, work};
 ghost use Rattle.argon.specs.Kind.{type_number};
 ghost use Rattle.argon.specs.Parameters.{Parameters, block_count, segment_len};
+ghost use Rattle.argon.specs.Params.{AreAsGiven};
 ghost use Rattle.argon.specs.Range.{IsInRange, IsInRangeWithAnyPassword, admission, checked_parameters, checked_with_any_password, is_between, is_version};
 ghost use Rattle.argon.specs.Reference.{is_independent};
 
@@ -73,16 +74,8 @@ impl Params {
           salt_len = salt_len;
           password_len = password_len;
         }) }
-        ensures value { IfOk result (λ p. p ≡ record {
-          kind = type_number kind;
-          version = version;
-          passes = passes;
-          lanes = lanes;
-          memory_kib = memory_kib;
-          tag_len = tag_len;
-          salt_len = salt_len;
-          password_len = password_len;
-        }) }
+        ensures value { AreAsGiven (type_number kind) version passes lanes memory_kib tag_len salt_len
+            password_len result }
         ensures in_range { IfOk result IsInRange }
     {
         let params = Params::with_any_password(
@@ -124,16 +117,8 @@ impl Params {
           salt_len = salt_len;
           password_len = password_len;
         }) }
-        ensures value { IfOk result (λ p. p ≡ record {
-          kind = type_number kind;
-          version = version;
-          passes = passes;
-          lanes = lanes;
-          memory_kib = memory_kib;
-          tag_len = tag_len;
-          salt_len = salt_len;
-          password_len = password_len;
-        }) }
+        ensures value { AreAsGiven (type_number kind) version passes lanes memory_kib tag_len salt_len
+            password_len result }
         ensures in_range { IfOk result IsInRangeWithAnyPassword }
     {
         if !is_between(1, passes as u64, 0xFFFF_FFFF) {

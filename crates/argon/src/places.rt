@@ -1,6 +1,6 @@
 //! Which block a word J names (RFC 9106, section 3.4.2).
-ghost use Rattle.std.specs.Prelude.{◌≡◌, ℕ, ◌+◌, ◌-◌, ◌*◌, ◌/◌, ◌%◌, ◌^◌, ◌<◌, ◌≤◌, ◌&&◌, true, length, slice_index, nat_eq, if◌then◌else◌};
-ghost use Rattle.argon.specs.Inside.Places.{first_standing, reference_set_len, standing_count};
+ghost use Rattle.std.specs.Prelude.{◌≡◌, ℕ, ◌+◌, ◌-◌, ◌*◌, ◌/◌, ◌%◌, ◌^◌, ◌<◌, ◌≤◌, ◌&&◌, length, slice_index, nat_eq, if◌then◌else◌};
+ghost use Rattle.argon.specs.Inside.Places.{first_standing, reference_set_len, standing_count, IsAfterFirstTwo, FitsLane};
 ghost use Rattle.argon.specs.Reference.{reference_set, relative_place};
 
 /// A place of the matrix: the lane i and the column j of the block B\[i\]\[j\] (RFC 9106, section
@@ -27,7 +27,7 @@ fn relative_place(len: u32, j1: u32) -> u32
 
 // How many columns of a lane stand in finished segments.
 fn finished_columns(segment_len: u32, pass: u32, slice: u32) -> u32
-    requires short { 4 * segment_len < 2 ^ 32 }
+    requires short { FitsLane segment_len }
     requires slices { slice < 4 }
     ensures value { result ≡ standing_count segment_len pass slice 0 }
 {
@@ -41,10 +41,10 @@ fn finished_columns(segment_len: u32, pass: u32, slice: u32) -> u32
 // |W|.
 fn reference_set_len(segment_len: u32, pass: u32, slice: u32, index: u32, is_own: bool) -> u32
     requires long { 2 ≤ segment_len }
-    requires short { 4 * segment_len < 2 ^ 32 }
+    requires short { FitsLane segment_len }
     requires slices { slice < 4 }
     requires indices { index < segment_len }
-    requires first { pass ≡ 0 → slice ≡ 0 → (2 ≤ index) × (is_own ≡ true) }
+    requires first { IsAfterFirstTwo pass slice index is_own }
     ensures value { result ≡ reference_set_len segment_len pass slice index is_own }
 {
     let finished = finished_columns(segment_len, pass, slice);
@@ -60,7 +60,7 @@ fn reference_set_len(segment_len: u32, pass: u32, slice: u32, index: u32, is_own
 // The column that W begins with.
 fn first_standing(segment_len: u32, pass: u32, slice: u32) -> u32
     requires long { 2 ≤ segment_len }
-    requires short { 4 * segment_len < 2 ^ 32 }
+    requires short { FitsLane segment_len }
     requires slices { slice < 4 }
     ensures value { result ≡ first_standing segment_len pass slice % (4 * segment_len) }
 {
@@ -95,10 +95,10 @@ pub(crate) fn reference_column(
     j1: u32,
 ) -> u32
     requires long { 2 ≤ segment_len }
-    requires short { 4 * segment_len < 2 ^ 32 }
+    requires short { FitsLane segment_len }
     requires slices { slice < 4 }
     requires indices { index < segment_len }
-    requires first { pass ≡ 0 → slice ≡ 0 → (2 ≤ index) × (is_own ≡ true) }
+    requires first { IsAfterFirstTwo pass slice index is_own }
     ensures value { let columns = reference_set segment_len pass slice index is_own in
         result ≡ slice_index columns (relative_place (length columns) j1) % (4 * segment_len) }
     ensures within { result < 4 * segment_len }

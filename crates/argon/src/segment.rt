@@ -6,7 +6,7 @@ ghost use Rattle.argon.specs.Counts.{blocks_of_segment, column_work, first_index
 ghost use Rattle.argon.specs.Filling.{Filling};
 ghost use Rattle.argon.specs.Parameters.{Parameters, block_count};
 ghost use Rattle.argon.specs.Reference.{HasAddresses, address_block};
-ghost use Rattle.argon.specs.Inside.Segment.{IsInMatrix, IsSegmentOf, column_number, index_after_parts};
+ghost use Rattle.argon.specs.Inside.Segment.{IsInMatrix, IsSegmentOf, column_number, index_after_parts, AreOfMatrix};
 ghost use Rattle.argon.specs.Woven.{blocks_where_left, with_next_slice};
 ghost use Rattle.argon.specs.Inside.NextSlice.{AreLeft, IsNextSlice};
 
@@ -93,7 +93,7 @@ fn fill_column(
     requires valid { IsInMatrix at.now }
     requires indices { index < at.now.len }
     requires first { first_index at.now.pass at.now.slice ≤ index }
-    requires size { length blocks.old ≡ at.now.lanes * (4 * at.now.len) }
+    requires size { AreOfMatrix at.now blocks.old }
     ensures count { ticks.new ≡ ticks.old + 1 }
     ensures value { (parameters : Parameters) → IsSegmentOf parameters at.now
         → (at.now.is_independent ≡ true
@@ -155,7 +155,7 @@ pub(crate) fn fill_next_column(
     requires is_of { IsSegmentOf params.now at.now }
     requires indices { index < at.now.len }
     requires first { first_index at.now.pass at.now.slice ≤ index }
-    requires size { length blocks.old ≡ at.now.lanes * (4 * at.now.len) }
+    requires size { AreOfMatrix at.now blocks.old }
     requires addresses { HasAddresses params.now at.now.pass at.now.lane at.now.slice index
         addresses.old }
     ensures addresses { HasAddresses params.now at.now.pass at.now.lane at.now.slice
@@ -180,7 +180,7 @@ fn fill_segment(
 )
     requires valid { IsInMatrix at.now }
     requires is_of { IsSegmentOf params.now at.now }
-    requires size { length blocks.old ≡ at.now.lanes * (4 * at.now.len) }
+    requires size { AreOfMatrix at.now blocks.old }
     ensures size { length blocks.new ≡ length blocks.old }
     ensures count { ticks.new ≡ ticks.old + segment_work params.now at.now.pass at.now.slice }
     ensures made { (matrix : Filling) (left : List ℕ)

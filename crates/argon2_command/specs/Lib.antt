@@ -2,6 +2,5 @@
 pub mod Output
 pub mod Asking
 pub mod RunAsking
-pub mod Work
 pub mod Run
 pub mod Inside

@@ -2,6 +2,7 @@
 use Rattle.std.specs.Prelude.{◌≡◌, ℕ, ◌==◌, ◌++◌, List, [], ◌∷◌, Option, Some, None, Result, Ok, Err, length, nat_le, if◌then◌else◌}
 use Rattle.hex.specs.Hex.{encode_lower}
 use Rattle.argon.specs.Argon2.{Parameters, argon2_tag}
+use Rattle.argon.specs.Counts.{work}
 use Rattle.argon.specs.Kind.{type_number}
 use Rattle.argon.specs.Range.{admission, checked_parameters}
 use Rattle.argon.specs.declared.fault.ParamFault.{ParamFault}
@@ -98,3 +99,7 @@ output_for words stdin = do
 -- refusal: first of the words, then of the password, then of the parameters, then of the limits
 abbrev pub argon2_output : List Text → Seen → Result (List ℕ) Argon2Refusal
 argon2_output words seen = output_for words seen.stdin
+
+-- how many block functions the hash of a request takes, which no password changes
+abbrev pub request_work : Request → ℕ
+request_work q = work (parameters_of q [])

@@ -1,5 +1,5 @@
 -- A whole run of argon2: what stands at its end.
-use Rattle.std.specs.Prelude.{◌≡◌, ◌⊎◌, ℕ, Bool, List, Option, None, Ok, Err, IsOk, IsTrue, is_ok, if◌then◌else◌}
+use Rattle.std.specs.Prelude.{◌≡◌, ◌⊎◌, ℕ, Bool, List, Option, None, Result, Ok, Err, IfErr, IsErrOf, IsOk, IsTrue, MatchResult, is_ok, if◌then◌else◌}
 use Rattle.host.specs.Output.{IsCutShort, after_writing}
 use Rattle.host.specs.Seen.{Seen, Text, after_ask, after_ask_output, stdin_once}
 use Rattle.host.specs.Faults.{Faults}
@@ -51,7 +51,15 @@ IsRefused r words before after =
     ⊎ LacksMemory r words before after
     ⊎ FailsOutput r words before after
 
+-- a run with this result, on these words: where it is refused, so it was, with the host before and after it
+abbrev pub EndsRefused : {A : Type 0} → List Text → Result A Argon2Refusal → Seen → Seen → Type 0
+EndsRefused words result before after = IfErr result (λ r. IsRefused r words before after)
+
 -- ---- of every host, also one that tells nothing
+
+-- a run with this result, on these words: words that have a refusal end it with that
+abbrev pub RefusesWords : {A : Type 0} → List Text → Result A Argon2Refusal → Type 0
+RefusesWords words result = (refusal : Argon2Refusal) → argon2_request words ≡ Err refusal → IsErrOf result refusal
 
 -- for these words some standard input gives an output
 abbrev pub SucceedsForSome : List Text → Type 0
@@ -61,6 +69,10 @@ SucceedsForSome words = (stdin : Option (List ℕ)) × IsOk (output_for words st
 -- memory or the output can still fail
 abbrev pub IsToldForSome : List Text → Argon2Refusal → Type 0
 IsToldForSome words r = (stdin : Option (List ℕ)) × ((output_for words stdin ≡ Err r) ⊎ (IsLate r × IsOk (output_for words stdin)))
+
+-- a run with this result, on these words: some standard input leads to it
+abbrev pub EndsForSome : {A : Type 0} → List Text → Result A Argon2Refusal → Type 0
+EndsForSome words result = MatchResult result (λ _. SucceedsForSome words) (IsToldForSome words)
 
 -- ---- the end with a refusal
 

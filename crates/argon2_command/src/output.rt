@@ -5,6 +5,7 @@ ghost use Rattle.argon2_command.specs.Asking.{LacksOne, asking, with_all};
 ghost use Rattle.argon2_command.specs.Output.{admitted_parameters, output_line, parameters_of, tag_line};
 ghost use Rattle.argon2_words.specs.Refusal.{IsEarly};
 ghost use Rattle.argon2_words.specs.RequestView.{request_of};
+ghost use Rattle.host.specs.Seen.{KeepsOnErr};
 
 use crate::bytes::Bytes;
 use crate::line::put_tag;
@@ -79,7 +80,7 @@ pub fn output<R: RunMemory>(
     ensures memory_refused { OnErr result (LacksOne (asking R.after_zeros R.after_line R.after_matrix)
         (request_of request.now) params.now room.old room.new) }
     // No hash begins before every refusal is ruled out, that of memory too.
-    ensures no_work { IfErr result (λ _. ticks.new ≡ ticks.old) }
+    ensures no_work { KeepsOnErr result ticks.old ticks.new }
     ensures count { IfOk result (λ _. ticks.new ≡ ticks.old + work params.now) }
 {
     let mut tag = room.zeros(params.tag_len())?;

@@ -1,10 +1,10 @@
 //! The password: the whole standard input.
-ghost use Rattle.std.specs.Prelude.{◌≡◌, ◌<◌, ◌^◌, ◌⊎◌, ℕ, List, true, Some, Ok, Err, take, length, MatchResult, IfOk, IfErr, IsTrue};
+ghost use Rattle.std.specs.Prelude.{◌≡◌, ◌<◌, ◌^◌, ◌⊎◌, ℕ, List, true, Some, Ok, Err, take, length, IfOk, IfErr, IsTrue};
 ghost use Rattle.host.specs.Faults.{AreBelow};
 ghost use Rattle.host.specs.Grants.{with_secret_asked};
 ghost use Rattle.host.specs.Seen.{after_ask, stdin_once};
 ghost use Rattle.argon2_command.specs.Output.{RefusesInput, password_in};
-ghost use Rattle.argon2_words.specs.Refusal.{IsEarly, counted_by};
+ghost use Rattle.argon2_words.specs.Refusal.{IsEarly, CountsFault};
 ghost use Rattle.argon2_words.specs.declared.refusal.Argon2Refusal.TheVariants.{PasswordFault};
 
 use argon2_words::Argon2Refusal;
@@ -42,8 +42,7 @@ impl Password {
 pub fn read_password<H: Host>(host: &mut H) -> Result<Password, Argon2Refusal>
     requires room { AreBelow (2 ^ 63) (H.faults host.old) }
     requires unasked { (H.grants host.old).secret ≡ true }
-    ensures counts { MatchResult result (λ _. H.faults host.new ≡ H.faults host.old)
-        (λ r. H.faults host.new ≡ counted_by r (H.faults host.old)) }
+    ensures counts { CountsFault result (H.faults host.old) (H.faults host.new) }
     ensures early { IfErr result IsEarly }
     // of every host, also one that tells nothing
     ensures valid { IfOk result (λ p. password_in (Some p) ≡ Ok p) }

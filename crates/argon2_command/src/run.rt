@@ -1,16 +1,15 @@
 //! A whole run of `argon2`.
-ghost use Rattle.std.specs.Prelude.{◌≡◌, ◌≢◌, ◌≤◌, ◌+◌, ◌^◌, Ok, Err, true, MatchResult, IfOk, IfErr, IsErrOf, IsOk, OnOk, IsTrue, map, string_bytes};
-ghost use Rattle.host.specs.Faults.{AreBelow};
+ghost use Rattle.std.specs.Prelude.{◌≡◌, ◌≢◌, ◌≤◌, ◌+◌, ◌^◌, Ok, Err, true, IfOk, IfErr, IsOk, OnOk, IsTrue, map, string_bytes};
+ghost use Rattle.host.specs.Faults.{AreBelow, CountsNoFailure};
 ghost use Rattle.host.specs.Grants.{GrantsAll, with_secret_asked};
 ghost use Rattle.host.specs.Lines.{SaysOneLine};
-ghost use Rattle.host.specs.Seen.{IsFresh};
+ghost use Rattle.host.specs.Seen.{IsFresh, KeepsOnErr};
 ghost use Rattle.argon2_command.specs.Asking.{asking};
-ghost use Rattle.argon2_command.specs.RunAsking.{RunGranted, RunRefused};
-ghost use Rattle.argon2_command.specs.Output.{argon2_output};
-ghost use Rattle.argon2_command.specs.Work.{request_work};
-ghost use Rattle.argon2_words.specs.Refusal.{IsEarly, counted_by, line_of};
+ghost use Rattle.argon2_command.specs.RunAsking.{RunGranted, MemoryRefused};
+ghost use Rattle.argon2_command.specs.Output.{argon2_output, request_work};
+ghost use Rattle.argon2_words.specs.Refusal.{IsEarly, counted_by, line_of, CountsFault};
 ghost use Rattle.argon2_words.specs.Request.{argon2_request};
-ghost use Rattle.argon2_command.specs.Run.{IsRefused, IsToldForSome, Refuses, Succeeds, SucceedsForSome, password_asked};
+ghost use Rattle.argon2_command.specs.Run.{Refuses, Succeeds, SucceedsForSome, password_asked, EndsForSome, EndsRefused, RefusesWords};
 ghost use Rattle.argon2_words.specs.declared.refusal.Argon2Refusal.{Argon2Refusal};
 
 use crate::bytes::Bytes;
@@ -31,29 +30,26 @@ fn prepare<R: RunMemory, H: Host>(
 ) -> Result<Bytes, Argon2Refusal>
     requires room { AreBelow (2 ^ 63) (H.faults host.old) }
     requires unasked { (H.grants host.old).secret ≡ true }
-    ensures counts { MatchResult result (λ _. H.faults host.new ≡ H.faults host.old)
-        (λ r. H.faults host.new ≡ counted_by r (H.faults host.old)) }
+    ensures counts { CountsFault result (H.faults host.old) (H.faults host.new) }
     ensures granted { OnOk result (H.grants host.new ≡ with_secret_asked (H.grants host.old)) }
     ensures asks { IsTrue H.tells →
         H.seen host.new ≡ password_asked (map string_bytes words.now) (H.seen host.old) }
     ensures words { IfOk result (λ _. IsOk (argon2_request (map string_bytes words.now))) }
-    ensures words_refused { (refusal : Argon2Refusal)
-        → argon2_request (map string_bytes words.now) ≡ Err refusal → IsErrOf result refusal }
-    ensures some_input { MatchResult result (λ _. SucceedsForSome (map string_bytes words.now))
-        (IsToldForSome (map string_bytes words.now)) }
+    ensures words_refused { RefusesWords (map string_bytes words.now) result }
+    ensures some_input { EndsForSome (map string_bytes words.now) result }
     ensures due { IsTrue H.tells → IfOk result (λ line.
         argon2_output (map string_bytes words.now) (H.seen host.old) ≡ Ok line.list.items) }
-    ensures refused { IsTrue H.tells → IfErr result (λ r.
-        IsRefused r (map string_bytes words.now) (H.seen host.old) (H.seen host.new)) }
+    ensures refused { IsTrue H.tells →
+        EndsRefused (map string_bytes words.now) result (H.seen host.old) (H.seen host.new) }
     // Nothing is asked of the source of memory before every other refusal is ruled out.
     ensures unasked_for_memory { IfErr result (λ r. r ≢ Argon2Refusal.OutOfMemory → room.new ≡ room.old) }
     // Memory is asked for the tag, the line and one matrix, with parameters that the limits admit.
     ensures memory_granted { OnOk result (RunGranted
         (asking R.after_zeros R.after_line R.after_matrix) (map string_bytes words.now) room.old room.new) }
-    ensures memory_refused { IfErr result (λ r. r ≡ Argon2Refusal.OutOfMemory → RunRefused
-        (asking R.after_zeros R.after_line R.after_matrix) (map string_bytes words.now) room.old room.new) }
+    ensures memory_refused { MemoryRefused (asking R.after_zeros R.after_line R.after_matrix)
+        (map string_bytes words.now) result room.old room.new }
     // No hash begins before every refusal is ruled out, that of memory too.
-    ensures no_work { IfErr result (λ _. ticks.new ≡ ticks.old) }
+    ensures no_work { KeepsOnErr result ticks.old ticks.new }
     ensures count { IfOk result (λ _. IfOk (argon2_request (map string_bytes words.now))
         (λ request. ticks.new ≡ ticks.old + request_work request)) }
     ensures before_output { IfErr result (λ r. r ≢ Argon2Refusal.OutputFault) }
@@ -89,24 +85,22 @@ pub fn attempt<R: RunMemory, H: Host>(
     requires room { AreBelow (2 ^ 63) (H.faults host.old) }
     requires fresh { IsTrue H.tells → IsFresh (H.seen host.old) }
     requires granted { GrantsAll (H.grants host.old) }
-    ensures counts { OnOk result (H.faults host.new ≡ H.faults host.old) }
+    ensures counts { CountsNoFailure result (H.faults host.old) (H.faults host.new) }
     ensures counted { IfErr result (λ r. H.faults host.new ≡ counted_by r (H.faults host.old)) }
     ensures words { OnOk result (IsOk (argon2_request (map string_bytes words.now))) }
-    ensures words_refused { (refusal : Argon2Refusal)
-        → argon2_request (map string_bytes words.now) ≡ Err refusal → IsErrOf result refusal }
-    ensures some_input { MatchResult result (λ _. SucceedsForSome (map string_bytes words.now))
-        (IsToldForSome (map string_bytes words.now)) }
+    ensures words_refused { RefusesWords (map string_bytes words.now) result }
+    ensures some_input { EndsForSome (map string_bytes words.now) result }
     ensures succeeds { IsTrue H.tells →
         OnOk result (Succeeds (map string_bytes words.now) (H.seen host.old) (H.seen host.new)) }
-    ensures refused { IsTrue H.tells → IfErr result (λ r.
-        IsRefused r (map string_bytes words.now) (H.seen host.old) (H.seen host.new)) }
+    ensures refused { IsTrue H.tells →
+        EndsRefused (map string_bytes words.now) result (H.seen host.old) (H.seen host.new) }
     // Nothing is asked of the source of memory before every other refusal but the output's is ruled out.
     ensures unasked_for_memory { IfErr result (λ r. IsEarly r → room.new ≡ room.old) }
     // Memory is asked for the tag, the line and one matrix, with parameters that the limits admit.
     ensures memory_granted { OnOk result (RunGranted
         (asking R.after_zeros R.after_line R.after_matrix) (map string_bytes words.now) room.old room.new) }
-    ensures memory_refused { IfErr result (λ r. r ≡ Argon2Refusal.OutOfMemory → RunRefused
-        (asking R.after_zeros R.after_line R.after_matrix) (map string_bytes words.now) room.old room.new) }
+    ensures memory_refused { MemoryRefused (asking R.after_zeros R.after_line R.after_matrix)
+        (map string_bytes words.now) result room.old room.new }
     ensures memory_granted_for_output { IfErr result (λ r. r ≡ Argon2Refusal.OutputFault → RunGranted
         (asking R.after_zeros R.after_line R.after_matrix) (map string_bytes words.now) room.old room.new) }
     // The output's refusal is the one that comes after the hash, of which nothing is left to be done.

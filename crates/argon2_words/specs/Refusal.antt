@@ -1,5 +1,5 @@
 -- The refusals of argon2: the line of each, and the count of the host's failures that it raises.
-use Rattle.std.specs.Prelude.{◌≡◌, codes}
+use Rattle.std.specs.Prelude.{◌≡◌, Result, MatchResult, codes}
 use Rattle.argon.specs.declared.fault.ParamFault.{ParamFault}
 use Rattle.argon.specs.declared.fault.ParamFault.TheVariants as fault
 use Rattle.host.specs.Seen.{Text}
@@ -25,6 +25,10 @@ abbrev pub counted_by : Argon2Refusal → Faults → Faults
 counted_by refusal.PasswordFault f = secret_failed f
 counted_by refusal.OutputFault f = output_failed f
 counted_by r f = f
+
+-- a step with this result, and the counts before and after it: a refusal raises its own, and nothing else raises any
+abbrev pub CountsFault : {A : Type 0} → Result A Argon2Refusal → Faults → Faults → Type 0
+CountsFault result before after = MatchResult result (λ _. after ≡ before) (λ r. after ≡ counted_by r before)
 
 -- the refusal is one of A1 to A8c, that is, neither A9 (of the output) nor A10 (of memory), which a run meets only
 -- after these

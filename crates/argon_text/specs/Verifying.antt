@@ -1,5 +1,5 @@
 -- Whether a password gives the tag of a value, and why that is not answered.
-use Rattle.std.specs.Prelude.{◌≡◌, ◌||◌, ℕ, not, nat_le, nat_lt, List, [], length, if◌then◌else◌, Option, Some, None}
+use Rattle.std.specs.Prelude.{◌≡◌, ◌≢◌, ◌||◌, ◌+◌, ℕ, Bool, true, false, not, nat_le, nat_lt, List, [], length, if◌then◌else◌, Option, Some, None, Result, IfErr, OnOk}
 use Rattle.argon.specs.Argon2.{Parameters, argon2_tag, block_count}
 use Rattle.argon.specs.Counts.{work}
 use Rattle.argon.specs.Kind.{type_number}
@@ -62,3 +62,26 @@ IsToldFault first InputLength = first ≡ Some InputLength
 IsToldFault first MemoryLimit = first ≡ Some MemoryLimit
 IsToldFault first WorkLimit = first ≡ Some WorkLimit
 IsToldFault first OutOfMemory = first ≡ None
+
+-- ---- what a test of a password with this result asks of its source of memory, and its work. `after_matrix` is what a
+-- request for the matrix leaves of the source, granted or refused
+
+-- a refusal but that of memory leaves the source as it was
+abbrev pub AsksLast : {Source A : Type 0} → Result A VerifyFault → Source → Source → Type 0
+AsksLast result before after = IfErr result (λ fault. fault ≢ OutOfMemory → after ≡ before)
+
+-- where there is an answer, the matrix of the value and the password was granted, under these limits
+abbrev pub MatrixGranted : {Source A : Type 0} → (Source → Parameters → ℕ → ℕ → Bool → Source) → Value → List ℕ → ℕ → ℕ
+    → Result A VerifyFault → Source → Source → Type 0
+MatrixGranted after_matrix v password max_kib max_ops result before after =
+    OnOk result (after ≡ after_matrix before (parameters_with v password) max_kib max_ops true)
+
+-- where the refusal is that of memory, this matrix was refused
+abbrev pub MatrixRefused : {Source A : Type 0} → (Source → Parameters → ℕ → ℕ → Bool → Source) → Value → List ℕ → ℕ → ℕ
+    → Result A VerifyFault → Source → Source → Type 0
+MatrixRefused after_matrix v password max_kib max_ops result before after =
+    IfErr result (λ fault. fault ≡ OutOfMemory → after ≡ after_matrix before (parameters_with v password) max_kib max_ops false)
+
+-- where there is an answer, the count of block functions went on by those of one hash
+abbrev pub HashesOnce : {A : Type 0} → Value → List ℕ → Result A VerifyFault → ℕ → ℕ → Type 0
+HashesOnce v password result before after = OnOk result (after ≡ before + work (parameters_with v password))

@@ -1,8 +1,8 @@
 //! Whether a password gives the tag of a value.
-ghost use Rattle.std.specs.Prelude.{◌≡◌, ◌≢◌, ◌+◌, ◌<◌, ◌^◌, ◌↔◌, None, Ok, true, false, nat_le, length, IfOk, IfErr, OnOk, OnErr, IsTrue};
+ghost use Rattle.std.specs.Prelude.{◌≡◌, ◌+◌, ◌<◌, ◌^◌, ◌↔◌, None, Ok, true, false, nat_le, length, IfOk, IfErr, OnOk, OnErr, IsTrue};
 ghost use Rattle.argon.specs.Counts.{work};
 ghost use Rattle.argon.specs.Range.{admission};
-ghost use Rattle.argon_text.specs.Verifying.{IsToldFault, keyed_fault, keyed_tag, parameters_with, tag_of_password, verify_fault};
+ghost use Rattle.argon_text.specs.Verifying.{IsToldFault, keyed_fault, keyed_tag, parameters_with, tag_of_password, verify_fault, AsksLast, HashesOnce, MatrixGranted, MatrixRefused};
 ghost use Rattle.argon_text.specs.View.{value_viewed};
 
 use crate::fault::VerifyFault;
@@ -37,15 +37,15 @@ pub fn verify<R: HashMemory>(
     // What is told is the first that holds, and memory was asked for where none does.
     ensures fault { IfErr result (IsToldFault (verify_fault (value_viewed claim.now) password.now max_kib max_ops)) }
     // Nothing is asked of the source of memory before every other refusal is ruled out.
-    ensures unasked { IfErr result (λ fault. fault ≢ VerifyFault.OutOfMemory → room.new ≡ room.old) }
+    ensures unasked { AsksLast result room.old room.new }
     // And then the matrix alone, under the caller's own limits; want of memory is told where that was refused.
-    ensures asked { IfOk result (λ _. room.new ≡ R.after_matrix room.old
-        (parameters_with (value_viewed claim.now) password.now) max_kib max_ops true) }
-    ensures refused { IfErr result (λ fault. fault ≡ VerifyFault.OutOfMemory → room.new ≡ R.after_matrix room.old
-        (parameters_with (value_viewed claim.now) password.now) max_kib max_ops false) }
+    ensures asked { MatrixGranted R.after_matrix (value_viewed claim.now) password.now max_kib max_ops
+        result room.old room.new }
+    ensures refused { MatrixRefused R.after_matrix (value_viewed claim.now) password.now max_kib max_ops
+        result room.old room.new }
     // No block function is run before every refusal is ruled out, that of memory too, and then those of one hash.
     ensures no_work { IfErr result (λ _. ticks.new ≡ ticks.old) }
-    ensures count { IfOk result (λ _. ticks.new ≡ ticks.old + work (parameters_with (value_viewed claim.now) password.now)) }
+    ensures count { HashesOnce (value_viewed claim.now) password.now result ticks.old ticks.new }
 {
     if !is_between(1, password.len() as u64, 127) {
         return Err(VerifyFault::PasswordLength);
@@ -78,15 +78,15 @@ pub fn verify_keyed<R: HashMemory>(
     ensures fault { IfErr result (IsToldFault
         (keyed_fault (value_viewed claim.now) password.now (length secret.now) (length associated.now) max_kib max_ops)) }
     // Nothing is asked of the source of memory before every other refusal is ruled out.
-    ensures unasked { IfErr result (λ fault. fault ≢ VerifyFault.OutOfMemory → room.new ≡ room.old) }
+    ensures unasked { AsksLast result room.old room.new }
     // And then the matrix alone, under the caller's own limits; want of memory is told where that was refused.
-    ensures asked { IfOk result (λ _. room.new ≡ R.after_matrix room.old
-        (parameters_with (value_viewed claim.now) password.now) max_kib max_ops true) }
-    ensures refused { IfErr result (λ fault. fault ≡ VerifyFault.OutOfMemory → room.new ≡ R.after_matrix room.old
-        (parameters_with (value_viewed claim.now) password.now) max_kib max_ops false) }
+    ensures asked { MatrixGranted R.after_matrix (value_viewed claim.now) password.now max_kib max_ops
+        result room.old room.new }
+    ensures refused { MatrixRefused R.after_matrix (value_viewed claim.now) password.now max_kib max_ops
+        result room.old room.new }
     // No block function is run before every refusal is ruled out, that of memory too, and then those of one hash.
     ensures no_work { IfErr result (λ _. ticks.new ≡ ticks.old) }
-    ensures count { IfOk result (λ _. ticks.new ≡ ticks.old + work (parameters_with (value_viewed claim.now) password.now)) }
+    ensures count { HashesOnce (value_viewed claim.now) password.now result ticks.old ticks.new }
 {
     let params = params_of(claim, password)?;
     if secret.len() > 0xFFFF_FFFF || associated.len() > 0xFFFF_FFFF {

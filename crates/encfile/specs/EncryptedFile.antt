@@ -1,8 +1,10 @@
 -- scrypt's encrypted file, version 0 (Tarsnap's FORMAT), as lists of bytes. Offsets are FORMAT's.
-use Rattle.std.specs.Prelude.{◌≡◌, ℕ, ◌-◌, ◌^◌, ◌<◌, List, [], ◌++◌, length, take, drop, nat_le, if◌then◌else◌}
+use Rattle.std.specs.Prelude.{◌≡◌, ℕ, ◌+◌, ◌-◌, ◌^◌, ◌<◌, ◌≤◌, List, [], ◌++◌, length, take, drop, nat_le, if◌then◌else◌}
 use Rattle.macs.specs.HmacSha256.{hmac_sha256}
 use Rattle.romix.specs.Costs.{IsInRange, Parameters}
 use Rattle.romix.specs.Scrypt.{scrypt}
+use Rattle.romix.specs.Sparse.{sparse_cores}
+use Rattle.romix.specs.SparseCosts.{SparseParameters, cores_bound}
 use Rattle.aes_ctr.specs.CounterMode.{counter_mode}
 use Rattle.encfile.specs.Header.{bytes_at, costs_of, header, salt_of}
 
@@ -68,3 +70,13 @@ right_header_code file passphrase = hmac_sha256 (code_key passphrase (salt_of fi
 -- bytes 64 to 95 of the file are the HMAC of bytes 0 to 63 under the passphrase
 abbrev pub HasRightHeaderCode : List ℕ → List ℕ → Type 0
 HasRightHeaderCode file passphrase = bytes_at file 64 32 ≡ right_header_code file passphrase
+
+-- ---- the work of the derivation of the keys
+
+-- the count of Salsa20/8 cores went on by those of one derivation
+abbrev pub CountsDerivation : List ℕ → List ℕ → SparseParameters → ℕ → ℕ → Type 0
+CountsDerivation passphrase salt sparse before after = after ≡ before + sparse_cores passphrase salt sparse
+
+-- and by no more than the bound that the costs and S tell before it begins
+abbrev pub CountsWithinBound : SparseParameters → ℕ → ℕ → Type 0
+CountsWithinBound sparse before after = after ≤ before + cores_bound sparse

@@ -1,10 +1,8 @@
 //! Decryption in pieces.
 ghost use Rattle.std.specs.Prelude.{◌≡◌, ℕ, ◌+◌, ◌-◌, ◌*◌, ◌^◌, ◌<◌, ◌≤◌, ◌++◌, List, [], length, take, drop, IfOk, OnOk, OnErr};
 ghost use Rattle.romix.specs.Costs.{cores};
-ghost use Rattle.romix.specs.Sparse.{sparse_cores};
-ghost use Rattle.romix.specs.SparseCosts.{cores_bound};
 ghost use Rattle.encfile.specs.Header.{IsHeaderOf};
-ghost use Rattle.encfile.specs.EncryptedFile.{HasRightHeaderCode, IsEncryptionOf, released_text};
+ghost use Rattle.encfile.specs.EncryptedFile.{HasRightHeaderCode, IsEncryptionOf, released_text, CountsDerivation, CountsWithinBound};
 ghost use Rattle.encfile.specs.Encrypting.{FitsSha256};
 ghost use Rattle.encfile.specs.Decrypting.{Decrypts, HasRead};
 
@@ -64,8 +62,8 @@ impl Dec {
         ensures right { OnOk result (HasRightHeaderCode front.now passphrase.now) }
         ensures wrong { OnErr result (HasRightHeaderCode front.now passphrase.now → ⊥) }
         ensures memory { workspace.new ≡ workspace.old }
-        ensures count { ticks.new ≡ ticks.old + sparse_cores passphrase.now header.salt workspace.old.sparse }
-        ensures bound { ticks.new ≤ ticks.old + cores_bound workspace.old.sparse }
+        ensures count { CountsDerivation passphrase.now header.salt workspace.old.sparse ticks.old ticks.new }
+        ensures bound { CountsWithinBound workspace.old.sparse ticks.old ticks.new }
         ensures whole { workspace.old.sparse.keep ≡ 1 → ticks.new ≡ ticks.old + cores header.costs }
     {
         let keys = derived_key(passphrase, header.salt(), workspace, ticks);

@@ -2,10 +2,8 @@
 ghost use Rattle.std.specs.Prelude.{◌≡◌, ℕ, ◌+◌, ◌*◌, ◌^◌, ◌<◌, ◌≤◌, ◌++◌, List, [], length, drop, OnOk, OnErr};
 ghost use Rattle.macs.specs.HmacSha256.{hmac_sha256};
 ghost use Rattle.romix.specs.Costs.{IsInRange, Parameters, cores};
-ghost use Rattle.romix.specs.Sparse.{sparse_cores};
-ghost use Rattle.romix.specs.SparseCosts.{cores_bound};
 ghost use Rattle.encfile.specs.Header.{header};
-ghost use Rattle.encfile.specs.EncryptedFile.{body, encrypted_file, head};
+ghost use Rattle.encfile.specs.EncryptedFile.{body, encrypted_file, head, CountsDerivation, CountsWithinBound};
 ghost use Rattle.encfile.specs.Encrypting.{Encrypts, FitsSha256, HasEncrypted};
 
 use crate::fault::TooLong;
@@ -66,8 +64,8 @@ impl Enc {
         requires workspace { workspace.old.sparse.costs ≡ costs.now }
         ensures begun { HasEncrypted result passphrase.now salt.now costs.now [] }
         ensures memory { workspace.new ≡ workspace.old }
-        ensures count { ticks.new ≡ ticks.old + sparse_cores passphrase.now salt.now workspace.old.sparse }
-        ensures bound { ticks.new ≤ ticks.old + cores_bound workspace.old.sparse }
+        ensures count { CountsDerivation passphrase.now salt.now workspace.old.sparse ticks.old ticks.new }
+        ensures bound { CountsWithinBound workspace.old.sparse ticks.old ticks.new }
         ensures whole { workspace.old.sparse.keep ≡ 1 → ticks.new ≡ ticks.old + cores costs.now }
     {
         let keys = derived_key(passphrase, salt, workspace, ticks);

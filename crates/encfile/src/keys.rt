@@ -1,12 +1,10 @@
 //! What the passphrase gives: 64 bytes, of which the first 32 are the key of AES-256 and the last 32
 //! that of HMAC-SHA-256.
-ghost use Rattle.std.specs.Prelude.{◌≡◌, ◌+◌, ◌*◌, ◌^◌, ◌≤◌, ℕ, List, take, drop};
+ghost use Rattle.std.specs.Prelude.{◌≡◌, ◌+◌, ◌*◌, ◌^◌, ℕ, List, take, drop};
 ghost use Rattle.macs.specs.Hmac.{Holds};
 ghost use Rattle.macs.specs.HmacSha256.{hmac_sha256};
 ghost use Rattle.romix.specs.Costs.{cores};
-ghost use Rattle.romix.specs.Sparse.{sparse_cores};
-ghost use Rattle.romix.specs.SparseCosts.{cores_bound};
-ghost use Rattle.encfile.specs.EncryptedFile.{derived_key};
+ghost use Rattle.encfile.specs.EncryptedFile.{derived_key, CountsDerivation, CountsWithinBound};
 
 use aes_ctr::{Aes256, Ctr};
 use macs::Hmac;
@@ -21,8 +19,8 @@ pub(crate) fn derived_key(
 ) -> [u8; 64]
     ensures key { result ≡ derived_key passphrase.now salt.now workspace.old.sparse.costs }
     ensures memory { workspace.new ≡ workspace.old }
-    ensures count { ticks.new ≡ ticks.old + sparse_cores passphrase.now salt.now workspace.old.sparse }
-    ensures bound { ticks.new ≤ ticks.old + cores_bound workspace.old.sparse }
+    ensures count { CountsDerivation passphrase.now salt.now workspace.old.sparse ticks.old ticks.new }
+    ensures bound { CountsWithinBound workspace.old.sparse ticks.old ticks.new }
     ensures whole { workspace.old.sparse.keep ≡ 1 → ticks.new ≡ ticks.old + cores workspace.old.sparse.costs }
 {
     let mut keys = [0u8; 64];

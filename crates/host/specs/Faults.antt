@@ -1,5 +1,5 @@
 -- How often the calls of a host have failed.
-use Rattle.std.specs.Prelude.{◌+◌, ◌<◌, ℕ}
+use Rattle.std.specs.Prelude.{◌≡◌, ◌+◌, ◌<◌, ℕ, Result, OnOk, OnErr}
 
 -- how many calls of each kind failed: `open_input` and `pull`, `open_output` and `push`, `secret`, `salt`, `say`
 pub record Faults : Type 0 where
@@ -40,3 +40,11 @@ pub record AreBelow (n : ℕ) (f : Faults) : Type 0 where
 -- the counts of a host where nothing failed yet
 abbrev pub no_faults : Faults
 no_faults = record { input = 0; output = 0; secrets = 0; salt = 0; lines = 0 }
+
+-- a call with this result, and the counts before and after it: one that succeeds counts no failure
+abbrev pub CountsNoFailure : {A E : Type 0} → Result A E → Faults → Faults → Type 0
+CountsNoFailure result before after = OnOk result (after ≡ before)
+
+-- a call of this kind with this result, and the counts before and after it: one that fails counts one more of its kind
+abbrev pub CountsFailure : {A E : Type 0} → (Faults → Faults) → Result A E → Faults → Faults → Type 0
+CountsFailure failed result before after = OnErr result (after ≡ failed before)

@@ -1,5 +1,5 @@
 -- What contracts see of a host that tells its bytes, and what each call leaves of it.
-use Rattle.std.specs.Prelude.{◌≡◌, Bool, true, false, ℕ, List, ◌∷◌, [], ◌++◌, drop, Option, Some, None}
+use Rattle.std.specs.Prelude.{◌≡◌, ◌<◌, ◌≤◌, Bool, true, false, ℕ, List, ◌∷◌, [], ◌++◌, drop, length, Option, Some, None, Result, IfOk, OnOk, OnErr}
 
 -- a text: its bytes
 abbrev pub Text : Type 0
@@ -84,3 +84,21 @@ nothing_seen = record {
   files = λ _. None;
   salt = [];
 }
+
+-- ---- the results of calls
+
+-- a call with this result, and what was so before and after it: where it fails, that stays as it was
+abbrev pub KeepsOnErr : {A E T : Type 0} → Result A E → T → T → Type 0
+KeepsOnErr result before after = OnErr result (after ≡ before)
+
+-- a call with this result, and what was so before and after it: where it succeeds, that stays as it was
+abbrev pub KeepsOnOk : {A E T : Type 0} → Result A E → T → T → Type 0
+KeepsOnOk result before after = OnOk result (after ≡ before)
+
+-- a call says a number of bytes: these are no more than there are, or than there is room for
+abbrev pub FitsWithin : {E : Type 0} → Result ℕ E → List ℕ → Type 0
+FitsWithin result bytes = IfOk result (λ n. n ≤ length bytes)
+
+-- a call says how many bytes it took of these: some, where there are any
+abbrev pub TakesSome : {E : Type 0} → Result ℕ E → List ℕ → Type 0
+TakesSome result bytes = IfOk result (λ n. 0 < length bytes → 0 < n)

@@ -1,9 +1,9 @@
 //! What a command asks of the world.
-ghost use Rattle.std.specs.Prelude.{◌≡◌, ◌-◌, ◌<◌, ◌≤◌, ◌^◌, Bool, true, [], take, length, option_map, IfOk, OnOk, OnErr, IsTrue};
-ghost use Rattle.host.specs.Faults.{Faults, AreBelow, input_failed, output_failed, secret_failed, salt_failed, line_failed};
+ghost use Rattle.std.specs.Prelude.{◌≡◌, ◌-◌, ◌<◌, ◌^◌, Bool, true, [], take, length, option_map, IfOk, OnOk, OnErr, IsTrue};
+ghost use Rattle.host.specs.Faults.{Faults, AreBelow, input_failed, output_failed, secret_failed, salt_failed, line_failed, CountsFailure, CountsNoFailure};
 ghost use Rattle.host.specs.Grants.{Grants, with_input_opened, with_output_asked, with_output_opened, with_salt_asked, with_secret_asked};
 ghost use Rattle.host.specs.Secret.{secret_of, source_of, IsBeginning};
-ghost use Rattle.host.specs.Seen.{Seen, after_ask, after_pull, after_push, after_salt, after_say, after_ask_output, after_open_input, after_open_output};
+ghost use Rattle.host.specs.Seen.{Seen, after_ask, after_pull, after_push, after_salt, after_say, after_ask_output, after_open_input, after_open_output, FitsWithin, KeepsOnErr, KeepsOnOk, TakesSome};
 
 use thiserror::Error;
 
@@ -59,21 +59,21 @@ pub trait Host {
     fn open_input(&mut self, name: Option<&str>) -> Result<(), HostFault>
         requires room { AreBelow (2 ^ 64 - 1) (faults self.old) }
         requires unopened { (grants self.old).input ≡ true }
-        ensures counts { OnOk result (faults self.new ≡ faults self.old) }
-        ensures counted { OnErr result (faults self.new ≡ input_failed (faults self.old)) }
-        ensures kept { IsTrue tells → OnErr result (seen self.new ≡ seen self.old) }
+        ensures counts { CountsNoFailure result (faults self.old) (faults self.new) }
+        ensures counted { CountsFailure input_failed result (faults self.old) (faults self.new) }
+        ensures kept { IsTrue tells → KeepsOnErr result (seen self.old) (seen self.new) }
         ensures opened { IsTrue tells → OnOk result
             (seen self.new ≡ after_open_input (option_map (λ n. n.now) name.entry) (seen self.old)) }
         ensures granted { OnOk result (grants self.new ≡ with_input_opened (grants self.old)) }
-        ensures granted_as_before { OnErr result (grants self.new ≡ grants self.old) };
+        ensures granted_as_before { KeepsOnErr result (grants self.old) (grants self.new) };
 
     /// Opens the output under this name; `None` is standard output. No output was asked for before;
     /// this one is asked for, whatever the answer.
     fn open_output(&mut self, name: Option<&str>) -> Result<(), HostFault>
         requires room { AreBelow (2 ^ 64 - 1) (faults self.old) }
         requires unasked { (grants self.old).output ≡ true }
-        ensures counts { OnOk result (faults self.new ≡ faults self.old) }
-        ensures counted { OnErr result (faults self.new ≡ output_failed (faults self.old)) }
+        ensures counts { CountsNoFailure result (faults self.old) (faults self.new) }
+        ensures counted { CountsFailure output_failed result (faults self.old) (faults self.new) }
         ensures asks { IsTrue tells → OnErr result
             (seen self.new ≡ after_ask_output (option_map (λ n. n.now) name.entry) (seen self.old)) }
         ensures opened { IsTrue tells → OnOk result
@@ -86,11 +86,11 @@ pub trait Host {
     fn pull(&mut self, buf: &mut [u8]) -> Result<usize, HostFault>
         requires room { AreBelow (2 ^ 64 - 1) (faults self.old) }
         requires readable { (grants self.old).readable ≡ true }
-        ensures bound { IfOk result (λ n. n ≤ length buf.old) }
-        ensures counts { OnOk result (faults self.new ≡ faults self.old) }
-        ensures counted { OnErr result (faults self.new ≡ input_failed (faults self.old)) }
-        ensures kept { IsTrue tells → OnErr result (seen self.new ≡ seen self.old) }
-        ensures within { IsTrue tells → IfOk result (λ n. n ≤ length (seen self.old).input) }
+        ensures bound { FitsWithin result buf.old }
+        ensures counts { CountsNoFailure result (faults self.old) (faults self.new) }
+        ensures counted { CountsFailure input_failed result (faults self.old) (faults self.new) }
+        ensures kept { IsTrue tells → KeepsOnErr result (seen self.old) (seen self.new) }
+        ensures within { IsTrue tells → FitsWithin result (seen self.old).input }
         ensures bytes { IsTrue tells →
             IfOk result (λ n. take n buf.new ≡ take n (seen self.old).input) }
         ensures taken { IsTrue tells →
@@ -98,30 +98,30 @@ pub trait Host {
         ensures progress { IsTrue tells → IfOk result (λ n.
             0 < length buf.old → n ≡ 0 → (seen self.old).input ≡ []) }
         ensures granted { IfOk result (λ n. 0 < n → grants self.new ≡ grants self.old) }
-        ensures still_writable { OnOk result ((grants self.new).writable ≡ (grants self.old).writable) };
+        ensures still_writable { KeepsOnOk result (grants self.old).writable (grants self.new).writable };
 
     /// Writes a beginning of the bytes, of at least one where there is one, and says how many. The output
     /// is opened, and no push before has failed.
     fn push(&mut self, bytes: &[u8]) -> Result<usize, HostFault>
         requires room { AreBelow (2 ^ 64 - 1) (faults self.old) }
         requires writable { (grants self.old).writable ≡ true }
-        ensures bound { IfOk result (λ n. n ≤ length bytes.now) }
-        ensures progress { IfOk result (λ n. 0 < length bytes.now → 0 < n) }
-        ensures counts { OnOk result (faults self.new ≡ faults self.old) }
-        ensures counted { OnErr result (faults self.new ≡ output_failed (faults self.old)) }
-        ensures kept { IsTrue tells → OnErr result (seen self.new ≡ seen self.old) }
+        ensures bound { FitsWithin result bytes.now }
+        ensures progress { TakesSome result bytes.now }
+        ensures counts { CountsNoFailure result (faults self.old) (faults self.new) }
+        ensures counted { CountsFailure output_failed result (faults self.old) (faults self.new) }
+        ensures kept { IsTrue tells → KeepsOnErr result (seen self.old) (seen self.new) }
         ensures put { IsTrue tells →
             IfOk result (λ n. seen self.new ≡ after_push (take n bytes.now) (seen self.old)) }
-        ensures granted { OnOk result (grants self.new ≡ grants self.old) };
+        ensures granted { KeepsOnOk result (grants self.old) (grants self.new) };
 
     /// Puts the first bytes of a secret source into the buffer, as many as there are and as fit, and
     /// says how many. No source was asked before; this one is asked, whatever the answer.
     fn secret(&mut self, source: Source<'_>, buf: &mut [u8]) -> Result<usize, HostFault>
         requires room { AreBelow (2 ^ 64 - 1) (faults self.old) }
         requires unasked { (grants self.old).secret ≡ true }
-        ensures bound { IfOk result (λ n. n ≤ length buf.old) }
-        ensures counts { OnOk result (faults self.new ≡ faults self.old) }
-        ensures counted { OnErr result (faults self.new ≡ secret_failed (faults self.old)) }
+        ensures bound { FitsWithin result buf.old }
+        ensures counts { CountsNoFailure result (faults self.old) (faults self.new) }
+        ensures counted { CountsFailure secret_failed result (faults self.old) (faults self.new) }
         ensures asks { IsTrue tells →
             seen self.new ≡ after_ask (source_of source.entry) (seen self.old) }
         ensures bytes { IsTrue tells →
@@ -133,8 +133,8 @@ pub trait Host {
     fn salt(&mut self, out: &mut [u8; 32]) -> Result<(), HostFault>
         requires room { AreBelow (2 ^ 64 - 1) (faults self.old) }
         requires unsalted { (grants self.old).salt ≡ true }
-        ensures counts { OnOk result (faults self.new ≡ faults self.old) }
-        ensures counted { OnErr result (faults self.new ≡ salt_failed (faults self.old)) }
+        ensures counts { CountsNoFailure result (faults self.old) (faults self.new) }
+        ensures counted { CountsFailure salt_failed result (faults self.old) (faults self.new) }
         ensures salts { IsTrue tells → seen self.new ≡ after_salt (seen self.old) }
         ensures bytes { IsTrue tells → OnOk result (out.new ≡ (seen self.old).salt) }
         ensures granted { grants self.new ≡ with_salt_asked (grants self.old) };
@@ -142,9 +142,9 @@ pub trait Host {
     /// Says a line, which comes without a line feed.
     fn say(&mut self, line: &str) -> Result<(), HostFault>
         requires room { AreBelow (2 ^ 64 - 1) (faults self.old) }
-        ensures counts { OnOk result (faults self.new ≡ faults self.old) }
-        ensures counted { OnErr result (faults self.new ≡ line_failed (faults self.old)) }
-        ensures kept { IsTrue tells → OnErr result (seen self.new ≡ seen self.old) }
+        ensures counts { CountsNoFailure result (faults self.old) (faults self.new) }
+        ensures counted { CountsFailure line_failed result (faults self.old) (faults self.new) }
+        ensures kept { IsTrue tells → KeepsOnErr result (seen self.old) (seen self.new) }
         ensures said { IsTrue tells →
             OnOk result (seen self.new ≡ after_say line.now (seen self.old)) }
         ensures granted { grants self.new ≡ grants self.old };

@@ -1,9 +1,9 @@
 //! Bytes and lines to a host.
 ghost use Rattle.std.specs.Prelude.{◌≡◌, ◌-◌, ◌<◌, ◌^◌, ◌⊎◌, ℕ, true, None, take, length, OnOk, OnErr, IsTrue};
-ghost use Rattle.host.specs.Faults.{AreBelow, output_failed};
+ghost use Rattle.host.specs.Faults.{AreBelow, output_failed, CountsFailure, CountsNoFailure};
 ghost use Rattle.host.specs.Lines.{SaysOneLine};
 ghost use Rattle.host.specs.Output.{IsCutShort, after_writing};
-ghost use Rattle.host.specs.Seen.{after_ask_output, after_push};
+ghost use Rattle.host.specs.Seen.{after_ask_output, after_push, KeepsOnOk};
 
 use crate::host::{Host, HostFault};
 
@@ -11,9 +11,9 @@ use crate::host::{Host, HostFault};
 pub fn push_all<H: Host>(host: &mut H, bytes: &[u8]) -> Result<(), HostFault>
     requires room { AreBelow (2 ^ 64 - 1) (H.faults host.old) }
     requires writable { (H.grants host.old).writable ≡ true }
-    ensures counts { OnOk result (H.faults host.new ≡ H.faults host.old) }
-    ensures counted { OnErr result (H.faults host.new ≡ output_failed (H.faults host.old)) }
-    ensures granted { OnOk result (H.grants host.new ≡ H.grants host.old) }
+    ensures counts { CountsNoFailure result (H.faults host.old) (H.faults host.new) }
+    ensures counted { CountsFailure output_failed result (H.faults host.old) (H.faults host.new) }
+    ensures granted { KeepsOnOk result (H.grants host.old) (H.grants host.new) }
     ensures put { IsTrue H.tells →
         OnOk result (H.seen host.new ≡ after_push bytes.now (H.seen host.old)) }
     ensures begun { IsTrue H.tells → OnErr result ((n : ℕ) × (n < length bytes.now)
@@ -31,8 +31,8 @@ pub fn push_all<H: Host>(host: &mut H, bytes: &[u8]) -> Result<(), HostFault>
 pub fn write_output<H: Host>(host: &mut H, bytes: &[u8]) -> Result<(), HostFault>
     requires room { AreBelow (2 ^ 64 - 1) (H.faults host.old) }
     requires unasked { (H.grants host.old).output ≡ true }
-    ensures counts { OnOk result (H.faults host.new ≡ H.faults host.old) }
-    ensures counted { OnErr result (H.faults host.new ≡ output_failed (H.faults host.old)) }
+    ensures counts { CountsNoFailure result (H.faults host.old) (H.faults host.new) }
+    ensures counted { CountsFailure output_failed result (H.faults host.old) (H.faults host.new) }
     ensures written { IsTrue H.tells →
         OnOk result (H.seen host.new ≡ after_writing None bytes.now (H.seen host.old)) }
     ensures left { IsTrue H.tells → OnErr result ((H.seen host.new ≡ after_ask_output None (H.seen host.old))

@@ -1,7 +1,8 @@
 -- What a caller gives to the functions for scrypt, and what they answer.
-use Rattle.std.specs.Prelude.{ℕ, ◌*◌, ◌-◌, ◌^◌, nat_lt, nat_le, Option, Some, None, if◌then◌else◌}
+use Rattle.std.specs.Prelude.{ℕ, ◌*◌, ◌-◌, ◌^◌, nat_lt, nat_le, List, Option, Some, None, if◌then◌else◌}
 use Rattle.romix.specs.Costs.{Parameters}
 use Rattle.romix.specs.Faults.{cost_fault, keep_fault, sparse_limit_fault}
+use Rattle.romix.specs.Sparse.{sparse_cores}
 use Rattle.romix.specs.SparseCosts.{SparseParameters}
 use Rattle.romix.specs.declared.fault.CostFault.{CostFault}
 use Rattle.romix.specs.declared.limits.Limits.{Limits}
@@ -14,6 +15,10 @@ costs_given log_n r p = record { log_n = log_n; r = r; p = p }
 -- the costs with the rows of V kept whose number `keep` divides
 abbrev pub sparse_given : Parameters → ℕ → SparseParameters
 sparse_given costs keep = record { costs = costs; keep = keep }
+
+-- the Salsa20/8 cores of a derivation with these numbers (RFC 7914, 6)
+abbrev pub cores_given : List ℕ → List ℕ → ℕ → ℕ → ℕ → ℕ → ℕ
+cores_given passphrase salt log_n r p keep = sparse_cores passphrase salt (sparse_given (costs_given log_n r p) keep)
 
 -- the limits that count: no more than 2^40 bytes are ever asked for
 abbrev pub limits_given : ℕ → ℕ → Limits

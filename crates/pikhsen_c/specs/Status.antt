@@ -114,6 +114,14 @@ range_number range.SaltLength = 36
 abbrev pub no_stream : ℕ
 no_stream = 37
 
+-- a call with this number, and what a caller handed in before and after it: at any refusal it stays as it was
+abbrev pub KeepsAtRefusal : {T : Type 0} → ℕ → T → T → Type 0
+KeepsAtRefusal status before after = status ≢ 0 → after ≡ before
+
+-- a call with this number, and the length of the text that it tells: at any refusal there is no text
+abbrev pub TellsNoLength : ℕ → ℕ → Type 0
+TellsNoLength status len = status ≢ 0 → len ≡ 0
+
 -- the first of two numbers, if it is not 0, or else the second
 abbrev pub first_told : ℕ → ℕ → ℕ
 first_told first second = if first == 0 then second else first

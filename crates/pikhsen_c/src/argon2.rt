@@ -1,5 +1,5 @@
 //! Hashes by Argon2.
-ghost use Rattle.std.specs.Prelude.{◌≡◌, ◌≢◌, ◌^◌, ◌<◌, length, Ok, IfSome, IfOk, IfErr, OnOk, None};
+ghost use Rattle.std.specs.Prelude.{◌≡◌, ◌^◌, ◌<◌, length, Ok, IfSome, IfOk, IfErr, OnOk, None};
 ghost use Rattle.argon.specs.Argon2.{argon2_tag};
 ghost use Rattle.argon.specs.Counts.{work};
 ghost use Rattle.argon.specs.Inputs.{inputs_of};
@@ -9,7 +9,7 @@ ghost use Rattle.pikhsen_c.specs.Argon2.{hash_status, inputs_given, kind_numbere
 ghost use Rattle.pikhsen_c.specs.Heap.{AsksOnce, WorksOnce, asked_for_matrix};
 ghost use Rattle.pikhsen_c.specs.Inside.Numbers.{IsEarly, number_told};
 ghost use Rattle.pikhsen_c.specs.Inside.Settings.{parameters_of};
-ghost use Rattle.pikhsen_c.specs.Status.{TellsFirst, out_of_memory};
+ghost use Rattle.pikhsen_c.specs.Status.{TellsFirst, out_of_memory, KeepsAtRefusal};
 
 use crate::call_memory::CallMemory;
 use crate::machine::Machine;
@@ -135,7 +135,7 @@ fn hash_in<S: CallMemory>(
         (length out.old) (length inputs.now.salt.now) (length inputs.now.password.now))
         (length inputs.now.secret.now) (length inputs.now.associated.now)
         settings.now.max_kib settings.now.max_ops) result }
-    ensures untouched { result ≢ 0 → out.new ≡ out.old }
+    ensures untouched { KeepsAtRefusal result out.old out.new }
     // Nothing is asked of the source before every other refusal is ruled out, and then the matrix alone, under the
     // caller's own limits; want of memory is told where that was refused, and only there.
     ensures asked { AsksOnce (S.after_matrix source.old (parameters_of settings.now
@@ -188,7 +188,7 @@ pub extern "C" fn pikhsen_argon2_hash(
     ensures first { TellsFirst (hash_status (parameters_given kind version passes lanes memory_kib
         (length out.old) (length salt.now) (length password.now))
         (length secret.now) (length associated.now) max_kib max_ops) result.status }
-    ensures untouched { result.status ≢ 0 → out.new ≡ out.old }
+    ensures untouched { KeepsAtRefusal result.status out.old out.new }
     // What was asked of the heap.
     ensures asked { AsksOnce (asked_for_matrix machine.heap) result.status machine.heap result.machine.heap }
     ensures no_cores { result.machine.cores ≡ machine.cores }

@@ -8,7 +8,7 @@ ghost use Rattle.pikhsen_c.specs.Argon2.{encoded_hash, encoded_keyed_hash, encod
 ghost use Rattle.pikhsen_c.specs.Heap.{AsksTwice, WorksOnce, asked_for_matrix, asked_for_text};
 ghost use Rattle.pikhsen_c.specs.Inside.Settings.{parameters_of};
 ghost use Rattle.pikhsen_c.specs.Message.{IsWritten};
-ghost use Rattle.pikhsen_c.specs.Status.{out_of_memory};
+ghost use Rattle.pikhsen_c.specs.Status.{out_of_memory, KeepsAtRefusal, TellsNoLength};
 
 use crate::argon2::{Settings, tested_hash};
 use crate::call_memory::CallMemory;
@@ -87,8 +87,8 @@ pub(crate) fn encode_in<S: CallMemory>(
     ensures memory { result ≡ out_of_memory
         → hash_status (parameters_of settings.now tag_len (length salt.now) (length password.now))
         (length secret.now) (length associated.now) settings.now.max_kib settings.now.max_ops ≡ 0 }
-    ensures untouched { result ≢ 0 → out.new ≡ out.old }
-    ensures nothing { result ≢ 0 → text_len.new ≡ 0 }
+    ensures untouched { KeepsAtRefusal result out.old out.new }
+    ensures nothing { TellsNoLength result text_len.new }
     // Nothing is asked of the source before settings, lengths and limits are tested. That the buffer is too small is
     // told after the text alone was asked for, and granted; otherwise the matrix alone, under the caller's own
     // limits.
@@ -163,8 +163,8 @@ pub extern "C" fn pikhsen_argon2_encoded(
     // Memory is asked for, and refused, only where the settings are not.
     ensures memory { result.status ≡ out_of_memory → hash_status (parameters_given kind version passes lanes
         memory_kib tag_len (length salt.now) (length password.now)) 0 0 max_kib max_ops ≡ 0 }
-    ensures untouched { result.status ≢ 0 → out.new ≡ out.old }
-    ensures nothing { result.status ≢ 0 → text_len.new ≡ 0 }
+    ensures untouched { KeepsAtRefusal result.status out.old out.new }
+    ensures nothing { TellsNoLength result.status text_len.new }
     // What was asked of the heap.
     ensures asked { AsksTwice (asked_for_text machine.heap) asked_for_matrix
         (encoded_status (parameters_given kind version passes lanes memory_kib

@@ -1,7 +1,6 @@
 //! scrypt's encrypted files, whole in memory.
 ghost use Rattle.std.specs.Prelude.{◌≡◌, ◌≢◌, ℕ, ◌+◌, ◌-◌, ◌^◌, ◌<◌, ◌≤◌, List, [], length, replicate, take, drop, IfOk, IfErr, OnOk, OnErr};
 ghost use Rattle.romix.specs.Costs.{Parameters};
-ghost use Rattle.romix.specs.Sparse.{sparse_cores};
 ghost use Rattle.encfile.specs.Decrypting.{HasRead};
 ghost use Rattle.encfile.specs.EncryptedFile.{HasRightHeaderCode, IsEncryptionOf, encrypted_file, released_text};
 ghost use Rattle.encfile.specs.Encrypting.{HasEncrypted};
@@ -9,10 +8,10 @@ ghost use Rattle.encfile.specs.Header.{IsHeaderOf, costs_of, salt_of};
 ghost use Rattle.encfile.specs.HeaderFaults.{header_fault};
 ghost use Rattle.pikhsen_c.specs.File.{cores_to_open, encrypt_status, front_status, header_status, lengths_status, number_of};
 ghost use Rattle.pikhsen_c.specs.Heap.{AsksOnce, AsksToOpen, WorksOnce, WorksToOpen, asked_for_workspace};
-ghost use Rattle.pikhsen_c.specs.Inside.Numbers.{IsEarly, number_told};
-ghost use Rattle.pikhsen_c.specs.Inside.Settings.{ask_under, cores_of_settings, costs_of_settings, encryption_refusal, front_refusal, length_lent, opening_refusal, text_lent};
-ghost use Rattle.pikhsen_c.specs.Scrypt.{costs_given, sparse_given};
-ghost use Rattle.pikhsen_c.specs.Status.{TellsFirst, TellsFirstOrLate, damaged, long_text, wrong_passphrase};
+ghost use Rattle.pikhsen_c.specs.Inside.Numbers.{IsEarly, number_told, IsRefusal};
+ghost use Rattle.pikhsen_c.specs.Inside.Settings.{ask_under, cores_of_settings, costs_of_settings, encryption_refusal, front_refusal, length_lent, opening_refusal, text_lent, HasFront};
+ghost use Rattle.pikhsen_c.specs.Scrypt.{costs_given, sparse_given, cores_given};
+ghost use Rattle.pikhsen_c.specs.Status.{TellsFirst, TellsFirstOrLate, damaged, long_text, wrong_passphrase, KeepsAtRefusal, TellsNoLength};
 
 use crate::call_memory::CallMemory;
 use crate::machine::Machine;
@@ -54,7 +53,7 @@ fn header_of(file: &[u8]) -> Result<Header, u32>
 pub extern "C" fn pikhsen_scrypt_info(file: &[u8], costs: &mut PikhsenScryptCosts) -> u32
     ensures costs { result ≡ 0 → costs_given costs.new.log_n costs.new.r costs.new.p ≡ costs_of (take 64 file.now) }
     ensures status { result ≡ header_status file.now }
-    ensures untouched { result ≢ 0 → costs.new ≡ costs.old }
+    ensures untouched { KeepsAtRefusal result costs.old costs.new }
 {
     if file.len() < 64 {
         return status::TOO_SHORT;
@@ -125,7 +124,7 @@ pub(crate) fn begun<S: CallMemory>(
     ensures room { OnOk result (out_len ≡ text_len + 128) }
     ensures first { TellsFirst (encryption_refusal settings.now (length salt.now) text_len out_len)
         (number_told result) }
-    ensures at_least_1 { IfErr result (λ status. 1 ≤ status) }
+    ensures at_least_1 { IfErr result IsRefusal }
     // Nothing is asked of the source before every other refusal is ruled out, and then it is asked once.
     ensures asked { AsksOnce (ask_under S.after_workspace settings.now.limits (costs_of_settings settings.now) source.old)
         (number_told result) source.old source.new }
@@ -198,7 +197,7 @@ fn encrypt_in<S: CallMemory>(
         ≡ encrypted_file passphrase.now salt.now (costs_of_settings settings.now) (text_lent text.entry out.old) }
     ensures first { TellsFirst (encryption_refusal settings.now (length salt.now)
         (length_lent text.entry (length out.old)) (length out.old)) result }
-    ensures untouched { result ≢ 0 → out.new ≡ out.old }
+    ensures untouched { KeepsAtRefusal result out.old out.new }
     // Nothing is asked of the source before every other refusal is ruled out, and then it is asked once.
     ensures asked { AsksOnce (ask_under S.after_workspace settings.now.limits (costs_of_settings settings.now) source.old)
         result source.old source.new }
@@ -239,13 +238,13 @@ pub extern "C" fn pikhsen_scrypt_encrypt(
     // Memory is asked for, and refused, only where nothing else is.
     ensures first { TellsFirst (encrypt_status (costs_given log_n r p) keep max_bytes max_ops
         (length salt.now) (length text.now) (length out.old)) result.status }
-    ensures untouched { result.status ≢ 0 → out.new ≡ out.old }
+    ensures untouched { KeepsAtRefusal result.status out.old out.new }
     // What was asked of the heap.
     ensures asked { AsksOnce (asked_for_workspace machine.heap) result.status machine.heap result.machine.heap }
     ensures no_blocks { result.machine.blocks ≡ machine.blocks }
     // No derivation begins before every refusal is ruled out, and then one.
-    ensures works { WorksOnce (sparse_cores passphrase.now salt.now (sparse_given (costs_given log_n r p) keep))
-        result.status machine.cores result.machine.cores }
+    ensures works { WorksOnce (cores_given passphrase.now salt.now log_n r p keep) result.status
+        machine.cores result.machine.cores }
 {
     let mut machine = machine;
     let settings = ScryptSettings::new(log_n, r, p, keep, max_bytes, max_ops);
@@ -280,11 +279,11 @@ pub extern "C" fn pikhsen_scrypt_encrypt_in_place(
     ensures first { TellsFirst (encrypt_status (costs_given log_n r p) keep max_bytes max_ops
         (length salt.now) (length out.old - 128) (length out.old)) result.status }
     // The text stays where it is not encrypted.
-    ensures untouched { result.status ≢ 0 → out.new ≡ out.old }
+    ensures untouched { KeepsAtRefusal result.status out.old out.new }
     ensures asked { AsksOnce (asked_for_workspace machine.heap) result.status machine.heap result.machine.heap }
     ensures no_blocks { result.machine.blocks ≡ machine.blocks }
-    ensures works { WorksOnce (sparse_cores passphrase.now salt.now (sparse_given (costs_given log_n r p) keep))
-        result.status machine.cores result.machine.cores }
+    ensures works { WorksOnce (cores_given passphrase.now salt.now log_n r p keep) result.status
+        machine.cores result.machine.cores }
 {
     let mut machine = machine;
     let settings = ScryptSettings::new(log_n, r, p, keep, max_bytes, max_ops);
@@ -302,7 +301,7 @@ pub extern "C" fn pikhsen_scrypt_encrypt_in_place(
 
 // The first 96 bytes of a file.
 fn front_of(file: &[u8]) -> [u8; 96]
-    requires long { 96 ≤ length file.now }
+    requires long { HasFront file.now }
     ensures front { result ≡ take 96 file.now }
 {
     let mut front = [0u8; 96];
@@ -312,7 +311,7 @@ fn front_of(file: &[u8]) -> [u8; 96]
 
 /// What a file is refused for before memory is asked for, if it is, by its number.
 pub(crate) fn tested_opening(file: &[u8], limits: &ScryptLimits) -> Result<(), u32>
-    requires long { 96 ≤ length file.now }
+    requires long { HasFront file.now }
     ensures status { opening_refusal limits.now file.now ≡ number_told result }
     ensures early { IfErr result IsEarly }
 {
@@ -330,14 +329,14 @@ fn memory_to_open<S: CallMemory>(
     limits: &ScryptLimits,
     file: &[u8],
 ) -> Result<(Header, Workspace), u32>
-    requires long { 96 ≤ length file.now }
+    requires long { HasFront file.now }
     ensures header { IfOk result (λ both. IsHeaderOf (take 64 file.now) both.0) }
     ensures costs { IfOk result (λ both. both.0.costs ≡ costs_of (take 64 file.now)) }
     ensures salt { IfOk result (λ both. both.0.salt ≡ salt_of (take 64 file.now)) }
     ensures sparse { IfOk result (λ both.
         both.1.sparse ≡ sparse_given (costs_of (take 64 file.now)) limits.now.keep) }
     ensures first { TellsFirst (opening_refusal limits.now file.now) (number_told result) }
-    ensures at_least_1 { IfErr result (λ status. 1 ≤ status) }
+    ensures at_least_1 { IfErr result IsRefusal }
     ensures below { IfErr result (λ status. status ≤ 25) }
     // Nothing is asked of the source before header and limits are tested, and then it is asked once.
     ensures asked { AsksOnce (ask_under S.after_workspace limits.now (costs_of (take 64 file.now)) source.old)
@@ -361,7 +360,7 @@ pub(crate) fn opened<S: CallMemory>(
     file: &[u8],
     ticks: &mut Ticks,
 ) -> Result<Dec, u32>
-    requires long { 96 ≤ length file.now }
+    requires long { HasFront file.now }
     ensures opened { IfOk result (λ dec. HasRead dec passphrase.now (take 96 file.now)) }
     ensures nothing { OnOk result (released_text (take 96 file.now) passphrase.now ≡ []) }
     ensures right { OnOk result (HasRightHeaderCode (take 96 file.now) passphrase.now) }
@@ -369,7 +368,7 @@ pub(crate) fn opened<S: CallMemory>(
         → HasRightHeaderCode (take 96 file.now) passphrase.now → ⊥) }
     ensures first { TellsFirstOrLate (number_told result ≡ wrong_passphrase)
         (opening_refusal limits.now file.now) (number_told result) }
-    ensures at_least_1 { IfErr result (λ status. 1 ≤ status) }
+    ensures at_least_1 { IfErr result IsRefusal }
     ensures below { IfErr result (λ status. status ≤ 27) }
     // Nothing is asked of the source before header and limits are tested, and then it is asked once.
     ensures asked { AsksToOpen (number_told result ≡ wrong_passphrase)
@@ -395,7 +394,7 @@ pub(crate) fn opened<S: CallMemory>(
 
 // The text of a file whose first 96 bytes are read, at the front of `out`, if the file is whole.
 fn text_of(dec: Dec, file: &[u8], out: &mut [u8]) -> Result<usize, u32>
-    requires long { 96 ≤ length file.now }
+    requires long { HasFront file.now }
     requires room { length file.now ≤ length out.old }
     ensures whole { IfOk result (λ n. (passphrase : List ℕ) → HasRead dec passphrase (take 96 file.now)
         → released_text (take 96 file.now) passphrase ≡ []
@@ -443,7 +442,7 @@ fn decrypt_in<S: CallMemory>(
 ) -> u32
     ensures whole { result ≡ 0 → IsEncryptionOf file.now passphrase.now (take text_len.new out.new) }
     ensures rest { result ≡ 0 → drop text_len.new out.new ≡ replicate (length out.old - text_len.new) 0 }
-    ensures nothing { result ≢ 0 → text_len.new ≡ 0 }
+    ensures nothing { TellsNoLength result text_len.new }
     ensures first { TellsFirstOrLate (wrong_passphrase ≤ result)
         (front_refusal limits.now file.now (length out.old)) result }
     ensures wrong { result ≡ wrong_passphrase → HasRightHeaderCode (take 96 file.now) passphrase.now → ⊥ }
@@ -501,7 +500,7 @@ pub extern "C" fn pikhsen_scrypt_decrypt(
 ) -> Answer
     ensures whole { result.status ≡ 0 → IsEncryptionOf file.now passphrase.now (take text_len.new out.new) }
     ensures rest { result.status ≡ 0 → drop text_len.new out.new ≡ replicate (length out.old - text_len.new) 0 }
-    ensures nothing { result.status ≢ 0 → text_len.new ≡ 0 }
+    ensures nothing { TellsNoLength result.status text_len.new }
     // What is refused whatever the passphrase is told by the first fault, and nothing else is then told.
     ensures first { TellsFirstOrLate (wrong_passphrase ≤ result.status)
         (front_status file.now keep max_bytes max_ops (length out.old)) result.status }

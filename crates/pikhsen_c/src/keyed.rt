@@ -5,7 +5,7 @@ ghost use Rattle.argon.specs.Counts.{work};
 ghost use Rattle.pikhsen_c.specs.Argon2.{IsVerdict, IsVerifyNumber, WorksToVerify, encoded_keyed_hash, encoded_keyed_status, hash_status, parameters_given};
 ghost use Rattle.pikhsen_c.specs.Heap.{AsksToVerify, AsksTwice, WorksOnce, asked_for_matrix, asked_for_text, asked_to_read};
 ghost use Rattle.pikhsen_c.specs.Message.{IsWritten};
-ghost use Rattle.pikhsen_c.specs.Status.{out_of_memory};
+ghost use Rattle.pikhsen_c.specs.Status.{out_of_memory, KeepsAtRefusal, TellsNoLength};
 
 use crate::argon2::Settings;
 use crate::encoded::encode_in;
@@ -44,8 +44,8 @@ pub extern "C" fn pikhsen_argon2_encoded_keyed(
     ensures memory { result.status ≡ out_of_memory → hash_status (parameters_given kind version passes lanes
         memory_kib tag_len (length salt.now) (length password.now))
         (length secret.now) (length associated.now) max_kib max_ops ≡ 0 }
-    ensures untouched { result.status ≢ 0 → out.new ≡ out.old }
-    ensures nothing { result.status ≢ 0 → text_len.new ≡ 0 }
+    ensures untouched { KeepsAtRefusal result.status out.old out.new }
+    ensures nothing { TellsNoLength result.status text_len.new }
     // What was asked of the heap.
     ensures asked { AsksTwice (asked_for_text machine.heap) asked_for_matrix
         (encoded_keyed_status (parameters_given kind version passes lanes memory_kib

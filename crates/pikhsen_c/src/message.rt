@@ -1,7 +1,8 @@
 //! What each number says.
-ghost use Rattle.std.specs.Prelude.{◌≡◌, ◌≢◌, ◌≤◌, ◌<◌, length};
+ghost use Rattle.std.specs.Prelude.{◌≡◌, ◌≤◌, ◌<◌, length};
 ghost use Rattle.pikhsen_c.specs.Argon2.{room_status};
 ghost use Rattle.pikhsen_c.specs.Message.{IsWritten, sentence_of};
+ghost use Rattle.pikhsen_c.specs.Status.{KeepsAtRefusal, TellsNoLength};
 
 use crate::encoded::copy_text;
 use crate::status;
@@ -60,8 +61,8 @@ pub extern "C" fn pikhsen_message(status: u32, out: &mut [u8], text_len: &mut us
     ensures written { result ≡ 0 → IsWritten (sentence_of status) text_len.new out.old out.new }
     ensures status { result ≡ room_status (length (sentence_of status)) (length out.old) }
     ensures room { 80 ≤ length out.old → result ≡ 0 }
-    ensures untouched { result ≢ 0 → out.new ≡ out.old }
-    ensures nothing { result ≢ 0 → text_len.new ≡ 0 }
+    ensures untouched { KeepsAtRefusal result out.old out.new }
+    ensures nothing { TellsNoLength result text_len.new }
 {
     *text_len = 0;
     let text = sentence(status).as_bytes();

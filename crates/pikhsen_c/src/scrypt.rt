@@ -1,13 +1,12 @@
 //! Keys by scrypt.
-ghost use Rattle.std.specs.Prelude.{◌≡◌, ◌≢◌, ◌≤◌, ◌^◌, length, IfOk, IfErr};
+ghost use Rattle.std.specs.Prelude.{◌≡◌, ◌≤◌, ◌^◌, length, IfOk, IfErr};
 ghost use Rattle.romix.specs.Scrypt.{scrypt};
-ghost use Rattle.romix.specs.Sparse.{sparse_cores};
 ghost use Rattle.romix.specs.SparseCosts.{SparseFitsMemory};
 ghost use Rattle.pikhsen_c.specs.Heap.{AsksOnce, WorksOnce, asked_for_workspace};
-ghost use Rattle.pikhsen_c.specs.Inside.Numbers.{IsEarly, number_told};
+ghost use Rattle.pikhsen_c.specs.Inside.Numbers.{IsEarly, number_told, IsRefusal};
 ghost use Rattle.pikhsen_c.specs.Inside.Settings.{ask_under, cores_of_settings, limits_refusal, costs_of_settings, derivation_refusal};
-ghost use Rattle.pikhsen_c.specs.Scrypt.{costs_given, costs_status, scrypt_status, sparse_given};
-ghost use Rattle.pikhsen_c.specs.Status.{TellsFirst};
+ghost use Rattle.pikhsen_c.specs.Scrypt.{costs_given, costs_status, scrypt_status, sparse_given, cores_given};
+ghost use Rattle.pikhsen_c.specs.Status.{TellsFirst, KeepsAtRefusal};
 
 use crate::call_memory::CallMemory;
 use crate::machine::Machine;
@@ -106,7 +105,7 @@ pub(crate) fn workspace<S: CallMemory>(
     ensures sparse { IfOk result (λ workspace. workspace.sparse ≡ sparse_given costs.now limits.now.keep) }
     ensures costs { IfOk result (λ workspace. workspace.sparse.costs ≡ costs.now) }
     ensures first { TellsFirst (limits_refusal limits.now costs.now) (number_told result) }
-    ensures at_least_1 { IfErr result (λ status. 1 ≤ status) }
+    ensures at_least_1 { IfErr result IsRefusal }
     ensures below { IfErr result (λ status. status ≤ 21) }
     // Nothing is asked of the source before `keep` and the caller's own limits are tested, and then it is asked once,
     // under these; want of memory is told where that was refused, and only there.
@@ -133,7 +132,7 @@ fn derive_in<S: CallMemory>(
     ensures key { result ≡ 0 → out.new
         ≡ scrypt password.now salt.now (2 ^ settings.now.log_n) settings.now.r settings.now.p (length out.old) }
     ensures first { TellsFirst (derivation_refusal settings.now (length out.old)) result }
-    ensures untouched { result ≢ 0 → out.new ≡ out.old }
+    ensures untouched { KeepsAtRefusal result out.old out.new }
     ensures asked { AsksOnce (ask_under S.after_workspace settings.now.limits (costs_of_settings settings.now) source.old)
         result source.old source.new }
     // No derivation begins before every refusal is ruled out, and then one.
@@ -175,13 +174,13 @@ pub extern "C" fn pikhsen_scrypt(
     // Memory is asked for, and refused, only where nothing else is.
     ensures first { TellsFirst (scrypt_status (costs_given log_n r p) keep max_bytes max_ops (length out.old))
         result.status }
-    ensures untouched { result.status ≢ 0 → out.new ≡ out.old }
+    ensures untouched { KeepsAtRefusal result.status out.old out.new }
     // What was asked of the heap.
     ensures asked { AsksOnce (asked_for_workspace machine.heap) result.status machine.heap result.machine.heap }
     ensures no_blocks { result.machine.blocks ≡ machine.blocks }
     // No derivation begins before every refusal is ruled out, and then one.
-    ensures works { WorksOnce (sparse_cores password.now salt.now (sparse_given (costs_given log_n r p) keep))
-        result.status machine.cores result.machine.cores }
+    ensures works { WorksOnce (cores_given password.now salt.now log_n r p keep) result.status
+        machine.cores result.machine.cores }
 {
     let mut machine = machine;
     let settings = ScryptSettings::new(log_n, r, p, keep, max_bytes, max_ops);

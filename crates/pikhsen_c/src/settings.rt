@@ -1,11 +1,11 @@
 //! The settings that an encoded text says, and whether a hash is to be made anew.
-ghost use Rattle.std.specs.Prelude.{◌≡◌, ◌≢◌, ◌≤◌, ◌<◌, true};
+ghost use Rattle.std.specs.Prelude.{◌≡◌, ◌≤◌, ◌<◌, true};
 ghost use Rattle.argon_text.specs.Grammar.{IsText, IsTextInRange};
 ghost use Rattle.argon_text.specs.View.{value_of};
 ghost use Rattle.pikhsen_c.specs.Heap.{AsksToRead};
 ghost use Rattle.pikhsen_c.specs.Inside.Numbers.{had_memory, had_memory_to_read};
 ghost use Rattle.pikhsen_c.specs.Settings.{HasSettings, IsCompared, IsOutOfRange, IsReadingOf, settings_told};
-ghost use Rattle.pikhsen_c.specs.Status.{not_encoded, out_of_memory};
+ghost use Rattle.pikhsen_c.specs.Status.{not_encoded, out_of_memory, KeepsAtRefusal};
 
 use crate::call_memory::CallMemory;
 use crate::machine::Machine;
@@ -93,7 +93,7 @@ fn settings_in<S: CallMemory>(
 ) -> u32
     ensures found { result ≡ 0 → HasSettings text.now settings.new }
     ensures reading { IsReadingOf text.now result }
-    ensures untouched { result ≢ 0 → settings.new ≡ settings.old }
+    ensures untouched { KeepsAtRefusal result settings.old settings.new }
     // Its reading is asked for, once; want of memory is told where that was refused, and only there.
     ensures asked { source.new ≡ S.after_reading source.old text.now (had_memory result) }
 {
@@ -115,7 +115,7 @@ pub extern "C" fn pikhsen_argon2_settings(
 ) -> Answer
     ensures found { result.status ≡ 0 → HasSettings text.now settings.new }
     ensures reading { IsReadingOf text.now result.status }
-    ensures untouched { result.status ≢ 0 → settings.new ≡ settings.old }
+    ensures untouched { KeepsAtRefusal result.status settings.old settings.new }
     // What was asked of the heap.
     ensures asked { AsksToRead result.status machine.heap result.machine.heap }
     ensures no_blocks { result.machine.blocks ≡ machine.blocks }
@@ -135,7 +135,7 @@ fn needs_rehash_in<S: CallMemory>(
 ) -> u32
     ensures compared { result ≡ 0 → IsCompared text.now wanted.now needs.new }
     ensures reading { IsReadingOf text.now result }
-    ensures untouched { result ≢ 0 → needs.new ≡ needs.old }
+    ensures untouched { KeepsAtRefusal result needs.old needs.new }
     // Its reading is asked for, once; want of memory is told where that was refused, and only there.
     ensures asked { source.new ≡ S.after_reading source.old text.now (had_memory result) }
 {
@@ -159,7 +159,7 @@ pub extern "C" fn pikhsen_argon2_needs_rehash(
 ) -> Answer
     ensures compared { result.status ≡ 0 → IsCompared text.now wanted.now needs.new }
     ensures reading { IsReadingOf text.now result.status }
-    ensures untouched { result.status ≢ 0 → needs.new ≡ needs.old }
+    ensures untouched { KeepsAtRefusal result.status needs.old needs.new }
     // What was asked of the heap.
     ensures asked { AsksToRead result.status machine.heap result.machine.heap }
     ensures no_blocks { result.machine.blocks ≡ machine.blocks }

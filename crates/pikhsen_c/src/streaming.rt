@@ -1,13 +1,12 @@
 //! scrypt's encrypted files in pieces.
 ghost use Rattle.std.specs.Prelude.{◌≡◌, ◌≢◌, ℕ, ◌+◌, ◌-◌, ◌^◌, ◌<◌, ◌≤◌, ◌++◌, List, [], length, take, drop, true, false};
-ghost use Rattle.romix.specs.Sparse.{sparse_cores};
 ghost use Rattle.encfile.specs.EncryptedFile.{HasRightHeaderCode, body, released_text};
 ghost use Rattle.pikhsen_c.specs.File.{cores_to_open};
 ghost use Rattle.pikhsen_c.specs.Heap.{AsksToStart, WorksOnce, WorksToOpen};
 ghost use Rattle.pikhsen_c.specs.Inside.Running.{is_decryption, is_encryption};
 ghost use Rattle.pikhsen_c.specs.Inside.Settings.{cores_of_settings, costs_of_settings, decryption_start_refusal, encryption_start_refusal};
-ghost use Rattle.pikhsen_c.specs.Scrypt.{costs_given, sparse_given};
-ghost use Rattle.pikhsen_c.specs.Status.{TellsFirst, TellsFirstOrLate, damaged, long_text, no_stream, wrong_buffer, wrong_passphrase};
+ghost use Rattle.pikhsen_c.specs.Scrypt.{costs_given, cores_given};
+ghost use Rattle.pikhsen_c.specs.Status.{TellsFirst, TellsFirstOrLate, damaged, long_text, no_stream, wrong_buffer, wrong_passphrase, KeepsAtRefusal};
 ghost use Rattle.pikhsen_c.specs.Stream.{AreLast, AreNext, Encrypts, FeedsOn, FeedsWhatFits, HasFed, HasGot, IsAsBefore, IsDamaged, IsReleased, IsWhole, Reads, ReadsOn, ReadsWhatFits, decrypt_start_status, encrypt_start_status};
 
 use crate::file::{begun, opened, tested_encryption, tested_opening};
@@ -35,8 +34,8 @@ fn encrypt_start_in(
     ensures head { result ≡ 0 → head.new ≡ body passphrase.now salt.now (costs_of_settings settings.now) [] }
     ensures first { TellsFirst (encryption_start_refusal stream.old.runs settings.now
         (length salt.now) (length head.old)) result }
-    ensures untouched { result ≢ 0 → head.new ≡ head.old }
-    ensures unchanged { result ≢ 0 → stream.new ≡ stream.old }
+    ensures untouched { KeepsAtRefusal result head.old head.new }
+    ensures unchanged { KeepsAtRefusal result stream.old stream.new }
     ensures asked { AsksToStart result heap.old heap.new }
     ensures works { WorksOnce (cores_of_settings settings.now passphrase.now salt.now) result ticks.old ticks.new }
 {
@@ -81,13 +80,13 @@ pub extern "C" fn pikhsen_scrypt_encrypt_start(
     // Memory is asked for, and refused, only where nothing else is.
     ensures first { TellsFirst (encrypt_start_status stream.old.runs (costs_given log_n r p) keep max_bytes max_ops
         (length salt.now) (length head.old)) result.status }
-    ensures untouched { result.status ≢ 0 → head.new ≡ head.old }
-    ensures unchanged { result.status ≢ 0 → stream.new ≡ stream.old }
+    ensures untouched { KeepsAtRefusal result.status head.old head.new }
+    ensures unchanged { KeepsAtRefusal result.status stream.old stream.new }
     ensures asked { AsksToStart result.status machine.heap result.machine.heap }
     ensures no_blocks { result.machine.blocks ≡ machine.blocks }
     // No derivation begins before every refusal is ruled out, and then one.
-    ensures works { WorksOnce (sparse_cores passphrase.now salt.now (sparse_given (costs_given log_n r p) keep))
-        result.status machine.cores result.machine.cores }
+    ensures works { WorksOnce (cores_given passphrase.now salt.now log_n r p keep) result.status
+        machine.cores result.machine.cores }
 {
     let mut machine = machine;
     let settings = ScryptSettings::new(log_n, r, p, keep, max_bytes, max_ops);
@@ -111,8 +110,8 @@ fn encrypted(running: &mut Running, bytes: &mut [u8]) -> u32
     ensures written { result ≡ 0 → AreNext (Encrypts running.old) bytes.old bytes.new }
     ensures fits { FeedsWhatFits (Encrypts running.old) (length bytes.old) result }
     ensures long { result ≢ 0 → result ≡ long_text }
-    ensures untouched { result ≢ 0 → bytes.new ≡ bytes.old }
-    ensures unchanged { result ≢ 0 → running.new ≡ running.old }
+    ensures untouched { KeepsAtRefusal result bytes.old bytes.new }
+    ensures unchanged { KeepsAtRefusal result running.old running.new }
     ensures stays { is_encryption running.new ≡ true }
 {
     match running {
@@ -136,7 +135,7 @@ pub extern "C" fn pikhsen_scrypt_encrypt_feed(
     ensures fits { FeedsWhatFits (HasFed stream.old) (length bytes.old) result.status }
     ensures other { stream.old.runs ≢ 1 → result.status ≡ no_stream }
     ensures long { stream.old.runs ≡ 1 → result.status ≢ 0 → result.status ≡ long_text }
-    ensures untouched { result.status ≢ 0 → bytes.new ≡ bytes.old }
+    ensures untouched { KeepsAtRefusal result.status bytes.old bytes.new }
     ensures unchanged { result.status ≢ 0 → IsAsBefore stream.old stream.new }
     ensures machine { result.machine ≡ machine }
 {
@@ -176,8 +175,8 @@ pub extern "C" fn pikhsen_scrypt_encrypt_finish(
     ensures other { length code.old ≡ 32 → stream.old.runs ≢ 1 → result.status ≡ no_stream }
     ensures ends { length code.old ≡ 32 → stream.old.runs ≡ 1 → result.status ≡ 0 }
     ensures over { result.status ≡ 0 → stream.new.runs ≡ 0 }
-    ensures untouched { result.status ≢ 0 → code.new ≡ code.old }
-    ensures unchanged { result.status ≢ 0 → stream.new ≡ stream.old }
+    ensures untouched { KeepsAtRefusal result.status code.old code.new }
+    ensures unchanged { KeepsAtRefusal result.status stream.old stream.new }
     ensures machine { result.machine ≡ machine }
 {
     let mut told = status::STREAM;
@@ -205,7 +204,7 @@ fn decrypt_start_in(
     ensures wrong { result ≡ wrong_passphrase → HasRightHeaderCode (take 96 front.now) passphrase.now → ⊥ }
     ensures first { TellsFirstOrLate (result ≡ wrong_passphrase)
         (decryption_start_refusal stream.old.runs limits.now front.now) result }
-    ensures unchanged { result ≢ 0 → stream.new ≡ stream.old }
+    ensures unchanged { KeepsAtRefusal result stream.old stream.new }
     ensures asked { AsksToStart result heap.old heap.new }
     ensures works { WorksToOpen (result ≡ wrong_passphrase)
         (cores_to_open passphrase.now front.now limits.now.keep) result ticks.old ticks.new }
@@ -250,7 +249,7 @@ pub extern "C" fn pikhsen_scrypt_decrypt_start(
     // Memory is asked for, and refused, only where nothing else is; and so is a passphrase.
     ensures first { TellsFirstOrLate (result.status ≡ wrong_passphrase)
         (decrypt_start_status stream.old.runs front.now keep max_bytes max_ops) result.status }
-    ensures unchanged { result.status ≢ 0 → stream.new ≡ stream.old }
+    ensures unchanged { KeepsAtRefusal result.status stream.old stream.new }
     ensures asked { AsksToStart result.status machine.heap result.machine.heap }
     ensures no_blocks { result.machine.blocks ≡ machine.blocks }
     // There is one derivation, after which the passphrase alone is refused.
@@ -285,9 +284,9 @@ fn decrypted(running: &mut Running, piece: &[u8], out: &mut [u8], released: &mut
     ensures rest { result ≡ 0 → drop (length piece.now + 32) out.new ≡ drop (length piece.now + 32) out.old }
     ensures fits { ReadsWhatFits (Reads running.old) (length piece.now) result }
     ensures long { result ≢ 0 → result ≡ long_text }
-    ensures untouched { result ≢ 0 → out.new ≡ out.old }
-    ensures nothing { result ≢ 0 → released.new ≡ released.old }
-    ensures unchanged { result ≢ 0 → running.new ≡ running.old }
+    ensures untouched { KeepsAtRefusal result out.old out.new }
+    ensures nothing { KeepsAtRefusal result released.old released.new }
+    ensures unchanged { KeepsAtRefusal result running.old running.new }
     ensures stays { is_decryption running.new ≡ true }
 {
     match running {
@@ -321,7 +320,7 @@ pub extern "C" fn pikhsen_scrypt_decrypt_feed(
     ensures other { length piece.now + 32 ≤ length out.old → stream.old.runs ≢ 2 → result.status ≡ no_stream }
     ensures long { length piece.now + 32 ≤ length out.old → stream.old.runs ≡ 2
         → result.status ≢ 0 → result.status ≡ long_text }
-    ensures untouched { result.status ≢ 0 → out.new ≡ out.old }
+    ensures untouched { KeepsAtRefusal result.status out.old out.new }
     ensures nothing { result.status ≢ 0 → released.new ≡ 0 }
     ensures unchanged { result.status ≢ 0 → IsAsBefore stream.old stream.new }
     ensures machine { result.machine ≡ machine }

@@ -1,5 +1,5 @@
 -- The refusals of scrypt: the line of each, and the count of the host's failures that it raises.
-use Rattle.std.specs.Prelude.{◌≡◌, ℕ, Bool, true, false, IsTrue, IsFalse, codes, Result, IfErr, MatchResult}
+use Rattle.std.specs.Prelude.{◌≡◌, ℕ, Bool, true, false, codes, Result, IfErr, MatchResult}
 use Rattle.host.specs.Seen.{Text}
 use Rattle.host.specs.Faults.{Faults, input_failed, output_failed, secret_failed, salt_failed}
 use Rattle.scrypt_request.specs.declared.refusal.ScryptRefusal.{ScryptRefusal}
@@ -40,14 +40,6 @@ follows_work refusal.OutputFault = true
 follows_work refusal.TooLong = true
 follows_work r = false
 
--- the refusal may follow the derivation
-abbrev pub MayFollowWork : ScryptRefusal → Type 0
-MayFollowWork r = IsTrue (may_follow_work r)
-
--- the refusal may come before the derivation
-abbrev pub MayPrecedeWork : ScryptRefusal → Type 0
-MayPrecedeWork r = IsFalse (follows_work r)
-
 -- a step with this result, and the count of cores before and after it: a refusal that may not follow the derivation
 -- leaves it as it was
 abbrev pub CountsNoEarlyWork : {A : Type 0} → Result A ScryptRefusal → ℕ → ℕ → Type 0
@@ -57,10 +49,6 @@ CountsNoEarlyWork result before after = IfErr result (λ r. may_follow_work r �
 abbrev pub is_want : ScryptRefusal → Bool
 is_want refusal.OutOfMemory = true
 is_want r = false
-
--- the refusal is another than that of memory
-abbrev pub IsNoWant : ScryptRefusal → Type 0
-IsNoWant r = IsFalse (is_want r)
 
 -- the line of a refusal, without a line feed
 abbrev pub line_of : ScryptRefusal → Text

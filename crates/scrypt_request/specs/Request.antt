@@ -73,3 +73,7 @@ abbrev pub request_seen : RequestInCode → Request
 request_seen (in_code.Encrypt e) = encrypt (encryption_seen e)
 request_seen (in_code.Decrypt t) = decrypt (task_seen t)
 request_seen (in_code.Inspect infile) = inspect (text_of infile)
+
+-- a request of the code has limits that can be asked for
+abbrev pub AsksAllowed : RequestInCode → Type 0
+AsksAllowed request = IsAllowed (request_seen request)

@@ -1,15 +1,11 @@
 -- The first 96 bytes of a file: how reading and checking them may end.
-use Rattle.std.specs.Prelude.{◌≡◌, ◌<◌, ◌≤◌, ◌⊎◌, ℕ, List, Option, Some, option_map, length}
+use Rattle.std.specs.Prelude.{◌≡◌, ◌<◌, ◌≤◌, ◌⊎◌, ℕ, Option, Some, option_map, length}
 use Rattle.encfile.specs.Front.{FrontRefusal}
 use Rattle.host.specs.Seen.{Seen, Text}
 use Rattle.scrypt_run.specs.Steps.{after_reading}
 use Rattle.scrypt_run.specs.Refusal.{refusal_of}
 use Rattle.scrypt_request.specs.declared.refusal.ScryptRefusal.{ScryptRefusal}
 use Rattle.scrypt_request.specs.declared.refusal.ScryptRefusal.TheVariants as refusal
-
--- the input has a front: at least 96 bytes
-abbrev pub HasFront : List ℕ → Type 0
-HasFront input = 96 ≤ length input
 
 -- the input was opened, and failed before 96 bytes of it had come
 pub record FrontCutOff (infile : Option Text) (before after : Seen) : Type 0 where

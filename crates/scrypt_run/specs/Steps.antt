@@ -1,9 +1,7 @@
 -- What a run does to a host, step by step.
-use Rattle.std.specs.Prelude.{◌≡◌, ℕ, List, Option, Result, OnOk, take}
-use Rattle.host.specs.Grants.{Grants, with_input_opened}
+use Rattle.std.specs.Prelude.{ℕ, List, Option, take}
 use Rattle.host.specs.Seen.{Seen, Text, after_ask, after_open_input, after_pull, after_push}
 use Rattle.scrypt_request.specs.Request.{Task}
-use Rattle.scrypt_request.specs.declared.refusal.ScryptRefusal.{ScryptRefusal}
 
 -- the host after the input was opened under this name, and its first n bytes were pulled
 abbrev pub after_reading : Option Text → ℕ → Seen → Seen
@@ -17,7 +15,3 @@ passphrase_asked task n s = after_ask task.source (after_reading task.infile n s
 -- the host after n bytes of the input were pulled, and what `gives` makes of them was written
 abbrev pub after_passing : (List ℕ → List ℕ) → ℕ → Seen → Seen
 after_passing gives n s = after_push (gives (take n s.input)) (after_pull n s)
-
--- a step with this result, and what the host granted before and after it: where it ends well, the input was opened
-abbrev pub OpensInput : {A : Type 0} → Result A ScryptRefusal → Grants → Grants → Type 0
-OpensInput result before after = OnOk result (after ≡ with_input_opened before)

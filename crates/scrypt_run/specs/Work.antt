@@ -1,5 +1,5 @@
 -- What a run counts: the Salsa20/8 cores of its one derivation.
-use Rattle.std.specs.Prelude.{◌≡◌, ◌+◌, ◌⊎◌, true, ℕ, List, Option, None, Result, IfErr}
+use Rattle.std.specs.Prelude.{◌≡◌, ◌+◌, ◌≤◌, ◌⊎◌, true, ℕ, List, Option, None, Result, IfErr}
 use Rattle.romix.specs.Allowance.{with_keep_of}
 use Rattle.romix.specs.Sparse.{sparse_cores}
 use Rattle.romix.specs.SparseCosts.{SparseParameters}
@@ -46,3 +46,7 @@ EndsAfterWork r s = (follows_work r ≡ true) ⊎ (s.output_asked ≡ None → �
 -- did not end after its derivation leaves it as it was
 abbrev pub CountsNoOtherWork : {A : Type 0} → Result A ScryptRefusal → Seen → ℕ → ℕ → Type 0
 CountsNoOtherWork result seen before after = IfErr result (λ r. (EndsAfterWork r seen → ⊥) → after ≡ before)
+
+-- the count of cores before and after a step went on by no more than this limit
+abbrev pub WorksWithin : ℕ → ℕ → ℕ → Type 0
+WorksWithin max_ops before after = after ≤ before + max_ops

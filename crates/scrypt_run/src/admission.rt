@@ -2,7 +2,8 @@
 ghost use Rattle.std.specs.Prelude.{◌≡◌, Some, None, true, option_map, IfOk, IfErr, OnOk};
 ghost use Rattle.romix.specs.SparseCosts.{is_keep};
 ghost use Rattle.encfile.specs.Front.{costs_refusal};
-ghost use Rattle.scrypt_request.specs.Refusal.{RaisesNoCount, MayPrecedeWork, IsNoWant};
+ghost use Rattle.scrypt_request.specs.Refusal.{RaisesNoCount};
+ghost use Rattle.scrypt_run.specs.Inside.Steps.{IsNoWant, MayPrecedeWork};
 ghost use Rattle.scrypt_run.specs.Refusal.{refusal_of};
 ghost use Rattle.scrypt_request.specs.Request.{allowance_of, task_seen};
 ghost use Rattle.scrypt_run.specs.Admission.{IsAdmitted};

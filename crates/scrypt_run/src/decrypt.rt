@@ -1,5 +1,5 @@
 //! `scrypt dec`: the text of an encrypted file.
-ghost use Rattle.std.specs.Prelude.{◌≡◌, ◌+◌, ◌≤◌, ◌^◌, true, false, ℕ, List, ◌++◌, take, length, IfOk, IfErr, OnOk, IsTrue};
+ghost use Rattle.std.specs.Prelude.{◌≡◌, ◌+◌, ◌^◌, true, false, ℕ, List, ◌++◌, take, length, IfOk, IfErr, OnOk, IsTrue};
 ghost use Rattle.romix.specs.Allowance.{with_keep_of};
 ghost use Rattle.romix.specs.Costs.{cores};
 ghost use Rattle.encfile.specs.Decrypting.{HasRead};
@@ -10,16 +10,17 @@ ghost use Rattle.host.specs.Faults.{AreBelow};
 ghost use Rattle.host.specs.Grants.{GrantsAll, with_secret_asked};
 ghost use Rattle.host.specs.Secret.{source_of};
 ghost use Rattle.host.specs.Seen.{IsFresh, after_ask};
-ghost use Rattle.scrypt_run.specs.Asking.{EndsAsking, EndsAskingFor, WasGranted, asks_workspace};
+ghost use Rattle.scrypt_run.specs.Inside.Steps.{MayFollowWork, WorkspaceAsked, WorkspaceGranted};
+ghost use Rattle.scrypt_run.specs.Asking.{EndsAskingFor, WasGranted, asks_workspace};
 ghost use Rattle.scrypt_run.specs.Decrypting.{DecryptRefused, DecryptSucceeds, Decrypted, text_after};
 ghost use Rattle.scrypt_run.specs.Passphrase.{HasPassphrase, first_line_at};
-ghost use Rattle.scrypt_request.specs.Refusal.{CountsFault, follows_work, MayFollowWork, CountsNoEarlyWork};
+ghost use Rattle.scrypt_request.specs.Refusal.{CountsFault, follows_work, CountsNoEarlyWork};
 ghost use Rattle.scrypt_request.specs.Request.{HasAllowedLimits, allowance_of, task_seen, text_of};
 ghost use Rattle.scrypt_run.specs.Admission.{IsAdmitted};
 ghost use Rattle.scrypt_run.specs.Inside.Decrypting.{OpenRefused, ReleaseRefused};
 ghost use Rattle.scrypt_run.specs.Steps.{after_passing};
 ghost use Rattle.scrypt_run.specs.Text.{EndsText};
-ghost use Rattle.scrypt_run.specs.Work.{DecryptWorks, DerivesOnce, EndsAfterWork, CountsNoOtherWork};
+ghost use Rattle.scrypt_run.specs.Work.{DecryptWorks, DerivesOnce, EndsAfterWork, CountsNoOtherWork, WorksWithin};
 
 use crate::front::open_admitted_front;
 use crate::passphrase::read_passphrase;
@@ -67,12 +68,12 @@ fn open<R: RunMemory, H: Host>(
     ensures unworked { IfErr result (λ r. follows_work r ≡ false → ticks.new ≡ ticks.old) }
     ensures work { sparse.now.keep ≡ 1 →
         OnOk result (ticks.new ≡ ticks.old + cores header.costs) }
-    ensures work_bound { ticks.new ≤ ticks.old + task.now.limits.max_ops }
+    ensures work_bound { WorksWithin task.now.limits.max_ops ticks.old ticks.new }
     ensures no_work { CountsNoEarlyWork result ticks.old ticks.new }
-    ensures memory_granted { OnOk result (room.new ≡ asks_workspace R.after_workspace room.old
-        (task_seen task.now) header.costs true) }
-    ensures memory_asked { IfErr result (λ r. EndsAsking (asks_workspace R.after_workspace room.old
-        (task_seen task.now) header.costs) r room.old room.new) }
+    ensures memory_granted { WorkspaceGranted R.after_workspace (task_seen task.now) header.costs result
+        room.old room.new }
+    ensures memory_asked { WorkspaceAsked R.after_workspace (task_seen task.now) header.costs result
+        room.old room.new }
 {
     let passphrase = read_passphrase(host, task.source)?;
     let Ok(mut workspace) = room.workspace(sparse, &task.limits) else {
@@ -181,7 +182,7 @@ pub(crate) fn decrypt<R: RunMemory, H: Host>(
     ensures unworked { IsTrue H.tells → CountsNoOtherWork result (H.seen host.new) ticks.old ticks.new }
     ensures work { IsTrue H.tells → task.now.keep ≡ 1 → OnOk result
         (ticks.new ≡ ticks.old + cores (costs_of (H.seen host.old).input)) }
-    ensures work_bound { ticks.new ≤ ticks.old + task.now.limits.max_ops }
+    ensures work_bound { WorksWithin task.now.limits.max_ops ticks.old ticks.new }
     ensures no_work { CountsNoEarlyWork result ticks.old ticks.new }
     // Memory is asked for once, for the derivation of the header's costs, and only once the limits have passed.
     ensures memory_granted { OnOk result (WasGranted H.tells (H.seen host.old).input

@@ -1,22 +1,22 @@
 //! `scrypt enc`: the file of a text.
-ghost use Rattle.std.specs.Prelude.{◌≡◌, ◌+◌, ◌≤◌, ◌^◌, true, ℕ, List, [], Some, None, length, IfOk, IfErr, OnOk, OnErr, IsTrue};
+ghost use Rattle.std.specs.Prelude.{◌≡◌, ◌+◌, ◌^◌, true, ℕ, List, [], Some, None, length, IfOk, IfErr, OnOk, OnErr, IsTrue};
 ghost use Rattle.romix.specs.Costs.{Parameters, cores};
 ghost use Rattle.encfile.specs.EncryptedFile.{body};
 ghost use Rattle.encfile.specs.Encrypting.{HasEncrypted};
 ghost use Rattle.host.specs.Faults.{AreBelow};
 ghost use Rattle.host.specs.Grants.{GrantsAll};
 ghost use Rattle.host.specs.Secret.{source_of};
-ghost use Rattle.host.specs.Seen.{IsFresh, after_ask, after_open_input};
-ghost use Rattle.scrypt_run.specs.Asking.{EndsAsking, asks_workspace};
+ghost use Rattle.host.specs.Seen.{IsFresh, after_ask, after_open_input, KeepsOnErr, KeepsOnOk};
+ghost use Rattle.scrypt_run.specs.Inside.Steps.{IsNoWant, MayFollowWork, MayPrecedeWork, OpensInput, WorkspaceAsked, WorkspaceGranted};
 ghost use Rattle.scrypt_run.specs.Encrypting.{EncryptRefused, EncryptSucceeds, IsEncrypted, after_salting, costs_refusal_of, salt_used};
 ghost use Rattle.scrypt_run.specs.Passphrase.{HasPassphrase, first_line_at};
-ghost use Rattle.scrypt_request.specs.Refusal.{CountsFault, MayPrecedeWork, IsNoWant, MayFollowWork, CountsNoEarlyWork};
+ghost use Rattle.scrypt_request.specs.Refusal.{CountsFault, CountsNoEarlyWork};
 ghost use Rattle.scrypt_request.specs.Request.{HasAllowedLimits, encryption_seen, task_seen, text_of};
 ghost use Rattle.scrypt_run.specs.Admission.{IsAdmitted};
 ghost use Rattle.scrypt_run.specs.Inside.Encrypting.{StartRefused, TextNotOpened, WriteRefused};
-ghost use Rattle.scrypt_run.specs.Steps.{after_passing, OpensInput};
+ghost use Rattle.scrypt_run.specs.Steps.{after_passing};
 ghost use Rattle.scrypt_run.specs.Text.{EndsText};
-ghost use Rattle.scrypt_run.specs.Work.{EncryptWorks, EndsAfterWork, CountsNoOtherWork};
+ghost use Rattle.scrypt_run.specs.Work.{EncryptWorks, EndsAfterWork, CountsNoOtherWork, WorksWithin};
 ghost use Rattle.scrypt_request.specs.declared.refusal.ScryptRefusal.TheVariants.{SaltFault};
 
 use crate::admission::admit;
@@ -56,8 +56,8 @@ fn read_salt<H: Host>(host: &mut H, salt: Option<[u8; 32]>) -> Result<[u8; 32], 
     requires room { AreBelow (2 ^ 63) (H.faults host.old) }
     requires unsalted { IsTrue (H.grants host.old).salt }
     ensures counts { CountsFault result (H.faults host.old) (H.faults host.new) }
-    ensures still_readable { OnOk result ((H.grants host.new).readable ≡ (H.grants host.old).readable) }
-    ensures still_unasked { OnOk result ((H.grants host.new).output ≡ (H.grants host.old).output) }
+    ensures still_readable { KeepsOnOk result (H.grants host.old).readable (H.grants host.new).readable }
+    ensures still_unasked { KeepsOnOk result (H.grants host.old).output (H.grants host.new).output }
     ensures salts { IsTrue H.tells →
         H.seen host.new ≡ after_salting salt (H.seen host.old) }
     ensures salt { IsTrue H.tells →
@@ -90,8 +90,8 @@ fn start<R: RunMemory, H: Host>(
     requires keep { sparse.now.keep ≡ asked.now.task.keep }
     requires admitted { IsAdmitted sparse.now asked.now.task.limits }
     ensures counts { CountsFault result (H.faults host.old) (H.faults host.new) }
-    ensures still_readable { OnOk result ((H.grants host.new).readable ≡ (H.grants host.old).readable) }
-    ensures still_unasked { OnOk result ((H.grants host.new).output ≡ (H.grants host.old).output) }
+    ensures still_readable { KeepsOnOk result (H.grants host.old).readable (H.grants host.new).readable }
+    ensures still_unasked { KeepsOnOk result (H.grants host.old).output (H.grants host.new).output }
     ensures asks { IsTrue H.tells → OnOk result (H.seen host.new ≡ after_salting asked.now.salt
         (after_ask (source_of asked.now.task.source) (H.seen host.old))) }
     ensures begun { IfOk result (λ enc. (passphrase salt : List ℕ)
@@ -107,12 +107,12 @@ fn start<R: RunMemory, H: Host>(
         (H.seen host.old) ticks.old ticks.new) }
     ensures work { sparse.now.keep ≡ 1 →
         OnOk result (ticks.new ≡ ticks.old + cores asked.now.costs) }
-    ensures work_bound { ticks.new ≤ ticks.old + asked.now.task.limits.max_ops }
-    ensures no_work { OnErr result (ticks.new ≡ ticks.old) }
-    ensures memory_granted { OnOk result (room.new ≡ asks_workspace R.after_workspace room.old
-        (task_seen asked.now.task) asked.now.costs true) }
-    ensures memory_asked { IfErr result (λ r. EndsAsking (asks_workspace R.after_workspace room.old
-        (task_seen asked.now.task) asked.now.costs) r room.old room.new) }
+    ensures work_bound { WorksWithin asked.now.task.limits.max_ops ticks.old ticks.new }
+    ensures no_work { KeepsOnErr result ticks.old ticks.new }
+    ensures memory_granted { WorkspaceGranted R.after_workspace (task_seen asked.now.task) asked.now.costs
+        result room.old room.new }
+    ensures memory_asked { WorkspaceAsked R.after_workspace (task_seen asked.now.task) asked.now.costs
+        result room.old room.new }
 {
     let passphrase = read_passphrase(host, asked.task.source)?;
     let salt = read_salt(host, asked.salt)?;
@@ -230,13 +230,13 @@ pub(crate) fn encrypt<R: RunMemory, H: Host>(
     ensures unworked { IsTrue H.tells → CountsNoOtherWork result (H.seen host.new) ticks.old ticks.new }
     ensures work { asked.now.task.keep ≡ 1 →
         OnOk result (ticks.new ≡ ticks.old + cores asked.now.costs) }
-    ensures work_bound { ticks.new ≤ ticks.old + asked.now.task.limits.max_ops }
+    ensures work_bound { WorksWithin asked.now.task.limits.max_ops ticks.old ticks.new }
     ensures no_work { CountsNoEarlyWork result ticks.old ticks.new }
     // Memory is asked for once, for the derivation, and only once the limits have passed.
-    ensures memory_granted { OnOk result (room.new ≡ asks_workspace R.after_workspace room.old
-        (task_seen asked.now.task) asked.now.costs true) }
-    ensures memory_asked { IfErr result (λ r. EndsAsking (asks_workspace R.after_workspace room.old
-        (task_seen asked.now.task) asked.now.costs) r room.old room.new) }
+    ensures memory_granted { WorkspaceGranted R.after_workspace (task_seen asked.now.task) asked.now.costs
+        result room.old room.new }
+    ensures memory_asked { WorkspaceAsked R.after_workspace (task_seen asked.now.task) asked.now.costs
+        result room.old room.new }
 {
     let sparse = open_text(host, asked)?;
     let enc = start(room, host, asked, &sparse, ticks)?;

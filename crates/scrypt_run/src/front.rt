@@ -2,14 +2,13 @@
 ghost use Rattle.std.specs.Prelude.{◌≡◌, ◌<◌, ◌≤◌, ◌^◌, ℕ, Some, None, take, length, option_map, IfOk, IfErr, OnOk, OnErr, IsTrue};
 ghost use Rattle.encfile.specs.Front.{format_refusal, limits_refusal};
 ghost use Rattle.encfile.specs.Header.{IsHeaderOf, costs_of, salt_of};
-ghost use Rattle.host.specs.Faults.{AreBelow, input_failed};
-ghost use Rattle.host.specs.Seen.{after_pull};
-ghost use Rattle.scrypt_run.specs.Front.{FrontRefused, HasFront};
-ghost use Rattle.scrypt_request.specs.Refusal.{CountsFault, MayPrecedeWork, IsNoWant};
+ghost use Rattle.host.specs.Faults.{AreBelow, input_failed, CountsFailure, CountsNoFailure};
+ghost use Rattle.host.specs.Seen.{after_pull, FitsWithin};
+ghost use Rattle.scrypt_request.specs.Refusal.{CountsFault};
+ghost use Rattle.scrypt_run.specs.Inside.Steps.{HasFront, IsNoWant, MayPrecedeWork, OpensInput, ReadsFront, RefusesFront};
 ghost use Rattle.scrypt_run.specs.Refusal.{refusal_of};
 ghost use Rattle.scrypt_request.specs.Request.{HasAllowedLimits, allowance_of, task_seen, text_of};
 ghost use Rattle.scrypt_run.specs.Admission.{IsAdmitted};
-ghost use Rattle.scrypt_run.specs.Steps.{after_reading, OpensInput};
 
 use crate::admission::admit;
 use crate::refusal::header_refusal;
@@ -24,11 +23,11 @@ fn pull_front<H: Host>(host: &mut H, front: &mut [u8; 96]) -> Result<usize, Host
     requires readable { IsTrue (H.grants host.old).readable }
     ensures bound { IfOk result (λ n. n ≤ 96) }
     ensures granted { IfOk result (λ n. 96 ≤ n → H.grants host.new ≡ H.grants host.old) }
-    ensures counts { OnOk result (H.faults host.new ≡ H.faults host.old) }
-    ensures counted { OnErr result (H.faults host.new ≡ input_failed (H.faults host.old)) }
+    ensures counts { CountsNoFailure result (H.faults host.old) (H.faults host.new) }
+    ensures counted { CountsFailure input_failed result (H.faults host.old) (H.faults host.new) }
     ensures bytes { IsTrue H.tells →
         IfOk result (λ n. take n front.new ≡ take n (H.seen host.old).input) }
-    ensures within { IsTrue H.tells → IfOk result (λ n. n ≤ length (H.seen host.old).input) }
+    ensures within { IsTrue H.tells → FitsWithin result (H.seen host.old).input }
     ensures whole { IsTrue H.tells →
         IfOk result (λ n. n < 96 → length (H.seen host.old).input ≤ n) }
     ensures taken { IsTrue H.tells →
@@ -57,11 +56,10 @@ fn read_front<H: Host>(host: &mut H, infile: Option<&str>) -> Result<[u8; 96], S
     ensures long { IsTrue H.tells → OnOk result (HasFront (H.seen host.old).input) }
     ensures front { IsTrue H.tells →
         IfOk result (λ front. front ≡ take 96 (H.seen host.old).input) }
-    ensures reads { IsTrue H.tells → OnOk result
-        (H.seen host.new ≡ after_reading (text_of infile.entry) 96 (H.seen host.old)) }
-    ensures refused { IsTrue H.tells → IfErr result (λ r.
-        FrontRefused r (format_refusal (H.seen host.old).input) (text_of infile.entry)
-        (H.seen host.old) (H.seen host.new)) }
+    ensures reads { IsTrue H.tells →
+        ReadsFront result (text_of infile.entry) (H.seen host.old) (H.seen host.new) }
+    ensures refused { IsTrue H.tells → RefusesFront result (format_refusal (H.seen host.old).input)
+        (text_of infile.entry) (H.seen host.old) (H.seen host.new) }
     ensures early { IfErr result MayPrecedeWork }
     ensures no_want { IfErr result IsNoWant }
 {
@@ -128,11 +126,10 @@ pub(crate) fn open_front<H: Host>(
     ensures valid { IfOk result (λ read. format_refusal read.0 ≡ None) }
     ensures valid_input { IsTrue H.tells →
         OnOk result (format_refusal (H.seen host.old).input ≡ None) }
-    ensures reads { IsTrue H.tells → OnOk result
-        (H.seen host.new ≡ after_reading (text_of infile.entry) 96 (H.seen host.old)) }
-    ensures refused { IsTrue H.tells → IfErr result (λ r.
-        FrontRefused r (format_refusal (H.seen host.old).input) (text_of infile.entry)
-        (H.seen host.old) (H.seen host.new)) }
+    ensures reads { IsTrue H.tells →
+        ReadsFront result (text_of infile.entry) (H.seen host.old) (H.seen host.new) }
+    ensures refused { IsTrue H.tells → RefusesFront result (format_refusal (H.seen host.old).input)
+        (text_of infile.entry) (H.seen host.old) (H.seen host.new) }
     ensures early { IfErr result MayPrecedeWork }
     ensures no_want { IfErr result IsNoWant }
 {
@@ -165,11 +162,11 @@ pub(crate) fn open_admitted_front<H: Host>(
     ensures admitted { IfOk result (λ read. IsAdmitted read.2 task.now.limits) }
     ensures checked { IsTrue H.tells → OnOk result
         (limits_refusal (H.seen host.old).input (allowance_of (task_seen task.now)) ≡ None) }
-    ensures reads { IsTrue H.tells → OnOk result
-        (H.seen host.new ≡ after_reading (text_of task.now.infile) 96 (H.seen host.old)) }
-    ensures refused { IsTrue H.tells → IfErr result (λ r. FrontRefused r
+    ensures reads { IsTrue H.tells →
+        ReadsFront result (text_of task.now.infile) (H.seen host.old) (H.seen host.new) }
+    ensures refused { IsTrue H.tells → RefusesFront result
         (limits_refusal (H.seen host.old).input (allowance_of (task_seen task.now)))
-        (text_of task.now.infile) (H.seen host.old) (H.seen host.new)) }
+        (text_of task.now.infile) (H.seen host.old) (H.seen host.new) }
     ensures early { IfErr result MayPrecedeWork }
     ensures no_want { IfErr result IsNoWant }
 {

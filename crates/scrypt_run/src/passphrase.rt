@@ -4,8 +4,9 @@ ghost use Rattle.host.specs.Faults.{AreBelow};
 ghost use Rattle.host.specs.Grants.{with_secret_asked};
 ghost use Rattle.host.specs.Secret.{source_of};
 ghost use Rattle.host.specs.Seen.{after_ask};
+ghost use Rattle.scrypt_run.specs.Inside.Steps.{IsNoWant, MayPrecedeWork};
 ghost use Rattle.scrypt_run.specs.Passphrase.{HasPassphrase, PassphraseRefused, first_line, first_line_at, is_line_end};
-ghost use Rattle.scrypt_request.specs.Refusal.{CountsFault, MayPrecedeWork, IsNoWant};
+ghost use Rattle.scrypt_request.specs.Refusal.{CountsFault};
 
 use host::{Host, Source};
 use scrypt_request::ScryptRefusal;

@@ -1,7 +1,7 @@
 //! The refusal of a header's fault.
 ghost use Rattle.std.specs.Prelude.{◌≡◌};
 ghost use Rattle.encfile.specs.Front.{header_refusal};
-ghost use Rattle.scrypt_request.specs.Refusal.{MayPrecedeWork, IsNoWant};
+ghost use Rattle.scrypt_run.specs.Inside.Steps.{IsNoWant, MayPrecedeWork};
 ghost use Rattle.scrypt_run.specs.Refusal.{refusal_of};
 
 use encfile::HeaderFault;

@@ -1,5 +1,5 @@
 //! A run for a request.
-ghost use Rattle.std.specs.Prelude.{◌≡◌, ◌+◌, ◌≤◌, ◌^◌, IfErr, OnOk, IsTrue};
+ghost use Rattle.std.specs.Prelude.{◌≡◌, ◌+◌, ◌^◌, IfErr, OnOk, IsTrue};
 ghost use Rattle.host.specs.Faults.{AreBelow};
 ghost use Rattle.host.specs.Grants.{GrantsAll};
 ghost use Rattle.host.specs.Seen.{IsFresh};
@@ -7,7 +7,7 @@ ghost use Rattle.scrypt_run.specs.Asking.{RequestAsked, RequestGranted};
 ghost use Rattle.scrypt_request.specs.Refusal.{CountsFault, CountsNoEarlyWork};
 ghost use Rattle.scrypt_request.specs.Request.{IsAllowed, request_seen};
 ghost use Rattle.scrypt_run.specs.Run.{KeepsAll, RequestRefused, RequestSucceeds, cores_asked, most_cores};
-ghost use Rattle.scrypt_run.specs.Work.{EndsAfterWork, RequestWorks, CountsNoOtherWork};
+ghost use Rattle.scrypt_run.specs.Work.{EndsAfterWork, RequestWorks, CountsNoOtherWork, WorksWithin};
 
 use crate::decrypt::decrypt;
 use crate::encrypt::encrypt;
@@ -54,7 +54,7 @@ pub fn run<R: RunMemory, H: Host>(
     ensures unworked { IsTrue H.tells → CountsNoOtherWork result (H.seen host.new) ticks.old ticks.new }
     ensures work { IsTrue H.tells → KeepsAll (request_seen request.now) → OnOk result (ticks.new
         ≡ ticks.old + cores_asked (request_seen request.now) (H.seen host.old)) }
-    ensures work_bound { ticks.new ≤ ticks.old + most_cores (request_seen request.now) }
+    ensures work_bound { WorksWithin (most_cores (request_seen request.now)) ticks.old ticks.new }
     ensures no_work { CountsNoEarlyWork result ticks.old ticks.new }
     ensures memory_granted { OnOk result (RequestGranted R.after_workspace R.after_line H.tells
         (H.seen host.old).input (request_seen request.now) room.old room.new) }

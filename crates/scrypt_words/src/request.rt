@@ -3,7 +3,7 @@ ghost use Rattle.std.specs.Prelude.{◌≡◌, ◌⊎◌, Ok, Err, IfOk, IfErr, 
 ghost use Rattle.clap.specs.Words.{subcommand_rows_of};
 ghost use Rattle.command_words.specs.Answer.{answered};
 ghost use Rattle.scrypt_request.specs.Refusal.{RaisesNoCount};
-ghost use Rattle.scrypt_request.specs.Request.{HasAllowedLimits, IsAllowed, encryption_seen, request_seen, task_seen};
+ghost use Rattle.scrypt_request.specs.Request.{HasAllowedLimits, encryption_seen, request_seen, task_seen, AsksAllowed};
 ghost use Rattle.scrypt_words.specs.Request.{decryption_asked, encryption_asked, request_at, scrypt_request};
 ghost use Rattle.scrypt_words.specs.Words.{rows_in};
 
@@ -61,7 +61,7 @@ fn decryption_given<'a>(matches: &ArgMatches<'a>) -> Result<Task<'a>, ScryptRefu
 // What the words of the subcommand of this name ask for.
 fn request_at<'a>(name: &str, matches: &ArgMatches<'a>) -> Result<Request<'a>, ScryptRefusal>
     ensures request { answered request_seen result ≡ request_at name.now (rows_in matches.now) }
-    ensures allowed { IfOk result (λ request. IsAllowed (request_seen request)) }
+    ensures allowed { IfOk result AsksAllowed }
     ensures counts { IfErr result RaisesNoCount }
 {
     match name {
@@ -82,7 +82,7 @@ fn request_at<'a>(name: &str, matches: &ArgMatches<'a>) -> Result<Request<'a>, S
 fn request_in<'a>(matches: &ArgMatches<'a>) -> Result<Request<'a>, ScryptRefusal>
     ensures request { MatchOption (subcommand_rows_of matches.now) (result ≡ Err ScryptRefusal.Usage)
         (λ said. answered request_seen result ≡ request_at said.0 said.1) }
-    ensures allowed { IfOk result (λ request. IsAllowed (request_seen request)) }
+    ensures allowed { IfOk result AsksAllowed }
     ensures counts { IfErr result RaisesNoCount }
 {
     let (name, inner) = matches.subcommand().ok_or(ScryptRefusal::Usage)?;
@@ -96,7 +96,7 @@ pub fn read_request<'a>(alloc: Global, words: &'a [String]) -> Result<Request<'a
         scrypt_request (map string_bytes words.entry.now) ≡ Ok (request_seen request)) }
     ensures refused { IfErr result (λ refusal.
         (scrypt_request (map string_bytes words.entry.now) ≡ Err refusal) ⊎ (refusal ≡ ScryptRefusal.OutOfMemory)) }
-    ensures allowed { IfOk result (λ request. IsAllowed (request_seen request)) }
+    ensures allowed { IfOk result AsksAllowed }
     ensures counts { IfErr result RaisesNoCount }
 {
     let matches = read_words(alloc, words)?;

@@ -70,6 +70,14 @@ source_at reading.Input w = w.input
 source_at reading.Secret w = w.secret
 source_at reading.Random w = w.random
 
+-- this stream was not opened
+abbrev pub IsUnopened : Reading → World → Type 0
+IsUnopened r w = (source_at r w).opened ≡ None
+
+-- no read of this stream found its end
+abbrev pub IsGoing : Reading → World → Type 0
+IsGoing r w = (source_at r w).is_ended ≡ false
+
 -- the system with another state of a stream
 abbrev pub with_source : Reading → Source → World → World
 with_source reading.Input s w = record w { input = s }
@@ -129,6 +137,14 @@ pub record TakesFrom (r : Reading) (before after : World) : Type 0 where
   pub same : after ≡ with_source r (let s = source_at r before in record s { left = left; is_ended = is_ended }) before
 
 -- ---- the output
+
+-- no output was asked for
+abbrev pub IsBeforeOutput : World → Type 0
+IsBeforeOutput w = w.output_asked ≡ None
+
+-- the output was not asked to be brought to the disk
+abbrev pub IsBeforeSync : World → Type 0
+IsBeforeSync w = w.sync_asked ≡ false
 
 -- an output was asked for under this name, and could not be opened, or holds what it held
 abbrev pub after_ask_output : Option Text → World → World

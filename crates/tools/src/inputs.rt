@@ -1,9 +1,9 @@
 //! What is read from its beginning: secrets and salts.
-ghost use Rattle.std.specs.Prelude.{◌≡◌, ◌≤◌, ℕ, List, None, drop, length, option_map, IfOk, OnOk, IsTrue, Some, codes};
+ghost use Rattle.std.specs.Prelude.{◌≡◌, ℕ, List, None, drop, option_map, IfOk, OnOk, IsTrue, Some, codes};
 ghost use Rattle.host.specs.Secret.{IsBeginning, source_of};
-ghost use Rattle.host.specs.Seen.{env};
+ghost use Rattle.host.specs.Seen.{env, FitsWithin};
 ghost use Rattle.tools.specs.RunState.{bytes_in, opened_for, salt_of, secret_in, secret_left};
-ghost use Rattle.tools.specs.World.{LeavesAllBut, OpensNoOther, stands_at};
+ghost use Rattle.tools.specs.World.{LeavesAllBut, OpensNoOther, stands_at, IsBeforeOutput, IsUnopened};
 ghost use Rattle.tools.specs.declared.system.Reading.TheVariants as reading;
 
 use crate::streams::read_full;
@@ -21,9 +21,9 @@ pub fn read_secret<S: System>(
     source: Source<'_>,
     buf: &mut [u8],
 ) -> Result<usize, HostFault>
-    requires once { IsTrue S.tells → (S.world system.old).secret.opened ≡ None }
-    requires early { IsTrue S.tells → (S.world system.old).output_asked ≡ None }
-    ensures bound { IfOk result (λ n. n ≤ length buf.old) }
+    requires once { IsTrue S.tells → IsUnopened reading.Secret (S.world system.old) }
+    requires early { IsTrue S.tells → IsBeforeOutput (S.world system.old) }
+    ensures bound { FitsWithin result buf.old }
     ensures kept { IsTrue S.tells →
         LeavesAllBut reading.Secret (S.world system.old) (S.world system.new) }
     ensures bytes { IsTrue S.tells → IfOk result (λ n.
@@ -48,9 +48,9 @@ fn read_opened<S: System>(
     name: Option<&str>,
     buf: &mut [u8],
 ) -> Result<usize, HostFault>
-    requires once { IsTrue S.tells → (S.world system.old).secret.opened ≡ None }
-    requires early { IsTrue S.tells → (S.world system.old).output_asked ≡ None }
-    ensures bound { IfOk result (λ n. n ≤ length buf.old) }
+    requires once { IsTrue S.tells → IsUnopened reading.Secret (S.world system.old) }
+    requires early { IsTrue S.tells → IsBeforeOutput (S.world system.old) }
+    ensures bound { FitsWithin result buf.old }
     ensures kept { IsTrue S.tells →
         LeavesAllBut reading.Secret (S.world system.old) (S.world system.new) }
     ensures bytes { IsTrue S.tells → IfOk result (λ n. IsBeginning
@@ -69,8 +69,8 @@ fn read_opened<S: System>(
 ///
 /// This is how a host over a system takes its salt: once, and before an output is asked for.
 pub fn read_salt<S: System>(system: &mut S, out: &mut [u8; 32]) -> Result<(), HostFault>
-    requires once { IsTrue S.tells → (S.world system.old).random.opened ≡ None }
-    requires early { IsTrue S.tells → (S.world system.old).output_asked ≡ None }
+    requires once { IsTrue S.tells → IsUnopened reading.Random (S.world system.old) }
+    requires early { IsTrue S.tells → IsBeforeOutput (S.world system.old) }
     ensures kept { IsTrue S.tells →
         LeavesAllBut reading.Random (S.world system.old) (S.world system.new) }
     ensures random { IsTrue S.tells → OnOk result (out.new ≡ salt_of (S.world system.old)) }

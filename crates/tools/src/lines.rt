@@ -1,6 +1,7 @@
 //! What is said: a line that goes into no file that is read.
-ghost use Rattle.std.specs.Prelude.{◌≡◌, [], OnOk, OnErr, IsTrue};
+ghost use Rattle.std.specs.Prelude.{◌≡◌, [], OnOk, IsTrue};
 ghost use Rattle.tools.specs.World.{after_line};
+ghost use Rattle.host.specs.Seen.{KeepsOnErr};
 
 use crate::identity::FilesRead;
 use crate::system::{Stream, System};
@@ -12,7 +13,7 @@ use host::HostFault;
 /// This is how a host over a system says its line: once.
 pub fn say_apart<S: System>(system: &mut S, line: &str) -> Result<(), HostFault>
     requires once { IsTrue S.tells → (S.world system.old).said ≡ [] }
-    ensures kept { IsTrue S.tells → OnErr result (S.world system.new ≡ S.world system.old) }
+    ensures kept { IsTrue S.tells → KeepsOnErr result (S.world system.old) (S.world system.new) }
     ensures said { IsTrue S.tells →
         OnOk result (S.world system.new ≡ after_line line.now (S.world system.old)) }
     ensures same_files { IsTrue S.tells → S.files system.new ≡ S.files system.old }

@@ -1,6 +1,7 @@
 //! What is written: an output that is no file that is read.
-ghost use Rattle.std.specs.Prelude.{◌≡◌, None, false, true, option_map, IfOk, OnOk, OnErr, IsTrue};
-ghost use Rattle.tools.specs.World.{AsksOutput, IsApart};
+ghost use Rattle.std.specs.Prelude.{◌≡◌, false, true, option_map, IfOk, OnOk, IsTrue};
+ghost use Rattle.host.specs.Seen.{KeepsOnErr};
+ghost use Rattle.tools.specs.World.{AsksOutput, IsApart, IsBeforeOutput, IsBeforeSync};
 
 use crate::identity::FilesRead;
 use crate::system::{Stream, System};
@@ -13,12 +14,12 @@ use host::HostFault;
 ///
 /// This is how a host over a system opens its output: once.
 pub fn open_apart<S: System>(system: &mut S, name: Option<&str>) -> Result<bool, HostFault>
-    requires once { IsTrue S.tells → (S.world system.old).output_asked ≡ None }
-    requires unsynced { IsTrue S.tells → (S.world system.old).sync_asked ≡ false }
+    requires once { IsTrue S.tells → IsBeforeOutput (S.world system.old) }
+    requires unsynced { IsTrue S.tells → IsBeforeSync (S.world system.old) }
     ensures asks { IsTrue S.tells → AsksOutput (option_map (λ n. n.now) name.entry)
         (S.world system.old) (S.world system.new) }
-    ensures untouched { IsTrue S.tells → OnErr result
-        ((S.world system.new).is_emptied ≡ (S.world system.old).is_emptied) }
+    ensures untouched { IsTrue S.tells →
+        KeepsOnErr result (S.world system.old).is_emptied (S.world system.new).is_emptied }
     ensures new { IsTrue S.tells → OnOk result ((S.world system.new).is_new ≡ true) }
     ensures apart { IsTrue S.tells → OnOk result (IsApart (S.files system.new)) }
     ensures kept { IsTrue S.tells → IfOk result (λ is_kept. (S.world system.new).is_kept ≡ is_kept) }

@@ -1,9 +1,9 @@
 //! A run over a system: the system, and how far the run has come.
-ghost use Rattle.std.specs.Prelude.{◌≡◌, ◌<◌, ◌≤◌, ℕ, List, None, [], length, option_map, take, IfOk, OnOk, OnErr, IsTrue, true, false};
+ghost use Rattle.std.specs.Prelude.{◌≡◌, ◌<◌, ℕ, List, None, [], length, option_map, take, IfOk, OnOk, OnErr, IsTrue, true, false};
 ghost use Rattle.host.specs.Asked.{asked_source};
 ghost use Rattle.host.specs.Grants.{nothing_asked, with_input_opened, with_output_asked, with_output_opened, with_salt_asked, with_secret_asked};
 ghost use Rattle.host.specs.Secret.{IsBeginning, secret_of, source_of};
-ghost use Rattle.host.specs.Seen.{after_ask, after_ask_output, after_open_input, after_open_output, after_pull, after_push, after_salt, after_say, env};
+ghost use Rattle.host.specs.Seen.{after_ask, after_ask_output, after_open_input, after_open_output, after_pull, after_push, after_salt, after_say, env, FitsWithin, KeepsOnErr, KeepsOnOk, TakesSome};
 ghost use Rattle.tools.specs.RunState.{Leaves, host_seen, secret_left};
 ghost use Rattle.tools.specs.World.{IsSettled, IsUnsettled, IsUnused, after_line};
 
@@ -154,11 +154,11 @@ impl<S: System> Run<S> {
     pub fn open_input(&mut self, name: Option<&str>) -> Result<(), HostFault>
         requires unopened { self.old.grants.input ≡ true }
         ensures early { OnOk result (self.old.grants.output ≡ true) }
-        ensures kept { IsTrue S.tells → OnErr result (host_seen self.new ≡ host_seen self.old) }
+        ensures kept { IsTrue S.tells → KeepsOnErr result (host_seen self.old) (host_seen self.new) }
         ensures opened { IsTrue S.tells → OnOk result (host_seen self.new
             ≡ after_open_input (option_map (λ n. n.now) name.entry) (host_seen self.old)) }
         ensures granted { OnOk result (self.new.grants ≡ with_input_opened self.old.grants) }
-        ensures granted_as_before { OnErr result (self.new.grants ≡ self.old.grants) }
+        ensures granted_as_before { KeepsOnErr result self.old.grants self.new.grants }
     {
         if self.output != OutputStage::Unasked {
             return Err(HostFault);
@@ -177,7 +177,7 @@ impl<S: System> Run<S> {
         ensures opened { IsTrue S.tells → OnOk result (host_seen self.new
             ≡ after_open_output (option_map (λ n. n.now) name.entry) (host_seen self.old)) }
         ensures untouched { IsTrue S.tells →
-            OnErr result (self.new.world.is_emptied ≡ self.old.world.is_emptied) }
+            KeepsOnErr result self.old.world.is_emptied self.new.world.is_emptied }
         ensures granted { OnOk result (self.new.grants ≡ with_output_opened self.old.grants) }
         ensures granted_no_other { OnErr result (self.new.grants ≡ with_output_asked self.old.grants) }
     {
@@ -193,9 +193,9 @@ impl<S: System> Run<S> {
 
     /// The next bytes of the input. Once its end was found, the system is not asked again.
     pub fn pull(&mut self, buf: &mut [u8]) -> Result<usize, HostFault>
-        ensures bound { IfOk result (λ n. n ≤ length buf.old) }
-        ensures kept { IsTrue S.tells → OnErr result (host_seen self.new ≡ host_seen self.old) }
-        ensures within { IsTrue S.tells → IfOk result (λ n. n ≤ length self.old.world.input.left) }
+        ensures bound { FitsWithin result buf.old }
+        ensures kept { IsTrue S.tells → KeepsOnErr result (host_seen self.old) (host_seen self.new) }
+        ensures within { IsTrue S.tells → FitsWithin result self.old.world.input.left }
         ensures bytes { IsTrue S.tells →
             IfOk result (λ n. take n buf.new ≡ take n self.old.world.input.left) }
         ensures taken { IsTrue S.tells →
@@ -203,7 +203,7 @@ impl<S: System> Run<S> {
         ensures progress { IsTrue S.tells → IfOk result (λ n.
             0 < length buf.old → n ≡ 0 → self.old.world.input.left ≡ []) }
         ensures granted { IfOk result (λ n. 0 < n → self.new.grants ≡ self.old.grants) }
-        ensures still_writable { OnOk result (self.new.grants.writable ≡ self.old.grants.writable) }
+        ensures still_writable { KeepsOnOk result self.old.grants.writable self.new.grants.writable }
     {
         if self.input == InputStage::Unopened {
             return Err(HostFault);
@@ -220,9 +220,9 @@ impl<S: System> Run<S> {
 
     /// Writes a beginning of the bytes to the output, if that was not asked to be brought to the disk.
     pub fn push(&mut self, bytes: &[u8]) -> Result<usize, HostFault>
-        ensures bound { IfOk result (λ n. n ≤ length bytes.now) }
-        ensures progress { IfOk result (λ n. 0 < length bytes.now → 0 < n) }
-        ensures kept { IsTrue S.tells → OnErr result (host_seen self.new ≡ host_seen self.old) }
+        ensures bound { FitsWithin result bytes.now }
+        ensures progress { TakesSome result bytes.now }
+        ensures kept { IsTrue S.tells → KeepsOnErr result (host_seen self.old) (host_seen self.new) }
         ensures put { IsTrue S.tells → IfOk result (λ n.
             host_seen self.new ≡ after_push (take n bytes.now) (host_seen self.old)) }
         ensures granted { self.new.grants ≡ self.old.grants }
@@ -259,7 +259,7 @@ impl<S: System> Run<S> {
     pub fn secret(&mut self, source: Source<'_>, buf: &mut [u8]) -> Result<usize, HostFault>
         requires unasked { self.old.grants.secret ≡ true }
         ensures early { OnOk result (self.old.grants.output ≡ true) }
-        ensures bound { IfOk result (λ n. n ≤ length buf.old) }
+        ensures bound { FitsWithin result buf.old }
         ensures asks { IsTrue S.tells →
             host_seen self.new ≡ after_ask (source_of source.entry) (host_seen self.old) }
         ensures bytes { IsTrue S.tells → IfOk result (λ n.
@@ -294,10 +294,10 @@ impl<S: System> Run<S> {
 
     /// Says a line, if none was said, and standard error is no file that is read.
     pub fn say(&mut self, line: &str) -> Result<(), HostFault>
-        ensures kept { IsTrue S.tells → OnErr result (host_seen self.new ≡ host_seen self.old) }
+        ensures kept { IsTrue S.tells → KeepsOnErr result (host_seen self.old) (host_seen self.new) }
         ensures said { IsTrue S.tells →
             OnOk result (host_seen self.new ≡ after_say line.now (host_seen self.old)) }
-        ensures kept_system { IsTrue S.tells → OnErr result (self.new.world ≡ self.old.world) }
+        ensures kept_system { IsTrue S.tells → KeepsOnErr result self.old.world self.new.world }
         ensures said_by_system { IsTrue S.tells →
             OnOk result (self.new.world ≡ after_line line.now self.old.world) }
         ensures granted { self.new.grants ≡ self.old.grants }

@@ -1,7 +1,8 @@
 //! Reading and writing what signals may interrupt.
-ghost use Rattle.std.specs.Prelude.{◌≡◌, ◌+◌, ◌<◌, ◌≤◌, ℕ, Some, false, true, drop, take, length, IfOk, OnErr, IsTrue};
+ghost use Rattle.std.specs.Prelude.{◌≡◌, ◌+◌, ◌<◌, ◌≤◌, ℕ, Some, true, drop, take, length, IfOk, IsTrue};
 ghost use Rattle.host.specs.Secret.{IsBeginning};
-ghost use Rattle.tools.specs.World.{IsApart, Reads, TakesFrom, after_write, source_at};
+ghost use Rattle.host.specs.Seen.{FitsWithin, KeepsOnErr, TakesSome};
+ghost use Rattle.tools.specs.World.{IsApart, Reads, TakesFrom, after_write, source_at, IsBeforeSync, IsGoing};
 
 use crate::system::{Reading, System};
 use host::HostFault;
@@ -21,9 +22,9 @@ pub fn read_some<S: System>(
     buf: &mut [u8],
 ) -> Result<usize, HostFault>
     requires not_empty { 0 < length buf.old }
-    requires going { IsTrue S.tells → (source_at reading (S.world system.old)).is_ended ≡ false }
-    ensures bound { IfOk result (λ n. n ≤ length buf.old) }
-    ensures kept { IsTrue S.tells → OnErr result (S.world system.new ≡ S.world system.old) }
+    requires going { IsTrue S.tells → IsGoing reading (S.world system.old) }
+    ensures bound { FitsWithin result buf.old }
+    ensures kept { IsTrue S.tells → KeepsOnErr result (S.world system.old) (S.world system.new) }
     ensures bytes { IsTrue S.tells → IfOk result (λ n.
         Reads reading n buf.new (S.world system.old) (S.world system.new)) }
     ensures same_files { IsTrue S.tells → S.files system.new ≡ S.files system.old }
@@ -48,8 +49,8 @@ pub fn read_full<S: System>(
     reading: Reading,
     buf: &mut [u8],
 ) -> Result<usize, HostFault>
-    requires going { IsTrue S.tells → (source_at reading (S.world system.old)).is_ended ≡ false }
-    ensures bound { IfOk result (λ n. n ≤ length buf.old) }
+    requires going { IsTrue S.tells → IsGoing reading (S.world system.old) }
+    ensures bound { FitsWithin result buf.old }
     ensures whole { IsTrue S.tells → IfOk result (λ n.
         IsBeginning (Some (source_at reading (S.world system.old)).left) n buf.new) }
     ensures left { IsTrue S.tells → IfOk result (λ n. (source_at reading (S.world system.new)).left
@@ -77,10 +78,10 @@ pub fn read_full<S: System>(
 pub fn write_some<S: System>(system: &mut S, bytes: &[u8]) -> Result<usize, HostFault>
     requires apart { IsTrue S.tells → IsApart (S.files system.old) }
     requires new { IsTrue S.tells → (S.world system.old).is_new ≡ true }
-    requires unsynced { IsTrue S.tells → (S.world system.old).sync_asked ≡ false }
-    ensures bound { IfOk result (λ n. n ≤ length bytes.now) }
-    ensures progress { IfOk result (λ n. 0 < length bytes.now → 0 < n) }
-    ensures kept { IsTrue S.tells → OnErr result (S.world system.new ≡ S.world system.old) }
+    requires unsynced { IsTrue S.tells → IsBeforeSync (S.world system.old) }
+    ensures bound { FitsWithin result bytes.now }
+    ensures progress { TakesSome result bytes.now }
+    ensures kept { IsTrue S.tells → KeepsOnErr result (S.world system.old) (S.world system.new) }
     ensures put { IsTrue S.tells → IfOk result (λ n.
         S.world system.new ≡ after_write (take n bytes.now) (S.world system.old)) }
     ensures same_files { IsTrue S.tells → S.files system.new ≡ S.files system.old }

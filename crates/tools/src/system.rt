@@ -1,10 +1,10 @@
 //! The calls of the system that the programs make.
-ghost use Rattle.std.specs.Prelude.{◌≡◌, ◌+◌, ◌<◌, ◌≤◌, Bool, ℕ, List, None, [], true, false, length, option_map, take, IfOk, OnOk, OnErr, IsTrue};
+ghost use Rattle.std.specs.Prelude.{◌≡◌, ◌+◌, ◌<◌, Bool, ℕ, List, [], true, false, length, option_map, take, IfOk, OnOk, OnErr, IsTrue};
 ghost use Rattle.host.specs.Memory.{lookup};
 ghost use Rattle.host.specs.Secret.{IsBeginning};
-ghost use Rattle.host.specs.Seen.{Text};
+ghost use Rattle.host.specs.Seen.{Text, FitsWithin, KeepsOnErr};
 ghost use Rattle.tools.specs.Words.{GivesWord, word_at};
-ghost use Rattle.tools.specs.World.{Files, IsApart, Opens, Reads, SaysApart, World, after_ask_output, after_ask_sync, after_empty, after_line, after_open_output, after_sync, after_write, file_of, source_at};
+ghost use Rattle.tools.specs.World.{Files, IsApart, Opens, Reads, SaysApart, World, after_ask_output, after_ask_sync, after_empty, after_line, after_open_output, after_sync, after_write, file_of, IsBeforeOutput, IsBeforeSync, IsGoing, IsUnopened};
 
 use crate::identity::FileIdentity;
 use host::HostFault;
@@ -77,29 +77,29 @@ pub trait System {
     /// Puts a word of the process into the buffer, and says how many bytes it has. The name of the process
     /// is at place 0.
     fn word(&self, place: usize, buf: &mut [u8]) -> Result<usize, WordFault>
-        ensures bound { IfOk result (λ n. n ≤ length buf.old) }
+        ensures bound { FitsWithin result buf.old }
         ensures bytes { IsTrue tells → GivesWord (word_at (words self.now) place) result buf.new };
 
     /// Puts the first bytes of a variable into the buffer, as many as there are and as fit.
     fn variable(&self, name: &str, buf: &mut [u8]) -> Result<usize, HostFault>
-        ensures bound { IfOk result (λ n. n ≤ length buf.old) }
+        ensures bound { FitsWithin result buf.old }
         ensures bytes { IsTrue tells → IfOk result (λ n.
             IsBeginning (lookup (world self.now).variables name.now) n buf.new) };
 
     /// Opens what has this name, to be read from its beginning; `None` is standard input.
     fn open(&mut self, reading: Reading, name: Option<&str>) -> Result<(), HostFault>
-        requires once { IsTrue tells → (source_at reading (world self.old)).opened ≡ None }
-        requires early { IsTrue tells → (world self.old).output_asked ≡ None }
-        ensures kept { IsTrue tells → OnErr result (world self.new ≡ world self.old) }
+        requires once { IsTrue tells → IsUnopened reading (world self.old) }
+        requires early { IsTrue tells → IsBeforeOutput (world self.old) }
+        ensures kept { IsTrue tells → KeepsOnErr result (world self.old) (world self.new) }
         ensures opened { IsTrue tells → OnOk result
             (Opens reading (option_map (λ n. n.now) name.entry) (world self.old) (world self.new)) };
 
     /// Reads the next bytes of an opened stream, and says how many. After an error nothing was read.
     fn read(&mut self, reading: Reading, buf: &mut [u8]) -> io::Result<usize>
         requires not_empty { 0 < length buf.old }
-        requires going { IsTrue tells → (source_at reading (world self.old)).is_ended ≡ false }
-        ensures bound { IfOk result (λ n. n ≤ length buf.old) }
-        ensures kept { IsTrue tells → OnErr result (world self.new ≡ world self.old) }
+        requires going { IsTrue tells → IsGoing reading (world self.old) }
+        ensures bound { FitsWithin result buf.old }
+        ensures kept { IsTrue tells → KeepsOnErr result (world self.old) (world self.new) }
         ensures bytes { IsTrue tells → IfOk result (λ n.
             Reads reading n buf.new (world self.old) (world self.new)) }
         ensures same_files { IsTrue tells → files self.new ≡ files self.old }
@@ -108,7 +108,7 @@ pub trait System {
     /// Opens an output, which holds what it held before; `None` is standard output. No output was asked
     /// for before; this one is asked for, whatever the answer.
     fn open_output(&mut self, name: Option<&str>) -> Result<(), HostFault>
-        requires once { IsTrue tells → (world self.old).output_asked ≡ None }
+        requires once { IsTrue tells → IsBeforeOutput (world self.old) }
         ensures asks { IsTrue tells → OnErr result
             (world self.new ≡ after_ask_output (option_map (λ n. n.now) name.entry) (world self.old)) }
         ensures opened { IsTrue tells → OnOk result (world self.new ≡ after_open_output
@@ -123,8 +123,8 @@ pub trait System {
     fn empty(&mut self) -> Result<(), HostFault>
         requires due { IsTrue tells → (world self.old).is_new ≡ false }
         requires apart { IsTrue tells → IsApart (files self.old) }
-        requires unsynced { IsTrue tells → (world self.old).sync_asked ≡ false }
-        ensures kept { IsTrue tells → OnErr result (world self.new ≡ world self.old) }
+        requires unsynced { IsTrue tells → IsBeforeSync (world self.old) }
+        ensures kept { IsTrue tells → KeepsOnErr result (world self.old) (world self.new) }
         ensures emptied { IsTrue tells → OnOk result (world self.new ≡ after_empty (world self.old)) }
         ensures same_files { IsTrue tells → files self.new ≡ files self.old };
 
@@ -134,9 +134,9 @@ pub trait System {
         requires not_empty { 0 < length bytes.now }
         requires apart { IsTrue tells → IsApart (files self.old) }
         requires new { IsTrue tells → (world self.old).is_new ≡ true }
-        requires unsynced { IsTrue tells → (world self.old).sync_asked ≡ false }
-        ensures bound { IfOk result (λ n. n ≤ length bytes.now) }
-        ensures kept { IsTrue tells → OnErr result (world self.new ≡ world self.old) }
+        requires unsynced { IsTrue tells → IsBeforeSync (world self.old) }
+        ensures bound { FitsWithin result bytes.now }
+        ensures kept { IsTrue tells → KeepsOnErr result (world self.old) (world self.new) }
         ensures put { IsTrue tells → IfOk result (λ n.
             world self.new ≡ after_write (take n bytes.now) (world self.old)) }
         ensures same_files { IsTrue tells → files self.new ≡ files self.old }
@@ -146,7 +146,7 @@ pub trait System {
     /// asked to be brought there yet.
     fn sync(&mut self) -> Result<(), HostFault>
         requires kept { IsTrue tells → (world self.old).is_kept ≡ true }
-        requires once { IsTrue tells → (world self.old).sync_asked ≡ false }
+        requires once { IsTrue tells → IsBeforeSync (world self.old) }
         ensures asks { IsTrue tells → OnErr result (world self.new ≡ after_ask_sync (world self.old)) }
         ensures synced { IsTrue tells → OnOk result (world self.new ≡ after_sync (world self.old)) }
         ensures same_files { IsTrue tells → files self.new ≡ files self.old };
@@ -156,7 +156,7 @@ pub trait System {
     fn line(&mut self, line: &str) -> Result<(), HostFault>
         requires once { IsTrue tells → (world self.old).said ≡ [] }
         requires apart { IsTrue tells → SaysApart (files self.old) }
-        ensures kept { IsTrue tells → OnErr result (world self.new ≡ world self.old) }
+        ensures kept { IsTrue tells → KeepsOnErr result (world self.old) (world self.new) }
         ensures said { IsTrue tells → OnOk result (world self.new ≡ after_line line.now (world self.old)) }
         ensures same_files { IsTrue tells → files self.new ≡ files self.old };
 }

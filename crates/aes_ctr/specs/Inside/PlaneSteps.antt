@@ -1,12 +1,18 @@
--- What the steps of transposing and of ShiftRows do to planes, which hold a pair of blocks at each bit.
-use Rattle.std.specs.Prelude.{◌≡◌, ℕ, ◌+◌, ◌-◌, ◌/◌, ◌%◌, ◌==◌, ◌<◌, ◌++◌, Bool, List, drop, if◌then◌else◌, take}
+-- What the steps of transposing and of ShiftRows do to planes, which hold a pair of blocks at each bit; and what the
+-- planes of a key schedule do to a text.
+use Rattle.std.specs.Prelude.{◌≡◌, ℕ, ◌+◌, ◌-◌, ◌*◌, ◌/◌, ◌%◌, ◌==◌, ◌<◌, ◌++◌, Bool, List, drop, if◌then◌else◌, take}
 use Rattle.std.specs.Int.{bit_at}
-use Rattle.aes_ctr.specs.Planes.{AreBytes, bits, plane}
-use Rattle.aes_ctr.specs.Aes.{byte_at, state_of}
+use Rattle.aes_ctr.specs.Aes.{byte_at, key_schedule, state_of}
+use Rattle.aes_ctr.specs.CounterMode.{XorsKeyStream}
+use Rattle.aes_ctr.specs.Planes.{AreBytes, AreKeyPlanes, bits, plane}
 
 -- two blocks, one after the other
 abbrev pub IsPair : List ℕ → Type 0
 IsPair pair = AreBytes 32 pair
+
+-- eight planes before a step and after it are pairs
+abbrev pub ArePairs : List (List ℕ) → List (List ℕ) → Type 0
+ArePairs before after = (k : ℕ) → k < 8 → IsPair (plane before k) × IsPair (plane after k)
 
 -- what f makes of the first block of a pair, and of the second
 abbrev pub in_both : (List ℕ → List ℕ) → List ℕ → List ℕ
@@ -31,3 +37,8 @@ AreSwapped d planes swapped =
 -- each byte of the state takes the place of the one that stands n rows above it
 unfoldable pub rows_below : ℕ → List ℕ → List ℕ
 rows_below n state = state_of (λ row column. byte_at state ((row + n) % 4) column)
+
+-- a text was xored with the key stream from the block with a number on, of each key whose planes these are
+abbrev pub XorsByPlanes : List (List ℕ) → ℕ → List ℕ → List ℕ → Type 0
+XorsByPlanes planes number before after =
+    (key : List ℕ) → AreKeyPlanes (key_schedule key) planes → XorsKeyStream key (16 * number) before after

@@ -1,5 +1,5 @@
 -- A segment, against the parameters that it belongs to (RFC 9106, 3.4).
-use Rattle.std.specs.Prelude.{◌≡◌, ℕ, ◌+◌, ◌*◌, ◌<◌, ◌≤◌, ◌^◌, min, max}
+use Rattle.std.specs.Prelude.{◌≡◌, ℕ, ◌+◌, ◌*◌, ◌<◌, ◌≤◌, ◌^◌, List, length, min, max}
 use Rattle.argon.specs.Argon2.{is_xored_in}
 use Rattle.argon.specs.Counts.{first_index}
 use Rattle.argon.specs.Parameters.{Parameters, segment_len}
@@ -19,6 +19,10 @@ pub record IsSegmentOf (parameters : Parameters) (at : Segment) : Type 0 where
   pub len : segment_len parameters ≡ at.len
   pub independent : is_independent parameters at.pass at.slice ≡ at.is_independent
   pub xored : is_xored_in parameters at.pass ≡ at.is_xored
+
+-- the blocks are those of the whole matrix that the segment stands in
+abbrev pub AreOfMatrix : Segment → List (List ℕ) → Type 0
+AreOfMatrix at blocks = length blocks ≡ at.lanes * (4 * at.len)
 
 -- the number of the column with an index in the segment
 abbrev pub column_number : Segment → ℕ → ℕ

@@ -11,6 +11,10 @@ abbrev pub number_told : {A : Type 0} → Result A ℕ → ℕ
 number_told (Ok _) = 0
 number_told (Err status) = status
 
+-- the number is that of a refusal: not 0
+abbrev pub IsRefusal : ℕ → Type 0
+IsRefusal status = 1 ≤ status
+
 -- the number is that of a refusal before memory is asked for: not 0, not that of refused memory, and not that of a wrong
 -- passphrase
 pub record IsEarly (status : ℕ) : Type 0 where

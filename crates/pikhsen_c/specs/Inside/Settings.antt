@@ -1,5 +1,5 @@
 -- The settings of a hash, a derivation or an encryption, and its text, as private functions pass them on.
-use Rattle.std.specs.Prelude.{ℕ, ◌-◌, Bool, List, Option, Some, None, length, take}
+use Rattle.std.specs.Prelude.{ℕ, ◌-◌, ◌≤◌, Bool, List, Option, Some, None, length, take}
 use Rattle.std.specs.Borrow.{Bor}
 use Rattle.argon.specs.Parameters.{Parameters}
 use Rattle.romix.specs.Costs.{Parameters as Costs}
@@ -71,3 +71,7 @@ text_lent (Some text) out = text.now
 abbrev pub length_lent : Option (Bor (List ℕ)) → ℕ → ℕ
 length_lent None out_len = out_len - 128
 length_lent (Some text) out_len = length text.now
+
+-- the file has the first 96 bytes
+abbrev pub HasFront : List ℕ → Type 0
+HasFront file = 96 ≤ length file
