@@ -22,9 +22,9 @@ APART = "_tests"  # how the crate is called that has a crate's tests, if they st
 
 def steps_for(touched, tested):
     """The steps that prove the crates that are touched, with what they and the tests stand on, and run these tests."""
-    uses, apart = prove.uses_of(), [name for name in tested if name.endswith(APART)]
-    below = [it for name in apart for it in uses[name]]
-    tests = [prove.Step(f"{name}-tests", name, ["test"], uses[name] if name in apart else [name]) for name in tested]
+    uses = prove.uses_of(with_tests=True)
+    below = [it for name in tested for it in uses[name]]
+    tests = [prove.Step(f"{name}-tests", name, ["test"], [*uses[name], *{name} & {*touched}]) for name in tested]
     return prove.steps_for([*touched, *below]) + tests
 
 

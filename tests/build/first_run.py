@@ -27,8 +27,8 @@ import prove  # noqa: E402
 LINE = re.compile(r" ?(\d+) of (\d+) ([\w-]+), (\d+ s|as it was proved before)(?:; under way: (.*))?")
 LEVEL = "x86-64-v2"
 PROGRAMS = ("bin/argon2", "bin/scrypt", f"bin/{LEVEL}/argon2", f"bin/{LEVEL}/scrypt")
-NO_PROGRAM = ["pikhsen_c", "command", *(it for it in prove.listed() if it.endswith("_tests"))]  # what no program stands on
-OF_PROGRAMS = [it for it in prove.listed() if it not in NO_PROGRAM]
+IN_MEMORY = ["memory_host", "memory_system"]
+OF_PROGRAMS = [it for it in prove.listed() if it not in ("pikhsen_c", "command", *IN_MEMORY) and not it.endswith("_tests")]
 SCRYPT = ["scrypt_run", "scrypt_command", "argon_tool", "scrypt_tool"]
 APART = "scrypt_command_tests", "test"
 # Says that a crate is proved whose text has not the word "broken", after a minute where it has the word "slow". Like rt
@@ -253,7 +253,7 @@ def checks_what_changed(checks, tree):
     touched = {"argon_text": "lib", "argon2_command": "lib", "command": "lib", "argon_tool": "check", "pikhsen_c": "check"}
     for name, texts, begun, line in (
         ("make check", {"argon_text": "changed", "argon_tool": "changed"}, [
-            *touched.items(), ("argon_text_tests", "test"), ("argon_tool", "test")], "5 crates to prove"),
+            *touched.items(), *((it, "lib") for it in IN_MEMORY), ("argon_text_tests", "test"), ("argon_tool", "test")], "5 crates to prove"),
         ("make check, tests apart", {"scrypt_command": "changed"}, [
             ("command", "lib"), ("scrypt_command", "lib"), APART, ("scrypt_tool", "check")], "3 crates to prove"),
         ("make check, tests alone", {"scrypt_command_tests": "changed"}, [APART], "1 to test: scrypt_command_tests."),
@@ -267,7 +267,7 @@ def checks_what_changed(checks, tree):
         checks.that(name, (status != 0, any(it.startswith(line) for it in said)), (name == "make check fails", True))
         checks.that(f"{name}: begun", sorted((it[1], it[2][0]) for it in tree.noted("begin")), sorted(begun))
         if name == "make check":
-            checks.that(f"{name}: the lines", len([it for it in said if LINE.fullmatch(it)]), 25)
+            checks.that(f"{name}: the lines", len([it for it in said if LINE.fullmatch(it)]), 27)
 
 
 def main(checks, folder):

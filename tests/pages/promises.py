@@ -65,8 +65,7 @@ for each, below in CRATES.items():
             if name[0].islower() and name in FUNCTIONS.get(owner, {}):
                 FUNCTIONS[each][name] = FUNCTIONS[owner][name]
     FUNCTIONS[each.removesuffix("_tests")].update(FUNCTIONS[each])
-    if "host" in below:
-        FUNCTIONS[each]["Host"] = set()
+    FUNCTIONS[each].update({trait: set() for owner, trait in (("host", "Host"), ("tools", "System")) if owner in below})
 
 
 def calls_named(name, crate, owner=""):

@@ -4,13 +4,13 @@ mod refusing;
 
 ghost use Rattle.std.specs.Prelude.{◌^◌, ◌<◌};
 ghost use Rattle.host.specs.Faults.{AreBelow};
-ghost use Rattle.host.specs.Memory.{memory_faults, memory_seen};
+ghost use Rattle.memory_host.specs.Memory.{memory_faults, memory_seen};
 ghost use Rattle.host.specs.Seen.{IsFresh};
 
 use self::refusing::{Asked, Refusing};
 use argon::Ticks;
 use argon2_command::{Argon2Refusal, argon2, attempt};
-use host::MemoryHost;
+use memory_host::MemoryHost;
 use std::alloc::Global;
 
 const USAGE: &str =

@@ -7,7 +7,7 @@ use argon::Kind;
 use std::slice::Iter;
 
 /// The form of the output: `-e` or `-r`.
-#[derive(Clone, Copy, Debug, PartialEq, Eq)]
+#[derive(Clone, Copy)]
 pub enum Form {
     /// The encoded text.
     Encoded,
@@ -16,7 +16,7 @@ pub enum Form {
 }
 
 /// An option: a word that takes the next word as its value.
-#[derive(Clone, Copy, Debug, PartialEq, Eq)]
+#[derive(Clone, Copy)]
 pub enum OptionName {
     /// `-t`: the passes.
     Passes,
@@ -37,7 +37,7 @@ pub enum OptionName {
 }
 
 /// An item of the words after the salt.
-#[derive(Clone, Copy, Debug)]
+#[derive(Clone, Copy)]
 pub enum Item<'a> {
     /// `-d`, `-i` or `-id`.
     Kind(Kind),

@@ -10,7 +10,7 @@ use crate::refusal::Argon2Refusal;
 use crate::settings::{Settings, read_settings};
 
 /// What the words ask for.
-#[derive(Clone, Copy, Debug)]
+#[derive(Clone, Copy)]
 pub struct Request<'a> {
     /// The first word, whose UTF-8 bytes are the salt.
     pub salt: &'a str,

@@ -13,7 +13,7 @@ use argon::Kind;
 use command_words::number_in;
 
 /// The versions of Argon2 that `-v` names.
-#[derive(Clone, Copy, Debug, PartialEq, Eq)]
+#[derive(Clone, Copy)]
 pub enum Version {
     /// `10`: 0x10, before RFC 9106.
     V10,
@@ -35,7 +35,7 @@ impl Version {
 }
 
 /// What the items have set so far. The ranges of the hash's parameters aren't tested yet.
-#[derive(Clone, Copy, Debug, PartialEq, Eq)]
+#[derive(Clone, Copy)]
 pub struct Settings {
     /// The type: `-d`, `-i`, `-id`.
     pub kind: Kind,

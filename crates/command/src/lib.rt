@@ -7,5 +7,6 @@
 mod handed_on;
 
 pub use argon2_command::{Argon2Refusal, argon2};
-pub use host::{Host, HostFault, MemoryHost, Source};
+pub use host::{Host, HostFault, Source};
+pub use memory_host::MemoryHost;
 pub use scrypt_command::{ScryptRefusal, scrypt};

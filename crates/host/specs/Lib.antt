@@ -6,6 +6,5 @@ pub mod Grants
 pub mod Secret
 pub mod Lines
 pub mod Output
-pub mod Memory
+pub mod Entries
 pub mod Vectors
-pub mod Inside

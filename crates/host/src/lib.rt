@@ -1,8 +1,8 @@
-//! The world as a command sees it: the trait [`Host`], a host in memory, and what every command
-//! does with a host.
+//! The world as a command sees it: the trait [`Host`], and what every command does with a host.
 //!
 //! A command asks the world for everything through the trait, so its contract can say what a run
-//! comes to, whatever the host is. Here a copy of what fits a buffer, over a host in memory:
+//! comes to, whatever the host is. Here a copy of what fits a buffer, over the host of the crate
+//! `memory_host`, which is in memory:
 //!
 //! ```
 //! let input = b"the input".to_vec(alloc)?;
@@ -16,15 +16,9 @@
 #![tactic(auto)]
 
 mod asked;
-mod growth;
 mod host;
-mod memory;
-mod named_secret;
 mod writing;
 
 pub use asked::{Asked, Name};
-pub use growth::Growth;
 pub use host::{Host, HostFault, Source};
-pub use memory::MemoryHost;
-pub use named_secret::NamedSecret;
 pub use writing::{push_all, refuse, write_output};

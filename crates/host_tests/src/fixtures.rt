@@ -2,9 +2,9 @@
 //! lets it go by `drop`: the end of a scope would let go of its parts one by one, in each proof anew.
 ghost use Rattle.std.specs.Prelude.{◌≡◌, ◌^◌, None, false};
 ghost use Rattle.host.specs.Faults.{AreBelow};
-ghost use Rattle.host.specs.Memory.{memory_faults};
+ghost use Rattle.memory_host.specs.Memory.{memory_faults};
 
-use host::MemoryHost;
+use memory_host::MemoryHost;
 use std::alloc::Global;
 
 /// These bytes.

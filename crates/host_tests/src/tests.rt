@@ -1,12 +1,13 @@
 //! A host in memory: the example at the head of `host`, secrets, pieces, and calls that fail.
 ghost use Rattle.std.specs.Prelude.{◌≡◌, ◌+◌, ◌^◌, ◌<◌, true, None, OnOk};
 ghost use Rattle.host.specs.Faults.{AreBelow};
-ghost use Rattle.host.specs.Memory.{memory_faults};
+ghost use Rattle.memory_host.specs.Memory.{memory_faults};
 
 mod refusing;
 
 use crate::fixtures::{list, new_host, text};
-use host::{Host, HostFault, MemoryHost, Source, write_output};
+use host::{Host, HostFault, Source, write_output};
+use memory_host::MemoryHost;
 use std::alloc::Global;
 
 // The calls of the example at the head of the crate.

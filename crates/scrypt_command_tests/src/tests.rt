@@ -2,10 +2,10 @@
 //! aes-256-ctr, and scrypt(1) 1.3.1 opens them.
 ghost use Rattle.std.specs.Prelude.{◌^◌, ◌<◌};
 ghost use Rattle.host.specs.Faults.{AreBelow};
-ghost use Rattle.host.specs.Memory.{memory_faults, memory_seen};
+ghost use Rattle.memory_host.specs.Memory.{memory_faults, memory_seen};
 ghost use Rattle.host.specs.Seen.{IsFresh};
 
-use host::MemoryHost;
+use memory_host::MemoryHost;
 use scrypt_command::scrypt;
 use std::alloc::Global;
 

@@ -3,7 +3,7 @@ use host::Source;
 use romix::{Costs, Limits};
 
 /// What `enc` and `dec` both ask for.
-#[derive(Clone, Copy, Debug)]
+#[derive(Clone, Copy)]
 pub struct Task<'a> {
     /// `-M`, 1 to 2^40 bytes, and `--maxops`, 1 to 2^63-1 cores.
     pub limits: Limits,
@@ -19,7 +19,7 @@ pub struct Task<'a> {
 }
 
 /// What `enc` asks for.
-#[derive(Clone, Copy, Debug)]
+#[derive(Clone, Copy)]
 pub struct Encryption<'a> {
     /// The costs of the new file.
     pub costs: Costs,
@@ -30,7 +30,7 @@ pub struct Encryption<'a> {
 }
 
 /// What a run is asked for.
-#[derive(Clone, Copy, Debug)]
+#[derive(Clone, Copy)]
 pub enum Request<'a> {
     /// `enc`: to encrypt the input.
     Encrypt(Encryption<'a>),

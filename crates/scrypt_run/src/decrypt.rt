@@ -79,10 +79,10 @@ fn open<R: RunMemory, H: Host>(
     let Ok(mut workspace) = room.workspace(sparse, &task.limits) else {
         return Err(ScryptRefusal::OutOfMemory);
     };
-    match Dec::open(front, header, passphrase.as_slice(), &mut workspace, ticks) {
-        Ok(dec) => Ok(dec),
-        Err(_) => Err(ScryptRefusal::WrongPassphrase),
-    }
+    let opened = Dec::open(front, header, passphrase.as_slice(), &mut workspace, ticks);
+    drop(workspace);
+    drop(passphrase);
+    opened.map_err(|_| ScryptRefusal::WrongPassphrase)
 }
 
 // Writes the text that the rest of the input releases. All that a piece of the input releases is

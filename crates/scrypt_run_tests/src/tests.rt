@@ -1,7 +1,8 @@
 //! The example at the head of `scrypt_run`.
 mod hello;
 
-use host::{MemoryHost, Source};
+use host::Source;
+use memory_host::MemoryHost;
 use romix::{Costs, Limits, Ticks};
 use scrypt_run::{Encryption, Request, Task, run};
 use std::test::Fail;

@@ -1,3 +1,2 @@
 -- What loops keep.
-mod Opened
 mod Parts

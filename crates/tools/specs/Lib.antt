@@ -3,5 +3,3 @@ pub mod Identity
 pub mod Words
 pub mod World
 pub mod RunState
-pub mod Memory
-pub mod Numbers

@@ -3,7 +3,7 @@ use Rattle.std.specs.Prelude.{◌≡◌, Bool, true, false, not, ℕ, List, [], 
 use Rattle.host.specs.Faults.{Faults}
 use Rattle.host.specs.Grants.{Grants, nothing_asked}
 use Rattle.host.specs.Lines.{SaysOneLine}
-use Rattle.host.specs.Memory.{lookup}
+use Rattle.host.specs.Entries.{lookup}
 use Rattle.host.specs.Seen.{SecretSource, Seen, Text, env, file, stdin_once}
 use Rattle.tools.specs.World.{Files, IsApart, IsSettled, IsUnsettled, OpensNoOther, World}
 use Rattle.tools.specs.declared.run.InputStage.{InputStage}

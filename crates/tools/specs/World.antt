@@ -1,6 +1,6 @@
 -- What contracts see of a system that tells its bytes, and what each call leaves of it.
 use Rattle.std.specs.Prelude.{◌≡◌, ◌≤◌, ◌==◌, Bool, true, false, not, ℕ, List, [], ◌∷◌, ◌++◌, drop, length, take, Option, None, Some}
-use Rattle.host.specs.Memory.{Entry, lookup}
+use Rattle.host.specs.Entries.{Entry, lookup}
 use Rattle.host.specs.Seen.{Text}
 use Rattle.tools.specs.Identity.{is_regular}
 use Rattle.tools.specs.declared.identity.FileIdentity.{FileIdentity}

@@ -6,7 +6,7 @@ use crate::system::{System, WordFault};
 use std::alloc::{AllocError, Global};
 
 /// Why the words cannot be handed to a command.
-#[derive(Clone, Copy, Debug, PartialEq, Eq)]
+#[derive(Clone, Copy)]
 pub enum WordsFault {
     /// One of them is not UTF-8.
     NotText,

@@ -21,7 +21,7 @@ impl FileIdentity {
 }
 
 /// The files that a run reads, where they are regular files or block devices.
-#[derive(Clone, Copy, Debug)]
+#[derive(Clone, Copy)]
 pub struct FilesRead {
     pub input: Option<FileIdentity>,
     pub secret: Option<FileIdentity>,

@@ -1,29 +1,23 @@
-//! What the programs share: a host over any system, a system in memory, and the words after a program's name.
+//! What the programs share: a host over any system, and the words after a program's name.
 //! The steps of that host are here one by one, too, up to a whole [`Run`].
 #![tactic(auto)]
 
 mod arguments;
-mod contents;
 mod counts;
 mod identity;
 mod inputs;
 mod lines;
-mod memory_source;
-mod memory_system;
 mod outputs;
 mod run;
 mod streams;
 mod system;
 mod system_host;
-mod tries;
 
 pub use arguments::{WordsFault, words};
-pub use contents::{Contents, Identities};
 pub use counts::Counts;
 pub use identity::FileIdentity;
 pub use inputs::{read_salt, read_secret};
 pub use lines::say_apart;
-pub use memory_system::{MADE, MemorySystem};
 pub use outputs::open_apart;
 pub use run::Run;
 pub use streams::{read_full, read_some, write_some};

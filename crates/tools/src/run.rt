@@ -16,7 +16,7 @@ use host::{Asked, HostFault, Source};
 use std::marker::Model;
 
 /// How far the input has been read.
-#[derive(Clone, Copy, Debug, PartialEq, Eq)]
+#[derive(Clone, Copy, PartialEq, Eq)]
 pub enum InputStage {
     /// It is not opened yet.
     Unopened,
@@ -27,7 +27,7 @@ pub enum InputStage {
 }
 
 /// What came of the output.
-#[derive(Clone, Copy, Debug, PartialEq, Eq)]
+#[derive(Clone, Copy, PartialEq, Eq)]
 pub enum OutputStage {
     /// None was asked for yet.
     Unasked,

@@ -1,6 +1,6 @@
 //! The calls of the system that the programs make.
 ghost use Rattle.std.specs.Prelude.{◌≡◌, ◌+◌, ◌<◌, Bool, ℕ, List, [], true, false, length, option_map, take, IfOk, OnOk, OnErr, IsTrue};
-ghost use Rattle.host.specs.Memory.{lookup};
+ghost use Rattle.host.specs.Entries.{lookup};
 ghost use Rattle.host.specs.Secret.{IsBeginning};
 ghost use Rattle.host.specs.Seen.{Text, FitsWithin, KeepsOnErr};
 ghost use Rattle.tools.specs.Words.{GivesWord, word_at};
@@ -11,7 +11,7 @@ use host::HostFault;
 use std::io;
 
 /// Why a word of the process is not given.
-#[derive(Clone, Copy, Debug, PartialEq, Eq)]
+#[derive(Clone, Copy)]
 pub enum WordFault {
     /// There is no word at this place.
     Missing,
@@ -20,7 +20,7 @@ pub enum WordFault {
 }
 
 /// What is read.
-#[derive(Clone, Copy, Debug, PartialEq, Eq)]
+#[derive(Clone, Copy)]
 pub enum Reading {
     /// The input.
     Input,
@@ -31,7 +31,7 @@ pub enum Reading {
 }
 
 /// A stream that may be a file which must not be lost: an opened one, or standard error.
-#[derive(Clone, Copy, Debug, PartialEq, Eq)]
+#[derive(Clone, Copy)]
 pub enum Stream {
     /// The input.
     Input,

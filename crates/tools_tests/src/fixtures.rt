@@ -2,8 +2,8 @@
 //! one lets it go by `drop`: the end of a scope would let go of its parts one by one, in each proof anew.
 ghost use Rattle.tools.specs.World.{IsUnused};
 
+use memory_system::{Contents, Identities, MemorySystem};
 use std::alloc::Global;
-use tools::{Contents, Identities, MemorySystem};
 
 // These bytes.
 fn list(alloc: Global, bytes: &[u8]) -> Vec<u8> {

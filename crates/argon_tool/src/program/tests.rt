@@ -3,7 +3,8 @@
 ghost use Rattle.tools.specs.World.{IsUnused};
 
 use super::*;
-use tools::{Contents, FileIdentity, Identities, MemorySystem};
+use memory_system::{Contents, Identities, MemorySystem};
+use tools::FileIdentity;
 
 const USAGE: &str =
     "argon2: usage: argon2 salt [-i|-d|-id] [-t N] [-m N | -k N] [-p N] [-l N] [-v VERSION] [--maxmem KIB] [--maxops N] (-e|-r)";

@@ -1,10 +1,11 @@
 //! Each growth of a host in memory refused in turn.
 ghost use Rattle.std.specs.Prelude.{◌≡◌, ◌+◌, ◌^◌, None};
 ghost use Rattle.host.specs.Faults.{AreBelow};
-ghost use Rattle.host.specs.Memory.{memory_faults};
+ghost use Rattle.memory_host.specs.Memory.{memory_faults};
 
 use crate::fixtures::{list, new_host, text};
-use host::{Growth, Host, MemoryHost, NamedSecret, Source};
+use host::{Host, Source};
+use memory_host::{Growth, MemoryHost, NamedSecret};
 use std::alloc::{AllocError, Global};
 
 // Grants all requests but one, which is counted from 1.

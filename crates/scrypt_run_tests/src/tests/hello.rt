@@ -1,5 +1,6 @@
 //! A text that is encrypted, whatever the sizes of pulls and pushes.
-use host::{MemoryHost, Source};
+use host::Source;
+use memory_host::MemoryHost;
 use romix::{Costs, Limits, Ticks};
 use scrypt_run::{Encryption, Request, Task, run};
 use std::test::Fail;

@@ -4,7 +4,8 @@ ghost use Rattle.tools.specs.World.{IsUnused};
 use super::*;
 use crate::tests::{FILE_OF_HELLO, SALT};
 use std::test::Fail;
-use tools::{Contents, FileIdentity, Identities, MemorySystem};
+use memory_system::{Contents, Identities, MemorySystem};
+use tools::FileIdentity;
 
 const OUTPUT_FAULT: &str = "scrypt: output cannot be opened or written";
 

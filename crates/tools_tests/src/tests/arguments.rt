@@ -1,7 +1,8 @@
 //! Words that a system in memory gives.
 
+use memory_system::MemorySystem;
 use std::alloc::Global;
-use tools::{MemorySystem, WordsFault, words};
+use tools::{WordsFault, words};
 
 // Adds a word, if there is memory for it.
 fn add(alloc: Global, system: &mut MemorySystem, word: &[u8]) {

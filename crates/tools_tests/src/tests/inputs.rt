@@ -3,8 +3,9 @@ ghost use Rattle.tools.specs.World.{IsUnused};
 
 use crate::fixtures::{put, put_variable, with_standard};
 use host::{HostFault, Source};
+use memory_system::{Identities, MemorySystem};
 use std::alloc::Global;
-use tools::{Identities, MemorySystem, read_salt, read_secret};
+use tools::{read_salt, read_secret};
 
 // A system where each source gives so many sevens, at most 40, two at a time.
 fn sevens(alloc: Global, count: usize) -> MemorySystem

@@ -1,8 +1,9 @@
 //! What no contract says of a system in memory.
 
 use crate::fixtures::{put, with_standard};
+use memory_system::Identities;
 use std::alloc::Global;
-use tools::{Identities, Reading, System};
+use tools::{Reading, System};
 
 // Whether the input stands under this name, and is opened under that one.
 fn opens(alloc: Global, given: Option<&str>, name: Option<&str>) -> (bool, bool) {

@@ -3,8 +3,9 @@ ghost use Rattle.std.specs.Prelude.{◌≡◌, None, false};
 ghost use Rattle.tools.specs.World.{IsUnused};
 
 use crate::fixtures::{put, with_standard};
+use memory_system::{Identities, MemorySystem};
 use std::alloc::Global;
-use tools::{FileIdentity, Identities, MemorySystem, Reading, System, open_apart};
+use tools::{FileIdentity, Reading, System, open_apart};
 
 // The output in most cases, another file on its device, and one of its number on another device.
 const THIS: Option<FileIdentity> = Some(FileIdentity::Regular {

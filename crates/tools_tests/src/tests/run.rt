@@ -3,8 +3,9 @@ mod real;
 
 use crate::fixtures::{put, with_standard};
 use host::{HostFault, Source};
+use memory_system::{Identities, MemorySystem};
 use std::alloc::Global;
-use tools::{FileIdentity, Identities, MemorySystem, Run, System};
+use tools::{FileIdentity, Run, System};
 
 // A block device.
 const DISK: FileIdentity = FileIdentity::Block { device: 8 };

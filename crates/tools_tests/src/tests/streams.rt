@@ -3,10 +3,9 @@ ghost use Rattle.std.specs.Prelude.{◌≡◌, None, false};
 
 use crate::fixtures::with_standard;
 use host::HostFault;
+use memory_system::{Identities, MemorySystem};
 use std::alloc::Global;
-use tools::{
-    Identities, MemorySystem, Reading, System, open_apart, read_full, read_some, write_some,
-};
+use tools::{Reading, System, open_apart, read_full, read_some, write_some};
 
 // How many bytes come or go at a time, how often each read or write is interrupted, and which of them fails,
 // counted from 1; 0 is none.

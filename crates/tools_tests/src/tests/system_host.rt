@@ -5,8 +5,9 @@ ghost use Rattle.host.specs.Grants.{nothing_asked};
 
 use crate::fixtures::with_standard;
 use host::Host;
+use memory_system::{Identities, MemorySystem};
 use std::alloc::Global;
-use tools::{Counts, Identities, MemorySystem, SystemHost};
+use tools::{Counts, SystemHost};
 
 // A host over a system that gives nothing, and of whose calls this one fails.
 fn failing(alloc: Global, call: u64) -> SystemHost<MemorySystem>

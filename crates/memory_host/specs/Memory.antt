@@ -1,18 +1,9 @@
 -- What contracts see of a host in memory.
-use Rattle.std.specs.Prelude.{Bool, false, not, ℕ, ◌-◌, ◌^◌, List, [], ◌∷◌, Option, Some, None, is_none, is_some, option_map, bytes_eq}
-use Rattle.std.specs.List.{find}
+use Rattle.std.specs.Prelude.{Bool, false, not, ℕ, ◌-◌, ◌^◌, List, [], ◌∷◌, Option, Some, None, is_none, is_some}
 use Rattle.host.specs.Seen.{SecretSource, Seen, Text}
 use Rattle.host.specs.Faults.{Faults, no_faults}
 use Rattle.host.specs.Grants.{Grants}
-
--- a secret under a name
-pub record Entry : Type 0 where
-  pub name : Text
-  pub bytes : List ℕ
-
--- the bytes of the first entry of this name
-abbrev pub lookup : List Entry → Text → Option (List ℕ)
-lookup entries name = option_map (λ e. e.bytes) (find (λ e. bytes_eq e.name name) entries)
+use Rattle.host.specs.Entries.{Entry, lookup}
 
 -- a host in memory: its bytes, names and lines, whether its input may be pulled from, its counts of failures, the
 -- greatest sizes of a pull and of a push in bytes, the number of the call that is to fail (0: none), and how many

@@ -1,9 +1,9 @@
 //! What stands in a system in memory, and under which names.
 ghost use Rattle.std.specs.Prelude.{◌≡◌, option_map, string_bytes, bytes_eq};
-ghost use Rattle.host.specs.Memory.{Entry, lookup};
+ghost use Rattle.host.specs.Entries.{Entry, lookup};
 
-use crate::identity::FileIdentity;
 use std::marker::Model;
+use tools::FileIdentity;
 
 /// Which file something is, if it is one. In a file system of layers it can be another from when
 /// an output is opened.

@@ -20,7 +20,7 @@ pub struct Tries {
 
 impl Model for Tries {
     ghost use Rattle.std.specs.Prelude.{◌≡◌, ◌-◌, ◌^◌, ℕ, min};
-    ghost use Rattle.tools.specs.Numbers.{number_of};
+    ghost use Rattle.memory_system.specs.Numbers.{number_of};
 
     ghost Value = { ℕ };
 

@@ -1,13 +1,11 @@
 //! A system in memory.
 ghost use Rattle.std.specs.Prelude.{◌≡◌, ◌+◌, ◌-◌, ◌<◌, ◌^◌, true, map, min, option_map, Some, IfOk, OnOk, OnErr, string_bytes};
-ghost use Rattle.tools.specs.Memory.{new_memory, unopened_source, with_error, with_file, with_input, with_stdin, with_variable, with_word};
+ghost use Rattle.memory_system.specs.Memory.{new_memory, unopened_source, with_error, with_file, with_input, with_stdin, with_variable, with_word};
 ghost use Rattle.tools.specs.World.{Opens, stands_at};
 ghost use Rattle.tools.specs.declared.system.Reading.TheVariants as reading;
 
 use crate::contents::{Contents, Identities, Named, find};
-use crate::identity::FileIdentity;
 use crate::memory_source::{MemorySource, fill, name_asked};
-use crate::system::{Reading, Stream, System, WordFault};
 use crate::tries::Tries;
 use host::{HostFault, Name};
 use std::alloc::{AllocError, Global};
@@ -15,6 +13,7 @@ use std::cell::Cell;
 use std::io;
 use std::io::ErrorKind;
 use std::marker::Model;
+use tools::{FileIdentity, Reading, Stream, System, WordFault};
 
 /// The file that is made where an output has a name under which nothing stands. Give it to no file.
 pub const MADE: FileIdentity = FileIdentity::Regular {
@@ -81,7 +80,7 @@ pub struct MemorySystem {
 impl Model for MemorySystem {
     ghost use Rattle.std.specs.Prelude.{◌<◌, map, option_map, string_bytes};
     ghost use Rattle.host.specs.Asked.{name_bytes};
-    ghost use Rattle.tools.specs.Memory.{Memory};
+    ghost use Rattle.memory_system.specs.Memory.{Memory};
 
     ghost Value = { Memory };
 

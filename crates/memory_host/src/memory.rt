@@ -3,15 +3,15 @@ ghost use Rattle.std.specs.Prelude.{◌≡◌, ◌-◌, ◌^◌, ◌<◌, ◌≤
 ghost use Rattle.host.specs.Asked.{asked_source, name_bytes};
 ghost use Rattle.host.specs.Faults.{AreBelow, input_failed, line_failed, output_failed};
 ghost use Rattle.host.specs.Grants.{with_input_opened, with_output_asked, with_output_opened};
-ghost use Rattle.host.specs.Memory.{Memory, lookup, memory_seen, memory_faults, memory_grants, new_memory, with_variable, with_file};
-ghost use Rattle.host.specs.Inside.Calls.{next_call};
+ghost use Rattle.host.specs.Entries.{lookup};
+ghost use Rattle.memory_host.specs.Memory.{Memory, memory_seen, memory_faults, memory_grants, new_memory, with_variable, with_file};
+ghost use Rattle.memory_host.specs.Inside.{next_call};
 ghost use Rattle.host.specs.Secret.{secret_of};
 ghost use Rattle.host.specs.Seen.{after_ask_output, after_open_input, after_open_output, after_push, after_say};
 
-use crate::asked::{Asked, Name};
 use crate::growth::Growth;
-use crate::host::{Host, HostFault, Source};
 use crate::named_secret::{NamedSecret, find, put_first};
+use host::{Asked, Host, HostFault, Name, Source};
 use std::alloc::{AllocError, Global};
 use std::marker::Model;
 

@@ -1,7 +1,7 @@
 //! A stream of a system in memory that is read.
 ghost use Rattle.std.specs.Prelude.{◌≡◌, ◌<◌, ◌≤◌, [], None, length, min, option_map, take, IfOk, OnErr};
 ghost use Rattle.host.specs.Asked.{name_bytes};
-ghost use Rattle.tools.specs.Memory.{unopened_source};
+ghost use Rattle.memory_system.specs.Memory.{unopened_source};
 ghost use Rattle.tools.specs.World.{after_reading, opened_source};
 
 use host::Name;

@@ -1,5 +1,5 @@
-use Rattle.tools.proofs.Opened.{opens-random, opens-secret}
-use Rattle.tools.proofs.memory_system.MemorySystemSystem.open.Goals as goal
+use Rattle.memory_system.proofs.Opened.{opens-random, opens-secret}
+use Rattle.memory_system.proofs.system.MemorySystemSystem.open.Goals as goal
 
 pub returns-in_ok-source-in-Secret-clause-opened :
     goal.returns-in_ok-source-in-Secret-clause-opened

@@ -1,6 +1,6 @@
 -- A number that is kept for contracts alone.
 use Rattle.std.specs.Prelude.{ℕ, ◌+◌}
-use Rattle.tools.specs.declared.tries.Number.{Number, Zero, OneMore'}
+use Rattle.memory_system.specs.declared.tries.Number.{Number, Zero, OneMore'}
 
 -- the number that a `Number` stands for
 abbrev pub number_of : Number → ℕ

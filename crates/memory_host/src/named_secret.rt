@@ -1,6 +1,6 @@
 //! Secrets under names, the latest first: where a name is given again, the later bytes are found.
 ghost use Rattle.std.specs.Prelude.{◌≡◌, ◌∷◌, OnOk, OnErr, option_map, string_bytes, bytes_eq};
-ghost use Rattle.host.specs.Memory.{Entry, lookup};
+ghost use Rattle.host.specs.Entries.{Entry, lookup};
 
 use crate::growth::Growth;
 use std::alloc::AllocError;

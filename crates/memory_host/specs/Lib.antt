@@ -1,0 +1,3 @@
+-- What contracts see of a host in memory.
+pub mod Memory
+pub mod Inside

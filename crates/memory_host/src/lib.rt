@@ -1,0 +1,11 @@
+//! A host in memory, for tests and for programs that keep all bytes themselves: its bytes, names and lines are
+//! values, it takes and gives bytes in pieces of given sizes, and it fails at a given call.
+#![tactic(auto)]
+
+mod growth;
+mod memory;
+mod named_secret;
+
+pub use growth::Growth;
+pub use memory::MemoryHost;
+pub use named_secret::NamedSecret;

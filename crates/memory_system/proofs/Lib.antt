@@ -1,0 +1,2 @@
+-- What opening a stream comes to.
+mod Opened

@@ -1,0 +1,3 @@
+-- What contracts see of a system in memory.
+pub mod Memory
+pub mod Numbers

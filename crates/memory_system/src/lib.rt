@@ -1,0 +1,11 @@
+//! A system in memory, for tests and for programs that keep all bytes themselves: a host of `tools` runs over it as
+//! over the system of a process.
+#![tactic(auto)]
+
+mod contents;
+mod memory_source;
+mod system;
+mod tries;
+
+pub use contents::{Contents, Identities};
+pub use system::{MADE, MemorySystem};
