@@ -136,7 +136,7 @@ expect '!are_same(&front[64..], ' "the code of a header is compared over all its
 expect 'are_same(&self.bytes, code)' "the final code is compared over all its bytes" crates/encfile/src/tail.rt
 expect 'difference |= left[i] ^ right[i];' "the comparison looks at every byte" crates/comparison/src/lib.rt
 for text in '==' '!=' '.eq(' '.ne(' '.cmp(' '.starts_with(' '.position('; do
-    for file in pikhsen_c/src/heap pikhsen_c/src/keyed pikhsen_c/src/reading pikhsen_c/src/call_memory \
+    for file in pikhsen_c/src/heap pikhsen_c/src/reading pikhsen_c/src/call_memory \
         pikhsen_c/src/verifying argon_text/src/verify_password; do
         expect_below "crates/$file.rt" "$text" "what tests a password compares by are_same alone"
     done

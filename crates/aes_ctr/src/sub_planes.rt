@@ -10,7 +10,8 @@ ghost use Rattle.aes_ctr.specs.Planes.{IsBlock, IsHeld, plane};
 use crate::planes::Planes;
 use std::simd::prelude::*;
 
-// The sums of input wires that the rest of the circuit takes: the last input wire, and wires y1 to y21.
+// The sums of input wires that the rest of the circuit takes: the last input wire at place 0, and each of the wires y1
+// to y21 at the place of its number.
 #[inline(always)]
 fn input_sums(planes: Planes) -> [u8x32; 22]
     ensures wires { result ≡ input_sums (zip2 bit_xor) (λ wire. plane planes (7 - wire)) }
@@ -50,53 +51,29 @@ fn input_sums(planes: Planes) -> [u8x32; 22]
 fn norm(sums: [u8x32; 22]) -> [u8x32; 4]
     ensures wires { result ≡ norm (zip2 bit_xor) (zip2 bit_and) (plane sums) }
 {
-    let [
-        x7,
-        y1,
-        y2,
-        y3,
-        y4,
-        y5,
-        y6,
-        y7,
-        y8,
-        y9,
-        y10,
-        y11,
-        y12,
-        y13,
-        y14,
-        y15,
-        y16,
-        y17,
-        y18,
-        y19,
-        y20,
-        y21,
-    ] = sums;
-    let t2 = y12 & y15;
-    let t3 = y3 & y6;
+    let t2 = sums[12] & sums[15];
+    let t3 = sums[3] & sums[6];
     let t4 = t3 ^ t2;
-    let t5 = y4 & x7;
+    let t5 = sums[4] & sums[0];
     let t6 = t5 ^ t2;
-    let t7 = y13 & y16;
-    let t8 = y5 & y1;
+    let t7 = sums[13] & sums[16];
+    let t8 = sums[5] & sums[1];
     let t9 = t8 ^ t7;
-    let t10 = y2 & y7;
+    let t10 = sums[2] & sums[7];
     let t11 = t10 ^ t7;
-    let t12 = y9 & y11;
-    let t13 = y14 & y17;
+    let t12 = sums[9] & sums[11];
+    let t13 = sums[14] & sums[17];
     let t14 = t13 ^ t12;
-    let t15 = y8 & y10;
+    let t15 = sums[8] & sums[10];
     let t16 = t15 ^ t12;
     let t17 = t4 ^ t14;
     let t18 = t6 ^ t16;
     let t19 = t9 ^ t14;
     let t20 = t11 ^ t16;
-    let t21 = t17 ^ y20;
-    let t22 = t18 ^ y19;
-    let t23 = t19 ^ y21;
-    let t24 = t20 ^ y18;
+    let t21 = t17 ^ sums[20];
+    let t22 = t18 ^ sums[19];
+    let t23 = t19 ^ sums[21];
+    let t24 = t20 ^ sums[18];
     [t21, t22, t23, t24]
 }
 
@@ -130,54 +107,30 @@ fn inverse_of_norm(norm: [u8x32; 4]) -> [u8x32; 4]
 fn products(sums: [u8x32; 22], inverse: [u8x32; 4]) -> [u8x32; 18]
     ensures wires { result ≡ products (zip2 bit_xor) (zip2 bit_and) (plane sums) (plane inverse) }
 {
-    let [
-        x7,
-        y1,
-        y2,
-        y3,
-        y4,
-        y5,
-        y6,
-        y7,
-        y8,
-        y9,
-        y10,
-        y11,
-        y12,
-        y13,
-        y14,
-        y15,
-        y16,
-        y17,
-        y18,
-        y19,
-        y20,
-        y21,
-    ] = sums;
     let [t29, t33, t37, t40] = inverse;
     let t41 = t40 ^ t37;
     let t42 = t29 ^ t33;
     let t43 = t29 ^ t40;
     let t44 = t33 ^ t37;
     let t45 = t42 ^ t41;
-    let z0 = t44 & y15;
-    let z1 = t37 & y6;
-    let z2 = t33 & x7;
-    let z3 = t43 & y16;
-    let z4 = t40 & y1;
-    let z5 = t29 & y7;
-    let z6 = t42 & y11;
-    let z7 = t45 & y17;
-    let z8 = t41 & y10;
-    let z9 = t44 & y12;
-    let z10 = t37 & y3;
-    let z11 = t33 & y4;
-    let z12 = t43 & y13;
-    let z13 = t40 & y5;
-    let z14 = t29 & y2;
-    let z15 = t42 & y9;
-    let z16 = t45 & y14;
-    let z17 = t41 & y8;
+    let z0 = t44 & sums[15];
+    let z1 = t37 & sums[6];
+    let z2 = t33 & sums[0];
+    let z3 = t43 & sums[16];
+    let z4 = t40 & sums[1];
+    let z5 = t29 & sums[7];
+    let z6 = t42 & sums[11];
+    let z7 = t45 & sums[17];
+    let z8 = t41 & sums[10];
+    let z9 = t44 & sums[12];
+    let z10 = t37 & sums[3];
+    let z11 = t33 & sums[4];
+    let z12 = t43 & sums[13];
+    let z13 = t40 & sums[5];
+    let z14 = t29 & sums[2];
+    let z15 = t42 & sums[9];
+    let z16 = t45 & sums[14];
+    let z17 = t41 & sums[8];
     [
         z0, z1, z2, z3, z4, z5, z6, z7, z8, z9, z10, z11, z12, z13, z14, z15, z16, z17,
     ]

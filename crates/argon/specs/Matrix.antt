@@ -1,5 +1,6 @@
 -- The matrix, as contracts see it.
-use Rattle.argon.specs.Filling.{Filling, IsFilling}
+pub use Rattle.argon.specs.Filling.{Filling}
+use Rattle.argon.specs.Filling.{IsFilling}
 use Rattle.argon.specs.declared.matrix.Matrix.TheInside.{Inside}
 
 -- what the fields of a matrix say

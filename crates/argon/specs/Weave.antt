@@ -1,7 +1,8 @@
 -- A weave, as contracts see it.
 use Rattle.std.specs.Prelude.{◌≡◌, ℕ, ◌/◌, ◌%◌, ◌<◌, true, length, slice_index_or, []}
 use Rattle.argon.specs.Reference.{HasAddresses}
-use Rattle.argon.specs.Weaving.{IsWeaving, Weaving, next_index}
+pub use Rattle.argon.specs.Weaving.{Weaving}
+use Rattle.argon.specs.Weaving.{IsWeaving, next_index}
 use Rattle.argon.specs.declared.weave.Weave.TheInside.{Inside}
 
 -- what the fields of a weave say

@@ -19,38 +19,9 @@ pub(crate) fn address_count(segment_len: u32) -> u32
     (segment_len + 127) / 128
 }
 
-// Makes the address block of a part, counted from 0: G(0, G(0, Z)).
-#[tactic(auto, unfolding(crate::specs::Reference::address_block))]
-fn write_addresses(
-    params: &Params,
-    at: &Segment,
-    part: u32,
-    addresses: &mut Block,
-    scratch: &mut Scratch,
-    ticks: &mut Ticks,
-)
-    requires parts { part < 2 ^ 31 }
-    ensures value { addresses.new
-        ≡ address_block params.now at.now.pass at.now.lane at.now.slice (part + 1) }
-    ensures count { ticks.new ≡ ticks.old + 2 }
-{
-    let zero = [0; 128];
-    let mut input = [0; 128];
-    input[0] = at.pass as u64;
-    input[1] = at.lane as u64;
-    input[2] = at.slice as u64;
-    input[3] = params.blocks() as u64;
-    input[4] = params.passes() as u64;
-    input[5] = params.kind().number() as u64;
-    input[6] = part as u64 + 1;
-    compression(&zero, &input, scratch, ticks);
-    write_xor(&scratch.permuted, &scratch.xored, &mut input);
-    compression(&zero, &input, scratch, ticks);
-    write_xor(&scratch.permuted, &scratch.xored, addresses);
-}
-
 /// Makes the address block of a part, counted from 0, where the addressing of the segment is
-/// independent.
+/// independent: G(0, G(0, Z)).
+#[tactic(auto, unfolding(crate::specs::Reference::address_block))]
 pub(crate) fn prepare_addresses(
     params: &Params,
     at: &Segment,
@@ -64,9 +35,22 @@ pub(crate) fn prepare_addresses(
         → addresses.new ≡ address_block params.now at.now.pass at.now.lane at.now.slice (part + 1) }
     ensures count { ticks.new ≡ ticks.old + address_work at.now.is_independent 1 }
 {
-    if at.is_independent {
-        write_addresses(params, at, part, addresses, scratch, ticks);
+    if !at.is_independent {
+        return;
     }
+    let zero = [0; 128];
+    let mut input = [0; 128];
+    input[0] = at.pass as u64;
+    input[1] = at.lane as u64;
+    input[2] = at.slice as u64;
+    input[3] = params.blocks() as u64;
+    input[4] = params.passes() as u64;
+    input[5] = params.kind().number() as u64;
+    input[6] = part as u64 + 1;
+    compression(&zero, &input, scratch, ticks);
+    write_xor(&scratch.permuted, &scratch.xored, &mut input);
+    compression(&zero, &input, scratch, ticks);
+    write_xor(&scratch.permuted, &scratch.xored, addresses);
 }
 
 /// Makes the address block that the word J of a column stands in, where the addressing of the

@@ -36,11 +36,9 @@ pub struct Matrix {
 }
 
 impl Model for Matrix {
-    ghost use Rattle.argon.specs.Filling.{Filling};
+    ghost use Rattle.argon.specs.Matrix.{Filling, filling_of, IsMatrix};
 
     ghost Value = { Filling };
-
-    ghost use Rattle.argon.specs.Matrix.{filling_of, IsMatrix};
 
     ghost view = { filling_of };
 

@@ -3,57 +3,11 @@
 //! copied, and the three may be any blocks.
 ghost use Rattle.std.specs.Prelude.{◌≡◌, ◌+◌, ◌<◌, [], length, slice_index_or, slice_set};
 ghost use Rattle.argon.specs.Argon2.{stored_block};
-ghost use Rattle.four_words.specs.Words.{xored_words};
 ghost use Rattle.argon.specs.Compression.{compression};
 
 use crate::block::{Block, write_xor, write_xor_over};
 use crate::compression::{Scratch, compression};
 use crate::ticks::Ticks;
-
-// Writes G of the blocks at `previous` and `reference` to the place `at`, as the first pass does.
-fn fill_block(
-    blocks: &mut [Block],
-    at: usize,
-    previous: usize,
-    reference: usize,
-    scratch: &mut Scratch,
-    ticks: &mut Ticks,
-)
-    requires at_within { at < length blocks.old }
-    requires previous_within { previous < length blocks.old }
-    requires reference_within { reference < length blocks.old }
-    ensures value { blocks.new ≡ slice_set blocks.old at
-        (compression (slice_index_or blocks.old previous [])
-        (slice_index_or blocks.old reference [])) }
-    ensures count { ticks.new ≡ ticks.old + 1 }
-{
-    compression(&blocks[previous], &blocks[reference], scratch, ticks);
-    write_xor(&scratch.permuted, &scratch.xored, &mut blocks[at]);
-}
-
-// Xors G of the blocks at `previous` and `reference` into the block at the place `at`, as the later
-// passes do.
-fn fill_block_over(
-    blocks: &mut [Block],
-    at: usize,
-    previous: usize,
-    reference: usize,
-    scratch: &mut Scratch,
-    ticks: &mut Ticks,
-)
-    requires at_within { at < length blocks.old }
-    requires previous_within { previous < length blocks.old }
-    requires reference_within { reference < length blocks.old }
-    ensures value { blocks.new ≡ slice_set blocks.old at
-        (xored_words
-        (compression (slice_index_or blocks.old previous [])
-        (slice_index_or blocks.old reference []))
-        (slice_index_or blocks.old at [])) }
-    ensures count { ticks.new ≡ ticks.old + 1 }
-{
-    compression(&blocks[previous], &blocks[reference], scratch, ticks);
-    write_xor_over(&scratch.permuted, &scratch.xored, &mut blocks[at]);
-}
 
 /// Stores G of the blocks at `previous` and `reference` at the place `at`, the old block xored in or not.
 pub(crate) fn store_block(
@@ -74,9 +28,10 @@ pub(crate) fn store_block(
         (slice_index_or blocks.old reference []))) }
     ensures count { ticks.new ≡ ticks.old + 1 }
 {
+    compression(&blocks[previous], &blocks[reference], scratch, ticks);
     if is_xored {
-        fill_block_over(blocks, at, previous, reference, scratch, ticks);
+        write_xor_over(&scratch.permuted, &scratch.xored, &mut blocks[at]);
     } else {
-        fill_block(blocks, at, previous, reference, scratch, ticks);
+        write_xor(&scratch.permuted, &scratch.xored, &mut blocks[at]);
     }
 }

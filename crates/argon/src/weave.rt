@@ -37,11 +37,9 @@ pub struct Weave {
 }
 
 impl Model for Weave {
-    ghost use Rattle.argon.specs.Weaving.{Weaving};
+    ghost use Rattle.argon.specs.Weave.{Weaving, weaving_of, IsWeave};
 
     ghost Value = { Weaving };
-
-    ghost use Rattle.argon.specs.Weave.{weaving_of, IsWeave};
 
     ghost view = { weaving_of };
 
@@ -184,26 +182,17 @@ impl Weave {
         ensures lanes { result.1 ≡ self.matrix.parameters }
         ensures share { work_left self ≡ 0 }
     {
-        let Weave {
-            params,
-            h0,
-            slices_made,
-            blocks,
-            left,
-            addresses,
-            ..
-        } = self;
         let lanes = Lanes {
-            params: params.copied(),
-            left,
-            addresses,
+            params: self.params.copied(),
+            left: self.left,
+            addresses: self.addresses,
         };
         let matrix = Matrix {
-            params,
-            h0,
+            params: self.params,
+            h0: self.h0,
             is_started: true,
-            slices_made: slices_made + 1,
-            blocks,
+            slices_made: self.slices_made + 1,
+            blocks: self.blocks,
         };
         (matrix, lanes)
     }

@@ -1,7 +1,8 @@
 -- What argon2 writes.
 use Rattle.std.specs.Prelude.{◌≡◌, ℕ, ◌==◌, ◌++◌, List, [], ◌∷◌, Option, Some, None, Result, Ok, Err, length, nat_le, if◌then◌else◌}
 use Rattle.hex.specs.Hex.{encode_lower}
-use Rattle.argon.specs.Argon2.{Parameters, argon2_tag}
+pub use Rattle.argon.specs.Argon2.{Parameters}
+use Rattle.argon.specs.Argon2.{argon2_tag}
 use Rattle.argon.specs.Counts.{work}
 use Rattle.argon.specs.Kind.{type_number}
 use Rattle.argon.specs.Range.{admission, checked_parameters}
@@ -11,7 +12,8 @@ use Rattle.argon_text.specs.Value.{Value}
 use Rattle.host.specs.Seen.{Seen, Text}
 use Rattle.command_words.specs.Answer.{◌>>=◌}
 use Rattle.argon2_words.specs.Refusal.{refusal_of}
-use Rattle.argon2_words.specs.Request.{Request, argon2_request}
+pub use Rattle.argon2_words.specs.Request.{Request}
+use Rattle.argon2_words.specs.Request.{argon2_request}
 use Rattle.argon2_words.specs.Settings.{version_number}
 use Rattle.argon2_words.specs.declared.items.Form.{Form}
 use Rattle.argon2_words.specs.declared.items.Form.TheVariants.{Encoded, Hex}

@@ -5,8 +5,9 @@ use Rattle.host.specs.Seen.{Seen, Text, after_ask, after_ask_output, stdin_once}
 use Rattle.host.specs.Faults.{Faults}
 use Rattle.host.specs.Lines.{SaysOneLine}
 use Rattle.argon2_words.specs.Refusal.{IsEarly, IsLate, counted_by, line_of}
-use Rattle.argon2_words.specs.Request.{argon2_request}
-use Rattle.argon2_command.specs.Output.{argon2_output, output_for}
+pub use Rattle.argon2_words.specs.Request.{argon2_request}
+pub use Rattle.argon2_command.specs.Output.{argon2_output}
+use Rattle.argon2_command.specs.Output.{output_for}
 use Rattle.argon2_words.specs.declared.refusal.Argon2Refusal.{Argon2Refusal}
 use Rattle.argon2_words.specs.declared.refusal.Argon2Refusal.TheVariants as refusal
 

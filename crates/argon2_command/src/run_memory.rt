@@ -1,10 +1,8 @@
 //! Where the memory of a run comes from: the heap, or what a caller puts in its place.
 ghost use Rattle.std.specs.Prelude.{◌≡◌, ℕ, Bool, Ok, IfOk, is_ok, length, true};
-ghost use Rattle.argon.specs.Argon2.{Parameters};
 ghost use Rattle.argon.specs.Range.{admission};
 ghost use Rattle.argon_text.specs.Value.{is_in_range};
-ghost use Rattle.argon2_command.specs.Output.{tag_line, value_with};
-ghost use Rattle.argon2_words.specs.Request.{Request};
+ghost use Rattle.argon2_command.specs.Output.{Parameters, Request, tag_line, value_with};
 ghost use Rattle.argon2_words.specs.RequestView.{request_of};
 
 use crate::bytes::Bytes;

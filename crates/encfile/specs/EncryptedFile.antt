@@ -1,6 +1,6 @@
 -- scrypt's encrypted file, version 0 (Tarsnap's FORMAT), as lists of bytes. Offsets are FORMAT's.
 use Rattle.std.specs.Prelude.{◌≡◌, ℕ, ◌+◌, ◌-◌, ◌^◌, ◌<◌, ◌≤◌, List, [], ◌++◌, length, take, drop, nat_le, if◌then◌else◌}
-use Rattle.macs.specs.HmacSha256.{hmac_sha256}
+pub use Rattle.macs.specs.HmacSha256.{hmac_sha256}
 use Rattle.romix.specs.Costs.{IsInRange, Parameters}
 use Rattle.romix.specs.Scrypt.{scrypt}
 use Rattle.romix.specs.Sparse.{sparse_cores}

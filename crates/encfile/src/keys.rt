@@ -2,9 +2,8 @@
 //! that of HMAC-SHA-256.
 ghost use Rattle.std.specs.Prelude.{◌≡◌, ◌+◌, ◌*◌, ◌^◌, ℕ, List, take, drop};
 ghost use Rattle.macs.specs.Hmac.{Holds};
-ghost use Rattle.macs.specs.HmacSha256.{hmac_sha256};
 ghost use Rattle.romix.specs.Costs.{cores};
-ghost use Rattle.encfile.specs.EncryptedFile.{derived_key, CountsDerivation, CountsWithinBound};
+ghost use Rattle.encfile.specs.EncryptedFile.{derived_key, hmac_sha256, CountsDerivation, CountsWithinBound};
 
 use aes_ctr::{Aes256, Ctr};
 use macs::Hmac;

@@ -29,6 +29,39 @@ pub(crate) struct Settings {
     pub max_ops: u64,
 }
 
+impl Settings {
+    /// The settings of these numbers.
+    pub(crate) fn new(
+        kind: u32,
+        version: u32,
+        passes: u32,
+        memory_kib: u32,
+        lanes: u32,
+        max_kib: u32,
+        max_ops: u64,
+    ) -> Self
+        ensures settings { result ≡ record {
+          kind = kind;
+          version = version;
+          passes = passes;
+          memory_kib = memory_kib;
+          lanes = lanes;
+          max_kib = max_kib;
+          max_ops = max_ops;
+        } }
+    {
+        Settings {
+            kind,
+            version,
+            passes,
+            memory_kib,
+            lanes,
+            max_kib,
+            max_ops,
+        }
+    }
+}
+
 /// The type of a number: 0 is d, 1 is i, 2 is id.
 pub(crate) fn kind_of(number: u32) -> Option<Kind>
     ensures number { IfSome result (λ kind. type_number kind ≡ number) }
@@ -198,15 +231,7 @@ pub extern "C" fn pikhsen_argon2_hash(
         result.status machine.blocks result.machine.blocks }
 {
     let mut machine = machine;
-    let settings = Settings {
-        kind,
-        version,
-        passes,
-        memory_kib,
-        lanes,
-        max_kib,
-        max_ops,
-    };
+    let settings = Settings::new(kind, version, passes, memory_kib, lanes, max_kib, max_ops);
     let inputs = Inputs {
         password,
         salt,

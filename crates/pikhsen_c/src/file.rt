@@ -522,11 +522,7 @@ pub extern "C" fn pikhsen_scrypt_decrypt(
         result.status machine.cores result.machine.cores }
 {
     let mut machine = machine;
-    let limits = ScryptLimits {
-        keep,
-        max_bytes,
-        max_ops,
-    };
+    let limits = ScryptLimits::new(keep, max_bytes, max_ops);
     let told = decrypt_in(
         &mut machine.heap,
         &limits,

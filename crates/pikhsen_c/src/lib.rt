@@ -10,7 +10,6 @@ mod call_memory;
 mod encoded;
 mod file;
 mod heap;
-mod keyed;
 mod machine;
 mod message;
 mod reading;
@@ -26,13 +25,12 @@ mod version;
 mod wiping;
 
 pub use argon2::pikhsen_argon2_hash;
-pub use encoded::pikhsen_argon2_encoded;
+pub use encoded::{pikhsen_argon2_encoded, pikhsen_argon2_encoded_keyed};
 pub use file::{
     PikhsenScryptCosts, pikhsen_scrypt_decrypt, pikhsen_scrypt_encrypt,
     pikhsen_scrypt_encrypt_in_place, pikhsen_scrypt_info,
 };
 pub use heap::Heap;
-pub use keyed::{pikhsen_argon2_encoded_keyed, pikhsen_argon2_verify_keyed};
 pub use machine::Machine;
 pub use message::pikhsen_message;
 pub use scrypt::pikhsen_scrypt;
@@ -43,6 +41,6 @@ pub use streaming::{
     pikhsen_scrypt_encrypt_feed, pikhsen_scrypt_encrypt_finish, pikhsen_scrypt_encrypt_start,
     pikhsen_stream_free,
 };
-pub use verifying::pikhsen_argon2_verify;
+pub use verifying::{pikhsen_argon2_verify, pikhsen_argon2_verify_keyed};
 pub use version::pikhsen_version;
 pub use wiping::Answer;

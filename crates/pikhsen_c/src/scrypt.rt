@@ -34,6 +34,19 @@ pub(crate) struct ScryptSettings {
     pub limits: ScryptLimits,
 }
 
+impl ScryptLimits {
+    /// The limits of these numbers.
+    pub(crate) fn new(keep: u32, max_bytes: u64, max_ops: u64) -> Self
+        ensures limits { result ≡ record { keep = keep; max_bytes = max_bytes; max_ops = max_ops } }
+    {
+        ScryptLimits {
+            keep,
+            max_bytes,
+            max_ops,
+        }
+    }
+}
+
 impl ScryptSettings {
     /// The settings of these numbers.
     pub(crate) fn new(log_n: u32, r: u32, p: u32, keep: u32, max_bytes: u64, max_ops: u64) -> Self
@@ -44,16 +57,11 @@ impl ScryptSettings {
           limits = record { keep = keep; max_bytes = max_bytes; max_ops = max_ops };
         } }
     {
-        let limits = ScryptLimits {
-            keep,
-            max_bytes,
-            max_ops,
-        };
         ScryptSettings {
             log_n,
             r,
             p,
-            limits,
+            limits: ScryptLimits::new(keep, max_bytes, max_ops),
         }
     }
 }

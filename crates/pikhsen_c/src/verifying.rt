@@ -120,3 +120,40 @@ pub extern "C" fn pikhsen_argon2_verify(
     );
     wipe_stack(told, machine)
 }
+
+/// Whether the password is that of an encoded text, with the secret value and the associated data of its hash: 0 where
+/// it is, 16 where it is not. The text is refused where it needs more than the limits allow, before memory is asked for
+/// the hash.
+#[unsafe(no_mangle)]
+pub extern "C" fn pikhsen_argon2_verify_keyed(
+    machine: Machine,
+    text: &[u8],
+    password: &[u8],
+    secret: &[u8],
+    associated: &[u8],
+    max_kib: u32,
+    max_ops: u64,
+) -> Answer
+    ensures verdict { IsVerdict text.now password.now secret.now associated.now max_kib max_ops result.status }
+    // There is no other number.
+    ensures number { IsVerifyNumber result.status }
+    // What was asked of the heap.
+    ensures asked { AsksToVerify (asked_to_read machine.heap) (λ heap _ granted. asked_for_matrix heap granted)
+        text.now password.now (length secret.now) (length associated.now) max_kib max_ops
+        result.status result.machine.heap }
+    ensures no_cores { result.machine.cores ≡ machine.cores }
+    ensures works { WorksToVerify text.now password.now max_ops result.status machine.blocks result.machine.blocks }
+{
+    let mut machine = machine;
+    let told = verify_in(
+        &mut machine.heap,
+        text,
+        password,
+        secret,
+        associated,
+        max_kib,
+        max_ops,
+        &mut machine.blocks,
+    );
+    wipe_stack(told, machine)
+}

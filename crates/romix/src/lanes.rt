@@ -112,26 +112,27 @@ impl Lanes {
         }
     }
 
-    /// From diagonals to rows.
+    /// From diagonals to rows: the same turn, with two vectors in each other's place.
     #[inline(always)]
     pub(crate) fn to_rows(self) -> Lanes
         ensures words { words_by_rows result ≡ words_by_diagonals self }
     {
-        let Lanes {
-            first,
-            second,
-            third,
-            fourth,
-        } = self;
-        let one = first.shuffle::<4>(fourth, [0, 5, 2, 7]);
-        let two = second.shuffle::<4>(first, [0, 5, 2, 7]);
-        let three = third.shuffle::<4>(second, [0, 5, 2, 7]);
-        let four = fourth.shuffle::<4>(third, [0, 5, 2, 7]);
+        self.mirrored().to_diagonals().mirrored()
+    }
+
+    // The second vector and the fourth change places.
+    #[inline(always)]
+    fn mirrored(self) -> Lanes
+        ensures first { result.first ≡ self.first }
+        ensures second { result.second ≡ self.fourth }
+        ensures third { result.third ≡ self.third }
+        ensures fourth { result.fourth ≡ self.second }
+    {
         Lanes {
-            first: one.shuffle::<4>(three, [0, 1, 6, 7]),
-            second: two.shuffle::<4>(four, [0, 1, 6, 7]),
-            third: three.shuffle::<4>(one, [0, 1, 6, 7]),
-            fourth: four.shuffle::<4>(two, [0, 1, 6, 7]),
+            first: self.first,
+            second: self.fourth,
+            third: self.third,
+            fourth: self.second,
         }
     }
 }

@@ -137,47 +137,6 @@ fn xor_table_row(
     }
 }
 
-// ROMix of a row by diagonals. N is even, so that each turn of a loop mixes from one row to the
-// other and back, and no row is copied but into the table. The table keeps the rows of V whose
-// number `keep` divides; a row between them is mixed anew from the kept one below it.
-fn romix_by_diagonals(
-    row: &mut [u32],
-    other: &mut [u32],
-    spare: &mut [u32],
-    table: &mut [u32],
-    log_n: u32,
-    keep: usize,
-    ticks: &mut Ticks,
-)
-    requires log_n_low { 1 ≤ log_n }
-    requires log_n_high { log_n < 64 }
-    requires keep { 0 < keep }
-    requires divides { 2 ^ log_n % keep ≡ 0 }
-    requires pairs { length row.old % 32 ≡ 0 }
-    requires not_empty { 0 < length row.old }
-    requires same { length other.old ≡ length row.old }
-    requires spare { 1 < keep → length spare.old ≡ length row.old }
-    requires table { length table.old ≡ length row.old * (2 ^ log_n / keep) }
-    ensures words { natural_row row.new ≡ romix (natural_row row.old) (2 ^ log_n) }
-    ensures count { ticks.new ≡ ticks.old + mixes (natural_row row.old) (2 ^ log_n) keep * block_count row.old }
-{
-    let half: usize = 1 << (log_n - 1);
-    'fill: for i in 0..half {
-        keep_row(table, keep, 2 * i, row);
-        block_mix_by_diagonals(row, other, ticks);
-        keep_row(table, keep, 2 * i + 1, other);
-        block_mix_by_diagonals(other, row, ticks);
-    }
-    'turns: for turn in 0..half {
-        let j = integerify(row, log_n) as usize;
-        xor_table_row(row, table, keep, j, other, spare, ticks);
-        block_mix_by_diagonals(row, other, ticks);
-        let j = integerify(other, log_n) as usize;
-        xor_table_row(other, table, keep, j, row, spare, ticks);
-        block_mix_by_diagonals(other, row, ticks);
-    }
-}
-
 /// Replaces the row by its ROMix (RFC 7914, section 5), for N = 2^log_n, where 1 <= log_n < 64. A row is
 /// 2 * r blocks of 16 words. `other` is as long, and so is `spare`, if `keep` is above 1; what stands in them and in the
 /// table afterwards is not said. The table has the N / `keep` rows of V whose number `keep` divides, and `keep` divides N.
@@ -203,6 +162,23 @@ pub fn romix(
     ensures count { ticks.new ≡ ticks.old + mixes row.old (2 ^ log_n) keep * block_count row.old }
 {
     turn_to_diagonals(row);
-    romix_by_diagonals(row, other, spare, table, log_n, keep, ticks);
+    // N is even, so that each turn of a loop mixes from one row to the other and back, and no row is copied but into the
+    // table. The table keeps the rows of V whose number `keep` divides; a row between them is mixed anew from the kept
+    // one below it.
+    let half: usize = 1 << (log_n - 1);
+    'fill: for i in 0..half {
+        keep_row(table, keep, 2 * i, row);
+        block_mix_by_diagonals(row, other, ticks);
+        keep_row(table, keep, 2 * i + 1, other);
+        block_mix_by_diagonals(other, row, ticks);
+    }
+    'turns: for turn in 0..half {
+        let j = integerify(row, log_n) as usize;
+        xor_table_row(row, table, keep, j, other, spare, ticks);
+        block_mix_by_diagonals(row, other, ticks);
+        let j = integerify(other, log_n) as usize;
+        xor_table_row(other, table, keep, j, row, spare, ticks);
+        block_mix_by_diagonals(other, row, ticks);
+    }
     turn_to_rows(row);
 }

@@ -1,15 +1,15 @@
-use Rattle.std.proofs.Common.{◌≡◌, ℕ, List, ◌+◌, ◌*◌, ◌/◌, ◌^◌, ◌<◌, ◌≤◌, ◌%◌, length, arith, refl, ap, mod-lt, pow_pos}
+use Rattle.std.proofs.Common.{◌≡◌, ℕ, List, ◌+◌, ◌*◌, ◌/◌, ◌^◌, ◌<◌, ◌≤◌, ◌%◌, length, arith, refl, ap, mod-lt, pow_pos, ◌∙◌}
 use Rattle.romix.specs.Inside.Diagonals.{natural_row}
 use Rattle.romix.specs.Romix.{romix, row_after, table_row}
 use Rattle.romix.specs.Sparse.{mixes, steps_to_rows}
 use Rattle.romix.specs.Inside.Table.{row_at}
 use Rattle.romix.proofs.Rows.{half_is, table_row_more}
 use Rattle.romix.proofs.Kept.{count_more, kept_below, kept_more, row_room, turn_more}
-use Rattle.romix.proofs.romix.romix_by_diagonals.Goals as goal
+use Rattle.romix.proofs.romix.romix.Goals as goal
 
 pub fill-init : goal.fill-init
 unfolding table_row
-fill-init c = record { row = refl; rows = λ k h. absurd (omega arith); count = omega arith }
+fill-init c = record { row = c.turn_to_diagonals.ensures.words; rows = λ k h. absurd (omega arith); count = omega arith }
 
 pub keep_row-requires-clause-room : goal.keep_row-requires-clause-room
 keep_row-requires-clause-room c =
@@ -25,7 +25,7 @@ keep_row-requires-in-fill-clause-room c =
 
 pub fill-preserved : goal.fill-preserved
 fill-preserved c =
-    let b : List ℕ = natural_row c.args.row.now in
+    let b : List ℕ = c.args.row.now in
     let len : ℕ = length c.args.row.now in
     let i : ℕ = c.fill.i in
     let s : ℕ = c.args.keep in
@@ -64,7 +64,7 @@ xor_table_row-requires-in-turns-clause-room c =
 
 pub turns-preserved : goal.turns-preserved
 turns-preserved c =
-    let b : List ℕ = natural_row c.args.row.now in
+    let b : List ℕ = c.args.row.now in
     let len : ℕ = length c.args.row.now in
     let n : ℕ = 2 ^ c.args.log_n in
     let s : ℕ = c.args.keep in
@@ -94,7 +94,7 @@ unfolding romix
 returns-clause-words c =
     let half = half_is c.args.log_n c.requires.log_n_low c.requires.log_n_high in
     let all : 2 * c.turns.turn ≡ 2 ^ c.args.log_n = omega (arith, half) in
-    rw all at c.turns.invariant.row
+    c.turn_to_rows.ensures.words ∙ rw all at c.turns.invariant.row
 
 pub returns-clause-count : goal.returns-clause-count
 unfolding mixes
