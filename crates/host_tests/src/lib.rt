@@ -1,4 +1,4 @@
-//! Tests of `host`, and vectors of its definitions, apart from it, so that it is proved once.
+//! Tests of `host` and `memory_host`, and vectors of their definitions, apart from them, so that each is proved once.
 #![tactic(auto)]
 
 #[cfg(test)]

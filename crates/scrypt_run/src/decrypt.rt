@@ -80,6 +80,7 @@ fn open<R: RunMemory, H: Host>(
         return Err(ScryptRefusal::OutOfMemory);
     };
     let opened = Dec::open(front, header, passphrase.as_slice(), &mut workspace, ticks);
+    // here, and so once for both outcomes
     drop(workspace);
     drop(passphrase);
     opened.map_err(|_| ScryptRefusal::WrongPassphrase)

@@ -109,7 +109,8 @@ fn info_command<'a>(alloc: Global) -> Result<Command<'a>, AllocError>
     with_file(alloc, Ok(Command::new(alloc, "info")), "infile")
 }
 
-// A subcommand more, if there was memory for both.
+// A subcommand more, if there was memory for both. What is not used is let go of by name: the end of the scope would do
+// so part by part.
 fn with_command<'a>(
     command: Result<Command<'a>, AllocError>,
     subcommand: Result<Command<'a>, AllocError>,
@@ -118,9 +119,19 @@ fn with_command<'a>(
         → IfOk subcommand.entry (IsCommand added)
         → IfOk result (IsCommand (with_subcommand app added.top)) }
 {
-    let subcommand = subcommand?;
-    let command = command?;
-    command.subcommand(subcommand)
+    match command {
+        Ok(command) => match subcommand {
+            Ok(subcommand) => command.subcommand(subcommand),
+            Err(fault) => {
+                drop(command);
+                Err(fault)
+            }
+        },
+        Err(fault) => {
+            drop(subcommand);
+            Err(fault)
+        }
+    }
 }
 
 // The three subcommands.

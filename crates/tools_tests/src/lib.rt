@@ -1,4 +1,4 @@
-//! Tests of `tools`, apart from it, so that it is proved once.
+//! Tests of `tools` and `memory_system`, apart from them, so that each is proved once.
 #![tactic(auto)]
 
 #[cfg(test)]

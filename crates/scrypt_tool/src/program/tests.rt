@@ -3,8 +3,8 @@ ghost use Rattle.tools.specs.World.{IsUnused};
 
 use super::*;
 use crate::tests::{FILE_OF_HELLO, SALT};
-use std::test::Fail;
 use memory_system::{Contents, Identities, MemorySystem};
+use std::test::Fail;
 use tools::FileIdentity;
 
 const OUTPUT_FAULT: &str = "scrypt: output cannot be opened or written";

@@ -3,9 +3,9 @@ use Rattle.scrypt_words.specs.CommandLine.{IsCommand}
 use Rattle.scrypt_words.proofs.Arguments.{subcommand_then}
 use Rattle.scrypt_words.proofs.command_line.with_command.Goals as goal
 
-pub returns : goal.returns
-returns c = record {
+pub returns-in-Ok-subcommand : goal.returns-in-Ok-subcommand
+returns-in-Ok-subcommand c = record {
   command = λ app added old sub. IfOk-weaker c.subcommand.result _ _ (λ r e. subcommand_then app added
-      (IfOk-at_ok (IsCommand app) c.in_ok-command.was old)
-      (IfOk-at_ok (IsCommand added) c.in_ok-subcommand.was sub) e) c.subcommand.ensures;
+      (IfOk-at_ok (IsCommand app) c.in-Ok.is old)
+      (IfOk-at_ok (IsCommand added) c.in-Ok-subcommand.is sub) e) c.subcommand.ensures;
 }
