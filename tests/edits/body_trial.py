@@ -67,7 +67,7 @@ def changed(edits):
     return sorted({place for edit in edits for place in edit.places if edit.is_shared})
 
 
-def shared(crate, texts, places, folder, kept, flags=ALONE):
+def shared(crate, texts, places, folder, kept):
     """What a check of these functions leaves open, as goals() has it. None where it says of no function whether it is
     proved."""
     crate, answered = copy.copy(crate), dict(texts)
@@ -76,7 +76,7 @@ def shared(crate, texts, places, folder, kept, flags=ALONE):
     for file in (f"proofs/{place.replace('::', '/')}/Answers.antt" for place in places):
         os.makedirs(os.path.dirname(f"{folder}/{file}"), exist_ok=True)
         answered[file] = text_of(crate.folder, file, answered) + NO_GOAL
-    ran = rt.checked(crate, answered, [*flags, *(f"--only={place}" for place in places)], kept)
+    ran = rt.checked(crate, answered, [*ALONE, *(f"--only={place}" for place in places)], kept)
     lines = ran.stdout.rstrip("\n").split("\n")
     if ran.returncode != 1 or not lines[-1].startswith("only="):
         return None
@@ -129,10 +129,10 @@ def tried(crate, edits, texts, folder, kept):
     return [it if it[0] else tried(crate, [edit], edit.texts, folder, kept)[0] for edit, it in zip(edits, told)]
 
 
-def is_right(crate, edits, folder, kept, flags=ALONE):
+def is_right(crate, edits, folder, kept):
     """Whether a shared check of the right bodies of what these change leaves nothing open."""
     places = changed(edits)
-    return not places or shared(crate, {}, places, folder, kept, flags) == {}
+    return not places or shared(crate, {}, places, folder, kept) == {}
 
 
 def goes_with(edit, other):

@@ -9,8 +9,7 @@ What a refusal is, say body_trial.py and definition_trial.py; how edits are writ
 failed, and so has one that is refused at another goal than the one below its lines, unless with --told.
 
 Of each crate of which a body is tried the functions that these edits change are proved once more as they are, into its
-out/incremental, since rt ci keeps its proofs for itself; the whole crate is, where an edit changes more than bodies. That
-each has an answer that belongs to no goal then, as in a trial, shows that such an answer leaves nothing open.
+out/incremental, since rt ci keeps its proofs for itself; the whole crate is, where an edit changes more than bodies.
 It stands on the libraries that rt ci left; where there are none, they are built. Without words the library for C is
 always proved as a whole, because that proof also builds it, crates/pikhsen_c/out/libpikhsen_c.a, for tests/library/c_face.py.
 Of a crate of which a definition is tried no code is proved.
@@ -132,12 +131,12 @@ class Run:
         return status == 0
 
     def check(self, it, jobs):
-        """What a check of the crate as it is answers and prints, into out/incremental; where it is built, the library for C
-        is made by it."""
+        """What a check of the crate as it is answers and prints, or of what is proved of it for its edits, into
+        out/incremental; where it is built, the library for C is made by it."""
         crate, flags = it.crate, ["--jobs", str(jobs)]
         archive = f"{crate.folder}/out/lib{crate.name}.a"
         if not it.is_built:
-            ran = rt.checked(crate, {}, flags, f"{crate.folder}/out/incremental")
+            ran = rt.checked(crate, {}, [*flags, *(f"--only={place}" for place in it.proved())], f"{crate.folder}/out/incremental")
             return ran.returncode, ran.stdout
         os.makedirs(os.path.dirname(archive), exist_ok=True)
         pathlib.Path(archive).unlink(missing_ok=True)
@@ -148,27 +147,21 @@ class Run:
         its share of all where that is more."""
         it, begun = self.crates[name], time.monotonic()
         share = round(rt.processors() * it.seconds_of_proof() / max(self.proofs, 1))
-        jobs = max(jobs, share) if rt.free() > share * rt.need(it.crate) else jobs
-        if it.proved():
-            return self.is_right(name, f"{it.crate.folder}/out/incremental", jobs)
-        status, said = self.check(it, jobs)
+        status, said = self.check(it, max(jobs, share) if rt.free() > share * rt.need(it.crate) else jobs)
         is_proved = f"{name}: proved as it is, {time.monotonic() - begun:.0f} s"
         self.say(f"{name}: {said[-2000:]}" if status else is_proved, name if status else None)
         return status == 0
 
-    def is_right(self, name, kept=None, jobs=1):
-        """Whether a shared check of the right bodies of what a crate's edits change leaves nothing open; over what is kept
-        there, or over a copy of what the crate keeps."""
+    def is_right(self, name):
+        """Whether a shared check of the right bodies of what a crate's edits change leaves nothing open."""
         it, begun = self.crates[name], time.monotonic()
         right = f"{self.room}/right/{name}"
-        if not kept:
-            shutil.copytree(f"{it.crate.folder}/out/incremental", f"{right}/out")
-        is_well = body_trial.is_right(it.crate, it.now[0], f"{right}/sources", kept or f"{right}/out", ["--jobs", str(jobs)])
+        shutil.copytree(f"{it.crate.folder}/out/incremental", f"{right}/out")
+        is_well = body_trial.is_right(it.crate, it.now[0], f"{right}/sources", f"{right}/out")
         shutil.rmtree(right)
-        it.seconds += (time.monotonic() - begun) * (not kept)
-        is_proved = f"{name}: its right bodies are proved, {time.monotonic() - begun:.0f} s"
-        self.say(is_proved if is_well else f"{name}: with an answer that belongs to no goal its right bodies leave some open",
-                 None if is_well else name)
+        it.seconds += time.monotonic() - begun
+        if not is_well:
+            self.say(f"{name}: with an answer that belongs to no goal its right bodies leave some open", name)
         return is_well
 
     def attempt(self, name, edits, texts, trial):
@@ -217,7 +210,7 @@ class Run:
             waits = [(below.name, "library") for below in crate.below() if below in built]
             if it.now[0] or it.is_built:
                 put(proof, crate, it.seconds_of_proof(), waits, lambda jobs, name=name: self.prove(name, jobs))
-            if it.now[0] and not it.proved():
+            if it.now[0]:
                 put((name, "right"), crate, it.of_body * len(it.now[0]) / 2, [proof], lambda jobs, name=name: self.is_right(name))
             sorts = (body_trial, it.now[0], self.most), (definition_trial, [at for at in it.now[1] if not at.wrong], definition_trial.MOST)
             groups = ((trial, *group) for trial, edits, most in sorts for group in in_groups(edits, most, trial.goes_with))

@@ -217,7 +217,7 @@ def without_zeros(lib):
     """A library whose function that puts zeros over the stack answers at once: so the looks at the stack and at the
     registers are seen to find what stays."""
     code = said("objdump", "-d", f"{lib}/libpikhsen.so.0")
-    at = int(re.search(r"^([0-9a-f]+) <[^>]*burning::burn[^>]*>:$", code, re.MULTILINE)[1], 16)
+    at = int(re.search(r"^([0-9a-f]+) <[^>]*wiping::wipe_stack[^>]*>:$", code, re.MULTILINE)[1], 16)
     text = re.search(r" \.text +PROGBITS +([0-9a-f]+) ([0-9a-f]+) ", said("readelf", "-SW", f"{lib}/libpikhsen.so.0"))
     spoiled = bytearray(pathlib.Path(lib, "libpikhsen.so.0").read_bytes())
     place = at - int(text[1], 16) + int(text[2], 16)

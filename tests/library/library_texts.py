@@ -21,7 +21,7 @@ FILES = (TOP / "python/pikhsen/_files.py").read_text(encoding="utf-8")
 SOURCES = {it.stem: it.read_text(encoding="utf-8") for it in sorted((TOP / "crates/pikhsen_c/src").glob("*.rt"))}
 # How the parameter NAME of a type of the sources is written in C.
 IN_C = {
-    "Machine": (), "Told": ("unsigned int NAME",), "u32": ("unsigned int NAME",), "u64": ("pikhsen_u64 NAME",), "usize": ("size_t NAME",),
+    "Machine": (), "Answer": ("unsigned int NAME",), "u32": ("unsigned int NAME",), "u64": ("pikhsen_u64 NAME",), "usize": ("size_t NAME",),
     "&[u8]": ("const BYTES *NAME", "size_t NAME_len"), "&mut [u8]": ("BYTES *NAME", "size_t NAME_len"),
     "&mut usize": ("size_t *NAME",), "&mut u32": ("unsigned int *NAME",), "&mut PikhsenScryptCosts": ("struct pikhsen_scrypt_costs *NAME",),
     "&PikhsenArgon2Settings": ("const struct pikhsen_argon2_settings *NAME",),
@@ -144,8 +144,8 @@ def compare_texts(checks):
     for name, form in exports().items():
         checks.that(f"header: {name}", declared.get(name), form)
     for name, parameters, result in declared_exports():
-        # `burn` alone makes a `Told`, of a machine
-        expected = (0, "u32") if name in NO_MACHINE else (1, "Told")
+        # `wipe_stack` alone makes an `Answer`, of a machine
+        expected = (0, "u32") if name in NO_MACHINE else (1, "Answer")
         checks.that(f"{name}: machines, and what it returns", (parameters.count(": Machine"), result), expected)
     checks.that("prototypes of the manual page", prototypes(re.sub(r"\n +", " ", PAGE.split("\n.SH ")[2])), declared)
     overheads = (r"\n#define PIKHSEN_FILE_OVERHEAD (\d+)\n", HEADER), (r"PIKHSEN_FILE_OVERHEAD ,\n(\d+), bytes longer", PAGE)

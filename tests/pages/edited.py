@@ -13,10 +13,10 @@ BY_ANOTHER = {
     "aes_ctr": {"block_cipher::Aes256::key_planes": "key_planes::key_planes"},
     "argon": {
         "lanes::Lanes::reserve": "lanes::reserve_from", "matrix::Matrix::reserve": "matrix::reserve_from",
-        "matrix::Matrix::as_blocks": "held::Held::blocks",
+        "matrix::Matrix::as_blocks": "wiped_blocks::WipedBlocks::blocks",
     },
     "argon_text": {"encoded::Encoded::write": "encoded::Encoded::text", "range::range_fault": "range::first_out"},
-    "encfile": {"dec::Dec::finish": "held::Held::is"},
+    "encfile": {"dec::Dec::finish": "tail::Tail::is"},
     "macs": {"pbkdf2_sha256::pbkdf2": "pbkdf2_sha256::write_key"},
     "romix": {"workspace::Workspace::reserve": "workspace::reserve_from"},
 }

@@ -25,7 +25,7 @@ from tree import TOP
 from uncommented import without_comments
 
 # Files that have no part in a program.
-OTHERS = {"memory_host/src/growth.rt", "memory_host/src/memory.rt", "memory_system/src/system.rt"}
+OTHERS = {"memory_host/src/growth_memory.rt", "memory_host/src/memory.rt", "memory_system/src/system.rt"}
 TEST_MODULE = re.compile(r"(?:pub(?:\([^)]*\))? )?mod (?:tests|fixtures|refusing)\b")
 TEST_MODULE_ANYWHERE = re.compile(r"\bmod\s+(?:tests|fixtures|refusing)\b")
 TESTS = re.compile(r"(^|/)(tests|fixtures|refusing)(/|\.rt$)")

@@ -43,7 +43,7 @@ found=$(find crates -name out -prune -o \( -name '*.rt' -o -name '*.antt' \) -ex
 test -z "$found" || fail "a comment may hide lines, or show some that are none: $found"
 ! found=$(cd "$code" && grep -roHE '(#\[cfg\(test\)\])?[a-z()]*\s?\bmod \w+\{' crates | grep -vF ':#[cfg(test)]mod tests{') ||
     fail "a module stands inside a file: $found"
-refuse '\b(Room|ReadRoom|TextRoom|Source)::[a-z_]+\(|\bMatrix::(start|hash)\(' "a call by its path is not counted"
+refuse '\b(Matrix|Hash|Run|Decode|Text|Call)Memory::[a-z_]+\(|\bMatrix::(start|hash)\(' "a call by its path is not counted"
 begins='(^|[];{}])(pub |pub\([^)]*\))?'
 refuse "${begins}use [^;]* as _*[A-Za-z0-9]" "a name stands for a different one: calls by it are not counted"
 counted='Ticks|Count|Matrix|Workspace|Lanes|Encoded|Enc|Dec|Vec|String|Box|Global'
@@ -70,7 +70,7 @@ expect 'tick(' "the counters tick in the one block function and the one core" \
 expect '::reserve(' "only a source of memory reserves, on the condition that limits admit the work" \
     crates/argon_text/src/hash_memory.rt crates/argon2_command/src/run_memory.rt crates/pikhsen_c/src/heap.rt \
     crates/pikhsen_c/src/heap.rt crates/scrypt_run/src/run_memory.rt
-expect '.decode(' "a salt or a tag is decoded once" crates/argon_text/src/read_room.rt
+expect '.decode(' "a salt or a tag is decoded once" crates/argon_text/src/decode_memory.rt
 expect '.allocator()' "no function takes the heap out of what it is lent, but the writing of a text" \
     crates/argon_text/src/encoded.rt
 expect 'vec![in' "lists of a given length are made by the sources of memory, and for the words of the process" \
@@ -86,7 +86,7 @@ expect_below crates/pikhsen_c '.write(' "a text is written where the heap is" cr
 grows='append|clone\w*|extend\w*|from_elem|insert\w*|push\w*|(try_)?reserve\w*|(try_)?resize\w*|shrink\w*|sort\w*'
 grows="$grows|splice\w*|split_off"
 ! found=$(cd "$code" && grep -roHE "(\.|::)($grows)\(|\bBox::new\(" crates/argon2_command |
-    grep -vE '/(line|room)\.rt:') ||
+    grep -vE '/(line|run_memory)\.rt:') ||
     fail "memory is asked for by what is not a source of memory: $found"
 # The functions for C get what has a list in types that keep it to themselves.
 ! found=$(cd "$code" && grep -rlE '\b(Vec|String|Encoded)\b' crates/pikhsen_c | grep -vE '/(heap|reading|text)\.rt$') ||
@@ -104,7 +104,7 @@ in_c '.text(' "a text is for the text of a hash" encoded
 in_c '.workspace(' "the memory of a derivation is taken in one place" scrypt
 in_c '.read(' "a text is read for its settings and for the test of a password" settings settings verifying
 # Nothing comes after the zeros over the stack.
-! found=$(cd "$code" && sed 's/burn(told,machine)}//g' crates/pikhsen_c/src/[!b]*.rt | grep -oE '.{0,40}\bburn\(.{0,40}') ||
+! found=$(cd "$code" && sed 's/wipe_stack(told,machine)}//g' crates/pikhsen_c/src/[!w]*.rt | grep -oE '.{0,40}\bwipe_stack\(.{0,40}') ||
     fail "something comes after zeros were put over the stack: $found"
 expect 'Drop for ' "a drop at the end of a function for C comes after the zeros over the stack" \
     crates/argon/src/blocks.rt crates/romix/src/words.rt
@@ -131,7 +131,7 @@ expect_below crates/scrypt_run 'Dec::open(' "a derivation for a file that is rea
     fail "the system may be called by what is not compared whole: $found"
 
 # A comparison that ends at the first byte that differs tells by its time where that is, and no contract sees time.
-expect 'are_same(tag, claim.tag)' "tags are compared over all their bytes" crates/argon_text/src/verify_password.rt
+expect 'are_same(tag, view.tag)' "tags are compared over all their bytes" crates/argon_text/src/verify_password.rt
 expect '!are_same(&front[64..], ' "the code of a header is compared over all its bytes" crates/encfile/src/dec.rt
 expect 'are_same(&self.bytes, code)' "the final code is compared over all its bytes" crates/encfile/src/tail.rt
 expect 'difference |= left[i] ^ right[i];' "the comparison looks at every byte" crates/comparison/src/lib.rt
@@ -146,7 +146,7 @@ expect_below crates/pikhsen_c 'are_same(' "what tests a password for C compares 
 # Functions that have the heap, and of argon_text those that have a list, are compared whole; so are whole files: those
 # that call the system; those in which the heap is the source of memory, since no contract says that it is asked for
 # what a clause says, once, and that want of memory is reported where it refused and nowhere else; those of the types
-# that keep a list to themselves, in which is what comes from a password until `Held::free`, which wants zeros; the
+# that keep a list to themselves, in which is what comes from a password until its `free`, which wants zeros; the
 # comparison, and the zeros over the stack.
 compared=$(tests/sources/heap_in_reach.py) || fail "$compared"
 

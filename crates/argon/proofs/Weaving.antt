@@ -10,7 +10,7 @@ use Rattle.argon.specs.Counts.{blocks_of_segment, first_index}
 use Rattle.argon.specs.Filling.{Filling, HasNext, IsFilling}
 use Rattle.argon.specs.Parameters.{Parameters, lane_len, segment_len}
 use Rattle.argon.specs.Reference.{HasAddresses, ReadsFinishedSegments}
-use Rattle.argon.specs.Weaving.{IsWeaving, HasNoneLeft, IsNewestByLanes, Weaving, after_step, next_column, next_index, next_number, weaving_from, with_next_block}
+use Rattle.argon.specs.Weaving.{IsWeaving, HasNoneLeft, LanesHoldNewest, Weaving, after_step, next_column, next_index, next_number, weaving_from, with_next_block}
 use Rattle.argon.proofs.Buffer.{block_at_is_block, newest_same, step_newest}
 use Rattle.argon.proofs.ColumnBlock.{first_two}
 use Rattle.argon.proofs.MatrixBlocks.{IsPlace}
@@ -194,7 +194,7 @@ opened f left filling next e = rw e (record {
 })
 
 -- where no lane has any left they stand at its end
-pub closed : (w : Weaving) → IsNewestByLanes w → HasNoneLeft w
+pub closed : (w : Weaving) → LanesHoldNewest w → HasNoneLeft w
     → HoldsNewest w.matrix.parameters w.matrix.first_hash w.matrix.blocks (λ _. number_after_slices w.matrix.parameters (w.matrix.slices_made + 1))
 closed w newest none_left =
     let c : Parameters = w.matrix.parameters in

@@ -16,7 +16,7 @@ use Rattle.argon.specs.Parameters.{Parameters, block_count, lane_len, segment_le
 use Rattle.argon.specs.Inside.Segment.{IsInMatrix, IsSegmentOf, column_number}
 use Rattle.argon.specs.declared.segment.Segment.{Segment}
 use Rattle.argon.specs.Weaving.{IsWeaving, HasNoneLeft, Weaving, after_step, next_column, next_number, weaving_from, with_next_block}
-use Rattle.argon.specs.Woven.{IsWovenFrom, block_where_left, blocks_where_left, first_column, is_made, with_next_slice, woven}
+use Rattle.argon.specs.Woven.{IsWovenFrom, woven_block, woven_blocks, first_column, is_made, with_next_slice, woven}
 use Rattle.argon.specs.Inside.NextSlice.{AreLeft, IsNextSlice}
 use Rattle.argon.proofs.Buffer.{lanes_apart, place-lt}
 use Rattle.argon.proofs.Progress.{first_index-le, next_is}
@@ -37,20 +37,20 @@ past false b x high = refl
 
 -- ---- the blocks, place by place
 
-length-where_left : (f : Filling) (left : List ℕ) → length (blocks_where_left f left) ≡ length f.blocks
-unfolding blocks_where_left
+length-where_left : (f : Filling) (left : List ℕ) → length (woven_blocks f left) ≡ length f.blocks
+unfolding woven_blocks
 length-where_left f left = length-map-range_with_len _ 0 (length f.blocks)
 
 at_place : (f : Filling) (left : List ℕ) (place : ℕ) → place < length f.blocks
-    → get_or (blocks_where_left f left) place [] ≡ block_where_left f left (place / lane_len f.parameters) (place % lane_len f.parameters)
-unfolding blocks_where_left
+    → get_or (woven_blocks f left) place [] ≡ woven_block f left (place / lane_len f.parameters) (place % lane_len f.parameters)
+unfolding woven_blocks
 at_place f left place lt =
-    get_or-map-range_with_len (λ place. block_where_left f left (place / lane_len f.parameters) (place % lane_len f.parameters))
+    get_or-map-range_with_len (λ place. woven_block f left (place / lane_len f.parameters) (place % lane_len f.parameters))
     0 (length f.blocks) place place [] lt (omega arith)
 
 -- the same by the lane and the column
 at_column : (f : Filling) (left : List ℕ) (lane column : ℕ) → length f.blocks ≡ block_count f.parameters → lane < f.parameters.lanes
-    → column < lane_len f.parameters → get_or (blocks_where_left f left) (lane * lane_len f.parameters + column) [] ≡ block_where_left f left lane column
+    → column < lane_len f.parameters → get_or (woven_blocks f left) (lane * lane_len f.parameters + column) [] ≡ woven_block f left lane column
 at_column f left lane column size known inside =
     let q : ℕ = lane_len f.parameters in
     let there : (lane * lane_len f.parameters + column) / lane_len f.parameters ≡ lane = div-mul-add lane q column inside in
@@ -71,14 +71,14 @@ same_blocks f a b some la lb same =
     rw split at (same (place / q) (place % q) (div_below place q f.parameters.lanes some (rw la at lt)) (mod-lt place some)))
 
 -- where nothing is made
-pub nothing_made : (f : Filling) → IsFilling f → blocks_where_left f (weaving_from f).left ≡ f.blocks
+pub nothing_made : (f : Filling) → IsFilling f → woven_blocks f (weaving_from f).left ≡ f.blocks
 nothing_made f filling =
     let c : Parameters = f.parameters in
     let pass : ℕ = f.slices_made / 4 in
     let slice : ℕ = f.slices_made % 4 in
     let long : 2 ≤ segment_len f.parameters = range_long c filling.in_range in
     let small : first_index (f.slices_made / 4) (f.slices_made % 4) ≤ 2 = first_index-le pass slice in
-    same_blocks f (blocks_where_left f (weaving_from f).left) f.blocks (omega arith) (length-where_left f _ ∙ filling.size) filling.size
+    same_blocks f (woven_blocks f (weaving_from f).left) f.blocks (omega arith) (length-where_left f _ ∙ filling.size) filling.size
     (λ lane column known inside.
     let left : slice_index (weaving_from f).left lane ≡ blocks_of_segment f.parameters (f.slices_made / 4) (f.slices_made % 4) =
     get_or-replicate c.lanes lane (blocks_of_segment c pass slice) 0 known in
@@ -99,7 +99,7 @@ one_more a b x ne =
     ]
 
 pub block_more : (f : Filling) (left : List ℕ) (lane : ℕ) → IsWeaving (woven f left) → 0 < slice_index left lane
-    → with_next_block (woven f left) lane ≡ blocks_where_left f (set left lane (slice_index left lane - 1))
+    → with_next_block (woven f left) lane ≡ woven_blocks f (set left lane (slice_index left lane - 1))
 block_more f left lane weaving some =
     let known : lane < f.parameters.lanes = lane_with_some left lane f.parameters.lanes weaving.lanes some in
     let few = weaving.left lane known in
@@ -116,22 +116,22 @@ block_more f left lane weaving some =
     get_or-set_same left lane (slice_index left lane - 1) 0 (omega arith) in
     let next : next_column (woven f (set left lane (slice_index left lane - 1))) lane ≡ next_column (woven f left) lane + 1 = omega arith in
     let place : ℕ = lane * lane_len c + next_column (woven f left) lane in
-    let fits : lane * lane_len c + next_column (woven f left) lane < length (blocks_where_left f left) =
+    let fits : lane * lane_len c + next_column (woven f left) lane < length (woven_blocks f left) =
     rw (length-where_left f left, size) (place-lt c.lanes (lane_len c) lane (next_column (woven f left) lane) known inside) in
-    same_blocks f (with_next_block (woven f left) lane) (blocks_where_left f after) (omega arith)
-    (length-set (blocks_where_left f left) place new ∙ length-where_left f left ∙ size) (length-where_left f after ∙ size)
+    same_blocks f (with_next_block (woven f left) lane) (woven_blocks f after) (omega arith)
+    (length-set (woven_blocks f left) place new ∙ length-where_left f left ∙ size) (length-where_left f after ∙ size)
     (λ other column there within. elim (eqb_tells other lane) [
       | inl same ↦ elim (eqb_tells column (next_column (woven f left) lane)) [
         | inl now ↦
             let made : is_made f (set left lane (slice_index left lane - 1)) lane (next_column (woven f left) lane) ≡ true =
             between (first_column f) (next_column (woven f after) lane) (next_column (woven f left) lane) (omega arith) (omega arith) in
-            rw (same.1, now.1) (get_or-set_same (blocks_where_left f left) place new [] fits
+            rw (same.1, now.1) (get_or-set_same (woven_blocks f left) place new [] fits
             ∙ sym (at_column f after lane (next_column (woven f left) lane) size known inside ∙ rw made refl))
         | inr elsewhere ↦
             let apart : lane * lane_len f.parameters + column ≢ lane * lane_len c + next_column (woven f left) lane = let ne = elsewhere.1 in omega arith in
             let kept : is_made f (set left lane (slice_index left lane - 1)) lane column ≡ is_made f left lane column =
             rw next (one_more (first_column f) (next_column (woven f left) lane) column elsewhere.1) in
-            rw same.1 (get_or-set_other (blocks_where_left f left) place (lane * lane_len c + column) new [] apart
+            rw same.1 (get_or-set_other (woven_blocks f left) place (lane * lane_len c + column) new [] apart
             ∙ at_column f left lane column size known within ∙ sym (at_column f after lane column size known within ∙ rw kept refl))
       ]
       | inr ne ↦
@@ -139,7 +139,7 @@ block_more f left lane weaving some =
           lanes_apart (lane_len c) other lane column (next_column (woven f left) lane) within inside ne.1 in
           let kept : slice_index (set left lane (slice_index left lane - 1)) other ≡ slice_index left other =
           get_or-set_other left lane other (slice_index left lane - 1) 0 ne.1 in
-          get_or-set_other (blocks_where_left f left) place (other * lane_len c + column) new [] apart
+          get_or-set_other (woven_blocks f left) place (other * lane_len c + column) new [] apart
           ∙ at_column f left other column size there within ∙ sym (at_column f after other column size there within ∙ rw kept refl)
     ])
 
@@ -154,7 +154,7 @@ all_none left lanes size none =
 -- the number of a column that is not made, or of one that is made again, against the numbers around the slice
 woven_newest : (f : Filling) (left : List ℕ) → IsFilling f → HasNext f
     → ((lane : ℕ) → lane < f.parameters.lanes → slice_index left lane ≤ blocks_of_segment f.parameters (f.slices_made / 4) (f.slices_made % 4))
-    → HoldsNewest f.parameters f.first_hash (blocks_where_left f left) (next_number (woven f left))
+    → HoldsNewest f.parameters f.first_hash (woven_blocks f left) (next_number (woven f left))
 woven_newest f left filling next few = record {
   holds = λ lane number known before near.
       let c : Parameters = f.parameters in
@@ -174,7 +174,7 @@ woven_newest f left filling next few = record {
       let newest = filling.newest next.started in
       let old : number < number_after_slices f.parameters f.slices_made → number_after_slices f.parameters f.slices_made ≤ number + lane_len f.parameters
       → is_made f left lane (number % lane_len f.parameters) ≡ false
-      → get_or (blocks_where_left f left) (lane * lane_len f.parameters + number % lane_len f.parameters) [] ≡ matrix_block f.parameters f.first_hash number lane =
+      → get_or (woven_blocks f left) (lane * lane_len f.parameters + number % lane_len f.parameters) [] ≡ matrix_block f.parameters f.first_hash number lane =
       λ lt le none. at_column f left lane column filling.size known inside ∙ rw none (newest.holds lane number known lt le) in
       let pass_is : (number / lane_len f.parameters ≡ f.slices_made / 4) ⊎ (number < f.slices_made / 4 * lane_len f.parameters) =
       elim (cases_lt (number / lane_len f.parameters) (f.slices_made / 4)) [
@@ -292,10 +292,10 @@ are_weaving f c pass slice left at are =
 pub column_more : (f : Filling) (c : Parameters) (at : Segment) (left : List ℕ) (old new : List (List ℕ)) (index : ℕ)
     → IsNextSlice f c at.pass at.slice → IsSegmentOf c at → IsInMatrix at → AreLeft c at.pass at.slice left
     → first_index at.pass at.slice ≤ index → index < at.len
-    → old ≡ blocks_where_left f (set left at.lane (at.len - index))
+    → old ≡ woven_blocks f (set left at.lane (at.len - index))
     → new ≡ set old (at.lane * (4 * at.len) + (at.slice * at.len + index))
     (block_at c (block_held c old) (column_number at index) at.pass at.lane at.slice index)
-    → new ≡ blocks_where_left f (set left at.lane (at.len - (index + 1)))
+    → new ≡ woven_blocks f (set left at.lane (at.len - (index + 1)))
 column_more f c at left old new index next is_of valid are first lt eo e =
     let lane : ℕ = at.lane in
     let now : List ℕ = set left at.lane (at.len - index) in
@@ -314,9 +314,9 @@ column_more f c at left old new index next is_of valid are first lt eo e =
     (sym left_is) (rw next.is_of here) in
     let less : at.len - index - 1 ≡ at.len - (index + 1) = omega arith in
     one ∙ block_more f now lane weaving some
-    ∙ ap (λ (n : ℕ). blocks_where_left f (set now at.lane (n - 1))) left_is
-    ∙ ap (blocks_where_left f) (set_twice left at.lane (at.len - index) (at.len - index - 1))
-    ∙ ap (λ (n : ℕ). blocks_where_left f (set left at.lane n)) less
+    ∙ ap (λ (n : ℕ). woven_blocks f (set now at.lane (n - 1))) left_is
+    ∙ ap (woven_blocks f) (set_twice left at.lane (at.len - index) (at.len - index - 1))
+    ∙ ap (λ (n : ℕ). woven_blocks f (set left at.lane n)) less
 
 -- what is left where the first so many lanes have none
 unfoldable pub left_after_lanes : Parameters → ℕ → ℕ → ℕ → List ℕ
@@ -370,7 +370,7 @@ lane_more c pass slice count known =
     ])
 
 -- before the first lane
-pub first_lane : (f : Filling) (c : Parameters) (pass slice : ℕ) → IsNextSlice f c pass slice → f.blocks ≡ blocks_where_left f (left_after_lanes c pass slice 0)
+pub first_lane : (f : Filling) (c : Parameters) (pass slice : ℕ) → IsNextSlice f c pass slice → f.blocks ≡ woven_blocks f (left_after_lanes c pass slice 0)
 first_lane f c pass slice next =
     let all : (weaving_from f).left ≡ left_after_lanes c pass slice 0 =
     rw (← next.pass_is, ← next.slice_is, next.is_of)
@@ -380,7 +380,7 @@ first_lane f c pass slice next =
     let known : lane < c.lanes = rw (length-replicate c.lanes (blocks_of_segment c pass slice)) at lt in
     get_or-replicate c.lanes lane (blocks_of_segment c pass slice) 0 known
     ∙ sym (left_after c pass slice 0 lane known ∙ rw (le-ltb lane 0 (omega arith)) refl))) in
-    sym (nothing_made f next.filling) ∙ ap (blocks_where_left f) all
+    sym (nothing_made f next.filling) ∙ ap (woven_blocks f) all
 
 -- after the last lane
 pub last_lane : (c : Parameters) (pass slice count : ℕ) → count ≡ c.lanes → left_after_lanes c pass slice count ≡ replicate c.lanes 0

@@ -65,17 +65,17 @@ later_slice_numbers segment (suc before) slice = column_numbers segment before (
 -- the numbers of the columns of a lane from which W is taken, in the order in which they were made: those of its last
 -- three finished segments, or of as many as the first pass has finished, and, if it is the lane of the block, those
 -- of this segment that come before the block (3.4.2)
-abbrev pub columns_standing : ℕ → ℕ → ℕ → ℕ → Bool → List ℕ
-columns_standing segment pass slice index is_own =
+abbrev pub candidate_columns : ℕ → ℕ → ℕ → ℕ → Bool → List ℕ
+candidate_columns segment pass slice index is_own =
     later_slice_numbers segment pass slice ++ column_numbers segment pass 0 (slice * segment)
     ++ column_numbers segment pass (slice * segment) (slice * segment + (if is_own then index else 0))
 
--- W, as the numbers of columns of a lane: `columns_standing`, without its last one where the lane is that of the
+-- W, as the numbers of columns of a lane: `candidate_columns`, without its last one where the lane is that of the
 -- block, since that is the block before it, or where the block is the first of its segment; where both hold, one is
 -- left out (3.4.2)
 abbrev pub reference_set : ℕ → ℕ → ℕ → ℕ → Bool → List ℕ
 reference_set segment pass slice index is_own =
-    let columns = columns_standing segment pass slice index is_own in
+    let columns = candidate_columns segment pass slice index is_own in
     if is_own || nat_eq index 0 then take (length columns - 1) columns else columns
 
 -- zz, the place that J_1 names in a set W of so many: |W| - 1 - y, with y = |W| * x / 2^32 and x = J_1^2 / 2^32

@@ -41,8 +41,8 @@ next_number weaving lane =
 
 -- the columns of the slice that each lane has made hold B's blocks, and every other place holds the
 -- newest version from before the slice, where one exists
-abbrev pub IsNewestByLanes : Weaving → Type 0
-IsNewestByLanes weaving =
+abbrev pub LanesHoldNewest : Weaving → Type 0
+LanesHoldNewest weaving =
     HoldsNewest weaving.matrix.parameters weaving.matrix.first_hash weaving.matrix.blocks (next_number weaving)
 
 -- the blocks where a lane has made its next one: one place is another
@@ -83,4 +83,4 @@ pub record IsWeaving (weaving : Weaving) : Type 0 where
   pub lanes : length weaving.left ≡ weaving.matrix.parameters.lanes
   pub left : (lane : ℕ) → lane < weaving.matrix.parameters.lanes → slice_index weaving.left lane
       ≤ blocks_of_segment weaving.matrix.parameters (weaving.matrix.slices_made / 4) (weaving.matrix.slices_made % 4)
-  pub newest : IsNewestByLanes weaving
+  pub newest : LanesHoldNewest weaving

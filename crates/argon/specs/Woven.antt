@@ -20,21 +20,21 @@ is_made matrix left lane column =
 
 -- the block of a lane's column: B's where the lane has made it in the slice, and elsewhere the one that was there
 -- before
-abbrev pub block_where_left : Filling → List ℕ → ℕ → ℕ → List ℕ
-block_where_left matrix left lane column =
+abbrev pub woven_block : Filling → List ℕ → ℕ → ℕ → List ℕ
+woven_block matrix left lane column =
     if is_made matrix left lane column
     then matrix_block matrix.parameters matrix.first_hash (matrix.slices_made / 4 * lane_len matrix.parameters + column) lane
     else get_or matrix.blocks (lane * lane_len matrix.parameters + column) []
 
 -- the blocks of all places, lane after lane
-unfoldable pub blocks_where_left : Filling → List ℕ → List (List ℕ)
-blocks_where_left matrix left =
-    map (λ place. block_where_left matrix left (place / lane_len matrix.parameters) (place % lane_len matrix.parameters))
+unfoldable pub woven_blocks : Filling → List ℕ → List (List ℕ)
+woven_blocks matrix left =
+    map (λ place. woven_block matrix left (place / lane_len matrix.parameters) (place % lane_len matrix.parameters))
     (range_with_len 0 (length matrix.blocks))
 
 -- a weave of that matrix where each lane has so many blocks left
 abbrev pub woven : Filling → List ℕ → Weaving
-woven matrix left = record { matrix = record matrix { blocks = blocks_where_left matrix left }; left = left }
+woven matrix left = record { matrix = record matrix { blocks = woven_blocks matrix left }; left = left }
 
 -- the weave was opened on that matrix
 pub record IsWovenFrom (matrix : Filling) (weaving : Weaving) : Type 0 where
@@ -45,5 +45,5 @@ pub record IsWovenFrom (matrix : Filling) (weaving : Weaving) : Type 0 where
 abbrev pub with_next_slice : Filling → Filling
 with_next_slice matrix = record matrix {
   slices_made = matrix.slices_made + 1;
-  blocks = blocks_where_left matrix (replicate matrix.parameters.lanes 0);
+  blocks = woven_blocks matrix (replicate matrix.parameters.lanes 0);
 }

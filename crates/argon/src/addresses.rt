@@ -24,25 +24,25 @@ pub(crate) fn address_count(segment_len: u32) -> u32
 #[tactic(auto, unfolding(crate::specs::Reference::address_block))]
 pub(crate) fn prepare_addresses(
     params: &Params,
-    at: &Segment,
+    segment: &Segment,
     part: u32,
     addresses: &mut Block,
     scratch: &mut Scratch,
     ticks: &mut Ticks,
 )
     requires parts { part < 2 ^ 31 }
-    ensures value { at.now.is_independent ≡ true
-        → addresses.new ≡ address_block params.now at.now.pass at.now.lane at.now.slice (part + 1) }
-    ensures count { ticks.new ≡ ticks.old + address_work at.now.is_independent 1 }
+    ensures value { segment.now.is_independent ≡ true
+        → addresses.new ≡ address_block params.now segment.now.pass segment.now.lane segment.now.slice (part + 1) }
+    ensures count { ticks.new ≡ ticks.old + address_work segment.now.is_independent 1 }
 {
-    if !at.is_independent {
+    if !segment.is_independent {
         return;
     }
     let zero = [0; 128];
     let mut input = [0; 128];
-    input[0] = at.pass as u64;
-    input[1] = at.lane as u64;
-    input[2] = at.slice as u64;
+    input[0] = segment.pass as u64;
+    input[1] = segment.lane as u64;
+    input[2] = segment.slice as u64;
     input[3] = params.blocks() as u64;
     input[4] = params.passes() as u64;
     input[5] = params.kind().number() as u64;
@@ -58,21 +58,21 @@ pub(crate) fn prepare_addresses(
 /// of the column before.
 pub(crate) fn renew_addresses(
     params: &Params,
-    at: &Segment,
+    segment: &Segment,
     index: u32,
     addresses: &mut Block,
     scratch: &mut Scratch,
     ticks: &mut Ticks,
 )
-    requires is_of { IsSegmentOf params.now at.now }
-    requires addresses { HasAddresses params.now at.now.pass at.now.lane at.now.slice index
+    requires is_of { IsSegmentOf params.now segment.now }
+    requires addresses { HasAddresses params.now segment.now.pass segment.now.lane segment.now.slice index
         addresses.old }
-    ensures addresses { HasAddresses params.now at.now.pass at.now.lane at.now.slice
+    ensures addresses { HasAddresses params.now segment.now.pass segment.now.lane segment.now.slice
         (index + 1) addresses.new }
     ensures count { ticks.new
-        ≡ ticks.old + address_work at.now.is_independent (addresses_begun index) }
+        ≡ ticks.old + address_work segment.now.is_independent (addresses_begun index) }
 {
     if index > 0 && index % 128 == 0 {
-        prepare_addresses(params, at, index / 128, addresses, scratch, ticks);
+        prepare_addresses(params, segment, index / 128, addresses, scratch, ticks);
     }
 }

@@ -37,16 +37,16 @@ impl Model for Lanes {
 /// Takes the memory for the lanes of these parameters from a source of your own: a number of four bytes for each, and then
 /// a block of 1,024 bytes for each, unless the first request is refused. `AllocError` where one is refused, and then
 /// nothing is held.
-pub fn reserve_from<R: MatrixMemory>(room: &mut R, params: &Params) -> Result<Lanes, AllocError>
+pub fn reserve_from<R: MatrixMemory>(memory: &mut R, params: &Params) -> Result<Lanes, AllocError>
     ensures parameters { IfOk result (λ lanes. lanes ≡ params.now) }
-    ensures asked { OnOk result (room.new
-        ≡ R.after_blocks (R.after_numbers room.old params.now.lanes true) params.now.lanes true) }
-    ensures refused { OnErr result ((room.new ≡ R.after_numbers room.old params.now.lanes false)
-        ⊎ (room.new ≡ R.after_blocks (R.after_numbers room.old params.now.lanes true) params.now.lanes false)) }
+    ensures asked { OnOk result (memory.new
+        ≡ R.after_blocks (R.after_numbers memory.old params.now.lanes true) params.now.lanes true) }
+    ensures refused { OnErr result ((memory.new ≡ R.after_numbers memory.old params.now.lanes false)
+        ⊎ (memory.new ≡ R.after_blocks (R.after_numbers memory.old params.now.lanes true) params.now.lanes false)) }
 {
     let count = params.lanes() as usize;
-    let mut left = room.numbers(count)?;
-    let held = WipedBlocks::new(room.blocks(count)?);
+    let mut left = memory.numbers(count)?;
+    let held = WipedBlocks::new(memory.blocks(count)?);
     left.fill(0);
     Ok(Lanes {
         params: params.copied(),
@@ -62,7 +62,7 @@ impl Lanes {
     pub fn reserve(alloc: Global, params: &Params) -> Result<Lanes, AllocError>
         ensures parameters { IfOk result (λ lanes. lanes ≡ params.now) }
     {
-        let mut room = alloc;
-        reserve_from(&mut room, params)
+        let mut memory = alloc;
+        reserve_from(&mut memory, params)
     }
 }

@@ -48,13 +48,13 @@ impl Model for Matrix {
 /// Takes the memory of a hash with these parameters from a source of your own: m' blocks of 1,024 bytes (RFC 9106, section
 /// 3.2, step 2), in one request. `AllocError` where it is refused, and then nothing is held. The matrix is not started,
 /// whatever stands in the blocks.
-pub fn reserve_from<R: MatrixMemory>(room: &mut R, params: &Params) -> Result<Matrix, AllocError>
-    ensures asked { room.new ≡ R.after_blocks room.old (block_count params.now) (is_ok result) }
+pub fn reserve_from<R: MatrixMemory>(memory: &mut R, params: &Params) -> Result<Matrix, AllocError>
+    ensures asked { memory.new ≡ R.after_blocks memory.old (block_count params.now) (is_ok result) }
     ensures parameters { IfOk result (λ matrix. matrix.parameters ≡ params.now) }
     ensures size { IfOk result (λ matrix. length matrix.blocks ≡ block_count params.now) }
     ensures started { IfOk result (λ matrix. matrix.is_started ≡ false) }
 {
-    let blocks = room.blocks(params.blocks() as usize)?;
+    let blocks = memory.blocks(params.blocks() as usize)?;
     Ok(Matrix {
         params: params.copied(),
         h0: [0; 64],
@@ -74,8 +74,8 @@ impl Matrix {
         ensures size { IfOk result (λ matrix. length matrix.blocks ≡ block_count params.now) }
         ensures started { IfOk result (λ matrix. matrix.is_started ≡ false) }
     {
-        let mut room = alloc;
-        reserve_from(&mut room, params)
+        let mut memory = alloc;
+        reserve_from(&mut memory, params)
     }
 
     /// Computes H0 and the first two columns (RFC 9106, section 3.2, steps 1, 3 and 4). What was

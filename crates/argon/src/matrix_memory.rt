@@ -29,9 +29,9 @@ pub trait MatrixMemory {
 }
 
 impl MatrixMemory for Global {
-    ghost after_blocks = { λ room _ _. room };
+    ghost after_blocks = { λ memory _ _. memory };
 
-    ghost after_numbers = { λ room _ _. room };
+    ghost after_numbers = { λ memory _ _. memory };
 
     fn blocks(&mut self, count: usize) -> Result<GrantedBlocks, AllocError> {
         Ok(GrantedBlocks::new(vec![in *self; [0; 128]; count]?))

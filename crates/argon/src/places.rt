@@ -1,6 +1,6 @@
 //! Which block a word J names (RFC 9106, section 3.4.2).
 ghost use Rattle.std.specs.Prelude.{◌≡◌, ℕ, ◌+◌, ◌-◌, ◌*◌, ◌/◌, ◌%◌, ◌^◌, ◌<◌, ◌≤◌, ◌&&◌, length, slice_index, nat_eq, if◌then◌else◌};
-ghost use Rattle.argon.specs.Inside.Places.{first_standing, reference_set_len, standing_count, IsAfterFirstTwo, FitsLane};
+ghost use Rattle.argon.specs.Inside.Places.{first_candidate, reference_set_len, candidate_count, IsAfterFirstTwo, FitsLane};
 ghost use Rattle.argon.specs.Reference.{reference_set, relative_place};
 
 /// A place of the matrix: the lane i and the column j of the block B\[i\]\[j\] (RFC 9106, section
@@ -29,7 +29,7 @@ fn relative_place(len: u32, j1: u32) -> u32
 fn finished_columns(segment_len: u32, pass: u32, slice: u32) -> u32
     requires short { FitsLane segment_len }
     requires slices { slice < 4 }
-    ensures value { result ≡ standing_count segment_len pass slice 0 }
+    ensures value { result ≡ candidate_count segment_len pass slice 0 }
 {
     if pass == 0 {
         slice * segment_len
@@ -58,11 +58,11 @@ fn reference_set_len(segment_len: u32, pass: u32, slice: u32, index: u32, is_own
 }
 
 // The column that W begins with.
-fn first_standing(segment_len: u32, pass: u32, slice: u32) -> u32
+fn first_candidate(segment_len: u32, pass: u32, slice: u32) -> u32
     requires long { 2 ≤ segment_len }
     requires short { FitsLane segment_len }
     requires slices { slice < 4 }
-    ensures value { result ≡ first_standing segment_len pass slice % (4 * segment_len) }
+    ensures value { result ≡ first_candidate segment_len pass slice % (4 * segment_len) }
 {
     if pass == 0 {
         0
@@ -107,7 +107,7 @@ pub(crate) fn reference_column(
         reference_set_len(segment_len, pass, slice, index, is_own),
         j1,
     );
-    let start = first_standing(segment_len, pass, slice);
+    let start = first_candidate(segment_len, pass, slice);
     wrapped(start as u64 + place as u64, 4 * segment_len)
 }
 

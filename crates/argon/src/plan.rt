@@ -17,32 +17,39 @@ use crate::segment::{Segment, end_of_parts};
 use crate::ticks::Ticks;
 
 // The place that a word of the address block names.
-fn planned_place(at: &Segment, index: u32, addresses: &Block) -> Place
-    requires valid { IsInMatrix at.now }
-    requires indices { index < at.now.len }
-    requires first { first_index at.now.pass at.now.slice ≤ index }
-    ensures value { result ≡ place_by_segment at.now index addresses.now }
+fn planned_place(segment: &Segment, index: u32, addresses: &Block) -> Place
+    requires valid { IsInMatrix segment.now }
+    requires indices { index < segment.now.len }
+    requires first { first_index segment.now.pass segment.now.slice ≤ index }
+    ensures value { result ≡ place_by_segment segment.now index addresses.now }
 {
     let j = addresses[(index % 128) as usize];
-    let lane = reference_lane(at.lanes, at.pass, at.lane, at.slice, j);
+    let lane = reference_lane(segment.lanes, segment.pass, segment.lane, segment.slice, j);
     let j1 = (j % 0x1_0000_0000) as u32;
-    let column = reference_column(at.len, at.pass, at.slice, index, lane == at.lane, j1);
+    let column = reference_column(
+        segment.len,
+        segment.pass,
+        segment.slice,
+        index,
+        lane == segment.lane,
+        j1,
+    );
     Place { lane, column }
 }
 
 // Plans a part: the columns whose words J stand in one address block.
-fn plan_part(at: &Segment, part: u32, addresses: &Block, out: &mut [Place])
-    requires valid { IsInMatrix at.now }
-    requires parts { 128 * part < at.now.len }
-    requires size { length out.old ≡ at.now.len }
+fn plan_part(segment: &Segment, part: u32, addresses: &Block, out: &mut [Place])
+    requires valid { IsInMatrix segment.now }
+    requires parts { 128 * part < segment.now.len }
+    requires size { length out.old ≡ segment.now.len }
     ensures size { length out.new ≡ length out.old }
-    ensures planned { PlansPart at.now addresses.now out.old out.new (index_after_parts at.now part)
-        (index_after_parts at.now (part + 1)) }
+    ensures planned { PlansPart segment.now addresses.now out.old out.new (index_after_parts segment.now part)
+        (index_after_parts segment.now (part + 1)) }
 {
-    let from = end_of_parts(at, part);
-    let to = end_of_parts(at, part + 1);
+    let from = end_of_parts(segment, part);
+    let to = end_of_parts(segment, part + 1);
     for index in from..to {
-        out[index as usize] = planned_place(at, index, addresses);
+        out[index as usize] = planned_place(segment, index, addresses);
     }
 }
 
@@ -81,11 +88,11 @@ pub fn plan_segment(
         → entry_at out.new index ≡ entry_at out.old index }
     ensures count { ticks.new ≡ ticks.old + 2 * address_count (segment_len params.now) }
 {
-    let at = Segment::new(params, pass, lane, slice);
+    let segment = Segment::new(params, pass, lane, slice);
     let mut scratch = Scratch::new();
     let mut addresses = [0; 128];
-    for part in 0..address_count(at.len) {
-        prepare_addresses(params, &at, part, &mut addresses, &mut scratch, ticks);
-        plan_part(&at, part, &addresses, out);
+    for part in 0..address_count(segment.len) {
+        prepare_addresses(params, &segment, part, &mut addresses, &mut scratch, ticks);
+        plan_part(&segment, part, &addresses, out);
     }
 }

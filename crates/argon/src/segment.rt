@@ -7,7 +7,7 @@ ghost use Rattle.argon.specs.Filling.{Filling};
 ghost use Rattle.argon.specs.Parameters.{Parameters, block_count};
 ghost use Rattle.argon.specs.Reference.{HasAddresses, address_block};
 ghost use Rattle.argon.specs.Inside.Segment.{IsInMatrix, IsSegmentOf, column_number, index_after_parts, AreOfMatrix};
-ghost use Rattle.argon.specs.Woven.{blocks_where_left, with_next_slice};
+ghost use Rattle.argon.specs.Woven.{woven_blocks, with_next_slice};
 ghost use Rattle.argon.specs.Inside.NextSlice.{AreLeft, IsNextSlice};
 
 use crate::addresses::{prepare_addresses, renew_addresses};
@@ -59,7 +59,7 @@ impl Segment {
 }
 
 // The word J of a column.
-fn reference_words(is_independent: bool, addresses: &Block, index: u32, previous: &Block) -> u64
+fn reference_word(is_independent: bool, addresses: &Block, index: u32, previous: &Block) -> u64
     ensures independent { is_independent ≡ true → result ≡ slice_index addresses.now (index % 128) }
     ensures dependent { is_independent ≡ false → result ≡ slice_index previous.now 0 }
 {
@@ -71,51 +71,58 @@ fn reference_words(is_independent: bool, addresses: &Block, index: u32, previous
 }
 
 // Where a column of a lane stands in the buffer, which has the lanes one after the other.
-fn place_held(at: &Segment, lane: u32, column: usize) -> usize
-    requires valid { IsInMatrix at.now }
-    requires lanes { lane < at.now.lanes }
-    requires columns { column < 4 * at.now.len }
-    ensures value { result ≡ lane * (4 * at.now.len) + column }
-    ensures within { result < at.now.lanes * (4 * at.now.len) }
+fn place_held(segment: &Segment, lane: u32, column: usize) -> usize
+    requires valid { IsInMatrix segment.now }
+    requires lanes { lane < segment.now.lanes }
+    requires columns { column < 4 * segment.now.len }
+    ensures value { result ≡ lane * (4 * segment.now.len) + column }
+    ensures within { result < segment.now.lanes * (4 * segment.now.len) }
 {
-    lane as usize * (4 * at.len as usize) + column
+    lane as usize * (4 * segment.len as usize) + column
 }
 
 // Makes the block of one column.
 fn fill_column(
     blocks: &mut [Block],
-    at: &Segment,
+    segment: &Segment,
     index: u32,
     addresses: &Block,
     scratch: &mut Scratch,
     ticks: &mut Ticks,
 )
-    requires valid { IsInMatrix at.now }
-    requires indices { index < at.now.len }
-    requires first { first_index at.now.pass at.now.slice ≤ index }
-    requires size { AreOfMatrix at.now blocks.old }
+    requires valid { IsInMatrix segment.now }
+    requires indices { index < segment.now.len }
+    requires first { first_index segment.now.pass segment.now.slice ≤ index }
+    requires size { AreOfMatrix segment.now blocks.old }
     ensures count { ticks.new ≡ ticks.old + 1 }
-    ensures value { (parameters : Parameters) → IsSegmentOf parameters at.now
-        → (at.now.is_independent ≡ true
+    ensures value { (parameters : Parameters) → IsSegmentOf parameters segment.now
+        → (segment.now.is_independent ≡ true
         → addresses.now
-        ≡ address_block parameters at.now.pass at.now.lane at.now.slice (index / 128 + 1))
+        ≡ address_block parameters segment.now.pass segment.now.lane segment.now.slice (index / 128 + 1))
         → blocks.new ≡ slice_set blocks.old
-        (at.now.lane * (4 * at.now.len) + (at.now.slice * at.now.len + index))
-        (block_at parameters (block_held parameters blocks.old) (column_number at.now index)
-        at.now.pass at.now.lane at.now.slice index) }
+        (segment.now.lane * (4 * segment.now.len) + (segment.now.slice * segment.now.len + index))
+        (block_at parameters (block_held parameters blocks.old) (column_number segment.now index)
+        segment.now.pass segment.now.lane segment.now.slice index) }
 {
-    let lane_len = 4 * at.len as usize;
-    let column = (at.slice * at.len + index) as usize;
+    let lane_len = 4 * segment.len as usize;
+    let column = (segment.slice * segment.len + index) as usize;
     let before = previous_column(lane_len, column);
-    let previous = place_held(at, at.lane, before);
-    let j = reference_words(at.is_independent, addresses, index, &blocks[previous]);
-    let lane = reference_lane(at.lanes, at.pass, at.lane, at.slice, j);
+    let previous = place_held(segment, segment.lane, before);
+    let j = reference_word(segment.is_independent, addresses, index, &blocks[previous]);
+    let lane = reference_lane(segment.lanes, segment.pass, segment.lane, segment.slice, j);
     let j1 = (j % 0x1_0000_0000) as u32;
-    let other = reference_column(at.len, at.pass, at.slice, index, lane == at.lane, j1);
-    let reference = place_held(at, lane, other as usize);
-    let place = place_held(at, at.lane, column);
+    let other = reference_column(
+        segment.len,
+        segment.pass,
+        segment.slice,
+        index,
+        lane == segment.lane,
+        j1,
+    );
+    let reference = place_held(segment, lane, other as usize);
+    let place = place_held(segment, segment.lane, column);
     store_block(
-        at.is_xored,
+        segment.is_xored,
         blocks,
         place,
         previous,
@@ -133,11 +140,11 @@ pub(crate) fn first_index(pass: u32, slice: u32) -> u32
 }
 
 /// The index up to which a segment is made after so many parts of 128 columns.
-pub(crate) fn end_of_parts(at: &Segment, parts: u32) -> u32
+pub(crate) fn end_of_parts(segment: &Segment, parts: u32) -> u32
     requires in_32_bits { 128 * parts < 2 ^ 32 }
-    ensures value { result ≡ index_after_parts at.now parts }
+    ensures value { result ≡ index_after_parts segment.now parts }
 {
-    first_index(at.pass, at.slice).max((128 * parts).min(at.len))
+    first_index(segment.pass, segment.slice).max((128 * parts).min(segment.len))
 }
 
 /// Makes the block of a segment's next column, whose index is given, and before it the address
@@ -145,55 +152,63 @@ pub(crate) fn end_of_parts(at: &Segment, parts: u32) -> u32
 pub(crate) fn fill_next_column(
     blocks: &mut [Block],
     params: &Params,
-    at: &Segment,
+    segment: &Segment,
     index: u32,
     addresses: &mut Block,
     scratch: &mut Scratch,
     ticks: &mut Ticks,
 )
-    requires valid { IsInMatrix at.now }
-    requires is_of { IsSegmentOf params.now at.now }
-    requires indices { index < at.now.len }
-    requires first { first_index at.now.pass at.now.slice ≤ index }
-    requires size { AreOfMatrix at.now blocks.old }
-    requires addresses { HasAddresses params.now at.now.pass at.now.lane at.now.slice index
+    requires valid { IsInMatrix segment.now }
+    requires is_of { IsSegmentOf params.now segment.now }
+    requires indices { index < segment.now.len }
+    requires first { first_index segment.now.pass segment.now.slice ≤ index }
+    requires size { AreOfMatrix segment.now blocks.old }
+    requires addresses { HasAddresses params.now segment.now.pass segment.now.lane segment.now.slice index
         addresses.old }
-    ensures addresses { HasAddresses params.now at.now.pass at.now.lane at.now.slice
+    ensures addresses { HasAddresses params.now segment.now.pass segment.now.lane segment.now.slice
         (index + 1) addresses.new }
     ensures value { blocks.new ≡ slice_set blocks.old
-        (at.now.lane * (4 * at.now.len) + (at.now.slice * at.now.len + index))
-        (block_at params.now (block_held params.now blocks.old) (column_number at.now index)
-        at.now.pass at.now.lane at.now.slice index) }
-    ensures count { ticks.new ≡ ticks.old + column_work params.now at.now.pass at.now.slice index }
+        (segment.now.lane * (4 * segment.now.len) + (segment.now.slice * segment.now.len + index))
+        (block_at params.now (block_held params.now blocks.old) (column_number segment.now index)
+        segment.now.pass segment.now.lane segment.now.slice index) }
+    ensures count { ticks.new ≡ ticks.old + column_work params.now segment.now.pass segment.now.slice index }
 {
-    renew_addresses(params, at, index, addresses, scratch, ticks);
-    fill_column(blocks, at, index, addresses, scratch, ticks);
+    renew_addresses(params, segment, index, addresses, scratch, ticks);
+    fill_column(blocks, segment, index, addresses, scratch, ticks);
 }
 
 // Makes the blocks of a segment.
 fn fill_segment(
     blocks: &mut [Block],
     params: &Params,
-    at: &Segment,
+    segment: &Segment,
     scratch: &mut Scratch,
     ticks: &mut Ticks,
 )
-    requires valid { IsInMatrix at.now }
-    requires is_of { IsSegmentOf params.now at.now }
-    requires size { AreOfMatrix at.now blocks.old }
+    requires valid { IsInMatrix segment.now }
+    requires is_of { IsSegmentOf params.now segment.now }
+    requires size { AreOfMatrix segment.now blocks.old }
     ensures size { length blocks.new ≡ length blocks.old }
-    ensures count { ticks.new ≡ ticks.old + segment_work params.now at.now.pass at.now.slice }
+    ensures count { ticks.new ≡ ticks.old + segment_work params.now segment.now.pass segment.now.slice }
     ensures made { (matrix : Filling) (left : List ℕ)
-        → IsNextSlice matrix params.now at.now.pass at.now.slice
-        → AreLeft params.now at.now.pass at.now.slice left
-        → slice_index left at.now.lane ≡ blocks_of_segment params.now at.now.pass at.now.slice
-        → blocks.old ≡ blocks_where_left matrix left
-        → blocks.new ≡ blocks_where_left matrix (slice_set left at.now.lane 0) }
+        → IsNextSlice matrix params.now segment.now.pass segment.now.slice
+        → AreLeft params.now segment.now.pass segment.now.slice left
+        → slice_index left segment.now.lane ≡ blocks_of_segment params.now segment.now.pass segment.now.slice
+        → blocks.old ≡ woven_blocks matrix left
+        → blocks.new ≡ woven_blocks matrix (slice_set left segment.now.lane 0) }
 {
     let mut addresses = [0; 128];
-    prepare_addresses(params, at, 0, &mut addresses, scratch, ticks);
-    for index in first_index(at.pass, at.slice)..at.len {
-        fill_next_column(blocks, params, at, index, &mut addresses, scratch, ticks);
+    prepare_addresses(params, segment, 0, &mut addresses, scratch, ticks);
+    for index in first_index(segment.pass, segment.slice)..segment.len {
+        fill_next_column(
+            blocks,
+            params,
+            segment,
+            index,
+            &mut addresses,
+            scratch,
+            ticks,
+        );
     }
 }
 

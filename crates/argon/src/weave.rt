@@ -4,7 +4,7 @@ ghost use Rattle.std.specs.Prelude.{◌≡◌, ℕ, ◌+◌, ◌-◌, ◌*◌, �
 ghost use Rattle.argon.specs.Counts.{address_work, column_work, slice_work};
 ghost use Rattle.argon.specs.Filling.{Filling, HasNext, IsNewest};
 ghost use Rattle.argon.specs.Reference.{HasAddresses, ReadsFinishedSegments, is_independent};
-ghost use Rattle.argon.specs.Weaving.{HasNoneLeft, IsNewestByLanes, next_index, weaving_from, with_next_block, work_left};
+ghost use Rattle.argon.specs.Weaving.{HasNoneLeft, LanesHoldNewest, next_index, weaving_from, with_next_block, work_left};
 ghost use Rattle.argon.specs.Woven.{IsWovenFrom, with_next_slice};
 
 use crate::addresses::prepare_addresses;
@@ -64,10 +64,10 @@ fn prepare_lanes(
         + params.now.lanes * address_work (is_independent params.now pass slice) 1 }
 {
     for lane in 0..params.lanes() {
-        let at = Segment::new(params, pass, lane, slice);
+        let segment = Segment::new(params, pass, lane, slice);
         prepare_addresses(
             params,
-            &at,
+            &segment,
             0,
             &mut addresses[lane as usize],
             scratch,
@@ -84,7 +84,7 @@ impl Weave {
         requires next { HasNext matrix }
         ensures weave { result ≡ weaving_from matrix }
         ensures woven { IsWovenFrom matrix result }
-        ensures newest { IsNewestByLanes result }
+        ensures newest { LanesHoldNewest result }
         ensures share { ticks.new + work_left result ≡ ticks.old
             + slice_work matrix.parameters (matrix.slices_made / 4) (matrix.slices_made % 4) }
         ensures count { ticks.new ≡ ticks.old + matrix.parameters.lanes
@@ -145,7 +145,7 @@ impl Weave {
             ≡ record self.old.matrix { blocks = with_next_block self.old lane } }
         ensures woven { (matrix : Filling) → IsWovenFrom matrix self.old
             → IsWovenFrom matrix self.new }
-        ensures newest { IsNewestByLanes self.new }
+        ensures newest { LanesHoldNewest self.new }
         ensures apart { ReadsFinishedSegments self.old.matrix.parameters
             (self.old.matrix.slices_made / 4) lane (self.old.matrix.slices_made % 4)
             (next_index self.old lane) }
@@ -156,12 +156,12 @@ impl Weave {
     {
         let pass = (self.slices_made / 4) as u32;
         let slice = (self.slices_made % 4) as u32;
-        let at = Segment::new(&self.params, pass, lane, slice);
-        let index = at.len - self.left.at(lane);
+        let segment = Segment::new(&self.params, pass, lane, slice);
+        let index = segment.len - self.left.at(lane);
         fill_next_column(
             self.blocks.held.blocks_mut(),
             &self.params,
-            &at,
+            &segment,
             index,
             &mut self.addresses.held.blocks_mut()[lane as usize],
             &mut self.scratch,

@@ -9,7 +9,7 @@ use Rattle.argon.specs.Range.{admission, checked_parameters}
 use Rattle.argon.specs.declared.fault.ParamFault.{ParamFault}
 use Rattle.argon_text.specs.EncodedText.{encoded_text}
 use Rattle.argon_text.specs.Value.{Value}
-use Rattle.host.specs.Seen.{Seen, Text}
+use Rattle.host.specs.HostState.{HostState, Text}
 use Rattle.command_words.specs.Answer.{◌>>=◌}
 use Rattle.argon2_words.specs.Refusal.{refusal_of}
 pub use Rattle.argon2_words.specs.Request.{Request}
@@ -99,7 +99,7 @@ output_for words stdin = do
 
 -- what standard output gets of a run over this host, if no call of the host fails and memory is there, or the
 -- refusal: first of the words, then of the password, then of the parameters, then of the limits
-abbrev pub argon2_output : List Text → Seen → Result (List ℕ) Argon2Refusal
+abbrev pub argon2_output : List Text → HostState → Result (List ℕ) Argon2Refusal
 argon2_output words seen = output_for words seen.stdin
 
 -- how many block functions the hash of a request takes, which no password changes

@@ -1,7 +1,7 @@
 -- A whole run of argon2: what stands at its end.
 use Rattle.std.specs.Prelude.{◌≡◌, ◌⊎◌, ℕ, Bool, List, Option, None, Result, Ok, Err, IfErr, IsErrOf, IsOk, IsTrue, MatchResult, is_ok, if◌then◌else◌}
 use Rattle.host.specs.Output.{IsCutShort, after_writing}
-use Rattle.host.specs.Seen.{Seen, Text, after_ask, after_ask_output, stdin_once}
+use Rattle.host.specs.HostState.{HostState, Text, after_ask, after_ask_output, stdin_once}
 use Rattle.host.specs.Faults.{Faults}
 use Rattle.host.specs.Lines.{SaysOneLine}
 use Rattle.argon2_words.specs.Refusal.{IsEarly, IsLate, counted_by, line_of}
@@ -13,31 +13,31 @@ use Rattle.argon2_words.specs.declared.refusal.Argon2Refusal.TheVariants as refu
 
 -- the host after the words were read: where they are accepted, standard input was asked for the password, and where
 -- they are refused, no source was asked
-abbrev pub password_asked : List Text → Seen → Seen
+abbrev pub password_asked : List Text → HostState → HostState
 password_asked words before = if is_ok (argon2_request words) then after_ask stdin_once before else before
 
 -- the run ended with status 0: standard output got the whole output
-pub record Succeeds (words : List Text) (before after : Seen) : Type 0 where
+pub record Succeeds (words : List Text) (before after : HostState) : Type 0 where
   pub output : List ℕ
   pub due : argon2_output words before ≡ Ok output
   pub written : after ≡ after_writing None output (password_asked words before)
 
 -- the refusal is the one that is due by the words, the password, the parameters or the limits, before memory is asked
 -- for
-abbrev pub IsDue : Argon2Refusal → List Text → Seen → Seen → Type 0
+abbrev pub IsDue : Argon2Refusal → List Text → HostState → HostState → Type 0
 IsDue r words before after = (argon2_output words before ≡ Err r) × IsEarly r × (after ≡ password_asked words before)
 
 -- the words are accepted, and the host failed to give the password
-abbrev pub FailsPassword : Argon2Refusal → List Text → Seen → Seen → Type 0
+abbrev pub FailsPassword : Argon2Refusal → List Text → HostState → HostState → Type 0
 FailsPassword r words before after = (r ≡ refusal.PasswordFault) × IsOk (argon2_request words) × (after ≡ password_asked words before)
 
 -- the refusal is that of memory, where no other was due, and before the output was asked for; contracts do not see the
 -- heap, so nothing here says that it refused
-abbrev pub LacksMemory : Argon2Refusal → List Text → Seen → Seen → Type 0
+abbrev pub LacksMemory : Argon2Refusal → List Text → HostState → HostState → Type 0
 LacksMemory r words before after = (r ≡ refusal.OutOfMemory) × IsOk (argon2_output words before) × (after ≡ password_asked words before)
 
 -- no refusal was due, and the host failed to open standard output or to take all of the output
-pub record FailsOutput (r : Argon2Refusal) (words : List Text) (before after : Seen) : Type 0 where
+pub record FailsOutput (r : Argon2Refusal) (words : List Text) (before after : HostState) : Type 0 where
   pub is : r ≡ refusal.OutputFault
   pub output : List ℕ
   pub due : argon2_output words before ≡ Ok output
@@ -45,7 +45,7 @@ pub record FailsOutput (r : Argon2Refusal) (words : List Text) (before after : S
       ⊎ IsCutShort None output (password_asked words before) after
 
 -- the run ended with this refusal, before its line is said
-abbrev pub IsRefused : Argon2Refusal → List Text → Seen → Seen → Type 0
+abbrev pub IsRefused : Argon2Refusal → List Text → HostState → HostState → Type 0
 IsRefused r words before after =
     IsDue r words before after
     ⊎ FailsPassword r words before after
@@ -53,7 +53,7 @@ IsRefused r words before after =
     ⊎ FailsOutput r words before after
 
 -- a run with this result, on these words: where it is refused, so it was, with the host before and after it
-abbrev pub EndsRefused : {A : Type 0} → List Text → Result A Argon2Refusal → Seen → Seen → Type 0
+abbrev pub EndsRefused : {A : Type 0} → List Text → Result A Argon2Refusal → HostState → HostState → Type 0
 EndsRefused words result before after = IfErr result (λ r. IsRefused r words before after)
 
 -- ---- of every host, also one that tells nothing
@@ -79,10 +79,10 @@ EndsForSome words result = MatchResult result (λ _. SucceedsForSome words) (IsT
 
 -- the run ended with a refusal: of the counts only the one that it names rose, if it names one; then its line was
 -- said, or could not be said and `lines` rose. `told` is the refusal, and `unsaid` the host before the line
-pub record Refuses (tells : Bool) (words : List Text) (before after : Seen) (faults_before faults_after : Faults)
+pub record Refuses (tells : Bool) (words : List Text) (before after : HostState) (faults_before faults_after : Faults)
     : Type 0 where
   pub told : Argon2Refusal
-  pub unsaid : Seen
+  pub unsaid : HostState
   pub some_input : IsToldForSome words told
   pub says : SaysOneLine tells (line_of told) unsaid after (counted_by told faults_before) faults_after
   pub refused : IsTrue tells → IsRefused told words before unsaid

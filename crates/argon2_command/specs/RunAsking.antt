@@ -2,7 +2,7 @@
 -- words' limits admit them.
 use Rattle.std.specs.Prelude.{◌≡◌, ℕ, List, Result, Ok, IfErr}
 use Rattle.argon.specs.Argon2.{Parameters}
-use Rattle.host.specs.Seen.{Text}
+use Rattle.host.specs.HostState.{Text}
 use Rattle.argon2_command.specs.Asking.{Asking, LacksOne, with_all}
 use Rattle.argon2_command.specs.Output.{admitted_parameters}
 use Rattle.argon2_words.specs.Request.{Request, argon2_request}

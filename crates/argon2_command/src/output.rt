@@ -5,7 +5,7 @@ ghost use Rattle.argon2_command.specs.Asking.{LacksOne, asking, with_all};
 ghost use Rattle.argon2_command.specs.Output.{admitted_parameters, output_line, parameters_of, tag_line};
 ghost use Rattle.argon2_words.specs.Refusal.{IsEarly};
 ghost use Rattle.argon2_words.specs.RequestView.{request_of};
-ghost use Rattle.host.specs.Seen.{KeepsOnErr};
+ghost use Rattle.host.specs.HostState.{KeepsOnErr};
 
 use crate::bytes::Bytes;
 use crate::line::put_tag;
@@ -64,7 +64,7 @@ fn hash_into(
 /// The whole output of a run, with its line feed. All memory is taken before the hash: until then the
 /// line is that of a tag of zeros.
 pub fn output<R: RunMemory>(
-    room: &mut R,
+    memory: &mut R,
     request: &Request<'_>,
     password: &Password,
     params: &Params,
@@ -75,17 +75,17 @@ pub fn output<R: RunMemory>(
     ensures line { IfOk result (λ line.
         line.list.items ≡ output_line (request_of request.now) password.now params.now) }
     // Memory is asked for the tag, the line and one matrix, up to the first that is refused.
-    ensures memory_granted { OnOk result (room.new ≡ with_all (asking R.after_zeros R.after_line R.after_matrix)
-        (request_of request.now) params.now room.old) }
+    ensures memory_granted { OnOk result (memory.new ≡ with_all (asking R.after_zeros R.after_line R.after_matrix)
+        (request_of request.now) params.now memory.old) }
     ensures memory_refused { OnErr result (LacksOne (asking R.after_zeros R.after_line R.after_matrix)
-        (request_of request.now) params.now room.old room.new) }
+        (request_of request.now) params.now memory.old memory.new) }
     // No hash begins before every refusal is ruled out, that of memory too.
     ensures no_work { KeepsOnErr result ticks.old ticks.new }
     ensures count { IfOk result (λ _. ticks.new ≡ ticks.old + work params.now) }
 {
-    let mut tag = room.zeros(params.tag_len())?;
-    let mut line = room.line(request, tag.as_slice())?;
-    let mut matrix = room.matrix(params, &request.settings)?;
+    let mut tag = memory.zeros(params.tag_len())?;
+    let mut line = memory.line(request, tag.as_slice())?;
+    let mut matrix = memory.matrix(params, &request.settings)?;
     hash_into(
         line.as_mut_slice(),
         tag.as_mut_slice(),

@@ -1,8 +1,8 @@
 //! The password: the whole standard input.
 ghost use Rattle.std.specs.Prelude.{◌≡◌, ◌<◌, ◌^◌, ◌⊎◌, ℕ, List, true, Some, Ok, Err, take, length, IfOk, IfErr, IsTrue};
 ghost use Rattle.host.specs.Faults.{AreBelow};
-ghost use Rattle.host.specs.Grants.{with_secret_asked};
-ghost use Rattle.host.specs.Seen.{after_ask, stdin_once};
+ghost use Rattle.host.specs.GrantedCalls.{with_secret_asked};
+ghost use Rattle.host.specs.HostState.{after_ask, stdin_once};
 ghost use Rattle.argon2_command.specs.Output.{RefusesInput, password_in};
 ghost use Rattle.argon2_words.specs.Refusal.{IsEarly, CountsFault};
 ghost use Rattle.argon2_words.specs.declared.refusal.Argon2Refusal.TheVariants.{PasswordFault};
@@ -15,14 +15,14 @@ use std::marker::Model;
 #[derive(Drop)]
 pub struct Password {
     // One byte more than a password has tells that the input is too long.
-    room: [u8; 128],
+    buf: [u8; 128],
     len: usize,
 }
 
 impl Model for Password {
     ghost Value = { List ℕ };
 
-    ghost view = { λ p. take p.len p.room };
+    ghost view = { λ p. take p.len p.buf };
 
     ghost invariant = { λ p. (0 < p.len) × (p.len < 128) };
 }
@@ -34,7 +34,7 @@ impl Password {
         ensures not_empty { 0 < length self.now }
         ensures short { length self.now < 128 }
     {
-        &self.room[..self.len]
+        &self.buf[..self.len]
     }
 }
 
@@ -53,13 +53,13 @@ pub fn read_password<H: Host>(host: &mut H) -> Result<Password, Argon2Refusal>
     ensures refused { IsTrue H.tells →
         IfErr result (λ r. (password_in (H.seen host.old).stdin ≡ Err r) ⊎ (r ≡ PasswordFault)) }
 {
-    let mut room = [0u8; 128];
-    let Ok(len) = host.secret(Source::StdinOnce, &mut room) else {
+    let mut buf = [0u8; 128];
+    let Ok(len) = host.secret(Source::StdinOnce, &mut buf) else {
         return Err(Argon2Refusal::PasswordFault);
     };
     match len {
         0 => Err(Argon2Refusal::EmptyPassword),
-        1..128 => Ok(Password { room, len }),
+        1..128 => Ok(Password { buf, len }),
         _ => Err(Argon2Refusal::LongPassword),
     }
 }

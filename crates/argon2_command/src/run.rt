@@ -1,9 +1,9 @@
 //! A whole run of `argon2`.
 ghost use Rattle.std.specs.Prelude.{◌≡◌, ◌≢◌, ◌≤◌, ◌+◌, ◌^◌, Ok, Err, true, IfOk, IfErr, IsOk, OnOk, IsTrue, map, string_bytes};
 ghost use Rattle.host.specs.Faults.{AreBelow, CountsNoFailure};
-ghost use Rattle.host.specs.Grants.{GrantsAll, with_secret_asked};
+ghost use Rattle.host.specs.GrantedCalls.{GrantsAll, with_secret_asked};
 ghost use Rattle.host.specs.Lines.{SaysOneLine};
-ghost use Rattle.host.specs.Seen.{IsFresh, KeepsOnErr};
+ghost use Rattle.host.specs.HostState.{IsUnasked, KeepsOnErr};
 ghost use Rattle.argon2_command.specs.Asking.{asking};
 ghost use Rattle.argon2_command.specs.RunAsking.{RunGranted, MemoryRefused};
 ghost use Rattle.argon2_command.specs.Output.{argon2_output, request_work};
@@ -23,7 +23,7 @@ use std::alloc::Global;
 
 // Reads the words and the password, and makes the whole output.
 fn prepare<R: RunMemory, H: Host>(
-    room: &mut R,
+    memory: &mut R,
     words: &[String],
     host: &mut H,
     ticks: &mut Ticks,
@@ -42,12 +42,12 @@ fn prepare<R: RunMemory, H: Host>(
     ensures refused { IsTrue H.tells →
         EndsRefused (map string_bytes words.now) result (H.seen host.old) (H.seen host.new) }
     // Nothing is asked of the source of memory before every other refusal is ruled out.
-    ensures unasked_for_memory { IfErr result (λ r. r ≢ Argon2Refusal.OutOfMemory → room.new ≡ room.old) }
+    ensures unasked_for_memory { IfErr result (λ r. r ≢ Argon2Refusal.OutOfMemory → memory.new ≡ memory.old) }
     // Memory is asked for the tag, the line and one matrix, with parameters that the limits admit.
     ensures memory_granted { OnOk result (RunGranted
-        (asking R.after_zeros R.after_line R.after_matrix) (map string_bytes words.now) room.old room.new) }
+        (asking R.after_zeros R.after_line R.after_matrix) (map string_bytes words.now) memory.old memory.new) }
     ensures memory_refused { MemoryRefused (asking R.after_zeros R.after_line R.after_matrix)
-        (map string_bytes words.now) result room.old room.new }
+        (map string_bytes words.now) result memory.old memory.new }
     // No hash begins before every refusal is ruled out, that of memory too.
     ensures no_work { KeepsOnErr result ticks.old ticks.new }
     ensures count { IfOk result (λ _. IfOk (argon2_request (map string_bytes words.now))
@@ -57,11 +57,11 @@ fn prepare<R: RunMemory, H: Host>(
     let request = read_request(words)?;
     let password = read_password(host)?;
     let params = parameters(&request, &password)?;
-    let line = output(room, &request, &password, &params, ticks)?;
+    let line = output(memory, &request, &password, &params, ticks)?;
     Ok(line)
 }
 
-/// Does a run of `argon2` with memory from `room`: all of it but the line of a refusal, which is not
+/// Does a run of `argon2` with memory from `memory`: all of it but the line of a refusal, which is not
 /// said. `words` leaves out the program's name. Nothing was asked of the host yet, and its sources and
 /// outputs can still be asked for.
 ///
@@ -70,20 +70,20 @@ fn prepare<R: RunMemory, H: Host>(
 /// and in block functions, then `OutOfMemory`, then `OutputFault`. Standard output is not asked for
 /// before every other is ruled out; what was written before `OutputFault` stays written.
 ///
-/// All memory comes from `room`, which is asked for the tag, its line and one matrix, in this order and
+/// All memory comes from `memory`, which is asked for the tag, its line and one matrix, in this order and
 /// each once, up to the first that is refused: then the fault is `OutOfMemory`, which is told there
-/// alone. A fault that comes before leaves `room` as it was.
+/// alone. A fault that comes before leaves `memory` as it was.
 ///
 /// `ticks` counts the block functions: none where a fault comes before the output, and the work of the
 /// request's hash after success or `OutputFault`.
 pub fn attempt<R: RunMemory, H: Host>(
-    room: &mut R,
+    memory: &mut R,
     words: &[String],
     host: &mut H,
     ticks: &mut Ticks,
 ) -> Result<(), Argon2Refusal>
     requires room { AreBelow (2 ^ 63) (H.faults host.old) }
-    requires fresh { IsTrue H.tells → IsFresh (H.seen host.old) }
+    requires fresh { IsTrue H.tells → IsUnasked (H.seen host.old) }
     requires granted { GrantsAll (H.grants host.old) }
     ensures counts { CountsNoFailure result (H.faults host.old) (H.faults host.new) }
     ensures counted { IfErr result (λ r. H.faults host.new ≡ counted_by r (H.faults host.old)) }
@@ -95,14 +95,14 @@ pub fn attempt<R: RunMemory, H: Host>(
     ensures refused { IsTrue H.tells →
         EndsRefused (map string_bytes words.now) result (H.seen host.old) (H.seen host.new) }
     // Nothing is asked of the source of memory before every other refusal but the output's is ruled out.
-    ensures unasked_for_memory { IfErr result (λ r. IsEarly r → room.new ≡ room.old) }
+    ensures unasked_for_memory { IfErr result (λ r. IsEarly r → memory.new ≡ memory.old) }
     // Memory is asked for the tag, the line and one matrix, with parameters that the limits admit.
     ensures memory_granted { OnOk result (RunGranted
-        (asking R.after_zeros R.after_line R.after_matrix) (map string_bytes words.now) room.old room.new) }
+        (asking R.after_zeros R.after_line R.after_matrix) (map string_bytes words.now) memory.old memory.new) }
     ensures memory_refused { MemoryRefused (asking R.after_zeros R.after_line R.after_matrix)
-        (map string_bytes words.now) result room.old room.new }
+        (map string_bytes words.now) result memory.old memory.new }
     ensures memory_granted_for_output { IfErr result (λ r. r ≡ Argon2Refusal.OutputFault → RunGranted
-        (asking R.after_zeros R.after_line R.after_matrix) (map string_bytes words.now) room.old room.new) }
+        (asking R.after_zeros R.after_line R.after_matrix) (map string_bytes words.now) memory.old memory.new) }
     // The output's refusal is the one that comes after the hash, of which nothing is left to be done.
     ensures no_work { IfErr result (λ r. r ≢ Argon2Refusal.OutputFault → ticks.new ≡ ticks.old) }
     ensures count { OnOk result (IfOk (argon2_request (map string_bytes words.now))
@@ -111,7 +111,7 @@ pub fn attempt<R: RunMemory, H: Host>(
         → IfOk (argon2_request (map string_bytes words.now))
         (λ request. ticks.new ≡ ticks.old + request_work request)) }
 {
-    let line = prepare(room, words, host, ticks)?;
+    let line = prepare(memory, words, host, ticks)?;
     let Ok(()) = write_output(host, line.as_slice()) else {
         return Err(Argon2Refusal::OutputFault);
     };
@@ -130,7 +130,7 @@ pub fn attempt<R: RunMemory, H: Host>(
 /// standard output is opened: the contract of `attempt`, which does the run, says so.
 pub fn argon2<H: Host>(alloc: Global, words: &[String], host: &mut H) -> u8
     requires room { AreBelow (2 ^ 63) (H.faults host.old) }
-    requires fresh { IsTrue H.tells → IsFresh (H.seen host.old) }
+    requires fresh { IsTrue H.tells → IsUnasked (H.seen host.old) }
     requires granted { GrantsAll (H.grants host.old) }
     ensures status { result ≤ 1 }
     ensures counts { result ≡ 0 → H.faults host.new ≡ H.faults host.old }
@@ -146,8 +146,8 @@ pub fn argon2<H: Host>(alloc: Global, words: &[String], host: &mut H) -> u8
     ensures refuses { result ≡ 1 → Refuses H.tells (map string_bytes words.now)
         (H.seen host.old) (H.seen host.new) (H.faults host.old) (H.faults host.new) }
 {
-    let mut room = alloc;
-    match attempt(&mut room, words, host, &mut Ticks::new(alloc)) {
+    let mut memory = alloc;
+    match attempt(&mut memory, words, host, &mut Ticks::new(alloc)) {
         Ok(()) => 0,
         Err(refusal) => refuse(host, refusal.line()),
     }

@@ -46,11 +46,11 @@ pub trait RunMemory {
 }
 
 impl RunMemory for Global {
-    ghost after_zeros = { λ room _ _. room };
+    ghost after_zeros = { λ memory _ _. memory };
 
-    ghost after_line = { λ room _ _ _. room };
+    ghost after_line = { λ memory _ _ _. memory };
 
-    ghost after_matrix = { λ room _ _. room };
+    ghost after_matrix = { λ memory _ _. memory };
 
     fn zeros(&mut self, count: usize) -> Result<Bytes, AllocError> {
         Bytes::zeros(*self, count)

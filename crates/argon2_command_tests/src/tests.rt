@@ -5,7 +5,7 @@ mod refusing;
 ghost use Rattle.std.specs.Prelude.{◌^◌, ◌<◌};
 ghost use Rattle.host.specs.Faults.{AreBelow};
 ghost use Rattle.memory_host.specs.Memory.{memory_faults, memory_seen};
-ghost use Rattle.host.specs.Seen.{IsFresh};
+ghost use Rattle.host.specs.HostState.{IsUnasked};
 
 use self::refusing::{Asked, Refusing};
 use argon::Ticks;
@@ -194,7 +194,7 @@ fn words(alloc: Global, line: &str) -> Vec<String> {
 // by one, in each proof anew.
 fn host_with(alloc: Global, stdin: &[u8]) -> MemoryHost
     ensures room { AreBelow (2 ^ 63) (memory_faults result) }
-    ensures fresh { IsFresh (memory_seen result) }
+    ensures fresh { IsUnasked (memory_seen result) }
 {
     let stdin = stdin.to_vec(alloc).unwrap_or(Vec::new(alloc));
     MemoryHost::new(alloc, Vec::new(alloc), stdin, [0; 32])
@@ -203,7 +203,7 @@ fn host_with(alloc: Global, stdin: &[u8]) -> MemoryHost
 // The status of a run of the words of a line.
 fn run_line(alloc: Global, line: &str, host: &mut MemoryHost) -> u8
     requires room { AreBelow (2 ^ 63) (memory_faults host.old) }
-    requires fresh { IsFresh (memory_seen host.old) }
+    requires fresh { IsUnasked (memory_seen host.old) }
 {
     argon2(alloc, &words(alloc, line), host)
 }
@@ -398,17 +398,17 @@ static REQUESTS: [(&str, u32, Option<Argon2Refusal>, Option<Asked>); 10] = [
 type Answer = (Option<Argon2Refusal>, Option<Asked>, bool);
 
 fn answer(alloc: Global, line: &str, left: u32) -> Answer {
-    let mut room = Refusing {
+    let mut memory = Refusing {
         alloc,
         left,
         last: None,
     };
     let mut host = host_with(alloc, b"password");
     let words = words(alloc, line);
-    let refusal = attempt(&mut room, &words, &mut host, &mut Ticks::new(alloc)).err();
+    let refusal = attempt(&mut memory, &words, &mut host, &mut Ticks::new(alloc)).err();
     let is_opened = host.output_name().is_some();
     drop(host);
-    (refusal, room.last, is_opened)
+    (refusal, memory.last, is_opened)
 }
 
 // The tag, the line and the matrix are the requests, in this order and after every other refusal: so the hash, which

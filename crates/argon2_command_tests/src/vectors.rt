@@ -4,7 +4,7 @@ ghost use Rattle.argon.specs.Argon2.{argon2_tag};
 ghost use Rattle.argon_text.specs.Vectors.{known_text, known_value};
 ghost use Rattle.argon2_command.specs.Output.{argon2_output, output_for, tag_line};
 ghost use Rattle.argon2_command.specs.Run.{password_asked};
-ghost use Rattle.host.specs.Seen.{nothing_seen, stdin_once};
+ghost use Rattle.host.specs.HostState.{nothing_seen, stdin_once};
 ghost use Rattle.argon2_words.specs.Settings.{defaults};
 ghost use Rattle.argon2_words.specs.declared.items.Form.TheVariants.{Encoded, Hex};
 ghost use Rattle.argon2_words.specs.declared.refusal.Argon2Refusal.TheVariants.{EmptyPassword, LongPassword, MemoryLimit, OneForm, Passes, PasswordFault, SaltLength, WorkLimit};

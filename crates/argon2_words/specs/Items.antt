@@ -3,7 +3,7 @@ use Rattle.std.specs.Prelude.{◌++◌, List, [], ◌∷◌, Option, Some, None,
 use Rattle.std.specs.Str.{bytes_eq}
 use Rattle.argon.specs.declared.kind.Kind.{Kind}
 use Rattle.argon.specs.declared.kind.Kind.TheVariants.{D, I, Id}
-use Rattle.host.specs.Seen.{Text}
+use Rattle.host.specs.HostState.{Text}
 use Rattle.argon2_words.specs.declared.items.OptionName.{OptionName}
 use Rattle.argon2_words.specs.declared.items.OptionName.TheVariants.{Passes, LogMemory, Memory, Lanes, TagLength, Version, MaxMemory, MaxOps}
 use Rattle.argon2_words.specs.declared.items.Form.{Form}

@@ -1,7 +1,7 @@
 -- What argon2's words ask for.
 use Rattle.std.specs.Prelude.{Bool, true, false, List, [], ◌∷◌, Result, Ok, Err, codes, if◌then◌else◌}
 use Rattle.std.specs.Str.{bytes_eq}
-use Rattle.host.specs.Seen.{Text}
+use Rattle.host.specs.HostState.{Text}
 use Rattle.command_words.specs.Answer.{◌>>=◌}
 use Rattle.argon2_words.specs.Items.{items}
 use Rattle.argon2_words.specs.Settings.{defaults, settings_after}

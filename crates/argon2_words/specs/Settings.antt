@@ -3,7 +3,7 @@
 use Rattle.std.specs.Prelude.{ℕ, ◌^◌, true, false, List, [], ◌∷◌, Option, Some, None, Result, Ok, Err, codes, ok_or, option_map, if◌then◌else◌}
 use Rattle.std.specs.Str.{bytes_eq}
 use Rattle.argon.specs.declared.kind.Kind.TheVariants.{I}
-use Rattle.host.specs.Seen.{Text}
+use Rattle.host.specs.HostState.{Text}
 use Rattle.command_words.specs.Answer.{◌>>=◌}
 use Rattle.command_words.specs.Number.{number_in}
 use Rattle.argon2_words.specs.Items as item

@@ -1,6 +1,6 @@
 //! Laws of the definitions: each function has no body, and its clauses are the law.
 ghost use Rattle.std.specs.Prelude.{◌≡◌, ◌++◌, ◌∷◌, [], List, Some};
-ghost use Rattle.host.specs.Seen.{Text};
+ghost use Rattle.host.specs.HostState.{Text};
 ghost use Rattle.argon2_words.specs.Items.{Item};
 ghost use Rattle.argon2_words.specs.Laws.{with_last_item};
 ghost use Rattle.argon2_words.specs.Settings.{settings_after, with_value};

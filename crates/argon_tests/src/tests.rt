@@ -17,7 +17,7 @@ use argon::{
     Block, GrantedBlocks, Inputs, Kind, Lanes, Matrix, MatrixMemory, Numbers, ParamFault, Params,
     Place, Ticks, lanes, plan_segment, write_xor, write_xor_over,
 };
-use reference_tags::{LONGER_RUNS, LONGEST, OTHER_RUNS, RUNS, Row};
+use reference_tags::{LONGER_RUNS, LONGEST, OTHER_RUNS, RUNS, ReferenceTag};
 use std::alloc::{AllocError, Global};
 use std::test::Fail;
 
@@ -156,7 +156,12 @@ fn tags_of_the_reference_tests(rt: HostRuntime) -> Result<(), Fail> {
 }
 
 // Whether the tag is that of a run of the reference program.
-fn has_tag_of_row(alloc: Global, password: &str, salt: &str, row: Row) -> Result<bool, Fail> {
+fn has_tag_of_row(
+    alloc: Global,
+    password: &str,
+    salt: &str,
+    row: ReferenceTag,
+) -> Result<bool, Fail> {
     let (kind, passes, memory_kib, lanes, tag) = row;
     let inputs = Inputs {
         password: password.as_bytes(),
@@ -172,7 +177,7 @@ fn first_wrong(
     alloc: Global,
     password: &str,
     salt: &str,
-    rows: &[Row],
+    rows: &[ReferenceTag],
 ) -> Result<Option<&'static str>, Fail> {
     for row in rows {
         if !has_tag_of_row(alloc, password, salt, *row)? {
@@ -466,9 +471,9 @@ impl Refusing {
 }
 
 impl MatrixMemory for Refusing {
-    ghost after_blocks = { λ room _ _. record room { left = room.left - 1; unasked = room.unasked - 1 } };
+    ghost after_blocks = { λ memory _ _. record memory { left = memory.left - 1; unasked = memory.unasked - 1 } };
 
-    ghost after_numbers = { λ room _ _. record room { left = room.left - 1; unasked = room.unasked - 1 } };
+    ghost after_numbers = { λ memory _ _. record memory { left = memory.left - 1; unasked = memory.unasked - 1 } };
 
     fn blocks(&mut self, count: usize) -> Result<GrantedBlocks, AllocError> {
         if !self.grants() {
@@ -492,14 +497,14 @@ fn the_one_request_is_refused(rt: HostRuntime) {
         return;
     };
     for left in [0u32, 1] {
-        let mut room = Refusing {
+        let mut memory = Refusing {
             alloc: rt.alloc(),
             left,
             unasked: 10,
         };
-        let reserved = reserve_from(&mut room, &params);
+        let reserved = reserve_from(&mut memory, &params);
         assert_eq!(rt; reserved.is_ok(), left == 1);
-        assert_eq!(rt; room.unasked, 9);
+        assert_eq!(rt; memory.unasked, 9);
     }
     assert!(rt; Matrix::reserve(rt.alloc(), &params).is_ok());
 }
@@ -511,14 +516,14 @@ fn each_request_for_lanes_is_refused(rt: HostRuntime) {
         return;
     };
     for (left, unasked) in [(0u32, 9u32), (1, 8), (2, 8)] {
-        let mut room = Refusing {
+        let mut memory = Refusing {
             alloc: rt.alloc(),
             left,
             unasked: 10,
         };
-        let reserved = lanes::reserve_from(&mut room, &params);
+        let reserved = lanes::reserve_from(&mut memory, &params);
         assert_eq!(rt; reserved.is_ok(), left == 2);
-        assert_eq!(rt; room.unasked, unasked);
+        assert_eq!(rt; memory.unasked, unasked);
     }
     assert!(rt; Lanes::reserve(rt.alloc(), &params).is_ok());
 }

@@ -17,12 +17,12 @@ value_of e = record {
 
 -- the value of a `HashView`, by the bytes that are lent
 abbrev pub value_viewed : HashView → Value
-value_viewed claim = record {
-  kind = claim.kind;
-  version = claim.version;
-  memory = claim.memory;
-  passes = claim.passes;
-  lanes = claim.lanes;
-  salt = claim.salt.now;
-  tag = claim.tag.now;
+value_viewed view = record {
+  kind = view.kind;
+  version = view.version;
+  memory = view.memory;
+  passes = view.passes;
+  lanes = view.lanes;
+  salt = view.salt.now;
+  tag = view.tag.now;
 }

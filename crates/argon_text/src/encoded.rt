@@ -4,7 +4,7 @@ ghost use Rattle.std.specs.Fmt.{decimal};
 ghost use Rattle.argon_text.specs.Value.{Value, are_in_range};
 ghost use Rattle.argon_text.specs.EncodedText.{base64_text, encoded_text, kind_name};
 
-use crate::text_room::TextRoom;
+use crate::text_memory::TextMemory;
 use argon::Kind;
 use base64::encoded_len;
 use base64::engine::general_purpose::STANDARD_NO_PAD;
@@ -43,39 +43,43 @@ impl Encoded {
         ensures ok { OnOk result (out.new.items ≡ out.old.items ++ encoded_text (value_of self.now)) }
         ensures err { OnErr result (out.new.items ≡ out.old.items) }
     {
-        let mut room = *out.allocator();
-        self.write_in(&mut room, out)
+        let mut source = *out.allocator();
+        self.write_in(&mut source, out)
     }
 
-    /// Appends the encoded text as `write` does, with memory from `room`: the heap (`Global`), or a source of
+    /// Appends the encoded text as `write` does, with memory from `source`: the heap (`Global`), or a source of
     /// the caller's. After a refusal `out` is unchanged. Contracts see no request; tests count them: 21 at most,
     /// two for the symbols of salt and tag, two for the name of the type, three for each of the four numbers,
     /// two for each of the two parts after them, and one for `out`, and none after one that was refused.
-    pub fn write_in<R: TextRoom>(&self, room: &mut R, out: &mut Vec<u8>) -> Result<(), AllocError>
+    pub fn write_in<R: TextMemory>(
+        &self,
+        source: &mut R,
+        out: &mut Vec<u8>,
+    ) -> Result<(), AllocError>
         ensures ok { OnOk result (out.new.items ≡ out.old.items ++ encoded_text (value_of self.now)) }
         ensures err { OnErr result (out.new.items ≡ out.old.items) }
     {
-        let text = self.text(room)?;
-        room.append(out, text.as_bytes())
+        let text = self.text(source)?;
+        source.append(out, text.as_bytes())
     }
 
     // The encoded text.
     #[tactic(auto, unfolding(crate::specs::EncodedText::text_of_fields))]
-    fn text<R: TextRoom>(&self, room: &mut R) -> Result<String, AllocError>
+    fn text<R: TextMemory>(&self, source: &mut R) -> Result<String, AllocError>
         ensures text { IfOk result (λ text.
             string_bytes text ≡ encoded_text (value_of self.now)) }
     {
-        let salt = room.symbols(&self.salt)?;
-        let tag = room.symbols(&self.tag)?;
-        let mut text = room.no_text();
-        room.push(&mut text, "$argon2")?;
-        room.push(&mut text, kind_name(self.kind))?;
-        push_number(room, &mut text, "$v=", self.version)?;
-        push_number(room, &mut text, "$m=", self.memory)?;
-        push_number(room, &mut text, ",t=", self.passes)?;
-        push_number(room, &mut text, ",p=", self.lanes)?;
-        push_part(room, &mut text, &salt)?;
-        push_part(room, &mut text, &tag)?;
+        let salt = source.symbols(&self.salt)?;
+        let tag = source.symbols(&self.tag)?;
+        let mut text = source.no_text();
+        source.push(&mut text, "$argon2")?;
+        source.push(&mut text, kind_name(self.kind))?;
+        push_number(source, &mut text, "$v=", self.version)?;
+        push_number(source, &mut text, "$m=", self.memory)?;
+        push_number(source, &mut text, ",t=", self.passes)?;
+        push_number(source, &mut text, ",p=", self.lanes)?;
+        push_part(source, &mut text, &salt)?;
+        push_part(source, &mut text, &tag)?;
         Ok(text)
     }
 }
@@ -112,8 +116,8 @@ fn kind_name(kind: Kind) -> &'static str
 }
 
 // Appends a label and a number in decimal.
-fn push_number<R: TextRoom>(
-    room: &mut R,
+fn push_number<R: TextMemory>(
+    source: &mut R,
     text: &mut String,
     label: &str,
     number: u32,
@@ -121,16 +125,16 @@ fn push_number<R: TextRoom>(
     ensures appends { OnOk result
         (string_bytes text.new ≡ string_bytes text.old ++ label.now ++ decimal number) }
 {
-    room.push(text, label)?;
-    let digits = room.digits(number)?;
-    room.push(text, &digits)
+    source.push(text, label)?;
+    let digits = source.digits(number)?;
+    source.push(text, &digits)
 }
 
 // Appends a base64 part and the mark before it.
-fn push_part<R: TextRoom>(room: &mut R, text: &mut String, part: &str) -> Result<(), AllocError>
+fn push_part<R: TextMemory>(source: &mut R, text: &mut String, part: &str) -> Result<(), AllocError>
     ensures appends { OnOk result
         (string_bytes text.new ≡ string_bytes text.old ++ codes "$" ++ part.now) }
 {
-    room.push(text, "$")?;
-    room.push(text, part)
+    source.push(text, "$")?;
+    source.push(text, part)
 }

@@ -23,7 +23,7 @@ pub trait HashMemory {
 }
 
 impl HashMemory for Global {
-    ghost after_matrix = { λ room _ _ _ _. room };
+    ghost after_matrix = { λ source _ _ _ _. source };
 
     fn matrix(
         &mut self,

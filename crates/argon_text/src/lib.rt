@@ -12,17 +12,18 @@
 //! ```
 //! let text = b"$argon2i$v=19$m=256,t=2,p=1$c29tZXNhbHQ$iekCn0Y3spW+sCcFanM2xBT63UP2sghkUoHLIUpWRS8";
 //! let encoded = Encoded::read(alloc, text)?;
-//! let claim = HashView::of(&encoded);
-//! let mut room = alloc;
+//! let view = HashView::of(&encoded);
+//! let mut source = alloc;
 //! let mut ticks = Ticks::new(alloc);
-//! assert!(rt; verify(&mut room, &claim, b"password", 256, 526, &mut ticks)?);
-//! assert!(rt; !verify(&mut room, &claim, b"Password", 256, 526, &mut ticks)?);
+//! assert!(rt; verify(&mut source, &view, b"password", 256, 526, &mut ticks)?);
+//! assert!(rt; !verify(&mut source, &view, b"Password", 256, 526, &mut ticks)?);
 //! let mut again = Vec::new(alloc);
 //! encoded.write(&mut again)?;
 //! assert_eq!(rt; again.as_slice(), text.as_slice());
 //! ```
 #![tactic(auto)]
 
+mod decode_memory;
 mod encoded;
 mod fault;
 mod fields;
@@ -30,18 +31,17 @@ mod hash_memory;
 mod hash_view;
 mod range;
 mod read;
-mod read_room;
 mod settings;
-mod text_room;
+mod text_memory;
 mod verify_password;
 
+pub use decode_memory::DecodeMemory;
 pub use encoded::{Encoded, put_tag};
 pub use fault::{ReadFault, VerifyFault};
 pub use hash_memory::HashMemory;
 pub use hash_view::HashView;
 pub use range::{RangeFault, range_fault};
 pub use read::read_from;
-pub use read_room::ReadRoom;
 pub use settings::Settings;
-pub use text_room::TextRoom;
+pub use text_memory::TextMemory;
 pub use verify_password::{verify, verify_keyed};

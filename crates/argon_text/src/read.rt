@@ -11,10 +11,10 @@ ghost use Rattle.argon_text.specs.Value.{IsValue, Value, are_in_range, is_in_ran
 ghost use Rattle.argon_text.specs.View.{value_of};
 ghost use Rattle.argon_text.specs.Inside.FieldsRead.{fields_of};
 
+use crate::decode_memory::DecodeMemory;
 use crate::encoded::Encoded;
 use crate::fault::ReadFault;
 use crate::fields::{Fields, fields_in};
-use crate::read_room::ReadRoom;
 use base64::DecodeAllocError;
 use std::alloc::Global;
 
@@ -39,38 +39,38 @@ impl Encoded {
         ensures again { (v : Value) → IsValue v → IsTextOf v text.now
             → MatchResult result (λ e. value_of e ≡ v) (λ f. f ≡ ReadFault.OutOfMemory) }
     {
-        let mut room = alloc;
-        read_from(&mut room, text)
+        let mut source = alloc;
+        read_from(&mut source, text)
     }
 }
 
-/// Reads an encoded text as [`Encoded::read`] does, with memory from `room`: the heap (`Global`), or a
+/// Reads an encoded text as [`Encoded::read`] does, with memory from `source`: the heap (`Global`), or a
 /// source of the caller's.
 ///
-/// For a text whose labels, type or numbers are wrong `room` is asked for nothing. For any other it is
+/// For a text whose labels, type or numbers are wrong `source` is asked for nothing. For any other it is
 /// asked for the bytes of the salt, and then, unless that was refused or its symbols are no base64, for
 /// those of the tag.
 ///
 /// The faults, by their numbers: 1 where the bytes are no encoded text, 2 where they are one with a
 /// value out of range (`Encoded` has the ranges), 3 where memory was refused.
-pub fn read_from<R: ReadRoom>(room: &mut R, text: &[u8]) -> Result<Encoded, ReadFault>
+pub fn read_from<R: DecodeMemory>(source: &mut R, text: &[u8]) -> Result<Encoded, ReadFault>
     ensures answer { IsAnswerOf text.now result }
     // Nothing is asked of the source of memory for a text whose fields are not found.
-    ensures unasked { fields_at text.now ≡ None → room.new ≡ room.old }
+    ensures unasked { fields_at text.now ≡ None → source.new ≡ source.old }
     // For any other the bytes of the salt are asked for, and then, unless that was refused, those of the tag.
     ensures asked { IfSome (fields_at text.now) (λ fields. OnOk result
-        (room.new ≡ R.after_decoded (R.after_decoded room.old fields.salt true) fields.tag true)) }
+        (source.new ≡ R.after_decoded (R.after_decoded source.old fields.salt true) fields.tag true)) }
     // A fault is that of the salt's bytes, or of the tag's, or a value out of range, for which both were given.
     ensures refused { IfSome (fields_at text.now) (λ fields. OnErr result
-        ((room.new ≡ R.after_decoded room.old fields.salt false)
-        ⊎ (room.new ≡ R.after_decoded (R.after_decoded room.old fields.salt true) fields.tag false)
-        ⊎ (room.new ≡ R.after_decoded (R.after_decoded room.old fields.salt true) fields.tag true))) }
+        ((source.new ≡ R.after_decoded source.old fields.salt false)
+        ⊎ (source.new ≡ R.after_decoded (R.after_decoded source.old fields.salt true) fields.tag false)
+        ⊎ (source.new ≡ R.after_decoded (R.after_decoded source.old fields.salt true) fields.tag true))) }
 {
     let Some(fields) = fields_in(text) else {
         return Err(ReadFault::NotInGrammar);
     };
-    let salt = decoded(room, fields.salt)?;
-    let tag = decoded(room, fields.tag)?;
+    let salt = decoded(source, fields.salt)?;
+    let tag = decoded(source, fields.tag)?;
     match encoded_of(&fields, salt, tag) {
         Some(encoded) => Ok(encoded),
         None => Err(ReadFault::OutOfRange),
@@ -78,13 +78,13 @@ pub fn read_from<R: ReadRoom>(room: &mut R, text: &[u8]) -> Result<Encoded, Read
 }
 
 // The bytes that symbols of base64 stand for.
-fn decoded<R: ReadRoom>(room: &mut R, symbols: &[u8]) -> Result<Vec<u8>, ReadFault>
+fn decoded<R: DecodeMemory>(source: &mut R, symbols: &[u8]) -> Result<Vec<u8>, ReadFault>
     ensures bytes { IfOk result (λ bytes. IsBytes bytes.items) }
     ensures text { IfOk result (λ bytes. symbols.now ≡ base64_text bytes.items) }
     ensures err { IfErr result (IsBase64Fault symbols.now) }
-    ensures asked { room.new ≡ R.after_decoded room.old symbols.now (is_ok result) }
+    ensures asked { source.new ≡ R.after_decoded source.old symbols.now (is_ok result) }
 {
-    match room.decoded(symbols) {
+    match source.decoded(symbols) {
         Ok(bytes) => Ok(bytes),
         Err(DecodeAllocError::OutOfMemory) => Err(ReadFault::OutOfMemory),
         Err(DecodeAllocError::DecodeError(_)) => Err(ReadFault::NotInGrammar),

@@ -13,55 +13,54 @@ use argon::{Inputs, ParamFault, Params, Ticks};
 use comparison::are_same;
 use std::alloc::AllocError;
 
-/// Whether the password gives the tag of the claim, under its parameters, with no secret and no associated data. The tags
-/// are compared over all their bytes before it decides.
+/// Whether the password gives the tag of the view, under its parameters, with no secret and no associated data. The
+/// tags are compared over all their bytes before it decides.
 ///
 /// `max_kib` is the greatest number of blocks of 1 KiB, and `max_ops` of block functions, that the
 /// hash may take: a text from a stranger can ask for 4 TiB and for days. Both are tested before
-/// memory is asked for. Where nothing else refuses, `room` is asked once, for the matrix, and `ticks` counts the block
-/// functions of the one hash.
-/// The faults, by their numbers, the first that holds: 6 where the password has not 1 to 127 bytes, 7 where `max_kib` is
-/// too little, 8 where `max_ops` is, 9 where memory was refused.
+/// memory is asked for. Where nothing else refuses, `source` is asked once, for the matrix, and `ticks` counts the
+/// block functions of the one hash. The faults, by their numbers, the first that holds: 6 where the password has not 1
+/// to 127 bytes, 7 where `max_kib` is too little, 8 where `max_ops` is, 9 where memory was refused.
 pub fn verify<R: HashMemory>(
-    room: &mut R,
-    claim: &HashView<'_>,
+    source: &mut R,
+    view: &HashView<'_>,
     password: &[u8],
     max_kib: u32,
     max_ops: u64,
     ticks: &mut Ticks,
 ) -> Result<bool, VerifyFault>
     ensures answer { IfOk result (λ same. IsTrue same
-        ↔ tag_of_password (value_viewed claim.now) password.now ≡ claim.now.tag.now) }
+        ↔ tag_of_password (value_viewed view.now) password.now ≡ view.now.tag.now) }
     // There is an answer only where the password's length and both limits are kept.
-    ensures admitted { IfOk result (λ _. verify_fault (value_viewed claim.now) password.now max_kib max_ops ≡ None) }
+    ensures admitted { IfOk result (λ _. verify_fault (value_viewed view.now) password.now max_kib max_ops ≡ None) }
     // What is told is the first that holds, and memory was asked for where none does.
-    ensures fault { IfErr result (IsToldFault (verify_fault (value_viewed claim.now) password.now max_kib max_ops)) }
+    ensures fault { IfErr result (IsToldFault (verify_fault (value_viewed view.now) password.now max_kib max_ops)) }
     // Nothing is asked of the source of memory before every other refusal is ruled out.
-    ensures unasked { AsksLast result room.old room.new }
+    ensures unasked { AsksLast result source.old source.new }
     // And then the matrix alone, under the caller's own limits; want of memory is told where that was refused.
-    ensures asked { MatrixGranted R.after_matrix (value_viewed claim.now) password.now max_kib max_ops
-        result room.old room.new }
-    ensures refused { MatrixRefused R.after_matrix (value_viewed claim.now) password.now max_kib max_ops
-        result room.old room.new }
+    ensures asked { MatrixGranted R.after_matrix (value_viewed view.now) password.now max_kib max_ops
+        result source.old source.new }
+    ensures refused { MatrixRefused R.after_matrix (value_viewed view.now) password.now max_kib max_ops
+        result source.old source.new }
     // No block function is run before every refusal is ruled out, that of memory too, and then those of one hash.
     ensures no_work { IfErr result (λ _. ticks.new ≡ ticks.old) }
-    ensures count { HashesOnce (value_viewed claim.now) password.now result ticks.old ticks.new }
+    ensures count { HashesOnce (value_viewed view.now) password.now result ticks.old ticks.new }
 {
     if !is_between(1, password.len() as u64, 127) {
         return Err(VerifyFault::PasswordLength);
     }
-    verify_keyed(room, claim, password, &[], &[], max_kib, max_ops, ticks)
+    verify_keyed(source, view, password, &[], &[], max_kib, max_ops, ticks)
 }
 
-/// Whether the password gives the tag of the claim with this secret value and this associated data, as they
+/// Whether the password gives the tag of the view with this secret value and this associated data, as they
 /// were given when it was hashed (RFC 9106, 3.1: K and X); a text holds neither, and both may be empty. The password has
 /// any length that the standard allows, 0 to 2^32-1 bytes: fault 6 is told where it is longer. No limit counts its bytes,
 /// and all of them are read once, so the time of a call grows with their number: a service bounds the length of what a
 /// stranger sends before it calls. All else is as for `verify`, and one fault more: 12 where the secret or the data is
 /// 2^32 bytes or longer, after 6 and before 7.
 pub fn verify_keyed<R: HashMemory>(
-    room: &mut R,
-    claim: &HashView<'_>,
+    source: &mut R,
+    view: &HashView<'_>,
     password: &[u8],
     secret: &[u8],
     associated: &[u8],
@@ -70,25 +69,27 @@ pub fn verify_keyed<R: HashMemory>(
     ticks: &mut Ticks,
 ) -> Result<bool, VerifyFault>
     ensures answer { IfOk result (λ same. IsTrue same
-        ↔ keyed_tag (value_viewed claim.now) password.now secret.now associated.now ≡ claim.now.tag.now) }
+        ↔ keyed_tag (value_viewed view.now) password.now secret.now associated.now ≡ view.now.tag.now) }
     // There is an answer only where the lengths and both limits are kept.
     ensures admitted { IfOk result (λ _.
-        keyed_fault (value_viewed claim.now) password.now (length secret.now) (length associated.now) max_kib max_ops ≡ None) }
+        keyed_fault (value_viewed view.now) password.now (length secret.now) (length associated.now) max_kib max_ops
+        ≡ None) }
     // What is told is the first that holds, and memory was asked for where none does.
     ensures fault { IfErr result (IsToldFault
-        (keyed_fault (value_viewed claim.now) password.now (length secret.now) (length associated.now) max_kib max_ops)) }
+        (keyed_fault (value_viewed view.now) password.now (length secret.now)
+        (length associated.now) max_kib max_ops)) }
     // Nothing is asked of the source of memory before every other refusal is ruled out.
-    ensures unasked { AsksLast result room.old room.new }
+    ensures unasked { AsksLast result source.old source.new }
     // And then the matrix alone, under the caller's own limits; want of memory is told where that was refused.
-    ensures asked { MatrixGranted R.after_matrix (value_viewed claim.now) password.now max_kib max_ops
-        result room.old room.new }
-    ensures refused { MatrixRefused R.after_matrix (value_viewed claim.now) password.now max_kib max_ops
-        result room.old room.new }
+    ensures asked { MatrixGranted R.after_matrix (value_viewed view.now) password.now max_kib max_ops
+        result source.old source.new }
+    ensures refused { MatrixRefused R.after_matrix (value_viewed view.now) password.now max_kib max_ops
+        result source.old source.new }
     // No block function is run before every refusal is ruled out, that of memory too, and then those of one hash.
     ensures no_work { IfErr result (λ _. ticks.new ≡ ticks.old) }
-    ensures count { HashesOnce (value_viewed claim.now) password.now result ticks.old ticks.new }
+    ensures count { HashesOnce (value_viewed view.now) password.now result ticks.old ticks.new }
 {
-    let params = params_of(claim, password)?;
+    let params = params_of(view, password)?;
     if secret.len() > 0xFFFF_FFFF || associated.len() > 0xFFFF_FFFF {
         return Err(VerifyFault::InputLength);
     }
@@ -99,34 +100,34 @@ pub fn verify_keyed<R: HashMemory>(
     }
     // the longest tag
     let mut room_for_tag = [0; 4096];
-    let tag = &mut room_for_tag[..claim.tag.len()];
+    let tag = &mut room_for_tag[..view.tag.len()];
     let inputs = Inputs {
         password,
-        salt: claim.salt,
+        salt: view.salt,
         secret,
         associated,
     };
-    match write_tag(room, &params, claim, &inputs, max_kib, max_ops, tag, ticks) {
-        Ok(()) => Ok(are_same(tag, claim.tag)),
+    match write_tag(source, &params, view, &inputs, max_kib, max_ops, tag, ticks) {
+        Ok(()) => Ok(are_same(tag, view.tag)),
         Err(_) => Err(VerifyFault::OutOfMemory),
     }
 }
 
 // The parameters of the hash. All but the password's length are in range.
-fn params_of(claim: &HashView<'_>, password: &[u8]) -> Result<Params, VerifyFault>
-    ensures parameters { IfOk result (λ params. params ≡ parameters_with (value_viewed claim.now) password.now) }
+fn params_of(view: &HashView<'_>, password: &[u8]) -> Result<Params, VerifyFault>
+    ensures parameters { IfOk result (λ params. params ≡ parameters_with (value_viewed view.now) password.now) }
     ensures admitted { IfOk result (λ _. nat_le (length password.now) 0xFFFFFFFF ≡ true) }
     ensures fault { IfErr result (λ fault. (nat_le (length password.now) 0xFFFFFFFF ≡ false)
         × (fault ≡ VerifyFault.PasswordLength)) }
 {
     match Params::with_any_password(
-        claim.kind,
-        claim.version,
-        claim.passes,
-        claim.lanes,
-        claim.memory,
-        claim.tag.len(),
-        claim.salt.len(),
+        view.kind,
+        view.version,
+        view.passes,
+        view.lanes,
+        view.memory,
+        view.tag.len(),
+        view.salt.len(),
         password.len(),
     ) {
         Ok(params) => Ok(params),
@@ -136,9 +137,9 @@ fn params_of(claim: &HashView<'_>, password: &[u8]) -> Result<Params, VerifyFaul
 
 // Writes the tag of these inputs, under parameters that the limits admit.
 fn write_tag<R: HashMemory>(
-    room: &mut R,
+    source: &mut R,
     params: &Params,
-    claim: &HashView<'_>,
+    view: &HashView<'_>,
     inputs: &Inputs<'_>,
     max_kib: u32,
     max_ops: u64,
@@ -146,19 +147,19 @@ fn write_tag<R: HashMemory>(
     ticks: &mut Ticks,
 ) -> Result<(), AllocError>
     requires admitted { admission params.now max_kib max_ops ≡ Ok tt }
-    requires parameters { params.now ≡ parameters_with (value_viewed claim.now) inputs.now.password.now }
-    requires salt { inputs.now.salt.now ≡ claim.now.salt.now }
+    requires parameters { params.now ≡ parameters_with (value_viewed view.now) inputs.now.password.now }
+    requires salt { inputs.now.salt.now ≡ view.now.salt.now }
     requires secret { length inputs.now.secret.now < 2 ^ 32 }
     requires associated { length inputs.now.associated.now < 2 ^ 32 }
-    requires size { length out.old ≡ length claim.now.tag.now }
-    ensures tag { OnOk result (out.new ≡ keyed_tag (value_viewed claim.now) inputs.now.password.now
+    requires size { length out.old ≡ length view.now.tag.now }
+    ensures tag { OnOk result (out.new ≡ keyed_tag (value_viewed view.now) inputs.now.password.now
         inputs.now.secret.now inputs.now.associated.now) }
-    ensures asked { OnOk result (room.new ≡ R.after_matrix room.old params.now max_kib max_ops true) }
-    ensures refused { OnErr result (room.new ≡ R.after_matrix room.old params.now max_kib max_ops false) }
+    ensures asked { OnOk result (source.new ≡ R.after_matrix source.old params.now max_kib max_ops true) }
+    ensures refused { OnErr result (source.new ≡ R.after_matrix source.old params.now max_kib max_ops false) }
     ensures no_work { IfErr result (λ _. ticks.new ≡ ticks.old) }
     ensures count { IfOk result (λ _. ticks.new ≡ ticks.old + work params.now) }
 {
-    let mut matrix = room.matrix(params, max_kib, max_ops)?;
+    let mut matrix = source.matrix(params, max_kib, max_ops)?;
     matrix.hash(inputs, out, ticks);
     Ok(())
 }

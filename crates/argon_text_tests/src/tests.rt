@@ -127,16 +127,20 @@ fn writes_all_or_nothing_at(alloc: Global, refused: u32) -> Result<bool, AllocEr
         b"somesalt",
         &[0x79, 0x3f, 0xf6, 0x94],
     )?;
-    let mut room = RefusingText {
+    let mut source = RefusingText {
         alloc,
         asked: 0,
         refused,
     };
     let mut out = b"before: ".to_vec(alloc)?;
-    let is_written = value.write_in(&mut room, &mut out).is_ok();
+    let is_written = value.write_in(&mut source, &mut out).is_ok();
     let whole = b"before: $argon2d$v=19$m=8,t=1,p=1$c29tZXNhbHQ$eT/2lA".as_slice();
     let expected = if refused == 22 { whole } else { &whole[..8] };
-    Ok(is_written == (refused == 22) && room.asked == refused.min(21) && out.as_slice() == expected)
+    Ok(
+        is_written == (refused == 22)
+            && source.asked == refused.min(21)
+            && out.as_slice() == expected,
+    )
 }
 
 #[test]

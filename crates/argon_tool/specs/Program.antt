@@ -2,7 +2,7 @@
 use Rattle.std.specs.Prelude.{◌⊎◌, Bool, List, drop}
 use Rattle.host.specs.Faults.{Faults, no_faults}
 use Rattle.host.specs.Lines.{SaysOneLine}
-use Rattle.host.specs.Seen.{Seen, Text}
+use Rattle.host.specs.HostState.{HostState, Text}
 use Rattle.argon2_command.specs.Run.{Refuses, Succeeds}
 use Rattle.argon2_words.specs.Refusal.{line_of}
 use Rattle.argon2_words.specs.declared.refusal.Argon2Refusal.TheVariants as refusal
@@ -14,7 +14,7 @@ use Rattle.tools.specs.declared.arguments.WordsFault.TheVariants as words_fault
 -- the program ended with status 0: the run did what the words after its name ask for, and so the system is left. `words`
 -- are those of the process, of which the first is its name
 pub record ProgramSucceeds (words : List Text) (before after : World) : Type 0 where
-  pub seen : Seen
+  pub seen : HostState
   pub leaves : Leaves after seen
   pub succeeds : Succeeds (drop 1 words) (host_over before) seen
 
@@ -22,7 +22,7 @@ pub record ProgramSucceeds (words : List Text) (before after : World) : Type 0 w
 -- or memory for them was refused, which may come of any words. In each case its line was said, or could not be said and
 -- `lines` rose; and so the system is left. `faults` are the failed calls of the run
 pub record ProgramRefuses (tells : Bool) (words : List Text) (before after : World) (faults : Faults) : Type 0 where
-  pub seen : Seen
+  pub seen : HostState
   pub leaves : Leaves after seen
   pub refuses : Refuses tells (drop 1 words) (host_over before) seen no_faults faults
       ⊎ (LacksText words_fault.NotText words × SaysOneLine tells (line_of refusal.Usage) (host_over before) seen no_faults faults)

@@ -1,8 +1,8 @@
 //! What is handed on under each name is that command: calls of both, which are here to be proved and not to be made.
 ghost use Rattle.std.specs.Prelude.{◌≡◌, ◌^◌, IsTrue, map, string_bytes};
 ghost use Rattle.host.specs.Faults.{AreBelow};
-ghost use Rattle.host.specs.Grants.{GrantsAll};
-ghost use Rattle.host.specs.Seen.{IsFresh};
+ghost use Rattle.host.specs.GrantedCalls.{GrantsAll};
+ghost use Rattle.host.specs.HostState.{IsUnasked};
 ghost use Rattle.argon2_command.specs.Run as argon2_run;
 ghost use Rattle.scrypt_command.specs.Run as scrypt_run;
 
@@ -12,7 +12,7 @@ use std::alloc::Global;
 // A call of what is handed on as `argon2`.
 fn call_argon2<H: Host>(alloc: Global, words: &[String], host: &mut H) -> u8
     requires room { AreBelow (2 ^ 63) (H.faults host.old) }
-    requires fresh { IsTrue H.tells → IsFresh (H.seen host.old) }
+    requires fresh { IsTrue H.tells → IsUnasked (H.seen host.old) }
     requires granted { GrantsAll (H.grants host.old) }
     ensures succeeds { IsTrue H.tells → result ≡ 0 →
         argon2_run.Succeeds (map string_bytes words.now) (H.seen host.old) (H.seen host.new) }
@@ -25,7 +25,7 @@ fn call_argon2<H: Host>(alloc: Global, words: &[String], host: &mut H) -> u8
 // A call of what is handed on as `scrypt`.
 fn call_scrypt<H: Host>(alloc: Global, words: &[String], host: &mut H) -> u8
     requires room { AreBelow (2 ^ 63) (H.faults host.old) }
-    requires fresh { IsTrue H.tells → IsFresh (H.seen host.old) }
+    requires fresh { IsTrue H.tells → IsUnasked (H.seen host.old) }
     requires granted { GrantsAll (H.grants host.old) }
     ensures succeeds { IsTrue H.tells → result ≡ 0 →
         scrypt_run.Succeeds (map string_bytes words.now) (H.seen host.old) (H.seen host.new) }

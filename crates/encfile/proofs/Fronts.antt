@@ -6,7 +6,7 @@ use Rattle.std.specs.Cmp.Lexicographic.{bytes_decides}
 use Rattle.std.proofs.lemmas.Bool.Decides.{nat_tests}
 use Rattle.std.proofs.lemmas.List.{take-take}
 use Rattle.macs.specs.HmacSha256.{hmac_sha256}
-use Rattle.romix.specs.Allowance.{Admits, Allowance, with_keep_of}
+use Rattle.romix.specs.Allowance.{Admits, Allowance, sparse_under}
 use Rattle.romix.specs.Costs.{IsInRange, Parameters, parts_bytes}
 use Rattle.romix.specs.Faults.{exceeds_work, is_keep_above_n, keep_fault, sparse_limit_fault}
 use Rattle.romix.specs.FirstOf.{first_of}
@@ -76,22 +76,22 @@ by_none true work h = cc
 by_none false true h = cc
 by_none false false h = (refl, refl)
 
-pub costs_refusal-keep : (costs : Parameters) (allowed : Allowance) → keep_fault (with_keep_of allowed costs) ≡ Some fault.KeepAboveN
+pub costs_refusal-keep : (costs : Parameters) (allowed : Allowance) → keep_fault (sparse_under allowed costs) ≡ Some fault.KeepAboveN
     → costs_refusal costs allowed ≡ Some KeepAboveN
 costs_refusal-keep costs allowed told = above_n (is_keep allowed.keep) _ _ _ told
 
-pub costs_refusal-memory : (costs : Parameters) (allowed : Allowance) → keep_fault (with_keep_of allowed costs) ≡ None
-    → sparse_limit_fault (with_keep_of allowed costs) allowed.limits ≡ Some fault.Memory → costs_refusal costs allowed ≡ Some TooMuchMemory
+pub costs_refusal-memory : (costs : Parameters) (allowed : Allowance) → keep_fault (sparse_under allowed costs) ≡ None
+    → sparse_limit_fault (sparse_under allowed costs) allowed.limits ≡ Some fault.Memory → costs_refusal costs allowed ≡ Some TooMuchMemory
 costs_refusal-memory costs allowed kept told = rw (not_above (is_keep allowed.keep) _ kept, by_memory _ _ told) refl
 
-pub costs_refusal-work : (costs : Parameters) (allowed : Allowance) → keep_fault (with_keep_of allowed costs) ≡ None
-    → sparse_limit_fault (with_keep_of allowed costs) allowed.limits ≡ Some fault.Work → costs_refusal costs allowed ≡ Some TooMuchWork
+pub costs_refusal-work : (costs : Parameters) (allowed : Allowance) → keep_fault (sparse_under allowed costs) ≡ None
+    → sparse_limit_fault (sparse_under allowed costs) allowed.limits ≡ Some fault.Work → costs_refusal costs allowed ≡ Some TooMuchWork
 costs_refusal-work costs allowed kept told =
     let few = by_work _ _ told in
     rw (not_above (is_keep allowed.keep) _ kept, few.0, few.1) refl
 
-pub costs_refusal-none : (costs : Parameters) (allowed : Allowance) → keep_fault (with_keep_of allowed costs) ≡ None
-    → sparse_limit_fault (with_keep_of allowed costs) allowed.limits ≡ None → costs_refusal costs allowed ≡ None
+pub costs_refusal-none : (costs : Parameters) (allowed : Allowance) → keep_fault (sparse_under allowed costs) ≡ None
+    → sparse_limit_fault (sparse_under allowed costs) allowed.limits ≡ None → costs_refusal costs allowed ≡ None
 costs_refusal-none costs allowed kept admitted =
     let few = by_none _ _ admitted in
     rw (not_above (is_keep allowed.keep) _ kept, few.0, few.1) refl
@@ -99,10 +99,10 @@ costs_refusal-none costs allowed kept admitted =
 -- costs that are admitted are not refused
 pub costs_refusal-admitted : (costs : Parameters) (allowed : Allowance) → Admits allowed costs → costs_refusal costs allowed ≡ None
 costs_refusal-admitted costs allowed h =
-    let keep : is_keep_above_n (with_keep_of allowed costs) ≡ false = grind (arith, nat_tests, h.keep) in
-    let table : nat_lt allowed.limits.max_bytes (sparse_table_bytes (with_keep_of allowed costs)) ≡ false = grind (arith, nat_tests, h.memory.table) in
+    let keep : is_keep_above_n (sparse_under allowed costs) ≡ false = grind (arith, nat_tests, h.keep) in
+    let table : nat_lt allowed.limits.max_bytes (sparse_table_bytes (sparse_under allowed costs)) ≡ false = grind (arith, nat_tests, h.memory.table) in
     let parts : nat_lt allowed.limits.max_bytes (parts_bytes costs) ≡ false = grind (arith, nat_tests, h.memory.parts) in
-    let work : exceeds_work (with_keep_of allowed costs) allowed.limits ≡ false = grind (arith, nat_tests, h.work) in
+    let work : exceeds_work (sparse_under allowed costs) allowed.limits ≡ false = grind (arith, nat_tests, h.work) in
     rw (keep, table, parts, work) refl
 
 -- ---- why its costs are not allowed

@@ -1,7 +1,7 @@
 -- Why a file is refused before its text is looked at.
 use Rattle.std.specs.Prelude.{ℕ, Bool, List, [], ◌∷◌, length, nat_lt, bytes_eq, Option, Some, None, option_map, if◌then◌else◌}
 use Rattle.std.specs.Option.{option_or}
-use Rattle.romix.specs.Allowance.{Allowance, with_keep_of}
+use Rattle.romix.specs.Allowance.{Allowance, sparse_under}
 use Rattle.romix.specs.Costs.{Parameters}
 use Rattle.romix.specs.Faults.{exceeds_memory, exceeds_work, is_keep_above_n}
 use Rattle.romix.specs.FirstOf.{first_of}
@@ -40,9 +40,9 @@ format_refusal file = if nat_lt (length file) 96 then Some NotScryptData else op
 -- why the costs are not allowed, if they aren't: S is above N, or a limit is exceeded
 abbrev pub costs_refusal : Parameters → Allowance → Option FrontRefusal
 costs_refusal costs allowed = first_of (
-    (is_keep_above_n (with_keep_of allowed costs), KeepAboveN)
-    ∷ (exceeds_memory (with_keep_of allowed costs) allowed.limits, TooMuchMemory)
-    ∷ (exceeds_work (with_keep_of allowed costs) allowed.limits, TooMuchWork)
+    (is_keep_above_n (sparse_under allowed costs), KeepAboveN)
+    ∷ (exceeds_memory (sparse_under allowed costs) allowed.limits, TooMuchMemory)
+    ∷ (exceeds_work (sparse_under allowed costs) allowed.limits, TooMuchWork)
     ∷ [])
 
 -- why the file is refused whatever the passphrase, if it is: it has no valid header, or its costs are not allowed

@@ -1,6 +1,6 @@
 -- What is proved of the definitions alone.
 use Rattle.std.specs.Prelude.{◌≡◌, ℕ, List, take, Some, None}
-use Rattle.romix.specs.Allowance.{Allowance, with_keep_of}
+use Rattle.romix.specs.Allowance.{Allowance, sparse_under}
 use Rattle.romix.specs.Costs.{Parameters}
 use Rattle.romix.specs.Faults.{keep_fault, sparse_limit_fault}
 use Rattle.romix.specs.SparseCosts.{SparseParameters}
@@ -30,7 +30,7 @@ pub record IsDecidedInOrder (file : List ℕ) (allowed : Allowance) (passphrase 
 -- the costs that the header of a file says, with the S of an allowance; S may be any number here, also no power of
 -- two
 abbrev pub sparse_of : List ℕ → Allowance → SparseParameters
-sparse_of header allowed = with_keep_of allowed (costs_of header)
+sparse_of header allowed = sparse_under allowed (costs_of header)
 
 -- what refuses a file of 96 bytes or more: on its first 96 bytes, what `Header::read`, `Sparse::new`,
 -- `Sparse::admitted` and `Dec::open` answer, in this order. Nothing is said of an S that is no power of two from 1 to

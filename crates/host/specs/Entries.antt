@@ -1,7 +1,7 @@
 -- Bytes under names.
 use Rattle.std.specs.Prelude.{ℕ, List, Option, option_map, bytes_eq}
 use Rattle.std.specs.List.{find}
-use Rattle.host.specs.Seen.{Text}
+use Rattle.host.specs.HostState.{Text}
 
 -- a secret under a name
 pub record Entry : Type 0 where

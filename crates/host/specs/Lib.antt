@@ -1,8 +1,8 @@
 -- What contracts see of a host, and what each call leaves of it.
-pub mod Seen
-pub mod Asked
+pub mod HostState
+pub mod AskedSource
 pub mod Faults
-pub mod Grants
+pub mod GrantedCalls
 pub mod Secret
 pub mod Lines
 pub mod Output

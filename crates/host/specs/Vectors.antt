@@ -1,10 +1,10 @@
 -- A host whose fields differ from one another.
 use Rattle.std.specs.Prelude.{Some, None, codes, if◌then◌else◌}
 use Rattle.std.specs.Str.{bytes_eq}
-use Rattle.host.specs.Seen.{Seen, nothing_seen}
+use Rattle.host.specs.HostState.{HostState, nothing_seen}
 
 -- an input, an output so far, a secret in each place, and a salt
-abbrev pub host_shown : Seen
+abbrev pub host_shown : HostState
 host_shown = record nothing_seen {
   input = codes "abcd";
   output = codes "o";

@@ -1,9 +1,9 @@
 //! What a command asks of the world.
 ghost use Rattle.std.specs.Prelude.{◌≡◌, ◌-◌, ◌<◌, ◌^◌, Bool, true, [], take, length, option_map, IfOk, OnOk, OnErr, IsTrue};
 ghost use Rattle.host.specs.Faults.{Faults, AreBelow, input_failed, output_failed, secret_failed, salt_failed, line_failed, CountsFailure, CountsNoFailure};
-ghost use Rattle.host.specs.Grants.{Grants, with_input_opened, with_output_asked, with_output_opened, with_salt_asked, with_secret_asked};
+ghost use Rattle.host.specs.GrantedCalls.{GrantedCalls, with_input_opened, with_output_asked, with_output_opened, with_salt_asked, with_secret_asked};
 ghost use Rattle.host.specs.Secret.{secret_of, source_of, IsBeginning};
-ghost use Rattle.host.specs.Seen.{Seen, after_ask, after_pull, after_push, after_salt, after_say, after_ask_output, after_open_input, after_open_output, FitsWithin, KeepsOnErr, KeepsOnOk, TakesSome};
+ghost use Rattle.host.specs.HostState.{HostState, after_ask, after_pull, after_push, after_salt, after_say, after_ask_output, after_open_input, after_open_output, FitsWithin, KeepsOnErr, KeepsOnOk, TakesSome};
 
 use thiserror::Error;
 
@@ -47,13 +47,13 @@ pub trait Host {
     ghost tells: { Bool };
 
     // The bytes, names and lines.
-    ghost seen: { Self → Seen };
+    ghost seen: { Self → HostState };
 
     // How often each kind of call has failed.
     ghost faults: { Self → Faults };
 
     // The calls that are granted.
-    ghost grants: { Self → Grants };
+    ghost grants: { Self → GrantedCalls };
 
     /// Opens the input under this name, once; `None` is standard input.
     fn open_input(&mut self, name: Option<&str>) -> Result<(), HostFault>

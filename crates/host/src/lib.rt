@@ -15,10 +15,10 @@
 //! ```
 #![tactic(auto)]
 
-mod asked;
+mod asked_source;
 mod host;
 mod writing;
 
-pub use asked::{Asked, Name};
+pub use asked_source::{AskedSource, GhostName};
 pub use host::{Host, HostFault, Source};
 pub use writing::{push_all, refuse, write_output};

@@ -3,7 +3,7 @@ ghost use Rattle.std.specs.Prelude.{◌≡◌, ◌-◌, ◌<◌, ◌^◌, ◌⊎
 ghost use Rattle.host.specs.Faults.{AreBelow, output_failed, CountsFailure, CountsNoFailure};
 ghost use Rattle.host.specs.Lines.{SaysOneLine};
 ghost use Rattle.host.specs.Output.{IsCutShort, after_writing};
-ghost use Rattle.host.specs.Seen.{after_ask_output, after_push, KeepsOnOk};
+ghost use Rattle.host.specs.HostState.{after_ask_output, after_push, KeepsOnOk};
 
 use crate::host::{Host, HostFault};
 

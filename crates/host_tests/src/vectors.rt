@@ -1,12 +1,12 @@
 //! What the checker computes of the definitions in specs/: what each call leaves of a host, and what is counted.
 ghost use Rattle.std.specs.Prelude.{◌≡◌, [], ◌∷◌, Some, None, codes, false, true};
 ghost use Rattle.host.specs.Faults.{input_failed, line_failed, no_faults, output_failed, salt_failed, secret_failed};
-ghost use Rattle.host.specs.Grants.{nothing_asked, with_input_opened, with_output_asked, with_output_opened, with_salt_asked, with_secret_asked};
+ghost use Rattle.host.specs.GrantedCalls.{nothing_asked, with_input_opened, with_output_asked, with_output_opened, with_salt_asked, with_secret_asked};
 ghost use Rattle.host.specs.Lines.{after_line, faults_after_line};
 ghost use Rattle.host.specs.Entries.{lookup};
 ghost use Rattle.host.specs.Output.{after_writing};
 ghost use Rattle.host.specs.Secret.{secret_at};
-ghost use Rattle.host.specs.Seen.{after_ask, after_ask_output, after_open_input, after_open_output, after_pull, after_push, after_salt, after_say, env, file, stdin_once};
+ghost use Rattle.host.specs.HostState.{after_ask, after_ask_output, after_open_input, after_open_output, after_pull, after_push, after_salt, after_say, env, file, stdin_once};
 ghost use Rattle.host.specs.Vectors.{host_shown};
 
 // The next bytes of the input are gone; those that are written, and the lines that are said, come after those before them.

@@ -1,8 +1,8 @@
 -- What contracts see of a host in memory.
 use Rattle.std.specs.Prelude.{Bool, false, not, ℕ, ◌-◌, ◌^◌, List, [], ◌∷◌, Option, Some, None, is_none, is_some}
-use Rattle.host.specs.Seen.{SecretSource, Seen, Text}
+use Rattle.host.specs.HostState.{SecretSource, HostState, Text}
 use Rattle.host.specs.Faults.{Faults, no_faults}
-use Rattle.host.specs.Grants.{Grants}
+use Rattle.host.specs.GrantedCalls.{GrantedCalls}
 use Rattle.host.specs.Entries.{Entry, lookup}
 
 -- a host in memory: its bytes, names and lines, whether its input may be pulled from, its counts of failures, the
@@ -53,7 +53,7 @@ new_memory input stdin salt = record {
 }
 
 -- what contracts see of a host in memory: its bytes, names and lines
-abbrev pub memory_seen : Memory → Seen
+abbrev pub memory_seen : Memory → HostState
 memory_seen m = record {
   input = m.input;
   output = m.output;
@@ -70,7 +70,7 @@ memory_seen m = record {
 }
 
 -- the calls that a host in memory grants
-abbrev pub memory_grants : Memory → Grants
+abbrev pub memory_grants : Memory → GrantedCalls
 memory_grants m = record {
   input = is_none m.input_opened;
   readable = m.readable;

@@ -2,10 +2,10 @@
 //! values, it takes and gives bytes in pieces of given sizes, and it fails at a given call.
 #![tactic(auto)]
 
-mod growth;
+mod growth_memory;
 mod memory;
 mod named_secret;
 
-pub use growth::Growth;
+pub use growth_memory::GrowthMemory;
 pub use memory::MemoryHost;
 pub use named_secret::NamedSecret;

@@ -1,17 +1,17 @@
 //! A host in memory.
 ghost use Rattle.std.specs.Prelude.{◌≡◌, ◌-◌, ◌^◌, ◌<◌, ◌≤◌, ◌==◌, ℕ, true, List, take, drop, length, min, map, option_map, Some, IfOk, OnOk, OnErr, string_bytes, bytes_eq, if◌then◌else◌};
-ghost use Rattle.host.specs.Asked.{asked_source, name_bytes};
+ghost use Rattle.host.specs.AskedSource.{asked_source, name_bytes};
 ghost use Rattle.host.specs.Faults.{AreBelow, input_failed, line_failed, output_failed};
-ghost use Rattle.host.specs.Grants.{with_input_opened, with_output_asked, with_output_opened};
+ghost use Rattle.host.specs.GrantedCalls.{with_input_opened, with_output_asked, with_output_opened};
 ghost use Rattle.host.specs.Entries.{lookup};
 ghost use Rattle.memory_host.specs.Memory.{Memory, memory_seen, memory_faults, memory_grants, new_memory, with_variable, with_file};
 ghost use Rattle.memory_host.specs.Inside.{next_call};
 ghost use Rattle.host.specs.Secret.{secret_of};
-ghost use Rattle.host.specs.Seen.{after_ask_output, after_open_input, after_open_output, after_push, after_say};
+ghost use Rattle.host.specs.HostState.{after_ask_output, after_open_input, after_open_output, after_push, after_say};
 
-use crate::growth::Growth;
+use crate::growth_memory::GrowthMemory;
 use crate::named_secret::{NamedSecret, find, put_first};
-use host::{Asked, Host, HostFault, Name, Source};
+use host::{AskedSource, GhostName, Host, HostFault, Source};
 use std::alloc::{AllocError, Global};
 use std::marker::Model;
 
@@ -29,8 +29,8 @@ pub struct MemoryHost {
     output: Vec<u8>,
     input_name: Option<Option<String>>,
     output_name: Option<Option<String>>,
-    output_asked: Option<Option<Name>>,
-    asked: Option<Asked>,
+    output_asked: Option<Option<GhostName>>,
+    asked: Option<AskedSource>,
     salted: bool,
     readable: bool,
     lines: Vec<String>,
@@ -132,7 +132,7 @@ impl MemoryHost {
 
     /// Gives an environment variable a value, as [`MemoryHost::set_env`] does, with memory from `growth`.
     /// Where that is refused no value is given, and the answer is `AllocError`.
-    pub fn set_env_with<G: Growth>(
+    pub fn set_env_with<G: GrowthMemory>(
         &mut self,
         growth: &mut G,
         name: String,
@@ -158,7 +158,7 @@ impl MemoryHost {
 
     /// Gives a secret file its bytes, as [`MemoryHost::set_file`] does, with memory from `growth`. Where
     /// that is refused no bytes are given, and the answer is `AllocError`.
-    pub fn set_file_with<G: Growth>(
+    pub fn set_file_with<G: GrowthMemory>(
         &mut self,
         growth: &mut G,
         name: String,
@@ -248,7 +248,7 @@ impl MemoryHost {
 
     /// Opens the input, as [`Host::open_input`] does, with memory from `growth` for its name. A refusal is
     /// a fault, which is counted; the input is not opened then.
-    pub fn open_input_with<G: Growth>(
+    pub fn open_input_with<G: GrowthMemory>(
         &mut self,
         growth: &mut G,
         name: Option<&str>,
@@ -275,7 +275,7 @@ impl MemoryHost {
 
     /// Opens the output, as [`Host::open_output`] does, with memory from `growth` for its name. A refusal
     /// is a fault, which is counted; the output was asked for then, and is not opened.
-    pub fn open_output_with<G: Growth>(
+    pub fn open_output_with<G: GrowthMemory>(
         &mut self,
         growth: &mut G,
         name: Option<&str>,
@@ -303,7 +303,11 @@ impl MemoryHost {
 
     /// Takes a beginning of the bytes, as [`Host::push`] does, with memory from `growth`. A refusal is a
     /// fault, which is counted; no byte is taken then.
-    pub fn push_with<G: Growth>(&mut self, growth: &mut G, bytes: &[u8]) -> Result<usize, HostFault>
+    pub fn push_with<G: GrowthMemory>(
+        &mut self,
+        growth: &mut G,
+        bytes: &[u8],
+    ) -> Result<usize, HostFault>
         requires room { AreBelow (2 ^ 64 - 1) (memory_faults self.old) }
         ensures bound { IfOk result (λ n. n ≤ length bytes.now) }
         ensures progress { IfOk result (λ n. 0 < length bytes.now → 0 < n) }
@@ -324,7 +328,7 @@ impl MemoryHost {
 
     /// Says a line, as [`Host::say`] does, with memory from `growth`. A refusal is a fault, which is
     /// counted; the line is not said then.
-    pub fn say_with<G: Growth>(&mut self, growth: &mut G, line: &str) -> Result<(), HostFault>
+    pub fn say_with<G: GrowthMemory>(&mut self, growth: &mut G, line: &str) -> Result<(), HostFault>
         requires room { AreBelow (2 ^ 64 - 1) (memory_faults self.old) }
         ensures counts { OnOk result (memory_faults self.new ≡ memory_faults self.old) }
         ensures counted { OnErr result (memory_faults self.new ≡ line_failed (memory_faults self.old)) }
@@ -356,17 +360,20 @@ fn name_kept(name: &Option<Option<String>>) -> Option<Option<&str>>
 }
 
 // A name as it was asked for, of which contracts alone see all bytes.
-fn name_asked(name: Option<&str>) -> Option<Name>
+fn name_asked(name: Option<&str>) -> Option<GhostName>
     ensures asked { option_map name_bytes result ≡ option_map (λ n. n.now) name.entry }
 {
     match name {
         None => None,
-        Some(text) => Some(Name::of(text)),
+        Some(text) => Some(GhostName::of(text)),
     }
 }
 
 // A name to be kept, with memory from `growth`.
-fn keep_name<G: Growth>(growth: &mut G, name: Option<&str>) -> Result<Option<String>, AllocError>
+fn keep_name<G: GrowthMemory>(
+    growth: &mut G,
+    name: Option<&str>,
+) -> Result<Option<String>, AllocError>
     ensures kept { IfOk result (λ kept.
         option_map string_bytes kept ≡ option_map (λ n. n.now) name.entry) }
 {
@@ -425,7 +432,7 @@ impl Host for MemoryHost {
     }
 
     fn secret(&mut self, source: Source<'_>, buf: &mut [u8]) -> Result<usize, HostFault> {
-        self.asked = Some(Asked::of(&source));
+        self.asked = Some(AskedSource::of(&source));
         if !self.is_failing()
             && let Some(bytes) = self.secret_bytes(source)
         {

@@ -2,12 +2,12 @@
 ghost use Rattle.std.specs.Prelude.{◌≡◌, ◌∷◌, OnOk, OnErr, option_map, string_bytes, bytes_eq};
 ghost use Rattle.host.specs.Entries.{Entry, lookup};
 
-use crate::growth::Growth;
+use crate::growth_memory::GrowthMemory;
 use std::alloc::AllocError;
 use std::marker::Model;
 
 /// The bytes of a secret and its name, as a [`MemoryHost`](crate::MemoryHost) keeps it. A source of memory
-/// of one's own passes it on as it is: [`Growth::add_first`]. Contracts see an `Entry`.
+/// of one's own passes it on as it is: [`GrowthMemory::add_first`]. Contracts see an `Entry`.
 #[derive(Drop)]
 pub struct NamedSecret {
     name: String,
@@ -35,7 +35,7 @@ impl NamedSecret {
 }
 
 // Puts a secret before the others, with memory from `growth`.
-pub(crate) fn put_first<G: Growth>(
+pub(crate) fn put_first<G: GrowthMemory>(
     growth: &mut G,
     entries: &mut Vec<NamedSecret>,
     name: String,

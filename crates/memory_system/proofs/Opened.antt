@@ -1,6 +1,6 @@
 -- A stream that was opened in a system in memory.
 use Rattle.std.proofs.Common.{◌≡◌, ℕ, List, Option, Some, refl, sym, ap, ◌∙◌, subst}
-use Rattle.host.specs.Seen.{Text}
+use Rattle.host.specs.HostState.{Text}
 use Rattle.memory_system.specs.Memory.{Memory}
 use Rattle.tools.specs.World.{Opens, Source, World, gives, opened_source, stands_at, with_source}
 use Rattle.tools.specs.declared.system.Reading.{Reading}

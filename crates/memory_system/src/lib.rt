@@ -5,7 +5,7 @@
 mod contents;
 mod memory_source;
 mod system;
-mod tries;
+mod unbounded_count;
 
 pub use contents::{Contents, Identities};
 pub use system::{MADE, MemorySystem};

@@ -1,10 +1,10 @@
 //! A stream of a system in memory that is read.
 ghost use Rattle.std.specs.Prelude.{◌≡◌, ◌<◌, ◌≤◌, [], None, length, min, option_map, take, IfOk, OnErr};
-ghost use Rattle.host.specs.Asked.{name_bytes};
+ghost use Rattle.host.specs.AskedSource.{name_bytes};
 ghost use Rattle.memory_system.specs.Memory.{unopened_source};
 ghost use Rattle.tools.specs.World.{after_reading, opened_source};
 
-use host::Name;
+use host::GhostName;
 use std::io;
 use std::io::ErrorKind;
 use std::marker::Model;
@@ -13,7 +13,7 @@ use std::marker::Model;
 /// that was taken, and whether a read found the end. Contracts see a `Source`.
 #[derive(Drop)]
 pub struct MemorySource {
-    opened: Option<Option<Name>>,
+    opened: Option<Option<GhostName>>,
     bytes: Vec<u8>,
     taken: usize,
     is_ended: bool,
@@ -21,7 +21,7 @@ pub struct MemorySource {
 
 impl Model for MemorySource {
     ghost use Rattle.std.specs.Prelude.{drop, length, option_map, ◌≤◌};
-    ghost use Rattle.host.specs.Asked.{name_bytes};
+    ghost use Rattle.host.specs.AskedSource.{name_bytes};
     ghost use Rattle.tools.specs.World.{Source};
 
     ghost Value = { Source };
@@ -77,12 +77,12 @@ impl MemorySource {
 }
 
 /// A name as it was asked for, of which contracts alone see all bytes.
-pub fn name_asked(name: Option<&str>) -> Option<Name>
+pub fn name_asked(name: Option<&str>) -> Option<GhostName>
     ensures asked { option_map name_bytes result ≡ option_map (λ n. n.now) name.entry }
 {
     match name {
         None => None,
-        Some(text) => Some(Name::of(text)),
+        Some(text) => Some(GhostName::of(text)),
     }
 }
 

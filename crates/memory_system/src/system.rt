@@ -6,8 +6,8 @@ ghost use Rattle.tools.specs.declared.system.Reading.TheVariants as reading;
 
 use crate::contents::{Contents, Identities, Named, find};
 use crate::memory_source::{MemorySource, fill, name_asked};
-use crate::tries::Tries;
-use host::{HostFault, Name};
+use crate::unbounded_count::UnboundedCount;
+use host::{GhostName, HostFault};
 use std::alloc::{AllocError, Global};
 use std::cell::Cell;
 use std::io;
@@ -59,7 +59,7 @@ pub struct MemorySystem {
     secret: MemorySource,
     random: MemorySource,
     output: Vec<u8>,
-    output_asked: Option<Option<Name>>,
+    output_asked: Option<Option<GhostName>>,
     is_new: bool,
     is_emptied: bool,
     is_kept: bool,
@@ -68,7 +68,7 @@ pub struct MemorySystem {
     lines: Vec<String>,
     opened: OpenedFiles,
     opened_then: OpenedFiles,
-    tries: Tries,
+    tries: UnboundedCount,
     read_size: usize,
     write_size: usize,
     interruptions: u64,
@@ -79,7 +79,7 @@ pub struct MemorySystem {
 
 impl Model for MemorySystem {
     ghost use Rattle.std.specs.Prelude.{◌<◌, map, option_map, string_bytes};
-    ghost use Rattle.host.specs.Asked.{name_bytes};
+    ghost use Rattle.host.specs.AskedSource.{name_bytes};
     ghost use Rattle.memory_system.specs.Memory.{Memory};
 
     ghost Value = { Memory };
@@ -137,7 +137,7 @@ impl MemorySystem {
             lines: Vec::new(alloc),
             opened: NO_FILES,
             opened_then: NO_FILES,
-            tries: Tries::new(),
+            tries: UnboundedCount::new(),
             read_size: usize::MAX,
             write_size: usize::MAX,
             interruptions: 0,

@@ -13,8 +13,8 @@ use Rattle.std_alloc.proofs.BoxSteps.Form.{Bx}
 use Rattle.std_heap.specs.contracts.Global as Heap
 use Rattle.std_heap.specs.contracts.GlobalAllocator.TheImpl.{ghosts, dict}
 use Rattle.std_heap.proofs.Global.TheLaws as heap
-use Rattle.pikhsen_c.specs.contracts.stream.Running as running
-use Rattle.pikhsen_c.proofs.stream.Running.TheLaws as running'
+use Rattle.pikhsen_c.specs.contracts.stream.StreamState as running
+use Rattle.pikhsen_c.proofs.stream.StreamState.TheLaws as running'
 
 -- a type as a call passes it
 abbrev pub X : RattleType
@@ -29,7 +29,7 @@ LX = arg_laws (raw (layout running.the_row)) no running.the_row running'.the_row
 abbrev pub LA : Laws A
 LA = arg_laws (raw (layout Heap.the_row)) no Heap.the_row heap.the_row_laws refl
 
--- neither a `Running` nor the heap's handle has anything to do when it is dropped
+-- neither a `StreamState` nor the heap's handle has anything to do when it is dropped
 abbrev pub nothing-to-drop : RattleType → Dict
 nothing-to-drop T = impl ("pikhsen_c::Destruct++none::drop" ∷ []) (tcons (layout T) tnil) dnil
 

@@ -135,7 +135,7 @@ pub record HasOtherKeyedPassword (text password secret associated : List ℕ) (m
 
 -- the text is that of a value for which this is the first fault of the lengths and the limits, or none; the secret
 -- and the associated data have these lengths
-pub record IsKeyedJudged (first : Option VerifyFault) (text password : List ℕ)
+pub record HasKeyedFault (first : Option VerifyFault) (text password : List ℕ)
     (secret_len associated_len max_kib max_ops : ℕ) : Type 0 where
   pub value : Value
   pub valid : IsValue value
@@ -146,7 +146,7 @@ pub record IsKeyedJudged (first : Option VerifyFault) (text password : List ℕ)
 -- nothing else refuses it; the secret and the associated data have these lengths
 abbrev pub MayLackKeyedMemory : List ℕ → List ℕ → ℕ → ℕ → ℕ → ℕ → Type 0
 MayLackKeyedMemory text password secret_len associated_len max_kib max_ops =
-    HasNumbers text ⊎ IsKeyedJudged None text password secret_len associated_len max_kib max_ops
+    HasNumbers text ⊎ HasKeyedFault None text password secret_len associated_len max_kib max_ops
 
 -- what each number of the test of a password says of the text, with a secret value K and associated data X (3.1)
 pub record IsVerdict (text password secret associated : List ℕ) (max_kib max_ops status : ℕ) : Type 0 where
@@ -155,13 +155,13 @@ pub record IsVerdict (text password secret associated : List ℕ) (max_kib max_o
   pub not_in_grammar : status ≡ not_encoded → IsText text → ⊥
   pub outside : status ≡ out_of_range → IsText text × (IsTextInRange text → ⊥)
   pub password_len : status ≡ long_password
-      → IsKeyedJudged (Some verify.PasswordLength) text password (length secret) (length associated) max_kib max_ops
+      → HasKeyedFault (Some verify.PasswordLength) text password (length secret) (length associated) max_kib max_ops
   pub input_len : status ≡ long_input
-      → IsKeyedJudged (Some verify.InputLength) text password (length secret) (length associated) max_kib max_ops
+      → HasKeyedFault (Some verify.InputLength) text password (length secret) (length associated) max_kib max_ops
   pub memory_limit : status ≡ above_memory_limit
-      → IsKeyedJudged (Some verify.MemoryLimit) text password (length secret) (length associated) max_kib max_ops
+      → HasKeyedFault (Some verify.MemoryLimit) text password (length secret) (length associated) max_kib max_ops
   pub work_limit : status ≡ above_work_limit
-      → IsKeyedJudged (Some verify.WorkLimit) text password (length secret) (length associated) max_kib max_ops
+      → HasKeyedFault (Some verify.WorkLimit) text password (length secret) (length associated) max_kib max_ops
   pub memory : status ≡ out_of_memory
       → MayLackKeyedMemory text password (length secret) (length associated) max_kib max_ops
 
@@ -182,7 +182,7 @@ pub record CountsTest (text password : List ℕ) (max_ops before after : ℕ) : 
   pub admitted : work (parameters_with value password) ≤ max_ops
 
 -- no block function is run before every refusal is ruled out, and then those of one hash, also for a wrong password
-pub record WorksToVerify (text password : List ℕ) (max_ops status before after : ℕ) : Type 0 where
+pub record CountsWorkToVerify (text password : List ℕ) (max_ops status before after : ℕ) : Type 0 where
   pub no_work : status ≢ 0 → status ≢ mismatch → after ≡ before
   pub count : status ≡ 0 → CountsTest text password max_ops before after
   pub count_if_wrong : status ≡ mismatch → CountsTest text password max_ops before after

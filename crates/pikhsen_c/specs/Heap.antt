@@ -3,7 +3,7 @@
 use Rattle.std.specs.Prelude.{◌≡◌, ◌≢◌, ◌⊎◌, ℕ, ◌+◌, Bool, true, false, List, None}
 use Rattle.argon_text.specs.EncodedText.{IsTextOf}
 use Rattle.argon_text.specs.Value.{IsValue, Value}
-use Rattle.pikhsen_c.specs.Argon2.{IsKeyedJudged}
+use Rattle.pikhsen_c.specs.Argon2.{HasKeyedFault}
 use Rattle.pikhsen_c.specs.Status.{mismatch, out_of_memory, wrong_buffer, wrong_passphrase}
 use Rattle.pikhsen_c.specs.declared.heap.Heap.{Heap}
 use Rattle.pikhsen_c.specs.declared.heap.Requests.{Requests}
@@ -44,7 +44,7 @@ pub record AsksOnce {Source : Type 0} (ask : Bool → Source) (status : ℕ) (be
 
 -- the same of a file that is opened, or a password that is tested, where it was granted, too, where a number is told
 -- late: that the passphrase, the rest of the file or the password is wrong
-pub record AsksToOpen {Source : Type 0} (IsLate : Type 0) (ask : Bool → Source) (status : ℕ) (before after : Source)
+pub record AsksToCheck {Source : Type 0} (IsLate : Type 0) (ask : Bool → Source) (status : ℕ) (before after : Source)
     : Type 0 where
   pub asked : status ≡ 0 → after ≡ ask true
   pub asked_if_late : IsLate → after ≡ ask true
@@ -71,7 +71,7 @@ pub record AsksToVerify {Source : Type 0} (read : Bool → Source) (hash : Sourc
       → (value : Value) × IsValue value × IsTextOf value text × (after ≡ hash (read true) value true)
   pub unasked : status ≢ 0 → status ≢ mismatch → status ≢ out_of_memory → after ≡ read true
   pub refused : status ≡ out_of_memory → (after ≡ read false)
-      ⊎ ((judged : IsKeyedJudged None text password secret_len associated_len max_kib max_ops)
+      ⊎ ((judged : HasKeyedFault None text password secret_len associated_len max_kib max_ops)
       × (after ≡ hash (read true) judged.value false))
 
 -- ---- what was asked of the heap
@@ -93,12 +93,12 @@ pub record AsksToRead (status : ℕ) (before after : Heap) : Type 0 where
 -- ---- how much work was done: of block functions of Argon2, or of cores of scrypt
 
 -- that of one hash or derivation where the call did its work, and none at any refusal
-pub record WorksOnce (work status before after : ℕ) : Type 0 where
+pub record CountsWorkOnce (work status before after : ℕ) : Type 0 where
   pub no_work : status ≢ 0 → after ≡ before
   pub count : status ≡ 0 → after ≡ before + work
 
 -- the same of a file that is opened, or a password that is tested, where it was done, too, where a number is told late
-pub record WorksToOpen (IsLate : Type 0) (work status before after : ℕ) : Type 0 where
+pub record CountsWorkToCheck (IsLate : Type 0) (work status before after : ℕ) : Type 0 where
   pub no_work : status ≢ 0 → (IsLate → ⊥) → after ≡ before
   pub count : status ≡ 0 → after ≡ before + work
   pub count_if_late : IsLate → after ≡ before + work

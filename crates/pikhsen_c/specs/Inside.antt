@@ -1,4 +1,4 @@
 -- Definitions that private contracts and proofs cite; no public contract reaches them.
 pub mod Numbers
-pub mod Running
+pub mod StreamState
 pub mod Settings

@@ -4,7 +4,7 @@ pub mod Message
 pub mod Argon2
 pub mod Scrypt
 pub mod File
-pub mod Kept
+pub mod StreamBox
 pub mod Stream
 pub mod Heap
 pub mod Settings

@@ -6,27 +6,27 @@ use Rattle.encfile.specs.Encrypting.{HasEncrypted}
 use Rattle.encfile.specs.Decrypting.{HasRead}
 use Rattle.pikhsen_c.specs.File.{encrypt_status, opening_status}
 use Rattle.pikhsen_c.specs.Status.{no_stream, short_file}
-use Rattle.pikhsen_c.specs.declared.stream.Running.{Running}
-use Rattle.pikhsen_c.specs.declared.stream.Running.TheVariants as running
+use Rattle.pikhsen_c.specs.declared.stream.StreamState.{StreamState}
+use Rattle.pikhsen_c.specs.declared.stream.StreamState.TheVariants as running
 use Rattle.pikhsen_c.specs.declared.stream.PikhsenStream.{PikhsenStream}
 
 -- it is an encryption, which has encrypted this text so far
-abbrev pub Encrypts : Running → List ℕ → List ℕ → Parameters → List ℕ → Type 0
+abbrev pub Encrypts : StreamState → List ℕ → List ℕ → Parameters → List ℕ → Type 0
 Encrypts (running.Enc enc) passphrase salt costs text = HasEncrypted enc passphrase salt costs text
 Encrypts (running.Dec dec) passphrase salt costs text = ⊥
 Encrypts (running.Over zeros) passphrase salt costs text = ⊥
 
 -- it is a decryption, which has read this file so far
-abbrev pub Reads : Running → List ℕ → List ℕ → Type 0
+abbrev pub Reads : StreamState → List ℕ → List ℕ → Type 0
 Reads (running.Enc enc) passphrase file = ⊥
 Reads (running.Dec dec) passphrase file = HasRead dec passphrase file
 Reads (running.Over zeros) passphrase file = ⊥
 
-abbrev KeptEncrypts : Option Running → List ℕ → List ℕ → Parameters → List ℕ → Type 0
+abbrev KeptEncrypts : Option StreamState → List ℕ → List ℕ → Parameters → List ℕ → Type 0
 KeptEncrypts None passphrase salt costs text = ⊥
 KeptEncrypts (Some run) passphrase salt costs text = Encrypts run passphrase salt costs text
 
-abbrev KeptReads : Option Running → List ℕ → List ℕ → Type 0
+abbrev KeptReads : Option StreamState → List ℕ → List ℕ → Type 0
 KeptReads None passphrase file = ⊥
 KeptReads (Some run) passphrase file = Reads run passphrase file
 

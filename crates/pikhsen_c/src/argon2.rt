@@ -6,10 +6,10 @@ ghost use Rattle.argon.specs.Inputs.{inputs_of};
 ghost use Rattle.argon.specs.Kind.{type_number};
 ghost use Rattle.argon.specs.Range.{IsInRangeWithAnyPassword, admission};
 ghost use Rattle.pikhsen_c.specs.Argon2.{hash_status, inputs_given, kind_numbered, limits_status, parameters_given, params_status};
-ghost use Rattle.pikhsen_c.specs.Heap.{AsksOnce, WorksOnce, asked_for_matrix};
+ghost use Rattle.pikhsen_c.specs.Heap.{AsksOnce, CountsWorkOnce, asked_for_matrix};
 ghost use Rattle.pikhsen_c.specs.Inside.Numbers.{IsEarly, number_told};
 ghost use Rattle.pikhsen_c.specs.Inside.Settings.{parameters_of};
-ghost use Rattle.pikhsen_c.specs.Status.{TellsFirst, out_of_memory, KeepsAtRefusal};
+ghost use Rattle.pikhsen_c.specs.Status.{TellsFirst, KeepsAtRefusal};
 
 use crate::call_memory::CallMemory;
 use crate::machine::Machine;
@@ -123,7 +123,7 @@ fn admitted(params: &Params, settings: &Settings) -> Result<(), u32>
 }
 
 /// The parameters of a hash, if nothing refuses it before memory is asked for; or the number of the first fault.
-pub(crate) fn tested_hash(
+pub(crate) fn checked_params(
     settings: &Settings,
     tag_len: usize,
     salt_len: usize,
@@ -175,10 +175,10 @@ fn hash_in<S: CallMemory>(
         (length out.old) (length inputs.now.salt.now) (length inputs.now.password.now))
         settings.now.max_kib settings.now.max_ops) result source.old source.new }
     // No hash begins before every refusal is ruled out, and then one.
-    ensures works { WorksOnce (work (parameters_of settings.now
+    ensures works { CountsWorkOnce (work (parameters_of settings.now
         (length out.old) (length inputs.now.salt.now) (length inputs.now.password.now))) result ticks.old ticks.new }
 {
-    let params = match tested_hash(
+    let params = match checked_params(
         settings,
         out.len(),
         inputs.salt.len(),
@@ -226,7 +226,7 @@ pub extern "C" fn pikhsen_argon2_hash(
     ensures asked { AsksOnce (asked_for_matrix machine.heap) result.status machine.heap result.machine.heap }
     ensures no_cores { result.machine.cores ≡ machine.cores }
     // No hash begins before every refusal is ruled out, and then one.
-    ensures works { WorksOnce (work (parameters_given kind version passes lanes memory_kib
+    ensures works { CountsWorkOnce (work (parameters_given kind version passes lanes memory_kib
         (length out.old) (length salt.now) (length password.now)))
         result.status machine.blocks result.machine.blocks }
 {

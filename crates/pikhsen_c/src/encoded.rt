@@ -1,16 +1,13 @@
 //! Encoded texts of hashes by Argon2.
-ghost use Rattle.std.specs.Prelude.{◌≡◌, ◌≢◌, ◌+◌, ◌^◌, ◌++◌, ◌<◌, ◌≤◌, ◌∷◌, [], length, replicate, take, drop, IfOk, IfErr, Ok};
-ghost use Rattle.argon.specs.Argon2.{argon2_tag};
+ghost use Rattle.std.specs.Prelude.{◌≡◌, ◌≢◌, ◌+◌, ◌^◌, ◌++◌, ◌<◌, ◌≤◌, ◌∷◌, [], length, take, drop, Ok};
 ghost use Rattle.argon.specs.Counts.{work};
-ghost use Rattle.argon.specs.Range.{IsInRangeWithAnyPassword, admission};
-ghost use Rattle.argon_text.specs.EncodedText.{encoded_text};
-ghost use Rattle.pikhsen_c.specs.Argon2.{encoded_hash, encoded_keyed_hash, encoded_keyed_status, encoded_status, hash_status, inputs_given, kind_numbered, parameters_given, text_of_zeros, value_given};
-ghost use Rattle.pikhsen_c.specs.Heap.{AsksTwice, WorksOnce, asked_for_matrix, asked_for_text};
+ghost use Rattle.pikhsen_c.specs.Argon2.{encoded_hash, encoded_keyed_hash, encoded_keyed_status, encoded_status, hash_status, parameters_given, text_of_zeros};
+ghost use Rattle.pikhsen_c.specs.Heap.{AsksTwice, CountsWorkOnce, asked_for_matrix, asked_for_text};
 ghost use Rattle.pikhsen_c.specs.Inside.Settings.{parameters_of};
 ghost use Rattle.pikhsen_c.specs.Message.{IsWritten};
 ghost use Rattle.pikhsen_c.specs.Status.{out_of_memory, KeepsAtRefusal, TellsNoLength};
 
-use crate::argon2::{Settings, tested_hash};
+use crate::argon2::{Settings, checked_params};
 use crate::call_memory::CallMemory;
 use crate::machine::Machine;
 use crate::status;
@@ -97,11 +94,11 @@ pub(crate) fn encode_in<S: CallMemory>(
         (λ source. S.after_matrix source parameters settings.now.max_kib settings.now.max_ops)
         (encoded_keyed_status parameters salt.now (length secret.now) (length associated.now)
         settings.now.max_kib settings.now.max_ops (length out.old)) result source.old source.new }
-    ensures works { WorksOnce (work (parameters_of settings.now tag_len (length salt.now) (length password.now)))
+    ensures works { CountsWorkOnce (work (parameters_of settings.now tag_len (length salt.now) (length password.now)))
         result ticks.old ticks.new }
 {
     *text_len = 0;
-    let params = match tested_hash(
+    let params = match checked_params(
         settings,
         tag_len,
         salt.len(),
@@ -172,7 +169,7 @@ pub extern "C" fn pikhsen_argon2_encoded(
         result.status machine.heap result.machine.heap }
     ensures no_cores { result.machine.cores ≡ machine.cores }
     // No hash begins before every refusal is ruled out, and then one.
-    ensures works { WorksOnce (work (parameters_given kind version passes lanes memory_kib
+    ensures works { CountsWorkOnce (work (parameters_given kind version passes lanes memory_kib
         tag_len (length salt.now) (length password.now))) result.status machine.blocks result.machine.blocks }
 {
     let mut machine = machine;
@@ -233,7 +230,7 @@ pub extern "C" fn pikhsen_argon2_encoded_keyed(
         result.status machine.heap result.machine.heap }
     ensures no_cores { result.machine.cores ≡ machine.cores }
     // No hash begins before every refusal is ruled out, and then one.
-    ensures works { WorksOnce (work (parameters_given kind version passes lanes memory_kib
+    ensures works { CountsWorkOnce (work (parameters_given kind version passes lanes memory_kib
         tag_len (length salt.now) (length password.now))) result.status machine.blocks result.machine.blocks }
 {
     let mut machine = machine;

@@ -7,9 +7,9 @@ ghost use Rattle.encfile.specs.Encrypting.{HasEncrypted};
 ghost use Rattle.encfile.specs.Header.{IsHeaderOf, costs_of, salt_of};
 ghost use Rattle.encfile.specs.HeaderFaults.{header_fault};
 ghost use Rattle.pikhsen_c.specs.File.{cores_to_open, encrypt_status, front_status, header_status, lengths_status, number_of};
-ghost use Rattle.pikhsen_c.specs.Heap.{AsksOnce, AsksToOpen, WorksOnce, WorksToOpen, asked_for_workspace};
+ghost use Rattle.pikhsen_c.specs.Heap.{AsksOnce, AsksToCheck, CountsWorkOnce, CountsWorkToCheck, asked_for_workspace};
 ghost use Rattle.pikhsen_c.specs.Inside.Numbers.{IsEarly, number_told, IsRefusal};
-ghost use Rattle.pikhsen_c.specs.Inside.Settings.{ask_under, cores_of_settings, costs_of_settings, encryption_refusal, front_refusal, length_lent, opening_refusal, text_lent, HasFront};
+ghost use Rattle.pikhsen_c.specs.Inside.Settings.{asks_workspace, cores_of_settings, costs_of_settings, encryption_refusal, front_refusal, length_to_encrypt, opening_refusal, text_to_encrypt, HasFront};
 ghost use Rattle.pikhsen_c.specs.Scrypt.{costs_given, sparse_given, cores_given};
 ghost use Rattle.pikhsen_c.specs.Status.{TellsFirst, TellsFirstOrLate, damaged, long_text, wrong_passphrase, KeepsAtRefusal, TellsNoLength};
 
@@ -73,7 +73,7 @@ pub extern "C" fn pikhsen_scrypt_info(file: &[u8], costs: &mut PikhsenScryptCost
 }
 
 // Whether salt, text and file have lengths that fit, or the number of the first fault.
-fn tested_lengths(salt: &[u8], text_len: usize, out_len: usize) -> Result<(), u32>
+fn check_lengths(salt: &[u8], text_len: usize, out_len: usize) -> Result<(), u32>
     ensures status { lengths_status (length salt.now) text_len out_len ≡ number_told result }
     ensures salt { OnOk result (length salt.now ≡ 32) }
     ensures text { OnOk result (text_len < 2 ^ 60) }
@@ -93,7 +93,7 @@ fn tested_lengths(salt: &[u8], text_len: usize, out_len: usize) -> Result<(), u3
 }
 
 /// What an encryption is refused for before memory is asked for, if it is, by its number.
-pub(crate) fn tested_encryption(
+pub(crate) fn check_encryption(
     settings: &ScryptSettings,
     salt: &[u8],
     text_len: usize,
@@ -103,14 +103,14 @@ pub(crate) fn tested_encryption(
     ensures early { IfErr result IsEarly }
 {
     let costs = costs_of(settings.log_n, settings.r, settings.p)?;
-    tested_lengths(salt, text_len, out_len)?;
+    check_lengths(salt, text_len, out_len)?;
     admitted(&costs, &settings.limits)?;
     Ok(())
 }
 
 /// The encryption of a text of this length, of which nothing is fed yet, with memory from `source`: one request. Or the
 /// number of what it is refused for.
-pub(crate) fn begun<S: CallMemory>(
+pub(crate) fn start_encryption<S: CallMemory>(
     source: &mut S,
     settings: &ScryptSettings,
     passphrase: &[u8],
@@ -126,14 +126,15 @@ pub(crate) fn begun<S: CallMemory>(
         (number_told result) }
     ensures at_least_1 { IfErr result IsRefusal }
     // Nothing is asked of the source before every other refusal is ruled out, and then it is asked once.
-    ensures asked { AsksOnce (ask_under S.after_workspace settings.now.limits (costs_of_settings settings.now) source.old)
+    ensures asked { AsksOnce (asks_workspace S.after_workspace settings.now.limits
+        (costs_of_settings settings.now) source.old)
         (number_told result) source.old source.new }
     // No derivation begins before every refusal is ruled out, and then one.
-    ensures works { WorksOnce (cores_of_settings settings.now passphrase.now salt.now)
+    ensures works { CountsWorkOnce (cores_of_settings settings.now passphrase.now salt.now)
         (number_told result) ticks.old ticks.new }
 {
     let costs = costs_of(settings.log_n, settings.r, settings.p)?;
-    tested_lengths(salt, text_len, out_len)?;
+    check_lengths(salt, text_len, out_len)?;
     let mut whole_salt = [0u8; 32];
     whole_salt.copy_from_slice(salt);
     let mut workspace = workspace(source, &costs, &settings.limits)?;
@@ -142,7 +143,7 @@ pub(crate) fn begun<S: CallMemory>(
 
 // The length of the text that is given, or else of a buffer of `out_len` bytes without its last 128.
 fn length_of(text: Option<&[u8]>, out_len: usize) -> usize
-    ensures length { result ≡ length_lent text.entry out_len }
+    ensures length { result ≡ length_to_encrypt text.entry out_len }
 {
     match text {
         Some(text) => text.len(),
@@ -152,8 +153,8 @@ fn length_of(text: Option<&[u8]>, out_len: usize) -> usize
 
 // Puts the text to where it stands in a file.
 fn place_text(text: Option<&[u8]>, out: &mut [u8])
-    requires room { length out.old ≡ length_lent text (length out.old) + 128 }
-    ensures placed { take (length out.old - 128) (drop 96 out.new) ≡ text_lent text.entry out.old }
+    requires room { length out.old ≡ length_to_encrypt text (length out.old) + 128 }
+    ensures placed { take (length out.old - 128) (drop 96 out.new) ≡ text_to_encrypt text.entry out.old }
 {
     let text_len = out.len() - 128;
     match text {
@@ -194,19 +195,20 @@ fn encrypt_in<S: CallMemory>(
     ticks: &mut Ticks,
 ) -> u32
     ensures file { result ≡ 0 → out.new
-        ≡ encrypted_file passphrase.now salt.now (costs_of_settings settings.now) (text_lent text.entry out.old) }
+        ≡ encrypted_file passphrase.now salt.now (costs_of_settings settings.now) (text_to_encrypt text.entry out.old) }
     ensures first { TellsFirst (encryption_refusal settings.now (length salt.now)
-        (length_lent text.entry (length out.old)) (length out.old)) result }
+        (length_to_encrypt text.entry (length out.old)) (length out.old)) result }
     ensures untouched { KeepsAtRefusal result out.old out.new }
     // Nothing is asked of the source before every other refusal is ruled out, and then it is asked once.
-    ensures asked { AsksOnce (ask_under S.after_workspace settings.now.limits (costs_of_settings settings.now) source.old)
+    ensures asked { AsksOnce (asks_workspace S.after_workspace settings.now.limits
+        (costs_of_settings settings.now) source.old)
         result source.old source.new }
     // No derivation begins before every refusal is ruled out, and then one.
-    ensures works { WorksOnce (cores_of_settings settings.now passphrase.now salt.now) result ticks.old ticks.new }
+    ensures works { CountsWorkOnce (cores_of_settings settings.now passphrase.now salt.now) result ticks.old ticks.new }
 {
     let out_len = out.len();
     let text_len = length_of(text, out_len);
-    match begun(source, settings, passphrase, salt, text_len, out_len, ticks) {
+    match start_encryption(source, settings, passphrase, salt, text_len, out_len, ticks) {
         Ok(enc) => {
             place_text(text, out);
             match put_file(enc, out) {
@@ -243,7 +245,7 @@ pub extern "C" fn pikhsen_scrypt_encrypt(
     ensures asked { AsksOnce (asked_for_workspace machine.heap) result.status machine.heap result.machine.heap }
     ensures no_blocks { result.machine.blocks ≡ machine.blocks }
     // No derivation begins before every refusal is ruled out, and then one.
-    ensures works { WorksOnce (cores_given passphrase.now salt.now log_n r p keep) result.status
+    ensures works { CountsWorkOnce (cores_given passphrase.now salt.now log_n r p keep) result.status
         machine.cores result.machine.cores }
 {
     let mut machine = machine;
@@ -282,7 +284,7 @@ pub extern "C" fn pikhsen_scrypt_encrypt_in_place(
     ensures untouched { KeepsAtRefusal result.status out.old out.new }
     ensures asked { AsksOnce (asked_for_workspace machine.heap) result.status machine.heap result.machine.heap }
     ensures no_blocks { result.machine.blocks ≡ machine.blocks }
-    ensures works { WorksOnce (cores_given passphrase.now salt.now log_n r p keep) result.status
+    ensures works { CountsWorkOnce (cores_given passphrase.now salt.now log_n r p keep) result.status
         machine.cores result.machine.cores }
 {
     let mut machine = machine;
@@ -310,7 +312,7 @@ fn front_of(file: &[u8]) -> [u8; 96]
 }
 
 /// What a file is refused for before memory is asked for, if it is, by its number.
-pub(crate) fn tested_opening(file: &[u8], limits: &ScryptLimits) -> Result<(), u32>
+pub(crate) fn check_opening(file: &[u8], limits: &ScryptLimits) -> Result<(), u32>
     requires long { HasFront file.now }
     ensures status { opening_refusal limits.now file.now ≡ number_told result }
     ensures early { IfErr result IsEarly }
@@ -339,7 +341,7 @@ fn memory_to_open<S: CallMemory>(
     ensures at_least_1 { IfErr result IsRefusal }
     ensures below { IfErr result (λ status. status ≤ 25) }
     // Nothing is asked of the source before header and limits are tested, and then it is asked once.
-    ensures asked { AsksOnce (ask_under S.after_workspace limits.now (costs_of (take 64 file.now)) source.old)
+    ensures asked { AsksOnce (asks_workspace S.after_workspace limits.now (costs_of (take 64 file.now)) source.old)
         (number_told result) source.old source.new }
 {
     let header = match header_of(file) {
@@ -353,7 +355,7 @@ fn memory_to_open<S: CallMemory>(
 }
 
 /// A decryption after the first 96 bytes of a file, or the number of what the file is refused for.
-pub(crate) fn opened<S: CallMemory>(
+pub(crate) fn start_decryption<S: CallMemory>(
     source: &mut S,
     limits: &ScryptLimits,
     passphrase: &[u8],
@@ -371,11 +373,11 @@ pub(crate) fn opened<S: CallMemory>(
     ensures at_least_1 { IfErr result IsRefusal }
     ensures below { IfErr result (λ status. status ≤ 27) }
     // Nothing is asked of the source before header and limits are tested, and then it is asked once.
-    ensures asked { AsksToOpen (number_told result ≡ wrong_passphrase)
-        (ask_under S.after_workspace limits.now (costs_of (take 64 file.now)) source.old)
+    ensures asked { AsksToCheck (number_told result ≡ wrong_passphrase)
+        (asks_workspace S.after_workspace limits.now (costs_of (take 64 file.now)) source.old)
         (number_told result) source.old source.new }
     // There is one derivation, after which the passphrase alone is refused.
-    ensures works { WorksToOpen (number_told result ≡ wrong_passphrase)
+    ensures works { CountsWorkToCheck (number_told result ≡ wrong_passphrase)
         (cores_to_open passphrase.now file.now limits.now.keep) (number_told result) ticks.old ticks.new }
 {
     let (header, workspace) = match memory_to_open(source, limits, file) {
@@ -455,10 +457,12 @@ fn decrypt_in<S: CallMemory>(
     ensures untouched { result ≢ 0 → result ≤ wrong_passphrase → out.new ≡ out.old }
     // Nothing is asked of the source before buffer, header and limits are tested, and then it is asked once; want of
     // memory is told where that was refused, and only there.
-    ensures asked { AsksToOpen (wrong_passphrase ≤ result)
-        (ask_under S.after_workspace limits.now (costs_of (take 64 file.now)) source.old) result source.old source.new }
+    ensures asked { AsksToCheck (wrong_passphrase ≤ result)
+        (asks_workspace S.after_workspace limits.now (costs_of
+        (take 64 file.now)) source.old) result source.old source.new }
     // No derivation begins before these refusals are ruled out, and then one.
-    ensures works { WorksToOpen (wrong_passphrase ≤ result) (cores_to_open passphrase.now file.now limits.now.keep)
+    ensures works { CountsWorkToCheck (wrong_passphrase ≤ result)
+        (cores_to_open passphrase.now file.now limits.now.keep)
         result ticks.old ticks.new }
 {
     *text_len = 0;
@@ -468,7 +472,7 @@ fn decrypt_in<S: CallMemory>(
     if file.len() < 96 {
         return status::TOO_SHORT;
     }
-    let dec = match opened(source, limits, passphrase, file, ticks) {
+    let dec = match start_decryption(source, limits, passphrase, file, ticks) {
         Ok(dec) => dec,
         Err(status) => return status,
     };
@@ -514,11 +518,11 @@ pub extern "C" fn pikhsen_scrypt_decrypt(
     ensures zeros { wrong_passphrase < result.status → out.new ≡ replicate (length out.old) 0 }
     ensures untouched { result.status ≢ 0 → result.status ≤ wrong_passphrase → out.new ≡ out.old }
     // What was asked of the heap.
-    ensures asked { AsksToOpen (wrong_passphrase ≤ result.status) (asked_for_workspace machine.heap)
+    ensures asked { AsksToCheck (wrong_passphrase ≤ result.status) (asked_for_workspace machine.heap)
         result.status machine.heap result.machine.heap }
     ensures no_blocks { result.machine.blocks ≡ machine.blocks }
     // No derivation begins before these refusals are ruled out, and then one.
-    ensures works { WorksToOpen (wrong_passphrase ≤ result.status) (cores_to_open passphrase.now file.now keep)
+    ensures works { CountsWorkToCheck (wrong_passphrase ≤ result.status) (cores_to_open passphrase.now file.now keep)
         result.status machine.cores result.machine.cores }
 {
     let mut machine = machine;

@@ -6,7 +6,7 @@ ghost use Rattle.pikhsen_c.specs.Heap.{asked_for_matrix, asked_for_state, asked_
 
 use crate::call_memory::CallMemory;
 use crate::reading::Reading;
-use crate::stream::{PikhsenStream, Running};
+use crate::stream::{PikhsenStream, StreamState};
 use crate::text::Text;
 use argon::{Matrix, Params};
 use argon_text::{Encoded, HashMemory, ReadFault};
@@ -50,10 +50,10 @@ impl Requests {
 
 impl Heap {
     /// Takes the block of a stream, with zeros in it.
-    pub(crate) fn block(&mut self) -> Result<Box<Running, Global>, AllocError>
+    pub(crate) fn block(&mut self) -> Result<Box<StreamState, Global>, AllocError>
         ensures asked { self.new ≡ asked_for_state self.old (is_ok result) }
     {
-        let block = Box::new(self.alloc, Running::Over([0; 311]));
+        let block = Box::new(self.alloc, StreamState::Over([0; 311]));
         self.states.count(block.is_ok());
         match block {
             Ok(block) => Ok(block),
@@ -62,7 +62,7 @@ impl Heap {
     }
 
     /// What a stream keeps, which does not run any more.
-    pub(crate) fn take(&self, stream: &mut PikhsenStream) -> Box<Running, Global>
+    pub(crate) fn take(&self, stream: &mut PikhsenStream) -> Box<StreamState, Global>
         requires full { is_some stream.old.kept.value ≡ true }
         ensures kept { stream.old.kept.value ≡ Some result.value }
         ensures over { stream.new.runs ≡ 0 }

@@ -35,7 +35,7 @@ pub use machine::Machine;
 pub use message::pikhsen_message;
 pub use scrypt::pikhsen_scrypt;
 pub use settings::{PikhsenArgon2Settings, pikhsen_argon2_needs_rehash, pikhsen_argon2_settings};
-pub use stream::{Kept, PikhsenStream, Running};
+pub use stream::{PikhsenStream, StreamBox, StreamState};
 pub use streaming::{
     pikhsen_scrypt_decrypt_feed, pikhsen_scrypt_decrypt_finish, pikhsen_scrypt_decrypt_start,
     pikhsen_scrypt_encrypt_feed, pikhsen_scrypt_encrypt_finish, pikhsen_scrypt_encrypt_start,

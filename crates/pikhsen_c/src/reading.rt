@@ -22,7 +22,7 @@ impl Reading {
     }
 
     /// What it lends to the test of a password.
-    pub(crate) fn claim(&self) -> HashView<'_>
+    pub(crate) fn hash_view(&self) -> HashView<'_>
         ensures value { value_viewed result ≡ value_of self.now.encoded }
     {
         HashView::of(&self.encoded)

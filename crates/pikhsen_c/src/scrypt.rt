@@ -2,9 +2,9 @@
 ghost use Rattle.std.specs.Prelude.{◌≡◌, ◌≤◌, ◌^◌, length, IfOk, IfErr};
 ghost use Rattle.romix.specs.Scrypt.{scrypt};
 ghost use Rattle.romix.specs.SparseCosts.{SparseFitsMemory};
-ghost use Rattle.pikhsen_c.specs.Heap.{AsksOnce, WorksOnce, asked_for_workspace};
+ghost use Rattle.pikhsen_c.specs.Heap.{AsksOnce, CountsWorkOnce, asked_for_workspace};
 ghost use Rattle.pikhsen_c.specs.Inside.Numbers.{IsEarly, number_told, IsRefusal};
-ghost use Rattle.pikhsen_c.specs.Inside.Settings.{ask_under, cores_of_settings, limits_refusal, costs_of_settings, derivation_refusal};
+ghost use Rattle.pikhsen_c.specs.Inside.Settings.{asks_workspace, cores_of_settings, limits_refusal, costs_of_settings, derivation_refusal};
 ghost use Rattle.pikhsen_c.specs.Scrypt.{costs_given, costs_status, scrypt_status, sparse_given, cores_given};
 ghost use Rattle.pikhsen_c.specs.Status.{TellsFirst, KeepsAtRefusal};
 
@@ -117,7 +117,7 @@ pub(crate) fn workspace<S: CallMemory>(
     ensures below { IfErr result (λ status. status ≤ 21) }
     // Nothing is asked of the source before `keep` and the caller's own limits are tested, and then it is asked once,
     // under these; want of memory is told where that was refused, and only there.
-    ensures asked { AsksOnce (ask_under S.after_workspace limits.now costs.now source.old)
+    ensures asked { AsksOnce (asks_workspace S.after_workspace limits.now costs.now source.old)
         (number_told result) source.old source.new }
 {
     let sparse = admitted(costs, limits)?;
@@ -141,10 +141,11 @@ fn derive_in<S: CallMemory>(
         ≡ scrypt password.now salt.now (2 ^ settings.now.log_n) settings.now.r settings.now.p (length out.old) }
     ensures first { TellsFirst (derivation_refusal settings.now (length out.old)) result }
     ensures untouched { KeepsAtRefusal result out.old out.new }
-    ensures asked { AsksOnce (ask_under S.after_workspace settings.now.limits (costs_of_settings settings.now) source.old)
+    ensures asked { AsksOnce (asks_workspace S.after_workspace settings.now.limits
+        (costs_of_settings settings.now) source.old)
         result source.old source.new }
     // No derivation begins before every refusal is ruled out, and then one.
-    ensures works { WorksOnce (cores_of_settings settings.now password.now salt.now) result ticks.old ticks.new }
+    ensures works { CountsWorkOnce (cores_of_settings settings.now password.now salt.now) result ticks.old ticks.new }
 {
     let costs = match costs_of(settings.log_n, settings.r, settings.p) {
         Ok(costs) => costs,
@@ -187,7 +188,7 @@ pub extern "C" fn pikhsen_scrypt(
     ensures asked { AsksOnce (asked_for_workspace machine.heap) result.status machine.heap result.machine.heap }
     ensures no_blocks { result.machine.blocks ≡ machine.blocks }
     // No derivation begins before every refusal is ruled out, and then one.
-    ensures works { WorksOnce (cores_given password.now salt.now log_n r p keep) result.status
+    ensures works { CountsWorkOnce (cores_given password.now salt.now log_n r p keep) result.status
         machine.cores result.machine.cores }
 {
     let mut machine = machine;

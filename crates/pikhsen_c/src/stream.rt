@@ -1,7 +1,7 @@
 //! A file in pieces: what the caller keeps between calls.
 ghost use Rattle.std.specs.Prelude.{◌≡◌, Option, Some, None, is_some, replicate, true};
-ghost use Rattle.pikhsen_c.specs.Inside.Running.{is_decryption, is_encryption, kept_is};
-ghost use Rattle.pikhsen_c.specs.declared.stream.Running.{Running};
+ghost use Rattle.pikhsen_c.specs.Inside.StreamState.{is_decryption, is_encryption, kept_is};
+ghost use Rattle.pikhsen_c.specs.declared.stream.StreamState.{StreamState};
 
 use crate::status::OUT_OF_MEMORY;
 use crate::wiping::are_zeros;
@@ -11,35 +11,35 @@ use std::marker::Model;
 
 /// A running encryption or decryption; or zeros in its place, with the number 0 before them that the first has.
 #[derive(Drop)]
-pub enum Running {
+pub enum StreamState {
     Over([u64; 311]),
     Enc(Enc),
     Dec(Dec),
 }
 
-const _: () = prove!(size_of::<Running>() == 2496);
+const _: () = prove!(size_of::<StreamState>() == 2496);
 
-impl Running {
-    ghost use Rattle.pikhsen_c.specs.declared.stream.Running.TheVariants.{Over};
+impl StreamState {
+    ghost use Rattle.pikhsen_c.specs.declared.stream.StreamState.TheVariants.{Over};
 
     /// What runs in the box. Zeros are put in its place.
-    pub(crate) fn out_of(boxed: &mut Box<Running, Global>) -> Running
+    pub(crate) fn out_of(boxed: &mut Box<StreamState, Global>) -> StreamState
         ensures same { result ≡ boxed.old.value }
         ensures zeros { boxed.new.value ≡ Over (replicate 311 0) }
     {
-        Box::replace(boxed, Running::Over([0; 311]))
+        Box::replace(boxed, StreamState::Over([0; 311]))
     }
 
     /// Frees a box of zeros, and hands an answer on. No contract sees memory that is free, and the compiler may leave
     /// out a write that nothing reads. So the zeros are read again, and the answer hangs on them, as that of `wipe_stack`
     /// does.
     #[inline(never)]
-    pub(crate) fn free(boxed: Box<Running, Global>, told: u32) -> u32
+    pub(crate) fn free(boxed: Box<StreamState, Global>, told: u32) -> u32
         requires zeros { boxed.value ≡ Over (replicate 311 0) }
         ensures same { result ≡ told }
     {
         let is_wiped = match &*boxed {
-            Running::Over(words) => are_zeros(words),
+            StreamState::Over(words) => are_zeros(words),
             _ => false,
         };
         drop(boxed);
@@ -51,34 +51,34 @@ impl Running {
 /// to C, and this can. Its two calls are proved by hand.
 #[repr(C)]
 #[derive(Drop)]
-pub struct Kept {
+pub struct StreamBox {
     at: *mut (),
-    ghost value: { Option Running },
+    ghost value: { Option StreamState },
 }
 
-impl Model for Kept {
-    ghost use Rattle.pikhsen_c.specs.Kept.{kept_owns};
-    ghost use Rattle.pikhsen_c.specs.contracts.stream.Running.{the_row};
+impl Model for StreamBox {
+    ghost use Rattle.pikhsen_c.specs.StreamBox.{kept_owns};
+    ghost use Rattle.pikhsen_c.specs.contracts.stream.StreamState.{the_row};
 
     ghost also_owns = { λ kept. kept_owns the_row kept.at kept.value };
 }
 
-impl Kept {
+impl StreamBox {
     // The box, as its pointer.
-    fn of(boxed: Box<Running, Global>) -> Kept
+    fn of(boxed: Box<StreamState, Global>) -> StreamBox
         ensures value { result.value ≡ Some boxed.value }
     {
         let at = Box::into_raw(boxed) as *mut ();
-        Kept { at }
+        StreamBox { at }
     }
 
     /// The box again. Nothing is left.
-    pub(crate) fn take(&mut self, alloc: Global) -> Box<Running, Global>
+    pub(crate) fn take(&mut self, alloc: Global) -> Box<StreamState, Global>
         requires full { is_some self.old.value ≡ true }
         ensures value { self.old.value ≡ Some result.value }
         ensures empty { self.new.value ≡ None }
     {
-        unsafe { Box::from_raw(alloc, self.at as *mut Running) }
+        unsafe { Box::from_raw(alloc, self.at as *mut StreamState) }
     }
 }
 
@@ -92,20 +92,20 @@ pub(crate) const DECRYPTION: u8 = 2;
 #[derive(Drop)]
 pub struct PikhsenStream {
     pub(crate) runs: u8,
-    pub(crate) kept: Kept,
+    pub(crate) kept: StreamBox,
     ghost encryption: { runs ≡ 1 → kept_is is_encryption kept.value ≡ true },
     ghost decryption: { runs ≡ 2 → kept_is is_decryption kept.value ≡ true },
 }
 
 impl PikhsenStream {
     /// A stream in which this runs.
-    pub(crate) fn of(runs: u8, boxed: Box<Running, Global>) -> PikhsenStream
+    pub(crate) fn of(runs: u8, boxed: Box<StreamState, Global>) -> PikhsenStream
         requires encryption { runs ≡ 1 → is_encryption boxed.value ≡ true }
         requires decryption { runs ≡ 2 → is_decryption boxed.value ≡ true }
         ensures runs { result.runs ≡ runs }
         ensures kept { result.kept.value ≡ Some boxed.value }
     {
-        let kept = Kept::of(boxed);
+        let kept = StreamBox::of(boxed);
         PikhsenStream { runs, kept }
     }
 }

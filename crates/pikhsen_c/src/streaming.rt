@@ -2,19 +2,19 @@
 ghost use Rattle.std.specs.Prelude.{◌≡◌, ◌≢◌, ℕ, ◌+◌, ◌-◌, ◌^◌, ◌<◌, ◌≤◌, ◌++◌, List, [], length, take, drop, true, false};
 ghost use Rattle.encfile.specs.EncryptedFile.{HasRightHeaderCode, body, released_text};
 ghost use Rattle.pikhsen_c.specs.File.{cores_to_open};
-ghost use Rattle.pikhsen_c.specs.Heap.{AsksToStart, WorksOnce, WorksToOpen};
-ghost use Rattle.pikhsen_c.specs.Inside.Running.{is_decryption, is_encryption};
+ghost use Rattle.pikhsen_c.specs.Heap.{AsksToStart, CountsWorkOnce, CountsWorkToCheck};
+ghost use Rattle.pikhsen_c.specs.Inside.StreamState.{is_decryption, is_encryption};
 ghost use Rattle.pikhsen_c.specs.Inside.Settings.{cores_of_settings, costs_of_settings, decryption_start_refusal, encryption_start_refusal};
 ghost use Rattle.pikhsen_c.specs.Scrypt.{costs_given, cores_given};
 ghost use Rattle.pikhsen_c.specs.Status.{TellsFirst, TellsFirstOrLate, damaged, long_text, no_stream, wrong_buffer, wrong_passphrase, KeepsAtRefusal};
 ghost use Rattle.pikhsen_c.specs.Stream.{AreLast, AreNext, Encrypts, FeedsOn, FeedsWhatFits, HasFed, HasGot, IsAsBefore, IsDamaged, IsReleased, IsWhole, Reads, ReadsOn, ReadsWhatFits, decrypt_start_status, encrypt_start_status};
 
-use crate::file::{begun, opened, tested_encryption, tested_opening};
+use crate::file::{check_encryption, check_opening, start_decryption, start_encryption};
 use crate::heap::Heap;
 use crate::machine::Machine;
 use crate::scrypt::{ScryptLimits, ScryptSettings};
 use crate::status;
-use crate::stream::{DECRYPTION, ENCRYPTION, PikhsenStream, Running};
+use crate::stream::{DECRYPTION, ENCRYPTION, PikhsenStream, StreamState};
 use crate::wiping::{Answer, wipe_stack};
 use romix::Ticks;
 use std::alloc::Global;
@@ -37,22 +37,22 @@ fn encrypt_start_in(
     ensures untouched { KeepsAtRefusal result head.old head.new }
     ensures unchanged { KeepsAtRefusal result stream.old stream.new }
     ensures asked { AsksToStart result heap.old heap.new }
-    ensures works { WorksOnce (cores_of_settings settings.now passphrase.now salt.now) result ticks.old ticks.new }
+    ensures works { CountsWorkOnce (cores_of_settings settings.now passphrase.now salt.now) result ticks.old ticks.new }
 {
     if stream.runs != 0 {
         return status::STREAM;
     }
     let file_len = head.len() + 32;
-    if let Err(status) = tested_encryption(settings, salt, 0, file_len) {
+    if let Err(status) = check_encryption(settings, salt, 0, file_len) {
         return status;
     }
     let Ok(mut block) = heap.block() else {
         return status::OUT_OF_MEMORY;
     };
-    match begun(heap, settings, passphrase, salt, 0, file_len, ticks) {
+    match start_encryption(heap, settings, passphrase, salt, 0, file_len, ticks) {
         Ok(enc) => {
             head.copy_from_slice(&enc.header());
-            drop(Box::replace(&mut block, Running::Enc(enc)));
+            drop(Box::replace(&mut block, StreamState::Enc(enc)));
             *stream = PikhsenStream::of(ENCRYPTION, block);
             status::OK
         }
@@ -85,7 +85,7 @@ pub extern "C" fn pikhsen_scrypt_encrypt_start(
     ensures asked { AsksToStart result.status machine.heap result.machine.heap }
     ensures no_blocks { result.machine.blocks ≡ machine.blocks }
     // No derivation begins before every refusal is ruled out, and then one.
-    ensures works { WorksOnce (cores_given passphrase.now salt.now log_n r p keep) result.status
+    ensures works { CountsWorkOnce (cores_given passphrase.now salt.now log_n r p keep) result.status
         machine.cores result.machine.cores }
 {
     let mut machine = machine;
@@ -104,7 +104,7 @@ pub extern "C" fn pikhsen_scrypt_encrypt_start(
 
 // Encrypts the next bytes of the text in place.
 #[inline(never)]
-fn encrypted(running: &mut Running, bytes: &mut [u8]) -> u32
+fn encrypted(running: &mut StreamState, bytes: &mut [u8]) -> u32
     requires encryption { is_encryption running.old ≡ true }
     ensures fed { result ≡ 0 → FeedsOn (Encrypts running.old) (Encrypts running.new) bytes.old }
     ensures written { result ≡ 0 → AreNext (Encrypts running.old) bytes.old bytes.new }
@@ -115,7 +115,7 @@ fn encrypted(running: &mut Running, bytes: &mut [u8]) -> u32
     ensures stays { is_encryption running.new ≡ true }
 {
     match running {
-        Running::Enc(enc) => match enc.feed(bytes) {
+        StreamState::Enc(enc) => match enc.feed(bytes) {
             Ok(()) => status::OK,
             Err(_) => status::TOO_LONG,
         },
@@ -150,17 +150,17 @@ pub extern "C" fn pikhsen_scrypt_encrypt_feed(
 
 // Ends an encryption, and gives the last 32 bytes of its file.
 #[inline(never)]
-fn last_bytes(boxed: Box<Running, Global>, code: &mut [u8]) -> u32
+fn last_bytes(boxed: Box<StreamState, Global>, code: &mut [u8]) -> u32
     requires encryption { is_encryption boxed.value ≡ true }
     requires room { length code.old ≡ 32 }
     ensures code { AreLast (Encrypts boxed.value) code.new }
     ensures done { result ≡ 0 }
 {
     let mut boxed = boxed;
-    if let Running::Enc(enc) = Running::out_of(&mut boxed) {
+    if let StreamState::Enc(enc) = StreamState::out_of(&mut boxed) {
         code.copy_from_slice(&enc.finish());
     }
-    Running::free(boxed, status::OK)
+    StreamState::free(boxed, status::OK)
 }
 
 /// Ends an encryption, and gives the last 32 bytes of its file.
@@ -206,7 +206,7 @@ fn decrypt_start_in(
         (decryption_start_refusal stream.old.runs limits.now front.now) result }
     ensures unchanged { KeepsAtRefusal result stream.old stream.new }
     ensures asked { AsksToStart result heap.old heap.new }
-    ensures works { WorksToOpen (result ≡ wrong_passphrase)
+    ensures works { CountsWorkToCheck (result ≡ wrong_passphrase)
         (cores_to_open passphrase.now front.now limits.now.keep) result ticks.old ticks.new }
 {
     if stream.runs != 0 {
@@ -215,15 +215,15 @@ fn decrypt_start_in(
     if front.len() < 96 {
         return status::TOO_SHORT;
     }
-    if let Err(status) = tested_opening(front, limits) {
+    if let Err(status) = check_opening(front, limits) {
         return status;
     }
     let Ok(mut block) = heap.block() else {
         return status::OUT_OF_MEMORY;
     };
-    match opened(heap, limits, passphrase, front, ticks) {
+    match start_decryption(heap, limits, passphrase, front, ticks) {
         Ok(dec) => {
-            drop(Box::replace(&mut block, Running::Dec(dec)));
+            drop(Box::replace(&mut block, StreamState::Dec(dec)));
             *stream = PikhsenStream::of(DECRYPTION, block);
             status::OK
         }
@@ -253,7 +253,7 @@ pub extern "C" fn pikhsen_scrypt_decrypt_start(
     ensures asked { AsksToStart result.status machine.heap result.machine.heap }
     ensures no_blocks { result.machine.blocks ≡ machine.blocks }
     // There is one derivation, after which the passphrase alone is refused.
-    ensures works { WorksToOpen (result.status ≡ wrong_passphrase) (cores_to_open passphrase.now front.now keep)
+    ensures works { CountsWorkToCheck (result.status ≡ wrong_passphrase) (cores_to_open passphrase.now front.now keep)
         result.status machine.cores result.machine.cores }
 {
     let mut machine = machine;
@@ -271,7 +271,7 @@ pub extern "C" fn pikhsen_scrypt_decrypt_start(
 
 // Reads the next bytes of the file, and tells how many bytes of text are released.
 #[inline(never)]
-fn decrypted(running: &mut Running, piece: &[u8], out: &mut [u8], released: &mut usize) -> u32
+fn decrypted(running: &mut StreamState, piece: &[u8], out: &mut [u8], released: &mut usize) -> u32
     requires decryption { is_decryption running.old ≡ true }
     requires room { length piece.now + 32 ≤ length out.old }
     ensures read { result ≡ 0 → ReadsOn (Reads running.old) (Reads running.new) piece.now }
@@ -286,7 +286,7 @@ fn decrypted(running: &mut Running, piece: &[u8], out: &mut [u8], released: &mut
     ensures stays { is_decryption running.new ≡ true }
 {
     match running {
-        Running::Dec(dec) => match dec.feed(piece, out) {
+        StreamState::Dec(dec) => match dec.feed(piece, out) {
             Ok(n) => {
                 *released = n;
                 status::OK
@@ -335,7 +335,7 @@ pub extern "C" fn pikhsen_scrypt_decrypt_feed(
 
 // Ends a decryption, and tells whether the file is an encryption of the text that was released.
 #[inline(never)]
-fn judged(boxed: Box<Running, Global>) -> u32
+fn judged(boxed: Box<StreamState, Global>) -> u32
     requires decryption { is_decryption boxed.value ≡ true }
     ensures whole { result ≡ 0 → IsWhole (Reads boxed.value) }
     ensures damaged { result ≢ 0 → IsDamaged (Reads boxed.value) }
@@ -343,12 +343,12 @@ fn judged(boxed: Box<Running, Global>) -> u32
 {
     let mut boxed = boxed;
     let mut told = status::DAMAGED;
-    if let Running::Dec(dec) = Running::out_of(&mut boxed) {
+    if let StreamState::Dec(dec) = StreamState::out_of(&mut boxed) {
         if dec.finish().is_ok() {
             told = status::OK;
         }
     }
-    Running::free(boxed, told)
+    StreamState::free(boxed, told)
 }
 
 /// Ends a decryption, and tells whether the file is an encryption of the text that was released.
@@ -374,12 +374,12 @@ pub extern "C" fn pikhsen_scrypt_decrypt_finish(
 
 // Ends what runs in the box.
 #[inline(never)]
-fn ended(boxed: Box<Running, Global>) -> u32
+fn ended(boxed: Box<StreamState, Global>) -> u32
     ensures done { result ≡ 0 }
 {
     let mut boxed = boxed;
-    drop(Running::out_of(&mut boxed));
-    Running::free(boxed, status::OK)
+    drop(StreamState::out_of(&mut boxed));
+    StreamState::free(boxed, status::OK)
 }
 
 /// Ends a stream in whatever state it is.

@@ -3,8 +3,8 @@ ghost use Rattle.std.specs.Prelude.{◌≡◌, ◌≢◌, ◌≤◌, ◌<◌, []
 ghost use Rattle.argon.specs.Counts.{work};
 ghost use Rattle.argon_text.specs.Verifying.{keyed_fault, keyed_tag, parameters_with};
 ghost use Rattle.argon_text.specs.View.{value_viewed};
-ghost use Rattle.pikhsen_c.specs.Argon2.{IsVerdict, IsVerifyNumber, WorksToVerify};
-ghost use Rattle.pikhsen_c.specs.Heap.{AsksToOpen, AsksToVerify, WorksToOpen, asked_for_matrix, asked_to_read};
+ghost use Rattle.pikhsen_c.specs.Argon2.{IsVerdict, IsVerifyNumber, CountsWorkToVerify};
+ghost use Rattle.pikhsen_c.specs.Heap.{AsksToCheck, AsksToVerify, CountsWorkToCheck, asked_for_matrix, asked_to_read};
 ghost use Rattle.pikhsen_c.specs.Inside.Numbers.{IsTold};
 ghost use Rattle.pikhsen_c.specs.Status.{long_input, mismatch};
 
@@ -18,7 +18,7 @@ use argon_text::{HashView, verify_keyed};
 // What the test of a password answers, by its number.
 fn answered<S: CallMemory>(
     source: &mut S,
-    claim: &HashView<'_>,
+    view: &HashView<'_>,
     password: &[u8],
     secret: &[u8],
     associated: &[u8],
@@ -26,28 +26,28 @@ fn answered<S: CallMemory>(
     max_ops: u64,
     ticks: &mut Ticks,
 ) -> u32
-    ensures admitted { result ≡ 0 → keyed_fault (value_viewed claim.now) password.now
+    ensures admitted { result ≡ 0 → keyed_fault (value_viewed view.now) password.now
         (length secret.now) (length associated.now) max_kib max_ops ≡ None }
     ensures right { result ≡ 0
-        → keyed_tag (value_viewed claim.now) password.now secret.now associated.now ≡ claim.now.tag.now }
-    ensures admitted_if_wrong { result ≡ mismatch → keyed_fault (value_viewed claim.now) password.now
+        → keyed_tag (value_viewed view.now) password.now secret.now associated.now ≡ view.now.tag.now }
+    ensures admitted_if_wrong { result ≡ mismatch → keyed_fault (value_viewed view.now) password.now
         (length secret.now) (length associated.now) max_kib max_ops ≡ None }
     ensures wrong { result ≡ mismatch
-        → keyed_tag (value_viewed claim.now) password.now secret.now associated.now ≡ claim.now.tag.now → ⊥ }
-    ensures first_fault { IsTold result (keyed_fault (value_viewed claim.now) password.now
+        → keyed_tag (value_viewed view.now) password.now secret.now associated.now ≡ view.now.tag.now → ⊥ }
+    ensures first_fault { IsTold result (keyed_fault (value_viewed view.now) password.now
         (length secret.now) (length associated.now) max_kib max_ops) }
     ensures number { IsVerifyNumber result }
     ensures known { long_input < result → mismatch ≤ result }
     // Nothing is asked of the source before every other refusal is ruled out, and then the matrix alone, under the
     // caller's own limits; want of memory is told where that was refused.
-    ensures asked { AsksToOpen (result ≡ mismatch) (S.after_matrix source.old
-        (parameters_with (value_viewed claim.now) password.now) max_kib max_ops) result source.old source.new }
+    ensures asked { AsksToCheck (result ≡ mismatch) (S.after_matrix source.old
+        (parameters_with (value_viewed view.now) password.now) max_kib max_ops) result source.old source.new }
     // No block function is run before every refusal is ruled out, and then those of one hash.
-    ensures works { WorksToOpen (result ≡ mismatch) (work (parameters_with (value_viewed claim.now) password.now))
+    ensures works { CountsWorkToCheck (result ≡ mismatch) (work (parameters_with (value_viewed view.now) password.now))
         result ticks.old ticks.new }
 {
     match verify_keyed(
-        source, claim, password, secret, associated, max_kib, max_ops, ticks,
+        source, view, password, secret, associated, max_kib, max_ops, ticks,
     ) {
         Ok(true) => status::OK,
         Ok(false) => status::MISMATCH,
@@ -75,15 +75,15 @@ pub(crate) fn verify_in<S: CallMemory>(
     ensures asked { AsksToVerify (S.after_reading source.old text.now)
         (λ source value. S.after_matrix source (parameters_with value password.now) max_kib max_ops)
         text.now password.now (length secret.now) (length associated.now) max_kib max_ops result source.new }
-    ensures works { WorksToVerify text.now password.now max_ops result ticks.old ticks.new }
+    ensures works { CountsWorkToVerify text.now password.now max_ops result ticks.old ticks.new }
 {
     let reading = match source.read(text) {
         Ok(reading) => reading,
         Err(fault) => return status::of_read(fault),
     };
-    let claim = reading.claim();
+    let view = reading.hash_view();
     answered(
-        source, &claim, password, secret, associated, max_kib, max_ops, ticks,
+        source, &view, password, secret, associated, max_kib, max_ops, ticks,
     )
 }
 
@@ -105,7 +105,8 @@ pub extern "C" fn pikhsen_argon2_verify(
     ensures asked { AsksToVerify (asked_to_read machine.heap) (λ heap _ granted. asked_for_matrix heap granted)
         text.now password.now 0 0 max_kib max_ops result.status result.machine.heap }
     ensures no_cores { result.machine.cores ≡ machine.cores }
-    ensures works { WorksToVerify text.now password.now max_ops result.status machine.blocks result.machine.blocks }
+    ensures works { CountsWorkToVerify text.now password.now max_ops result.status machine.blocks
+        result.machine.blocks }
 {
     let mut machine = machine;
     let told = verify_in(
@@ -142,7 +143,8 @@ pub extern "C" fn pikhsen_argon2_verify_keyed(
         text.now password.now (length secret.now) (length associated.now) max_kib max_ops
         result.status result.machine.heap }
     ensures no_cores { result.machine.cores ≡ machine.cores }
-    ensures works { WorksToVerify text.now password.now max_ops result.status machine.blocks result.machine.blocks }
+    ensures works { CountsWorkToVerify text.now password.now max_ops result.status machine.blocks
+        result.machine.blocks }
 {
     let mut machine = machine;
     let told = verify_in(

@@ -11,11 +11,11 @@ pub record Allowance : Type 0 where
   pub keep : ℕ
 
 -- the costs with the S of an allowance
-abbrev pub with_keep_of : Allowance → Parameters → SparseParameters
-with_keep_of a c = record { costs = c; keep = a.keep }
+abbrev pub sparse_under : Allowance → Parameters → SparseParameters
+sparse_under a c = record { costs = c; keep = a.keep }
 
 -- an allowance admits costs: its S is at most N, and neither of its limits is exceeded
 pub record Admits (a : Allowance) (c : Parameters) : Type 0 where
   pub keep : a.keep ≤ 2 ^ c.log_n
-  pub memory : SparseFitsMemory (with_keep_of a c) a.limits.max_bytes
-  pub work : cores_bound (with_keep_of a c) ≤ a.limits.max_ops
+  pub memory : SparseFitsMemory (sparse_under a c) a.limits.max_bytes
+  pub work : cores_bound (sparse_under a c) ≤ a.limits.max_ops

@@ -1,7 +1,7 @@
 -- What the words of scrypt come to with a host.
 use Rattle.std.proofs.Common.{◌≡◌, ◌∙◌, ◌⊎◌, inl, inr, ap, sym, subst, List, Option, Some, None, Result, Ok, Err}
 use Rattle.std.proofs.lemmas.Option.{none-some, same_Some}
-use Rattle.host.specs.Seen.{Seen, Text}
+use Rattle.host.specs.HostState.{HostState, Text}
 use Rattle.scrypt_run.specs.Laws.{AreOneEnd, IsRefusedFromOutside as RefusesFromOutside}
 use Rattle.scrypt_request.specs.Request.{Request}
 use Rattle.scrypt_run.specs.Run.{RequestRefused, RequestSucceeds}
@@ -40,12 +40,12 @@ memory_alone words request r asked (inr lacks) = lacks
 
 -- ---- ends
 
-pub one_end : (words : List Text) (before a b : Seen) → Succeeds words before a → Succeeds words before b → a ≡ b
+pub one_end : (words : List Text) (before a b : HostState) → Succeeds words before a → Succeeds words before b → a ≡ b
 one_end words before a b ha hb =
     one_success ha.request before a b ha.succeeds
     (subst (λ request. RequestSucceeds request before b) (same_request words ha.request hb.request ha.asked hb.asked) hb.succeeds)
 
-pub ends_from_outside : (words : List Text) (before after ended : Seen) (r : ScryptRefusal) → Succeeds words before after → IsRefused r words before ended
+pub ends_from_outside : (words : List Text) (before after ended : HostState) (r : ScryptRefusal) → Succeeds words before after → IsRefused r words before ended
     → IsRefusedFromOutside words r
 ends_from_outside words before after ended r h (inl ends) = inl (memory_alone words h.request r h.asked ends.0)
 ends_from_outside words before after ended r h (inr ends) = inr (record {
@@ -55,14 +55,14 @@ ends_from_outside words before after ended r h (inr ends) = inr (record {
       (subst (λ request. RequestRefused r request before ended) (same_request words h.request ends.request h.asked ends.asked) ends.refused);
 })
 
-two_requests : (words : List Text) (before after ended : Seen) (one other : ScryptRefusal) (a : RefusesRequest one words before after)
+two_requests : (words : List Text) (before after ended : HostState) (one other : ScryptRefusal) (a : RefusesRequest one words before after)
     → RefusesRequest other words before ended
     → AreOneEnd one other after ended ⊎ RefusesFromOutside a.request one ⊎ RefusesFromOutside a.request other
 two_requests words before after ended one other a b =
     one_refusal a.request before after ended one other a.refused
     (subst (λ request. RequestRefused other request before ended) (same_request words a.request b.request a.asked b.asked) b.refused)
 
-pub one_refusal_of_words : (words : List Text) (before after ended : Seen) (one other : ScryptRefusal)
+pub one_refusal_of_words : (words : List Text) (before after ended : HostState) (one other : ScryptRefusal)
     → IsRefused one words before after → IsRefused other words before ended
     → AreOneEnd one other after ended ⊎ IsRefusedFromOutside words one ⊎ IsRefusedFromOutside words other
 one_refusal_of_words words before after ended one other (inl a) (inr b) = inr (inl (inl (memory_alone words b.request one b.asked a.0)))

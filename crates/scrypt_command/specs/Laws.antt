@@ -1,6 +1,6 @@
 -- What is proved of the definitions of a whole run of scrypt alone.
 use Rattle.std.specs.Prelude.{◌≡◌, ◌⊎◌, List, Ok}
-use Rattle.host.specs.Seen.{Text}
+use Rattle.host.specs.HostState.{Text}
 use Rattle.scrypt_run.specs.Laws.{IsRefusedFromOutside as RefusesFromOutside}
 use Rattle.scrypt_request.specs.Request.{Request}
 use Rattle.scrypt_request.specs.declared.refusal.ScryptRefusal.{ScryptRefusal}

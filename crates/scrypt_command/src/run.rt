@@ -1,8 +1,8 @@
 //! A whole run of `scrypt`.
 ghost use Rattle.std.specs.Prelude.{◌≡◌, ◌≤◌, ◌+◌, ◌^◌, Err, MatchResult, IfOk, IfErr, IsOk, OnOk, IsTrue, map, string_bytes};
 ghost use Rattle.host.specs.Faults.{AreBelow};
-ghost use Rattle.host.specs.Grants.{GrantsAll};
-ghost use Rattle.host.specs.Seen.{IsFresh};
+ghost use Rattle.host.specs.GrantedCalls.{GrantsAll};
+ghost use Rattle.host.specs.HostState.{IsUnasked};
 ghost use Rattle.scrypt_request.specs.Refusal.{CountsFault, CountsNoEarlyWork};
 ghost use Rattle.scrypt_run.specs.Run.{most_cores};
 ghost use Rattle.scrypt_run.specs.Work.{EndsAfterWork, RequestWorks, CountsNoOtherWork};
@@ -25,7 +25,7 @@ fn attempt<H: Host>(
     ticks: &mut Ticks,
 ) -> Result<(), ScryptRefusal>
     requires room { AreBelow (2 ^ 63) (H.faults host.old) }
-    requires fresh { IsTrue H.tells → IsFresh (H.seen host.old) }
+    requires fresh { IsTrue H.tells → IsUnasked (H.seen host.old) }
     requires granted { GrantsAll (H.grants host.old) }
     ensures counts { CountsFault result (H.faults host.old) (H.faults host.new) }
     ensures words { OnOk result (IsOk (scrypt_request (map string_bytes words.now))) }
@@ -49,9 +49,9 @@ fn attempt<H: Host>(
         (λ request. RequestWorks request (H.seen host.old) ticks.old ticks.new)) }
     ensures unworked { IsTrue H.tells → CountsNoOtherWork result (H.seen host.new) ticks.old ticks.new }
 {
-    let mut room = alloc;
+    let mut memory = alloc;
     match read_request(alloc, words) {
-        Ok(request) => run(&mut room, host, &request, ticks),
+        Ok(request) => run(&mut memory, host, &request, ticks),
         Err(refusal) => Err(refusal),
     }
 }
@@ -66,7 +66,7 @@ fn attempt<H: Host>(
 /// noticed at its end.
 pub fn scrypt<H: Host>(alloc: Global, words: &[String], host: &mut H) -> u8
     requires room { AreBelow (2 ^ 63) (H.faults host.old) }
-    requires fresh { IsTrue H.tells → IsFresh (H.seen host.old) }
+    requires fresh { IsTrue H.tells → IsUnasked (H.seen host.old) }
     requires granted { GrantsAll (H.grants host.old) }
     ensures status { result ≤ 1 }
     ensures counts { result ≡ 0 → H.faults host.new ≡ H.faults host.old }

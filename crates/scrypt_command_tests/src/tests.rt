@@ -3,7 +3,7 @@
 ghost use Rattle.std.specs.Prelude.{◌^◌, ◌<◌};
 ghost use Rattle.host.specs.Faults.{AreBelow};
 ghost use Rattle.memory_host.specs.Memory.{memory_faults, memory_seen};
-ghost use Rattle.host.specs.Seen.{IsFresh};
+ghost use Rattle.host.specs.HostState.{IsUnasked};
 
 use memory_host::MemoryHost;
 use scrypt_command::scrypt;
@@ -99,7 +99,7 @@ const SALT: [u8; 32] = [
 // one, in each proof anew.
 fn host_with(alloc: Global, input: &[u8], passphrase: &[u8]) -> MemoryHost
     ensures room { AreBelow (2 ^ 63) (memory_faults result) }
-    ensures fresh { IsFresh (memory_seen result) }
+    ensures fresh { IsUnasked (memory_seen result) }
 {
     let mut host = MemoryHost::new(alloc, list(alloc, input), list(alloc, b"pw\nmore"), SALT);
     let _ = host.set_file(text(alloc, "pw"), list(alloc, passphrase));
@@ -173,7 +173,7 @@ fn ends(host: &MemoryHost, status: u8, end: End<'_>) -> bool {
 // The status of a run of the words of a line.
 fn run_line(alloc: Global, line: &str, host: &mut MemoryHost) -> u8
     requires room { AreBelow (2 ^ 63) (memory_faults host.old) }
-    requires fresh { IsFresh (memory_seen host.old) }
+    requires fresh { IsUnasked (memory_seen host.old) }
 {
     scrypt(alloc, &words(alloc, line), host)
 }
@@ -188,14 +188,14 @@ fn runs(alloc: Global, line: &str, passphrase: &[u8], input: &[u8], end: End<'_>
 }
 
 // Words, a passphrase, and what is written by a run with status 0, or the line of a refusal.
-type Row = (
+type RunCase = (
     &'static str,
     &'static [u8],
     Result<&'static [u8], &'static str>,
 );
 
 // Whether the file of `hello` ends as a row says.
-fn row_runs(alloc: Global, row: &Row) -> bool {
+fn row_runs(alloc: Global, row: &RunCase) -> bool {
     let (line, passphrase, answer) = row;
     let end = match answer {
         Ok(output) => done(output),
@@ -351,7 +351,7 @@ fn files_that_are_changed(rt: HostRuntime) {
 }
 
 // Words, passphrase and answer for the file of `hello`.
-static LIMITS: [Row; 21] = [
+static LIMITS: [RunCase; 21] = [
     ("dec -M 2048 --maxops 64 -P F5", b"", Ok(b"hello")),
     ("dec -M 2047 -P F5", b"", Err(MEMORY_LIMIT)),
     ("dec --maxops 63 -P F5", b"", Err(WORK_LIMIT)),
@@ -453,7 +453,7 @@ fn greater_table(rt: HostRuntime) {
 }
 
 // The passphrase is the first line of its source, of at most 2,048 bytes.
-static PASSPHRASES: [Row; 11] = [
+static PASSPHRASES: [RunCase; 11] = [
     ("dec --passphrase file:pw F5", b"pw\r\nmore", Ok(b"hello")),
     ("dec --passphrase file:pw F5", b"pw", Ok(b"hello")),
     (

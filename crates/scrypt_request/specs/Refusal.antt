@@ -1,6 +1,6 @@
 -- The refusals of scrypt: the line of each, and the count of the host's failures that it raises.
 use Rattle.std.specs.Prelude.{◌≡◌, ℕ, Bool, true, false, codes, Result, IfErr, MatchResult}
-use Rattle.host.specs.Seen.{Text}
+use Rattle.host.specs.HostState.{Text}
 use Rattle.host.specs.Faults.{Faults, input_failed, output_failed, secret_failed, salt_failed}
 use Rattle.scrypt_request.specs.declared.refusal.ScryptRefusal.{ScryptRefusal}
 use Rattle.scrypt_request.specs.declared.refusal.ScryptRefusal.TheVariants as refusal
@@ -33,12 +33,12 @@ may_follow_work r = false
 
 -- whether the refusal comes only after the derivation: of those that may follow it, InputFault (S12) alone may come
 -- before it, too
-abbrev pub follows_work : ScryptRefusal → Bool
-follows_work refusal.WrongPassphrase = true
-follows_work refusal.Damaged = true
-follows_work refusal.OutputFault = true
-follows_work refusal.TooLong = true
-follows_work r = false
+abbrev pub comes_only_after_work : ScryptRefusal → Bool
+comes_only_after_work refusal.WrongPassphrase = true
+comes_only_after_work refusal.Damaged = true
+comes_only_after_work refusal.OutputFault = true
+comes_only_after_work refusal.TooLong = true
+comes_only_after_work r = false
 
 -- a step with this result, and the count of cores before and after it: a refusal that may not follow the derivation
 -- leaves it as it was
@@ -46,9 +46,9 @@ abbrev pub CountsNoEarlyWork : {A : Type 0} → Result A ScryptRefusal → ℕ �
 CountsNoEarlyWork result before after = IfErr result (λ r. may_follow_work r ≡ false → after ≡ before)
 
 -- whether the refusal is that of memory
-abbrev pub is_want : ScryptRefusal → Bool
-is_want refusal.OutOfMemory = true
-is_want r = false
+abbrev pub is_out_of_memory : ScryptRefusal → Bool
+is_out_of_memory refusal.OutOfMemory = true
+is_out_of_memory r = false
 
 -- the line of a refusal, without a line feed
 abbrev pub line_of : ScryptRefusal → Text

@@ -5,7 +5,7 @@ use Rattle.romix.specs.Allowance.{Allowance}
 use Rattle.romix.specs.Costs.{Parameters}
 use Rattle.romix.specs.SparseCosts.{is_keep}
 use Rattle.romix.specs.declared.limits.Limits.{Limits}
-use Rattle.host.specs.Seen.{SecretSource, Text}
+use Rattle.host.specs.HostState.{SecretSource, Text}
 use Rattle.host.specs.Secret.{source_of}
 use Rattle.scrypt_request.specs.declared.request.Task.{Task as TaskInCode}
 use Rattle.scrypt_request.specs.declared.request.Encryption.{Encryption as EncryptionInCode}

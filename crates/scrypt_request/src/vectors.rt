@@ -1,7 +1,7 @@
 //! Vectors that the checker computes by the definitions alone.
 ghost use Rattle.std.specs.Prelude.{◌≡◌, codes, false, true};
 ghost use Rattle.host.specs.Faults.{no_faults};
-ghost use Rattle.scrypt_request.specs.Refusal.{counted_by, follows_work, is_want, line_of, may_follow_work};
+ghost use Rattle.scrypt_request.specs.Refusal.{counted_by, comes_only_after_work, is_out_of_memory, line_of, may_follow_work};
 ghost use Rattle.scrypt_request.specs.declared.refusal.ScryptRefusal.{ScryptRefusal};
 
 // docs/REFUSALS.md, the table of scrypt: the line of each.
@@ -43,11 +43,11 @@ fn counts_of_refusals()
 // docs/REFUSALS.md, the order of scrypt: S10, S11, S13 and S14 come after the derivation, S12 before and after it, and S15 and
 // what is told of the first 96 bytes before it.
 fn refusals_after_work()
-    ensures passphrase { follows_work ScryptRefusal.WrongPassphrase ≡ true }
-    ensures damaged { follows_work ScryptRefusal.Damaged ≡ true }
-    ensures output { follows_work ScryptRefusal.OutputFault ≡ true }
-    ensures long { follows_work ScryptRefusal.TooLong ≡ true }
-    ensures input { follows_work ScryptRefusal.InputFault ≡ false }
+    ensures passphrase { comes_only_after_work ScryptRefusal.WrongPassphrase ≡ true }
+    ensures damaged { comes_only_after_work ScryptRefusal.Damaged ≡ true }
+    ensures output { comes_only_after_work ScryptRefusal.OutputFault ≡ true }
+    ensures long { comes_only_after_work ScryptRefusal.TooLong ≡ true }
+    ensures input { comes_only_after_work ScryptRefusal.InputFault ≡ false }
     ensures input_may { may_follow_work ScryptRefusal.InputFault ≡ true }
     ensures damaged_may { may_follow_work ScryptRefusal.Damaged ≡ true }
     ensures memory { may_follow_work ScryptRefusal.OutOfMemory ≡ false }
@@ -57,6 +57,6 @@ fn refusals_after_work()
 
 // Want of memory is S15 alone: S8 is a limit.
 fn wants_of_memory()
-    ensures refused { is_want ScryptRefusal.OutOfMemory ≡ true }
-    ensures limit { is_want ScryptRefusal.MemoryLimit ≡ false }
+    ensures refused { is_out_of_memory ScryptRefusal.OutOfMemory ≡ true }
+    ensures limit { is_out_of_memory ScryptRefusal.MemoryLimit ≡ false }
 {}

@@ -7,7 +7,7 @@ use Rattle.encfile.specs.EncryptedFile.{released_text}
 use Rattle.encfile.specs.declared.dec.Dec.{Dec}
 use Rattle.encfile.proofs.Reading.{length-read, released_text-short}
 use Rattle.encfile.proofs.Fronts.{front_refusal-wrong}
-use Rattle.host.specs.Seen.{Seen}
+use Rattle.host.specs.HostState.{HostState}
 use Rattle.scrypt_run.specs.Decrypting.{DecryptRefused, limits_refusal_of, text_after}
 use Rattle.scrypt_run.specs.Inside.Decrypting.{OpenRefused}
 use Rattle.scrypt_run.specs.Passphrase.{first_line_at}
@@ -17,7 +17,7 @@ use Rattle.scrypt_run.specs.Steps.{passphrase_asked}
 use Rattle.scrypt_request.specs.declared.refusal.ScryptRefusal.{ScryptRefusal}
 
 -- before the output was opened: the step's refusals among the run's
-pub opening_ends : (task : Task) (before after : Seen) (r : ScryptRefusal) → 96 ≤ length before.input → limits_refusal_of task before ≡ None
+pub opening_ends : (task : Task) (before after : HostState) (r : ScryptRefusal) → 96 ≤ length before.input → limits_refusal_of task before ≡ None
     → after ≡ passphrase_asked task 96 before → OpenRefused r (first_line_at task.source before) (take 96 before.input) → DecryptRefused r task before after
 opening_ends task before after r long checked same (inl refused) = inr (checked, inl (refused, same))
 opening_ends task before after r long checked same (inr (inl (is, passphrase, given))) = inr (checked, inr (passphrase, given, inl (is, same)))

@@ -8,13 +8,13 @@ use Rattle.encfile.specs.Encrypting.{HasEncrypted}
 use Rattle.encfile.specs.Inside.Lengths.{length_encrypted}
 use Rattle.encfile.specs.declared.enc.Enc.{Enc}
 use Rattle.encfile.proofs.Files.{length-body, length-encrypted_file, length_encrypted-is}
-use Rattle.host.specs.Seen.{Seen, after_ask, after_open_input, after_pull, after_push}
+use Rattle.host.specs.HostState.{HostState, after_ask, after_open_input, after_pull, after_push}
 use Rattle.scrypt_run.specs.Encrypting.{EncryptRefused, costs_refusal_of, decided, salt_used}
 use Rattle.scrypt_run.specs.Inside.Encrypting.{StartRefused, TextNotOpened}
 use Rattle.scrypt_run.specs.Passphrase.{HasPassphrase, first_line_at}
 use Rattle.scrypt_request.specs.Request.{Encryption}
-use Rattle.scrypt_run.specs.Steps.{after_passing, passphrase_asked}
-use Rattle.scrypt_run.specs.Text.{EndsText, FailsWriting}
+use Rattle.scrypt_run.specs.Steps.{after_pull_and_push, passphrase_asked}
+use Rattle.scrypt_run.specs.Text.{EndsTextEarly, FailsWriting}
 use Rattle.scrypt_request.specs.declared.refusal.ScryptRefusal.{ScryptRefusal}
 use Rattle.host.proofs.Pushes.{push_push}
 use Rattle.scrypt_run.proofs.Ends.{first_line_at-reading, salt_used-opening}
@@ -23,7 +23,7 @@ use Rattle.scrypt_run.proofs.Passing.{begun_on}
 -- ---- the passphrase and the salt
 
 -- an encryption that was started after the input's opening has the passphrase and the salt of the run
-pub started_before : (asked : Encryption) (enc : Enc) (s t : Seen) → t ≡ after_open_input asked.task.infile s
+pub started_before : (asked : Encryption) (enc : Enc) (s t : HostState) → t ≡ after_open_input asked.task.infile s
     → (passphrase : List ℕ) × HasPassphrase (first_line_at asked.task.source t) passphrase × HasEncrypted enc passphrase (salt_used asked.salt t) asked.costs []
     → (passphrase : List ℕ) × HasPassphrase (first_line_at asked.task.source s) passphrase × HasEncrypted enc passphrase (salt_used asked.salt s) asked.costs []
 started_before asked enc s t opened started =
@@ -34,12 +34,12 @@ started_before asked enc s t opened started =
 -- ---- the steps' refusals among the run's
 
 -- before the input was opened
-pub opening_ends : (asked : Encryption) (before after : Seen) (r : ScryptRefusal) → TextNotOpened r asked before after → EncryptRefused r asked before after
+pub opening_ends : (asked : Encryption) (before after : HostState) (r : ScryptRefusal) → TextNotOpened r asked before after → EncryptRefused r asked before after
 opening_ends asked before after r (same, inl told) = inl (told, same)
 opening_ends asked before after r (same, inr (admitted, is)) = inr (admitted, inl (is, same))
 
 -- before the output was opened
-start_ends : (asked : Encryption) (before after : Seen) (r : ScryptRefusal) → costs_refusal_of asked ≡ None
+start_ends : (asked : Encryption) (before after : HostState) (r : ScryptRefusal) → costs_refusal_of asked ≡ None
     → StartRefused r asked.salt (first_line_at asked.task.source before) (passphrase_asked asked.task 0 before) after → EncryptRefused r asked before after
 start_ends asked before after r admitted (inl refused) = inr (admitted, inr (inl refused))
 start_ends asked before after r admitted (inr (inl (is, none, same, passphrase, given))) =
@@ -48,7 +48,7 @@ start_ends asked before after r admitted (inr (inr (is, same, passphrase, given)
     inr (admitted, inr (inr (passphrase, given, inr (inl (is, same)))))
 
 -- of the host once the input was opened
-pub starting_ends : (asked : Encryption) (before opened after : Seen) (r : ScryptRefusal) → opened ≡ after_open_input asked.task.infile before
+pub starting_ends : (asked : Encryption) (before opened after : HostState) (r : ScryptRefusal) → opened ≡ after_open_input asked.task.infile before
     → costs_refusal_of asked ≡ None → StartRefused r asked.salt (first_line_at asked.task.source opened) (after_ask asked.task.source opened) after
     → EncryptRefused r asked before after
 starting_ends asked before opened after r opens admitted refused =
@@ -110,7 +110,7 @@ tail_of passphrase salt costs size text long = tail_by (length text == size) pas
 -- ---- how writing ends early
 
 -- the first 96 bytes were cut short
-pub header_cut : (passphrase salt : List ℕ) (costs : Parameters) (n : ℕ) (header : List ℕ) (s t : Seen) → length salt ≡ 32 → header ≡ body passphrase salt costs []
+pub header_cut : (passphrase salt : List ℕ) (costs : Parameters) (n : ℕ) (header : List ℕ) (s t : HostState) → length salt ≡ 32 → header ≡ body passphrase salt costs []
     → n < length header → t ≡ after_push (take n header) s → FailsWriting (2 ^ 60) 4096 (body passphrase salt costs) s t
 header_cut passphrase salt costs n header s t long is few pushed = record {
   pulled = 0;
@@ -123,7 +123,7 @@ header_cut passphrase salt costs n header s t long is few pushed = record {
 }
 
 -- a beginning of the body so far was written, so one of what is decided, of a text of any size
-body_cut : (passphrase salt : List ℕ) (costs : Parameters) (size : ℕ) (s t : Seen) → length salt ≡ 32
+body_cut : (passphrase salt : List ℕ) (costs : Parameters) (size : ℕ) (s t : HostState) → length salt ≡ 32
     → FailsWriting (2 ^ 60) 4096 (body passphrase salt costs) s t → FailsWriting (2 ^ 60) 4128 (decided passphrase salt costs size) s t
 body_cut passphrase salt costs size s t long f =
     let text = take f.pulled s.input in
@@ -141,17 +141,17 @@ body_cut passphrase salt costs size s t long f =
     }
 
 -- the text's passing ended early
-pub passing_ended : (r : ScryptRefusal) (passphrase salt : List ℕ) (costs : Parameters) (size : ℕ) (s t : Seen) → length salt ≡ 32
-    → EndsText r (2 ^ 60) 4096 (body passphrase salt costs) (body passphrase salt costs) s t
-    → EndsText r (2 ^ 60) 4128 (body passphrase salt costs) (decided passphrase salt costs size) s t
+pub passing_ended : (r : ScryptRefusal) (passphrase salt : List ℕ) (costs : Parameters) (size : ℕ) (s t : HostState) → length salt ≡ 32
+    → EndsTextEarly r (2 ^ 60) 4096 (body passphrase salt costs) (body passphrase salt costs) s t
+    → EndsTextEarly r (2 ^ 60) 4128 (body passphrase salt costs) (decided passphrase salt costs size) s t
 passing_ended r passphrase salt costs size s t long (inl f) = inl f
 passing_ended r passphrase salt costs size s t long (inr (inl f)) = inr (inl (f.0, body_cut passphrase salt costs size s t long f.1))
 passing_ended r passphrase salt costs size s t long (inr (inr f)) = inr (inr f)
 
 -- the final code was cut short
-pub code_cut : (passphrase salt : List ℕ) (costs : Parameters) (n : ℕ) (code : List ℕ) (s t u : Seen) → length salt ≡ 32 → length s.input < 2 ^ 60
+pub code_cut : (passphrase salt : List ℕ) (costs : Parameters) (n : ℕ) (code : List ℕ) (s t u : HostState) → length salt ≡ 32 → length s.input < 2 ^ 60
     → body passphrase salt costs s.input ++ code ≡ encrypted_file passphrase salt costs s.input
-    → t ≡ after_passing (body passphrase salt costs) (length s.input) s → n < length code → u ≡ after_push (take n code) t
+    → t ≡ after_pull_and_push (body passphrase salt costs) (length s.input) s → n < length code → u ≡ after_push (take n code) t
     → FailsWriting (2 ^ 60) 4128 (decided passphrase salt costs (length s.input)) s u
 code_cut passphrase salt costs n code s t u long short_text is passes few pushed =
     let size = length s.input in

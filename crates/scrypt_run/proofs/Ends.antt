@@ -1,7 +1,7 @@
 -- What holds of a result, carried on to what follows from it; and what reading the input keeps.
 use Rattle.std.proofs.Common.{◌≡◌, ℕ, List, Option, Some, None, Result, Ok, Err, OnOk, IfErr, IfOk, IsErrAnd, MatchResult, refl, sym, subst, ◌∙◌}
-use Rattle.host.specs.Seen.{SecretSource, Seen, Text, after_open_input}
-use Rattle.host.specs.Seen.SecretSource.{env as variable, file as secret_file, stdin_once}
+use Rattle.host.specs.HostState.{SecretSource, HostState, Text, after_open_input}
+use Rattle.host.specs.HostState.SecretSource.{env as variable, file as secret_file, stdin_once}
 use Rattle.scrypt_run.specs.Encrypting.{salt_used}
 use Rattle.scrypt_run.specs.Passphrase.{first_line_at}
 use Rattle.scrypt_run.specs.Steps.{after_reading}
@@ -28,13 +28,13 @@ always_err (Ok a) f = tt
 always_err (Err e) f = f e
 
 -- reading the input leaves the secrets
-pub first_line_at-reading : (source : SecretSource) (infile : Option Text) (n : ℕ) (s : Seen) → first_line_at source (after_reading infile n s) ≡ first_line_at source s
+pub first_line_at-reading : (source : SecretSource) (infile : Option Text) (n : ℕ) (s : HostState) → first_line_at source (after_reading infile n s) ≡ first_line_at source s
 first_line_at-reading stdin_once infile n s = refl
 first_line_at-reading (variable name) infile n s = refl
 first_line_at-reading (secret_file name) infile n s = refl
 
 -- and its opening leaves the salt
-pub salt_used-opening : (salt : Option (List ℕ)) (infile : Option Text) (s : Seen) → salt_used salt (after_open_input infile s) ≡ salt_used salt s
+pub salt_used-opening : (salt : Option (List ℕ)) (infile : Option Text) (s : HostState) → salt_used salt (after_open_input infile s) ≡ salt_used salt s
 salt_used-opening None infile s = refl
 salt_used-opening (Some salt) infile s = refl
 

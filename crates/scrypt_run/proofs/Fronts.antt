@@ -11,7 +11,7 @@ use Rattle.encfile.specs.Header.{costs_of, salt_of}
 use Rattle.encfile.proofs.Fronts.{format_refusal-short, format_refusal-take, limits_refusal-costs, limits_refusal-format, limits_refusal-take}
 use Rattle.encfile.proofs.Headers.{costs_of-take}
 use Rattle.encfile.proofs.Pieces.{bytes_at-take}
-use Rattle.host.specs.Seen.{Seen, Text, after_open_input, after_pull}
+use Rattle.host.specs.HostState.{HostState, Text, after_open_input, after_pull}
 use Rattle.scrypt_run.specs.Front.{FrontRefused}
 use Rattle.scrypt_run.specs.Inspecting.{costs_line}
 use Rattle.scrypt_run.specs.Refusal.{refusal_of}
@@ -22,18 +22,18 @@ use Rattle.scrypt_request.specs.declared.refusal.ScryptRefusal.TheVariants as re
 -- ---- how many bytes there were
 
 -- fewer than 96: all are pulled
-pub short_input : (infile : Option Text) (n : ℕ) (s t u : Seen) → t ≡ after_open_input infile s → n < 96 → length t.input ≤ n
+pub short_input : (infile : Option Text) (n : ℕ) (s t u : HostState) → t ≡ after_open_input infile s → n < 96 → length t.input ≤ n
     → u ≡ after_pull n t → FrontRefused refusal.NotScryptData (format_refusal s.input) infile s u
 short_input infile n s t u opened few whole pulled =
-    let same : length t.input ≡ length s.input = ap (λ (w : Seen). length w.input) opened in
+    let same : length t.input ≡ length s.input = ap (λ (w : HostState). length w.input) opened in
     let all : drop n s.input ≡ drop 96 s.input = drop_all n s.input (omega (arith, same, whole)) ∙ sym (drop_all 96 s.input (omega (arith, same, few, whole))) in
     inr (
       ap (option_map refusal_of) (format_refusal-short s.input (omega (arith, same, few, whole))),
-      pulled ∙ ap (after_pull n) opened ∙ ap (λ xs. let w : Seen = record (after_open_input infile s) { input = xs } in w) all,
+      pulled ∙ ap (after_pull n) opened ∙ ap (λ xs. let w : HostState = record (after_open_input infile s) { input = xs } in w) all,
     )
 
 -- 96 at least, and then a test refuses them
-pub refused_front : (r : ScryptRefusal) (first of_front : Option FrontRefusal) (infile : Option Text) (s u : Seen) → u ≡ after_reading infile 96 s
+pub refused_front : (r : ScryptRefusal) (first of_front : Option FrontRefusal) (infile : Option Text) (s u : HostState) → u ≡ after_reading infile 96 s
     → of_front ≡ first → option_map refusal_of of_front ≡ Some r → FrontRefused r first infile s u
 refused_front r first of_front infile s u reads same refused = inr (ap (option_map refusal_of) (sym same) ∙ refused, reads)
 
@@ -67,7 +67,7 @@ goes_on None later r more h = absurd (none-some r h)
 goes_on (Some x) later r more h = ap (option_map refusal_of) (more x refl) ∙ h
 
 -- what refuses the header refuses the file under each limits
-pub format_first : (r : ScryptRefusal) (allowed : Allowance) (infile : Option Text) (s u : Seen) → FrontRefused r (format_refusal s.input) infile s u
+pub format_first : (r : ScryptRefusal) (allowed : Allowance) (infile : Option Text) (s u : HostState) → FrontRefused r (format_refusal s.input) infile s u
     → FrontRefused r (limits_refusal s.input allowed) infile s u
 format_first r allowed infile s u (inl h) = inl h
 format_first r allowed infile s u (inr h) =

@@ -7,7 +7,7 @@ use Rattle.encfile.specs.Front.{FrontRefusal, costs_refusal, format_refusal, fro
 use Rattle.encfile.specs.Front.FrontRefusal.{WrongPassphrase}
 use Rattle.encfile.specs.Header.{costs_of}
 use Rattle.encfile.proofs.Fronts.{limits_refusal-costs, limits_refusal-format}
-use Rattle.host.specs.Seen.{Seen}
+use Rattle.host.specs.HostState.{HostState}
 use Rattle.scrypt_run.specs.Decrypting.{DecryptRefused, DecryptSucceeds}
 use Rattle.scrypt_run.specs.Encrypting.{EncryptRefused, EncryptSucceeds}
 use Rattle.scrypt_run.specs.Laws.{AdmitsCosts, with_keep}
@@ -44,7 +44,7 @@ encryption_with keep asked = let task : Task = record (asked.task) { keep = keep
 abbrev task_with : ℕ → Task → Task
 task_with keep task = record task { keep = keep }
 
-encrypted_with : (asked : Encryption) (keep : ℕ) (before after : Seen) → AdmitsCosts (encrypt (encryption_with keep asked)) before
+encrypted_with : (asked : Encryption) (keep : ℕ) (before after : HostState) → AdmitsCosts (encrypt (encryption_with keep asked)) before
     → EncryptSucceeds asked before after → EncryptSucceeds (encryption_with keep asked) before after
 encrypted_with asked keep before after admits done = record {
   admitted = admits;
@@ -53,7 +53,7 @@ encrypted_with asked keep before after admits done = record {
   encrypted = done.encrypted;
 }
 
-decrypted_with : (task : Task) (keep : ℕ) (before after : Seen)
+decrypted_with : (task : Task) (keep : ℕ) (before after : HostState)
     → limits_refusal before.input (allowance_of task) ≡ limits_refusal before.input (allowance_of (task_with keep task))
     → DecryptSucceeds task before after → DecryptSucceeds (task_with keep task) before after
 decrypted_with task keep before after same done = record {
@@ -63,21 +63,21 @@ decrypted_with task keep before after same done = record {
   decrypted = done.decrypted;
 }
 
-pub succeeds_with_any : (request : Request) (keep : ℕ) (before after : Seen) → AdmitsCosts request before → AdmitsCosts (with_keep keep request) before
+pub succeeds_with_any : (request : Request) (keep : ℕ) (before after : HostState) → AdmitsCosts request before → AdmitsCosts (with_keep keep request) before
     → RequestSucceeds request before after → RequestSucceeds (with_keep keep request) before after
 succeeds_with_any (encrypt asked) keep before after one other done = encrypted_with asked keep before after other done
 succeeds_with_any (decrypt task) keep before after one other done =
     decrypted_with task keep before after (same_limits before.input (allowance_of task) (allowance_of (task_with keep task)) one other) done
 succeeds_with_any (inspect infile) keep before after one other done = done
 
-encrypt_refused_with : (asked : Encryption) (keep : ℕ) (before after : Seen) (r : ScryptRefusal) → AdmitsCosts (encrypt asked) before
+encrypt_refused_with : (asked : Encryption) (keep : ℕ) (before after : HostState) (r : ScryptRefusal) → AdmitsCosts (encrypt asked) before
     → AdmitsCosts (encrypt (encryption_with keep asked)) before → EncryptRefused r asked before after
     → EncryptRefused r (encryption_with keep asked) before after
 encrypt_refused_with asked keep before after r one other (inl told) =
     absurd (none_refuses (costs_refusal asked.costs (allowance_of asked.task)) r one told.0)
 encrypt_refused_with asked keep before after r one other (inr ends) = inr (other, ends.1)
 
-decrypt_refused_with : (task : Task) (keep : ℕ) (before after : Seen) (r : ScryptRefusal)
+decrypt_refused_with : (task : Task) (keep : ℕ) (before after : HostState) (r : ScryptRefusal)
     → limits_refusal before.input (allowance_of task) ≡ limits_refusal before.input (allowance_of (task_with keep task))
     → DecryptRefused r task before after → DecryptRefused r (task_with keep task) before after
 decrypt_refused_with task keep before after r same (inl (inl failed)) = inl (inl failed)
@@ -93,7 +93,7 @@ decrypt_refused_with task keep before after r same (inr (checked, inr (passphras
     let front = same_front before.input (allowance_of task) (allowance_of (task_with keep task)) passphrase same in
     inr (sym same ∙ checked, inr (passphrase, given, inr (inr (sym front ∙ ends.0, ends.1))))
 
-pub refused_with_any : (request : Request) (keep : ℕ) (before after : Seen) (r : ScryptRefusal) → AdmitsCosts request before
+pub refused_with_any : (request : Request) (keep : ℕ) (before after : HostState) (r : ScryptRefusal) → AdmitsCosts request before
     → AdmitsCosts (with_keep keep request) before → RequestRefused r request before after → RequestRefused r (with_keep keep request) before after
 refused_with_any (encrypt asked) keep before after r one other refused = encrypt_refused_with asked keep before after r one other refused
 refused_with_any (decrypt task) keep before after r one other refused =

@@ -10,7 +10,7 @@ use Rattle.encfile.specs.Front.{FrontRefusal, front_refusal, limits_refusal}
 use Rattle.encfile.specs.Laws.{GivesBack}
 use Rattle.encfile.proofs.Files.{GivesBack-is, length-encrypted_file}
 use Rattle.encfile.proofs.Fronts.{front_refusal-encrypted_file, front_refusal-limits}
-use Rattle.host.specs.Seen.{Seen, Text}
+use Rattle.host.specs.HostState.{HostState, Text}
 use Rattle.scrypt_run.specs.Decrypting.{DecryptRefused, DecryptSucceeds, front_refusal_of, limits_refusal_of}
 use Rattle.scrypt_run.specs.Inside.Decrypting.{ReleaseRefused}
 use Rattle.scrypt_run.specs.Laws.{CanBeOpened, IsFromOutside, WroteWhatWasEncrypted}
@@ -33,14 +33,14 @@ all_of_rest : (n : ℕ) (xs : List ℕ) → take n xs ++ take (length (drop n xs
 all_of_rest n xs = grind (arith, common_steps)
 
 -- the front is taken, and the whole is an encryption, under the passphrase that the source gives
-pub record IsGenuine (task : Task) (before : Seen) (passphrase : List ℕ) : Type 0 where
+pub record IsGenuine (task : Task) (before : HostState) (passphrase : List ℕ) : Type 0 where
   pub given : HasPassphrase (first_line_at task.source before) passphrase
   pub passes : front_refusal_of task before passphrase ≡ None
   pub encryption : IsEncryptionOf before.input passphrase (released_text before.input passphrase)
 
 -- ---- a run that ends well
 
-pub genuine_by_success : (task : Task) (before after : Seen) (ends : DecryptSucceeds task before after) → IsGenuine task before ends.passphrase
+pub genuine_by_success : (task : Task) (before after : HostState) (ends : DecryptSucceeds task before after) → IsGenuine task before ends.passphrase
 genuine_by_success task before after ends = record {
   given = ends.given;
   passes = ends.passes;
@@ -48,14 +48,14 @@ genuine_by_success task before after ends = record {
 }
 
 -- what is written is what the input releases
-what_is_written : (task : Task) (before after : Seen) (ends : DecryptSucceeds task before after)
+what_is_written : (task : Task) (before after : HostState) (ends : DecryptSucceeds task before after)
     → after.output ≡ before.output ++ released_text before.input ends.passphrase
 what_is_written task before after ends =
-    ap (λ (s : Seen). s.output) ends.decrypted.released
+    ap (λ (s : HostState). s.output) ends.decrypted.released
     ∙ ap (λ f. before.output ++ released_text f ends.passphrase) (all_of_rest 96 before.input)
 
 -- and the input is an encryption of it
-pub wrote_what_was_encrypted : (task : Task) (before after : Seen) → DecryptSucceeds task before after → WroteWhatWasEncrypted task before after
+pub wrote_what_was_encrypted : (task : Task) (before after : HostState) → DecryptSucceeds task before after → WroteWhatWasEncrypted task before after
 wrote_what_was_encrypted task before after ends = record {
   passphrase = ends.passphrase;
   text = released_text before.input ends.passphrase;
@@ -66,17 +66,17 @@ wrote_what_was_encrypted task before after ends = record {
 
 -- ---- the file of a text
 
-gives_back : (task : Task) (before : Seen) (passphrase salt : List ℕ) (costs : Parameters) (text : List ℕ)
+gives_back : (task : Task) (before : HostState) (passphrase salt : List ℕ) (costs : Parameters) (text : List ℕ)
     → CanBeOpened task before passphrase salt costs text → GivesBack passphrase salt costs text
 gives_back task before passphrase salt costs text h = GivesBack-is passphrase salt costs text h.salt_has_32_bytes h.in_range h.below_limit
 
 -- what is released is the text
-released : (task : Task) (before : Seen) (passphrase salt : List ℕ) (costs : Parameters) (text : List ℕ)
+released : (task : Task) (before : HostState) (passphrase salt : List ℕ) (costs : Parameters) (text : List ℕ)
     → CanBeOpened task before passphrase salt costs text → released_text before.input passphrase ≡ text
 released task before passphrase salt costs text h =
     ap (λ f. released_text f passphrase) h.input ∙ (gives_back task before passphrase salt costs text h).released
 
-genuine_by_file : (task : Task) (before : Seen) (passphrase salt : List ℕ) (costs : Parameters) (text : List ℕ)
+genuine_by_file : (task : Task) (before : HostState) (passphrase salt : List ℕ) (costs : Parameters) (text : List ℕ)
     → CanBeOpened task before passphrase salt costs text → IsGenuine task before passphrase
 genuine_by_file task before passphrase salt costs text h = record {
   given = h.given;
@@ -86,7 +86,7 @@ genuine_by_file task before passphrase salt costs text h = record {
       (subst (λ f. IsEncryptionOf f passphrase text) (sym h.input) (gives_back task before passphrase salt costs text h).encryption);
 }
 
-pub text_is_written : (task : Task) (before after : Seen) (passphrase salt : List ℕ) (costs : Parameters) (text : List ℕ)
+pub text_is_written : (task : Task) (before after : HostState) (passphrase salt : List ℕ) (costs : Parameters) (text : List ℕ)
     → CanBeOpened task before passphrase salt costs text → DecryptSucceeds task before after → after.output ≡ before.output ++ text
 text_is_written task before after passphrase salt costs text h ends =
     what_is_written task before after ends
@@ -111,21 +111,21 @@ passphrase_from_outside line passphrase r given (inr (is, long, line_is, longer)
     let same : long ≡ passphrase = same_Some long passphrase (sym line_is ∙ given.is) in
     absurd (let h : ⊥ = omega (arith, ap length same, longer, given.fits) in h)
 
-pub front_from_outside : (first : Option FrontRefusal) (infile : Option Text) (before after : Seen) (r : ScryptRefusal) → first ≡ None
+pub front_from_outside : (first : Option FrontRefusal) (infile : Option Text) (before after : HostState) (r : ScryptRefusal) → first ≡ None
     → FrontRefused r first infile before after → IsFromOutside r
 front_from_outside first infile before after r none (inl failed) = inl failed.0
 front_from_outside first infile before after r none (inr told) = absurd (none_refuses first r none told.0)
 
-length_input : (task : Task) (before : Seen) (passphrase : List ℕ) → IsGenuine task before passphrase
+length_input : (task : Task) (before : HostState) (passphrase : List ℕ) → IsGenuine task before passphrase
     → length before.input ≡ 128 + length (released_text before.input passphrase)
 length_input task before passphrase h =
     ap length h.encryption.bytes
     ∙ length-encrypted_file passphrase h.encryption.salt h.encryption.costs (released_text before.input passphrase) h.encryption.salt_has_32_bytes
 
-admitted : (task : Task) (before : Seen) (passphrase : List ℕ) → IsGenuine task before passphrase → limits_refusal_of task before ≡ None
+admitted : (task : Task) (before : HostState) (passphrase : List ℕ) → IsGenuine task before passphrase → limits_refusal_of task before ≡ None
 admitted task before passphrase h = limits_pass before.input (allowance_of task) passphrase _ refl h.passes
 
-releasing_from_outside : (task : Task) (before after : Seen) (passphrase other : List ℕ) (r : ScryptRefusal) → IsGenuine task before passphrase
+releasing_from_outside : (task : Task) (before after : HostState) (passphrase other : List ℕ) (r : ScryptRefusal) → IsGenuine task before passphrase
     → HasPassphrase (first_line_at task.source before) other
     → ReleaseRefused r other (take 96 before.input) task.outfile (passphrase_asked task 96 before) after → IsFromOutside r
 releasing_from_outside task before after passphrase other r h given (inl failed) = inr (inl failed.0)
@@ -139,7 +139,7 @@ releasing_from_outside task before after passphrase other r h given (inr (inr (i
     absurd (damaged.damaged (subst (λ f. IsEncryptionOf f other (released_text f other)) (sym (both_parts 96 before.input))
     (subst (λ p. IsEncryptionOf before.input p (released_text before.input p)) (sym same) h.encryption)))
 
-pub decrypt_from_outside : (task : Task) (before after : Seen) (passphrase : List ℕ) (r : ScryptRefusal) → IsGenuine task before passphrase
+pub decrypt_from_outside : (task : Task) (before after : HostState) (passphrase : List ℕ) (r : ScryptRefusal) → IsGenuine task before passphrase
     → DecryptRefused r task before after → IsFromOutside r
 decrypt_from_outside task before after passphrase r h (inl front) = front_from_outside _ task.infile before after r (admitted task before passphrase h) front
 decrypt_from_outside task before after passphrase r h (inr (checked, inl refused)) = passphrase_from_outside _ passphrase r h.given refused.0
@@ -150,7 +150,7 @@ decrypt_from_outside task before after passphrase r h (inr (checked, inr (other,
 decrypt_from_outside task before after passphrase r h (inr (checked, inr (other, given, inr (inr ends)))) =
     releasing_from_outside task before after passphrase other r h given ends.1
 
-pub file_from_outside : (task : Task) (before after : Seen) (passphrase salt : List ℕ) (costs : Parameters) (text : List ℕ) (r : ScryptRefusal)
+pub file_from_outside : (task : Task) (before after : HostState) (passphrase salt : List ℕ) (costs : Parameters) (text : List ℕ) (r : ScryptRefusal)
     → CanBeOpened task before passphrase salt costs text → DecryptRefused r task before after → IsFromOutside r
 file_from_outside task before after passphrase salt costs text r h refused =
     decrypt_from_outside task before after passphrase r (genuine_by_file task before passphrase salt costs text h) refused

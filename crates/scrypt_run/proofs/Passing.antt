@@ -5,31 +5,31 @@ use borrow.Rule.Slice.PartMut.{put_mid}
 use Rattle.std.proofs.lemmas.List.{append-nil, append_assoc, length-drop}
 use Rattle.std.proofs.Math.Seq.{take-add, drop-drop}
 use Rattle.std.proofs.lemmas.Grind.{common_steps}
-use Rattle.host.specs.Seen.{Seen, after_pull, after_push}
-use Rattle.scrypt_run.specs.Steps.{after_passing}
+use Rattle.host.specs.HostState.{HostState, after_pull, after_push}
+use Rattle.scrypt_run.specs.Steps.{after_pull_and_push}
 
 -- ---- a text through a cipher: `gives` is what the bytes so far give
 
 -- n bytes more are pulled, and `more` is written
-pub pass_on : (gives : List ℕ → List ℕ) (j n : ℕ) (more : List ℕ) (s t u v : Seen) → t ≡ after_passing gives j s → u ≡ after_pull n t → v ≡ after_push more u
+pub pass_on : (gives : List ℕ → List ℕ) (j n : ℕ) (more : List ℕ) (s t u v : HostState) → t ≡ after_pull_and_push gives j s → u ≡ after_pull n t → v ≡ after_push more u
     → v ≡ after_push (gives (take j s.input) ++ more) (after_pull (j + n) s)
 pass_on gives j n more s t u v first pulled pushed =
     pushed ∙ ap (after_push more) pulled ∙ ap (λ w. after_push more (after_pull n w)) first
-    ∙ ap (λ xs. let w : Seen = record s { input = xs; output = s.output ++ gives (take j s.input) ++ more } in w) (drop-drop n j s.input)
-    ∙ ap (λ ys. let w : Seen = record s { input = drop (j + n) s.input; output = ys } in w) (append_assoc s.output (gives (take j s.input)) more)
+    ∙ ap (λ xs. let w : HostState = record s { input = xs; output = s.output ++ gives (take j s.input) ++ more } in w) (drop-drop n j s.input)
+    ∙ ap (λ ys. let w : HostState = record s { input = drop (j + n) s.input; output = ys } in w) (append_assoc s.output (gives (take j s.input)) more)
 
 -- the bytes that were pulled are the next
-pub take_on : (gives : List ℕ → List ℕ) (j n : ℕ) (piece : List ℕ) (s t : Seen) → t ≡ after_passing gives j s → piece ≡ take n t.input
+pub take_on : (gives : List ℕ → List ℕ) (j n : ℕ) (piece : List ℕ) (s t : HostState) → t ≡ after_pull_and_push gives j s → piece ≡ take n t.input
     → take j s.input ++ piece ≡ take (j + n) s.input
 take_on gives j n piece s t first is =
-    ap (λ xs. take j s.input ++ xs) (is ∙ ap (λ (w : Seen). take n w.input) first) ∙ sym (take-add j n s.input)
+    ap (λ xs. take j s.input ++ xs) (is ∙ ap (λ (w : HostState). take n w.input) first) ∙ sym (take-add j n s.input)
 
 -- what is left after j bytes, and then after n more
-pub left_on : (j n : ℕ) (s t u v : Seen) → t.input ≡ drop j s.input → u ≡ after_pull n t → v.input ≡ u.input → v.input ≡ drop (j + n) s.input
-left_on j n s t u v left pulled same = same ∙ ap (λ (w : Seen). w.input) pulled ∙ ap (drop n) left ∙ drop-drop n j s.input
+pub left_on : (j n : ℕ) (s t u v : HostState) → t.input ≡ drop j s.input → u ≡ after_pull n t → v.input ≡ u.input → v.input ≡ drop (j + n) s.input
+left_on j n s t u v left pulled same = same ∙ ap (λ (w : HostState). w.input) pulled ∙ ap (drop n) left ∙ drop-drop n j s.input
 
 -- what is left bounds the next bytes
-pub fits_on : (j n : ℕ) (s t : Seen) → t.input ≡ drop j s.input → j ≤ length s.input → n ≤ length t.input → j + n ≤ length s.input
+pub fits_on : (j n : ℕ) (s t : HostState) → t.input ≡ drop j s.input → j ≤ length s.input → n ≤ length t.input → j + n ≤ length s.input
 fits_on j n s t left within more =
     let rest : length t.input ≡ length s.input - j = ap length left ∙ length-drop j s.input in
     omega (arith, rest, within, more)
@@ -42,14 +42,14 @@ begun_on (x ∷ before) out m =
     ap (λ xs. x ∷ xs) (begun_on before out m) ∙ ap (λ k. take k (x ∷ before ++ out)) (sym longer)
 
 -- all that the next bytes give is written
-pub pass_whole : (gives : List ℕ → List ℕ) (j n : ℕ) (piece out : List ℕ) (s t u v : Seen) → t ≡ after_passing gives j s → piece ≡ take n t.input → u ≡ after_pull n t
-    → gives (take j s.input ++ piece) ≡ gives (take j s.input) ++ out → v ≡ after_push out u → v ≡ after_passing gives (j + n) s
+pub pass_whole : (gives : List ℕ → List ℕ) (j n : ℕ) (piece out : List ℕ) (s t u v : HostState) → t ≡ after_pull_and_push gives j s → piece ≡ take n t.input → u ≡ after_pull n t
+    → gives (take j s.input ++ piece) ≡ gives (take j s.input) ++ out → v ≡ after_push out u → v ≡ after_pull_and_push gives (j + n) s
 pass_whole gives j n piece out s t u v first is pulled given pushed =
     pass_on gives j n out s t u v first pulled pushed
     ∙ ap (λ xs. after_push xs (after_pull (j + n) s)) (sym given ∙ ap gives (take_on gives j n piece s t first is))
 
 -- a beginning of it is written
-pub pass_part : (gives : List ℕ → List ℕ) (j n m : ℕ) (piece out : List ℕ) (s t u v : Seen) → t ≡ after_passing gives j s → piece ≡ take n t.input → u ≡ after_pull n t
+pub pass_part : (gives : List ℕ → List ℕ) (j n m : ℕ) (piece out : List ℕ) (s t u v : HostState) → t ≡ after_pull_and_push gives j s → piece ≡ take n t.input → u ≡ after_pull n t
     → gives (take j s.input ++ piece) ≡ gives (take j s.input) ++ out → v ≡ after_push (take m out) u
     → v ≡ after_push (take (length (gives (take j s.input)) + m) (gives (take (j + n) s.input))) (after_pull (j + n) s)
 pass_part gives j n m piece out s t u v first is pulled given pushed =
@@ -60,27 +60,27 @@ pass_part gives j n m piece out s t u v first is pulled given pushed =
     ∙ ap (λ xs. after_push xs (after_pull (j + n) s)) (begun ∙ ap (take (length before + m)) (sym whole))
 
 -- how much longer what is given becomes
-pub gives_length : (gives : List ℕ → List ℕ) (j n : ℕ) (piece out : List ℕ) (s t : Seen) → t ≡ after_passing gives j s → piece ≡ take n t.input
+pub gives_length : (gives : List ℕ → List ℕ) (j n : ℕ) (piece out : List ℕ) (s t : HostState) → t ≡ after_pull_and_push gives j s → piece ≡ take n t.input
     → gives (take j s.input ++ piece) ≡ gives (take j s.input) ++ out → length (gives (take (j + n) s.input)) ≡ length (gives (take j s.input)) + length out
 gives_length gives j n piece out s t first is given =
     let whole : gives (take (j + n) s.input) ≡ gives (take j s.input) ++ out = ap gives (sym (take_on gives j n piece s t first is)) ∙ given in
     ap length whole ∙ grind (arith, common_steps)
 
 -- the next bytes are pulled, and nothing is written
-pub pass_none : (gives : List ℕ → List ℕ) (j n : ℕ) (s t u : Seen) → t ≡ after_passing gives j s → u ≡ after_pull n t → u ≡ after_push (gives (take j s.input)) (after_pull (j + n) s)
+pub pass_none : (gives : List ℕ → List ℕ) (j n : ℕ) (s t u : HostState) → t ≡ after_pull_and_push gives j s → u ≡ after_pull n t → u ≡ after_push (gives (take j s.input)) (after_pull (j + n) s)
 pass_none gives j n s t u first pulled =
-    pulled ∙ ap (after_pull n) first ∙ ap (λ xs. let w : Seen = record s { input = xs; output = s.output ++ gives (take j s.input) } in w) (drop-drop n j s.input)
+    pulled ∙ ap (after_pull n) first ∙ ap (λ xs. let w : HostState = record s { input = xs; output = s.output ++ gives (take j s.input) } in w) (drop-drop n j s.input)
 
 -- the whole input
-pub pass_all : (gives : List ℕ → List ℕ) (j : ℕ) (s t : Seen) → t ≡ after_passing gives j s → t.input ≡ [] → j ≤ length s.input → j ≡ length s.input
+pub pass_all : (gives : List ℕ → List ℕ) (j : ℕ) (s t : HostState) → t ≡ after_pull_and_push gives j s → t.input ≡ [] → j ≤ length s.input → j ≡ length s.input
 pass_all gives j s t first none within =
-    let none_left : length s.input - j ≡ 0 = sym (length-drop j s.input) ∙ ap (λ (w : Seen). length w.input) (sym first) ∙ ap length none in
+    let none_left : length s.input - j ≡ 0 = sym (length-drop j s.input) ∙ ap (λ (w : HostState). length w.input) (sym first) ∙ ap length none in
     omega (arith, none_left, within)
 
 -- before the first byte
-pub starts : (gives : List ℕ → List ℕ) (s : Seen) → gives [] ≡ [] → s ≡ after_passing gives 0 s
+pub starts : (gives : List ℕ → List ℕ) (s : HostState) → gives [] ≡ [] → s ≡ after_pull_and_push gives 0 s
 starts gives s none =
-    (ap (λ ys. let v : Seen = record s { output = ys } in v) (sym (append-nil s.output))) ∙ ap (λ xs. after_push xs s) (sym none)
+    (ap (λ ys. let v : HostState = record s { output = ys } in v) (sym (append-nil s.output))) ∙ ap (λ xs. after_push xs s) (sym none)
 
 -- a beginning of a beginning
 pub take_take : (m n : ℕ) (xs : List ℕ) → m ≤ n → take m xs ≡ take m (take n xs)

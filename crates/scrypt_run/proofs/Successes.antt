@@ -3,38 +3,38 @@ use Rattle.std.proofs.Common.{◌≡◌, ◌<◌, ◌^◌, ◌++◌, ◌⊎◌, 
 use Rattle.std.proofs.lemmas.Grind.{common_steps}
 use Rattle.encfile.specs.EncryptedFile.{encrypted_file}
 use Rattle.encfile.specs.Front.{format_refusal}
-use Rattle.host.specs.Seen.{Seen, Text, after_open_output}
+use Rattle.host.specs.HostState.{HostState, Text, after_open_output}
 use Rattle.scrypt_run.specs.Decrypting.{DecryptSucceeds, text_after}
 use Rattle.scrypt_run.specs.Encrypting.{EncryptRefused, EncryptSucceeds, costs_refusal_of, salt_asked, salt_used}
 use Rattle.scrypt_run.specs.Inspecting.{InspectRefused, InspectSucceeds}
 use Rattle.scrypt_run.specs.Laws.{IsFromOutside, IsRefusedFromOutside, WroteAnEncryption}
 use Rattle.scrypt_request.specs.Request.{Encryption, Request, Task, decrypt, encrypt, inspect}
 use Rattle.scrypt_run.specs.Run.{RequestRefused, RequestSucceeds}
-use Rattle.scrypt_run.specs.Steps.{after_passing, passphrase_asked}
-use Rattle.scrypt_run.specs.Text.{EndsText}
+use Rattle.scrypt_run.specs.Steps.{after_pull_and_push, passphrase_asked}
+use Rattle.scrypt_run.specs.Text.{EndsTextEarly}
 use Rattle.scrypt_request.specs.declared.refusal.ScryptRefusal.{ScryptRefusal}
 use Rattle.scrypt_request.specs.declared.refusal.ScryptRefusal.TheVariants as refusal
 use Rattle.scrypt_run.proofs.Openings.{decrypt_from_outside, front_from_outside, none_refuses, one_passphrase, genuine_by_success, passphrase_from_outside}
 
 -- ---- one success
 
-one_encryption : (asked : Encryption) (before a b : Seen) → EncryptSucceeds asked before a → EncryptSucceeds asked before b → a ≡ b
+one_encryption : (asked : Encryption) (before a b : HostState) → EncryptSucceeds asked before a → EncryptSucceeds asked before b → a ≡ b
 one_encryption asked before a b ha hb =
     let opened = salt_asked asked before in
     ha.encrypted.written
-    ∙ ap (λ p. after_passing (encrypted_file p (salt_used asked.salt before) asked.costs) (length opened.input) (after_open_output asked.task.outfile opened))
+    ∙ ap (λ p. after_pull_and_push (encrypted_file p (salt_used asked.salt before) asked.costs) (length opened.input) (after_open_output asked.task.outfile opened))
     (one_passphrase _ ha.passphrase hb.passphrase ha.given hb.given)
     ∙ sym hb.encrypted.written
 
-one_decryption : (task : Task) (before a b : Seen) → DecryptSucceeds task before a → DecryptSucceeds task before b → a ≡ b
+one_decryption : (task : Task) (before a b : HostState) → DecryptSucceeds task before a → DecryptSucceeds task before b → a ≡ b
 one_decryption task before a b ha hb =
     let pulled = passphrase_asked task 96 before in
     ha.decrypted.released
-    ∙ ap (λ p. after_passing (text_after p (take 96 before.input)) (length pulled.input) (after_open_output task.outfile pulled))
+    ∙ ap (λ p. after_pull_and_push (text_after p (take 96 before.input)) (length pulled.input) (after_open_output task.outfile pulled))
     (one_passphrase _ ha.passphrase hb.passphrase ha.given hb.given)
     ∙ sym hb.decrypted.released
 
-pub one_success : (request : Request) (before a b : Seen) → RequestSucceeds request before a → RequestSucceeds request before b → a ≡ b
+pub one_success : (request : Request) (before a b : HostState) → RequestSucceeds request before a → RequestSucceeds request before b → a ≡ b
 one_success (encrypt asked) before a b ha hb = one_encryption asked before a b ha hb
 one_success (decrypt task) before a b ha hb = one_decryption task before a b ha hb
 one_success (inspect infile) before a b ha hb = ha.written ∙ sym hb.written
@@ -44,7 +44,7 @@ one_success (inspect infile) before a b ha hb = ha.written ∙ sym hb.written
 take_all : (xs : List ℕ) → take (length xs) xs ≡ xs
 take_all xs = grind (arith, common_steps)
 
-pub wrote_an_encryption : (asked : Encryption) (before after : Seen) → EncryptSucceeds asked before after → WroteAnEncryption asked before after
+pub wrote_an_encryption : (asked : Encryption) (before after : HostState) → EncryptSucceeds asked before after → WroteAnEncryption asked before after
 wrote_an_encryption asked before after done =
     let file_of : List ℕ → List ℕ = encrypted_file done.passphrase (salt_used asked.salt before) asked.costs in
     record {
@@ -52,19 +52,19 @@ wrote_an_encryption asked before after done =
       file = file_of before.input;
       given = done.given;
       encryption = done.encrypted.encryption;
-      written = ap (λ (s : Seen). s.output) done.encrypted.written ∙ ap (λ xs. before.output ++ file_of xs) (take_all before.input);
+      written = ap (λ (s : HostState). s.output) done.encrypted.written ∙ ap (λ xs. before.output ++ file_of xs) (take_all before.input);
     }
 
 -- ---- no refusal of the product's own
 
-text_from_outside : (r : ScryptRefusal) (gives decides : List ℕ → List ℕ) (before ended : Seen) → length before.input < 2 ^ 60
-    → EndsText r (2 ^ 60) 4128 gives decides before ended → IsFromOutside r
+text_from_outside : (r : ScryptRefusal) (gives decides : List ℕ → List ℕ) (before ended : HostState) → length before.input < 2 ^ 60
+    → EndsTextEarly r (2 ^ 60) 4128 gives decides before ended → IsFromOutside r
 text_from_outside r gives decides before ended short (inl reading) = inl reading.0
 text_from_outside r gives decides before ended short (inr (inl writing)) = inr (inl writing.0)
 text_from_outside r gives decides before ended short (inr (inr (is, long))) =
     absurd (let h : ⊥ = omega (arith, short, long.within, long.too_long) in h)
 
-encrypt_from_outside : (asked : Encryption) (before after ended : Seen) (r : ScryptRefusal) → EncryptSucceeds asked before after
+encrypt_from_outside : (asked : Encryption) (before after ended : HostState) (r : ScryptRefusal) → EncryptSucceeds asked before after
     → EncryptRefused r asked before ended → IsRefusedFromOutside (encrypt asked) r
 encrypt_from_outside asked before after ended r done (inl told) = absurd (none_refuses (costs_refusal_of asked) r done.admitted told.0)
 encrypt_from_outside asked before after ended r done (inr (admitted, inl failed)) = inl (inl failed.0)
@@ -82,12 +82,12 @@ line_from_outside r Unwritten Left CutShort (inl lacks) = inr (inr (inr lacks.0)
 line_from_outside r Unwritten Left CutShort (inr (inl failed)) = inr (inl failed.0)
 line_from_outside r Unwritten Left CutShort (inr (inr failed)) = inr (inl failed.0)
 
-inspect_from_outside : (infile : Option Text) (before after ended : Seen) (r : ScryptRefusal) → InspectSucceeds infile before after
+inspect_from_outside : (infile : Option Text) (before after ended : HostState) (r : ScryptRefusal) → InspectSucceeds infile before after
     → InspectRefused r infile before ended → IsFromOutside r
 inspect_from_outside infile before after ended r done (inl front) = front_from_outside (format_refusal before.input) infile before ended r done.valid front
 inspect_from_outside infile before after ended r done (inr ends) = line_from_outside r _ _ _ ends.1
 
-pub refused_from_outside : (request : Request) (before after ended : Seen) (r : ScryptRefusal) → RequestSucceeds request before after
+pub refused_from_outside : (request : Request) (before after ended : HostState) (r : ScryptRefusal) → RequestSucceeds request before after
     → RequestRefused r request before ended → IsRefusedFromOutside request r
 refused_from_outside (encrypt asked) before after ended r done refused = encrypt_from_outside asked before after ended r done refused
 refused_from_outside (decrypt task) before after ended r done refused =

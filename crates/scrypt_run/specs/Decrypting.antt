@@ -2,13 +2,13 @@
 use Rattle.std.specs.Prelude.{◌≡◌, ◌+◌, ◌<◌, ◌^◌, ◌++◌, ◌⊎◌, ℕ, List, Option, Some, None, length, option_map, take}
 use Rattle.encfile.specs.EncryptedFile.{IsEncryptionOf, released_text}
 use Rattle.encfile.specs.Front.{FrontRefusal, front_refusal, limits_refusal}
-use Rattle.host.specs.Seen.{Seen, Text, after_ask_output, after_open_output}
+use Rattle.host.specs.HostState.{HostState, Text, after_ask_output, after_open_output}
 use Rattle.scrypt_run.specs.Front.{FrontRefused}
 use Rattle.scrypt_run.specs.Passphrase.{HasPassphrase, PassphraseRefused, first_line_at}
 use Rattle.scrypt_run.specs.Refusal.{refusal_of}
 use Rattle.scrypt_request.specs.Request.{Task, allowance_of}
-use Rattle.scrypt_run.specs.Steps.{after_passing, passphrase_asked}
-use Rattle.scrypt_run.specs.Text.{EndsText}
+use Rattle.scrypt_run.specs.Steps.{after_pull_and_push, passphrase_asked}
+use Rattle.scrypt_run.specs.Text.{EndsTextEarly}
 use Rattle.scrypt_request.specs.declared.refusal.ScryptRefusal.{ScryptRefusal}
 use Rattle.scrypt_request.specs.declared.refusal.ScryptRefusal.TheVariants as refusal
 
@@ -21,19 +21,19 @@ text_after passphrase front more = released_text (front ++ more) passphrase
 
 -- the whole input was read, and the text that it releases was written under the output's name; `front` is the first
 -- 96 bytes of the file, and the input of `before` the bytes after these
-abbrev pub AllReleased : List ℕ → List ℕ → Option Text → Seen → Seen → Type 0
+abbrev pub AllReleased : List ℕ → List ℕ → Option Text → HostState → HostState → Type 0
 AllReleased passphrase front outfile before after =
-    after ≡ after_passing (text_after passphrase front) (length before.input) (after_open_output outfile before)
+    after ≡ after_pull_and_push (text_after passphrase front) (length before.input) (after_open_output outfile before)
 
 -- the whole input was released, and the file is an encryption of what was written; `front` is the first 96 bytes of
 -- the file, and the input of `before` the bytes after these
-pub record Decrypted (passphrase front : List ℕ) (outfile : Option Text) (before after : Seen) : Type 0 where
+pub record Decrypted (passphrase front : List ℕ) (outfile : Option Text) (before after : HostState) : Type 0 where
   pub released : AllReleased passphrase front outfile before after
   pub genuine : IsEncryptionOf (front ++ before.input) passphrase (released_text (front ++ before.input) passphrase)
 
 -- the whole input was released, the file is shorter than 2^60 + 128 bytes, and it is no encryption of what was
 -- written; `front` is the first 96 bytes of the file, and the input of `before` the bytes after these
-pub record IsDamaged (passphrase front : List ℕ) (outfile : Option Text) (before after : Seen) : Type 0 where
+pub record IsDamaged (passphrase front : List ℕ) (outfile : Option Text) (before after : HostState) : Type 0 where
   pub below_limit : length (front ++ before.input) < 2 ^ 60 + 128
   pub released : AllReleased passphrase front outfile before after
   pub damaged : IsEncryptionOf (front ++ before.input) passphrase (released_text (front ++ before.input) passphrase) → ⊥
@@ -42,17 +42,17 @@ pub record IsDamaged (passphrase front : List ℕ) (outfile : Option Text) (befo
 
 -- why the input is refused whatever the passphrase, if it is: by its header, or by its costs with the S and the
 -- limits of the task
-abbrev pub limits_refusal_of : Task → Seen → Option FrontRefusal
+abbrev pub limits_refusal_of : Task → HostState → Option FrontRefusal
 limits_refusal_of task s = limits_refusal s.input (allowance_of task)
 
 -- why the input is refused under the passphrase, if it is: by its header, by its costs with the S and the limits of
 -- the task, or by its bytes 64 to 95
-abbrev pub front_refusal_of : Task → Seen → List ℕ → Option FrontRefusal
+abbrev pub front_refusal_of : Task → HostState → List ℕ → Option FrontRefusal
 front_refusal_of task s passphrase = front_refusal s.input (allowance_of task) passphrase
 
 -- `dec` ends with status 0: the passphrase was given, nothing refuses the first 96 bytes under it, and the text was
 -- written of which the input is an encryption
-pub record DecryptSucceeds (task : Task) (before after : Seen) : Type 0 where
+pub record DecryptSucceeds (task : Task) (before after : HostState) : Type 0 where
   pub passphrase : List ℕ
   pub given : HasPassphrase (first_line_at task.source before) passphrase
   pub passes : front_refusal_of task before passphrase ≡ None
@@ -63,7 +63,7 @@ pub record DecryptSucceeds (task : Task) (before after : Seen) : Type 0 where
 -- than 4,128 bytes of what was decided missing (a piece of 4,096 and a code of 32); all was released and is damaged.
 -- What stands before a `× (` holds for all rows after it: header and costs are not refused, there is a passphrase, and
 -- it is the right one
-abbrev pub DecryptRefused : ScryptRefusal → Task → Seen → Seen → Type 0
+abbrev pub DecryptRefused : ScryptRefusal → Task → HostState → HostState → Type 0
 DecryptRefused r task before after =
     FrontRefused r (limits_refusal_of task before) task.infile before after
     ⊎ ((limits_refusal_of task before ≡ None) × (
@@ -74,7 +74,7 @@ DecryptRefused r task before after =
     × (after ≡ passphrase_asked task 96 before))
     ⊎ ((front_refusal_of task before passphrase ≡ None) × (
     ((r ≡ refusal.OutputFault) × (after ≡ after_ask_output task.outfile (passphrase_asked task 96 before)))
-    ⊎ EndsText r (2 ^ 60 + 32) 4128 (text_after passphrase (take 96 before.input))
+    ⊎ EndsTextEarly r (2 ^ 60 + 32) 4128 (text_after passphrase (take 96 before.input))
     (text_after passphrase (take 96 before.input))
     (after_open_output task.outfile (passphrase_asked task 96 before)) after
     ⊎ ((r ≡ refusal.Damaged)

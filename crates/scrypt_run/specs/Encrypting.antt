@@ -3,21 +3,21 @@ use Rattle.std.specs.Prelude.{◌≡◌, ◌^◌, ◌⊎◌, ◌==◌, ◌||◌,
 use Rattle.romix.specs.Costs.{Parameters}
 use Rattle.encfile.specs.EncryptedFile.{IsEncryptionOf, body, encrypted_file}
 use Rattle.encfile.specs.Front.{FrontRefusal, costs_refusal}
-use Rattle.host.specs.Seen.{Seen, Text, after_ask_output, after_open_output}
+use Rattle.host.specs.HostState.{HostState, Text, after_ask_output, after_open_output}
 use Rattle.scrypt_run.specs.Passphrase.{HasPassphrase, PassphraseRefused, first_line_at}
 use Rattle.scrypt_run.specs.Refusal.{refusal_of}
 use Rattle.scrypt_request.specs.Request.{Encryption, allowance_of}
-use Rattle.scrypt_run.specs.Steps.{after_passing, passphrase_asked}
-use Rattle.scrypt_run.specs.Text.{EndsText}
+use Rattle.scrypt_run.specs.Steps.{after_pull_and_push, passphrase_asked}
+use Rattle.scrypt_run.specs.Text.{EndsTextEarly}
 use Rattle.scrypt_request.specs.declared.refusal.ScryptRefusal.{ScryptRefusal}
 use Rattle.scrypt_request.specs.declared.refusal.ScryptRefusal.TheVariants as refusal
 
 -- the salt that the request gives, or the host's where it gives none
-abbrev pub salt_used : Option (List ℕ) → Seen → List ℕ
+abbrev pub salt_used : Option (List ℕ) → HostState → List ℕ
 salt_used salt s = unwrap_or salt s.salt
 
 -- the host once there is a salt: it was asked for one where the request gives none
-abbrev pub after_salting : Option (List ℕ) → Seen → Seen
+abbrev pub after_salting : Option (List ℕ) → HostState → HostState
 after_salting salt s = record s { salted = is_none salt || s.salted }
 
 -- why the costs of the new file are not allowed, if they aren't: by the S and the limits of its task
@@ -32,20 +32,20 @@ decided passphrase salt costs size text =
 
 -- the whole input was read, and its file, which is an encryption of it under the passphrase, was written under the
 -- output's name
-pub record IsEncrypted (passphrase salt : List ℕ) (costs : Parameters) (outfile : Option Text) (before after : Seen)
+pub record IsEncrypted (passphrase salt : List ℕ) (costs : Parameters) (outfile : Option Text) (before after : HostState)
     : Type 0 where
   pub encryption : IsEncryptionOf (encrypted_file passphrase salt costs before.input) passphrase before.input
-  pub written : after ≡ after_passing (encrypted_file passphrase salt costs) (length before.input) (after_open_output outfile before)
+  pub written : after ≡ after_pull_and_push (encrypted_file passphrase salt costs) (length before.input) (after_open_output outfile before)
 
 -- ---- the whole run
 
 -- the host after the input was opened, the passphrase's source asked, and a salt asked for where the request gives
 -- none
-abbrev pub salt_asked : Encryption → Seen → Seen
+abbrev pub salt_asked : Encryption → HostState → HostState
 salt_asked asked before = after_salting asked.salt (passphrase_asked asked.task 0 before)
 
 -- `enc` ends with status 0: the costs are allowed, the passphrase was given, and the file of the input was written
-pub record EncryptSucceeds (asked : Encryption) (before after : Seen) : Type 0 where
+pub record EncryptSucceeds (asked : Encryption) (before after : HostState) : Type 0 where
   pub admitted : costs_refusal_of asked ≡ None
   pub passphrase : List ℕ
   pub given : HasPassphrase (first_line_at asked.task.source before) passphrase
@@ -55,7 +55,7 @@ pub record EncryptSucceeds (asked : Encryption) (before after : Seen) : Type 0 w
 -- passphrase; no salt; no memory; no output; the passing of the text ended early, with no more than 4,128 bytes of
 -- what was decided missing (a piece of 4,096 and a code of 32). What stands before a `× (` holds for all rows after
 -- it: the costs are allowed, and there is a passphrase
-abbrev pub EncryptRefused : ScryptRefusal → Encryption → Seen → Seen → Type 0
+abbrev pub EncryptRefused : ScryptRefusal → Encryption → HostState → HostState → Type 0
 EncryptRefused r asked before after =
     ((option_map refusal_of (costs_refusal_of asked) ≡ Some r) × (after ≡ before))
     ⊎ ((costs_refusal_of asked ≡ None) × (
@@ -65,6 +65,6 @@ EncryptRefused r asked before after =
     ((r ≡ refusal.SaltFault) × (asked.salt ≡ None) × (after ≡ salt_asked asked before))
     ⊎ ((r ≡ refusal.OutOfMemory) × (after ≡ salt_asked asked before))
     ⊎ ((r ≡ refusal.OutputFault) × (after ≡ after_ask_output asked.task.outfile (salt_asked asked before)))
-    ⊎ EndsText r (2 ^ 60) 4128 (body passphrase (salt_used asked.salt before) asked.costs)
+    ⊎ EndsTextEarly r (2 ^ 60) 4128 (body passphrase (salt_used asked.salt before) asked.costs)
     (decided passphrase (salt_used asked.salt before) asked.costs (length before.input))
     (after_open_output asked.task.outfile (salt_asked asked before)) after))))

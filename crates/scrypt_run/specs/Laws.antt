@@ -5,14 +5,14 @@ use Rattle.romix.specs.Costs.{IsInRange, Parameters}
 use Rattle.encfile.specs.EncryptedFile.{IsEncryptionOf, encrypted_file}
 use Rattle.encfile.specs.Front.{costs_refusal, format_refusal}
 use Rattle.encfile.specs.Header.{costs_of}
-use Rattle.host.specs.Seen.{SecretSource, Seen}
+use Rattle.host.specs.HostState.{SecretSource, HostState}
 use Rattle.scrypt_run.specs.Passphrase.{HasPassphrase, first_line_at}
 use Rattle.scrypt_request.specs.Request.{Encryption, Request, Task, allowance_of, decrypt, encrypt, inspect}
 use Rattle.scrypt_request.specs.declared.refusal.ScryptRefusal.{ScryptRefusal}
 use Rattle.scrypt_request.specs.declared.refusal.ScryptRefusal.TheVariants as refusal
 
 -- the input is the file of the text under the passphrase that the source gives, and the limits admit its costs
-pub record CanBeOpened (task : Task) (before : Seen) (passphrase salt : List ℕ) (costs : Parameters) (text : List ℕ)
+pub record CanBeOpened (task : Task) (before : HostState) (passphrase salt : List ℕ) (costs : Parameters) (text : List ℕ)
     : Type 0 where
   pub salt_has_32_bytes : length salt ≡ 32
   pub in_range : IsInRange costs
@@ -22,7 +22,7 @@ pub record CanBeOpened (task : Task) (before : Seen) (passphrase salt : List ℕ
   pub admitted : Admits (allowance_of task) costs
 
 -- the input is an encryption of what was written, under the passphrase that the source gives
-pub record WroteWhatWasEncrypted (task : Task) (before after : Seen) : Type 0 where
+pub record WroteWhatWasEncrypted (task : Task) (before after : HostState) : Type 0 where
   pub passphrase : List ℕ
   pub text : List ℕ
   pub given : HasPassphrase (first_line_at task.source before) passphrase
@@ -30,7 +30,7 @@ pub record WroteWhatWasEncrypted (task : Task) (before after : Seen) : Type 0 wh
   pub written : after.output ≡ before.output ++ text
 
 -- what was written is an encryption of the input, under the passphrase that the source gives
-pub record WroteAnEncryption (asked : Encryption) (before after : Seen) : Type 0 where
+pub record WroteAnEncryption (asked : Encryption) (before after : HostState) : Type 0 where
   pub passphrase : List ℕ
   pub file : List ℕ
   pub given : HasPassphrase (first_line_at asked.task.source before) passphrase
@@ -44,7 +44,7 @@ source_of_request (decrypt task) = Some task.source
 source_of_request (inspect infile) = None
 
 -- no secret source was asked, or the one that the request names
-abbrev pub AsksNoOther : Request → Seen → Seen → Type 0
+abbrev pub AsksNoOther : Request → HostState → HostState → Type 0
 AsksNoOther request before after = (after.asked ≡ before.asked) ⊎ (after.asked ≡ source_of_request request)
 
 -- the refusal is of memory, or of a host that failed at the input, the output or the passphrase
@@ -63,7 +63,7 @@ IsRefusedFromOutside (inspect infile) r = IsFromOutside r
 
 -- two refusals are one end: the same refusal, after which the host is the same; but an input that is too long may be
 -- pulled and passed on by pieces of other sizes
-pub record AreOneEnd (one other : ScryptRefusal) (after ended : Seen) : Type 0 where
+pub record AreOneEnd (one other : ScryptRefusal) (after ended : HostState) : Type 0 where
   pub told : one ≡ other
   pub left : (after ≡ ended) ⊎ (one ≡ refusal.TooLong)
 
@@ -75,7 +75,7 @@ with_keep keep (inspect infile) = inspect infile
 
 -- S is at most N and the limits are not exceeded: by the costs of the new file, or by those of the file that is read,
 -- where its header is not refused
-abbrev pub AdmitsCosts : Request → Seen → Type 0
+abbrev pub AdmitsCosts : Request → HostState → Type 0
 AdmitsCosts (encrypt asked) s = costs_refusal asked.costs (allowance_of asked.task) ≡ None
 AdmitsCosts (decrypt task) s = format_refusal s.input ≡ None → costs_refusal (costs_of s.input) (allowance_of task) ≡ None
 AdmitsCosts (inspect infile) s = ⊤

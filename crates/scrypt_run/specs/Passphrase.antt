@@ -1,6 +1,6 @@
 -- The passphrase of a run: the first line of its source.
 use Rattle.std.specs.Prelude.{◌≡◌, ◌<◌, ◌≤◌, ◌==◌, ◌||◌, ◌⊎◌, ℕ, Bool, List, [], ◌∷◌, Option, Some, option_map, length, if◌then◌else◌}
-use Rattle.host.specs.Seen.{SecretSource, Seen}
+use Rattle.host.specs.HostState.{SecretSource, HostState}
 use Rattle.host.specs.Secret.{secret_at}
 use Rattle.scrypt_request.specs.declared.refusal.ScryptRefusal.{ScryptRefusal}
 use Rattle.scrypt_request.specs.declared.refusal.ScryptRefusal.TheVariants as refusal
@@ -15,7 +15,7 @@ first_line [] = []
 first_line (b ∷ bytes) = if is_line_end b then [] else b ∷ first_line bytes
 
 -- the first line of a source, if the host has it
-abbrev pub first_line_at : SecretSource → Seen → Option (List ℕ)
+abbrev pub first_line_at : SecretSource → HostState → Option (List ℕ)
 first_line_at source s = option_map first_line (secret_at source s)
 
 -- the source is there, and its first line, of at most 2,048 bytes, is the passphrase

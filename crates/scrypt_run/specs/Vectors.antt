@@ -1,6 +1,6 @@
 -- What is asked of the host of vectors.
 use Rattle.std.specs.Prelude.{ℕ, List, [], ◌∷◌, ◌++◌, replicate, Option, Some, None, codes}
-use Rattle.host.specs.Seen.{env}
+use Rattle.host.specs.HostState.{env}
 use Rattle.scrypt_request.specs.Request.{Encryption, Task}
 
 -- with these limits and this S

@@ -1,13 +1,13 @@
 -- What a run counts: the Salsa20/8 cores of its one derivation.
 use Rattle.std.specs.Prelude.{◌≡◌, ◌+◌, ◌≤◌, ◌⊎◌, true, ℕ, List, Option, None, Result, IfErr}
-use Rattle.romix.specs.Allowance.{with_keep_of}
+use Rattle.romix.specs.Allowance.{sparse_under}
 use Rattle.romix.specs.Sparse.{sparse_cores}
 use Rattle.romix.specs.SparseCosts.{SparseParameters}
 use Rattle.encfile.specs.Header.{costs_of, salt_of}
-use Rattle.host.specs.Seen.{Seen}
+use Rattle.host.specs.HostState.{HostState}
 use Rattle.scrypt_run.specs.Encrypting.{salt_used}
 use Rattle.scrypt_run.specs.Passphrase.{HasPassphrase, first_line_at}
-use Rattle.scrypt_request.specs.Refusal.{follows_work}
+use Rattle.scrypt_request.specs.Refusal.{comes_only_after_work}
 use Rattle.scrypt_request.specs.Request.{Encryption, Request, Task, allowance_of, decrypt, encrypt, inspect}
 use Rattle.scrypt_request.specs.declared.refusal.ScryptRefusal.{ScryptRefusal}
 
@@ -20,18 +20,18 @@ pub record DerivesOnce (line : Option (List ℕ)) (salt : List ℕ) (sparse : Sp
 
 -- the counter went on by the derivation of an encryption, with the costs and S that were asked for, and the salt that
 -- was asked for or the host's
-abbrev pub EncryptWorks : Encryption → Seen → ℕ → ℕ → Type 0
+abbrev pub EncryptWorks : Encryption → HostState → ℕ → ℕ → Type 0
 EncryptWorks asked s before after =
-    DerivesOnce (first_line_at asked.task.source s) (salt_used asked.salt s) (with_keep_of (allowance_of asked.task) asked.costs) before after
+    DerivesOnce (first_line_at asked.task.source s) (salt_used asked.salt s) (sparse_under (allowance_of asked.task) asked.costs) before after
 
 -- the counter went on by the derivation of a decryption, with the costs and the salt of the header of the input, and
 -- the S that was asked for
-abbrev pub DecryptWorks : Task → Seen → ℕ → ℕ → Type 0
+abbrev pub DecryptWorks : Task → HostState → ℕ → ℕ → Type 0
 DecryptWorks task s before after =
-    DerivesOnce (first_line_at task.source s) (salt_of s.input) (with_keep_of (allowance_of task) (costs_of s.input)) before after
+    DerivesOnce (first_line_at task.source s) (salt_of s.input) (sparse_under (allowance_of task) (costs_of s.input)) before after
 
 -- the counter went on by the derivation of a request; `info` has none
-abbrev pub RequestWorks : Request → Seen → ℕ → ℕ → Type 0
+abbrev pub RequestWorks : Request → HostState → ℕ → ℕ → Type 0
 RequestWorks (encrypt asked) s before after = EncryptWorks asked s before after
 RequestWorks (decrypt task) s before after = DecryptWorks task s before after
 RequestWorks (inspect infile) s before after = after ≡ before
@@ -39,12 +39,12 @@ RequestWorks (inspect infile) s before after = after ≡ before
 -- the run ended after its derivation: its refusal comes only there, or an output was asked for. So the two places of
 -- InputFault (S12) are kept apart: no output is asked for where the input could not be opened, or failed in its first
 -- 96 bytes
-abbrev pub EndsAfterWork : ScryptRefusal → Seen → Type 0
-EndsAfterWork r s = (follows_work r ≡ true) ⊎ (s.output_asked ≡ None → ⊥)
+abbrev pub EndsAfterWork : ScryptRefusal → HostState → Type 0
+EndsAfterWork r s = (comes_only_after_work r ≡ true) ⊎ (s.output_asked ≡ None → ⊥)
 
 -- a run with this result, after which the host is as `seen` says, and the count of cores before and after it: one that
 -- did not end after its derivation leaves it as it was
-abbrev pub CountsNoOtherWork : {A : Type 0} → Result A ScryptRefusal → Seen → ℕ → ℕ → Type 0
+abbrev pub CountsNoOtherWork : {A : Type 0} → Result A ScryptRefusal → HostState → ℕ → ℕ → Type 0
 CountsNoOtherWork result seen before after = IfErr result (λ r. (EndsAfterWork r seen → ⊥) → after ≡ before)
 
 -- the count of cores before and after a step went on by no more than this limit

@@ -3,7 +3,7 @@ ghost use Rattle.std.specs.Prelude.{◌≡◌, Some, None, true, option_map, IfO
 ghost use Rattle.romix.specs.SparseCosts.{is_keep};
 ghost use Rattle.encfile.specs.Front.{costs_refusal};
 ghost use Rattle.scrypt_request.specs.Refusal.{RaisesNoCount};
-ghost use Rattle.scrypt_run.specs.Inside.Steps.{IsNoWant, MayPrecedeWork};
+ghost use Rattle.scrypt_run.specs.Inside.Steps.{IsNotOutOfMemory, MayPrecedeWork};
 ghost use Rattle.scrypt_run.specs.Refusal.{refusal_of};
 ghost use Rattle.scrypt_request.specs.Request.{allowance_of, task_seen};
 ghost use Rattle.scrypt_run.specs.Admission.{IsAdmitted};
@@ -24,7 +24,7 @@ pub(crate) fn admit(costs: &Costs, task: &Task<'_>) -> Result<Sparse, ScryptRefu
         (costs_refusal costs.now (allowance_of (task_seen task.now))) ≡ Some r) }
     ensures uncounted { IfErr result RaisesNoCount }
     ensures early { IfErr result MayPrecedeWork }
-    ensures no_want { IfErr result IsNoWant }
+    ensures not_out_of_memory { IfErr result IsNotOutOfMemory }
 {
     let sparse = match Sparse::new(costs, task.keep) {
         Ok(sparse) => sparse,

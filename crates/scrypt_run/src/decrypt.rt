@@ -1,25 +1,25 @@
 //! `scrypt dec`: the text of an encrypted file.
 ghost use Rattle.std.specs.Prelude.{◌≡◌, ◌+◌, ◌^◌, true, false, ℕ, List, ◌++◌, take, length, IfOk, IfErr, OnOk, IsTrue};
-ghost use Rattle.romix.specs.Allowance.{with_keep_of};
+ghost use Rattle.romix.specs.Allowance.{sparse_under};
 ghost use Rattle.romix.specs.Costs.{cores};
 ghost use Rattle.encfile.specs.Decrypting.{HasRead};
 ghost use Rattle.encfile.specs.Inside.Lengths.{length_read};
 ghost use Rattle.encfile.specs.EncryptedFile.{HasRightHeaderCode};
 ghost use Rattle.encfile.specs.Header.{IsHeaderOf, costs_of};
 ghost use Rattle.host.specs.Faults.{AreBelow};
-ghost use Rattle.host.specs.Grants.{GrantsAll, with_secret_asked};
+ghost use Rattle.host.specs.GrantedCalls.{GrantsAll, with_secret_asked};
 ghost use Rattle.host.specs.Secret.{source_of};
-ghost use Rattle.host.specs.Seen.{IsFresh, after_ask};
+ghost use Rattle.host.specs.HostState.{IsUnasked, after_ask};
 ghost use Rattle.scrypt_run.specs.Inside.Steps.{MayFollowWork, WorkspaceAsked, WorkspaceGranted};
-ghost use Rattle.scrypt_run.specs.Asking.{EndsAskingFor, WasGranted, asks_workspace};
+ghost use Rattle.scrypt_run.specs.Asking.{RefusedHavingAskedFor, WasGranted, asks_workspace};
 ghost use Rattle.scrypt_run.specs.Decrypting.{DecryptRefused, DecryptSucceeds, Decrypted, text_after};
 ghost use Rattle.scrypt_run.specs.Passphrase.{HasPassphrase, first_line_at};
-ghost use Rattle.scrypt_request.specs.Refusal.{CountsFault, follows_work, CountsNoEarlyWork};
+ghost use Rattle.scrypt_request.specs.Refusal.{CountsFault, comes_only_after_work, CountsNoEarlyWork};
 ghost use Rattle.scrypt_request.specs.Request.{HasAllowedLimits, allowance_of, task_seen, text_of};
 ghost use Rattle.scrypt_run.specs.Admission.{IsAdmitted};
 ghost use Rattle.scrypt_run.specs.Inside.Decrypting.{OpenRefused, ReleaseRefused};
-ghost use Rattle.scrypt_run.specs.Steps.{after_passing};
-ghost use Rattle.scrypt_run.specs.Text.{EndsText};
+ghost use Rattle.scrypt_run.specs.Steps.{after_pull_and_push};
+ghost use Rattle.scrypt_run.specs.Text.{EndsTextEarly};
 ghost use Rattle.scrypt_run.specs.Work.{DecryptWorks, DerivesOnce, EndsAfterWork, CountsNoOtherWork, WorksWithin};
 
 use crate::front::open_admitted_front;
@@ -33,7 +33,7 @@ use scrypt_request::{ScryptRefusal, Task};
 // Reads the passphrase, takes the memory of the derivation, and tests the passphrase against the
 // code of the header. The memory is there when the work begins.
 fn open<R: RunMemory, H: Host>(
-    room: &mut R,
+    memory: &mut R,
     host: &mut H,
     task: &Task<'_>,
     front: &[u8; 96],
@@ -61,22 +61,22 @@ fn open<R: RunMemory, H: Host>(
         (first_line_at (source_of task.now.source) (H.seen host.old)) front.now) }
     ensures count { IsTrue H.tells → OnOk result (DerivesOnce
         (first_line_at (source_of task.now.source) (H.seen host.old)) header.salt
-        (with_keep_of (allowance_of (task_seen task.now)) header.costs) ticks.old ticks.new) }
-    ensures worked { IsTrue H.tells → IfErr result (λ r. follows_work r ≡ true → DerivesOnce
+        (sparse_under (allowance_of (task_seen task.now)) header.costs) ticks.old ticks.new) }
+    ensures worked { IsTrue H.tells → IfErr result (λ r. comes_only_after_work r ≡ true → DerivesOnce
         (first_line_at (source_of task.now.source) (H.seen host.old)) header.salt
-        (with_keep_of (allowance_of (task_seen task.now)) header.costs) ticks.old ticks.new) }
-    ensures unworked { IfErr result (λ r. follows_work r ≡ false → ticks.new ≡ ticks.old) }
+        (sparse_under (allowance_of (task_seen task.now)) header.costs) ticks.old ticks.new) }
+    ensures unworked { IfErr result (λ r. comes_only_after_work r ≡ false → ticks.new ≡ ticks.old) }
     ensures work { sparse.now.keep ≡ 1 →
         OnOk result (ticks.new ≡ ticks.old + cores header.costs) }
     ensures work_bound { WorksWithin task.now.limits.max_ops ticks.old ticks.new }
     ensures no_work { CountsNoEarlyWork result ticks.old ticks.new }
     ensures memory_granted { WorkspaceGranted R.after_workspace (task_seen task.now) header.costs result
-        room.old room.new }
+        memory.old memory.new }
     ensures memory_asked { WorkspaceAsked R.after_workspace (task_seen task.now) header.costs result
-        room.old room.new }
+        memory.old memory.new }
 {
     let passphrase = read_passphrase(host, task.source)?;
-    let Ok(mut workspace) = room.workspace(sparse, &task.limits) else {
+    let Ok(mut workspace) = memory.workspace(sparse, &task.limits) else {
         return Err(ScryptRefusal::OutOfMemory);
     };
     let opened = Dec::open(front, header, passphrase.as_slice(), &mut workspace, ticks);
@@ -100,11 +100,11 @@ fn release<H: Host>(host: &mut H, dec: &mut Dec) -> Result<(), ScryptRefusal>
         → HasRead dec.new passphrase (front ++ (H.seen host.old).input)) }
     ensures released { IsTrue H.tells → OnOk result ((passphrase front : List ℕ)
         → HasRead dec.old passphrase front
-        → H.seen host.new ≡ after_passing (text_after passphrase front)
+        → H.seen host.new ≡ after_pull_and_push (text_after passphrase front)
         (length (H.seen host.old).input) (H.seen host.old)) }
     ensures refused { IsTrue H.tells → IfErr result (λ r. (passphrase front : List ℕ)
         → HasRead dec.old passphrase front
-        → EndsText r (2 ^ 60 + 32) 4128 (text_after passphrase front)
+        → EndsTextEarly r (2 ^ 60 + 32) 4128 (text_after passphrase front)
         (text_after passphrase front) (H.seen host.old) (H.seen host.new)) }
     ensures late { IfErr result MayFollowWork }
 {
@@ -162,13 +162,13 @@ fn finish<H: Host>(host: &mut H, outfile: Option<&str>, dec: Dec) -> Result<(), 
 /// what was written. The text can be trusted only after `Ok`, since the final code is tested when
 /// all of it is written.
 pub(crate) fn decrypt<R: RunMemory, H: Host>(
-    room: &mut R,
+    memory: &mut R,
     host: &mut H,
     task: &Task<'_>,
     ticks: &mut Ticks,
 ) -> Result<(), ScryptRefusal>
     requires room { AreBelow (2 ^ 63) (H.faults host.old) }
-    requires fresh { IsTrue H.tells → IsFresh (H.seen host.old) }
+    requires fresh { IsTrue H.tells → IsUnasked (H.seen host.old) }
     requires granted { GrantsAll (H.grants host.old) }
     requires limits { HasAllowedLimits (task_seen task.now) }
     ensures counts { CountsFault result (H.faults host.old) (H.faults host.new) }
@@ -187,11 +187,11 @@ pub(crate) fn decrypt<R: RunMemory, H: Host>(
     ensures no_work { CountsNoEarlyWork result ticks.old ticks.new }
     // Memory is asked for once, for the derivation of the header's costs, and only once the limits have passed.
     ensures memory_granted { OnOk result (WasGranted H.tells (H.seen host.old).input
-        (asks_workspace R.after_workspace room.old (task_seen task.now)) room.new) }
-    ensures memory_asked { IfErr result (λ r. EndsAskingFor H.tells (H.seen host.old).input
-        (asks_workspace R.after_workspace room.old (task_seen task.now)) r room.old room.new) }
+        (asks_workspace R.after_workspace memory.old (task_seen task.now)) memory.new) }
+    ensures memory_asked { IfErr result (λ r. RefusedHavingAskedFor H.tells (H.seen host.old).input
+        (asks_workspace R.after_workspace memory.old (task_seen task.now)) r memory.old memory.new) }
 {
     let (front, header, sparse) = open_admitted_front(host, task)?;
-    let dec = open(room, host, task, &front, header, &sparse, ticks)?;
+    let dec = open(memory, host, task, &front, header, &sparse, ticks)?;
     finish(host, task.outfile, dec)
 }

@@ -4,18 +4,18 @@ ghost use Rattle.romix.specs.Costs.{Parameters, cores};
 ghost use Rattle.encfile.specs.EncryptedFile.{body};
 ghost use Rattle.encfile.specs.Encrypting.{HasEncrypted};
 ghost use Rattle.host.specs.Faults.{AreBelow};
-ghost use Rattle.host.specs.Grants.{GrantsAll};
+ghost use Rattle.host.specs.GrantedCalls.{GrantsAll};
 ghost use Rattle.host.specs.Secret.{source_of};
-ghost use Rattle.host.specs.Seen.{IsFresh, after_ask, after_open_input, KeepsOnErr, KeepsOnOk};
-ghost use Rattle.scrypt_run.specs.Inside.Steps.{IsNoWant, MayFollowWork, MayPrecedeWork, OpensInput, WorkspaceAsked, WorkspaceGranted};
+ghost use Rattle.host.specs.HostState.{IsUnasked, after_ask, after_open_input, KeepsOnErr, KeepsOnOk};
+ghost use Rattle.scrypt_run.specs.Inside.Steps.{IsNotOutOfMemory, MayFollowWork, MayPrecedeWork, OpensInput, WorkspaceAsked, WorkspaceGranted};
 ghost use Rattle.scrypt_run.specs.Encrypting.{EncryptRefused, EncryptSucceeds, IsEncrypted, after_salting, costs_refusal_of, salt_used};
 ghost use Rattle.scrypt_run.specs.Passphrase.{HasPassphrase, first_line_at};
 ghost use Rattle.scrypt_request.specs.Refusal.{CountsFault, CountsNoEarlyWork};
 ghost use Rattle.scrypt_request.specs.Request.{HasAllowedLimits, encryption_seen, task_seen, text_of};
 ghost use Rattle.scrypt_run.specs.Admission.{IsAdmitted};
 ghost use Rattle.scrypt_run.specs.Inside.Encrypting.{StartRefused, TextNotOpened, WriteRefused};
-ghost use Rattle.scrypt_run.specs.Steps.{after_passing};
-ghost use Rattle.scrypt_run.specs.Text.{EndsText};
+ghost use Rattle.scrypt_run.specs.Steps.{after_pull_and_push};
+ghost use Rattle.scrypt_run.specs.Text.{EndsTextEarly};
 ghost use Rattle.scrypt_run.specs.Work.{EncryptWorks, EndsAfterWork, CountsNoOtherWork, WorksWithin};
 ghost use Rattle.scrypt_request.specs.declared.refusal.ScryptRefusal.TheVariants.{SaltFault};
 
@@ -43,7 +43,7 @@ fn open_text<H: Host>(host: &mut H, asked: &Encryption<'_>) -> Result<Sparse, Sc
     ensures refused { IsTrue H.tells → IfErr result (λ r.
         TextNotOpened r (encryption_seen asked.now) (H.seen host.old) (H.seen host.new)) }
     ensures early { IfErr result MayPrecedeWork }
-    ensures no_want { IfErr result IsNoWant }
+    ensures not_out_of_memory { IfErr result IsNotOutOfMemory }
 {
     let sparse = admit(&asked.costs, &asked.task)?;
     host.open_input(asked.task.infile)
@@ -76,7 +76,7 @@ fn read_salt<H: Host>(host: &mut H, salt: Option<[u8; 32]>) -> Result<[u8; 32], 
 // Reads the passphrase and the salt, takes the memory of the derivation, and derives the keys. Here nothing
 // is refused any more once the work begins.
 fn start<R: RunMemory, H: Host>(
-    room: &mut R,
+    memory: &mut R,
     host: &mut H,
     asked: &Encryption<'_>,
     sparse: &Sparse,
@@ -110,13 +110,13 @@ fn start<R: RunMemory, H: Host>(
     ensures work_bound { WorksWithin asked.now.task.limits.max_ops ticks.old ticks.new }
     ensures no_work { KeepsOnErr result ticks.old ticks.new }
     ensures memory_granted { WorkspaceGranted R.after_workspace (task_seen asked.now.task) asked.now.costs
-        result room.old room.new }
+        result memory.old memory.new }
     ensures memory_asked { WorkspaceAsked R.after_workspace (task_seen asked.now.task) asked.now.costs
-        result room.old room.new }
+        result memory.old memory.new }
 {
     let passphrase = read_passphrase(host, asked.task.source)?;
     let salt = read_salt(host, asked.salt)?;
-    let Ok(mut workspace) = room.workspace(sparse, &asked.task.limits) else {
+    let Ok(mut workspace) = memory.workspace(sparse, &asked.task.limits) else {
         return Err(ScryptRefusal::OutOfMemory);
     };
     Ok(Enc::start(
@@ -142,11 +142,11 @@ fn write_body<H: Host>(host: &mut H, enc: &mut Enc) -> Result<(), ScryptRefusal>
         → OnOk result (HasEncrypted enc.new passphrase salt costs (H.seen host.old).input) }
     ensures written { IsTrue H.tells → (passphrase salt : List ℕ) (costs : Parameters)
         → HasEncrypted enc.old passphrase salt costs []
-        → OnOk result (H.seen host.new ≡ after_passing (body passphrase salt costs)
+        → OnOk result (H.seen host.new ≡ after_pull_and_push (body passphrase salt costs)
         (length (H.seen host.old).input) (H.seen host.old)) }
     ensures refused { IsTrue H.tells → (passphrase salt : List ℕ) (costs : Parameters)
         → HasEncrypted enc.old passphrase salt costs []
-        → IfErr result (λ r. EndsText r (2 ^ 60) 4096 (body passphrase salt costs)
+        → IfErr result (λ r. EndsTextEarly r (2 ^ 60) 4096 (body passphrase salt costs)
         (body passphrase salt costs) (H.seen host.old) (H.seen host.new)) }
     ensures late { IfErr result MayFollowWork }
 {
@@ -203,19 +203,20 @@ fn write_file<H: Host>(host: &mut H, outfile: Option<&str>, enc: Enc) -> Result<
 /// `scrypt enc`: writes the encrypted file of the input's text, of fewer than 2^60 bytes. The limit
 /// on memory is at most 2^40 bytes, as `-M` is. The file does not depend on S.
 ///
-/// The refusals, of which the first that holds is told, in this order: S16b, S8 and S9 by the costs, S12
-/// where the input can't be opened, S4a and S4b, S5b where no salt was given, S15, and S13 where the
-/// output can't be opened. Then, as the file is written, S12, S13 and S14. What was written stays.
-/// The work is one derivation with the request's costs, salt and S. It begins when S15 can come no
-/// more, and it is done before the output is opened.
+/// The refusals, of which the first that holds is told, in this order: `KeepAboveN`, `MemoryLimit` and
+/// `WorkLimit` by the costs, `InputFault` where the input can't be opened, `PassphraseFault` and
+/// `LongPassphrase`, `SaltFault` where no salt was given, `OutOfMemory`, and `OutputFault` where the output
+/// can't be opened. Then, as the file is written, `InputFault`, `OutputFault` and `TooLong`. What was
+/// written stays. The work is one derivation with the request's costs, salt and S. It begins when
+/// `OutOfMemory` can come no more, and it is done before the output is opened.
 pub(crate) fn encrypt<R: RunMemory, H: Host>(
-    room: &mut R,
+    memory: &mut R,
     host: &mut H,
     asked: &Encryption<'_>,
     ticks: &mut Ticks,
 ) -> Result<(), ScryptRefusal>
     requires room { AreBelow (2 ^ 63) (H.faults host.old) }
-    requires fresh { IsTrue H.tells → IsFresh (H.seen host.old) }
+    requires fresh { IsTrue H.tells → IsUnasked (H.seen host.old) }
     requires granted { GrantsAll (H.grants host.old) }
     requires limits { HasAllowedLimits (task_seen asked.now.task) }
     ensures counts { CountsFault result (H.faults host.old) (H.faults host.new) }
@@ -234,11 +235,11 @@ pub(crate) fn encrypt<R: RunMemory, H: Host>(
     ensures no_work { CountsNoEarlyWork result ticks.old ticks.new }
     // Memory is asked for once, for the derivation, and only once the limits have passed.
     ensures memory_granted { WorkspaceGranted R.after_workspace (task_seen asked.now.task) asked.now.costs
-        result room.old room.new }
+        result memory.old memory.new }
     ensures memory_asked { WorkspaceAsked R.after_workspace (task_seen asked.now.task) asked.now.costs
-        result room.old room.new }
+        result memory.old memory.new }
 {
     let sparse = open_text(host, asked)?;
-    let enc = start(room, host, asked, &sparse, ticks)?;
+    let enc = start(memory, host, asked, &sparse, ticks)?;
     write_file(host, asked.task.outfile, enc)
 }

@@ -3,9 +3,9 @@ ghost use Rattle.std.specs.Prelude.{◌≡◌, ◌<◌, ◌≤◌, ◌^◌, ℕ,
 ghost use Rattle.encfile.specs.Front.{format_refusal, limits_refusal};
 ghost use Rattle.encfile.specs.Header.{IsHeaderOf, costs_of, salt_of};
 ghost use Rattle.host.specs.Faults.{AreBelow, input_failed, CountsFailure, CountsNoFailure};
-ghost use Rattle.host.specs.Seen.{after_pull, FitsWithin};
+ghost use Rattle.host.specs.HostState.{after_pull, FitsWithin};
 ghost use Rattle.scrypt_request.specs.Refusal.{CountsFault};
-ghost use Rattle.scrypt_run.specs.Inside.Steps.{HasFront, IsNoWant, MayPrecedeWork, OpensInput, ReadsFront, RefusesFront};
+ghost use Rattle.scrypt_run.specs.Inside.Steps.{HasFront, IsNotOutOfMemory, MayPrecedeWork, OpensInput, ReadsFront, RefusesFront};
 ghost use Rattle.scrypt_run.specs.Refusal.{refusal_of};
 ghost use Rattle.scrypt_request.specs.Request.{HasAllowedLimits, allowance_of, task_seen, text_of};
 ghost use Rattle.scrypt_run.specs.Admission.{IsAdmitted};
@@ -61,7 +61,7 @@ fn read_front<H: Host>(host: &mut H, infile: Option<&str>) -> Result<[u8; 96], S
     ensures refused { IsTrue H.tells → RefusesFront result (format_refusal (H.seen host.old).input)
         (text_of infile.entry) (H.seen host.old) (H.seen host.new) }
     ensures early { IfErr result MayPrecedeWork }
-    ensures no_want { IfErr result IsNoWant }
+    ensures not_out_of_memory { IfErr result IsNotOutOfMemory }
 {
     let Ok(()) = host.open_input(infile) else {
         return Err(ScryptRefusal::InputFault);
@@ -83,7 +83,7 @@ fn read_header(front: &[u8; 96]) -> Result<Header, ScryptRefusal>
     ensures costs { IfOk result (λ header. header.costs ≡ costs_of front.now) }
     ensures salt { IfOk result (λ header. header.salt ≡ salt_of front.now) }
     ensures early { IfErr result MayPrecedeWork }
-    ensures no_want { IfErr result IsNoWant }
+    ensures not_out_of_memory { IfErr result IsNotOutOfMemory }
 {
     Header::of_front(front).map_err(header_refusal)
 }
@@ -100,7 +100,7 @@ fn test_limits(front: &[u8; 96], header: &Header, task: &Task<'_>) -> Result<Spa
     ensures refused { IfErr result (λ r. option_map refusal_of
         (limits_refusal front.now (allowance_of (task_seen task.now))) ≡ Some r) }
     ensures early { IfErr result MayPrecedeWork }
-    ensures no_want { IfErr result IsNoWant }
+    ensures not_out_of_memory { IfErr result IsNotOutOfMemory }
 {
     admit(header.costs(), task)
 }
@@ -131,7 +131,7 @@ pub(crate) fn open_front<H: Host>(
     ensures refused { IsTrue H.tells → RefusesFront result (format_refusal (H.seen host.old).input)
         (text_of infile.entry) (H.seen host.old) (H.seen host.new) }
     ensures early { IfErr result MayPrecedeWork }
-    ensures no_want { IfErr result IsNoWant }
+    ensures not_out_of_memory { IfErr result IsNotOutOfMemory }
 {
     let front = read_front(host, infile)?;
     let header = read_header(&front)?;
@@ -168,7 +168,7 @@ pub(crate) fn open_admitted_front<H: Host>(
         (limits_refusal (H.seen host.old).input (allowance_of (task_seen task.now)))
         (text_of task.now.infile) (H.seen host.old) (H.seen host.new) }
     ensures early { IfErr result MayPrecedeWork }
-    ensures no_want { IfErr result IsNoWant }
+    ensures not_out_of_memory { IfErr result IsNotOutOfMemory }
 {
     let (front, header) = open_front(host, task.infile)?;
     let sparse = test_limits(&front, &header, task)?;

@@ -7,7 +7,7 @@
 //! | `decrypt` | `dec`, likewise, from the first 96 bytes on |
 //! | `front` | the first 96 bytes of a file, for `dec` and `info` |
 //! | `inspect` | `info` |
-//! | `room` | the requests for memory of a run |
+//! | `run_memory` | the requests for memory of a run |
 //! | `line` | the line of `info` |
 //! | `passphrase` | the first line of a secret source |
 //! | `run_request` | the run of a request, whichever of the three it is |
@@ -32,13 +32,13 @@
 //! };
 //! let mut ticks = Ticks::new(alloc);
 //! let mut host = MemoryHost::new(alloc, b"hello".to_vec(alloc)?, b"pw".to_vec(alloc)?, [7; 32]);
-//! let mut room = alloc;
-//! run(&mut room, &mut host, &Request::Encrypt(encryption), &mut ticks)?;
+//! let mut memory = alloc;
+//! run(&mut memory, &mut host, &Request::Encrypt(encryption), &mut ticks)?;
 //! let file = host.output().to_vec(alloc)?;
 //! assert_eq!(rt; file.len(), 133);
 //!
 //! let mut host = MemoryHost::new(alloc, file, b"pw".to_vec(alloc)?, [7; 32]);
-//! run(&mut room, &mut host, &Request::Decrypt(task), &mut ticks)?;
+//! run(&mut memory, &mut host, &Request::Decrypt(task), &mut ticks)?;
 //! assert_eq!(rt; host.output(), b"hello".as_slice());
 //! ```
 #![tactic(auto)]

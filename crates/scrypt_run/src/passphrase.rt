@@ -1,10 +1,10 @@
 //! The passphrase of a run: the first line of its source.
 ghost use Rattle.std.specs.Prelude.{◌≡◌, ◌<◌, ◌≤◌, ◌^◌, ℕ, List, take, length, IfOk, IfErr, IsTrue};
 ghost use Rattle.host.specs.Faults.{AreBelow};
-ghost use Rattle.host.specs.Grants.{with_secret_asked};
+ghost use Rattle.host.specs.GrantedCalls.{with_secret_asked};
 ghost use Rattle.host.specs.Secret.{source_of};
-ghost use Rattle.host.specs.Seen.{after_ask};
-ghost use Rattle.scrypt_run.specs.Inside.Steps.{IsNoWant, MayPrecedeWork};
+ghost use Rattle.host.specs.HostState.{after_ask};
+ghost use Rattle.scrypt_run.specs.Inside.Steps.{IsNotOutOfMemory, MayPrecedeWork};
 ghost use Rattle.scrypt_run.specs.Passphrase.{HasPassphrase, PassphraseRefused, first_line, first_line_at, is_line_end};
 ghost use Rattle.scrypt_request.specs.Refusal.{CountsFault};
 
@@ -16,14 +16,14 @@ use std::marker::Model;
 #[derive(Drop)]
 pub(crate) struct Passphrase {
     // One byte more than a passphrase has tells that the line is too long.
-    room: [u8; 2049],
+    buf: [u8; 2049],
     len: usize,
 }
 
 impl Model for Passphrase {
     ghost Value = { List ℕ };
 
-    ghost view = { λ p. take p.len p.room };
+    ghost view = { λ p. take p.len p.buf };
 
     ghost invariant = { λ p. p.len ≤ 2048 };
 }
@@ -33,7 +33,7 @@ impl Passphrase {
     pub(crate) fn as_slice(&self) -> &[u8]
         ensures bytes { result.now ≡ self.now }
     {
-        &self.room[..self.len]
+        &self.buf[..self.len]
     }
 }
 
@@ -71,15 +71,15 @@ pub(crate) fn read_passphrase<H: Host>(
     ensures refused { IsTrue H.tells → IfErr result (λ r.
         PassphraseRefused r (first_line_at (source_of source.entry) (H.seen host.old))) }
     ensures early { IfErr result MayPrecedeWork }
-    ensures no_want { IfErr result IsNoWant }
+    ensures not_out_of_memory { IfErr result IsNotOutOfMemory }
 {
-    let mut room = [0u8; 2049];
+    let mut buf = [0u8; 2049];
     let n = host
-        .secret(source, &mut room)
+        .secret(source, &mut buf)
         .map_err(|_| ScryptRefusal::PassphraseFault)?;
-    let len = line_length(&room[..n]);
+    let len = line_length(&buf[..n]);
     if len > 2048 {
         return Err(ScryptRefusal::LongPassphrase);
     }
-    Ok(Passphrase { room, len })
+    Ok(Passphrase { buf, len })
 }

@@ -34,9 +34,9 @@ pub trait RunMemory {
 }
 
 impl RunMemory for Global {
-    ghost after_workspace = { λ room _ _. room };
+    ghost after_workspace = { λ memory _ _. memory };
 
-    ghost after_line = { λ room _ _. room };
+    ghost after_line = { λ memory _ _. memory };
 
     fn workspace(&mut self, sparse: &Sparse, _limits: &Limits) -> Result<Workspace, AllocError> {
         Workspace::reserve(*self, sparse)

@@ -1,8 +1,8 @@
 //! A run for a request.
 ghost use Rattle.std.specs.Prelude.{◌≡◌, ◌+◌, ◌^◌, IfErr, OnOk, IsTrue};
 ghost use Rattle.host.specs.Faults.{AreBelow};
-ghost use Rattle.host.specs.Grants.{GrantsAll};
-ghost use Rattle.host.specs.Seen.{IsFresh};
+ghost use Rattle.host.specs.GrantedCalls.{GrantsAll};
+ghost use Rattle.host.specs.HostState.{IsUnasked};
 ghost use Rattle.scrypt_run.specs.Asking.{RequestAsked, RequestGranted};
 ghost use Rattle.scrypt_request.specs.Refusal.{CountsFault, CountsNoEarlyWork};
 ghost use Rattle.scrypt_request.specs.Request.{IsAllowed, request_seen};
@@ -24,7 +24,7 @@ use scrypt_request::{Request, ScryptRefusal};
 /// before a fault stays written, and no output is asked for before every check up to the header's
 /// code has passed; `OutOfMemory` is never told after an output was asked for.
 ///
-/// All memory comes from `room`, which is asked once, or not at all where a refusal comes before: by
+/// All memory comes from `memory`, which is asked once, or not at all where a refusal comes before: by
 /// `enc` and `dec` for that of one derivation with the request's S, once the limits admit it, and by
 /// `info` for its line. `OutOfMemory` is told where that request was refused, and there alone.
 ///
@@ -33,13 +33,13 @@ use scrypt_request::{Request, ScryptRefusal};
 /// is refused by S10, S11, S13 or S14, or by S12 with its output opened, has counted exactly one
 /// derivation, with the request's S; `info` none.
 pub fn run<R: RunMemory, H: Host>(
-    room: &mut R,
+    memory: &mut R,
     host: &mut H,
     request: &Request<'_>,
     ticks: &mut Ticks,
 ) -> Result<(), ScryptRefusal>
     requires room { AreBelow (2 ^ 63) (H.faults host.old) }
-    requires fresh { IsTrue H.tells → IsFresh (H.seen host.old) }
+    requires fresh { IsTrue H.tells → IsUnasked (H.seen host.old) }
     requires granted { GrantsAll (H.grants host.old) }
     requires allowed { IsAllowed (request_seen request.now) }
     ensures counts { CountsFault result (H.faults host.old) (H.faults host.new) }
@@ -57,13 +57,13 @@ pub fn run<R: RunMemory, H: Host>(
     ensures work_bound { WorksWithin (most_cores (request_seen request.now)) ticks.old ticks.new }
     ensures no_work { CountsNoEarlyWork result ticks.old ticks.new }
     ensures memory_granted { OnOk result (RequestGranted R.after_workspace R.after_line H.tells
-        (H.seen host.old).input (request_seen request.now) room.old room.new) }
+        (H.seen host.old).input (request_seen request.now) memory.old memory.new) }
     ensures memory_asked { IfErr result (λ r. RequestAsked R.after_workspace R.after_line H.tells
-        (H.seen host.old).input (request_seen request.now) r room.old room.new) }
+        (H.seen host.old).input (request_seen request.now) r memory.old memory.new) }
 {
     match request {
-        Request::Encrypt(asked) => encrypt(room, host, asked, ticks),
-        Request::Decrypt(task) => decrypt(room, host, task, ticks),
-        Request::Inspect(infile) => inspect(room, host, *infile),
+        Request::Encrypt(asked) => encrypt(memory, host, asked, ticks),
+        Request::Decrypt(task) => decrypt(memory, host, task, ticks),
+        Request::Inspect(infile) => inspect(memory, host, *infile),
     }
 }

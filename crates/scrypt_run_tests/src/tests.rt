@@ -32,9 +32,9 @@ fn example(rt: HostRuntime) -> Result<(), Fail> {
         b"pw".to_vec(alloc)?,
         [7; 32],
     );
-    let mut room = alloc;
+    let mut memory = alloc;
     run(
-        &mut room,
+        &mut memory,
         &mut host,
         &Request::Encrypt(encryption),
         &mut ticks,
@@ -43,7 +43,7 @@ fn example(rt: HostRuntime) -> Result<(), Fail> {
     assert_eq!(rt; file.len(), 133);
 
     let mut host = MemoryHost::new(alloc, file, b"pw".to_vec(alloc)?, [7; 32]);
-    run(&mut room, &mut host, &Request::Decrypt(task), &mut ticks)?;
+    run(&mut memory, &mut host, &Request::Decrypt(task), &mut ticks)?;
     assert_eq!(rt; host.output(), b"hello".as_slice());
     Ok(())
 }

@@ -1,7 +1,7 @@
 //! Vectors that the checker computes by the definitions alone.
 ghost use Rattle.std.specs.Prelude.{◌≡◌, ◌++◌, [], ◌∷◌, Some, None, codes, false, replicate, true};
 ghost use Rattle.encfile.specs.Front.FrontRefusal.{KeepAboveN, NotScryptData, TooMuchMemory, TooMuchWork, UnsupportedVersion, WrongPassphrase};
-ghost use Rattle.host.specs.Seen.{env, file, stdin_once};
+ghost use Rattle.host.specs.HostState.{env, file, stdin_once};
 ghost use Rattle.host.specs.Vectors.{host_shown};
 ghost use Rattle.scrypt_run.specs.Asking.{asks_workspace};
 ghost use Rattle.scrypt_run.specs.Decrypting.{limits_refusal_of};
@@ -12,7 +12,7 @@ ghost use Rattle.scrypt_run.specs.Passphrase.{first_line, first_line_at};
 ghost use Rattle.scrypt_run.specs.Refusal.{refusal_of};
 ghost use Rattle.scrypt_request.specs.Request.{allowance_of, decrypt, encrypt, inspect};
 ghost use Rattle.scrypt_run.specs.Run.{cores_asked, most_cores};
-ghost use Rattle.scrypt_run.specs.Steps.{after_passing, after_reading, passphrase_asked};
+ghost use Rattle.scrypt_run.specs.Steps.{after_pull_and_push, after_reading, passphrase_asked};
 ghost use Rattle.scrypt_run.specs.Vectors.{costs_shown, encryption_shown, task_shown};
 ghost use Rattle.scrypt_request.specs.declared.refusal.ScryptRefusal.{ScryptRefusal};
 
@@ -81,8 +81,8 @@ fn steps_of_a_run()
     ensures input_before { (passphrase_asked (task_shown 1 1 1) 3 host_shown).input ≡ codes "d" }
     ensures front { (after_front None (record host_shown { input = replicate 97 7 })).input ≡ 7 ∷ [] }
     ensures front_opened { (after_front None host_shown).input_opened ≡ Some None }
-    ensures passed { (after_passing (λ bytes. bytes ++ codes "!") 3 host_shown).output ≡ codes "oabc!" }
-    ensures rest { (after_passing (λ bytes. bytes ++ codes "!") 3 host_shown).input ≡ codes "d" }
+    ensures passed { (after_pull_and_push (λ bytes. bytes ++ codes "!") 3 host_shown).output ≡ codes "oabc!" }
+    ensures rest { (after_pull_and_push (λ bytes. bytes ++ codes "!") 3 host_shown).input ≡ codes "d" }
 {}
 
 // The first line of what the source gives, if it gives anything.

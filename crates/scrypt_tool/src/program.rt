@@ -6,7 +6,7 @@ ghost use Rattle.tools.specs.World.{IsUnused};
 
 use scrypt_command::{ScryptRefusal, scrypt};
 use std::alloc::Global;
-use tools::{Counts, System, SystemHost, WordsFault, words};
+use tools::{FailureCounts, System, SystemHost, WordsFault, words};
 
 /// `scrypt` with the words of a process, over a system of which nothing was used. It gives the status, the
 /// system as the run left it, and how often each kind of call has failed. Nothing else is kept of the system:
@@ -14,7 +14,7 @@ use tools::{Counts, System, SystemHost, WordsFault, words};
 ///
 /// This is what the program promises: over every system that tells its bytes, they, the line and the
 /// status are what the definitions of `scrypt_command` make of the words and of what the system gives.
-pub fn run<S: System>(alloc: Global, system: S) -> (u8, S, Counts<S>)
+pub fn run<S: System>(alloc: Global, system: S) -> (u8, S, FailureCounts<S>)
     requires unused { IsTrue S.tells → IsUnused (S.world system) }
     ensures status { result.0 ≤ 1 }
     ensures counts { result.0 ≡ 0 → result.2 ≡ no_faults }
@@ -29,7 +29,7 @@ pub fn run<S: System>(alloc: Global, system: S) -> (u8, S, Counts<S>)
         Ok(words) => {
             let status = scrypt(alloc, &words, &mut host);
             if status == 0 {
-                return host.settle(ScryptRefusal::OutputFault.line());
+                return host.sync_and_end(ScryptRefusal::OutputFault.line());
             }
             let (system, counts) = host.into_system();
             (status, system, counts)

@@ -11,7 +11,7 @@ use Rattle.romix.specs.Costs.{Parameters}
 use Rattle.romix.specs.Faults.{cost_fault}
 use Rattle.romix.specs.SparseCosts.{is_keep}
 use Rattle.romix.specs.declared.limits.Limits.{Limits}
-use Rattle.host.specs.Seen.{SecretSource, Text, env, file, stdin_once}
+use Rattle.host.specs.HostState.{SecretSource, Text, env, file, stdin_once}
 use Rattle.command_words.specs.Answer.{◌>>=◌, answered}
 use Rattle.command_words.specs.Number.{number_in, number_of}
 use Rattle.scrypt_request.specs.Request.{Encryption, Request, Task, encrypt, decrypt, inspect}

@@ -1,7 +1,7 @@
 -- Words as they are typed, and what they ask for.
 use Rattle.std.specs.Prelude.{ℕ, ◌==◌, ◌^◌, List, [], ◌∷◌, Option, None, if◌then◌else◌}
 use Rattle.romix.specs.Costs.{Parameters}
-use Rattle.host.specs.Seen.{SecretSource, Text}
+use Rattle.host.specs.HostState.{SecretSource, Text}
 use Rattle.scrypt_request.specs.Request.{Encryption, Task}
 
 -- the words with one byte more before the first

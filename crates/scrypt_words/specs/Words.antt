@@ -4,7 +4,7 @@ use Rattle.std.specs.Option.{option_map_or}
 use Rattle.std.specs.Str.{bytes_eq}
 use Rattle.clap.specs.Words.{Kinds, Row, fault_of, first_of as value_of, found_of, rows_of, subcommand_of}
 use Rattle.clap.specs.declared.parser.matches.ArgMatches.{ArgMatches}
-use Rattle.host.specs.Seen.{Text}
+use Rattle.host.specs.HostState.{Text}
 use Rattle.scrypt_words.specs.CommandLine.{scrypt_app}
 
 -- whether a flag is set: clap holds the word `true` for it

@@ -4,7 +4,7 @@ ghost use Rattle.std.specs.Prelude.{◌≡◌, ◌-◌, ◌^◌, [], Ok, Err, So
 ghost use Rattle.scrypt_request.specs.Request.{decrypt, encrypt, inspect};
 ghost use Rattle.scrypt_words.specs.Request.{scrypt_request};
 ghost use Rattle.scrypt_words.specs.Vectors.{costs, counted_salt, plain_encryption, plain_task, typed};
-ghost use Rattle.host.specs.Seen.{env, file, stdin_once};
+ghost use Rattle.host.specs.HostState.{env, file, stdin_once};
 ghost use Rattle.scrypt_request.specs.declared.refusal.ScryptRefusal.TheVariants.{CostsOutOfRange, KeepOutOfRange, PassphraseSource, SaltDigits, SameName, SomeCosts, StandardInputTwice, Usage};
 
 // The costs and the salt of a new file, and its digits in upper case.

@@ -3,7 +3,7 @@
 #![tactic(auto)]
 
 mod identity;
-mod placeholders;
 mod real;
+mod stream_placeholders;
 
 pub use real::Real;

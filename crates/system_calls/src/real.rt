@@ -4,7 +4,7 @@ ghost use Rattle.system_calls.specs.Inside.Opened.{IsNamed, IsStandard};
 ghost use Rattle.tools.specs.World.{no_files, no_world};
 
 use crate::identity::{identity, told_of_file, told_of_stream};
-use crate::placeholders::{Placeholders, beside_standard_streams};
+use crate::stream_placeholders::{StreamPlaceholders, beside_standard_streams};
 use host::HostFault;
 use std::env::{Env, FillError};
 use std::fs::{File, Metadata, OpenOptions};
@@ -34,7 +34,7 @@ pub enum Opened {
 #[derive(Drop)]
 pub struct Real {
     rt: HostRuntime,
-    placeholders: Placeholders,
+    placeholders: StreamPlaceholders,
     input: Opened,
     secret: Opened,
     random: Opened,
@@ -47,7 +47,7 @@ impl Real {
     pub fn new(rt: HostRuntime) -> Real {
         Real {
             rt,
-            placeholders: Placeholders::new(rt),
+            placeholders: StreamPlaceholders::new(rt),
             input: Opened::Nothing,
             secret: Opened::Nothing,
             random: Opened::Nothing,

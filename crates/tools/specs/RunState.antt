@@ -1,11 +1,11 @@
 -- What contracts see of a system's host: the host that is made of a system and of how far a run has come.
 use Rattle.std.specs.Prelude.{◌≡◌, Bool, true, false, not, ℕ, List, [], codes, drop, take, Option, None, Some, IsTrue, is_none, if◌then◌else◌}
 use Rattle.host.specs.Faults.{Faults}
-use Rattle.host.specs.Grants.{Grants, nothing_asked}
+use Rattle.host.specs.GrantedCalls.{GrantedCalls, nothing_asked}
 use Rattle.host.specs.Lines.{SaysOneLine}
 use Rattle.host.specs.Entries.{lookup}
-use Rattle.host.specs.Seen.{SecretSource, Seen, Text, env, file, stdin_once}
-use Rattle.tools.specs.World.{Files, IsApart, IsSettled, IsUnsettled, OpensNoOther, World}
+use Rattle.host.specs.HostState.{SecretSource, HostState, Text, env, file, stdin_once}
+use Rattle.tools.specs.World.{Files, IsApart, IsOutputSynced, IsOutputUnsynced, OpensNoOther, World}
 use Rattle.tools.specs.declared.run.InputStage.{InputStage}
 use Rattle.tools.specs.declared.run.InputStage.TheVariants as input
 use Rattle.tools.specs.declared.run.OutputStage.{OutputStage}
@@ -15,7 +15,7 @@ use Rattle.tools.specs.declared.run.OutputStage.TheVariants as output
 -- asked, and whether a salt was asked for, whatever came of it
 pub record RunState : Type 0 where
   pub world : World
-  pub grants : Grants
+  pub grants : GrantedCalls
   pub asked : Option SecretSource
   pub salted : Bool
 
@@ -59,7 +59,7 @@ is_before_sync output.Synced = false
 is_before_sync output.Unsynced = false
 
 -- the calls that are granted once a run has come so far
-abbrev pub grants_at : InputStage → OutputStage → Option SecretSource → Bool → Grants
+abbrev pub grants_at : InputStage → OutputStage → Option SecretSource → Bool → GrantedCalls
 grants_at input_stage output_stage asked salted = record {
   input = is_unopened input_stage;
   readable = is_going input_stage;
@@ -108,7 +108,7 @@ secret_left (env name) n w = w.secret.left
 secret_left (file name) n w = drop n (bytes_in (lookup w.files name))
 
 -- what is seen of the host that is made of a system and of how far a run has come
-abbrev pub host_seen : RunState → Seen
+abbrev pub host_seen : RunState → HostState
 host_seen h = record {
   input = h.world.input.left;
   output = h.world.output;
@@ -125,13 +125,13 @@ host_seen h = record {
 }
 
 -- what is seen of the host over a system that was not used yet
-abbrev pub host_over : World → Seen
+abbrev pub host_over : World → HostState
 host_over w = host_seen (record { world = w; grants = nothing_asked; asked = None; salted = false })
 
 -- what a run leaves of a system: it stands as a host over it is seen at the end of the run. As a secret's stream it
 -- opened at most the source that the host was asked for, and random bytes at most for a salt; and it emptied nothing
 -- but an output that it opened
-pub record Leaves (after : World) (seen : Seen) : Type 0 where
+pub record Leaves (after : World) (seen : HostState) : Type 0 where
   pub held : RunState
   pub over : held.world ≡ after
   pub same : host_seen held ≡ seen
@@ -141,13 +141,13 @@ pub record Leaves (after : World) (seen : Seen) : Type 0 where
 
 -- of a run with these failures, whose host is seen like this, a line was said, or could not be said; and so the system
 -- is left
-pub record EndsWithLine (tells : Bool) (line : Text) (before : Seen) (faults_before : Faults) (after : World) (faults_after : Faults) : Type 0 where
-  pub seen : Seen
+pub record EndsWithLine (tells : Bool) (line : Text) (before : HostState) (faults_before : Faults) (after : World) (faults_after : Faults) : Type 0 where
+  pub seen : HostState
   pub leaves : IsTrue tells → Leaves after seen
   pub says : SaysOneLine tells line before seen faults_before faults_after
 
 -- a run has come as far as its stages say; `told` is whether it tried to say a line
-pub record IsAt (input_stage : InputStage) (output_stage : OutputStage) (asked : Option SecretSource) (salted told : Bool) (grants : Grants) (w : World) (f : Files) : Type 0 where
+pub record IsAt (input_stage : InputStage) (output_stage : OutputStage) (asked : Option SecretSource) (salted told : Bool) (grants : GrantedCalls) (w : World) (f : Files) : Type 0 where
   pub unopened : grants.input ≡ true → w.input.opened ≡ None
   pub going : input_stage ≡ input.Opened → w.input.is_ended ≡ false
   pub ended : input_stage ≡ input.Ended → w.input.left ≡ []
@@ -164,6 +164,6 @@ pub record IsAt (input_stage : InputStage) (output_stage : OutputStage) (asked :
   pub kept : output_stage ≡ output.Kept → w.is_kept ≡ true
   pub before_sync : is_before_sync output_stage ≡ true → w.sync_asked ≡ false
   pub not_yet : is_before_sync output_stage ≡ true → w.is_synced ≡ false
-  pub synced : output_stage ≡ output.Synced → IsSettled w
-  pub unsynced : output_stage ≡ output.Unsynced → IsUnsettled w
+  pub synced : output_stage ≡ output.Synced → IsOutputSynced w
+  pub unsynced : output_stage ≡ output.Unsynced → IsOutputUnsynced w
   pub unsaid : told ≡ false → w.said ≡ []

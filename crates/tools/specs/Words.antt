@@ -1,6 +1,6 @@
 -- The words of a process, as a system gives them.
 use Rattle.std.specs.Prelude.{◌≡◌, ◌<◌, ℕ, List, [], ◌∷◌, drop, length, take, Option, None, Some, Result, Ok, Err, IsUtf8, ⊤}
-use Rattle.host.specs.Seen.{Text}
+use Rattle.host.specs.HostState.{Text}
 use Rattle.tools.specs.declared.system.WordFault.{WordFault}
 use Rattle.tools.specs.declared.system.WordFault.TheVariants as fault
 use Rattle.tools.specs.declared.arguments.WordsFault.{WordsFault}

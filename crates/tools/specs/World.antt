@@ -1,7 +1,7 @@
 -- What contracts see of a system that tells its bytes, and what each call leaves of it.
 use Rattle.std.specs.Prelude.{◌≡◌, ◌≤◌, ◌==◌, Bool, true, false, not, ℕ, List, [], ◌∷◌, ◌++◌, drop, length, take, Option, None, Some}
 use Rattle.host.specs.Entries.{Entry, lookup}
-use Rattle.host.specs.Seen.{Text}
+use Rattle.host.specs.HostState.{Text}
 use Rattle.tools.specs.Identity.{is_regular}
 use Rattle.tools.specs.declared.identity.FileIdentity.{FileIdentity}
 use Rattle.tools.specs.declared.system.Reading.{Reading}
@@ -197,13 +197,13 @@ after_sync w = record w { sync_asked = true; is_synced = true }
 -- what the output held was taken away, if it is a regular file that was opened by its name; what was written is on the
 -- disk, where the output is kept; and no other output was asked to be brought there. (Nothing is written or emptied once
 -- it was asked to be: that is a condition of these calls.)
-pub record IsSettled (w : World) : Type 0 where
+pub record IsOutputSynced (w : World) : Type 0 where
   pub new : w.is_new ≡ true
   pub synced : w.is_kept ≡ true → w.is_synced ≡ true
   pub unasked : w.is_kept ≡ false → w.sync_asked ≡ false
 
 -- the same, but that the output was asked to be brought to the disk, and was not
-pub record IsUnsettled (w : World) : Type 0 where
+pub record IsOutputUnsynced (w : World) : Type 0 where
   pub new : w.is_new ≡ true
   pub asked : w.sync_asked ≡ true
   pub unsynced : w.is_synced ≡ false

@@ -1,7 +1,7 @@
 //! What is read from its beginning: secrets and salts.
 ghost use Rattle.std.specs.Prelude.{◌≡◌, ℕ, List, None, drop, option_map, IfOk, OnOk, IsTrue, Some, codes};
 ghost use Rattle.host.specs.Secret.{IsBeginning, source_of};
-ghost use Rattle.host.specs.Seen.{env, FitsWithin};
+ghost use Rattle.host.specs.HostState.{env, FitsWithin};
 ghost use Rattle.tools.specs.RunState.{bytes_in, opened_for, salt_of, secret_in, secret_left};
 ghost use Rattle.tools.specs.World.{LeavesAllBut, OpensNoOther, stands_at, IsBeforeOutput, IsUnopened};
 ghost use Rattle.tools.specs.declared.system.Reading.TheVariants as reading;

@@ -3,7 +3,7 @@
 #![tactic(auto)]
 
 mod arguments;
-mod counts;
+mod failure_counts;
 mod identity;
 mod inputs;
 mod lines;
@@ -14,7 +14,7 @@ mod system;
 mod system_host;
 
 pub use arguments::{WordsFault, words};
-pub use counts::Counts;
+pub use failure_counts::FailureCounts;
 pub use identity::FileIdentity;
 pub use inputs::{read_salt, read_secret};
 pub use lines::say_apart;

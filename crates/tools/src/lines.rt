@@ -1,7 +1,7 @@
 //! What is said: a line that goes into no file that is read.
 ghost use Rattle.std.specs.Prelude.{◌≡◌, [], OnOk, IsTrue};
 ghost use Rattle.tools.specs.World.{after_line};
-ghost use Rattle.host.specs.Seen.{KeepsOnErr};
+ghost use Rattle.host.specs.HostState.{KeepsOnErr};
 
 use crate::identity::FilesRead;
 use crate::system::{Stream, System};

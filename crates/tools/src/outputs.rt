@@ -1,6 +1,6 @@
 //! What is written: an output that is no file that is read.
 ghost use Rattle.std.specs.Prelude.{◌≡◌, false, true, option_map, IfOk, OnOk, IsTrue};
-ghost use Rattle.host.specs.Seen.{KeepsOnErr};
+ghost use Rattle.host.specs.HostState.{KeepsOnErr};
 ghost use Rattle.tools.specs.World.{AsksOutput, IsApart, IsBeforeOutput, IsBeforeSync};
 
 use crate::identity::FilesRead;

@@ -1,18 +1,18 @@
 //! A run over a system: the system, and how far the run has come.
 ghost use Rattle.std.specs.Prelude.{◌≡◌, ◌<◌, ℕ, List, None, [], length, option_map, take, IfOk, OnOk, OnErr, IsTrue, true, false};
-ghost use Rattle.host.specs.Asked.{asked_source};
-ghost use Rattle.host.specs.Grants.{nothing_asked, with_input_opened, with_output_asked, with_output_opened, with_salt_asked, with_secret_asked};
+ghost use Rattle.host.specs.AskedSource.{asked_source};
+ghost use Rattle.host.specs.GrantedCalls.{nothing_asked, with_input_opened, with_output_asked, with_output_opened, with_salt_asked, with_secret_asked};
 ghost use Rattle.host.specs.Secret.{IsBeginning, secret_of, source_of};
-ghost use Rattle.host.specs.Seen.{after_ask, after_ask_output, after_open_input, after_open_output, after_pull, after_push, after_salt, after_say, env, FitsWithin, KeepsOnErr, KeepsOnOk, TakesSome};
+ghost use Rattle.host.specs.HostState.{after_ask, after_ask_output, after_open_input, after_open_output, after_pull, after_push, after_salt, after_say, env, FitsWithin, KeepsOnErr, KeepsOnOk, TakesSome};
 ghost use Rattle.tools.specs.RunState.{Leaves, host_seen, secret_left};
-ghost use Rattle.tools.specs.World.{IsSettled, IsUnsettled, IsUnused, after_line};
+ghost use Rattle.tools.specs.World.{IsOutputSynced, IsOutputUnsynced, IsUnused, after_line};
 
 use crate::inputs::{read_salt, read_secret};
 use crate::lines::say_apart;
 use crate::outputs::open_apart;
 use crate::streams::{read_some, write_some};
 use crate::system::{Reading, System};
-use host::{Asked, HostFault, Source};
+use host::{AskedSource, HostFault, Source};
 use std::marker::Model;
 
 /// How far the input has been read.
@@ -58,14 +58,14 @@ pub struct Run<S: System> {
     system: S,
     input: InputStage,
     output: OutputStage,
-    asked: Option<Asked>,
+    asked: Option<AskedSource>,
     salted: bool,
     told: bool,
 }
 
 impl<S: System> Model for Run<S> {
     ghost use Rattle.std.specs.Prelude.{option_map, IsTrue};
-    ghost use Rattle.host.specs.Asked.{asked_source};
+    ghost use Rattle.host.specs.AskedSource.{asked_source};
     ghost use Rattle.tools.specs.RunState.{RunState, IsAt, grants_at};
 
     ghost Value = { RunState };
@@ -237,9 +237,9 @@ impl<S: System> Run<S> {
     /// there once, and not written afterwards. Where no output was opened, that is a fault.
     pub fn sync(&mut self) -> Result<(), HostFault>
         ensures seen { IsTrue S.tells → host_seen self.new ≡ host_seen self.old }
-        ensures settled { IsTrue S.tells → OnOk result (IsSettled self.new.world) }
-        ensures unsettled { IsTrue S.tells → self.old.grants.writable ≡ true →
-            OnErr result (IsUnsettled self.new.world) }
+        ensures output_synced { IsTrue S.tells → OnOk result (IsOutputSynced self.new.world) }
+        ensures output_unsynced { IsTrue S.tells → self.old.grants.writable ≡ true →
+            OnErr result (IsOutputUnsynced self.new.world) }
         ensures granted { self.new.grants ≡ self.old.grants }
     {
         match self.output {
@@ -270,7 +270,7 @@ impl<S: System> Run<S> {
             self.new.world ≡ self.old.world }
         ensures granted { self.new.grants ≡ with_secret_asked self.old.grants }
     {
-        self.asked = Some(Asked::of(&source));
+        self.asked = Some(AskedSource::of(&source));
         if self.output != OutputStage::Unasked {
             return Err(HostFault);
         }

@@ -1,7 +1,7 @@
 //! Reading and writing what signals may interrupt.
 ghost use Rattle.std.specs.Prelude.{◌≡◌, ◌+◌, ◌<◌, ◌≤◌, ℕ, Some, true, drop, take, length, IfOk, IsTrue};
 ghost use Rattle.host.specs.Secret.{IsBeginning};
-ghost use Rattle.host.specs.Seen.{FitsWithin, KeepsOnErr, TakesSome};
+ghost use Rattle.host.specs.HostState.{FitsWithin, KeepsOnErr, TakesSome};
 ghost use Rattle.tools.specs.World.{IsApart, Reads, TakesFrom, after_write, source_at, IsBeforeSync, IsGoing};
 
 use crate::system::{Reading, System};

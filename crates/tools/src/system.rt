@@ -2,7 +2,7 @@
 ghost use Rattle.std.specs.Prelude.{◌≡◌, ◌+◌, ◌<◌, Bool, ℕ, List, [], true, false, length, option_map, take, IfOk, OnOk, OnErr, IsTrue};
 ghost use Rattle.host.specs.Entries.{lookup};
 ghost use Rattle.host.specs.Secret.{IsBeginning};
-ghost use Rattle.host.specs.Seen.{Text, FitsWithin, KeepsOnErr};
+ghost use Rattle.host.specs.HostState.{Text, FitsWithin, KeepsOnErr};
 ghost use Rattle.tools.specs.Words.{GivesWord, word_at};
 ghost use Rattle.tools.specs.World.{Files, IsApart, Opens, Reads, SaysApart, World, after_ask_output, after_ask_sync, after_empty, after_line, after_open_output, after_sync, after_write, file_of, IsBeforeOutput, IsBeforeSync, IsGoing, IsUnopened};
 

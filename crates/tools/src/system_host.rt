@@ -1,11 +1,11 @@
 //! The system as a host.
 ghost use Rattle.std.specs.Prelude.{◌≡◌, ◌-◌, ◌≤◌, ◌^◌, true, IsTrue};
-ghost use Rattle.host.specs.Grants.{nothing_asked};
+ghost use Rattle.host.specs.GrantedCalls.{nothing_asked};
 ghost use Rattle.host.specs.Faults.{AreBelow, no_faults, output_failed};
 ghost use Rattle.tools.specs.RunState.{EndsWithLine, Leaves, host_over, host_seen};
-ghost use Rattle.tools.specs.World.{IsSettled, IsUnsettled, IsUnused};
+ghost use Rattle.tools.specs.World.{IsOutputSynced, IsOutputUnsynced, IsUnused};
 
-use crate::counts::{Counts, counted};
+use crate::failure_counts::{FailureCounts, counted};
 use crate::run::Run;
 use crate::system::System;
 use host::{Host, HostFault, Source};
@@ -20,14 +20,14 @@ use host::{Host, HostFault, Source};
 /// read is opened before the output is asked for, and is a fault afterwards. One line is said, unless
 /// standard error is the opened input or the secret's file: that is a fault.
 ///
-/// It cannot be dropped: the end of a run is `settle`, `refuse` or `into_system`, which hand back the system
+/// It cannot be dropped: the end of a run is `sync_and_end`, `refuse` or `into_system`, which hand back the system
 /// as the run left it.
 ///
 /// It tells its bytes where the system does. Of every system contracts see how often each kind of call
 /// has failed, and which calls are granted.
 pub struct SystemHost<S: System> {
     run: Run<S>,
-    counts: Counts<S>,
+    counts: FailureCounts<S>,
 }
 
 impl<S: System> SystemHost<S> {
@@ -40,7 +40,7 @@ impl<S: System> SystemHost<S> {
     {
         SystemHost {
             run: Run::new(system),
-            counts: Counts::new(),
+            counts: FailureCounts::new(),
         }
     }
 
@@ -54,18 +54,18 @@ impl<S: System> SystemHost<S> {
     /// The end of a run that did what it was asked for: the output is brought to the disk, where it is kept.
     /// Where that fails, it is a fault of the output, and this line is said. It gives the status, the system as
     /// the run left it, and how often each kind of call has failed.
-    pub fn settle(self, line: &str) -> (u8, S, Counts<S>)
+    pub fn sync_and_end(self, line: &str) -> (u8, S, FailureCounts<S>)
         requires room { AreBelow (2 ^ 64 - 1) (⟦<SystemHost<S> as Host>⟧.faults self) }
         ensures status { result.0 ≤ 1 }
         ensures counts { result.0 ≡ 0 → result.2 ≡ ⟦<SystemHost<S> as Host>⟧.faults self }
         ensures leaves { IsTrue S.tells → result.0 ≡ 0 →
             Leaves (S.world result.1) (⟦<SystemHost<S> as Host>⟧.seen self) }
-        ensures settled { IsTrue S.tells → result.0 ≡ 0 → IsSettled (S.world result.1) }
+        ensures output_synced { IsTrue S.tells → result.0 ≡ 0 → IsOutputSynced (S.world result.1) }
         ensures says { result.0 ≡ 1 → EndsWithLine S.tells line.now
             (⟦<SystemHost<S> as Host>⟧.seen self)
             (output_failed (⟦<SystemHost<S> as Host>⟧.faults self)) (S.world result.1) result.2 }
-        ensures unsettled { IsTrue S.tells → (⟦<SystemHost<S> as Host>⟧.grants self).writable ≡ true →
-            result.0 ≡ 1 → IsUnsettled (S.world result.1) }
+        ensures output_unsynced { IsTrue S.tells → (⟦<SystemHost<S> as Host>⟧.grants self).writable ≡ true →
+            result.0 ≡ 1 → IsOutputUnsynced (S.world result.1) }
     {
         let SystemHost {
             mut run,
@@ -81,7 +81,7 @@ impl<S: System> SystemHost<S> {
 
     /// The end of a run that is refused: this line is said, or passed over where it cannot be said. It gives
     /// the status of a refusal, the system as the run left it, and how often each kind of call has failed.
-    pub fn refuse(self, line: &str) -> (u8, S, Counts<S>)
+    pub fn refuse(self, line: &str) -> (u8, S, FailureCounts<S>)
         requires room { AreBelow (2 ^ 64 - 1) (⟦<SystemHost<S> as Host>⟧.faults self) }
         ensures status { result.0 ≡ 1 }
         ensures says { EndsWithLine S.tells line.now (⟦<SystemHost<S> as Host>⟧.seen self)
@@ -96,7 +96,7 @@ impl<S: System> SystemHost<S> {
     }
 
     /// The end of a run: the system as the run left it, and how often each kind of call has failed.
-    pub fn into_system(self) -> (S, Counts<S>)
+    pub fn into_system(self) -> (S, FailureCounts<S>)
         ensures counts { result.1 ≡ ⟦<SystemHost<S> as Host>⟧.faults self }
         ensures same { S.world result.0 ≡ self.run.world }
         ensures leaves { IsTrue S.tells →

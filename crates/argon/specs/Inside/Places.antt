@@ -3,14 +3,14 @@
 use Rattle.std.specs.Prelude.{◌≡◌, ℕ, zero, suc, ◌+◌, ◌-◌, ◌*◌, ◌^◌, ◌<◌, ◌≤◌, Bool, true, ◌||◌, nat_eq, if◌then◌else◌}
 
 -- the number of the first column that stands in a lane
-abbrev pub first_standing : ℕ → ℕ → ℕ → ℕ
-first_standing segment zero slice = 0
-first_standing segment (suc before) slice = before * (4 * segment) + (slice + 1) * segment
+abbrev pub first_candidate : ℕ → ℕ → ℕ → ℕ
+first_candidate segment zero slice = 0
+first_candidate segment (suc before) slice = before * (4 * segment) + (slice + 1) * segment
 
 -- how many columns stand: those of the finished segments, and so many of this one
-abbrev pub standing_count : ℕ → ℕ → ℕ → ℕ → ℕ
-standing_count segment zero slice more = slice * segment + more
-standing_count segment (suc before) slice more = 3 * segment + more
+abbrev pub candidate_count : ℕ → ℕ → ℕ → ℕ → ℕ
+candidate_count segment zero slice more = slice * segment + more
+candidate_count segment (suc before) slice more = 3 * segment + more
 
 -- a lane of four segments of this length has fewer than 2^32 columns
 abbrev pub FitsLane : ℕ → Type 0
@@ -23,4 +23,4 @@ IsAfterFirstTwo pass slice index is_own = pass ≡ 0 → slice ≡ 0 → (2 ≤ 
 -- |W|
 abbrev pub reference_set_len : ℕ → ℕ → ℕ → ℕ → Bool → ℕ
 reference_set_len segment pass slice index is_own =
-    standing_count segment pass slice (if is_own then index else 0) - (if is_own || nat_eq index 0 then 1 else 0)
+    candidate_count segment pass slice (if is_own then index else 0) - (if is_own || nat_eq index 0 then 1 else 0)

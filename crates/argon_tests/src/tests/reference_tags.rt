@@ -5,10 +5,10 @@
 use argon::Kind;
 
 /// One run of the reference program: kind, passes, memory in KiB, lanes, and the tag.
-pub type Row = (Kind, u32, u32, u32, &'static str);
+pub type ReferenceTag = (Kind, u32, u32, u32, &'static str);
 
 /// Runs with the password `password` and the salt `somesalt`.
-pub static RUNS: [Row; 25] = [
+pub static RUNS: [ReferenceTag; 25] = [
     (
         Kind::D,
         1,
@@ -175,7 +175,7 @@ pub static RUNS: [Row; 25] = [
 ];
 
 /// Such runs with longer segments.
-pub static LONGER_RUNS: [Row; 17] = [
+pub static LONGER_RUNS: [ReferenceTag; 17] = [
     (
         Kind::I,
         1,
@@ -298,7 +298,7 @@ pub static LONGER_RUNS: [Row; 17] = [
 ];
 
 /// Other passwords and salts, each with its runs.
-pub static OTHER_RUNS: [(&str, &str, &[Row]); 6] = [
+pub static OTHER_RUNS: [(&str, &str, &[ReferenceTag]); 6] = [
     (
         "p",
         "saltsalt",

@@ -6,9 +6,9 @@ use std::alloc::Global;
 use std::test::Fail;
 
 /// A text, its type, its version and its password.
-type Row = (&'static str, Kind, u32, &'static str);
+type ProgramText = (&'static str, Kind, u32, &'static str);
 
-const ROWS: &[Row] = &[
+const ROWS: &[ProgramText] = &[
     // python3-argon2 21.1.0: low_level.hash_secret(password, salt, t, m, p, length, type, version)
     (
         "$argon2i$v=16$m=32,t=1,p=2$c2FsdHlzYWx0$B4xgENicBeE",
@@ -140,7 +140,7 @@ const ROWS: &[Row] = &[
 ];
 
 // Whether a text is read as its row says, and fits its password and no other.
-fn is_as_made(alloc: Global, (text, kind, version, password): Row) -> Result<bool, Fail> {
+fn is_as_made(alloc: Global, (text, kind, version, password): ProgramText) -> Result<bool, Fail> {
     let encoded = Encoded::read(alloc, text.as_bytes())?;
     let is_read = encoded.kind == kind && encoded.version == version;
     let text = text.as_bytes();

@@ -4,7 +4,7 @@ ghost use Rattle.std.specs.Prelude.{◌<◌, length};
 use super::near_misses::{
     LEFT_OUT, PREFIXES, REPLACED, SHORT_LEFT_OUT, SHORT_PREFIXES, SHORT_TWICE, TWICE,
 };
-use super::reference_texts::{KNOWN, ROWS, Row};
+use super::reference_texts::{KNOWN, ROWS, ReferenceText};
 use super::refusing::Refusing;
 use super::version_0x10::SHORT;
 use argon_text::{Encoded, ReadFault, read_from};
@@ -22,7 +22,7 @@ fn answer(alloc: Global, text: &[u8]) -> u8 {
 }
 
 // Whether a text is read as its row says, and written again as it was.
-fn is_read_and_written(alloc: Global, row: &Row) -> Result<bool, Fail> {
+fn is_read_and_written(alloc: Global, row: &ReferenceText) -> Result<bool, Fail> {
     let encoded = Encoded::read(alloc, row.text.as_bytes())?;
     let mut out = Vec::new(alloc);
     encoded.write(&mut out)?;
@@ -558,12 +558,12 @@ fn each_request_is_refused(rt: HostRuntime) {
             10,
         ),
     ] {
-        let mut room = Refusing {
+        let mut source = Refusing {
             alloc: rt.alloc(),
             left,
             unasked: 10,
         };
-        assert!(rt; read_from(&mut room, text).err() == fault, "{left}");
-        assert_eq!(rt; room.unasked, unasked);
+        assert!(rt; read_from(&mut source, text).err() == fault, "{left}");
+        assert_eq!(rt; source.unasked, unasked);
     }
 }

@@ -9,7 +9,7 @@ pub const KNOWN: &[u8] =
 
 /// One run of the reference program.
 #[derive(Drop)]
-pub struct Row {
+pub struct ReferenceText {
     pub text: &'static str,
     pub kind: Kind,
     pub memory: u32,
@@ -20,8 +20,8 @@ pub struct Row {
     pub password: &'static str,
 }
 
-pub const ROWS: &[Row] = &[
-    Row {
+pub const ROWS: &[ReferenceText] = &[
+    ReferenceText {
         text: "$argon2i$v=19$m=256,t=2,p=1$c29tZXNhbHQ$iekCn0Y3spW+sCcFanM2xBT63UP2sghkUoHLIUpWRS8",
         kind: Kind::I,
         memory: 256,
@@ -31,7 +31,7 @@ pub const ROWS: &[Row] = &[
         tag_len: 32,
         password: "password",
     },
-    Row {
+    ReferenceText {
         text: "$argon2d$v=19$m=8,t=1,p=1$c29tZXNhbHQ$eT/2lA",
         kind: Kind::D,
         memory: 8,
@@ -41,7 +41,7 @@ pub const ROWS: &[Row] = &[
         tag_len: 4,
         password: "password",
     },
-    Row {
+    ReferenceText {
         text: "$argon2i$v=19$m=16,t=2,p=2$c2FsdHNhbHQ5$4fta4tM",
         kind: Kind::I,
         memory: 16,
@@ -51,7 +51,7 @@ pub const ROWS: &[Row] = &[
         tag_len: 5,
         password: "password",
     },
-    Row {
+    ReferenceText {
         text: "$argon2id$v=19$m=64,t=3,p=4$MDEyMzQ1Njc4OQ$pRRvUz+o3rR+reVXt2sVAA",
         kind: Kind::Id,
         memory: 64,
@@ -61,7 +61,7 @@ pub const ROWS: &[Row] = &[
         tag_len: 16,
         password: "password",
     },
-    Row {
+    ReferenceText {
         text: "$argon2d$v=19$m=100,t=3,p=3$ZGlmZnNhbHQ$p9CaIsC4ey5PY3I6dl6Tjc9zRJqVlyT2bEIJt0B/KfzQpn4Meu2ltVZgQBP+3b+1mhK10AQ0qQuQ57Tlp58q7A",
         kind: Kind::D,
         memory: 100,
@@ -71,7 +71,7 @@ pub const ROWS: &[Row] = &[
         tag_len: 64,
         password: "pass,word=$",
     },
-    Row {
+    ReferenceText {
         text: "$argon2i$v=19$m=8,t=1,p=1$bG9uZ2Vyc2FsdHdpdGgyNGJ5dGVzLi4u$7MMZZBCsjBH7WvTyRdOWu0xwcRixCUce",
         kind: Kind::I,
         memory: 8,

@@ -2,7 +2,7 @@
 ghost use Rattle.std.specs.Prelude.{◌≡◌, ◌-◌};
 
 use argon::{Matrix, Params};
-use argon_text::{HashMemory, ReadRoom, TextRoom};
+use argon_text::{DecodeMemory, HashMemory, TextMemory};
 use base64::DecodeAllocError;
 use std::alloc::{AllocError, Global};
 
@@ -26,8 +26,8 @@ impl Refusing {
     }
 }
 
-impl ReadRoom for Refusing {
-    ghost after_decoded = { λ room _ _. record room { left = room.left - 1; unasked = room.unasked - 1 } };
+impl DecodeMemory for Refusing {
+    ghost after_decoded = { λ source _ _. record source { left = source.left - 1; unasked = source.unasked - 1 } };
 
     fn decoded(&mut self, symbols: &[u8]) -> Result<Vec<u8>, DecodeAllocError> {
         if !self.grants() {
@@ -39,7 +39,7 @@ impl ReadRoom for Refusing {
 }
 
 impl HashMemory for Refusing {
-    ghost after_matrix = { λ room _ _ _ _. record room { left = room.left - 1; unasked = room.unasked - 1 } };
+    ghost after_matrix = { λ source _ _ _ _. record source { left = source.left - 1; unasked = source.unasked - 1 } };
 
     fn matrix(
         &mut self,
@@ -71,7 +71,7 @@ impl RefusingText {
     }
 }
 
-impl TextRoom for RefusingText {
+impl TextMemory for RefusingText {
     fn no_text(&self) -> String {
         self.alloc.no_text()
     }

@@ -14,10 +14,10 @@ fn tested(
     max_kib: u32,
     max_ops: u64,
 ) -> Result<bool, VerifyFault> {
-    let mut room = alloc;
+    let mut source = alloc;
     let mut ticks = Ticks::new(alloc);
     verify(
-        &mut room,
+        &mut source,
         &HashView::of(encoded),
         password,
         max_kib,
@@ -112,9 +112,9 @@ fn answered_keyed(
     max_kib: u32,
 ) -> Result<u8, Fail> {
     let encoded = Encoded::read(alloc, KEYED)?;
-    let mut room = alloc;
+    let mut source = alloc;
     let found = verify_keyed(
-        &mut room,
+        &mut source,
         &HashView::of(&encoded),
         &[1; 32],
         secret,
@@ -168,9 +168,9 @@ const LENGTHS: [(usize, &[u8]); 6] = [
 fn answered_of_length(alloc: Global, len: usize, text: &[u8]) -> Result<(u8, u8), Fail> {
     let password = vec![in alloc; b'p'; len]?;
     let encoded = Encoded::read(alloc, text)?;
-    let mut room = alloc;
+    let mut source = alloc;
     let keyed = verify_keyed(
-        &mut room,
+        &mut source,
         &HashView::of(&encoded),
         &password,
         &[],
@@ -217,13 +217,13 @@ fn each_byte_of_the_tag_counts(rt: HostRuntime) -> Result<(), Fail> {
 // The matrix is the one request, and comes after the limits.
 fn answered_with(alloc: Global, left: u32, max_ops: u64) -> Result<u8, Fail> {
     let encoded = Encoded::read(alloc, KNOWN)?;
-    let mut room = Refusing {
+    let mut source = Refusing {
         alloc,
         left,
         unasked: 10,
     };
     let found = verify(
-        &mut room,
+        &mut source,
         &HashView::of(&encoded),
         b"password",
         256,
@@ -253,15 +253,15 @@ fn may_enter(alloc: Global, stored: &[u8], password: &[u8]) -> Result<bool, Veri
         Err(_) => return Ok(false),
     };
     // settings, salt and tag of the text
-    let claim = HashView::of(&encoded);
+    let view = HashView::of(&encoded);
     // the memory of the hash is from the heap
-    let mut room = alloc;
+    let mut source = alloc;
     // counts the work, for contracts alone
     let mut ticks = Ticks::new(alloc);
     // at most 1 GiB and 2^23 block functions, whoever wrote the text
     verify_keyed(
-        &mut room,
-        &claim,
+        &mut source,
+        &view,
         password,
         &[],
         &[],

@@ -5,7 +5,7 @@ ghost use Rattle.memory_host.specs.Memory.{memory_faults};
 
 use crate::fixtures::{list, new_host, text};
 use host::{Host, Source};
-use memory_host::{Growth, MemoryHost, NamedSecret};
+use memory_host::{GrowthMemory, MemoryHost, NamedSecret};
 use std::alloc::{AllocError, Global};
 
 // Grants all requests but one, which is counted from 1.
@@ -24,7 +24,7 @@ impl Refusing {
     }
 }
 
-impl Growth for Refusing {
+impl GrowthMemory for Refusing {
     fn copy_of(&mut self, text: &str) -> Result<String, AllocError> {
         if !self.grants() {
             return Err(AllocError);

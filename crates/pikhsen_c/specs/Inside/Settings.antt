@@ -26,9 +26,9 @@ abbrev pub cores_of_settings : ScryptSettings → List ℕ → List ℕ → ℕ
 cores_of_settings s password salt = sparse_cores password salt (sparse_given (costs_of_settings s) s.limits.keep)
 
 -- what a request for the memory of a derivation of these costs leaves of a source, by what `after_workspace` says of it
-abbrev pub ask_under : {Source : Type 0} → (Source → SparseParameters → ℕ → ℕ → Bool → Source) → ScryptLimits → Costs
+abbrev pub asks_workspace : {Source : Type 0} → (Source → SparseParameters → ℕ → ℕ → Bool → Source) → ScryptLimits → Costs
     → Source → Bool → Source
-ask_under after_workspace l costs before = after_workspace before (sparse_given costs l.keep) l.max_bytes l.max_ops
+asks_workspace after_workspace l costs before = after_workspace before (sparse_given costs l.keep) l.max_bytes l.max_ops
 
 -- ---- what is refused by them before memory is asked for, by its number; or 0
 
@@ -63,14 +63,14 @@ decryption_start_refusal runs l front = decrypt_start_status runs front l.keep l
 
 -- ---- the text of an encryption: the one that is given, or else all of the file's buffer but its last 128 bytes
 
-abbrev pub text_lent : Option (Bor (List ℕ)) → List ℕ → List ℕ
-text_lent None out = take (length out - 128) out
-text_lent (Some text) out = text.now
+abbrev pub text_to_encrypt : Option (Bor (List ℕ)) → List ℕ → List ℕ
+text_to_encrypt None out = take (length out - 128) out
+text_to_encrypt (Some text) out = text.now
 
 -- its length
-abbrev pub length_lent : Option (Bor (List ℕ)) → ℕ → ℕ
-length_lent None out_len = out_len - 128
-length_lent (Some text) out_len = length text.now
+abbrev pub length_to_encrypt : Option (Bor (List ℕ)) → ℕ → ℕ
+length_to_encrypt None out_len = out_len - 128
+length_to_encrypt (Some text) out_len = length text.now
 
 -- the file has the first 96 bytes
 abbrev pub HasFront : List ℕ → Type 0

@@ -2,10 +2,10 @@
 -- these bytes, and the input of `before` are the bytes after them.
 use Rattle.std.specs.Prelude.{◌≡◌, ◌+◌, ◌^◌, ◌⊎◌, ℕ, List, Option}
 use Rattle.encfile.specs.EncryptedFile.{HasRightHeaderCode}
-use Rattle.host.specs.Seen.{Seen, Text, after_ask_output, after_open_output}
+use Rattle.host.specs.HostState.{HostState, Text, after_ask_output, after_open_output}
 use Rattle.scrypt_run.specs.Decrypting.{IsDamaged, text_after}
 use Rattle.scrypt_run.specs.Passphrase.{HasPassphrase, PassphraseRefused}
-use Rattle.scrypt_run.specs.Text.{EndsText}
+use Rattle.scrypt_run.specs.Text.{EndsTextEarly}
 use Rattle.scrypt_request.specs.declared.refusal.ScryptRefusal.{ScryptRefusal}
 use Rattle.scrypt_request.specs.declared.refusal.ScryptRefusal.TheVariants as refusal
 
@@ -18,8 +18,8 @@ OpenRefused r line front =
     × (HasRightHeaderCode front passphrase → ⊥))
 
 -- the output could not be opened, the text's passing ended early, or all was released and is damaged
-abbrev pub ReleaseRefused : ScryptRefusal → List ℕ → List ℕ → Option Text → Seen → Seen → Type 0
+abbrev pub ReleaseRefused : ScryptRefusal → List ℕ → List ℕ → Option Text → HostState → HostState → Type 0
 ReleaseRefused r passphrase front outfile before after =
     ((r ≡ refusal.OutputFault) × (after ≡ after_ask_output outfile before))
-    ⊎ EndsText r (2 ^ 60 + 32) 4128 (text_after passphrase front) (text_after passphrase front) (after_open_output outfile before) after
+    ⊎ EndsTextEarly r (2 ^ 60 + 32) 4128 (text_after passphrase front) (text_after passphrase front) (after_open_output outfile before) after
     ⊎ ((r ≡ refusal.Damaged) × IsDamaged passphrase front outfile before after)

@@ -57,9 +57,9 @@ fn writes_the_file_of_hello(rt: HostRuntime) -> Result<(), Fail> {
             let stdin = b"pw\r\nmore".to_vec(alloc)?;
             let mut host = MemoryHost::new(alloc, input, stdin, *of_host);
             host.set_sizes(*pull, *push);
-            let mut room = alloc;
+            let mut memory = alloc;
             let mut ticks = Ticks::new(alloc);
-            assert_eq!(rt; run(&mut room, &mut host, &request, &mut ticks), Ok(()));
+            assert_eq!(rt; run(&mut memory, &mut host, &request, &mut ticks), Ok(()));
             assert_eq!(rt; host.output(), HELLO_FILE);
         }
     }

@@ -64,10 +64,10 @@ fn outcome(system: &mut MemorySystem, name: Option<&str>, failing: u64) -> (bool
 }
 
 // Whether standard input is opened, an output then, and whether that was emptied.
-type Seen = (bool, bool, bool);
+type HostState = (bool, bool, bool);
 
 // What becomes of an output where standard input is opened as the input.
-fn beside_input(alloc: Global, beside: Beside, name: Option<&str>, failing: u64) -> Seen {
+fn beside_input(alloc: Global, beside: Beside, name: Option<&str>, failing: u64) -> HostState {
     let mut system = files(alloc, beside);
     let _ = system.set_input(None);
     let is_read = system.open(Reading::Input, None).is_ok();
@@ -77,7 +77,7 @@ fn beside_input(alloc: Global, beside: Beside, name: Option<&str>, failing: u64)
 }
 
 // The same where it is opened as a secret.
-fn beside_secret(alloc: Global, beside: Beside, name: Option<&str>) -> Seen {
+fn beside_secret(alloc: Global, beside: Beside, name: Option<&str>) -> HostState {
     let mut system = files(alloc, beside);
     let is_read = system.open(Reading::Secret, None).is_ok();
     let (is_opened, is_emptied) = outcome(&mut system, name, 0);
@@ -85,31 +85,31 @@ fn beside_secret(alloc: Global, beside: Beside, name: Option<&str>) -> Seen {
     (is_read, is_opened, is_emptied)
 }
 
-const EMPTIED: Seen = (true, true, true);
+const EMPTIED: HostState = (true, true, true);
 
-const AS_IT_IS: Seen = (true, true, false);
+const AS_IT_IS: HostState = (true, true, false);
 
-const REFUSED: Seen = (true, false, false);
+const REFUSED: HostState = (true, false, false);
 
 // Whether this becomes of an output of this name beside the input, and beside the secret.
-fn becomes(alloc: Global, beside: Beside, name: Option<&str>, what: Seen) -> bool {
+fn becomes(alloc: Global, beside: Beside, name: Option<&str>, what: HostState) -> bool {
     beside_input(alloc, beside, name, 0) == what && beside_secret(alloc, beside, name) == what
 }
 
 // What is read before the output is opened and then, the output, and what becomes of it under a name and as standard
 // output.
-type Row = (
+type OutputCase = (
     Option<FileIdentity>,
     Option<FileIdentity>,
     Option<FileIdentity>,
-    Seen,
-    Seen,
+    HostState,
+    HostState,
 );
 
 // A named output is emptied where it is a regular file; a block device and standard output are not. What is read is
 // refused. Either alone of device and number makes no file that is read, nor does a file on a device that is read. A
 // file of layers can be another once an output is opened.
-static ROWS: [Row; 11] = [
+static ROWS: [OutputCase; 11] = [
     (None, None, THIS, EMPTIED, AS_IT_IS),
     (ANOTHER, ANOTHER, THIS, EMPTIED, AS_IT_IS),
     (ELSEWHERE, ELSEWHERE, THIS, EMPTIED, AS_IT_IS),
@@ -124,7 +124,7 @@ static ROWS: [Row; 11] = [
 ];
 
 // Whether that becomes of it.
-fn is_row(alloc: Global, (before, after, output, named, standard): Row) -> bool {
+fn is_row(alloc: Global, (before, after, output, named, standard): OutputCase) -> bool {
     let beside = Beside {
         before,
         after,
@@ -151,13 +151,13 @@ const APART: Beside = Beside {
 };
 
 // Whether this becomes of it under a name and as standard output where this call of the system fails.
-fn becomes_at(alloc: Global, (call, named, standard): (u64, Seen, Seen)) -> bool {
+fn becomes_at(alloc: Global, (call, named, standard): (u64, HostState, HostState)) -> bool {
     beside_input(alloc, APART, Some("output"), call) == named
         && beside_input(alloc, APART, None, call) == standard
 }
 
 // An output is opened by five calls, and by four where it is not emptied.
-static FAILING: [(u64, Seen, Seen); 6] = [
+static FAILING: [(u64, HostState, HostState); 6] = [
     (1, REFUSED, REFUSED),
     (2, REFUSED, REFUSED),
     (3, REFUSED, REFUSED),

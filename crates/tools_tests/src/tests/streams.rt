@@ -79,12 +79,12 @@ fn written(alloc: Global, bytes: &[u8], trouble: Trouble) -> Answer {
 
 // A size, interruptions and the call that fails; and what becomes of reading some or five bytes of six, and of writing
 // five.
-type Row = (usize, u64, u64, Answer, Answer, Answer);
+type StreamCase = (usize, u64, u64, Answer, Answer, Answer);
 
 const FAULT: Result<usize, HostFault> = Err(HostFault);
 
 // What was interrupted is asked again sixteen times, and what failed is not.
-static ROWS: [Row; 7] = [
+static ROWS: [StreamCase; 7] = [
     (8, 0, 0, (Ok(5), 1), (Ok(5), 1), (Ok(5), 1)),
     (2, 0, 0, (Ok(2), 1), (Ok(5), 3), (Ok(2), 1)),
     (1, 16, 0, (Ok(1), 17), (Ok(5), 85), (Ok(1), 17)),
@@ -95,7 +95,7 @@ static ROWS: [Row; 7] = [
 ];
 
 // Whether that becomes of it.
-fn is_row(alloc: Global, (size, interruptions, failing, some, full, write): Row) -> bool {
+fn is_row(alloc: Global, (size, interruptions, failing, some, full, write): StreamCase) -> bool {
     let trouble = Trouble {
         size,
         interruptions,

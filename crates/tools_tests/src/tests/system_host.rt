@@ -1,13 +1,13 @@
 //! A host over a system in memory.
 ghost use Rattle.std.specs.Prelude.{◌≡◌};
 ghost use Rattle.host.specs.Faults.{no_faults};
-ghost use Rattle.host.specs.Grants.{nothing_asked};
+ghost use Rattle.host.specs.GrantedCalls.{nothing_asked};
 
 use crate::fixtures::with_standard;
 use host::Host;
 use memory_system::{Identities, MemorySystem};
 use std::alloc::Global;
-use tools::{Counts, SystemHost};
+use tools::{FailureCounts, SystemHost};
 
 // A host over a system that gives nothing, and of whose calls this one fails.
 fn failing(alloc: Global, call: u64) -> SystemHost<MemorySystem>
@@ -25,7 +25,9 @@ fn is_said(lines: &[String], said: &str) -> bool {
 }
 
 // The status of a run, how many lines it could not say, and whether this one is said alone.
-fn found((status, system, counts): (u8, MemorySystem, Counts<MemorySystem>)) -> (u8, u64, bool) {
+fn found(
+    (status, system, counts): (u8, MemorySystem, FailureCounts<MemorySystem>),
+) -> (u8, u64, bool) {
     let is_said = is_said(system.lines(), "a refusal");
     drop(system);
     (status, counts.unsaid_lines(), is_said)
@@ -37,10 +39,10 @@ fn refused(alloc: Global, call: u64) -> (u8, u64, bool) {
 }
 
 // How a run ends that opened standard output, or a file that is made.
-fn settled(alloc: Global, name: Option<&str>, call: u64) -> (u8, u64, bool) {
+fn synced(alloc: Global, name: Option<&str>, call: u64) -> (u8, u64, bool) {
     let mut host = failing(alloc, call);
     let _ = host.open_output(name);
-    found(host.settle("a refusal"))
+    found(host.sync_and_end("a refusal"))
 }
 
 #[test]
@@ -53,8 +55,8 @@ fn refusals_are_said(rt: HostRuntime) {
 // The file is opened by five calls, and brought to the disk by the sixth.
 #[test]
 fn outputs_are_settled(rt: HostRuntime) {
-    assert!(rt; settled(rt.alloc(), Some("out"), 0) == (0, 0, false));
-    assert!(rt; settled(rt.alloc(), Some("out"), 5) == (1, 0, true));
-    assert!(rt; settled(rt.alloc(), Some("out"), 6) == (1, 0, true));
-    assert!(rt; settled(rt.alloc(), None, 0) == (0, 0, false));
+    assert!(rt; synced(rt.alloc(), Some("out"), 0) == (0, 0, false));
+    assert!(rt; synced(rt.alloc(), Some("out"), 5) == (1, 0, true));
+    assert!(rt; synced(rt.alloc(), Some("out"), 6) == (1, 0, true));
+    assert!(rt; synced(rt.alloc(), None, 0) == (0, 0, false));
 }

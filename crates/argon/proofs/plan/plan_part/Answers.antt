@@ -6,7 +6,7 @@ use Rattle.argon.proofs.plan.plan_part.Goals as goal
 
 pub loop-index-preserved : goal.loop-index-preserved
 loop-index-preserved c =
-    let at = c.args.at.now in
+    let at = c.args.segment.now in
     let i = c.loop-index.index in
     let p = part_of (first_index at.pass at.slice) at.len c.args.part i (first_index-le at.pass at.slice) c.requires.parts
     (omega (arith, c.end_of_parts-from.ensures.value)) (omega (arith, c.end_of_parts-to.ensures.value)) in

@@ -10,46 +10,46 @@ use Rattle.argon.proofs.plan.plan_segment.Goals as goal
 
 pub loop-part-preserved : goal.loop-part-preserved
 loop-part-preserved c =
-    let at = c.new-at.result in
-    let place = c.new-at.ensures in
-    let free : c.new-at.result.is_independent ≡ true =
-    sym c.new-at.ensures.is_of.independent ∙ rw (place.pass, place.slice) c.requires.independent in
-    let two : address_work c.new-at.result.is_independent 1 ≡ 2 = ap (λ (b : Bool). address_work b 1) free in (
+    let at = c.new-segment.result in
+    let place = c.new-segment.ensures in
+    let free : c.new-segment.result.is_independent ≡ true =
+    sym c.new-segment.ensures.is_of.independent ∙ rw (place.pass, place.slice) c.requires.independent in
+    let two : address_work c.new-segment.result.is_independent 1 ≡ 2 = ap (λ (b : Bool). address_work b 1) free in (
       search rules,
       omega (arith, two, c.prepare_addresses.ensures.count, c.loop-part.invariant.1),
       part_more c.args.params.now at c.args.out.now c.loop-part.out c.plan_part.new.out c.loop-part.part c.prepare_addresses.new.addresses
-          c.new-at.ensures.is_of c.new-at.ensures.valid.long (omega (arith, c.address_count-part-end.ensures.value))
+          c.new-segment.ensures.is_of c.new-segment.ensures.valid.long (omega (arith, c.address_count-part-end.ensures.value))
           (c.prepare_addresses.ensures.value free) c.plan_part.ensures.planned c.loop-part.invariant.2,
     )
 
 pub returns-clause-planned : goal.returns-clause-planned
 returns-clause-planned c = λ index low high.
-    let at = c.new-at.result in
-    let place = c.new-at.ensures in
+    let at = c.new-segment.result in
+    let place = c.new-segment.ensures in
     let small : first_index at.pass at.slice ≤ 2 = first_index-le at.pass at.slice in
     let first : first_index at.pass at.slice ≤ index = rw (place.pass, place.slice) low in
-    let within : index < at.len = rw (← c.new-at.ensures.is_of.len) high in
+    let within : index < at.len = rw (← c.new-segment.ensures.is_of.len) high in
     let end : index < index_after_parts at c.loop-part.part = omega (arith, c.address_count-part-end.ensures.value) in
     rw (← place.pass, ← place.slice, ← place.lane) (c.loop-part.invariant.2.planned index first end)
 
 pub returns-clause-kept : goal.returns-clause-kept
 returns-clause-kept c = λ index low.
-    let at = c.new-at.result in
-    let place = c.new-at.ensures in
+    let at = c.new-segment.result in
+    let place = c.new-segment.ensures in
     let first : index < first_index at.pass at.slice = rw (place.pass, place.slice) low in
     c.loop-part.invariant.2.kept index first
 
 pub returns-clause-count : goal.returns-clause-count
 returns-clause-count c =
-    rw (c.new-at.ensures.is_of.len) (omega (arith, c.loop-part.invariant.1, c.address_count-part-end.ensures.value))
+    rw (c.new-segment.ensures.is_of.len) (omega (arith, c.loop-part.invariant.1, c.address_count-part-end.ensures.value))
 
 pub returns-clause-made : goal.returns-clause-made
 returns-clause-made c = λ h0 index low high.
-    let long : 2 ≤ segment_len c.args.params.now = rw c.new-at.ensures.is_of.len c.new-at.ensures.valid.long in
+    let long : 2 ≤ segment_len c.args.params.now = rw c.new-segment.ensures.is_of.len c.new-segment.ensures.valid.long in
     made_as_planned c.args.params.now h0 c.args.pass c.args.lane c.args.slice index long c.requires.slices c.requires.lanes c.requires.independent low high
 
 pub returns-clause-along : goal.returns-clause-along
 returns-clause-along c = λ h0 blocks next index low high.
-    let long : 2 ≤ segment_len c.args.params.now = rw c.new-at.ensures.is_of.len c.new-at.ensures.valid.long in
+    let long : 2 ≤ segment_len c.args.params.now = rw c.new-segment.ensures.is_of.len c.new-segment.ensures.valid.long in
     made_along_plan c.args.params.now h0 blocks next c.args.pass c.args.lane c.args.slice index
     (record { long = long; lanes = c.requires.lanes; slices = c.requires.slices; from = low; to = high }) c.requires.independent

@@ -6,4 +6,4 @@ use Rattle.argon.proofs.plan.plan_segment.Given as goal
 abbrev pub invariant-loop-part : goal.invariant-loop-part
 invariant-loop-part l =
     (length l.out ≡ length l.fn.out) × (l.ticks ≡ l.fn.ticks + 2 * l.part)
-    × IsPlanned l.params l.at l.fn.out l.out (index_after_parts l.at l.part)
+    × IsPlanned l.params l.segment l.fn.out l.out (index_after_parts l.segment l.part)

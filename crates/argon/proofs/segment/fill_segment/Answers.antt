@@ -7,7 +7,7 @@ use Rattle.argon.proofs.segment.fill_segment.Goals as goal
 
 pub loop-index-preserved : goal.loop-index-preserved
 loop-index-preserved c =
-    let at = c.args.at.now in
+    let at = c.args.segment.now in
     let d = c.args.params.now in
     let i = c.loop-index.index in
     let work : address_work (is_independent d at.pass at.slice) (addresses_begun i) ≡ address_work at.is_independent (addresses_begun i) =

@@ -1,7 +1,7 @@
 use Rattle.std.proofs.Common.{subst}
 use Rattle.host.specs.Faults.{Faults}
 use Rattle.host.specs.Lines.{SaysOneLine}
-use Rattle.host.specs.Seen.{Text}
+use Rattle.host.specs.HostState.{Text}
 use Rattle.argon2_words.specs.Refusal.{counted_by}
 use Rattle.argon2_command.proofs.run.argon2.Goals as goal
 

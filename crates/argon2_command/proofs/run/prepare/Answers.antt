@@ -1,7 +1,7 @@
 -- What argon2 answers to a standard input, by what the words and that input give.
 use Rattle.std.proofs.Common.{◌≡◌, inl, inr, refl, ℕ, List, Some, Ok, Err, rules, Result, MatchResult, map, string_bytes, sym, subst}
 use Rattle.argon.specs.Argon2.{Parameters}
-use Rattle.host.specs.Seen.{Text}
+use Rattle.host.specs.HostState.{Text}
 use Rattle.argon2_command.specs.Output.{admitted_parameters, output_for, output_line, password_in}
 use Rattle.argon2_words.specs.Refusal.{IsLate}
 use Rattle.argon2_words.specs.Request.{Request, argon2_request}

@@ -1,7 +1,7 @@
 use Rattle.std.proofs.Common.{◌≡◌, ◌++◌, ◌∷◌, [], List, Option, Some, None, Result, Ok, Err, ap, refl, subst}
 use Rattle.std.proofs.lemmas.Option.{none-some}
 use Rattle.std.specs.Prelude.{◌^◌, option_map, unwrap_or}
-use Rattle.host.specs.Seen.{Text}
+use Rattle.host.specs.HostState.{Text}
 use Rattle.command_words.specs.Answer.{◌>>=◌}
 use Rattle.argon2_words.specs.Items.{Item}
 use Rattle.argon2_words.specs.Laws.{with_last_item}

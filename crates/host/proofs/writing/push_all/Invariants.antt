@@ -1,5 +1,5 @@
 use Rattle.std.proofs.Common.{length, ◌-◌, ◌≡◌, ◌≤◌, take, IsTrue}
-use Rattle.host.specs.Seen.{after_push}
+use Rattle.host.specs.HostState.{after_push}
 use Rattle.host.proofs.writing.push_all.Given as goal
 
 abbrev pub invariant-loop-at : goal.invariant-loop-at

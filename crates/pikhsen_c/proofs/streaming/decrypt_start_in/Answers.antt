@@ -4,48 +4,48 @@ use Rattle.pikhsen_c.specs.declared.heap.Heap.{Heap}
 use Rattle.pikhsen_c.proofs.FrontStatus.{start_is}
 use Rattle.pikhsen_c.proofs.streaming.decrypt_start_in.Goals as goal
 
-pub returns-in-Ok-opened-clause-first : goal.returns-in-Ok-opened-clause-first
-returns-in-Ok-opened-clause-first c =
+pub returns-in-Ok-start_decryption-clause-first : goal.returns-in-Ok-start_decryption-clause-first
+returns-in-Ok-start_decryption-clause-first c =
     let limits = c.args.limits.now in
     let same = start_is c.args.stream.now.runs c.args.front.now limits.keep limits.max_bytes limits.max_ops
     (omega (arith, c.if-stream-ne0.false)) (omega (arith, c.if-front-lt96.false)) in
-    let passed = c.in-Ok-opened.ensures.first.fault (λ memory. omega (arith, memory)) (λ wrong. omega (arith, wrong)) in
+    let passed = c.in-Ok-start_decryption.ensures.first.fault (λ memory. omega (arith, memory)) (λ wrong. omega (arith, wrong)) in
     record {
       fault = λ _ _. passed ∙ sym same;
       memory = λ memory. absurd (omega (arith, memory));
       late = λ wrong. absurd (omega (arith, wrong));
     }
 
-pub returns-in-Ok-opened-clause-asked : goal.returns-in-Ok-opened-clause-asked
-returns-in-Ok-opened-clause-asked c = record {
-  asked = λ _. c.in-Ok-opened.ensures.asked.asked refl
+pub returns-in-Ok-start_decryption-clause-asked : goal.returns-in-Ok-start_decryption-clause-asked
+returns-in-Ok-start_decryption-clause-asked c = record {
+  asked = λ _. c.in-Ok-start_decryption.ensures.asked.asked refl
       ∙ ap (λ (heap : Heap). asked_for_workspace heap true) c.in-Ok.ensures.asked;
   asked_if_wrong = λ wrong. absurd (omega (arith, wrong));
   refused = λ refused. absurd (omega (arith, refused));
   unasked = λ some _ _. absurd (some refl);
 }
 
-pub returns-in-Err-opened-clause-first : goal.returns-in-Err-opened-clause-first
-returns-in-Err-opened-clause-first c =
+pub returns-in-Err-start_decryption-clause-first : goal.returns-in-Err-start_decryption-clause-first
+returns-in-Err-start_decryption-clause-first c =
     let limits = c.args.limits.now in
     let same = start_is c.args.stream.now.runs c.args.front.now limits.keep limits.max_bytes limits.max_ops
     (omega (arith, c.if-stream-ne0.false)) (omega (arith, c.if-front-lt96.false)) in
     record {
-      fault = λ memory wrong. c.in-Err-opened.ensures.first.fault memory wrong ∙ sym same;
-      memory = λ memory. same ∙ c.in-Err-opened.ensures.first.memory memory;
-      late = λ wrong. same ∙ c.in-Err-opened.ensures.first.late wrong;
+      fault = λ memory wrong. c.in-Err-start_decryption.ensures.first.fault memory wrong ∙ sym same;
+      memory = λ memory. same ∙ c.in-Err-start_decryption.ensures.first.memory memory;
+      late = λ wrong. same ∙ c.in-Err-start_decryption.ensures.first.late wrong;
     }
 
-pub returns-in-Err-opened-clause-asked : goal.returns-in-Err-opened-clause-asked
-returns-in-Err-opened-clause-asked c =
+pub returns-in-Err-start_decryption-clause-asked : goal.returns-in-Err-start_decryption-clause-asked
+returns-in-Err-start_decryption-clause-asked c =
     let granted = ap (λ (heap : Heap). asked_for_workspace heap true) c.in-Ok.ensures.asked in
     let refused = ap (λ (heap : Heap). asked_for_workspace heap false) c.in-Ok.ensures.asked in
     record {
-      asked = λ done. absurd (omega (arith, done, c.in-Err-opened.ensures.at_least_1));
-      asked_if_wrong = λ wrong. c.in-Err-opened.ensures.asked.asked_if_late wrong ∙ granted;
-      refused = λ memory. inr (c.in-Err-opened.ensures.asked.refused memory ∙ refused);
+      asked = λ done. absurd (omega (arith, done, c.in-Err-start_decryption.ensures.at_least_1));
+      asked_if_wrong = λ wrong. c.in-Err-start_decryption.ensures.asked.asked_if_late wrong ∙ granted;
+      refused = λ memory. inr (c.in-Err-start_decryption.ensures.asked.refused memory ∙ refused);
       unasked = λ some memory wrong.
-          absurd (some (c.in-Err-opened.ensures.first.fault memory wrong ∙ c.in_default.ensures.status));
+          absurd (some (c.in-Err-start_decryption.ensures.first.fault memory wrong ∙ c.in_default.ensures.status));
     }
 
 pub returns-in-Err-clause-first : goal.returns-in-Err-clause-first

@@ -3,7 +3,7 @@ use Rattle.argon.specs.Argon2.{block_count}
 use Rattle.argon.specs.Counts.{work}
 use Rattle.argon_text.specs.Verifying.{parameters_with}
 use Rattle.argon_text.specs.declared.fault.VerifyFault.TheVariants.{PasswordLength, InputLength, MemoryLimit, WorkLimit}
-use Rattle.pikhsen_c.specs.Argon2.{IsKeyedJudged}
+use Rattle.pikhsen_c.specs.Argon2.{HasKeyedFault}
 use Rattle.pikhsen_c.proofs.verifying.pikhsen_argon2_verify.Goals as goal
 
 -- three tests, in the order of the faults
@@ -20,7 +20,7 @@ never false memory ops told = cc
 
 -- with no secret and no associated data their lengths are no fault
 no_input_fault : (text password : List ℕ) (max_kib max_ops : ℕ)
-    → IsKeyedJudged (Some InputLength) text password 0 0 max_kib max_ops → ⊥
+    → HasKeyedFault (Some InputLength) text password 0 0 max_kib max_ops → ⊥
 no_input_fault text password max_kib max_ops judged =
     never (nat_le (length password) 0xFFFFFFFF) (nat_lt max_kib (block_count (parameters_with judged.value password)))
     (nat_lt max_ops (work (parameters_with judged.value password))) judged.refused

@@ -36,10 +36,10 @@ work_within v password secret_len associated_len max_kib max_ops told =
 
 pub returns-clause-verdict : goal.returns-clause-verdict
 returns-clause-verdict g c =
-    let value : Value = value_viewed c.claim-claim.result in
-    let valid : IsValue value = subst IsValue (sym c.claim-claim.ensures.value) c.in-Ok.ensures.value in
+    let value : Value = value_viewed c.hash_view-view.result in
+    let valid : IsValue value = subst IsValue (sym c.hash_view-view.ensures.value) c.in-Ok.ensures.value in
     let written : IsTextOf value c.args.text.now =
-    subst (λ (v : Value). IsTextOf v c.args.text.now) (sym c.claim-claim.ensures.value) c.in-Ok.ensures.found in
+    subst (λ (v : Value). IsTextOf v c.args.text.now) (sym c.hash_view-view.ensures.value) c.in-Ok.ensures.found in
     let first = c.answered.ensures.first_fault in
     record {
       right = λ told. record {
@@ -67,10 +67,10 @@ returns-clause-verdict g c =
 
 pub returns-clause-asked : goal.returns-clause-asked
 returns-clause-asked g c =
-    let value : Value = value_viewed c.claim-claim.result in
-    let valid : IsValue value = subst IsValue (sym c.claim-claim.ensures.value) c.in-Ok.ensures.value in
+    let value : Value = value_viewed c.hash_view-view.result in
+    let valid : IsValue value = subst IsValue (sym c.hash_view-view.ensures.value) c.in-Ok.ensures.value in
     let written : IsTextOf value c.args.text.now =
-    subst (λ (v : Value). IsTextOf v c.args.text.now) (sym c.claim-claim.ensures.value) c.in-Ok.ensures.found in
+    subst (λ (v : Value). IsTextOf v c.args.text.now) (sym c.hash_view-view.ensures.value) c.in-Ok.ensures.found in
     let first = c.answered.ensures.first_fault in
     record {
       asked = λ told. (
@@ -100,10 +100,10 @@ returns-clause-asked g c =
 
 pub returns-clause-works : goal.returns-clause-works
 returns-clause-works g c =
-    let value : Value = value_viewed c.claim-claim.result in
-    let valid : IsValue value = subst IsValue (sym c.claim-claim.ensures.value) c.in-Ok.ensures.value in
+    let value : Value = value_viewed c.hash_view-view.result in
+    let valid : IsValue value = subst IsValue (sym c.hash_view-view.ensures.value) c.in-Ok.ensures.value in
     let written : IsTextOf value c.args.text.now =
-    subst (λ (v : Value). IsTextOf v c.args.text.now) (sym c.claim-claim.ensures.value) c.in-Ok.ensures.found in
+    subst (λ (v : Value). IsTextOf v c.args.text.now) (sym c.hash_view-view.ensures.value) c.in-Ok.ensures.found in
     let within : keyed_fault value c.args.password.now (length c.args.secret.now) (length c.args.associated.now)
     c.args.max_kib c.args.max_ops ≡ None → work (parameters_with value c.args.password.now) ≤ c.args.max_ops =
     work_within value c.args.password.now (length c.args.secret.now) (length c.args.associated.now)

@@ -1,7 +1,7 @@
 use Rattle.std.proofs.Common.{subst}
 use Rattle.host.specs.Faults.{Faults}
 use Rattle.host.specs.Lines.{SaysOneLine}
-use Rattle.host.specs.Seen.{Text}
+use Rattle.host.specs.HostState.{Text}
 use Rattle.scrypt_request.specs.Refusal.{counted_by}
 use Rattle.scrypt_command.proofs.run.scrypt.Goals as goal
 

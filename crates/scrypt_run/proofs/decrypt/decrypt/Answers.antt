@@ -3,11 +3,11 @@ use Rattle.encfile.specs.Decrypting.{HasRead}
 use Rattle.encfile.specs.EncryptedFile.{HasRightHeaderCode}
 use Rattle.encfile.specs.Header.{costs_of}
 use Rattle.encfile.proofs.Fronts.{front_refusal-right}
-use Rattle.host.specs.Seen.{Seen, after_ask}
+use Rattle.host.specs.HostState.{HostState, after_ask}
 use Rattle.scrypt_run.specs.Decrypting.{DecryptRefused, Decrypted}
 use Rattle.scrypt_run.specs.Inside.Decrypting.{OpenRefused, ReleaseRefused}
 use Rattle.scrypt_run.specs.Passphrase.{HasPassphrase, first_line_at}
-use Rattle.scrypt_request.specs.Refusal.{is_want}
+use Rattle.scrypt_request.specs.Refusal.{is_out_of_memory}
 use Rattle.scrypt_request.specs.Request.{allowance_of, task_seen}
 use Rattle.scrypt_run.specs.Work.{DecryptWorks, EndsAfterWork}
 use Rattle.scrypt_run.proofs.Decrypting.{length_read-first, opening_ends}
@@ -113,7 +113,7 @@ returns-in_err-dec-clause-worked g c = λ t.
     let task = task_seen c.args.task.now in
     let r = c.in_err-dec.field-0.0 in
     let unasked : after.output_asked ≡ None =
-    ap (λ (w : Seen). w.output_asked) (c.in_err-dec.ensures.asks t ∙ ap (after_ask task.source) (c.in_ok-front.ensures.reads t)) ∙ (c.requires.fresh t).output in
+    ap (λ (w : HostState). w.output_asked) (c.in_err-dec.ensures.asks t ∙ ap (after_ask task.source) (c.in_ok-front.ensures.reads t)) ∙ (c.requires.fresh t).output in
     handed_on c.from_residual-in_err-dec.result c.from_residual-in_err-dec.ensures.1 (λ e same.
     subst (λ x. EndsAfterWork x after → DecryptWorks task s c.args.ticks.now c.«open».new.ticks) (sym same) (λ late.
     file_works task s read _ _ c.args.ticks.now c.«open».new.ticks (c.in_ok-front.ensures.reads t) (c.in_ok-front.ensures.same_salt t) (c.in_ok-front.ensures.same_costs t)
@@ -142,5 +142,5 @@ returns-in_err-front-clause-memory_asked g c =
     handed_on c.from_residual.result c.from_residual.ensures.1 (λ e same. record {
       costs = costs_of s.input;
       of_header = λ _. refl;
-      asked = inr (inl (ap is_want same ∙ c.in_err-front.ensures.no_want, refl));
+      asked = inr (inl (ap is_out_of_memory same ∙ c.in_err-front.ensures.not_out_of_memory, refl));
     })

@@ -4,9 +4,9 @@ use Rattle.std.proofs.lemmas.List.{append-nil, take_all}
 use Rattle.encfile.specs.Decrypting.{HasRead}
 use Rattle.encfile.specs.Inside.Lengths.{length_read}
 use Rattle.encfile.proofs.Reading.{length-read}
-use Rattle.host.specs.Seen.{Seen}
+use Rattle.host.specs.HostState.{HostState}
 use Rattle.scrypt_run.specs.Decrypting.{text_after}
-use Rattle.scrypt_run.specs.Steps.{after_passing}
+use Rattle.scrypt_run.specs.Steps.{after_pull_and_push}
 use Rattle.scrypt_run.proofs.Decrypting.{length-first, length_read-below, length_read-more, text_after-more, text_after-nil}
 use Rattle.scrypt_run.proofs.Passing.{fits_on, gives_length, left_on, pass_all, pass_none, pass_part, pass_whole, starts, take_on}
 use Rattle.scrypt_run.proofs.decrypt.release.Goals as goal
@@ -26,7 +26,7 @@ loop-n-init g c =
       left = λ t. ap (λ k. drop k s.input) none;
       holds = λ t passphrase front h. subst (λ k. HasRead dec passphrase (front ++ take k s.input)) none
           (subst (λ file. HasRead dec passphrase file) (sym (append-nil front)) h);
-      passes = λ t passphrase front h. subst (λ k. s ≡ after_passing (text_after passphrase front) k s) none
+      passes = λ t passphrase front h. subst (λ k. s ≡ after_pull_and_push (text_after passphrase front) k s) none
           (starts (text_after passphrase front) s (text_after-nil passphrase front (length-first dec passphrase front h c.requires.new)));
     }
 
@@ -98,11 +98,11 @@ loop-n-preserved g c =
       below = length_read-below dec r.0 _ next;
       within = λ t. subst (λ k. k ≤ length s.input) fed (fits_on j n s before (i.left t) (i.within t) (c.in-Ok.ensures.within t));
       left = λ t. subst (λ k. after.input ≡ drop k s.input) fed
-          (left_on j n s before pulled after (i.left t) (c.in-Ok.ensures.taken t) (ap (λ (w : Seen). w.input) (c.in-Ok-push_all.ensures.put t)));
+          (left_on j n s before pulled after (i.left t) (c.in-Ok.ensures.taken t) (ap (λ (w : HostState). w.input) (c.in-Ok-push_all.ensures.put t)));
       holds = λ t passphrase front h. subst (λ k. HasRead dec passphrase (front ++ take k s.input)) fed
           (subst (λ xs. HasRead dec passphrase (front ++ xs)) (take_on (text_after passphrase front) j n _ s before (i.passes t passphrase front h) (c.in-Ok.ensures.bytes t))
           (subst (λ file. HasRead dec passphrase file) (append_assoc front (take j s.input) _) (c.in-Ok-feed.ensures.read passphrase _ (i.holds t passphrase front h))));
-      passes = λ t passphrase front h. subst (λ k. after ≡ after_passing (text_after passphrase front) k s) fed
+      passes = λ t passphrase front h. subst (λ k. after ≡ after_pull_and_push (text_after passphrase front) k s) fed
           (pass_whole (text_after passphrase front) j n _ _ s before pulled after (i.passes t passphrase front h) (c.in-Ok.ensures.bytes t) (c.in-Ok.ensures.taken t)
           (text_after-more passphrase front (take j s.input) _ _ (c.in-Ok-feed.ensures.released passphrase _ (i.holds t passphrase front h))) (c.in-Ok-push_all.ensures.put t));
     }

@@ -2,7 +2,7 @@ use Rattle.std.proofs.Common.{length, take, drop, List, ℕ, ◌++◌, ◌-◌, 
 use Rattle.encfile.specs.Decrypting.{HasRead}
 use Rattle.encfile.specs.Inside.Lengths.{length_read}
 use Rattle.scrypt_run.specs.Decrypting.{text_after}
-use Rattle.scrypt_run.specs.Steps.{after_passing}
+use Rattle.scrypt_run.specs.Steps.{after_pull_and_push}
 use Rattle.scrypt_run.proofs.decrypt.release.Given as goal
 
 abbrev pub invariant-loop-n : goal.invariant-loop-n
@@ -20,7 +20,7 @@ invariant-loop-n g l =
       holds : IsTrue g.H.Host.tells → (passphrase front : List ℕ) → HasRead l.fn.dec passphrase front
           → HasRead l.dec passphrase (front ++ take j before.input);
       passes : IsTrue g.H.Host.tells → (passphrase front : List ℕ) → HasRead l.fn.dec passphrase front
-          → g.H.Host.seen l.host ≡ after_passing (text_after passphrase front) j before;
+          → g.H.Host.seen l.host ≡ after_pull_and_push (text_after passphrase front) j before;
     }
 
 abbrev pub decreases-loop-n : goal.decreases-loop-n

@@ -1,5 +1,5 @@
 use Rattle.std.proofs.Common.{rules, ◌∙◌, ap, inr, subst}
-use Rattle.host.specs.Seen.{after_ask}
+use Rattle.host.specs.HostState.{after_ask}
 use Rattle.scrypt_run.specs.Encrypting.{IsEncrypted, after_salting, salt_used}
 use Rattle.scrypt_run.specs.Inside.Encrypting.{WriteRefused}
 use Rattle.scrypt_request.specs.Request.{encryption_seen}

@@ -4,8 +4,8 @@ use Rattle.encfile.specs.EncryptedFile.{body}
 use Rattle.encfile.specs.Encrypting.{HasEncrypted}
 use Rattle.encfile.specs.Inside.Lengths.{length_encrypted}
 use Rattle.encfile.proofs.Files.{length_encrypted-is}
-use Rattle.host.specs.Seen.{Seen, after_push}
-use Rattle.scrypt_run.specs.Steps.{after_passing}
+use Rattle.host.specs.HostState.{HostState, after_push}
+use Rattle.scrypt_run.specs.Steps.{after_pull_and_push}
 use Rattle.scrypt_run.proofs.Encrypting.{header_cut, length_encrypted-below, length_encrypted-more}
 use Rattle.scrypt_run.proofs.Passing.{fits_on, gives_length, left_on, pass_part, pass_whole, put_length, take_on}
 use Rattle.scrypt_run.proofs.encrypt.write_body.Goals as goal
@@ -30,9 +30,9 @@ loop-n-init g c =
       begun = (b.0, b.1, b.2, [], b.3);
       below = length_encrypted-below c.args.enc.now b.0 b.1 b.2 [] b.3;
       within = λ t. omega (arith, none);
-      left = λ t. ap (λ (w : Seen). w.input) (c.in-Ok.ensures.put t) ∙ ap (λ k. drop k s.input) none;
+      left = λ t. ap (λ (w : HostState). w.input) (c.in-Ok.ensures.put t) ∙ ap (λ k. drop k s.input) none;
       holds = λ t passphrase salt costs h. subst (λ k. HasEncrypted c.args.enc.now passphrase salt costs (take k s.input)) none h;
-      passes = λ t passphrase salt costs h. subst (λ k. g.H.Host.seen c.push_all.new.host ≡ after_passing (body passphrase salt costs) k s) none
+      passes = λ t passphrase salt costs h. subst (λ k. g.H.Host.seen c.push_all.new.host ≡ after_pull_and_push (body passphrase salt costs) k s) none
           (c.in-Ok.ensures.put t ∙ ap (λ xs. after_push xs s) (c.header.ensures.body passphrase salt costs [] h));
     }
 
@@ -66,12 +66,12 @@ loop-n-preserved g c =
       begun = (b.0, b.1, b.2, _, fed);
       below = length_encrypted-below c.feed.new.self b.0 b.1 b.2 _ fed;
       within = λ t. subst (λ k. k ≤ length s.input) more (fits_on j n s before (i.left t) (i.within t) (c.in-Ok-pull.ensures.within t));
-      left = λ t. subst (λ k. after.input ≡ drop k s.input) more (left_on j n s before pulled after (i.left t) (c.in-Ok-pull.ensures.taken t) (ap (λ (w : Seen). w.input) (c.in-Ok-push_all.ensures.put t)));
+      left = λ t. subst (λ k. after.input ≡ drop k s.input) more (left_on j n s before pulled after (i.left t) (c.in-Ok-pull.ensures.taken t) (ap (λ (w : HostState). w.input) (c.in-Ok-push_all.ensures.put t)));
       holds = λ t passphrase salt costs h. subst (λ k. HasEncrypted c.feed.new.self passphrase salt costs (take k s.input)) more (
           subst (λ xs. HasEncrypted c.feed.new.self passphrase salt costs xs)
           (take_on (body passphrase salt costs) j n _ s before (i.passes t passphrase salt costs h) (c.in-Ok-pull.ensures.bytes t))
           (c.in-Ok-feed.ensures.fed passphrase salt costs _ (i.holds t passphrase salt costs h)));
-      passes = λ t passphrase salt costs h. subst (λ k. after ≡ after_passing (body passphrase salt costs) k s) more (
+      passes = λ t passphrase salt costs h. subst (λ k. after ≡ after_pull_and_push (body passphrase salt costs) k s) more (
           pass_whole (body passphrase salt costs) j n _ _ s before pulled after (i.passes t passphrase salt costs h) (c.in-Ok-pull.ensures.bytes t)
           (c.in-Ok-pull.ensures.taken t) (sym (c.in-Ok-feed.ensures.written passphrase salt costs _ (i.holds t passphrase salt costs h))) (c.in-Ok-push_all.ensures.put t));
     }

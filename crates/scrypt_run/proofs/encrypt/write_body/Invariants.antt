@@ -3,7 +3,7 @@ use Rattle.romix.specs.Costs.{Parameters}
 use Rattle.encfile.specs.EncryptedFile.{body}
 use Rattle.encfile.specs.Encrypting.{HasEncrypted}
 use Rattle.encfile.specs.Inside.Lengths.{length_encrypted}
-use Rattle.scrypt_run.specs.Steps.{after_passing}
+use Rattle.scrypt_run.specs.Steps.{after_pull_and_push}
 use Rattle.scrypt_run.proofs.encrypt.write_body.Given as goal
 
 abbrev pub invariant-loop-n : goal.invariant-loop-n
@@ -20,7 +20,7 @@ invariant-loop-n g l =
       holds : IsTrue g.H.Host.tells → (passphrase salt : List ℕ) (costs : Parameters) → HasEncrypted l.fn.enc passphrase salt costs []
           → HasEncrypted l.enc passphrase salt costs (take j before.input);
       passes : IsTrue g.H.Host.tells → (passphrase salt : List ℕ) (costs : Parameters) → HasEncrypted l.fn.enc passphrase salt costs []
-          → g.H.Host.seen l.host ≡ after_passing (body passphrase salt costs) j before;
+          → g.H.Host.seen l.host ≡ after_pull_and_push (body passphrase salt costs) j before;
     }
 
 abbrev pub decreases-loop-n : goal.decreases-loop-n

@@ -1,10 +1,10 @@
 use Rattle.std.proofs.Common.{rules, ◌^◌, length, subst, refl, inl, inr}
 use Rattle.encfile.specs.EncryptedFile.{body}
-use Rattle.host.specs.Seen.{after_open_output}
+use Rattle.host.specs.HostState.{after_open_output}
 use Rattle.scrypt_run.specs.Encrypting.{decided}
 use Rattle.scrypt_run.specs.Inside.Encrypting.{WriteRefused}
 use Rattle.scrypt_request.specs.Request.{text_of}
-use Rattle.scrypt_run.specs.Text.{EndsText, FailsWriting}
+use Rattle.scrypt_run.specs.Text.{EndsTextEarly, FailsWriting}
 use Rattle.scrypt_run.proofs.Encrypting.{code_cut, passing_ended}
 use Rattle.scrypt_run.proofs.encrypt.write_file.Goals as goal
 
@@ -15,7 +15,7 @@ returns-in_err-write_body-clause-refused g c = λ t passphrase salt costs h.
     let r = c.in_err-write_body.field-0.0 in
     let ends : WriteRefused r passphrase salt costs (text_of c.args.outfile) (g.H.Host.seen c.args.host.now) after =
     inr (passing_ended r passphrase salt costs _ opened after h.salt_has_32_bytes
-    (subst (λ s. EndsText r (2 ^ 60) 4096 (body passphrase salt costs) (body passphrase salt costs) s after) (c.in-Ok.ensures.opened t) (c.in_err-write_body.ensures.refused t passphrase salt costs h))) in
+    (subst (λ s. EndsTextEarly r (2 ^ 60) 4096 (body passphrase salt costs) (body passphrase salt costs) s after) (c.in-Ok.ensures.opened t) (c.in_err-write_body.ensures.refused t passphrase salt costs h))) in
     search (rules, ends)
 
 pub returns-in_default-push_all-clause-refused : goal.returns-in_default-push_all-clause-refused

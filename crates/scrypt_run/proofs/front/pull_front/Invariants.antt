@@ -1,5 +1,5 @@
 use Rattle.std.proofs.Common.{length, take, ◌-◌, ◌≡◌, ◌≤◌, IsTrue}
-use Rattle.host.specs.Seen.{after_pull}
+use Rattle.host.specs.HostState.{after_pull}
 use Rattle.scrypt_run.proofs.front.pull_front.Given as goal
 
 abbrev pub invariant-loop-at : goal.invariant-loop-at

@@ -1,6 +1,6 @@
 use Rattle.std.proofs.Common.{◌∙◌, ap, refl, inl, inr}
 use Rattle.encfile.specs.Header.{costs_of}
-use Rattle.scrypt_request.specs.Refusal.{is_want}
+use Rattle.scrypt_request.specs.Refusal.{is_out_of_memory}
 use Rattle.scrypt_run.proofs.Ends.{handed_on}
 use Rattle.scrypt_run.proofs.inspect.inspect.Goals as goal
 
@@ -11,5 +11,5 @@ returns-in_err-header-clause-memory_asked g c =
     handed_on c.from_residual.result c.from_residual.ensures.1 (λ e same. record {
       costs = costs_of s.input;
       of_header = λ _. refl;
-      asked = inr (inl (ap is_want same ∙ c.in_err-header.ensures.no_want, refl));
+      asked = inr (inl (ap is_out_of_memory same ∙ c.in_err-header.ensures.not_out_of_memory, refl));
     })

@@ -2,7 +2,7 @@
 use Rattle.std.proofs.Common.{◌≡◌, ◌<◌, ℕ, ◌+◌, List, [], ◌∷◌, ◌++◌, Option, None, Some, arith, drop, sym, ap, subst, ◌∙◌, option_map, rules, string_bytes}
 use Rattle.std.proofs.lemmas.Grind.{common_steps}
 use Rattle.std.proofs.lemmas.List.{append_assoc}
-use Rattle.host.specs.Seen.{Text}
+use Rattle.host.specs.HostState.{Text}
 use Rattle.tools.specs.Words.{IsNoText, LacksText, first_word, word_at}
 use Rattle.tools.specs.declared.arguments.WordsFault.{WordsFault}
 use Rattle.tools.specs.declared.arguments.WordsFault.TheVariants as fault

@@ -14,13 +14,13 @@ invariant_of-self c =
     let w : Weaving = weaving_of c.self.inside in
     let lane = c.args.lane in
     let some : 0 < slice_index c.self.inside.left.list.items c.args.lane = rw (ap (λ (v : Weaving). v.left) c.self.view_is) c.requires.left in
-    let at = c.new-at.result in
-    let place = c.new-at.ensures in
+    let at = c.new-segment.result in
+    let place = c.new-segment.ensures in
     let kept : length c.fill_next_column.new.blocks ≡ c.self.inside.blocks.held.list.len = omega (arith, c.fill_next_column.auto.blocks, c.blocks_mut.ensures.len) in
     let made : (with_items c.self.inside.blocks.held.list c.fill_next_column.new.blocks).items ≡ with_next_block (weaving_of c.self.inside) c.args.lane =
     with_items_is weave.blocks.held.list c.fill_next_column.new.blocks kept
     ∙ stepped w lane c.blocks_mut.result.now c.fill_next_column.new.blocks at.len at.lane at.pass at.slice c.at.result c.self.invariant.weaving some
-    c.blocks_mut.ensures.value c.new-at.ensures.is_of.len place.lane place.pass place.slice c.at.ensures.value
+    c.blocks_mut.ensures.value c.new-segment.ensures.is_of.len place.lane place.pass place.slice c.at.ensures.value
     c.fill_next_column.ensures.value in
     let fewer : c.take_one.new.self.list.items
     ≡ set c.self.inside.left.list.items c.args.lane (slice_index c.self.inside.left.list.items c.args.lane - 1) = c.take_one.ensures.items in
@@ -38,7 +38,7 @@ invariant_of-self c =
       addresses_size = ap length same ∙ length-set list.items lane c.fill_next_column.new.addresses ∙ c.self.invariant.addresses_size;
       addresses = rw same (addresses_stepped w lane (with_items weave.blocks.held.list c.fill_next_column.new.blocks).items list.items
           c.take_one.new.self.list.items c.fill_next_column.new.addresses at.len at.lane at.pass at.slice c.at.result
-          c.self.invariant.weaving some c.self.invariant.addresses_size c.new-at.ensures.is_of.len place.lane place.pass place.slice
+          c.self.invariant.weaving some c.self.invariant.addresses_size c.new-segment.ensures.is_of.len place.lane place.pass place.slice
           c.at.ensures.value fewer c.fill_next_column.ensures.addresses c.self.invariant.addresses);
     }
 
@@ -48,13 +48,13 @@ returns-clause-matrix c =
     let w : Weaving = weaving_of c.self.inside in
     let lane = c.args.lane in
     let some : 0 < slice_index c.self.inside.left.list.items c.args.lane = rw (ap (λ (v : Weaving). v.left) c.self.view_is) c.requires.left in
-    let at = c.new-at.result in
-    let place = c.new-at.ensures in
+    let at = c.new-segment.result in
+    let place = c.new-segment.ensures in
     let kept : length c.fill_next_column.new.blocks ≡ c.self.inside.blocks.held.list.len = omega (arith, c.fill_next_column.auto.blocks, c.blocks_mut.ensures.len) in
     let made : (with_items c.self.inside.blocks.held.list c.fill_next_column.new.blocks).items ≡ with_next_block (weaving_of c.self.inside) c.args.lane =
     with_items_is weave.blocks.held.list c.fill_next_column.new.blocks kept
     ∙ stepped w lane c.blocks_mut.result.now c.fill_next_column.new.blocks at.len at.lane at.pass at.slice c.at.result c.self.invariant.weaving some
-    c.blocks_mut.ensures.value c.new-at.ensures.is_of.len place.lane place.pass place.slice c.at.ensures.value
+    c.blocks_mut.ensures.value c.new-segment.ensures.is_of.len place.lane place.pass place.slice c.at.ensures.value
     c.fill_next_column.ensures.value in
     rw (← c.self.view_is)
     (ap (λ (blocks : List (List ℕ)). record {
@@ -71,13 +71,13 @@ returns-clause-newest c =
     let w : Weaving = weaving_of c.self.inside in
     let lane = c.args.lane in
     let some : 0 < slice_index c.self.inside.left.list.items c.args.lane = rw (ap (λ (v : Weaving). v.left) c.self.view_is) c.requires.left in
-    let at = c.new-at.result in
-    let place = c.new-at.ensures in
+    let at = c.new-segment.result in
+    let place = c.new-segment.ensures in
     let kept : length c.fill_next_column.new.blocks ≡ c.self.inside.blocks.held.list.len = omega (arith, c.fill_next_column.auto.blocks, c.blocks_mut.ensures.len) in
     let made : (with_items c.self.inside.blocks.held.list c.fill_next_column.new.blocks).items ≡ with_next_block (weaving_of c.self.inside) c.args.lane =
     with_items_is weave.blocks.held.list c.fill_next_column.new.blocks kept
     ∙ stepped w lane c.blocks_mut.result.now c.fill_next_column.new.blocks at.len at.lane at.pass at.slice c.at.result c.self.invariant.weaving some
-    c.blocks_mut.ensures.value c.new-at.ensures.is_of.len place.lane place.pass place.slice c.at.ensures.value
+    c.blocks_mut.ensures.value c.new-segment.ensures.is_of.len place.lane place.pass place.slice c.at.ensures.value
     c.fill_next_column.ensures.value in
     let fewer : c.take_one.new.self.list.items
     ≡ set c.self.inside.left.list.items c.args.lane (slice_index c.self.inside.left.list.items c.args.lane - 1) = c.take_one.ensures.items in
@@ -91,13 +91,13 @@ returns-clause-woven c =
     let w : Weaving = weaving_of c.self.inside in
     let lane = c.args.lane in
     let some : 0 < slice_index c.self.inside.left.list.items c.args.lane = rw (ap (λ (v : Weaving). v.left) c.self.view_is) c.requires.left in
-    let at = c.new-at.result in
-    let place = c.new-at.ensures in
+    let at = c.new-segment.result in
+    let place = c.new-segment.ensures in
     let kept : length c.fill_next_column.new.blocks ≡ c.self.inside.blocks.held.list.len = omega (arith, c.fill_next_column.auto.blocks, c.blocks_mut.ensures.len) in
     let made : (with_items c.self.inside.blocks.held.list c.fill_next_column.new.blocks).items ≡ with_next_block (weaving_of c.self.inside) c.args.lane =
     with_items_is weave.blocks.held.list c.fill_next_column.new.blocks kept
     ∙ stepped w lane c.blocks_mut.result.now c.fill_next_column.new.blocks at.len at.lane at.pass at.slice c.at.result c.self.invariant.weaving some
-    c.blocks_mut.ensures.value c.new-at.ensures.is_of.len place.lane place.pass place.slice c.at.ensures.value
+    c.blocks_mut.ensures.value c.new-segment.ensures.is_of.len place.lane place.pass place.slice c.at.ensures.value
     c.fill_next_column.ensures.value in
     let fewer : c.take_one.new.self.list.items
     ≡ set c.self.inside.left.list.items c.args.lane (slice_index c.self.inside.left.list.items c.args.lane - 1) = c.take_one.ensures.items in
@@ -110,14 +110,14 @@ returns-clause-share c =
     let w : Weaving = weaving_of c.self.inside in
     let lane = c.args.lane in
     let some : 0 < slice_index c.self.inside.left.list.items c.args.lane = rw (ap (λ (v : Weaving). v.left) c.self.view_is) c.requires.left in
-    let at = c.new-at.result in
-    let place = c.new-at.ensures in
+    let at = c.new-segment.result in
+    let place = c.new-segment.ensures in
     let fewer : c.take_one.new.self.list.items
     ≡ set c.self.inside.left.list.items c.args.lane (slice_index c.self.inside.left.list.items c.args.lane - 1) = c.take_one.ensures.items in
     rw (← c.self.view_is)
     (share_stepped w lane (with_items weave.blocks.held.list c.fill_next_column.new.blocks).items c.take_one.new.self.list.items
     c.args.ticks.now c.fill_next_column.new.ticks at.len at.pass at.slice c.at.result
-    c.self.invariant.weaving some c.new-at.ensures.is_of.len place.pass place.slice
+    c.self.invariant.weaving some c.new-segment.ensures.is_of.len place.pass place.slice
     c.at.ensures.value fewer c.fill_next_column.ensures.count)
 
 pub returns-clause-apart : goal.returns-clause-apart

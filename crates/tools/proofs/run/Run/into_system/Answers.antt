@@ -1,11 +1,11 @@
 -- What a run leaves of a system.
 use Rattle.std.proofs.Common.{◌≡◌, Bool, true, false, Option, None, Some, refl, sym, subst, ap, is_none, if◌then◌else◌, option_map}
-use Rattle.host.specs.Seen.{SecretSource, Text}
+use Rattle.host.specs.HostState.{SecretSource, Text}
 use Rattle.tools.specs.RunState.{RunState, IsAt, Leaves, grants_at, host_seen, is_in_use}
 use Rattle.tools.specs.World.{Files, World}
 use Rattle.tools.specs.declared.run.InputStage.{InputStage}
 use Rattle.tools.specs.declared.run.OutputStage.{OutputStage}
-use Rattle.host.specs.Asked.{asked_source}
+use Rattle.host.specs.AskedSource.{asked_source}
 use Rattle.tools.proofs.run.Run.into_system.Goals as goal
 
 IsFalse : Bool → Type 0

@@ -1,0 +1,21 @@
+-- Which of the two runs.
+use Rattle.std.specs.Prelude.{Bool, true, false, Option, Some, None}
+use Rattle.pikhsen_c.specs.declared.stream.StreamState.{StreamState}
+use Rattle.pikhsen_c.specs.declared.stream.StreamState.TheVariants as running
+
+-- whether it is an encryption
+abbrev pub is_encryption : StreamState → Bool
+is_encryption (running.Enc enc) = true
+is_encryption (running.Dec dec) = false
+is_encryption (running.Over zeros) = false
+
+-- whether it is a decryption
+abbrev pub is_decryption : StreamState → Bool
+is_decryption (running.Enc enc) = false
+is_decryption (running.Dec dec) = true
+is_decryption (running.Over zeros) = false
+
+-- whether what is kept is one of these; nothing is none
+abbrev pub kept_is : (StreamState → Bool) → Option StreamState → Bool
+kept_is is_one None = false
+kept_is is_one (Some run) = is_one run
