@@ -1,7 +1,7 @@
 """How a wrong body is tried: what counts as its refusal, and at which goal. tests/edits/refusals.py runs the trials.
 
 Edits of different functions share a check of these functions, in each of which a goal must be left open. An edit that
-leaves none there is tried again without the others, and one that changes more than bodies by a check of the crate.
+leaves none there is tried again without the others, and one that changes more than bodies always is.
 
 Where an answer by hand names what the edit took away, as a step or a goal that now has another name, the proof of the
 function is no longer the author's. There a goal that is left open counts only if values are known at which it is false.
@@ -63,13 +63,13 @@ def goals(folder, texts, lines):
 
 
 def changed(edits):
-    """The functions whose bodies these edits change."""
-    return sorted({place for edit in edits for place in edit.places if edit.is_shared})
+    """The functions whose proofs are tried with these edits."""
+    return sorted({place for edit in edits for place in edit.functions})
 
 
 def shared(crate, texts, places, folder, kept):
-    """What a check of these functions leaves open, as goals() has it. None where it says of no function whether it is
-    proved."""
+    """What a check of these functions, or of the crate where there are none, leaves open, as goals() has it. None where it
+    says of no function whether it is proved."""
     crate, answered = copy.copy(crate), dict(texts)
     shutil.rmtree(folder, ignore_errors=True)
     crate.folder = shutil.copytree(crate.folder, folder, ignore=shutil.ignore_patterns("out"))
@@ -78,16 +78,16 @@ def shared(crate, texts, places, folder, kept):
         answered[file] = text_of(crate.folder, file, answered) + NO_GOAL
     ran = rt.checked(crate, answered, [*ALONE, *(f"--only={place}" for place in places)], kept)
     lines = ran.stdout.rstrip("\n").split("\n")
-    if ran.returncode != 1 or not lines[-1].startswith("only="):
+    if ran.returncode != 1 or not lines[-1].startswith("only=" if places else "logic=not-proved"):
         return None
     return goals(crate.folder, texts, lines)
 
 
-def verdict(goal, otherwise="no goal is left open in what it changes"):
+def verdict(goal):
     """The goal, if it shows that a contract refuses the edit, or None, and what else there is to say."""
     if goal and OF_THE_LANGUAGE.match(goal):
         return None, f"only {goal} is left open, which no contract asks for"
-    return goal, "" if goal else otherwise
+    return goal, "" if goal else "no goal is left open in what it changes"
 
 
 def by_types(crate, edit, kept):
@@ -99,31 +99,17 @@ def by_types(crate, edit, kept):
     return (f"the types: {edit.types}", "") if is_refused else (None, f"the types say other errors, or none: {found}")
 
 
-def whole(crate, edit, kept):
-    """The verdict on an edit by a check of the whole crate."""
-    if not edit.texts:
-        return None, "what it replaces does not stand there once"
-    if edit.types:
-        return by_types(crate, edit, kept)
-    ran = rt.checked(crate, edit.texts, ALONE, kept)
-    lines = ran.stdout.rstrip("\n").split("\n")
-    bad = next((it for it in lines if rt.unread(it, edit.texts) or rt.rtlib.STALE.search(it)), None)
-    if bad or ran.returncode != 1 or not lines[-1].startswith("logic=not-proved"):
-        return None, bad or lines[-1]
-    found = goals(crate.folder, edit.texts, lines)
-    inside = (found[it] for it in sorted(filter(None, edit.places)) if it in found)
-    return verdict(next(inside, None) or next(iter(found.values()), None))
-
-
 def tried(crate, edits, texts, folder, kept):
     """The verdict on each edit of a group."""
-    if not edits[0].is_shared:
-        return [whole(crate, edit, kept) for edit in edits]
+    first = edits[0]
+    if not first.texts:
+        return [(None, "what it replaces does not stand there once")]
+    if first.types:
+        return [by_types(crate, first, kept)]
     found = shared(crate, texts, changed(edits), folder, kept)
-    if found is None and len(edits) == 1:
-        return [(None, "its check says of no function whether it is proved")]
-    met = [next((found[it] for it in sorted(edit.places) if it in (found or {})), None) for edit in edits]
-    told = [verdict(goal) for goal in met]
+    told = [(None, "its check says of no function whether it is proved")] * len(edits)
+    if found is not None:
+        told = [verdict(next((found[it] for it in [*sorted(edit.functions), None] if it in found), None)) for edit in edits]
     if len(edits) == 1:
         return told
     return [it if it[0] else tried(crate, [edit], edit.texts, folder, kept)[0] for edit, it in zip(edits, told)]

@@ -6,7 +6,8 @@ not see refused at its goal. Such an edit is tried, and one whose own lines are 
 that its trial is over differs from that commit, be it committed or not. Of the others a tenth is tried, which the hash of the commit that is tested chooses. Every edit is tried
 where that commit is not known (a shallow clone, a copy without git) or is no ancestor, where the toolchain's logic is
 another, or what decides over refusals (RULES) differs; but never more than there is time for (BUDGET): the hash of the
-commit chooses what is left out, and edits whose own lines differ come first.
+commit chooses what is left out, and edits whose own lines differ come first. The tenth is of whole files of edits, of which
+the last is cut, since edits of the same functions share what is proved for them.
 
     tests/edits/choice.py    prints what docs/audit has after an audit of the tree; fails if the tree is not as committed
 """
@@ -62,19 +63,21 @@ class Choice:
         """Whether an edit is tried whatever its turn, where its trial is over the files at or below these places."""
         return bool(self.every) or edit.name in self.failed or self.differs(places) or self.is_edited(edit)
 
-    def order(self, names):
-        """These names in the order that the commit chooses."""
-        return sorted(names, key=lambda it: hashlib.sha256(f"{it} {self.head}".encode()).digest())
+    def order(self, names, file_of=lambda name: ""):
+        """These names in the order that the commit chooses, those of a file together."""
+        chosen = lambda word: hashlib.sha256(f"{word} {self.head}".encode()).digest()
+        return sorted(names, key=lambda it: (chosen(file_of(it)), chosen(it)))
 
-    def tenth(self, names):
-        """A tenth of these names, which the commit chooses."""
-        return self.order(names)[:math.ceil(len(names) / PART)]
+    def tenth(self, names, file_of):
+        """A tenth of these names, which the commit chooses file by file."""
+        return self.order(names, file_of)[:math.ceil(len(names) / PART)]
 
     def choose(self, every, seconds=lambda name: 0):
         """The names of the edits that are tried, and what there is to say of them. Each edit comes by its name, with the
         places that its trial is over; seconds says what one takes, after those before it."""
         new = {name for name, (edit, places) in every.items() if self.is_new(edit, places)}
-        names = [*sorted(self.order(new), key=lambda it: not self.is_edited(every[it][0])), *self.tenth({*every} - new)]
+        tenth = self.tenth({*every} - new, lambda it: every[it][0].path.relative_to(self.top))
+        names = [*sorted(self.order(new), key=lambda it: not self.is_edited(every[it][0])), *tenth]
         kept = [name for name, spent in zip(names, itertools.accumulate(map(seconds, names))) if spent <= BUDGET]
         left = f"; {len(names) - len(kept)} of them are left out, for want of time: make audit tries all" * (kept != names)
         since = self.every or f"since the audit at {self.commit[:12]} {len(self.differing)} files differ"

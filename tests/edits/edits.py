@@ -14,10 +14,12 @@ They stand many to a file, NAME.edits, one file for each source, definition or t
     refused: `returns-else-fault`      its goal, which `--told` writes: what refuses it
 
 `old:` must stand in the file once. A line `and: TEXT` is the next line of the text above it. An edit that names a file
-itself is of that file. A `test:` at the head is the test that must find each.
+itself is of that file. `in: FUNCTION` names whose proof must refuse an edit that changes no body, as that of a constant.
+A `test:` at the head is the test that must find each.
 """
 import functools
 import pathlib
+import re
 
 from functions import function_at, text_of
 from tree import TOP
@@ -25,6 +27,7 @@ from tree import TOP
 BODIES, DEFINITIONS, LINES = "wrong-bodies", "wrong-definitions", TOP / "tests" / "edits" / "wrong-lines"
 FIRST = ("types", "vector", "gives")  # what an edit says before it names a file
 GOAL = "\nrefused: "
+ANSWERS = re.compile(r"proofs/(.*)/(?:Answers|Invariants)\.antt")
 
 
 class Edit:
@@ -47,6 +50,7 @@ class Edit:
                 self.pairs[-1][2] = said["new"]
         self.goal, self.test = said.get("refused", ""), said.get("test", "").strip()
         self.types = said.get("types", "").strip()  # the error of the types that refuses it, where it names one
+        self.within = said.get("in", "").strip()  # the function whose proof must refuse it, where it changes no body
         self.vector, self.gives = said.get("vector", "").strip(), said.get("gives")
         self.files = sorted({file for file, _, _ in self.pairs})
 
@@ -57,11 +61,16 @@ class Edit:
             text = text_of(folder or self.folder, file, made)
             if text.count(old) != 1 or old == new:
                 return None
-            line = text.count("\n", 0, text.find(old))
-            is_source = file.startswith("src/")
-            places.add(function_at(self.folder, file, text, line, body=True) if is_source else None)
+            places.add(self.place_of(file, text, text.count("\n", 0, text.find(old))))
             made[file] = text.replace(old, new)
         return made, places
+
+    def place_of(self, file, text, line):
+        """The function that has this line of a file in its body or in its answers; None elsewhere."""
+        answers = ANSWERS.fullmatch(file)
+        if answers or not file.startswith("src/"):
+            return answers and answers[1].replace("/", "::")
+        return function_at(self.folder, file, text, line, body=True)
 
     @functools.cached_property
     def alone(self):
@@ -69,6 +78,11 @@ class Edit:
 
     texts = property(lambda self: self.alone[0])  # of the files that it changes; none where it does not fit them
     places = property(lambda self: self.alone[1])  # the functions in whose bodies it changes something; None is elsewhere
+
+    @property
+    def functions(self):
+        """The functions whose proofs are tried: none, where the types refuse it."""
+        return set() if self.types else {self.within} if self.within else self.places - {None}
 
     @property
     def is_shared(self):

@@ -9,7 +9,7 @@ What a refusal is, say body_trial.py and definition_trial.py; how edits are writ
 failed, and so has one that is refused at another goal than the one below its lines, unless with --told.
 
 Of each crate of which a body is tried the functions that these edits change are proved once more as they are, into its
-out/incremental, since rt ci keeps its proofs for itself; the whole crate is, where an edit changes more than bodies.
+out/incremental, since rt ci keeps its proofs for itself.
 It stands on the libraries that rt ci left; where there are none, they are built. Without words the library for C is
 always proved as a whole, because that proof also builds it, crates/pikhsen_c/out/libpikhsen_c.a, for tests/library/c_face.py.
 Of a crate of which a definition is tried no code is proved.
@@ -75,17 +75,14 @@ class Crate:
         below = [f"../{it.name}/specs" for it in self.crate.below()]
         return [os.path.normpath(f"crates/{self.name}/{it}") for it in ("specs", "specs/Inside", "proofs", *parts, *below)]
 
-    def proved(self):
-        """The functions that are proved for a trial of what is tried now, and none where it is the whole crate. What the
-        types refuse is refused before anything is proved."""
-        is_whole = self.is_built or not all(it.is_shared or it.types for it in self.now[0])
-        return [] if is_whole else body_trial.changed(self.now[0])
+    def functions(self):
+        """The functions that are proved for a trial of what is tried now."""
+        return body_trial.changed(self.now[0])
 
     def seconds_of_proof(self):
         """The seconds that this proof is likely to take."""
-        functions = self.proved()
-        part = len(functions) / len(body_trial.changed(self.bodies)) if functions else 1
-        return math.ceil(self.of_proof * part) if self.now[0] or self.is_built else 0
+        part = 1 if self.is_built else len(self.functions()) / max(1, len(body_trial.changed(self.bodies)))
+        return math.ceil(self.of_proof * part)
 
 
 def choose(crates, choice):
@@ -136,7 +133,7 @@ class Run:
         crate, flags = it.crate, ["--jobs", str(jobs)]
         archive = f"{crate.folder}/out/lib{crate.name}.a"
         if not it.is_built:
-            ran = rt.checked(crate, {}, [*flags, *(f"--only={place}" for place in it.proved())], f"{crate.folder}/out/incremental")
+            ran = rt.checked(crate, {}, [*flags, *(f"--only={place}" for place in it.functions())], f"{crate.folder}/out/incremental")
             return ran.returncode, ran.stdout
         os.makedirs(os.path.dirname(archive), exist_ok=True)
         pathlib.Path(archive).unlink(missing_ok=True)
@@ -208,9 +205,9 @@ class Run:
         for crate in needed:
             it, name, proof = self.crates[crate.name], crate.name, (crate.name, "proof")
             waits = [(below.name, "library") for below in crate.below() if below in built]
-            if it.now[0] or it.is_built:
+            if it.seconds_of_proof():
                 put(proof, crate, it.seconds_of_proof(), waits, lambda jobs, name=name: self.prove(name, jobs))
-            if it.now[0]:
+            if it.functions():
                 put((name, "right"), crate, it.of_body * len(it.now[0]) / 2, [proof], lambda jobs, name=name: self.is_right(name))
             sorts = (body_trial, it.now[0], self.most), (definition_trial, [at for at in it.now[1] if not at.wrong], definition_trial.MOST)
             groups = ((trial, *group) for trial, edits, most in sorts for group in in_groups(edits, most, trial.goes_with))
