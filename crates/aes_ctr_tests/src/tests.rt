@@ -1,6 +1,5 @@
 //! The vectors of the standards, and the bodies beside one another.
 use aes_ctr::{Aes256, Ctr, xor_blocks};
-use std::process::Abort;
 
 // The key 00 01 .. 1f of FIPS 197, C.3.
 const COUNTING_KEY: [u8; 32] = [
@@ -14,102 +13,52 @@ const F_5_5_KEY: [u8; 32] = [
     0x1f, 0x35, 0x2c, 0x07, 0x3b, 0x61, 0x08, 0xd7, 0x2d, 0x98, 0x10, 0xa3, 0x09, 0x14, 0xdf, 0xf4,
 ];
 
-// Keys, blocks and their encryptions.
-const BLOCKS: [([u8; 32], [u8; 16], [u8; 16]); 8] = [
+// Keys, blocks and their encryptions; the first byte of a block is the highest.
+static BLOCKS: [([u8; 32], u128, u128); 8] = [
     // FIPS 197, C.3
     (
         COUNTING_KEY,
-        [
-            0x00, 0x11, 0x22, 0x33, 0x44, 0x55, 0x66, 0x77, 0x88, 0x99, 0xaa, 0xbb, 0xcc, 0xdd,
-            0xee, 0xff,
-        ],
-        [
-            0x8e, 0xa2, 0xb7, 0xca, 0x51, 0x67, 0x45, 0xbf, 0xea, 0xfc, 0x49, 0x90, 0x4b, 0x49,
-            0x60, 0x89,
-        ],
+        0x00112233445566778899aabbccddeeff,
+        0x8ea2b7ca516745bfeafc49904b496089,
     ),
     // SP 800-38A, F.5.5, block 1: the counter block and the output block
     (
         F_5_5_KEY,
-        [
-            0xf0, 0xf1, 0xf2, 0xf3, 0xf4, 0xf5, 0xf6, 0xf7, 0xf8, 0xf9, 0xfa, 0xfb, 0xfc, 0xfd,
-            0xfe, 0xff,
-        ],
-        [
-            0x0b, 0xdf, 0x7d, 0xf1, 0x59, 0x17, 0x16, 0x33, 0x5e, 0x9a, 0x8b, 0x15, 0xc8, 0x60,
-            0xc5, 0x02,
-        ],
+        0xf0f1f2f3f4f5f6f7f8f9fafbfcfdfeff,
+        0x0bdf7df1591716335e9a8b15c860c502,
     ),
     // SP 800-38A, F.5.5, block 2: the counter block and the output block
     (
         F_5_5_KEY,
-        [
-            0xf0, 0xf1, 0xf2, 0xf3, 0xf4, 0xf5, 0xf6, 0xf7, 0xf8, 0xf9, 0xfa, 0xfb, 0xfc, 0xfd,
-            0xff, 0x00,
-        ],
-        [
-            0x5a, 0x6e, 0x69, 0x9d, 0x53, 0x61, 0x19, 0x06, 0x54, 0x33, 0x86, 0x3c, 0x8f, 0x65,
-            0x7b, 0x94,
-        ],
+        0xf0f1f2f3f4f5f6f7f8f9fafbfcfdff00,
+        0x5a6e699d536119065433863c8f657b94,
     ),
     // SP 800-38A, F.5.5, block 3: the counter block and the output block
     (
         F_5_5_KEY,
-        [
-            0xf0, 0xf1, 0xf2, 0xf3, 0xf4, 0xf5, 0xf6, 0xf7, 0xf8, 0xf9, 0xfa, 0xfb, 0xfc, 0xfd,
-            0xff, 0x01,
-        ],
-        [
-            0x1b, 0xc1, 0x2c, 0x9c, 0x01, 0x61, 0x0d, 0x5d, 0x0d, 0x8b, 0xd6, 0xa3, 0x37, 0x8e,
-            0xca, 0x62,
-        ],
+        0xf0f1f2f3f4f5f6f7f8f9fafbfcfdff01,
+        0x1bc12c9c01610d5d0d8bd6a3378eca62,
     ),
     // SP 800-38A, F.5.5, block 4: the counter block and the output block
     (
         F_5_5_KEY,
-        [
-            0xf0, 0xf1, 0xf2, 0xf3, 0xf4, 0xf5, 0xf6, 0xf7, 0xf8, 0xf9, 0xfa, 0xfb, 0xfc, 0xfd,
-            0xff, 0x02,
-        ],
-        [
-            0x29, 0x56, 0xe1, 0xc8, 0x69, 0x35, 0x36, 0xb1, 0xbe, 0xe9, 0x9c, 0x73, 0xa3, 0x15,
-            0x76, 0xb6,
-        ],
+        0xf0f1f2f3f4f5f6f7f8f9fafbfcfdff02,
+        0x2956e1c8693536b1bee99c73a31576b6,
     ),
     // Python's cryptography 48.0.0 (AES, ECB), and so the two below
-    (
-        [0; 32],
-        [0; 16],
-        [
-            0xdc, 0x95, 0xc0, 0x78, 0xa2, 0x40, 0x89, 0x89, 0xad, 0x48, 0xa2, 0x14, 0x92, 0x84,
-            0x20, 0x87,
-        ],
-    ),
+    ([0; 32], 0, 0xdc95c078a2408989ad48a21492842087),
     // all bits set
-    (
-        [0xff; 32],
-        [0xff; 16],
-        [
-            0xd5, 0xf9, 0x3d, 0x6d, 0x33, 0x11, 0xcb, 0x30, 0x9f, 0x23, 0x62, 0x1b, 0x02, 0xfb,
-            0xd5, 0xe2,
-        ],
-    ),
+    ([0xff; 32], u128::MAX, 0xd5f93d6d3311cb309f23621b02fbd5e2),
     // a block of counting bytes
     (
         F_5_5_KEY,
-        [
-            0x00, 0x01, 0x02, 0x03, 0x04, 0x05, 0x06, 0x07, 0x08, 0x09, 0x0a, 0x0b, 0x0c, 0x0d,
-            0x0e, 0x0f,
-        ],
-        [
-            0xb7, 0xbf, 0x3a, 0x5d, 0xf4, 0x39, 0x89, 0xdd, 0x97, 0xf0, 0xfa, 0x97, 0xeb, 0xce,
-            0x2f, 0x4a,
-        ],
+        0x000102030405060708090a0b0c0d0e0f,
+        0xb7bf3a5df43989dd97f0fa97ebce2f4a,
     ),
 ];
 
 // The first 352 bytes of the key stream under the counting key: 352 bytes 0 in Python's cryptography 48.0.0 (AES, CTR).
-const KEY_STREAM: [u8; 352] = [
+static KEY_STREAM: [u8; 352] = [
     0xf2, 0x90, 0x00, 0xb6, 0x2a, 0x49, 0x9f, 0xd0, 0xa9, 0xf3, 0x9a, 0x6a, 0xdd, 0x2e, 0x77, 0x80,
     0xf0, 0x5d, 0x76, 0xae, 0x4a, 0xb9, 0x9f, 0xe5, 0xa6, 0xf6, 0x9b, 0x31, 0x48, 0xc2, 0x36, 0x3d,
     0x0e, 0xbc, 0xb5, 0xde, 0xb5, 0x2c, 0x83, 0xbd, 0x08, 0xa8, 0xa9, 0x35, 0x18, 0x2c, 0x91, 0x99,
@@ -135,7 +84,7 @@ const KEY_STREAM: [u8; 352] = [
 ];
 
 // Blocks 2^32 - 1 to 2^32 + 15 of that key stream, from the same program with that number as its first counter block.
-const BLOCKS_PAST_2_32: [u8; 272] = [
+static BLOCKS_PAST_2_32: [u8; 272] = [
     0xb9, 0xc2, 0x73, 0x98, 0x10, 0xcb, 0xa1, 0x57, 0xa9, 0xfe, 0x6a, 0x10, 0x8c, 0x6e, 0x56, 0x9e,
     0x64, 0x1d, 0x1a, 0x3a, 0x80, 0xbe, 0xcf, 0xf6, 0xf0, 0xf3, 0x8f, 0x97, 0x64, 0xfd, 0xcf, 0x96,
     0x36, 0x7e, 0xf8, 0x28, 0x88, 0x31, 0x55, 0x74, 0x08, 0xe1, 0x02, 0x95, 0x0a, 0x16, 0xe2, 0x6a,
@@ -183,50 +132,62 @@ fn example_of_the_documentation(rt: HostRuntime) {
     assert_eq!(rt; decryption.position(), 25);
 }
 
-#[test]
-fn blocks(rt: HostRuntime) {
-    for (key, block, expected) in BLOCKS {
-        assert_eq!(rt; Aes256::new(&key).block(&block), expected);
+// The place in the table of the first block with another encryption.
+fn wrong_block() -> Option<usize> {
+    for i in 0..BLOCKS.len() {
+        let (key, block, expected) = &BLOCKS[i];
+        let found = Aes256::new(key).block(&block.to_be_bytes());
+        if u128::from_be_bytes(found) != *expected {
+            return Some(i);
+        }
     }
+    None
 }
 
-// 352 bytes 0 after these pieces, one after the other, and the position then.
-fn in_pieces(rt: &impl Abort, pieces: &[usize]) -> ([u8; 352], u64) {
+#[test]
+fn blocks(rt: HostRuntime) {
+    assert_eq!(rt; wrong_block(), None);
+}
+
+// Whether these pieces of 352 bytes 0, one after the other, become the key stream, as many bytes as
+// there are to be in all, with the bytes after them still 0; and whether that is the position then.
+fn is_key_stream(pieces: &[usize], whole: usize) -> bool {
     let mut bytes = [0; 352];
     let mut ctr = Ctr::new(Aes256::new(&COUNTING_KEY));
     let mut from = 0;
     for length in pieces {
-        assert!(rt; from <= 352 && *length <= 352 - from && ctr.position() <= 352);
+        if from > 352 || *length > 352 - from || ctr.position() > 352 {
+            return false;
+        }
         ctr.apply(&mut bytes[from..from + *length]);
         from += *length;
     }
-    (bytes, ctr.position())
+    from == whole && ctr.position() == whole as u64 && begins_key_stream(&bytes, whole)
+}
+
+// Whether that many bytes are the key stream's, and the others are 0.
+fn begins_key_stream(bytes: &[u8; 352], whole: usize) -> bool {
+    bytes.get(..whole) == KEY_STREAM.get(..whole) && bytes.get(whole..) == [0; 352].get(whole..)
 }
 
 #[test]
 fn key_stream_in_pieces(rt: HostRuntime) {
-    for pieces in [
-        [352, 0, 0, 0, 0],
-        [1, 15, 17, 319, 0],
-        [33, 0, 319, 0, 0],
-        [16, 48, 256, 31, 1],
-        [5, 70, 272, 0, 5],
-    ] {
-        assert_eq!(rt; in_pieces(&rt, &pieces), (KEY_STREAM, 352), "{pieces:?}");
-    }
+    assert!(rt; is_key_stream(&[352, 0, 0, 0, 0], 352));
+    assert!(rt; is_key_stream(&[1, 15, 17, 319, 0], 352));
+    assert!(rt; is_key_stream(&[33, 0, 319, 0, 0], 352));
+    assert!(rt; is_key_stream(&[16, 48, 256, 31, 1], 352));
+    assert!(rt; is_key_stream(&[5, 70, 272, 0, 5], 352));
 }
 
 #[test]
 fn thirty_three_bytes(rt: HostRuntime) {
-    let (whole, position) = in_pieces(&rt, &[33]);
-    assert_eq!(rt; position, 33);
-    assert_eq!(rt; in_pieces(&rt, &[1, 15, 17]), (whole, 33));
-    assert!(rt; whole.iter().take(33).eq(KEY_STREAM.iter().take(33)));
+    assert!(rt; is_key_stream(&[33], 33));
+    assert!(rt; is_key_stream(&[1, 15, 17], 33));
 }
 
 #[test]
 fn empty_piece_changes_nothing(rt: HostRuntime) {
-    assert_eq!(rt; in_pieces(&rt, &[0]), ([0; 352], 0));
+    assert!(rt; is_key_stream(&[0], 0));
 }
 
 #[test]
@@ -234,8 +195,8 @@ fn high_block_numbers(rt: HostRuntime) {
     let aes = Aes256::new(&COUNTING_KEY);
     let mut bytes = [0; 272];
     xor_blocks(&aes, &aes.key_planes(), (1 << 32) - 1, &mut bytes);
-    assert_eq!(rt; bytes, BLOCKS_PAST_2_32);
+    assert!(rt; bytes == BLOCKS_PAST_2_32);
     let mut bytes = [0; 16];
     xor_blocks(&aes, &aes.key_planes(), (1 << 60) - 2, &mut bytes);
-    assert_eq!(rt; bytes, LAST_BLOCK);
+    assert!(rt; bytes == LAST_BLOCK);
 }

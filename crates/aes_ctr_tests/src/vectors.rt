@@ -51,10 +51,12 @@ fn key_stream_block_past_2_32()
         ∷ 0x59 ∷ 0xDF ∷ 0xC3 ∷ 0x01 ∷ 0x6C ∷ 0xE4 ∷ 0x07 ∷ 0x33 ∷ [] }
 {}
 
-// A byte 0xFF at place 3 of that block
+// A byte 0xFF at place 3 of that block, which is not computed again
 fn byte_past_2_32_blocks()
     ensures byte { counter_mode_from (range_with_len 0 32) (16 * (2 ^ 32 + 4) + 3) (0xFF ∷ []) ≡ 0x0E ∷ [] }
-{}
+{
+    key_stream_block_past_2_32();
+}
 
 // The byte after the last one of a block is the first of the next block, here of that one, with a byte 0xFF.
 fn byte_of_the_next_block()

@@ -3,7 +3,6 @@
 ghost use Rattle.std.specs.Prelude.{◌≡◌, true, length};
 ghost use Rattle.argon_text.specs.Value.{are_in_range};
 
-mod example;
 mod near_misses;
 mod other_programs;
 mod reading;
@@ -16,7 +15,7 @@ use self::refusing::RefusingText;
 use argon::Kind;
 use argon_text::{Encoded, put_tag};
 use std::alloc::{AllocError, Global};
-use std::test::Fail;
+use verifying::tested;
 
 fn value(
     alloc: Global,
@@ -42,8 +41,29 @@ fn value(
     })
 }
 
+// The parts of a text, one after another.
+fn joined(alloc: Global, parts: &[&[u8]]) -> Result<Vec<u8>, AllocError> {
+    let mut text = Vec::new(alloc);
+    for part in parts {
+        text.extend_from_slice(part)?;
+    }
+    Ok(text)
+}
+
 // Whether a value is written after what stands in a list, and as this text.
-fn is_written_as(
+fn is_written_as(alloc: Global, value: &Encoded, text: &[u8]) -> bool {
+    let Ok(mut out) = b"before: ".to_vec(alloc) else {
+        return false;
+    };
+    let is_written = value.write(&mut out).is_ok();
+    match out.strip_prefix(b"before: ") {
+        Some(written) => is_written && written == text,
+        None => false,
+    }
+}
+
+// The same of the value of these settings, salt and tag.
+fn is_text_of(
     alloc: Global,
     kind: Kind,
     memory: u32,
@@ -52,101 +72,152 @@ fn is_written_as(
     salt: &[u8],
     tag: &[u8],
     text: &[u8],
-) -> Result<bool, AllocError>
+) -> bool
     requires in_range { are_in_range 0x13 memory passes lanes (length salt.now) (length tag.now) ≡ true }
 {
-    let value = value(alloc, kind, memory, passes, lanes, salt, tag)?;
-    let mut out = b"before: ".to_vec(alloc)?;
-    value.write(&mut out)?;
-    Ok(out.strip_prefix(b"before: ") == Some(text))
+    match value(alloc, kind, memory, passes, lanes, salt, tag) {
+        Ok(value) => is_written_as(alloc, &value, text),
+        Err(_) => false,
+    }
 }
 
 #[test]
-fn writes_texts(rt: HostRuntime) -> Result<(), Fail> {
+fn writes_texts(rt: HostRuntime) {
+    let alloc = rt.alloc();
     // somesalt -d -t 1 -k 8 -l 4
     let tag = [0x79, 0x3f, 0xf6, 0x94];
     let text = b"$argon2d$v=19$m=8,t=1,p=1$c29tZXNhbHQ$eT/2lA";
-    assert!(rt; is_written_as(rt.alloc(), Kind::D, 8, 1, 1, b"somesalt", &tag, text)?);
+    assert!(rt; is_text_of(alloc, Kind::D, 8, 1, 1, b"somesalt", &tag, text));
     // saltsalt9 -i -t 2 -k 16 -p 2 -l 5
     let tag = [0xe1, 0xfb, 0x5a, 0xe2, 0xd3];
     let text = b"$argon2i$v=19$m=16,t=2,p=2$c2FsdHNhbHQ5$4fta4tM";
-    assert!(rt; is_written_as(rt.alloc(), Kind::I, 16, 2, 2, b"saltsalt9", &tag, text)?);
+    assert!(rt; is_text_of(alloc, Kind::I, 16, 2, 2, b"saltsalt9", &tag, text));
     // 0123456789 -id -t 3 -k 64 -p 4 -l 6
     let tag = [0xc4, 0xf1, 0x4f, 0x7f, 0x9c, 0xa2];
     let text = b"$argon2id$v=19$m=64,t=3,p=4$MDEyMzQ1Njc4OQ$xPFPf5yi";
-    assert!(rt; is_written_as(rt.alloc(), Kind::Id, 64, 3, 4, b"0123456789", &tag, text)?);
-    Ok(())
+    assert!(rt; is_text_of(alloc, Kind::Id, 64, 3, 4, b"0123456789", &tag, text));
+}
+
+// A text, a tag, and the text with that tag.
+struct PutTag {
+    before: &'static str,
+    tag: &'static [u8],
+    after: &'static str,
 }
 
 // The text of the password `another` and the tag of `password`, somesalt -d -t 1 -k 8 and -l 4, 5, 6, and the text of that.
 // A text that is too short for the tag stays as it was.
-const PUT_TAGS: [(&str, &[u8], &str); 4] = [
-    (
-        "$argon2d$v=19$m=8,t=1,p=1$c29tZXNhbHQ$/Chpog",
-        &[0x79, 0x3f, 0xf6, 0x94],
-        "$argon2d$v=19$m=8,t=1,p=1$c29tZXNhbHQ$eT/2lA",
-    ),
-    (
-        "$argon2d$v=19$m=8,t=1,p=1$c29tZXNhbHQ$YNSrsQE",
-        &[0xe3, 0x23, 0xa3, 0x2a, 0x81],
-        "$argon2d$v=19$m=8,t=1,p=1$c29tZXNhbHQ$4yOjKoE",
-    ),
-    (
-        "$argon2d$v=19$m=8,t=1,p=1$c29tZXNhbHQ$YHqhONFk",
-        &[0xa0, 0x6f, 0x77, 0xe2, 0x5f, 0x13],
-        "$argon2d$v=19$m=8,t=1,p=1$c29tZXNhbHQ$oG934l8T",
-    ),
-    ("$argo", &[0x79, 0x3f, 0xf6, 0x94], "$argo"),
+static PUT_TAGS: [PutTag; 4] = [
+    PutTag {
+        before: "$argon2d$v=19$m=8,t=1,p=1$c29tZXNhbHQ$/Chpog",
+        tag: &[0x79, 0x3f, 0xf6, 0x94],
+        after: "$argon2d$v=19$m=8,t=1,p=1$c29tZXNhbHQ$eT/2lA",
+    },
+    PutTag {
+        before: "$argon2d$v=19$m=8,t=1,p=1$c29tZXNhbHQ$YNSrsQE",
+        tag: &[0xe3, 0x23, 0xa3, 0x2a, 0x81],
+        after: "$argon2d$v=19$m=8,t=1,p=1$c29tZXNhbHQ$4yOjKoE",
+    },
+    PutTag {
+        before: "$argon2d$v=19$m=8,t=1,p=1$c29tZXNhbHQ$YHqhONFk",
+        tag: &[0xa0, 0x6f, 0x77, 0xe2, 0x5f, 0x13],
+        after: "$argon2d$v=19$m=8,t=1,p=1$c29tZXNhbHQ$oG934l8T",
+    },
+    PutTag {
+        before: "$argo",
+        tag: &[0x79, 0x3f, 0xf6, 0x94],
+        after: "$argo",
+    },
 ];
 
 // Whether the tag makes the one text the other.
-fn is_put(alloc: Global, before: &str, tag: &[u8], after: &str) -> Result<bool, AllocError> {
-    let mut text = before.as_bytes().to_vec(alloc)?;
-    put_tag(&mut text, tag);
-    Ok(text.as_slice() == after.as_bytes())
+fn is_put(alloc: Global, row: &PutTag) -> bool {
+    match row.before.as_bytes().to_vec(alloc) {
+        Ok(mut text) => {
+            put_tag(&mut text, row.tag);
+            text.as_slice() == row.after.as_bytes()
+        }
+        Err(_) => false,
+    }
+}
+
+// Whether each tag makes its text.
+fn are_put(alloc: Global) -> bool {
+    for row in &PUT_TAGS {
+        if !is_put(alloc, row) {
+            return false;
+        }
+    }
+    true
 }
 
 #[test]
-fn puts_a_tag_into_a_text(rt: HostRuntime) -> Result<(), Fail> {
-    for (before, tag, after) in PUT_TAGS {
-        assert!(rt; is_put(rt.alloc(), before, tag, after)?, "{before}");
-    }
-    Ok(())
+fn puts_a_tag_into_a_text(rt: HostRuntime) {
+    assert!(rt; are_put(rt.alloc()));
 }
 
-// Each of the 21 requests for room refused in turn: what stood in the list stays as it was. They are two for the symbols
-// of salt and tag, two for the name of the type, three for each of the four numbers, two for each of the two parts after
-// them, and one for the list.
-fn writes_all_or_nothing_at(alloc: Global, refused: u32) -> Result<bool, AllocError> {
-    let value = value(
-        alloc,
-        Kind::D,
-        8,
-        1,
-        1,
-        b"somesalt",
-        &[0x79, 0x3f, 0xf6, 0x94],
-    )?;
+// Whether of the 21 requests for room this one is refused, and what stood in the list stays as it
+// was; all are granted where the 22nd would be. They are two for the symbols of salt and tag, two
+// for the name of the type, three for each of the four numbers, two for each of the two parts
+// after them, and one for the list.
+fn is_all_or_nothing_at(alloc: Global, value: &Encoded, refused: u32) -> bool {
+    let Ok(mut out) = b"before: ".to_vec(alloc) else {
+        return false;
+    };
     let mut source = RefusingText {
         alloc,
         asked: 0,
         refused,
     };
-    let mut out = b"before: ".to_vec(alloc)?;
     let is_written = value.write_in(&mut source, &mut out).is_ok();
-    let whole = b"before: $argon2d$v=19$m=8,t=1,p=1$c29tZXNhbHQ$eT/2lA".as_slice();
-    let expected = if refused == 22 { whole } else { &whole[..8] };
-    Ok(
-        is_written == (refused == 22)
-            && source.asked == refused.min(21)
-            && out.as_slice() == expected,
-    )
+    let expected = if refused == 22 {
+        b"before: $argon2d$v=19$m=8,t=1,p=1$c29tZXNhbHQ$eT/2lA".as_slice()
+    } else {
+        b"before: "
+    };
+    is_written == (refused == 22) && source.asked == refused.min(21) && out.as_slice() == expected
+}
+
+// Whether that is so of each.
+fn is_all_or_nothing(alloc: Global, value: &Encoded) -> bool {
+    for refused in 1..=22u32 {
+        if !is_all_or_nothing_at(alloc, value, refused) {
+            return false;
+        }
+    }
+    true
+}
+
+// The same of a text whose salt is somesalt.
+fn is_text_all_or_nothing(alloc: Global) -> bool {
+    let tag = [0x79, 0x3f, 0xf6, 0x94];
+    match value(alloc, Kind::D, 8, 1, 1, b"somesalt", &tag) {
+        Ok(value) => is_all_or_nothing(alloc, &value),
+        Err(_) => false,
+    }
 }
 
 #[test]
-fn writes_all_or_nothing(rt: HostRuntime) -> Result<(), Fail> {
-    for refused in 1..=22u32 {
-        assert!(rt; writes_all_or_nothing_at(rt.alloc(), refused)?, "{refused}");
+fn writes_all_or_nothing(rt: HostRuntime) {
+    assert!(rt; is_text_all_or_nothing(rt.alloc()));
+}
+
+// The example at the head of `argon_text`: whether a text is read, takes the first password and not the second, and is written again as it
+// was.
+fn is_as_said(alloc: Global, text: &[u8]) -> bool {
+    match Encoded::read(alloc, text) {
+        Ok(encoded) => {
+            tested(alloc, &encoded, b"password", 256, 526) == 1
+                && tested(alloc, &encoded, b"Password", 256, 526) == 0
+                && is_written_as(alloc, &encoded, text)
+        }
+        Err(_) => false,
     }
-    Ok(())
+}
+
+#[test]
+fn example(rt: HostRuntime) {
+    let text =
+        b"$argon2i$v=19$m=256,t=2,p=1$c29tZXNhbHQ$iekCn0Y3spW+sCcFanM2xBT63UP2sghkUoHLIUpWRS8";
+    assert!(rt; is_as_said(rt.alloc(), text));
 }

@@ -1,5 +1,6 @@
 //! Hashes of the message 0, 1, 2, .. that other programs give, against the code.
 ghost use Rattle.std.specs.Prelude.{◌+◌, ◌^◌, ◌<◌, ◌≤◌, length};
+ghost use Rattle.blake.specs.LongHash.{joined};
 
 use blake::{Blake2b, long_hash};
 
@@ -126,22 +127,40 @@ const CASES: [Case; 10] = [
     },
 ];
 
+// Whether a message in pieces of this size has the hash.
+fn has_hash(message: &[u8], size: usize, hash: &[u8]) -> bool
+    requires size { 1 ≤ size }
+    requires fits { length message.now + size < 2 ^ 64 }
+{
+    let len = hash.len();
+    if len < 1 || 64 < len {
+        return false;
+    }
+    let mut out = [0; 64];
+    hash_in_pieces(message, size, &mut out[..len]);
+    &out[..len] == hash
+}
+
+// How many sizes of pieces, from the whole message on, give the hash.
+fn right_sizes(message: &[u8], hash: &[u8]) -> u32
+    requires short { length message.now ≤ 1000 }
+{
+    let mut right = 0u32;
+    for size in [MESSAGE_LEN, 1, 31, 64, 128] {
+        if !has_hash(message, size, hash) {
+            return right;
+        }
+        right = right.wrapping_add(1);
+    }
+    right
+}
+
 #[test]
 fn hashes_whole_and_in_pieces(rt: HostRuntime) {
     let message = message();
     for case in &CASES {
-        let (len, hash_len) = (case.message_len, case.hash.len());
-        assert!(rt; len <= MESSAGE_LEN);
-        assert!(rt; 1 <= hash_len && hash_len <= 64);
-        for size in [MESSAGE_LEN, 1, 31, 64, 128] {
-            let mut out = [0; 64];
-            hash_in_pieces(&message[..len], size, &mut out[..hash_len]);
-            assert_eq!(rt;
-                &out[..hash_len],
-                case.hash,
-                "{len} bytes in pieces of {size}"
-            );
-        }
+        assert!(rt; case.message_len <= MESSAGE_LEN);
+        assert!(rt; right_sizes(&message[..case.message_len], case.hash) == 5);
     }
 }
 
@@ -264,16 +283,23 @@ const WHOLE: [&[u8]; 1] = [b"The quick brown fox jumps over the lazy dog"];
 
 const THREE_PARTS: [&[u8]; 3] = [b"The quick brown ", b"fox jumps", b" over the lazy dog"];
 
+// Whether the parts have the long hash.
+fn has_long_hash(parts: &[&[u8]], hash: &[u8]) -> bool
+    requires fits { 4 + length (joined parts.now) < 2 ^ 64 }
+{
+    let len = hash.len();
+    if len < 1 || 1024 < len {
+        return false;
+    }
+    let mut out = [0; 1024];
+    long_hash(parts, &mut out[..len]);
+    &out[..len] == hash
+}
+
 #[test]
 fn long_hashes_of_one_and_of_three_parts(rt: HostRuntime) {
     for hash in &LONG_HASHES {
-        let len = hash.len();
-        assert!(rt; 1 <= len && len <= 1024);
-        let mut out = [0; 1024];
-        long_hash(&WHOLE, &mut out[..len]);
-        assert_eq!(rt; &out[..len], *hash, "{len} bytes of one part");
-        let mut out = [0; 1024];
-        long_hash(&THREE_PARTS, &mut out[..len]);
-        assert_eq!(rt; &out[..len], *hash, "{len} bytes of three parts");
+        assert!(rt; has_long_hash(&WHOLE, hash));
+        assert!(rt; has_long_hash(&THREE_PARTS, hash));
     }
 }

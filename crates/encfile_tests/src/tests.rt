@@ -1,5 +1,5 @@
 //! Files of worked rows, of the usual program and of an independent one, in pieces of several sizes.
-ghost use Rattle.std.specs.Prelude.{◌≡◌, ◌≤◌, ◌^◌, length, take, IfOk};
+ghost use Rattle.std.specs.Prelude.{◌≡◌, ◌≤◌, ◌^◌, length, take, IfOk, IfSome};
 ghost use Rattle.romix.specs.SparseCosts.{SparseFitsMemory};
 ghost use Rattle.encfile.specs.Header.{IsHeaderOf};
 
@@ -7,6 +7,7 @@ mod damage;
 
 use encfile::{Dec, Enc, Header, HeaderFault};
 use romix::{Costs, Limits, Sparse, Ticks, Workspace};
+use std::alloc::Global;
 use std::test::Fail;
 
 // Sizes of pieces; the last is more than any file here has.
@@ -96,7 +97,7 @@ const DEBIAN_TEXT_FILE: &[u8] = &[
 ];
 
 // What a decryption came to.
-#[derive(Drop, Clone, Copy, PartialEq, Eq, Debug)]
+#[derive(Drop, Clone, Copy, PartialEq)]
 enum Outcome {
     Whole,
     Damaged,
@@ -105,7 +106,8 @@ enum Outcome {
     NoFront,
     Refused(HeaderFault),
     NotAdmitted,
-    TooLong,
+    // A piece was refused, or memory.
+    Unfinished,
 }
 
 // The first 96 bytes of a file.
@@ -141,118 +143,162 @@ fn header_of(front: &[u8; 96], keep: u64) -> Result<(Header, Sparse), Outcome>
     }
 }
 
-// The file of the text with the costs and the salt of another file.
-fn encrypt_as(
-    rt: HostRuntime,
-    like: &[u8],
-    passphrase: &[u8],
-    text: &[u8],
-    size: usize,
-    keep: u64,
-) -> Result<Vec<u8>, Fail> {
-    let mut file = Vec::new(rt.alloc());
-    if like.len() < 96 || size == 0 {
-        return Ok(file);
-    }
-    let (header, sparse) = match header_of(&front_of(like), keep) {
-        Ok(read) => read,
-        Err(_) => return Ok(file),
+// An encryption with the costs and the salt of another file.
+fn begun(alloc: Global, like: &[u8; 96], passphrase: &[u8], keep: u64) -> Option<Enc> {
+    let Ok((header, sparse)) = header_of(like, keep) else {
+        return None;
     };
-    let mut workspace = Workspace::reserve(rt.alloc(), &sparse)?;
-    let mut ticks = Ticks::new(rt.alloc());
-    let mut enc = Enc::start(
+    let Ok(mut workspace) = Workspace::reserve(alloc, &sparse) else {
+        return None;
+    };
+    let mut ticks = Ticks::new(alloc);
+    Some(Enc::start(
         header.costs(),
         header.salt(),
         passphrase,
         &mut workspace,
         &mut ticks,
-    );
-    file.extend_from_slice(&enc.header())?;
-    for piece in text.chunks(size) {
-        let mut bytes = Vec::new(rt.alloc());
-        bytes.extend_from_slice(piece)?;
-        if enc.feed(&mut bytes).is_err() {
-            return Ok(file);
-        }
-        file.extend_from_slice(&bytes)?;
-    }
-    file.extend_from_slice(&enc.finish())?;
-    Ok(file)
+    ))
 }
 
-// A decryption of a file whose first 96 bytes are right.
-fn opened(
-    rt: HostRuntime,
-    front: &[u8; 96],
-    passphrase: &[u8],
-    keep: u64,
-) -> Result<Result<Dec, Outcome>, Fail> {
-    let (header, sparse) = match header_of(front, keep) {
-        Ok(read) => read,
-        Err(outcome) => return Ok(Err(outcome)),
-    };
-    let mut workspace = Workspace::reserve(rt.alloc(), &sparse)?;
-    let mut ticks = Ticks::new(rt.alloc());
-    match Dec::open(front, header, passphrase, &mut workspace, &mut ticks) {
-        Ok(dec) => Ok(Ok(dec)),
-        Err(_) => Ok(Err(Outcome::WrongPassphrase)),
-    }
-}
-
-// The text that is released, and the outcome.
-fn decrypt(
-    rt: HostRuntime,
-    file: &[u8],
-    passphrase: &[u8],
-    size: usize,
-    keep: u64,
-) -> Result<(Vec<u8>, Outcome), Fail> {
-    let mut text = Vec::new(rt.alloc());
-    if file.len() < 96 || size == 0 {
-        return Ok((text, Outcome::NoFront));
-    }
-    let mut dec = match opened(rt, &front_of(file), passphrase, keep)? {
-        Ok(dec) => dec,
-        Err(outcome) => return Ok((text, outcome)),
-    };
-    for piece in file[96..].chunks(size) {
-        let mut out = vec![in rt.alloc(); 0u8; piece.len() + 32]?;
-        match dec.feed(piece, &mut out) {
-            Ok(n) => text.extend_from_slice(&out[..n])?,
-            Err(_) => return Ok((text, Outcome::TooLong)),
+// Encrypts a text in pieces.
+fn encrypt(enc: &mut Enc, text: &mut [u8], size: usize) -> bool {
+    for piece in text.chunks_mut(size.clamp(1, 300)) {
+        if enc.feed(piece).is_err() {
+            return false;
         }
     }
-    match dec.finish() {
-        Ok(()) => Ok((text, Outcome::Whole)),
-        Err(_) => Ok((text, Outcome::Damaged)),
+    true
+}
+
+// Whether a file has these parts.
+fn is_of_parts(file: &[u8], front: &[u8], text: &[u8], code: &[u8]) -> bool {
+    match file.strip_prefix(front) {
+        Some(rest) => rest.strip_prefix(text) == Some(code),
+        None => false,
     }
 }
 
-// Whether a decryption releases this text and has this outcome.
-fn comes_to(
-    rt: HostRuntime,
-    file: &[u8],
-    passphrase: &[u8],
-    size: usize,
-    keep: u64,
-    expected: (&[u8], Outcome),
-) -> Result<bool, Fail> {
-    let (text, outcome) = decrypt(rt, file, passphrase, size, keep)?;
-    Ok(text.as_slice() == expected.0 && outcome == expected.1)
+// Whether an encryption of a text, in pieces, makes this file.
+fn makes(alloc: Global, mut enc: Enc, text: &[u8], size: usize, file: &[u8]) -> bool {
+    let Ok(mut text) = text.to_vec(alloc) else {
+        return false;
+    };
+    let front = enc.header();
+    let is_encrypted = encrypt(&mut enc, &mut text, size);
+    is_of_parts(file, &front, &text, &enc.finish()) && is_encrypted
 }
 
-// Whether the file of the text with the costs and the salt of a file is that file, and opens.
-fn is_made_and_opened(
-    rt: HostRuntime,
+// Whether the file of the text with the costs and the salt of a file is that file.
+fn is_made(
+    alloc: Global,
     file: &[u8],
     passphrase: &[u8],
     text: &[u8],
     size: usize,
     keep: u64,
-) -> Result<bool, Fail> {
-    let made = encrypt_as(rt, file, passphrase, text, size, keep)?;
-    let opens = comes_to(rt, file, passphrase, size, keep, (text, Outcome::Whole))?;
-    Ok(opens && made.as_slice() == file)
+) -> bool {
+    if file.len() < 96 {
+        return false;
+    }
+    match begun(alloc, &front_of(file), passphrase, keep) {
+        Some(enc) => makes(alloc, enc, text, size, file),
+        None => false,
+    }
+}
+
+// A decryption of a file whose first 96 bytes are right.
+fn opened(alloc: Global, front: &[u8; 96], passphrase: &[u8], keep: u64) -> Result<Dec, Outcome> {
+    let (header, sparse) = match header_of(front, keep) {
+        Ok(read) => read,
+        Err(outcome) => return Err(outcome),
+    };
+    let Ok(mut workspace) = Workspace::reserve(alloc, &sparse) else {
+        return Err(Outcome::Unfinished);
+    };
+    let mut ticks = Ticks::new(alloc);
+    match Dec::open(front, header, passphrase, &mut workspace, &mut ticks) {
+        Ok(dec) => Ok(dec),
+        Err(_) => Err(Outcome::WrongPassphrase),
+    }
+}
+
+// Reads a piece of at most 300 bytes with no more room than it needs, and appends the text that is
+// released; whether it was taken.
+fn decrypt_piece(dec: &mut Dec, piece: &[u8], text: &mut Vec<u8>) -> bool {
+    let mut out = [0u8; 332];
+    if piece.len() > 300 {
+        return false;
+    }
+    match dec.feed(piece, &mut out[..piece.len() + 32]) {
+        Ok(n) => text.extend_from_slice(&out[..n]).is_ok(),
+        Err(_) => false,
+    }
+}
+
+// The same of bytes in pieces.
+fn decrypt(dec: &mut Dec, bytes: &[u8], size: usize, text: &mut Vec<u8>) -> bool {
+    for piece in bytes.chunks(size.clamp(1, 300)) {
+        if !decrypt_piece(dec, piece, text) {
+            return false;
+        }
+    }
+    true
+}
+
+// Reads all bytes after the first 96.
+fn read(mut dec: Dec, bytes: &[u8], size: usize, text: &mut Vec<u8>) -> Outcome {
+    let is_read = decrypt(&mut dec, bytes, size, text);
+    match dec.finish() {
+        Ok(()) if is_read => Outcome::Whole,
+        Err(_) if is_read => Outcome::Damaged,
+        _ => Outcome::Unfinished,
+    }
+}
+
+// Appends the text of a file that is released; the outcome.
+fn outcome_of(
+    alloc: Global,
+    file: &[u8],
+    passphrase: &[u8],
+    size: usize,
+    keep: u64,
+    text: &mut Vec<u8>,
+) -> Outcome {
+    if file.len() < 96 {
+        return Outcome::NoFront;
+    }
+    match opened(alloc, &front_of(file), passphrase, keep) {
+        Ok(dec) => read(dec, &file[96..], size, text),
+        Err(outcome) => outcome,
+    }
+}
+
+// Whether a decryption releases this text and has this outcome.
+fn comes_to(
+    alloc: Global,
+    file: &[u8],
+    passphrase: &[u8],
+    size: usize,
+    keep: u64,
+    (text, outcome): (&[u8], Outcome),
+) -> bool {
+    let mut released = Vec::new(alloc);
+    outcome_of(alloc, file, passphrase, size, keep, &mut released) == outcome
+        && released.as_slice() == text
+}
+
+// Whether the file of the text with the costs and the salt of a file is that file, and opens.
+fn is_made_and_opened(
+    alloc: Global,
+    file: &[u8],
+    passphrase: &[u8],
+    text: &[u8],
+    size: usize,
+    keep: u64,
+) -> bool {
+    is_made(alloc, file, passphrase, text, size, keep)
+        && comes_to(alloc, file, passphrase, size, keep, (text, Outcome::Whole))
 }
 
 // A file, its passphrase and its text.
@@ -262,7 +308,7 @@ struct File {
     text: &'static [u8],
 }
 
-const FILES: &[File] = &[
+static FILES: [File; 4] = [
     File {
         bytes: EMPTY_FILE,
         passphrase: b"pw",
@@ -285,148 +331,229 @@ const FILES: &[File] = &[
     },
 ];
 
-#[test]
-fn files_are_those_of_other_programs(rt: HostRuntime) -> Result<(), Fail> {
-    for file in FILES {
-        for size in SIZES {
-            let is_same = is_made_and_opened(rt, file.bytes, file.passphrase, file.text, *size, 1)?;
-            assert!(rt; is_same, "by {size}");
+// Whether that is so by each size of pieces.
+fn is_made_by_each_size(alloc: Global, file: &[u8], passphrase: &[u8], text: &[u8]) -> bool {
+    for size in SIZES {
+        if !is_made_and_opened(alloc, file, passphrase, text, *size, 1) {
+            return false;
         }
     }
-    Ok(())
+    true
+}
+
+#[test]
+fn files_are_those_of_other_programs(rt: HostRuntime) {
+    for file in &FILES {
+        assert!(rt; is_made_by_each_size(rt.alloc(), file.bytes, file.passphrase, file.text));
+    }
+}
+
+// Whether that is so with each of these tables.
+fn is_made_with_each_table(alloc: Global, file: &File) -> bool {
+    for keep in &[1u64, 2, 4, 8, 16] {
+        if !is_made_and_opened(alloc, file.bytes, file.passphrase, file.text, 200, *keep) {
+            return false;
+        }
+    }
+    true
+}
+
+// Whether the file that Debian's scrypt made of `hello` opens with each of the sparser ones.
+fn opens_with_each_table(alloc: Global) -> bool {
+    let hello = (b"hello".as_slice(), Outcome::Whole);
+    for keep in &[32u64, 64, 128, 256, 512, 1024] {
+        if !comes_to(alloc, DEBIAN_HELLO_FILE, b"pw", 200, *keep, hello) {
+            return false;
+        }
+    }
+    true
 }
 
 // A file doesn't depend on how much of the table is kept while it is made, and opens whatever is.
 #[test]
-fn files_with_each_sparse_table(rt: HostRuntime) -> Result<(), Fail> {
-    for file in FILES {
-        for keep in [1u64, 2, 4, 8, 16] {
-            let is_same = is_made_and_opened(
-                rt,
-                file.bytes,
-                file.passphrase,
-                file.text,
-                200,
-                keep,
-            )?;
-            assert!(rt; is_same, "with {keep}");
-        }
+fn files_with_each_sparse_table(rt: HostRuntime) {
+    let alloc = rt.alloc();
+    for file in &FILES {
+        assert!(rt; is_made_with_each_table(alloc, file));
     }
-    let hello = (b"hello".as_slice(), Outcome::Whole);
-    for keep in [32u64, 64, 128, 256, 512, 1024] {
-        let opens = comes_to(rt, DEBIAN_HELLO_FILE, b"pw", 200, keep, hello)?;
-        assert!(rt; opens, "with {keep}");
-    }
+    assert!(rt; opens_with_each_table(alloc));
     // N is 16
     let too_few = (b"".as_slice(), Outcome::NotAdmitted);
-    assert!(rt; comes_to(rt, HELLO_FILE, b"pw", 200, 32, too_few)?);
-    Ok(())
+    assert!(rt; comes_to(alloc, HELLO_FILE, b"pw", 200, 32, too_few));
 }
 
 #[test]
-fn file_of_a_passphrase_longer_than_a_block(rt: HostRuntime) -> Result<(), Fail> {
-    for size in SIZES {
-        let is_same = is_made_and_opened(rt, PYTHON_FILE, &[b'a'; 70], &TEXT[..45], *size, 1)?;
-        assert!(rt; is_same, "by {size}");
-    }
-    Ok(())
+fn file_of_a_passphrase_longer_than_a_block(rt: HostRuntime) {
+    let is_made = is_made_by_each_size(rt.alloc(), PYTHON_FILE, &[b'a'; 70], &TEXT[..45]);
+    assert!(rt; is_made);
 }
 
-// The example at the head of the crate.
-#[test]
-fn example(rt: HostRuntime) -> Result<(), Fail> {
-    let costs = Costs::new(4, 1, 1)?;
+// The example at the head of the crate, in its parts: the memory for costs that the limits admit,
+fn reserved(alloc: Global, sparse: &Sparse) -> Option<Workspace>
+    ensures sparse { IfSome result (λ workspace. workspace.sparse ≡ sparse.now) }
+{
     let limits = Limits {
         max_bytes: 1 << 20,
         max_ops: 1 << 20,
     };
-    let whole = Sparse::whole(&costs);
-    whole.admitted(&limits)?;
-    let mut whole = Workspace::reserve(rt.alloc(), &whole)?;
-    let salt = [7u8; 32];
-    let mut ticks = Ticks::new(rt.alloc());
-    let mut enc = Enc::start(&costs, &salt, b"pw", &mut whole, &mut ticks);
-    let front = enc.header();
-    let mut text = *b"hello";
-    enc.feed(&mut text)?;
-    let code = enc.finish();
+    match sparse.admitted(&limits) {
+        Ok(()) => Workspace::reserve(alloc, sparse).ok(),
+        Err(_) => None,
+    }
+}
 
-    let header = Header::of_front(&front)?;
-    let quarter = Sparse::new(header.costs(), 4)?;
-    quarter.admitted(&limits)?;
-    let mut quarter = Workspace::reserve(rt.alloc(), &quarter)?;
-    let mut dec = Dec::open(&front, header, b"pw", &mut quarter, &mut ticks)?;
+// the file of `hello`, made with the whole table,
+fn is_written(alloc: Global, costs: &Costs, file: &mut [u8; 133]) -> bool {
+    let Some(mut whole) = reserved(alloc, &Sparse::whole(costs)) else {
+        return false;
+    };
+    let salt = [7u8; 32];
+    let mut ticks = Ticks::new(alloc);
+    let mut enc = Enc::start(costs, &salt, b"pw", &mut whole, &mut ticks);
+    file[..96].copy_from_slice(&enc.header());
+    file[96..101].copy_from_slice(b"hello");
+    let is_fed = enc.feed(&mut file[96..101]).is_ok();
+    file[101..].copy_from_slice(&enc.finish());
+    is_fed
+}
+
+// a decryption with a quarter of it,
+fn begun_with_a_quarter(alloc: Global, front: &[u8; 96]) -> Option<Dec> {
+    let header = Header::of_front(front).ok()?;
+    let quarter = Sparse::new(header.costs(), 4).ok()?;
+    let mut quarter = reserved(alloc, &quarter)?;
+    let mut ticks = Ticks::new(alloc);
+    Dec::open(front, header, b"pw", &mut quarter, &mut ticks).ok()
+}
+
+// and what it releases.
+fn is_read_again(mut dec: Dec, text: &[u8], code: &[u8]) -> bool
+    requires text { length text.now ≤ 32 }
+    requires code { length code.now ≤ 32 }
+{
     let mut out = [0u8; 64];
-    assert_eq!(rt; dec.feed(&text, &mut out)?, 0);
-    assert_eq!(rt; dec.feed(&code, &mut out)?, 5);
-    assert!(rt; out.starts_with(b"hello"));
-    dec.finish()?;
+    let (held, released) = (dec.feed(text, &mut out), dec.feed(code, &mut out));
+    let is_right = held == Ok(0) && released == Ok(5) && out.starts_with(b"hello");
+    dec.finish().is_ok() && is_right
+}
+
+fn is_there_and_back(alloc: Global, costs: &Costs) -> bool {
+    let mut file = [0u8; 133];
+    let is_written = is_written(alloc, costs, &mut file);
+    match begun_with_a_quarter(alloc, &front_of(&file)) {
+        Some(dec) => is_written && is_read_again(dec, &file[96..101], &file[101..]),
+        None => false,
+    }
+}
+
+#[test]
+fn example(rt: HostRuntime) -> Result<(), Fail> {
+    let costs = Costs::new(4, 1, 1)?;
+    assert!(rt; is_there_and_back(rt.alloc(), &costs));
     Ok(())
 }
 
 // 31 of 127 bytes are held at the end: one byte more is held, too, and the next one moves the
-// first. Pieces of the bytes up to there, and how much each of the three further ones releases.
-fn released(rt: HostRuntime, size: usize) -> Result<Option<[usize; 3]>, Fail> {
-    let Ok(mut dec) = opened(rt, &front_of(HELLO_FILE), b"pw", 1)? else {
-        return Ok(None);
+// first. Pieces of the bytes up to there, and then three further ones.
+fn releases_the_first(dec: &mut Dec, size: usize, text: &mut Vec<u8>) -> bool {
+    decrypt(dec, &HELLO_FILE[96..127], size.min(32), text)
+        && decrypt(dec, &HELLO_FILE[127..128], 1, text)
+        && text.is_empty()
+        && decrypt(dec, &HELLO_FILE[128..129], 1, text)
+        && text.as_slice() == b"h".as_slice()
+        && decrypt(dec, &HELLO_FILE[129..], 4, text)
+        && text.as_slice() == b"hello".as_slice()
+}
+
+// Whether they are held, by pieces of this size.
+fn are_held(alloc: Global, size: usize) -> bool {
+    let Ok(mut dec) = opened(alloc, &front_of(HELLO_FILE), b"pw", 1) else {
+        return false;
     };
-    let mut out = [0u8; 64];
-    for piece in HELLO_FILE[96..127].chunks(size.clamp(1, 32)) {
-        if dec.feed(piece, &mut out) != Ok(0) {
-            return Ok(None);
-        }
-    }
-    let held = dec.feed(&HELLO_FILE[127..128], &mut out)?;
-    let first = dec.feed(&HELLO_FILE[128..129], &mut out)?;
-    let is_h = out[0] == b'h';
-    let rest = dec.feed(&HELLO_FILE[129..], &mut out)?;
-    dec.finish()?;
-    if is_h && out.starts_with(b"ello") {
-        Ok(Some([held, first, rest]))
-    } else {
-        Ok(None)
-    }
+    let mut text = Vec::new(alloc);
+    let is_right = releases_the_first(&mut dec, size, &mut text);
+    dec.finish().is_ok() && is_right
 }
 
 #[test]
-fn bytes_that_are_held(rt: HostRuntime) -> Result<(), Fail> {
+fn bytes_that_are_held(rt: HostRuntime) {
     for size in SIZES {
-        assert_eq!(rt; released(rt, *size)?, Some([0, 1, 4]), "by {size}");
+        assert!(rt; are_held(rt.alloc(), *size));
     }
-    Ok(())
 }
 
 #[test]
-fn fronts_that_are_refused(rt: HostRuntime) -> Result<(), Fail> {
+fn fronts_that_are_refused(rt: HostRuntime) {
     let nothing = (b"".as_slice(), Outcome::WrongPassphrase);
-    assert!(rt; comes_to(rt, HELLO_FILE, b"other", 32, 1, nothing)?);
+    assert!(rt; comes_to(rt.alloc(), HELLO_FILE, b"other", 32, 1, nothing));
     // HMAC pads a short key with zeros, so this one has the same keys
     let hello = (b"hello".as_slice(), Outcome::Whole);
-    assert!(rt; comes_to(rt, HELLO_FILE, b"pw\0", 32, 1, hello)?);
-    Ok(())
+    assert!(rt; comes_to(rt.alloc(), HELLO_FILE, b"pw\0", 32, 1, hello));
+}
+
+// A byte that is changed, and the fault.
+struct Changed {
+    place: usize,
+    byte: u8,
+    fault: HeaderFault,
+}
+
+// Each has the faults of those above it, too.
+static CHANGED: [Changed; 7] = [
+    Changed {
+        place: 63,
+        byte: 0,
+        fault: HeaderFault::Checksum,
+    },
+    Changed {
+        place: 48,
+        byte: 0,
+        fault: HeaderFault::Checksum,
+    },
+    Changed {
+        place: 20,
+        byte: 0xff,
+        fault: HeaderFault::Checksum,
+    },
+    Changed {
+        place: 7,
+        byte: 64,
+        fault: HeaderFault::Checksum,
+    },
+    Changed {
+        place: 6,
+        byte: 1,
+        fault: HeaderFault::Version,
+    },
+    Changed {
+        place: 5,
+        byte: b'T',
+        fault: HeaderFault::Magic,
+    },
+    Changed {
+        place: 0,
+        byte: 0,
+        fault: HeaderFault::Magic,
+    },
+];
+
+// The first place of which another fault is told.
+fn first_wrong_fault() -> Option<usize> {
+    let mut front = front_of(HELLO_FILE);
+    for row in &CHANGED {
+        if let Some(byte) = front.get_mut(row.place) {
+            *byte = row.byte;
+        }
+        if Header::of_front(&front).err() != Some(row.fault) {
+            return Some(row.place);
+        }
+    }
+    None
 }
 
 #[test]
-fn first_fault_of_a_header(rt: HostRuntime) -> Result<(), Fail> {
-    // bytes that are changed, and the fault; each has the faults of those above it, too
-    let faults: &[(usize, u8, HeaderFault)] = &[
-        (63, 0, HeaderFault::Checksum),
-        (48, 0, HeaderFault::Checksum),
-        (20, 0xff, HeaderFault::Checksum),
-        (7, 64, HeaderFault::Checksum),
-        (6, 1, HeaderFault::Version),
-        (5, b'T', HeaderFault::Magic),
-        (0, 0, HeaderFault::Magic),
-    ];
-    let mut bytes = front_of(HELLO_FILE);
-    for (place, byte, expected) in faults {
-        bytes[*place] = *byte;
-        assert!(rt;
-            Header::of_front(&bytes).err() == Some(*expected),
-            "byte {place}"
-        );
-    }
-    Ok(())
+fn first_fault_of_a_header(rt: HostRuntime) {
+    assert_eq!(rt; first_wrong_fault(), None);
 }
 
 // A header with the salt 00 01 .. 1f.
@@ -451,7 +578,7 @@ impl Said {
 }
 
 // The checksums are those of Python's `hashlib.sha256`. The first has the greatest N of all.
-const IN_RANGE: &[Said] = &[
+static IN_RANGE: [Said; 4] = [
     Said {
         log_n: 63,
         r: 0x1,
@@ -490,7 +617,7 @@ const IN_RANGE: &[Said] = &[
     },
 ];
 
-const OUT_OF_RANGE: &[Said] = &[
+static OUT_OF_RANGE: [Said; 7] = [
     Said {
         log_n: 0,
         r: 0x1,
@@ -569,20 +696,28 @@ fn is_read(said: &Said) -> bool {
     }
 }
 
+// The costs of the first header that is not read so.
+fn first_unread() -> Option<(u8, u32, u32)> {
+    for said in &IN_RANGE {
+        if !is_read(said) {
+            return Some((said.log_n, said.r, said.p));
+        }
+    }
+    None
+}
+
+// The costs of the first header that is not refused for them.
+fn first_unrefused() -> Option<(u8, u32, u32)> {
+    for said in &OUT_OF_RANGE {
+        if Header::read(&said.bytes()).err() != Some(HeaderFault::CostsOutOfRange) {
+            return Some((said.log_n, said.r, said.p));
+        }
+    }
+    None
+}
+
 #[test]
-fn costs_of_a_header(rt: HostRuntime) -> Result<(), Fail> {
-    for said in IN_RANGE {
-        assert!(rt; is_read(said), "{} {} {}", said.log_n, said.r, said.p);
-    }
-    for said in OUT_OF_RANGE {
-        let fault = Header::read(&said.bytes()).err();
-        assert!(rt;
-            fault == Some(HeaderFault::CostsOutOfRange),
-            "{} {} {}",
-            said.log_n,
-            said.r,
-            said.p
-        );
-    }
-    Ok(())
+fn costs_of_a_header(rt: HostRuntime) {
+    assert_eq!(rt; first_unread(), None);
+    assert_eq!(rt; first_unrefused(), None);
 }

@@ -96,7 +96,7 @@ static HMAC_CASES: [HmacCase; 8] = [
 
 // RFC 7914, section 11, the first vector; on from 64 bytes
 // Python, hashlib.pbkdf2_hmac("sha256", b"passwd", b"salt", 1, 100).
-const KEY_OF_PASSWD: [u8; 100] = [
+static KEY_OF_PASSWD: [u8; 100] = [
     0x55, 0xac, 0x04, 0x6e, 0x56, 0xe3, 0x08, 0x9f, 0xec, 0x16, 0x91, 0xc2, 0x25, 0x44, 0xb6, 0x05,
     0xf9, 0x41, 0x85, 0x21, 0x6d, 0xde, 0x04, 0x65, 0xe6, 0x8b, 0x9d, 0x57, 0xc2, 0x0d, 0xac, 0xbc,
     0x49, 0xca, 0x9c, 0xcc, 0xf1, 0x79, 0xb6, 0x45, 0x99, 0x16, 0x64, 0xb3, 0x9d, 0x77, 0xef, 0x31,
@@ -107,7 +107,7 @@ const KEY_OF_PASSWD: [u8; 100] = [
 ];
 
 // Python, hashlib.pbkdf2_hmac("sha256", b"Password", b"NaCl", 1, 130).
-const KEY_OF_NACL: [u8; 130] = [
+static KEY_OF_NACL: [u8; 130] = [
     0xc6, 0x00, 0x40, 0x4e, 0x39, 0xc9, 0xe9, 0x7a, 0x7d, 0x7a, 0x74, 0x5b, 0x32, 0xc3, 0xe7, 0x42,
     0x63, 0x87, 0xb3, 0x65, 0x69, 0x3c, 0x7f, 0x59, 0x30, 0x0f, 0xd8, 0xa0, 0x3a, 0xab, 0x4c, 0x6e,
     0x53, 0xe2, 0xed, 0x2f, 0x8b, 0xaa, 0x34, 0xfb, 0x8c, 0x7a, 0x6b, 0xff, 0xa6, 0x8b, 0xeb, 0x15,
@@ -120,14 +120,14 @@ const KEY_OF_NACL: [u8; 130] = [
 ];
 
 // Python, hashlib.pbkdf2_hmac("sha256", b"", b"", 1, 33).
-const KEY_OF_NOTHING: [u8; 33] = [
+static KEY_OF_NOTHING: [u8; 33] = [
     0xf7, 0xce, 0x0b, 0x65, 0x3d, 0x2d, 0x72, 0xa4, 0x10, 0x8c, 0xf5, 0xab, 0xe9, 0x12, 0xff, 0xdd,
     0x77, 0x76, 0x16, 0xdb, 0xbb, 0x27, 0xa7, 0x0e, 0x82, 0x04, 0xf3, 0xae, 0x2d, 0x0f, 0x6f, 0xad,
     0x89,
 ];
 
 // Python, hmac.new(b"passwd", b"salt\x01\x02\x03\x04", "sha256"): block 0x01020304.
-const HIGH_BLOCK: [u8; 32] = [
+static HIGH_BLOCK: [u8; 32] = [
     0xbe, 0xe0, 0x76, 0x49, 0x0f, 0x80, 0x31, 0xa9, 0x5c, 0xd7, 0xff, 0x92, 0x5f, 0xb0, 0x37, 0x51,
     0xb4, 0x68, 0x3c, 0x3c, 0xb2, 0xdd, 0x0a, 0x75, 0x45, 0xe7, 0x0b, 0xa3, 0x29, 0x5e, 0xae, 0xb9,
 ];
@@ -138,65 +138,89 @@ fn hmac(key: &[u8], message: &[u8]) -> [u8; 32] {
     mac.finish()
 }
 
+// The same, by bytes and by pieces of none.
+fn hmac_by_bytes(key: &[u8], message: &[u8]) -> [u8; 32] {
+    let mut mac = Hmac::new(key);
+    for byte in message {
+        mac.update(&[]);
+        mac.update(&[*byte]);
+    }
+    mac.finish()
+}
+
+// The origin of the first case with another code.
+fn wrong_code(by_bytes: bool) -> Option<&'static str> {
+    for case in &HMAC_CASES {
+        let code = match by_bytes {
+            true => hmac_by_bytes(case.key, case.message),
+            false => hmac(case.key, case.message),
+        };
+        if code != case.code {
+            return Some(case.origin);
+        }
+    }
+    None
+}
+
 #[test]
 fn hmac_cases(rt: HostRuntime) {
-    for case in &HMAC_CASES {
-        assert_eq!(rt; hmac(case.key, case.message), case.code, "{}", case.origin);
-    }
+    assert_eq!(rt; wrong_code(false), None);
 }
 
 #[test]
 fn any_cut_into_updates_gives_the_same_code(rt: HostRuntime) {
-    for case in &HMAC_CASES {
-        let mut mac = Hmac::new(case.key);
-        for byte in case.message {
-            mac.update(&[]);
-            mac.update(&[*byte]);
-        }
-        assert_eq!(rt; mac.finish(), case.code, "{}", case.origin);
-    }
+    assert_eq!(rt; wrong_code(true), None);
 }
 
 #[test]
 fn a_long_key_stands_for_its_digest(rt: HostRuntime) {
     let key = [b'k'; 65];
-    assert_eq!(rt;
-        hmac(&key, b"message"),
-        hmac(&Sha256::digest(key.as_slice()), b"message")
-    );
+    let digest = Sha256::digest(key.as_slice());
+    assert!(rt; hmac(&key, b"message") == hmac(&digest, b"message"));
+}
+
+// Whether the first bytes, so many, are those of the key, and the others are 0.
+fn is_start(bytes: &[u8; 130], len: usize, key: &[u8]) -> bool {
+    bytes.get(..len) == key.get(..len) && bytes.get(len..) == [0; 130].get(len..)
+}
+
+// The first of these lengths at which that is not so.
+fn wrong_length(lengths: &[usize]) -> Option<usize> {
+    for len in lengths {
+        let mut out = [0u8; 130];
+        if let Some(part) = out.get_mut(..*len) {
+            pbkdf2(b"passwd", b"salt", part);
+        }
+        if !is_start(&out, *len, &KEY_OF_PASSWD) {
+            return Some(*len);
+        }
+    }
+    None
 }
 
 #[test]
 fn pbkdf2_lengths(rt: HostRuntime) {
-    for len in [0usize, 1, 31, 32, 33, 64, 100] {
-        let mut out = [0u8; 100];
-        pbkdf2(b"passwd", b"salt", &mut out[..len]);
-        assert_eq!(rt; &out[..len], &KEY_OF_PASSWD[..len], "{len} bytes");
-        assert!(rt;
-            out[len..].iter().all(|&byte| byte == 0),
-            "past {len} bytes"
-        );
-    }
+    assert_eq!(rt; wrong_length(&[0, 1, 31, 32, 33, 64, 100]), None);
 }
 
 #[test]
 fn pbkdf2_of_nothing(rt: HostRuntime) {
     let mut out = [0u8; 33];
     pbkdf2(b"", b"", &mut out);
-    assert_eq!(rt; out, KEY_OF_NOTHING);
+    assert!(rt; out == KEY_OF_NOTHING);
+}
+
+// Whether two blocks of a key, counted from 1, are these bytes.
+fn are_blocks(first: [u8; 32], second: [u8; 32], key: &[u8]) -> bool {
+    key.get(..32) == Some(first.as_slice()) && key.get(32..64) == Some(second.as_slice())
 }
 
 #[test]
 fn pbkdf2_blocks(rt: HostRuntime) {
-    assert_eq!(rt;
-        pbkdf2_block(b"passwd", b"salt", 1).as_slice(),
-        &KEY_OF_PASSWD[..32]
-    );
-    assert_eq!(rt;
-        pbkdf2_block(b"passwd", b"salt", 2).as_slice(),
-        &KEY_OF_PASSWD[32..64]
-    );
-    assert_eq!(rt; pbkdf2_block(b"passwd", b"salt", 0x0102_0304), HIGH_BLOCK);
+    let first = pbkdf2_block(b"passwd", b"salt", 1);
+    let second = pbkdf2_block(b"passwd", b"salt", 2);
+    assert!(rt; are_blocks(first, second, &KEY_OF_PASSWD));
+    assert!(rt; pbkdf2_block(b"passwd", b"salt", 0x0102_0304) == HIGH_BLOCK);
 }
 
 // A pair whose salt is handed in by pieces of so many bytes.
@@ -217,69 +241,78 @@ fn example(rt: HostRuntime) {
     pair.update(b"lt");
     let mut key = [0u8; 64];
     pair.finish(&mut key);
-    assert_eq!(rt; &key[..4], [0x55, 0xac, 0x04, 0x6e].as_slice());
-    assert_eq!(rt; key.as_slice(), &KEY_OF_PASSWD[..64]);
+    assert!(rt; key.starts_with(&[0x55, 0xac, 0x04, 0x6e]));
+    assert!(rt; KEY_OF_PASSWD.starts_with(&key));
+}
+
+// The first of these sizes of pieces with another key of 64 bytes.
+fn wrong_size(password: &[u8], salt: &[u8], key: &[u8]) -> Option<usize> {
+    for size in &[1, 3, 100] {
+        let mut found = [0u8; 64];
+        pair_in_pieces(password, salt, *size).finish(&mut found);
+        if key.get(..64) != Some(found.as_slice()) {
+            return Some(*size);
+        }
+    }
+    None
 }
 
 #[test]
 fn pair_of_64_bytes(rt: HostRuntime) {
-    for (password, salt, expected) in [
-        (
-            b"passwd".as_slice(),
-            b"salt".as_slice(),
-            &KEY_OF_PASSWD[..64],
-        ),
-        (
-            b"Password".as_slice(),
-            b"NaCl".as_slice(),
-            &KEY_OF_NACL[..64],
-        ),
-    ] {
-        for size in [1usize, 3, 100] {
-            let mut key = [0u8; 64];
-            pair_in_pieces(password, salt, size).finish(&mut key);
-            assert_eq!(rt; key.as_slice(), expected, "in pieces of {size}");
+    assert_eq!(rt; wrong_size(b"passwd", b"salt", &KEY_OF_PASSWD), None);
+    assert_eq!(rt; wrong_size(b"Password", b"NaCl", &KEY_OF_NACL), None);
+}
+
+// The first of these lengths at which a pair's key is another.
+fn wrong_length_of_pair(lengths: &[usize]) -> Option<usize> {
+    for len in lengths {
+        let mut out = [0u8; 130];
+        if let Some(part) = out.get_mut(..*len) {
+            pair_in_pieces(b"Password", b"NaCl", 2).write_key(part);
+        }
+        if !is_start(&out, *len, &KEY_OF_NACL) {
+            return Some(*len);
         }
     }
+    None
 }
 
 #[test]
 fn pair_of_other_lengths(rt: HostRuntime) {
-    for len in [0usize, 1, 31, 32, 33, 63, 64, 65, 96, 97, 130] {
-        let mut key = [0u8; 130];
-        pair_in_pieces(b"Password", b"NaCl", 2).write_key(&mut key[..len]);
-        assert_eq!(rt; &key[..len], &KEY_OF_NACL[..len], "{len} bytes");
-        assert!(rt;
-            key[len..].iter().all(|&byte| byte == 0),
-            "past {len} bytes"
-        );
+    let lengths = &[0, 1, 31, 32, 33, 63, 64, 65, 96, 97, 130];
+    assert_eq!(rt; wrong_length_of_pair(lengths), None);
+}
+
+// The first of the four blocks, counted from 0, that is another.
+fn wrong_block() -> Option<u32> {
+    let pair = pair_in_pieces(b"Password", b"NaCl", 3);
+    for i in 0..4u32 {
+        let at = 32 * i as usize;
+        if KEY_OF_NACL.get(at..at + 32) != Some(pair.block(i + 1).as_slice()) {
+            return Some(i);
+        }
     }
+    None
 }
 
 #[test]
 fn pair_of_blocks(rt: HostRuntime) {
-    let pair = pair_in_pieces(b"Password", b"NaCl", 3);
-    for i in 0..4u32 {
-        let at = 32 * i as usize;
-        assert_eq!(rt;
-            pair.block(i + 1).as_slice(),
-            &KEY_OF_NACL[at..at + 32],
-            "block {i}"
-        );
-    }
-    assert_eq!(rt;
-        pair_in_pieces(b"passwd", b"salt", 1).block(0x0102_0304),
-        HIGH_BLOCK
-    );
+    assert_eq!(rt; wrong_block(), None);
+    assert!(rt; pair_in_pieces(b"passwd", b"salt", 1).block(0x0102_0304) == HIGH_BLOCK);
 }
 
-#[test]
-fn a_copy_goes_on_by_itself(rt: HostRuntime) -> Result<(), Fail> {
+// The code of a copy that goes on to another message than the first.
+fn code_of_copy() -> Result<[u8; 32], Fail> {
     let mut mac = Hmac::new(b"Jefe");
     mac.update(b"what do ya want ");
     let mut copy = mac.clone()?;
     mac.update(b"from me?");
     copy.update(b"for nothing?");
-    assert_eq!(rt; copy.finish(), HMAC_CASES[1].code);
+    Ok(copy.finish())
+}
+
+#[test]
+fn a_copy_goes_on_by_itself(rt: HostRuntime) -> Result<(), Fail> {
+    assert!(rt; code_of_copy()? == HMAC_CASES[1].code);
     Ok(())
 }

@@ -1,11 +1,10 @@
 //! Outside vectors: the standard's own, and values that Python 3's hashlib gave; and both forms of
-//! the kernels beside one another. The files below have the limits of costs, sparse tables, each
-//! growth refused in turn, and the example at the head of the crate.
+//! the kernels beside one another; and the example at the head of the crate. The files below have the
+//! limits of costs, sparse tables, and each growth refused in turn.
 
-ghost use Rattle.std.specs.Prelude.{◌≡◌, IfOk};
+ghost use Rattle.std.specs.Prelude.{◌≡◌, IfSome};
 
 mod costs;
-mod example;
 mod plain;
 mod sparse;
 
@@ -126,241 +125,55 @@ const KEY_OF_NOTHING: [u8; 100] = [
 ];
 
 // Python, hashlib.scrypt(b"pleaseletmein", salt=b"SodiumChloride", n=8, r=r, p=p, dklen=16), by r
-// and p.
-static SMALL_COSTS: [(u32, u32, [u8; 16]); 27] = [
-    (
-        1,
-        1,
-        [
-            0x49, 0xff, 0x71, 0xe0, 0x23, 0x64, 0xa0, 0x76, 0xae, 0x4d, 0x16, 0xb0, 0xc6, 0x6d,
-            0x6f, 0x4a,
-        ],
-    ),
-    (
-        1,
-        2,
-        [
-            0x89, 0x9a, 0x65, 0x3a, 0xfc, 0x1a, 0x2d, 0x37, 0xa0, 0x6c, 0x4a, 0x72, 0x53, 0xa5,
-            0x46, 0xa0,
-        ],
-    ),
-    (
-        1,
-        3,
-        [
-            0x62, 0x0c, 0xbd, 0x1a, 0x3f, 0xa0, 0x8f, 0xef, 0x58, 0x5d, 0x30, 0xdc, 0xe7, 0x6e,
-            0xbb, 0x80,
-        ],
-    ),
-    (
-        2,
-        1,
-        [
-            0xae, 0xb5, 0x40, 0x19, 0xe3, 0x63, 0xbe, 0x17, 0x2b, 0x36, 0x16, 0x4e, 0x56, 0x01,
-            0x54, 0x09,
-        ],
-    ),
-    (
-        2,
-        2,
-        [
-            0x7b, 0x46, 0x31, 0x71, 0xe2, 0x3f, 0xd5, 0xf2, 0xb5, 0x90, 0xac, 0x8f, 0xec, 0xbb,
-            0x6b, 0x51,
-        ],
-    ),
-    (
-        2,
-        3,
-        [
-            0x0b, 0x94, 0xd9, 0x4d, 0x99, 0xc1, 0x80, 0xfd, 0x08, 0xff, 0x16, 0x2e, 0x2b, 0x49,
-            0x58, 0xf9,
-        ],
-    ),
-    (
-        3,
-        1,
-        [
-            0x1a, 0x7c, 0xbd, 0xde, 0xf7, 0xc7, 0x30, 0x2b, 0x2c, 0xd7, 0xd8, 0xfd, 0x7c, 0x4e,
-            0x7f, 0xec,
-        ],
-    ),
-    (
-        3,
-        2,
-        [
-            0x04, 0x29, 0x71, 0x38, 0x25, 0x57, 0xff, 0x36, 0x85, 0x4f, 0x5d, 0x8b, 0x0c, 0x4e,
-            0x45, 0xbe,
-        ],
-    ),
-    (
-        3,
-        3,
-        [
-            0xb9, 0x8f, 0xb2, 0xa3, 0x45, 0x93, 0x24, 0xf9, 0xd3, 0x67, 0xee, 0x56, 0x31, 0x48,
-            0x97, 0x69,
-        ],
-    ),
-    (
-        4,
-        1,
-        [
-            0x88, 0xcf, 0xfb, 0x5b, 0x97, 0x41, 0x9f, 0xe3, 0xc5, 0x0c, 0x55, 0xfc, 0x85, 0xca,
-            0x21, 0x8a,
-        ],
-    ),
-    (
-        4,
-        2,
-        [
-            0xf3, 0xd1, 0x89, 0x7c, 0x29, 0xf4, 0xe9, 0x87, 0x88, 0x2e, 0xf5, 0x6e, 0x9c, 0x61,
-            0x7e, 0x2c,
-        ],
-    ),
-    (
-        4,
-        3,
-        [
-            0xf5, 0xcf, 0xa4, 0x2e, 0x57, 0x65, 0xf1, 0xc9, 0xf1, 0x17, 0xc6, 0x3d, 0x6c, 0x13,
-            0xc0, 0x9a,
-        ],
-    ),
-    (
-        5,
-        1,
-        [
-            0x6a, 0x1d, 0x40, 0x32, 0x5a, 0x46, 0xff, 0xab, 0x21, 0xb1, 0x20, 0x18, 0x3d, 0x15,
-            0xc7, 0x15,
-        ],
-    ),
-    (
-        5,
-        2,
-        [
-            0xd5, 0xc6, 0xf7, 0x28, 0x33, 0xc1, 0x19, 0x76, 0xda, 0x74, 0x4c, 0x18, 0x2d, 0x86,
-            0x50, 0x11,
-        ],
-    ),
-    (
-        5,
-        3,
-        [
-            0x65, 0x87, 0x8a, 0x47, 0x1c, 0xf2, 0xbd, 0x73, 0x24, 0x86, 0xa8, 0x78, 0xa3, 0x89,
-            0xc0, 0x95,
-        ],
-    ),
-    (
-        6,
-        1,
-        [
-            0x61, 0x63, 0x2f, 0x92, 0x58, 0x60, 0x6d, 0xbc, 0x5b, 0xd9, 0x02, 0x6a, 0xce, 0x2b,
-            0x6c, 0x9a,
-        ],
-    ),
-    (
-        6,
-        2,
-        [
-            0x76, 0x09, 0xd2, 0xf1, 0x97, 0x20, 0x3a, 0x7b, 0x1d, 0x90, 0x4e, 0x5c, 0x5f, 0xad,
-            0x65, 0x1b,
-        ],
-    ),
-    (
-        6,
-        3,
-        [
-            0x9c, 0xe1, 0xff, 0xde, 0xce, 0x3d, 0x18, 0xbd, 0x6c, 0xea, 0xeb, 0x75, 0x67, 0x8c,
-            0x1e, 0x50,
-        ],
-    ),
-    (
-        7,
-        1,
-        [
-            0xc0, 0x09, 0x6d, 0xd4, 0x3c, 0xd7, 0xfa, 0x94, 0xd0, 0xbd, 0x4a, 0xd7, 0x35, 0xd7,
-            0x05, 0xc0,
-        ],
-    ),
-    (
-        7,
-        2,
-        [
-            0x19, 0x57, 0xa9, 0xdf, 0xf3, 0xfc, 0xab, 0xc3, 0x7a, 0x81, 0xfb, 0xd4, 0x02, 0x17,
-            0xdd, 0x11,
-        ],
-    ),
-    (
-        7,
-        3,
-        [
-            0xe6, 0x3c, 0xe1, 0x6c, 0x17, 0xb0, 0x8b, 0x0e, 0xac, 0xf0, 0xd3, 0x14, 0x50, 0xb5,
-            0x7e, 0x5b,
-        ],
-    ),
-    (
-        8,
-        1,
-        [
-            0xcd, 0xbd, 0x35, 0x54, 0x9d, 0x5d, 0x45, 0x3b, 0x36, 0x9b, 0x8b, 0x15, 0xc7, 0xd9,
-            0x0b, 0xc7,
-        ],
-    ),
-    (
-        8,
-        2,
-        [
-            0x69, 0x91, 0xdc, 0x2f, 0xce, 0x9c, 0x0c, 0x1c, 0x28, 0xf6, 0x4c, 0x5b, 0xce, 0x1d,
-            0xa9, 0x13,
-        ],
-    ),
-    (
-        8,
-        3,
-        [
-            0xdb, 0xe9, 0x9b, 0xa9, 0x5c, 0x97, 0x34, 0xfc, 0xb4, 0x1f, 0x65, 0xca, 0x5a, 0x50,
-            0x3e, 0xcd,
-        ],
-    ),
-    (
-        9,
-        1,
-        [
-            0xbd, 0xcd, 0xfd, 0x01, 0x14, 0x6a, 0x27, 0x4f, 0x5d, 0x4f, 0x34, 0x2e, 0xb0, 0xa5,
-            0xda, 0xa4,
-        ],
-    ),
-    (
-        9,
-        2,
-        [
-            0x26, 0x4a, 0x61, 0x5b, 0xed, 0xb4, 0x0a, 0x9b, 0x17, 0xe7, 0x4d, 0x10, 0x27, 0xca,
-            0xfd, 0x0e,
-        ],
-    ),
-    (
-        9,
-        3,
-        [
-            0x01, 0x3f, 0xc0, 0x2c, 0x6a, 0xc4, 0xea, 0x61, 0x77, 0x33, 0xbc, 0xbc, 0xa5, 0xd1,
-            0x6c, 0x3a,
-        ],
-    ),
+// and p; the first byte is the highest.
+static SMALL_COSTS: [(u32, u32, u128); 27] = [
+    (1, 1, 0x49ff71e02364a076ae4d16b0c66d6f4a),
+    (1, 2, 0x899a653afc1a2d37a06c4a7253a546a0),
+    (1, 3, 0x620cbd1a3fa08fef585d30dce76ebb80),
+    (2, 1, 0xaeb54019e363be172b36164e56015409),
+    (2, 2, 0x7b463171e23fd5f2b590ac8fecbb6b51),
+    (2, 3, 0x0b94d94d99c180fd08ff162e2b4958f9),
+    (3, 1, 0x1a7cbddef7c7302b2cd7d8fd7c4e7fec),
+    (3, 2, 0x042971382557ff36854f5d8b0c4e45be),
+    (3, 3, 0xb98fb2a3459324f9d367ee5631489769),
+    (4, 1, 0x88cffb5b97419fe3c50c55fc85ca218a),
+    (4, 2, 0xf3d1897c29f4e987882ef56e9c617e2c),
+    (4, 3, 0xf5cfa42e5765f1c9f117c63d6c13c09a),
+    (5, 1, 0x6a1d40325a46ffab21b120183d15c715),
+    (5, 2, 0xd5c6f72833c11976da744c182d865011),
+    (5, 3, 0x65878a471cf2bd732486a878a389c095),
+    (6, 1, 0x61632f9258606dbc5bd9026ace2b6c9a),
+    (6, 2, 0x7609d2f197203a7b1d904e5c5fad651b),
+    (6, 3, 0x9ce1ffdece3d18bd6ceaeb75678c1e50),
+    (7, 1, 0xc0096dd43cd7fa94d0bd4ad735d705c0),
+    (7, 2, 0x1957a9dff3fcabc37a81fbd40217dd11),
+    (7, 3, 0xe63ce16c17b08b0eacf0d31450b57e5b),
+    (8, 1, 0xcdbd35549d5d453b369b8b15c7d90bc7),
+    (8, 2, 0x6991dc2fce9c0c1c28f64c5bce1da913),
+    (8, 3, 0xdbe99ba95c9734fcb41f65ca5a503ecd),
+    (9, 1, 0xbdcdfd01146a274f5d4f342eb0a5daa4),
+    (9, 2, 0x264a615bedb40a9b17e74d1027cafd0e),
+    (9, 3, 0x013fc02c6ac4ea617733bcbca5d16c3a),
 ];
 
-fn workspace(alloc: Global, log_n: u8, r: u32, p: u32) -> Result<Workspace, Fail> {
+fn workspace(alloc: Global, log_n: u8, r: u32, p: u32) -> Option<Workspace> {
     sparse_workspace(alloc, log_n, r, p, 1)
 }
 
-fn sparse_workspace(alloc: Global, log_n: u8, r: u32, p: u32, keep: u64) -> Result<Workspace, Fail>
-    ensures sparse { IfOk result (λ workspace. workspace.sparse
+fn sparse_workspace(alloc: Global, log_n: u8, r: u32, p: u32, keep: u64) -> Option<Workspace>
+    ensures sparse { IfSome result (λ workspace. workspace.sparse
         ≡ record { costs = record { log_n = log_n; r = r; p = p }; keep = keep }) }
 {
-    let costs = Costs::new(log_n, r, p)?;
-    let sparse = Sparse::new(&costs, keep)?;
-    sparse.admitted(&Limits {
+    let costs = Costs::new(log_n, r, p).ok()?;
+    let sparse = Sparse::new(&costs, keep).ok()?;
+    let limits = Limits {
         max_bytes: 1 << 30,
         max_ops: 1 << 30,
-    })?;
-    Ok(Workspace::reserve(alloc, &sparse)?)
+    };
+    if sparse.admitted(&limits).is_err() {
+        return None;
+    }
+    Workspace::reserve(alloc, &sparse).ok()
 }
 
 #[test]
@@ -422,77 +235,128 @@ fn both_forms_of_block_mix_agree_on_1008_blocks(rt: HostRuntime) {
     }
 }
 
-#[test]
-fn scrypt_cases(rt: HostRuntime) -> Result<(), Fail> {
-    for case in &SCRYPT_CASES {
-        let mut workspace = workspace(rt.alloc(), case.log_n, case.r, case.p)?;
-        let mut key = [0u8; 64];
-        workspace.derive(
-            case.password.as_bytes(),
-            case.salt.as_bytes(),
-            &mut key,
-            &mut Ticks::new(rt.alloc()),
-        );
-        assert_eq!(rt; key, case.key, "of {:?}", case.password);
+// Whether a workspace gives this key of at most 100 bytes.
+fn gives(alloc: Global, workspace: &mut Workspace, password: &str, salt: &str, key: &[u8]) -> bool {
+    let mut bytes = [0u8; 100];
+    let Some(found) = bytes.get_mut(..key.len()) else {
+        return false;
+    };
+    workspace.derive(
+        password.as_bytes(),
+        salt.as_bytes(),
+        found,
+        &mut Ticks::new(alloc),
+    );
+    &*found == key
+}
+
+// Whether a case has its key where one of so many rows is kept.
+fn has_key(alloc: Global, case: &ScryptCase, keep: u64) -> bool {
+    match sparse_workspace(alloc, case.log_n, case.r, case.p, keep) {
+        Some(mut workspace) => gives(alloc, &mut workspace, case.password, case.salt, &case.key),
+        None => false,
     }
-    Ok(())
+}
+
+#[test]
+fn scrypt_cases(rt: HostRuntime) {
+    assert!(rt; has_key(rt.alloc(), &SCRYPT_CASES[0], 1));
+    assert!(rt; has_key(rt.alloc(), &SCRYPT_CASES[1], 1));
+    assert!(rt; has_key(rt.alloc(), &SCRYPT_CASES[2], 1));
+}
+
+// The first of these lengths at which one workspace with N = 16 does not give the start of a key.
+fn wrong_length(
+    alloc: Global,
+    (password, salt): (&str, &str),
+    key: &[u8],
+    lengths: &[usize],
+) -> Option<usize> {
+    let Some(mut workspace) = workspace(alloc, 4, 1, 1) else {
+        return lengths.first().copied();
+    };
+    for len in lengths {
+        match key.get(..*len) {
+            Some(start) if gives(alloc, &mut workspace, password, salt, start) => {}
+            _ => return Some(*len),
+        }
+    }
+    None
 }
 
 // A longer key begins with the shorter one.
 #[test]
-fn key_of_100_bytes(rt: HostRuntime) -> Result<(), Fail> {
-    let mut workspace = workspace(rt.alloc(), 4, 1, 1)?;
-    let mut key = [0u8; 100];
-    workspace.derive(b"", b"", &mut key, &mut Ticks::new(rt.alloc()));
-    assert_eq!(rt; key, KEY_OF_NOTHING);
-    assert_eq!(rt; SCRYPT_CASES[0].key.as_slice(), &KEY_OF_NOTHING[..64]);
-    Ok(())
-}
-
-// Whether the key of so many bytes is the start of the long one.
-fn is_start_of_long_key(alloc: Global, workspace: &mut Workspace, len: usize) -> bool {
-    let mut key = [0u8; 100];
-    let (Some(found), Some(expected)) = (key.get_mut(..len), LONG_KEY.get(..len)) else {
-        return false;
-    };
-    workspace.derive(
-        b"pleaseletmein",
-        b"SodiumChloride",
-        found,
-        &mut Ticks::new(alloc),
+fn key_of_100_bytes(rt: HostRuntime) {
+    assert_eq!(rt;
+        wrong_length(rt.alloc(), ("", ""), &KEY_OF_NOTHING, &[100]),
+        None
     );
-    &*found == expected
+    assert!(rt; KEY_OF_NOTHING.starts_with(&SCRYPT_CASES[0].key));
 }
 
 #[test]
-fn lengths(rt: HostRuntime) -> Result<(), Fail> {
-    let mut workspace = workspace(rt.alloc(), 4, 1, 1)?;
-    for len in [0usize, 1, 31, 32, 33, 64, 100] {
-        assert!(rt;
-            is_start_of_long_key(rt.alloc(), &mut workspace, len),
-            "{len} bytes"
-        );
-    }
-    Ok(())
+fn lengths(rt: HostRuntime) {
+    let words = ("pleaseletmein", "SodiumChloride");
+    let lengths = &[0, 1, 31, 32, 33, 64, 100];
+    assert_eq!(rt; wrong_length(rt.alloc(), words, &LONG_KEY, lengths), None);
 }
 
-// The key of small costs.
-fn small_key(alloc: Global, r: u32, p: u32) -> Result<[u8; 16], Fail> {
-    let mut workspace = workspace(alloc, 3, r, p)?;
-    let mut key = [0u8; 16];
+// Whether small costs give this key.
+fn has_small_key(alloc: Global, r: u32, p: u32, key: u128) -> bool {
+    let key = key.to_be_bytes();
+    match workspace(alloc, 3, r, p) {
+        Some(mut workspace) => gives(
+            alloc,
+            &mut workspace,
+            "pleaseletmein",
+            "SodiumChloride",
+            &key,
+        ),
+        None => false,
+    }
+}
+
+// The first r and p with another key.
+fn wrong_small_costs(alloc: Global) -> Option<(u32, u32)> {
+    for i in 0..SMALL_COSTS.len() {
+        let (r, p, key) = SMALL_COSTS[i];
+        if !has_small_key(alloc, r, p, key) {
+            return Some((r, p));
+        }
+    }
+    None
+}
+
+#[test]
+fn small_costs(rt: HostRuntime) {
+    assert_eq!(rt; wrong_small_costs(rt.alloc()), None);
+}
+
+// The example at the head of the crate: whether these limits refuse the whole table; and the key.
+fn refusal_and_key(alloc: Global) -> Result<(bool, [u8; 64]), Fail> {
+    let costs = Costs::new(14, 8, 1)?;
+    let limits = Limits {
+        max_bytes: 1 << 20,
+        max_ops: 1 << 23,
+    };
+    let is_refused = costs.admitted(&limits).is_err();
+    let sparse = Sparse::new(&costs, 16)?;
+    sparse.admitted(&limits)?;
+    let mut workspace = Workspace::reserve(alloc, &sparse)?;
+    let mut key = [0u8; 64];
     workspace.derive(
         b"pleaseletmein",
         b"SodiumChloride",
         &mut key,
         &mut Ticks::new(alloc),
     );
-    Ok(key)
+    Ok((is_refused, key))
 }
 
 #[test]
-fn small_costs(rt: HostRuntime) -> Result<(), Fail> {
-    for (r, p, expected) in SMALL_COSTS {
-        assert_eq!(rt; small_key(rt.alloc(), r, p)?, expected, "r = {r}, p = {p}");
-    }
+fn example(rt: HostRuntime) -> Result<(), Fail> {
+    let (is_refused, key) = refusal_and_key(rt.alloc())?;
+    assert!(rt; is_refused);
+    assert!(rt; key.starts_with(&[0x70, 0x23, 0xbd, 0xcb]));
     Ok(())
 }

@@ -61,7 +61,8 @@ fn romix_vector()
         0xD2F9E873 ∷ 0x8E4B9A53 ∷ [] }
 {}
 
-// RFC 7914, section 12, the first: N is 16, r and p are 1.
+// RFC 7914, section 12, the first: N is 16, r and p are 1. Its one part is the row of section 10,
+// whose ROMix is not computed again.
 fn scrypt_of_nothing()
     ensures key { scrypt [] [] 16 1 1 64 ≡
         0x77 ∷ 0xD6 ∷ 0x57 ∷ 0x62 ∷ 0x38 ∷ 0x65 ∷ 0x7B ∷ 0x20 ∷
@@ -72,7 +73,9 @@ fn scrypt_of_nothing()
         0x32 ∷ 0x6A ∷ 0x75 ∷ 0x3A ∷ 0x0F ∷ 0xC8 ∷ 0x1F ∷ 0x17 ∷
         0xE8 ∷ 0xD3 ∷ 0xE0 ∷ 0xFB ∷ 0x2E ∷ 0x0D ∷ 0x36 ∷ 0x28 ∷
         0xCF ∷ 0x35 ∷ 0xE2 ∷ 0x0C ∷ 0x38 ∷ 0xD1 ∷ 0x89 ∷ 0x06 ∷ [] }
-{}
+{
+    romix_vector();
+}
 
 // The same over sparse tables, of eight rows down to one. A program in Python that makes the rows
 // between again, and gives the key above, counted its cores.

@@ -10,10 +10,10 @@ ghost use Rattle.argon.specs.Range.{IsInRangeWithAnyPassword};
 ghost use Rattle.argon.specs.Weaving.{work_left};
 ghost use Rattle.argon.specs.Woven.{IsWovenFrom, with_next_slice};
 
-use super::{SECRETS, STANDARD, hex_text};
-use argon::{Inputs, Kind, Lanes, Matrix, Params, Ticks, Weave};
+use super::rows::{is_hex_of, run_of};
+use super::{SECRETS, STANDARD};
+use argon::{Inputs, Lanes, Matrix, Params, Ticks, Weave};
 use std::alloc::Global;
-use std::test::Fail;
 
 // Makes a lane's next block, where it has one left.
 fn step_if_left(weave: &mut Weave, lane: u32, ticks: &mut Ticks)
@@ -47,6 +47,33 @@ fn finish_lane(weave: &mut Weave, lane: u32, ticks: &mut Ticks)
     }
 }
 
+// Makes a block of each lane of the order in turn, where it has one left.
+fn take_turns(weave: &mut Weave, order: &[u32], ticks: &mut Ticks)
+    ensures matrix { weave.new.matrix
+        ≡ record weave.old.matrix { blocks = weave.new.matrix.blocks } }
+    ensures woven { (matrix : Filling) → IsWovenFrom matrix weave.old
+        → IsWovenFrom matrix weave.new }
+    ensures share { ticks.new + work_left weave.new ≡ ticks.old + work_left weave.old }
+{
+    for chosen in order {
+        step_if_left(weave, *chosen, ticks);
+    }
+}
+
+// Makes what so many lanes have left.
+fn finish_lanes(weave: &mut Weave, lanes: u32, ticks: &mut Ticks)
+    ensures matrix { weave.new.matrix
+        ≡ record weave.old.matrix { blocks = weave.new.matrix.blocks } }
+    ensures woven { (matrix : Filling) → IsWovenFrom matrix weave.old
+        → IsWovenFrom matrix weave.new }
+    ensures share { ticks.new + work_left weave.new ≡ ticks.old + work_left weave.old }
+    ensures none { (lane : ℕ) → lane < lanes → slice_index weave.new.left lane ≡ 0 }
+{
+    for lane in 0..lanes {
+        finish_lane(weave, lane, ticks);
+    }
+}
+
 // Makes the next slice: a block of each lane of the order in turn, where it has one left, and then
 // what is left.
 fn slice_by(
@@ -65,12 +92,8 @@ fn slice_by(
         + slice_work matrix.parameters (matrix.slices_made / 4) (matrix.slices_made % 4) }
 {
     let mut weave = Weave::open(matrix, lanes, ticks);
-    for chosen in order {
-        step_if_left(&mut weave, *chosen, ticks);
-    }
-    for lane in 0..params.lanes() {
-        finish_lane(&mut weave, lane, ticks);
-    }
+    take_turns(&mut weave, order, ticks);
+    finish_lanes(&mut weave, params.lanes(), ticks);
     weave.close()
 }
 
@@ -104,43 +127,49 @@ fn hash_by(
 }
 
 // Whether the tag of the inputs, made in that order, is this one in lower hexadecimal.
-fn has_tag_by(
-    alloc: Global,
-    costs: (Kind, u32, u32, u32),
-    inputs: &Inputs<'_>,
-    order: &[u32],
-    tag: &str,
-) -> Result<bool, Fail>
-    requires secret { length inputs.now.secret.now < 2 ^ 32 }
-    requires associated { length inputs.now.associated.now < 2 ^ 32 }
+fn is_tag_by(alloc: Global, params: &Params, inputs: &Inputs<'_>, order: &[u32], tag: &str) -> bool
+    requires inputs { AreInputsOf params.now (inputs_of inputs.now) }
+    requires in_range { IsInRangeWithAnyPassword params.now }
 {
-    let (kind, passes, memory_kib, lanes) = costs;
-    let tag_len = tag.len() / 2 % 4097;
-    let salt_len = inputs.salt.len();
-    let password_len = inputs.password.len();
-    let params = Params::new(
-        kind,
-        0x13,
-        passes,
-        lanes,
-        memory_kib,
-        tag_len,
-        salt_len,
-        password_len,
-    )?;
-    let matrix = Matrix::reserve(alloc, &params)?;
-    let lanes = Lanes::reserve(alloc, &params)?;
-    let mut found = vec![in alloc; 0u8; tag_len]?;
+    let Ok(lanes) = Lanes::reserve(alloc, params) else {
+        return false;
+    };
+    let Ok(matrix) = Matrix::reserve(alloc, params) else {
+        return false;
+    };
+    let mut found = [0; 4096];
+    let out = &mut found[..params.tag_len()];
     hash_by(
         matrix,
         lanes,
-        &params,
+        params,
         inputs,
         order,
-        &mut found,
+        out,
         &mut Ticks::new(alloc),
     );
-    Ok(hex_text(alloc, &found)?.as_str() == tag)
+    is_hex_of(tag, out)
+}
+
+// Whether the tag of the inputs, made in that order, is that of the row.
+fn has_tag_by(alloc: Global, row: &str, inputs: &Inputs<'_>, order: &[u32]) -> bool
+    requires secret { length inputs.now.secret.now < 2 ^ 32 }
+    requires associated { length inputs.now.associated.now < 2 ^ 32 }
+{
+    let run = run_of(row);
+    match Params::new(
+        run.kind,
+        0x13,
+        run.passes,
+        run.lanes,
+        run.memory_kib,
+        run.tag.len() / 2,
+        inputs.salt.len(),
+        inputs.password.len(),
+    ) {
+        Ok(params) => is_tag_by(alloc, &params, inputs, order, run.tag),
+        Err(_) => false,
+    }
 }
 
 // Every order of four lanes.
@@ -172,43 +201,43 @@ const ORDERS: [[u32; 4]; 24] = [
 ];
 
 // The vectors of RFC 9106, section 5, whose segments have two columns.
-fn has_tag_of_standard(alloc: Global, kind: Kind, order: &[u32], tag: &str) -> Result<bool, Fail> {
+fn has_tag_of_standard(alloc: Global, row: &str, order: &[u32]) -> bool {
     let inputs = Inputs {
         password: &[1; 32],
         salt: &[2; 16],
         secret: &[3; 8],
         associated: &[4; 12],
     };
-    has_tag_by(alloc, (kind, 3, 32, 4), &inputs, order, tag)
+    has_tag_by(alloc, row, &inputs, order)
 }
 
-// Lane by lane, and in turn block by block.
-#[test]
-fn every_order_of_four_lanes(rt: HostRuntime) -> Result<(), Fail> {
-    for (kind, tag, _) in STANDARD {
-        for [a, b, c, d] in ORDERS {
-            for order in [[a, a, b, b, c, c, d, d], [a, b, c, d, a, b, c, d]] {
-                assert!(rt;
-                    has_tag_of_standard(rt.alloc(), kind, &order, tag)?,
-                    "{order:?}"
-                );
-            }
+// Of how many orders the tag is right, from the first on: lane by lane and block by block.
+fn right_orders(alloc: Global, row: &str) -> u32 {
+    let mut right = 0u32;
+    for order in &ORDERS {
+        let [a, b, c, d] = *order;
+        if !has_tag_of_standard(alloc, row, &[a, a, b, b, c, c, d, d])
+            || !has_tag_of_standard(alloc, row, &[a, b, c, d, a, b, c, d])
+        {
+            return right;
         }
+        right = right.wrapping_add(1);
     }
-    Ok(())
+    right
 }
 
-// Whether the tag of a secret and data, made with the second lane first, where there is one, is this one. False where
-// one of them is long.
-fn has_tag_with(
-    alloc: Global,
-    costs: (Kind, u32, u32, u32),
-    secret: &[u8],
-    associated: &[u8],
-    tag: &str,
-) -> Result<bool, Fail> {
+#[test]
+fn every_order_of_four_lanes(rt: HostRuntime) {
+    for (row, _) in &STANDARD {
+        assert!(rt; right_orders(rt.alloc(), row) == 24);
+    }
+}
+
+// Whether the row has the tag of a secret and data, made with the second lane first, where there is
+// one. False where one of them is long.
+fn has_tag_with(alloc: Global, row: &str, secret: &[u8], associated: &[u8]) -> bool {
     if secret.len() >= 1000 || associated.len() >= 1000 {
-        return Ok(false);
+        return false;
     }
     let inputs = Inputs {
         password: b"password",
@@ -216,18 +245,13 @@ fn has_tag_with(
         secret,
         associated,
     };
-    has_tag_by(alloc, costs, &inputs, &[1; 140], tag)
+    has_tag_by(alloc, row, &inputs, &[1; 140])
 }
 
 // Of these rows some have segments of more than 128 columns.
 #[test]
-fn second_lane_first(rt: HostRuntime) -> Result<(), Fail> {
-    for (kind, passes, memory_kib, lanes, secret, associated, tag) in SECRETS {
-        let costs = (kind, passes, memory_kib, lanes);
-        assert!(rt;
-            has_tag_with(rt.alloc(), costs, secret, associated, tag)?,
-            "{tag}"
-        );
+fn second_lane_first(rt: HostRuntime) {
+    for (row, secret, associated) in &SECRETS {
+        assert!(rt; has_tag_with(rt.alloc(), row, secret, associated));
     }
-    Ok(())
 }

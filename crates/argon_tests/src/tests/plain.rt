@@ -9,39 +9,68 @@ fn sum_with_product(a: u64, b: u64) -> u64 {
     a.wrapping_add(b).wrapping_add(product.wrapping_mul(2))
 }
 
-// GB on the words at four places: a, b, c and d are the standard's.
+// GB of four words: a, b, c and d are the standard's.
+fn mixed(words: [u64; 4]) -> [u64; 4] {
+    let [a, b, c, d] = words;
+    let a = sum_with_product(a, b);
+    let d = (d ^ a).rotate_right(32);
+    let c = sum_with_product(c, d);
+    let b = (b ^ c).rotate_right(24);
+    let a = sum_with_product(a, b);
+    let d = (d ^ a).rotate_right(16);
+    let c = sum_with_product(c, d);
+    let b = (b ^ c).rotate_right(63);
+    [a, b, c, d]
+}
+
+// GB on the words at four different places.
 fn mix_at(block: &mut Block, a: usize, b: usize, c: usize, d: usize)
     requires a_within { a < 128 }
     requires b_within { b < 128 }
     requires c_within { c < 128 }
     requires d_within { d < 128 }
 {
-    block[a] = sum_with_product(block[a], block[b]);
-    block[d] = (block[d] ^ block[a]).rotate_right(32);
-    block[c] = sum_with_product(block[c], block[d]);
-    block[b] = (block[b] ^ block[c]).rotate_right(24);
-    block[a] = sum_with_product(block[a], block[b]);
-    block[d] = (block[d] ^ block[a]).rotate_right(16);
-    block[c] = sum_with_product(block[c], block[d]);
-    block[b] = (block[b] ^ block[c]).rotate_right(63);
+    let [new_a, new_b, new_c, new_d] = mixed([block[a], block[b], block[c], block[d]]);
+    block[a] = new_a;
+    block[b] = new_b;
+    block[c] = new_c;
+    block[d] = new_d;
+}
+
+// The numbers of the words that P mixes: the columns of a square of sixteen, and its diagonals.
+const MIXINGS: [[usize; 4]; 8] = [
+    [0, 4, 8, 12],
+    [1, 5, 9, 13],
+    [2, 6, 10, 14],
+    [3, 7, 11, 15],
+    [0, 5, 10, 15],
+    [1, 6, 11, 12],
+    [2, 7, 8, 13],
+    [3, 4, 9, 14],
+];
+
+// Where the word of this number, 0 to 15, stands, of eight pairs of places `step` apart.
+fn place(start: usize, step: usize, number: usize) -> usize
+    requires within { (start < 128) × (step < 128) }
+    ensures within { result < 128 }
+{
+    (start + number % 16 / 2 * step + number % 2) % 128
 }
 
 // P on the sixteen words of eight pairs of places, `step` apart.
 fn permute(block: &mut Block, start: usize, step: usize)
     requires within { (start < 128) × (step < 128) }
 {
-    let mut at = [0; 16];
-    for k in 0..16 {
-        at[k] = (start + k / 2 * step + k % 2) % 128;
+    for mixing in &MIXINGS {
+        let [a, b, c, d] = *mixing;
+        mix_at(
+            block,
+            place(start, step, a),
+            place(start, step, b),
+            place(start, step, c),
+            place(start, step, d),
+        );
     }
-    mix_at(block, at[0] % 128, at[4] % 128, at[8] % 128, at[12] % 128);
-    mix_at(block, at[1] % 128, at[5] % 128, at[9] % 128, at[13] % 128);
-    mix_at(block, at[2] % 128, at[6] % 128, at[10] % 128, at[14] % 128);
-    mix_at(block, at[3] % 128, at[7] % 128, at[11] % 128, at[15] % 128);
-    mix_at(block, at[0] % 128, at[5] % 128, at[10] % 128, at[15] % 128);
-    mix_at(block, at[1] % 128, at[6] % 128, at[11] % 128, at[12] % 128);
-    mix_at(block, at[2] % 128, at[7] % 128, at[8] % 128, at[13] % 128);
-    mix_at(block, at[3] % 128, at[4] % 128, at[9] % 128, at[14] % 128);
 }
 
 /// G of two blocks.

@@ -1,469 +1,149 @@
 //! Tags of the reference program of Argon2, as Debian packs it (argon2 0~20171227): the hexadecimal
 //! text that
 //!     printf %s PASSWORD | argon2 SALT -KIND -t PASSES -k MEMORY -p LANES -l LENGTH -v 13 -r
-//! prints, LENGTH being half as many as its digits.
-use argon::Kind;
-
-/// One run of the reference program: kind, passes, memory in KiB, lanes, and the tag.
-pub type ReferenceTag = (Kind, u32, u32, u32, &'static str);
+//! prints, LENGTH being half as many as its digits, in rows of KIND, PASSES, MEMORY, LANES and the
+//! text.
 
 /// Runs with the password `password` and the salt `somesalt`.
-pub static RUNS: [ReferenceTag; 25] = [
-    (
-        Kind::D,
-        1,
-        8,
-        1,
-        "c519e603ac603ec1aeb5b71ec44a6179e3f3975b14c0c97e3914c79e6363e178",
-    ),
-    (Kind::D, 1, 8, 1, "793ff694"),
-    (
-        Kind::I,
-        2,
-        9,
-        1,
-        "145b6770400ce2dbd301e1c66ff796d730fbe68ade83969347ffdbc0995e09",
-    ),
-    (
-        Kind::Id,
-        3,
-        11,
-        1,
-        "7909b244016a41947807a154777097ca636cb38c99b8b1ccba89bcd8cd34f19c",
-    ),
-    (
-        Kind::D,
-        4,
-        23,
-        2,
-        "4469aba450dffc98ba88a61b4adf96056bb092033442a20cfae8c566c3a6adadce",
-    ),
-    (
-        Kind::I,
-        1,
-        29,
-        2,
-        "3a7ea7dd64915574b504c5eb7f2a7ce3a6425edcca10990086895900782f1cc8ffe436cea7b697308dad083ec1\
-            50d43afdc7e479813d866261604354a49c1b33",
-    ),
-    (
-        Kind::Id,
-        2,
-        44,
-        2,
-        "5e1c03da9b7cf4b86837edaeb3b1aa9a343c0789c25e4369e0366b5f5bdcf978f995042a388ce2fe3925c5d4cb\
-            5695f6d260ffb71ef41a4ac2bc4d42ea48924c65",
-    ),
-    (
-        Kind::D,
-        3,
-        24,
-        3,
-        "cbac38f8a1de281933921a27df10105e0d51fbb9b3793a6559176808083c52cf101f1b7db3733b6a61fb7766d9\
-            64bb6023cd7c7bf7d1391d3b54d273d5266279db2347d99984f19c4d354754cf4b851fbb872e4927274a3dc92a\
-            e01546a777e0859544dc7f3ff9344b20137300da1cd6b18c57a39ec1323e97d5c1d5ad8ab34b",
-    ),
-    (Kind::I, 4, 25, 3, "d99c11a2"),
-    (
-        Kind::Id,
-        1,
-        31,
-        3,
-        "3a2a168d4009ce316e40a58cb0b81b6d96e2e2cdf2475c499494cf3af218a3",
-    ),
-    (
-        Kind::D,
-        2,
-        47,
-        4,
-        "39e00ecda1929d1a05cbbafa688be6781cd3a7d57432db6de58307698d2ba2e1",
-    ),
-    (
-        Kind::I,
-        3,
-        55,
-        4,
-        "91eb9bce716ad6f6c6b91430045682d34dfe0abcdc0b4a653978c214cd45ff5d83",
-    ),
-    (
-        Kind::Id,
-        4,
-        86,
-        4,
-        "799b2aa80af3430d13d66386fc6f9fd09119e395e56108e49e58cba15bd2f1529ec4bbc26b866ef763caba57ed\
-            f033bf8c7eee33d24506233aa780486f095ef7",
-    ),
-    (
-        Kind::D,
-        1,
-        40,
-        5,
-        "12387f5db227602d2e9926b8f7af1172a8c4f2d6c3aa7e46466a5b6babd6345eec0bc38cd44c74e81070cca6e0\
-            847c9f65b9db250f67f524f7c92032dc598144d8",
-    ),
-    (
-        Kind::I,
-        2,
-        41,
-        5,
-        "918f5be0cff96da8973bb8b5c8c80de4523c476be73b87e9e38cd80e7649279f1575a62bf8e1c7895f77af1d8a\
-            01a55ee06a551a3da58607a69ddd59b578950d4143aedd15aeb11ee73d2b3179f76428c1121a610036a42c650b\
-            d545acd4aacf70911156cb697ac9c8b61c0f7427fcf9a71e478ecb1ea507c32c9c0b65740f40",
-    ),
-    (Kind::Id, 3, 51, 5, "9e661f4a"),
-    (
-        Kind::D,
-        4,
-        71,
-        6,
-        "a681589bb081b9194edff45baf36b8d864c201daa5e63c95cc9e2c7f4baf7f",
-    ),
-    (
-        Kind::I,
-        1,
-        81,
-        6,
-        "7aa7bdfef36cecd80bd8651028c11b0f41a40d084c8994c4b0835b7c589dff41",
-    ),
-    (
-        Kind::Id,
-        2,
-        128,
-        6,
-        "f616a7aaeee7ad8b4f97213004f19a58b004c50f094a0358490bdef17f21438ee1",
-    ),
-    (
-        Kind::D,
-        3,
-        56,
-        7,
-        "e1c300f6faf5d01c65220e0121a5d29e25c420975c86b60465211237a59fe8e9d9a0d5b5cde262676a4e652d53\
-            a3986371b03cabda57d9f2a5d4c24e13ae5b55",
-    ),
-    (
-        Kind::I,
-        4,
-        57,
-        7,
-        "d2ef0f7bf619dd9422fa85bf9ee33be7f6868ad5075a0b538464208f0fdfdc484602c65b57683dd6e6660055b1\
-            833310600b1b6051adc46572ac99955ba9d20b19",
-    ),
-    (
-        Kind::Id,
-        1,
-        71,
-        7,
-        "38df627545fce24494661f24b0fb2d158c7cf37f1393024e809eb8c26e4f6a490299c26b99a8013234875da0cf\
-            82860c80a782da466fc8d17d84039433857df44a30ba48318bcb5330120b05f29aa3f8ad3b442b8097be41e355\
-            204554afa7355e3cd5e695cea14124f428a19517fe3be5f9b2b9fde6cdceea5a57a1af9ad68b",
-    ),
-    (Kind::D, 2, 95, 8, "48b9474e"),
-    (
-        Kind::I,
-        3,
-        107,
-        8,
-        "6f1adedd9babec2b94281d28c3b969d516d0ab5e8c0612706ecde46e68a15c",
-    ),
-    (
-        Kind::Id,
-        4,
-        170,
-        8,
-        "758f1bf7bd3243dec314d756c63e31f1df8d3d1f58ba4d3092e0b6689be1a328",
-    ),
-];
+pub const RUNS: &str = "\
+    d 1 8 1 c519e603ac603ec1aeb5b71ec44a6179e3f3975b14c0c97e3914c79e6363e178\n\
+    d 1 8 1 793ff694\n\
+    i 2 9 1 145b6770400ce2dbd301e1c66ff796d730fbe68ade83969347ffdbc0995e09\n\
+    id 3 11 1 7909b244016a41947807a154777097ca636cb38c99b8b1ccba89bcd8cd34f19c\n\
+    d 4 23 2 4469aba450dffc98ba88a61b4adf96056bb092033442a20cfae8c566c3a6adadce\n\
+    i 1 29 2 3a7ea7dd64915574b504c5eb7f2a7ce3a6425edcca10990086895900782f1cc8ffe436cea7b697308dad\
+    083ec150d43afdc7e479813d866261604354a49c1b33\n\
+    id 2 44 2 5e1c03da9b7cf4b86837edaeb3b1aa9a343c0789c25e4369e0366b5f5bdcf978f995042a388ce2fe392\
+    5c5d4cb5695f6d260ffb71ef41a4ac2bc4d42ea48924c65\n\
+    d 3 24 3 cbac38f8a1de281933921a27df10105e0d51fbb9b3793a6559176808083c52cf101f1b7db3733b6a61fb\
+    7766d964bb6023cd7c7bf7d1391d3b54d273d5266279db2347d99984f19c4d354754cf4b851fbb872e4927274a3dc\
+    92ae01546a777e0859544dc7f3ff9344b20137300da1cd6b18c57a39ec1323e97d5c1d5ad8ab34b\n\
+    i 4 25 3 d99c11a2\n\
+    id 1 31 3 3a2a168d4009ce316e40a58cb0b81b6d96e2e2cdf2475c499494cf3af218a3\n\
+    d 2 47 4 39e00ecda1929d1a05cbbafa688be6781cd3a7d57432db6de58307698d2ba2e1\n\
+    i 3 55 4 91eb9bce716ad6f6c6b91430045682d34dfe0abcdc0b4a653978c214cd45ff5d83\n\
+    id 4 86 4 799b2aa80af3430d13d66386fc6f9fd09119e395e56108e49e58cba15bd2f1529ec4bbc26b866ef763c\
+    aba57edf033bf8c7eee33d24506233aa780486f095ef7\n\
+    d 1 40 5 12387f5db227602d2e9926b8f7af1172a8c4f2d6c3aa7e46466a5b6babd6345eec0bc38cd44c74e81070\
+    cca6e0847c9f65b9db250f67f524f7c92032dc598144d8\n\
+    i 2 41 5 918f5be0cff96da8973bb8b5c8c80de4523c476be73b87e9e38cd80e7649279f1575a62bf8e1c7895f77\
+    af1d8a01a55ee06a551a3da58607a69ddd59b578950d4143aedd15aeb11ee73d2b3179f76428c1121a610036a42c6\
+    50bd545acd4aacf70911156cb697ac9c8b61c0f7427fcf9a71e478ecb1ea507c32c9c0b65740f40\n\
+    id 3 51 5 9e661f4a\n\
+    d 4 71 6 a681589bb081b9194edff45baf36b8d864c201daa5e63c95cc9e2c7f4baf7f\n\
+    i 1 81 6 7aa7bdfef36cecd80bd8651028c11b0f41a40d084c8994c4b0835b7c589dff41\n\
+    id 2 128 6 f616a7aaeee7ad8b4f97213004f19a58b004c50f094a0358490bdef17f21438ee1\n\
+    d 3 56 7 e1c300f6faf5d01c65220e0121a5d29e25c420975c86b60465211237a59fe8e9d9a0d5b5cde262676a4e\
+    652d53a3986371b03cabda57d9f2a5d4c24e13ae5b55\n\
+    i 4 57 7 d2ef0f7bf619dd9422fa85bf9ee33be7f6868ad5075a0b538464208f0fdfdc484602c65b57683dd6e666\
+    0055b1833310600b1b6051adc46572ac99955ba9d20b19\n\
+    id 1 71 7 38df627545fce24494661f24b0fb2d158c7cf37f1393024e809eb8c26e4f6a490299c26b99a80132348\
+    75da0cf82860c80a782da466fc8d17d84039433857df44a30ba48318bcb5330120b05f29aa3f8ad3b442b8097be41\
+    e355204554afa7355e3cd5e695cea14124f428a19517fe3be5f9b2b9fde6cdceea5a57a1af9ad68b\n\
+    d 2 95 8 48b9474e\n\
+    i 3 107 8 6f1adedd9babec2b94281d28c3b969d516d0ab5e8c0612706ecde46e68a15c\n\
+    id 4 170 8 758f1bf7bd3243dec314d756c63e31f1df8d3d1f58ba4d3092e0b6689be1a328\n\
+";
 
 /// Such runs with longer segments.
-pub static LONGER_RUNS: [ReferenceTag; 17] = [
-    (
-        Kind::I,
-        1,
-        513,
-        1,
-        "be5bd6a7a360663d7b30f66b8c43326aa950acac2450bd5bb671d2b849a25d54",
-    ),
-    (
-        Kind::I,
-        2,
-        516,
-        1,
-        "28dc2dbf0b7f06a31d4f9d9099673295ae081b5fe819e9ea460cc58556a7e2",
-    ),
-    (
-        Kind::Id,
-        1,
-        519,
-        1,
-        "9ddee634358494ca57d81ede8d02e5c7dd7abdc14a13d5a304ca0f1cb3c2fafe0ec3009c421a20f9cf0d9588eb\
-            cbed37a4a300b3e03606b62f301da275b5d665",
-    ),
-    (
-        Kind::D,
-        3,
-        518,
-        1,
-        "dbc31191de7d9c508f47770e0d9e08739dcce41fd921d1ae5e6a84722c4f088817f2b0dd2f880bf8ffad0a9902\
-            1b1dc3b06aa23ffb5fe194eb09b923fd296b564d",
-    ),
-    (
-        Kind::I,
-        2,
-        1041,
-        2,
-        "6b2627f20d83b0adebaad18ae458e78011d47b3421073992227b23d4bc457a545a",
-    ),
-    (
-        Kind::Id,
-        4,
-        1032,
-        2,
-        "81f87f526f0747c6d3b7a6f85b01dc906a04d38d65aa5d9389451896a05f58b6",
-    ),
-    (Kind::D, 2, 1578, 3, "cdd96f20"),
-    (
-        Kind::I,
-        1,
-        3087,
-        3,
-        "83d01d89e09b3ce22f45aab3928a882fbc975c9be7e7bf61c65f5f2a7929b7669335d8521f10f9c3db1fe677b2\
-            7b3e366f9d99750eefca64782a7bc5880d634cac21bd200eb8f440fc99443b3b2c4c9e0900a607698fb7dc5591\
-            9d21f900edeed3d694298dfc2c7d2445ff06bc30a01a57dab7fe68596e92e891a3918c8f93a8",
-    ),
-    (
-        Kind::Id,
-        2,
-        4100,
-        4,
-        "e5ab71ba112a4799fdde9d2613ebb492ab8f5f08d95703ce6a7df4b4b29968d0",
-    ),
-    (
-        Kind::D,
-        1,
-        4117,
-        4,
-        "208395e904f9e3b9a0523336e43f6a214d066f12525ee9fbe6389767e50e5339c7",
-    ),
-    (
-        Kind::I,
-        3,
-        2584,
-        5,
-        "13d214ef9022e45c5dfbbb0a932a7a46ec0f37a441c09c5b0c87a67f231f583a5e56eb47c11b6fe5c352b3418e\
-            38623098f743c7872ea37d486f2ecc1f264f89",
-    ),
-    (
-        Kind::Id,
-        1,
-        3370,
-        6,
-        "387c7b9f43b06456b06db379006aae84c1c09df2c9ffe562ff997ba841c4e4",
-    ),
-    (
-        Kind::D,
-        2,
-        3630,
-        7,
-        "76c61bec13db3763c0de9571580c1de2fb9ff0f089d3aa5e8e9c44384c891b0d",
-    ),
-    (
-        Kind::I,
-        1,
-        4137,
-        8,
-        "e440f183d9ff8808bd6824761535fbe88ee2b458542fbc0975595059e6f06754b365891171b3cc84eb63f2ba0e\
-            0b016d6d1be5b39513fe28fe7ce930cd86dc321f",
-    ),
-    (
-        Kind::Id,
-        2,
-        8349,
-        8,
-        "31c43b31139d13c8d60ea898e7720c6ea79c545e787bcf004acf4c3aa94dcea0",
-    ),
-    (
-        Kind::I,
-        1,
-        1538,
-        1,
-        "27ceaafb6aa23023824da4502c2348d814f29d8ca240bbfa0001da123a090fe9",
-    ),
-    (
-        Kind::Id,
-        2,
-        1542,
-        1,
-        "4ba7e97505c8e20dbd9a87411d508e6a020b8d7e9b8f4dadb4e6d18d587f7a44",
-    ),
-];
+pub const LONGER_RUNS: &str = "\
+    i 1 513 1 be5bd6a7a360663d7b30f66b8c43326aa950acac2450bd5bb671d2b849a25d54\n\
+    i 2 516 1 28dc2dbf0b7f06a31d4f9d9099673295ae081b5fe819e9ea460cc58556a7e2\n\
+    id 1 519 1 9ddee634358494ca57d81ede8d02e5c7dd7abdc14a13d5a304ca0f1cb3c2fafe0ec3009c421a20f9cf\
+    0d9588ebcbed37a4a300b3e03606b62f301da275b5d665\n\
+    d 3 518 1 dbc31191de7d9c508f47770e0d9e08739dcce41fd921d1ae5e6a84722c4f088817f2b0dd2f880bf8ffa\
+    d0a99021b1dc3b06aa23ffb5fe194eb09b923fd296b564d\n\
+    i 2 1041 2 6b2627f20d83b0adebaad18ae458e78011d47b3421073992227b23d4bc457a545a\n\
+    id 4 1032 2 81f87f526f0747c6d3b7a6f85b01dc906a04d38d65aa5d9389451896a05f58b6\n\
+    d 2 1578 3 cdd96f20\n\
+    i 1 3087 3 83d01d89e09b3ce22f45aab3928a882fbc975c9be7e7bf61c65f5f2a7929b7669335d8521f10f9c3db\
+    1fe677b27b3e366f9d99750eefca64782a7bc5880d634cac21bd200eb8f440fc99443b3b2c4c9e0900a607698fb7d\
+    c55919d21f900edeed3d694298dfc2c7d2445ff06bc30a01a57dab7fe68596e92e891a3918c8f93a8\n\
+    id 2 4100 4 e5ab71ba112a4799fdde9d2613ebb492ab8f5f08d95703ce6a7df4b4b29968d0\n\
+    d 1 4117 4 208395e904f9e3b9a0523336e43f6a214d066f12525ee9fbe6389767e50e5339c7\n\
+    i 3 2584 5 13d214ef9022e45c5dfbbb0a932a7a46ec0f37a441c09c5b0c87a67f231f583a5e56eb47c11b6fe5c3\
+    52b3418e38623098f743c7872ea37d486f2ecc1f264f89\n\
+    id 1 3370 6 387c7b9f43b06456b06db379006aae84c1c09df2c9ffe562ff997ba841c4e4\n\
+    d 2 3630 7 76c61bec13db3763c0de9571580c1de2fb9ff0f089d3aa5e8e9c44384c891b0d\n\
+    i 1 4137 8 e440f183d9ff8808bd6824761535fbe88ee2b458542fbc0975595059e6f06754b365891171b3cc84eb\
+    63f2ba0e0b016d6d1be5b39513fe28fe7ce930cd86dc321f\n\
+    id 2 8349 8 31c43b31139d13c8d60ea898e7720c6ea79c545e787bcf004acf4c3aa94dcea0\n\
+    i 1 1538 1 27ceaafb6aa23023824da4502c2348d814f29d8ca240bbfa0001da123a090fe9\n\
+    id 2 1542 1 4ba7e97505c8e20dbd9a87411d508e6a020b8d7e9b8f4dadb4e6d18d587f7a44\n\
+";
 
 /// Other passwords and salts, each with its runs.
-pub static OTHER_RUNS: [(&str, &str, &[ReferenceTag]); 6] = [
+pub const OTHER_RUNS: [(&str, &str, &str); 6] = [
     (
         "p",
         "saltsalt",
-        &[
-            (
-                Kind::D,
-                2,
-                8,
-                1,
-                "13c52422a5ee81dac8b4bd71f35c77d7292b2381a25e86ccd2d7c5ad9f3cde16",
-            ),
-            (
-                Kind::I,
-                3,
-                23,
-                2,
-                "106a1fe886f9122d704adde323574deb537dfcdb90da26c5ccd79a80336245edf8",
-            ),
-            (
-                Kind::Id,
-                4,
-                100,
-                3,
-                "ce184aa2ad3dc561e15177e06987ade4183f7dc1a1401e7207e299d180a6d77a5c32f0867478703070d3b21ea9\
-            31a6e126c7bfa881970b960c48ae1c422d94ef",
-            ),
-        ],
+        "\
+        d 2 8 1 13c52422a5ee81dac8b4bd71f35c77d7292b2381a25e86ccd2d7c5ad9f3cde16\n\
+        i 3 23 2 106a1fe886f9122d704adde323574deb537dfcdb90da26c5ccd79a80336245edf8\n\
+        id 4 100 3 ce184aa2ad3dc561e15177e06987ade4183f7dc1a1401e7207e299d180a6d77a5c32f086747870\
+        3070d3b21ea931a6e126c7bfa881970b960c48ae1c422d94ef\n\
+    ",
     ),
     (
         "xxxxxxxxxxxxxxxxxxxxxxxxxxxxxxxxxxxxxxxxxxxxxxxxxxxxxxxxxxxxxxxxxxxxxxxxxxxxxxxxxxxxxxxxxxxxxxxxxxxxxxxxxxxxxxxxxxxxxxxxxxxxxxx",
         "ssssssss",
-        &[
-            (
-                Kind::D,
-                1,
-                333,
-                4,
-                "ad800db4d048045cac4b9dfb2eeba91f753c7ef26f5288710b527a8ec2bacf910e357788e2e5f221f4da688693\
-            2f65750e75c49e5d5f9536cb794b64685fbaaa71",
-            ),
-            (
-                Kind::I,
-                2,
-                1000,
-                5,
-                "cbc43e11312f4f4b7011d8516b4ab5a5ad20e3e253f0b76b13d973163010e07dd892af4728124e2817f07a4bfb\
-            966cc0a58c8694b8c2dbf885ee42be21f02cfd9511ab71f7c98ccfb4b099ac1b589e4a1aeea0e09bc83cf05d2c\
-            a2bf97b642aa5bfe90cd04d359577bdbc0e5281300a8258765b47046be9680c82c0b41209279",
-            ),
-            (Kind::Id, 3, 8, 1, "31d04f66"),
-        ],
+        "\
+        d 1 333 4 ad800db4d048045cac4b9dfb2eeba91f753c7ef26f5288710b527a8ec2bacf910e357788e2e5f22\
+        1f4da6886932f65750e75c49e5d5f9536cb794b64685fbaaa71\n\
+        i 2 1000 5 cbc43e11312f4f4b7011d8516b4ab5a5ad20e3e253f0b76b13d973163010e07dd892af4728124e\
+        2817f07a4bfb966cc0a58c8694b8c2dbf885ee42be21f02cfd9511ab71f7c98ccfb4b099ac1b589e4a1aeea0e\
+        09bc83cf05d2ca2bf97b642aa5bfe90cd04d359577bdbc0e5281300a8258765b47046be9680c82c0b\
+        41209279\n\
+        id 3 8 1 31d04f66\n\
+    ",
     ),
     (
         "correct horse battery staple",
         "0123456789abcdef",
-        &[
-            (
-                Kind::D,
-                4,
-                23,
-                2,
-                "67346152aadf1a40ffc0eef14548d835f19092b8e23acc9f255f4a6474999b",
-            ),
-            (
-                Kind::I,
-                1,
-                100,
-                3,
-                "2d18f655b18d09f7c8d808619246551b8f6ba51bcf0d8fe51e8879bb294d97bd",
-            ),
-            (
-                Kind::Id,
-                2,
-                333,
-                4,
-                "97a31ca9ccc7ce1aa971b60d8ffe04db69df487fc6e445ccbfb419f82cb76df732",
-            ),
-        ],
+        "\
+        d 4 23 2 67346152aadf1a40ffc0eef14548d835f19092b8e23acc9f255f4a6474999b\n\
+        i 1 100 3 2d18f655b18d09f7c8d808619246551b8f6ba51bcf0d8fe51e8879bb294d97bd\n\
+        id 2 333 4 97a31ca9ccc7ce1aa971b60d8ffe04db69df487fc6e445ccbfb419f82cb76df732\n\
+    ",
     ),
     (
         "pass\nword\n",
         "salt with spaces",
-        &[
-            (
-                Kind::D,
-                3,
-                1000,
-                5,
-                "27c4a6d7867075fc966385b5588c59b7797c8296fe10847f3a33880dd894c89a1aa884452f55cf2467fc04bbfd\
-            c49178119f282754892ef7ffab2734fb43f681",
-            ),
-            (
-                Kind::I,
-                4,
-                8,
-                1,
-                "533def393a4abca765b48818209b7f84d75f196023d026af750579aa18fe6cf981b8b7f336ea8fe8f269998df0\
-            1b497a54b190f998163ceb8aecec2d4ee82ea16e",
-            ),
-            (
-                Kind::Id,
-                1,
-                23,
-                2,
-                "8e93c0218e4bbe4a3da61453fe1522370e3aed6539a71c28dfee705baf223375166d06e2e9a1142d6b815efbbd\
-            1eb0a5a10f1d23bcd57ae9d25bd1e03bc3403fceded9b4e6ae1c9cc48233fa6ef04584143b8c58c93ba472e8e1\
-            5a0071b79cfb7ef2339b1036a52a9998732c84f860f6758ec2472a891639e71554875430970b",
-            ),
-        ],
+        "\
+        d 3 1000 5 27c4a6d7867075fc966385b5588c59b7797c8296fe10847f3a33880dd894c89a1aa884452f55cf\
+        2467fc04bbfdc49178119f282754892ef7ffab2734fb43f681\n\
+        i 4 8 1 533def393a4abca765b48818209b7f84d75f196023d026af750579aa18fe6cf981b8b7f336ea8fe8f\
+        269998df01b497a54b190f998163ceb8aecec2d4ee82ea16e\n\
+        id 1 23 2 8e93c0218e4bbe4a3da61453fe1522370e3aed6539a71c28dfee705baf223375166d06e2e9a1142\
+        d6b815efbbd1eb0a5a10f1d23bcd57ae9d25bd1e03bc3403fceded9b4e6ae1c9cc48233fa6ef04584143b8c58\
+        c93ba472e8e15a0071b79cfb7ef2339b1036a52a9998732c84f860f6758ec2472a891639e71554875430970b\n\
+    ",
     ),
     (
         "éè€",
         "éééé",
-        &[
-            (Kind::D, 2, 100, 3, "4a9e46ea"),
-            (
-                Kind::I,
-                3,
-                333,
-                4,
-                "fea793bcac63d9e94ab42dd5003bd9da3a4964309c9b2bf95bcecaa7e4535e",
-            ),
-            (
-                Kind::Id,
-                4,
-                1000,
-                5,
-                "2833ce13317e6588922b6c95f52e0a3e94fc17a4b2b6312ed58fad437729cd01",
-            ),
-        ],
+        "\
+        d 2 100 3 4a9e46ea\n\
+        i 3 333 4 fea793bcac63d9e94ab42dd5003bd9da3a4964309c9b2bf95bcecaa7e4535e\n\
+        id 4 1000 5 2833ce13317e6588922b6c95f52e0a3e94fc17a4b2b6312ed58fad437729cd01\n\
+    ",
     ),
     (
         "a",
         "yyyyyyyyyyyyyyyyyyyyyyyyyyyyyyyyyyyyyyyyyyyyyyyyyyyyyyyyyyyyyyyy",
-        &[
-            (
-                Kind::D,
-                1,
-                8,
-                1,
-                "8d1416db8035f5c726bf13ac25799124a3867a2d314c7f3968349bb217320a3dac",
-            ),
-            (
-                Kind::I,
-                2,
-                23,
-                2,
-                "93d45d3ca0eb14467c73103e37a3843d924f039c3cf8577e6957a0c118158bd052c91ccc565e19e8d8dd200cba\
-            8cf2bed3276f13e7bc7a87c5ed43a51e6e59d2",
-            ),
-            (
-                Kind::Id,
-                3,
-                100,
-                3,
-                "f0a4349598dbe14bc0874f3132c3272715a89e8edae232741e6696fcba79425c5587dfb981206d55c0384fbed3\
-            5bcbb2420eb5b06b320945cd448f318f93bec3fd",
-            ),
-        ],
+        "\
+        d 1 8 1 8d1416db8035f5c726bf13ac25799124a3867a2d314c7f3968349bb217320a3dac\n\
+        i 2 23 2 93d45d3ca0eb14467c73103e37a3843d924f039c3cf8577e6957a0c118158bd052c91ccc565e19e8\
+        d8dd200cba8cf2bed3276f13e7bc7a87c5ed43a51e6e59d2\n\
+        id 3 100 3 f0a4349598dbe14bc0874f3132c3272715a89e8edae232741e6696fcba79425c5587dfb981206d\
+        55c0384fbed35bcbb2420eb5b06b320945cd448f318f93bec3fd\n\
+    ",
     ),
 ];
 
-// The longest tag: -id -t 1 -k 64 -p 1 -l 4096.
-pub const LONGEST: &str =
-    "7f56fc5ba2e5afee144965692f8d25cfc6068f8a8a1872e5240e76b13f215eb0ddf1925b2880cbb0593813d8f1\
+/// The longest tag: -id -t 1 -k 64 -p 1 -l 4096, with `password` and `somesalt`.
+pub const LONGEST: &str = "id 1 64 1 \
+    7f56fc5ba2e5afee144965692f8d25cfc6068f8a8a1872e5240e76b13f215eb0ddf1925b2880cbb0593813d8f1\
     0881c8fe878458e8871684f2b4d8e6d4f2fffcc88f37ac523581ef8637ebad1d28e4b441ae1a94d78ed20f67b6\
     a18d615a37f3fe2d8676ff72d0ef41c8f264e93df3431f4006c3a376f77abdfc64129aafff87d2589e7aec02e4\
     8513ebfbc46ec442576f087b4ae9585451071e9f297bc3d604cfce9cf1d8dd1a566439175f5c19ec88db22fb84\

@@ -8,7 +8,6 @@ pub const KNOWN: &[u8] =
     b"$argon2i$v=19$m=256,t=2,p=1$c29tZXNhbHQ$iekCn0Y3spW+sCcFanM2xBT63UP2sghkUoHLIUpWRS8";
 
 /// One run of the reference program.
-#[derive(Drop)]
 pub struct ReferenceText {
     pub text: &'static str,
     pub kind: Kind,
@@ -20,7 +19,7 @@ pub struct ReferenceText {
     pub password: &'static str,
 }
 
-pub const ROWS: &[ReferenceText] = &[
+pub static ROWS: [ReferenceText; 6] = [
     ReferenceText {
         text: "$argon2i$v=19$m=256,t=2,p=1$c29tZXNhbHQ$iekCn0Y3spW+sCcFanM2xBT63UP2sghkUoHLIUpWRS8",
         kind: Kind::I,

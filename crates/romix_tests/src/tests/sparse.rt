@@ -1,7 +1,7 @@
 //! Derivations over sparse tables, what they count, and each growth refused in turn.
 ghost use Rattle.std.specs.Prelude.{◌≡◌, ◌-◌, ◌≤◌};
 
-use super::{SCRYPT_CASES, sparse_workspace};
+use super::{SCRYPT_CASES, gives, has_key, sparse_workspace};
 use romix::{Costs, GrantedWords, Limits, Reservation, Sparse, Ticks, Workspace, reserve_from};
 use std::alloc::{AllocError, Global};
 use std::test::Fail;
@@ -14,59 +14,45 @@ const KEY_OF_TWO_PARTS: [u8; 64] = [
     0x91, 0x96, 0xad, 0x39, 0x18, 0x8e, 0xba, 0x3c, 0xd1, 0x33, 0xa9, 0xe7, 0x1c, 0xe7, 0x79, 0xa6,
 ];
 
-#[test]
-fn one_key_with_each_sparse_table(rt: HostRuntime) -> Result<(), Fail> {
-    for keep in [1u64, 2, 4, 8, 16, 32, 64, 128, 256, 512, 1024] {
-        let mut workspace = sparse_workspace(rt.alloc(), 11, 1, 2, keep)?;
-        // a second derivation in the same workspace gives the same key
-        for _ in 0..2u32 {
-            let mut key = [0u8; 64];
-            workspace.derive(
-                b"pleaseletmein",
-                b"SodiumChloride",
-                &mut key,
-                &mut Ticks::new(rt.alloc()),
-            );
-            assert_eq!(rt; key, KEY_OF_TWO_PARTS, "with {keep}");
+// Whether a workspace gives that key, and again in a second derivation.
+fn gives_key_twice(alloc: Global, keep: u64) -> bool {
+    let Some(mut workspace) = sparse_workspace(alloc, 11, 1, 2, keep) else {
+        return false;
+    };
+    let (password, salt) = ("pleaseletmein", "SodiumChloride");
+    let is_first = gives(alloc, &mut workspace, password, salt, &KEY_OF_TWO_PARTS);
+    let is_second = gives(alloc, &mut workspace, password, salt, &KEY_OF_TWO_PARTS);
+    is_first && is_second
+}
+
+// The first number of rows of which one is kept where another key comes.
+fn wrong_keep(alloc: Global) -> Option<u64> {
+    for keep in &[1u64, 2, 4, 8, 16, 32, 64, 128, 256, 512, 1024] {
+        if !gives_key_twice(alloc, *keep) {
+            return Some(*keep);
         }
     }
-    Ok(())
+    None
+}
+
+#[test]
+fn one_key_with_each_sparse_table(rt: HostRuntime) {
+    assert_eq!(rt; wrong_keep(rt.alloc()), None);
 }
 
 // RFC 7914, section 12: the first has N = 16, the second many parts.
 #[test]
-fn vectors_over_sparse_tables(rt: HostRuntime) -> Result<(), Fail> {
-    for (place, keep) in [(0usize, 2u64), (0, 16), (1, 4), (2, 16)] {
-        let case = &SCRYPT_CASES[place];
-        let mut workspace = sparse_workspace(rt.alloc(), case.log_n, case.r, case.p, keep)?;
-        let mut key = [0u8; 64];
-        let password = case.password.as_bytes();
-        workspace.derive(
-            password,
-            case.salt.as_bytes(),
-            &mut key,
-            &mut Ticks::new(rt.alloc()),
-        );
-        assert_eq!(rt; key, case.key, "of {:?} with {keep}", case.password);
-    }
-    Ok(())
+fn vectors_over_sparse_tables(rt: HostRuntime) {
+    assert!(rt; has_key(rt.alloc(), &SCRYPT_CASES[0], 2));
+    assert!(rt; has_key(rt.alloc(), &SCRYPT_CASES[0], 16));
+    assert!(rt; has_key(rt.alloc(), &SCRYPT_CASES[1], 4));
+    assert!(rt; has_key(rt.alloc(), &SCRYPT_CASES[2], 16));
 }
 
 // RFC 7914, section 12, the third, over the sparsest table: sixteen rows of 16,384.
 #[test]
-fn third_vector_over_the_sparsest_table(rt: HostRuntime) -> Result<(), Fail> {
-    let case = &SCRYPT_CASES[2];
-    let mut workspace = sparse_workspace(rt.alloc(), case.log_n, case.r, case.p, 1024)?;
-    let mut key = [0u8; 64];
-    let password = case.password.as_bytes();
-    workspace.derive(
-        password,
-        case.salt.as_bytes(),
-        &mut key,
-        &mut Ticks::new(rt.alloc()),
-    );
-    assert_eq!(rt; key, case.key);
-    Ok(())
+fn third_vector_over_the_sparsest_table(rt: HostRuntime) {
+    assert!(rt; has_key(rt.alloc(), &SCRYPT_CASES[2], 1024));
 }
 
 // What a derivation counts is proved of it; the counts of RFC 7914, section 12's vectors follow.
@@ -106,34 +92,49 @@ fn third_vector_with_16(alloc: Global, workspace: &mut Workspace, key: &mut [u8;
     ticks
 }
 
-#[test]
-fn vectors_whose_counts_are_proved(rt: HostRuntime) -> Result<(), Fail> {
+// Whether these derivations give their keys.
+fn gives_first_key(alloc: Global) -> bool {
+    let Some(mut workspace) = sparse_workspace(alloc, 4, 1, 1, 1) else {
+        return false;
+    };
     let mut key = [0u8; 64];
-    let _ticks = first_vector(
-        rt.alloc(),
-        &mut sparse_workspace(rt.alloc(), 4, 1, 1, 1)?,
-        &mut key,
-    );
-    assert_eq!(rt; key, SCRYPT_CASES[0].key);
-    let _ticks = second_vector(
-        rt.alloc(),
-        &mut sparse_workspace(rt.alloc(), 10, 8, 16, 1)?,
-        &mut key,
-    );
-    assert_eq!(rt; key, SCRYPT_CASES[1].key);
-    let _ticks = third_vector(
-        rt.alloc(),
-        &mut sparse_workspace(rt.alloc(), 14, 8, 1, 1)?,
-        &mut key,
-    );
-    assert_eq!(rt; key, SCRYPT_CASES[2].key);
-    let _ticks = third_vector_with_16(
-        rt.alloc(),
-        &mut sparse_workspace(rt.alloc(), 14, 8, 1, 16)?,
-        &mut key,
-    );
-    assert_eq!(rt; key, SCRYPT_CASES[2].key);
-    Ok(())
+    let _ticks = first_vector(alloc, &mut workspace, &mut key);
+    key == SCRYPT_CASES[0].key
+}
+
+fn gives_second_key(alloc: Global) -> bool {
+    let Some(mut workspace) = sparse_workspace(alloc, 10, 8, 16, 1) else {
+        return false;
+    };
+    let mut key = [0u8; 64];
+    let _ticks = second_vector(alloc, &mut workspace, &mut key);
+    key == SCRYPT_CASES[1].key
+}
+
+fn gives_third_key(alloc: Global) -> bool {
+    let Some(mut workspace) = sparse_workspace(alloc, 14, 8, 1, 1) else {
+        return false;
+    };
+    let mut key = [0u8; 64];
+    let _ticks = third_vector(alloc, &mut workspace, &mut key);
+    key == SCRYPT_CASES[2].key
+}
+
+fn gives_third_key_with_16(alloc: Global) -> bool {
+    let Some(mut workspace) = sparse_workspace(alloc, 14, 8, 1, 16) else {
+        return false;
+    };
+    let mut key = [0u8; 64];
+    let _ticks = third_vector_with_16(alloc, &mut workspace, &mut key);
+    key == SCRYPT_CASES[2].key
+}
+
+#[test]
+fn vectors_whose_counts_are_proved(rt: HostRuntime) {
+    assert!(rt; gives_first_key(rt.alloc()));
+    assert!(rt; gives_second_key(rt.alloc()));
+    assert!(rt; gives_third_key(rt.alloc()));
+    assert!(rt; gives_third_key_with_16(rt.alloc()));
 }
 
 // A source that grants so many requests and refuses the others. Of ten it counts how many are not made, and it keeps the
@@ -203,23 +204,23 @@ fn is_asked_in_turn(
     )
 }
 
+// Whether that is so of each number of requests that are granted.
+fn are_refused_in_turn(alloc: Global, keep: u64, requests: &[usize]) -> Result<bool, Fail> {
+    for granted in 0..=requests.len() {
+        if !is_asked_in_turn(alloc, keep, requests, granted)? {
+            return Ok(false);
+        }
+    }
+    Ok(true)
+}
+
 // Each request is refused in turn, and nothing is asked for after it: the table and two rows where every row is kept,
 // and a third row otherwise. With N = 16 and r = 1 a row has 32 words.
 #[test]
 fn each_growth_may_be_refused(rt: HostRuntime) -> Result<(), Fail> {
-    let rows: [(u64, &[usize]); 4] = [
-        (1, &[512, 32, 32]),
-        (2, &[256, 32, 32, 32]),
-        (4, &[128, 32, 32, 32]),
-        (16, &[32, 32, 32, 32]),
-    ];
-    for (keep, requests) in rows {
-        for granted in 0..=requests.len() {
-            assert!(rt;
-                is_asked_in_turn(rt.alloc(), keep, requests, granted)?,
-                "with {keep}, {granted}"
-            );
-        }
-    }
+    assert!(rt; are_refused_in_turn(rt.alloc(), 1, &[512, 32, 32])?);
+    assert!(rt; are_refused_in_turn(rt.alloc(), 2, &[256, 32, 32, 32])?);
+    assert!(rt; are_refused_in_turn(rt.alloc(), 4, &[128, 32, 32, 32])?);
+    assert!(rt; are_refused_in_turn(rt.alloc(), 16, &[32, 32, 32, 32])?);
     Ok(())
 }

@@ -1,4 +1,4 @@
-use Rattle.std.proofs.Common.{◌≡◌, ℕ, zero, suc, ◌+◌, ◌-◌, ◌<◌, List, [], ◌∷◌, set, slice_index, ap, ◌∙◌, arith}
+use Rattle.std.proofs.Common.{◌≡◌, ℕ, zero, suc, ◌-◌, ◌<◌, List, [], ◌∷◌, set, slice_index, ap, ◌∙◌, arith}
 use Rattle.argon.specs.Filling.{Filling}
 use Rattle.argon.specs.Parameters.{Parameters}
 use Rattle.argon_tests.proofs.tests.examples.slice_in_turn.Goals as goal

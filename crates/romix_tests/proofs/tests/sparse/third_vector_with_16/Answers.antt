@@ -1,5 +1,5 @@
 use Rattle.std.proofs.Common.{◌≡◌, arith, ap}
-use Rattle.romix.specs.SparseCosts.{SparseParameters, cores_bound}
+use Rattle.romix.specs.SparseCosts.{cores_bound}
 use Rattle.romix_tests.proofs.tests.sparse.third_vector_with_16.Goals as goal
 
 pub returns : goal.returns

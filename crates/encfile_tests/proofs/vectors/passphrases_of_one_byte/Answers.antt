@@ -6,10 +6,11 @@ use Rattle.romix.specs.BlockMix.{block_mix, chain_block, every_second_output}
 use Rattle.romix.specs.Romix.{integerify, romix, row_after, table_row}
 use Rattle.romix.specs.Salsa20.{double_rounds, quarter_round, quarter_round_at, quarter_rounds, salsa20_8}
 use Rattle.romix.specs.Scrypt.{mixed_parts, scrypt, words_of}
+use Rattle.encfile.specs.Header.{header}
 use Rattle.encfile.specs.EncryptedFile.{derived_key}
 use Rattle.encfile.specs.Front.{format_refusal, front_refusal, header_refusal, limits_refusal}
-use Rattle.encfile_tests.proofs.vectors.passphrases_of_hello.Goals as goal
+use Rattle.encfile_tests.proofs.vectors.passphrases_of_one_byte.Goals as goal
 
 pub returns : goal.returns
-unfolding first_words schedule rounds compress hash_after digest_bytes sha256 key_block hmac_sha256 joined_blocks pbkdf2 quarter_round quarter_round_at quarter_rounds double_rounds salsa20_8 chain_block every_second_output block_mix integerify table_row row_after romix words_of mixed_parts scrypt derived_key header_refusal format_refusal limits_refusal front_refusal
+unfolding first_words schedule rounds compress hash_after digest_bytes sha256 key_block hmac_sha256 joined_blocks pbkdf2 quarter_round quarter_round_at quarter_rounds double_rounds salsa20_8 chain_block every_second_output block_mix integerify table_row row_after romix words_of mixed_parts scrypt header derived_key header_refusal format_refusal limits_refusal front_refusal
 returns c = record { own = refl; other = refl; end_of_code = refl; limits_first = refl }
