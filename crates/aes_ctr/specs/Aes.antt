@@ -20,14 +20,15 @@ remainder (suc n) a = remainder n (bit_xor a (0x11B * 2 ^ n * bit_at a (n + 8)))
 unfoldable pub product : ℕ → ℕ → ℕ
 product a b = remainder 7 (polynomial_product a b 8)
 
--- the power of a byte with exponent n (4.2)
-unfoldable pub power : ℕ → ℕ → ℕ
-power a zero = 1
-power a (suc n) = product a (power a n)
+-- the product of the powers of a byte with exponents 2, 4, .. 2 ^ n, each the square of the one before it (4.2)
+unfoldable pub product_of_squares : ℕ → ℕ → ℕ
+product_of_squares a zero = 1
+product_of_squares a (suc n) = let square : ℕ = product a a in product square (product_of_squares square n)
 
--- the inverse of a byte, 0 for 0: the bytes but 0 are a group of 255 elements, so it is the power 254 (4.2)
+-- the inverse of a byte, 0 for 0: the bytes but 0 are a group of 255 elements, so it is the power 254 (4.2), where 254 is
+-- 2 + 4 + .. + 2 ^ 7
 unfoldable pub inverse : ℕ → ℕ
-inverse a = power a 254
+inverse a = product_of_squares a 7
 
 -- bit i of the affine transformation of b, with the bits of c = 0x63 (5.1.1)
 abbrev pub affine_bit : ℕ → ℕ → ℕ

@@ -1,12 +1,18 @@
 //! The checker computes the definitions on vectors: each function has no body, and its clause is the vector.
-ghost use Rattle.std.specs.Prelude.{◌≡◌, ◌+◌, ◌-◌, ◌*◌, ◌^◌, [], ◌∷◌, drop};
+ghost use Rattle.std.specs.Prelude.{◌≡◌, ◌+◌, ◌-◌, ◌*◌, ◌^◌, [], ◌∷◌, drop, map, replicate};
 ghost use Rattle.std.specs.List.{range_with_len};
-ghost use Rattle.aes_ctr.specs.Aes.{aes256, key_schedule, product, sub_byte, word_at};
+ghost use Rattle.aes_ctr.specs.Aes.{aes256, inverse, key_schedule, product, sub_byte, word_at};
 ghost use Rattle.aes_ctr.specs.CounterMode.{counter_mode_from, key_stream_block};
 
 // FIPS 197, 4.2
 fn product_of_57_and_83()
     ensures product { product 0x57 0x83 ≡ 0xC1 }
+{}
+
+// FIPS 197, 4.2: the product of a byte and its inverse is 1, for each byte but 0, which stays 0 (5.1.1).
+fn inverses_of_all_bytes()
+    ensures products { map (λ b. product b (inverse b)) (range_with_len 1 255) ≡ replicate 255 1 }
+    ensures of_zero { inverse 0 ≡ 0 }
 {}
 
 // FIPS 197, 5.1.1
@@ -51,12 +57,10 @@ fn key_stream_block_past_2_32()
         ∷ 0x59 ∷ 0xDF ∷ 0xC3 ∷ 0x01 ∷ 0x6C ∷ 0xE4 ∷ 0x07 ∷ 0x33 ∷ [] }
 {}
 
-// A byte 0xFF at place 3 of that block, which is not computed again
+// A byte 0xFF at place 3 of that block
 fn byte_past_2_32_blocks()
     ensures byte { counter_mode_from (range_with_len 0 32) (16 * (2 ^ 32 + 4) + 3) (0xFF ∷ []) ≡ 0x0E ∷ [] }
-{
-    key_stream_block_past_2_32();
-}
+{}
 
 // The byte after the last one of a block is the first of the next block, here of that one, with a byte 0xFF.
 fn byte_of_the_next_block()

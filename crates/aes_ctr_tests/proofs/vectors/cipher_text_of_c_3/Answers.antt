@@ -1,8 +1,7 @@
-use Rattle.std.proofs.Common.{◌∙◌, refl}
-use Rattle.aes_ctr.specs.Aes.{add_round_key, key_words, mix_columns, polynomial_product, product, remainder, shift_rows}
-use Rattle.aes_ctr_tests.proofs.ByTable.{encrypted, last_round, looked_up, next_words, rounds_after, table_byte, temporary_looked_up, words_after}
+use Rattle.std.proofs.Common.{refl}
+use Rattle.aes_ctr.specs.Aes.{add_round_key, aes256, affine_bits, cipher, inverse, key_words, mix_columns, polynomial_product, product, product_of_squares, remainder, schedule_words, shift_rows, state_after, sub_byte, sub_bytes}
 use Rattle.aes_ctr_tests.proofs.vectors.cipher_text_of_c_3.Goals as goal
 
 pub returns : goal.returns
-unfolding add_round_key key_words mix_columns shift_rows product polynomial_product remainder table_byte looked_up temporary_looked_up next_words words_after rounds_after last_round
-returns c = record { cipher_text = encrypted _ _ ∙ refl }
+unfolding aes256 cipher state_after add_round_key mix_columns shift_rows sub_bytes schedule_words key_words sub_byte affine_bits inverse product_of_squares product polynomial_product remainder
+returns c = record { cipher_text = refl }

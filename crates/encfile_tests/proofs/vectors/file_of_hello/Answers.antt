@@ -11,7 +11,7 @@ use Rattle.romix.specs.Romix.{integerify, romix, row_after, table_row}
 use Rattle.romix.specs.Salsa20.{double_rounds, quarter_round, quarter_round_at, quarter_rounds, salsa20_8}
 use Rattle.romix.specs.Scrypt.{mixed_parts, scrypt, words_of}
 use Rattle.aes_ctr.specs.CounterMode.{counter_mode, counter_mode_from, key_stream_block}
-use Rattle.aes_ctr.specs.Aes.{add_round_key, aes256, affine_bits, cipher, inverse, key_words, mix_columns, polynomial_product, power, product, remainder, schedule_words, shift_rows, state_after, sub_byte, sub_bytes}
+use Rattle.aes_ctr.specs.Aes.{add_round_key, aes256, affine_bits, cipher, inverse, key_words, mix_columns, polynomial_product, product, product_of_squares, remainder, schedule_words, shift_rows, state_after, sub_byte, sub_bytes}
 use Rattle.encfile.specs.Header.{bytes_at, costs_of, header, salt_of}
 use Rattle.encfile.specs.EncryptedFile.{body, derived_key, encrypted_file, head, released_text}
 use Rattle.encfile.specs.Vectors.{front_of_hello}
@@ -36,7 +36,7 @@ keys_are = refl
 
 block_is : key_stream_block cipher_bytes 0 ≡
     0xCB ∷ 0xAF ∷ 0x37 ∷ 0x34 ∷ 0x69 ∷ 0xF3 ∷ 0x82 ∷ 0x55 ∷ 0xE3 ∷ 0xB3 ∷ 0x5C ∷ 0x68 ∷ 0x91 ∷ 0x86 ∷ 0xA5 ∷ 0xE9 ∷ []
-unfolding key_stream_block aes256 cipher state_after add_round_key mix_columns shift_rows sub_bytes schedule_words key_words sub_byte affine_bits inverse power product polynomial_product remainder
+unfolding key_stream_block aes256 cipher state_after add_round_key mix_columns shift_rows sub_bytes schedule_words key_words sub_byte affine_bits inverse product_of_squares product polynomial_product remainder
 block_is = refl
 
 abbrev header_bytes : List ℕ
