@@ -1,5 +1,5 @@
 -- Two blocks, one after the other.
-use Rattle.std.proofs.Common.{◌≡◌, ℕ, ◌<◌, List, [], ◌∷◌, ◌++◌, ap, arith, drop, length, length-append, length-drop, map, refl, sym, take, take-append-drop, ◌∙◌}
+use Rattle.std.proofs.Common.{◌≡◌, ℕ, ◌<◌, List, [], ◌∷◌, ◌++◌, ap, arith, drop, length, length-append, length-drop, refl, sym, take, take-append-drop, ◌∙◌}
 use lib.Lanes.{Each1, zip2}
 use Rattle.std.specs.Int.{bit_at}
 use Rattle.std.proofs.lemmas.List.{length-map, length-take-le, map-append}
