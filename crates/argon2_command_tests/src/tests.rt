@@ -12,6 +12,7 @@ use argon::Ticks;
 use argon2_command::{Argon2Refusal, argon2, attempt};
 use memory_host::MemoryHost;
 use std::alloc::Global;
+use std::process::Abort;
 
 const USAGE: &str =
     "argon2: usage: argon2 salt [-i|-d|-id] [-t N] [-m N | -k N] [-p N] [-l N] [-v VERSION] [--maxmem KIB] [--maxops N] (-e|-r)";
@@ -182,12 +183,20 @@ static REFUSALS: [(&str, &str); 50] = [
     ("somesalt -t 4294967295 -e", WORK_LIMIT),
 ];
 
-// The words of a line, which spaces part, or none where memory is refused: then the test fails.
+// Appends the words of a line, which spaces part. The list is another's: to own it over a loop is
+// dearer to prove.
+fn add_words(words: &mut Vec<String>, alloc: Global, line: &str) {
+    for word in line.split_whitespace() {
+        let word = String::from_str(alloc, word).unwrap_or(String::new(alloc));
+        let _ = words.push(word);
+    }
+}
+
+// The words of a line, some of them empty or none where memory is refused: then the test fails.
 fn words(alloc: Global, line: &str) -> Vec<String> {
-    line.split_whitespace()
-        .map(|word| String::from_str(alloc, word))
-        .try_collect(alloc)
-        .unwrap_or(Vec::new(alloc))
+    let mut words = Vec::new(alloc);
+    add_words(&mut words, alloc, line);
+    words
 }
 
 // A host with this standard input. Who makes one lets it go by `drop`: the end of a scope would let go of its parts one
@@ -208,31 +217,39 @@ fn run_line(alloc: Global, line: &str, host: &mut MemoryHost) -> u8
     argon2(alloc, &words(alloc, line), host)
 }
 
-// The line that was said, where it is one.
-fn only_line(host: &MemoryHost) -> Option<&str> {
+// Whether one line is all that was said, or none is.
+fn says(host: &MemoryHost, told: Option<&str>) -> bool {
     match host.lines() {
-        [line] => Some(line.as_str()),
-        _ => None,
+        [] => told.is_none(),
+        [line] => told == Some(line.as_str()),
+        _ => false,
     }
+}
+
+// Fails with the words of a row that is not so. A text is formatted in few places: that is dear to
+// prove.
+fn assert_row(rt: &impl Abort, is_so: bool, line: &str) {
+    assert!(rt; is_so, "{line}");
+}
+
+// Whether a text and a line feed went to standard output.
+fn is_written(host: &MemoryHost, text: &str) -> bool {
+    host.output().strip_suffix(b"\n") == Some(text.as_bytes())
+        && matches!(host.output_name(), Some(None))
+}
+
+// Whether nothing was written, and no output opened.
+fn is_unwritten(host: &MemoryHost) -> bool {
+    host.output().len() == 0 && host.output_name().is_none()
 }
 
 // Whether this is all that comes to the host: a text and a line feed after status 0, or the line of a refusal.
 fn ends(host: &MemoryHost, status: u8, answer: Result<&str, &str>) -> bool {
     let is_so = match answer {
-        Ok(text) => {
-            status == 0
-                && host.output().strip_suffix(b"\n") == Some(text.as_bytes())
-                && host.lines().len() == 0
-                && host.output_name() == Some(None)
-        }
-        Err(told) => {
-            status == 1
-                && host.output().len() == 0
-                && only_line(host) == Some(told)
-                && host.output_name() == None
-        }
+        Ok(text) => status == 0 && is_written(host, text),
+        Err(_) => status == 1 && is_unwritten(host),
     };
-    is_so && host.input_name() == None
+    is_so && says(host, answer.err()) && host.input_name().is_none()
 }
 
 // Whether the words end so over a host that gives this standard input.
@@ -247,14 +264,14 @@ fn runs(alloc: Global, line: &str, stdin: &[u8], answer: Result<&str, &str>) -> 
 #[test]
 fn hashes(rt: HostRuntime) {
     for (line, text) in &HASHES {
-        assert!(rt; runs(rt.alloc(), line, b"password", Ok(*text)), "{line}");
+        assert_row(&rt, runs(rt.alloc(), line, b"password", Ok(*text)), line);
     }
 }
 
 #[test]
 fn refusals(rt: HostRuntime) {
     for (line, told) in &REFUSALS {
-        assert!(rt; runs(rt.alloc(), line, b"password", Err(*told)), "{line}");
+        assert_row(&rt, runs(rt.alloc(), line, b"password", Err(*told)), line);
     }
 }
 
@@ -283,14 +300,13 @@ static PASSWORDS: [(&str, &[u8], Result<&str, &str>); 6] = [
 #[test]
 fn passwords(rt: HostRuntime) {
     for (line, stdin, answer) in &PASSWORDS {
-        assert!(rt; runs(rt.alloc(), line, stdin, *answer), "{line}");
+        assert_row(&rt, runs(rt.alloc(), line, stdin, *answer), line);
     }
 }
 
 // Whether one line was said, if any, and so many bytes of the output written, which was opened or not.
 fn is_broken_off(host: &MemoryHost, told: Option<&str>, written: usize, is_opened: bool) -> bool {
-    only_line(host) == told
-        && host.lines().len() == usize::from(told.is_some())
+    says(host, told)
         && host.output().len() == written
         && TWO_PASSES_LINE.starts_with(host.output())
         && host.output_name().is_some() == is_opened

@@ -17,6 +17,11 @@ pub fn text(alloc: Global, text: &str) -> String {
     String::from_str(alloc, text).unwrap_or(String::new(alloc))
 }
 
+/// Whether what was opened has this name.
+pub fn is_under(opened: Option<Option<&str>>, name: &str) -> bool {
+    opened == Some(Some(name))
+}
+
 /// A new host with this input and this standard input.
 pub fn new_host(alloc: Global, input: &[u8], stdin: &[u8]) -> MemoryHost
     ensures room { AreBelow (2 ^ 63) (memory_faults result) }

@@ -1,11 +1,11 @@
 //! A host in memory: the example at the head of `host`, secrets, pieces, and calls that fail.
-ghost use Rattle.std.specs.Prelude.{◌≡◌, ◌+◌, ◌^◌, ◌<◌, true, None, OnOk};
+ghost use Rattle.std.specs.Prelude.{◌≡◌, ◌+◌, ◌^◌, ◌<◌, true, None};
 ghost use Rattle.host.specs.Faults.{AreBelow};
 ghost use Rattle.memory_host.specs.Memory.{memory_faults};
 
 mod refusing;
 
-use crate::fixtures::{list, new_host, text};
+use crate::fixtures::{is_under, list, new_host, text};
 use host::{Host, HostFault, Source, write_output};
 use memory_host::MemoryHost;
 use std::alloc::Global;
@@ -31,14 +31,24 @@ fn example(rt: HostRuntime) {
     assert!(rt; is_copied);
 }
 
+// Gives the variable PW this value.
+fn set_variable(alloc: Global, host: &mut MemoryHost, value: &[u8])
+    requires room { AreBelow (2 ^ 63) (memory_faults host.old) }
+    requires unasked { host.old.asked ≡ None }
+    ensures room { AreBelow (2 ^ 63) (memory_faults host.new) }
+    ensures unasked { host.new.asked ≡ None }
+{
+    let _ = host.set_env(text(alloc, "PW"), list(alloc, value));
+}
+
 // A host that has three secrets.
 fn with_secrets(alloc: Global) -> MemoryHost
     ensures room { AreBelow (2 ^ 63) (memory_faults result) }
     ensures unasked { result.asked ≡ None }
 {
     let mut host = new_host(alloc, b"", b"typed");
-    let _ = host.set_env(text(alloc, "PW"), list(alloc, b"first"));
-    let _ = host.set_env(text(alloc, "PW"), list(alloc, b"second"));
+    set_variable(alloc, &mut host, b"first");
+    set_variable(alloc, &mut host, b"second");
     let _ = host.set_file(text(alloc, "pw"), list(alloc, b"long file"));
     host
 }
@@ -55,59 +65,63 @@ fn gives(alloc: Global, source: Source<'_>, text: Option<&[u8]>) -> bool {
     }
 }
 
+// Sources and what they give.
+static SECRETS: [(Source<'static>, Option<&[u8]>); 5] = [
+    (Source::StdinOnce, Some(b"typed")),
+    (Source::Env("PW"), Some(b"second")),
+    (Source::File("pw"), Some(b"long f")),
+    (Source::Env("pw"), None),
+    (Source::File("PW"), None),
+];
+
 #[test]
 fn gives_secrets(rt: HostRuntime) {
-    let rows = [
-        (Source::StdinOnce, Some(b"typed".as_slice())),
-        (Source::Env("PW"), Some(b"second")),
-        (Source::File("pw"), Some(b"long f")),
-        (Source::Env("pw"), None),
-        (Source::File("PW"), None),
-    ];
-    for (source, text) in rows {
-        assert!(rt; gives(rt.alloc(), source, text), "{source:?}");
+    for (source, text) in &SECRETS {
+        assert!(rt; gives(rt.alloc(), *source, *text), "{source:?}");
     }
 }
 
-// How many bytes a pull of at most so many puts into a buffer, where it is some.
-fn pulled(host: &mut MemoryHost, most: usize, buf: &mut [u8; 4]) -> Result<usize, HostFault>
+// Whether a pull of at most so many bytes gives so many, and some, and leaves this in a buffer.
+fn is_pulled(
+    host: &mut MemoryHost,
+    most: usize,
+    buf: &mut [u8; 4],
+    given: (usize, &[u8; 4]),
+) -> bool
     requires at_least_1 { 0 < most }
     requires room { AreBelow (2 ^ 63) (memory_faults host.old) }
     requires readable { host.old.readable ≡ true }
-    ensures faults { OnOk result (memory_faults host.new ≡ memory_faults host.old) }
-    ensures readable { OnOk result (host.new.readable ≡ true) }
+    ensures faults { result ≡ true → memory_faults host.new ≡ memory_faults host.old }
+    ensures readable { result ≡ true → host.new.readable ≡ true }
 {
+    let (count, after) = given;
     host.set_sizes(most, 1);
-    let n = host.pull(buf)?;
-    if n == 0 {
-        return Err(HostFault);
-    }
-    Ok(n)
+    let Ok(n) = host.pull(buf) else {
+        return false;
+    };
+    n == count && n != 0 && *buf == *after
 }
 
-// What four pulls give, of which the first three give some bytes, and the buffer after each.
-type Pieces = [(usize, [u8; 4]); 4];
-
-fn pulls(host: &mut MemoryHost) -> Result<Pieces, HostFault>
+// Whether four pulls give an input, the last of which gives nothing.
+fn is_given(host: &mut MemoryHost) -> bool
     requires room { AreBelow (2 ^ 63) (memory_faults host.old) }
     requires unopened { host.old.input_opened ≡ None }
 {
-    host.open_input(None)?;
     let mut buf = [0u8; 4];
-    let first = (pulled(host, 3, &mut buf)?, buf);
-    let second = (pulled(host, 9, &mut buf)?, buf);
-    let third = (pulled(host, 9, &mut buf)?, buf);
-    let last = (host.pull(&mut buf)?, buf);
-    Ok([first, second, third, last])
+    host.open_input(None).is_ok()
+        && is_pulled(host, 3, &mut buf, (3, b"the\0"))
+        && is_pulled(host, 9, &mut buf, (4, b" inp"))
+        && is_pulled(host, 9, &mut buf, (2, b"utnp"))
+        && host.pull(&mut buf) == Ok(0)
+        && buf == *b"utnp"
 }
 
 #[test]
 fn gives_the_input_piece_by_piece(rt: HostRuntime) {
     let mut host = new_host(rt.alloc(), b"the input", b"");
-    let given = pulls(&mut host);
+    let is_given = is_given(&mut host);
     drop(host);
-    let pieces = [(3, *b"the\0"), (4, *b" inp"), (2, *b"utnp"), (0, *b"utnp")];
-    assert_eq!(rt; given, Ok(pieces));
+    assert!(rt; is_given);
 }
 
 // What comes of asking for the salt where this call fails, and what is in its place then.
@@ -122,9 +136,8 @@ fn salt(alloc: Global, failing: u64) -> (Result<(), HostFault>, [u8; 32]) {
 
 #[test]
 fn gives_the_salt(rt: HostRuntime) {
-    for (failing, outcome, filled) in [(0, Ok(()), [7; 32]), (1, Err(HostFault), [0; 32])] {
-        assert!(rt; salt(rt.alloc(), failing) == (outcome, filled));
-    }
+    assert!(rt; salt(rt.alloc(), 0) == (Ok(()), [7; 32]));
+    assert!(rt; salt(rt.alloc(), 1) == (Err(HostFault), [0; 32]));
 }
 
 // Whether a first opening of the input fails, and leaves no name.
@@ -145,7 +158,7 @@ fn is_left_whole(host: &mut MemoryHost) -> bool
 {
     let mut buf = [0u8; 4];
     host.fail_at(3);
-    host.input_name() == Some(Some("in"))
+    is_under(host.input_name(), "in")
         && host.pull(&mut buf) == Err(HostFault)
         && buf == [0; 4]
         && host.unread_input() == b"in".as_slice()
@@ -167,36 +180,42 @@ fn fails_at_each_call_of_the_input(rt: HostRuntime) {
     assert!(rt; is_so);
 }
 
-// What two pushes and a line answer.
-type Answers = (usize, Result<usize, HostFault>, Result<(), HostFault>);
-
-// Calls of a host, of which the third fails.
-fn answers(host: &mut MemoryHost) -> Result<Answers, HostFault>
+// Whether two bytes are pushed, no more are, and a line is said, where a host's third call fails.
+fn goes_on(host: &mut MemoryHost) -> bool
     requires room { AreBelow (2 ^ 63) (memory_faults host.old) }
     requires unasked { host.old.output_asked ≡ None }
 {
     host.set_sizes(1, 2);
     host.fail_at(3);
-    host.open_output(Some("out"))?;
-    let first = host.push(b"abc")?;
+    if host.open_output(Some("out")).is_err() {
+        return false;
+    }
+    let Ok(2) = host.push(b"abc") else {
+        return false;
+    };
     let second = host.push(b"c");
-    Ok((first, second, host.say("told")))
+    host.say("told") == Ok(()) && second == Err(HostFault)
+}
+
+// Whether this line alone was said.
+fn says(host: &MemoryHost, told: &str) -> bool {
+    matches!(host.lines(), [line] if line.as_str() == told)
 }
 
 // Whether a host has what they leave.
 fn is_left(host: &MemoryHost) -> bool {
     host.output() == b"ab".as_slice()
-        && host.output_name() == Some(Some("out"))
+        && is_under(host.output_name(), "out")
         && host.input_name().is_none()
-        && matches!(host.lines(), [line] if line.as_str() == "told")
+        && says(host, "told")
 }
 
 #[test]
 fn fails_at_the_call_named(rt: HostRuntime) {
     let mut host = new_host(rt.alloc(), b"", b"");
-    let answers = answers(&mut host);
+    let goes_on = goes_on(&mut host);
     let is_left = is_left(&host);
     drop(host);
-    assert_eq!(rt; answers, Ok((2, Err(HostFault), Ok(()))));
+    assert!(rt; goes_on);
     assert!(rt; is_left);
 }

@@ -8,6 +8,7 @@ ghost use Rattle.host.specs.HostState.{IsUnasked};
 use memory_host::MemoryHost;
 use scrypt_command::scrypt;
 use std::alloc::Global;
+use std::process::Abort;
 
 // The passphrase is `pw`, N is 16, r and p are 1, and the salt is 0 to 31.
 const FRONT: &str =
@@ -115,20 +116,39 @@ struct End<'a> {
     is_opened: bool,
 }
 
-// The words of a line, which spaces part.
-fn words(alloc: Global, line: &str) -> Vec<String> {
-    line.split_whitespace()
-        .map(|word| String::from_str(alloc, word))
-        .try_collect(alloc)
-        .unwrap_or(Vec::new(alloc))
+// Appends the words of a line, which spaces part. The list is another's: to own it over a loop is
+// dearer to prove.
+fn add_words(words: &mut Vec<String>, alloc: Global, line: &str) {
+    for word in line.split_whitespace() {
+        let _ = words.push(text(alloc, word));
+    }
 }
 
-// The line that was said, where it is one.
-fn only_line(host: &MemoryHost) -> Option<&str> {
+// The words of a line.
+fn words(alloc: Global, line: &str) -> Vec<String> {
+    let mut words = Vec::new(alloc);
+    add_words(&mut words, alloc, line);
+    words
+}
+
+// Whether one line is all that was said, or none is.
+fn says(host: &MemoryHost, told: Option<&str>) -> bool {
     match host.lines() {
-        [line] => Some(line.as_str()),
-        _ => None,
+        [] => told.is_none(),
+        [line] => told == Some(line.as_str()),
+        _ => false,
     }
+}
+
+// Fails with the words of a row that is not so. A text is formatted in few places: that is dear to
+// prove.
+fn assert_row(rt: &impl Abort, is_so: bool, line: &str) {
+    assert!(rt; is_so, "{line}");
+}
+
+// The same with a number of the row.
+fn assert_number(rt: &impl Abort, is_so: bool, number: u64) {
+    assert!(rt; is_so, "{number}");
 }
 
 // The end of a run with status 0.
@@ -149,6 +169,11 @@ fn refused(line: &str) -> End<'_> {
     }
 }
 
+// The first bytes, or none where there are not so many.
+fn front(bytes: &[u8], count: usize) -> &[u8] {
+    bytes.get(..count).unwrap_or(&[])
+}
+
 // The line of a refusal, how much was written before it, and whether the output was opened.
 type Broken = (&'static str, usize, bool);
 
@@ -156,7 +181,7 @@ type Broken = (&'static str, usize, bool);
 fn broken_off<'a>((told, written, is_opened): Broken, whole: &'a [u8]) -> End<'a> {
     End {
         line: Some(told),
-        output: whole.get(..written).unwrap_or(&[]),
+        output: front(whole, written),
         is_opened,
     }
 }
@@ -166,8 +191,7 @@ fn ends(host: &MemoryHost, status: u8, end: End<'_>) -> bool {
     status == u8::from(end.line.is_some())
         && host.output() == end.output
         && host.output_name().is_some() == end.is_opened
-        && only_line(host) == end.line
-        && host.lines().len() == usize::from(end.line.is_some())
+        && says(host, end.line)
 }
 
 // The status of a run of the words of a line.
@@ -202,6 +226,13 @@ fn row_runs(alloc: Global, row: &RunCase) -> bool {
         Err(told) => refused(told),
     };
     runs(alloc, line, passphrase, &file(alloc, REST_OF_HELLO), end)
+}
+
+// Each row of a table.
+fn assert_rows(rt: &impl Abort, alloc: Global, rows: &[RunCase]) {
+    for row in rows {
+        assert_row(rt, row_runs(alloc, row), row.0);
+    }
 }
 
 // Words and passphrases that make a file. The salt of the host is the one that the words give.
@@ -251,11 +282,30 @@ static NAMES: [(&str, Option<&str>, Option<&str>); 6] = [
     ("info -", None, None),
 ];
 
-// Whether a run over the file of `hello` opens these.
+// Whether what was opened has this name, or is without one.
+fn is_under(opened: Option<Option<&str>>, name: Option<&str>) -> bool {
+    opened == Some(name)
+}
+
+// Whether input and output were opened under these.
+fn has_opened(host: &MemoryHost, input: Option<&str>, output: Option<&str>) -> bool {
+    is_under(host.input_name(), input) && is_under(host.output_name(), output)
+}
+
+// A host with the file of `hello`.
+fn host_of_hello(alloc: Global, passphrase: &[u8]) -> MemoryHost
+    ensures room { AreBelow (2 ^ 63) (memory_faults result) }
+    ensures fresh { IsUnasked (memory_seen result) }
+{
+    let file = file(alloc, REST_OF_HELLO);
+    host_with(alloc, &file, passphrase)
+}
+
+// Whether a run over that file opens these.
 fn opens(alloc: Global, line: &str, input: Option<&str>, output: Option<&str>) -> bool {
-    let mut host = host_with(alloc, &file(alloc, REST_OF_HELLO), b"pw\n");
+    let mut host = host_of_hello(alloc, b"pw\n");
     let status = run_line(alloc, line, &mut host);
-    let are_so = host.input_name() == Some(input) && host.output_name() == Some(output);
+    let are_so = has_opened(&host, input, output);
     drop(host);
     status == 0 && are_so
 }
@@ -263,7 +313,7 @@ fn opens(alloc: Global, line: &str, input: Option<&str>, output: Option<&str>) -
 #[test]
 fn names(rt: HostRuntime) {
     for (line, input, output) in &NAMES {
-        assert!(rt; opens(rt.alloc(), line, *input, *output), "{line}");
+        assert_row(&rt, opens(rt.alloc(), line, *input, *output), line);
     }
 }
 
@@ -280,14 +330,14 @@ static CUTS: [(usize, Broken); 6] = [
 // Whether `dec` ends so where the file of `hello` is cut to this length.
 fn is_cut(alloc: Global, length: usize, how: Broken) -> bool {
     let file = file(alloc, REST_OF_HELLO);
-    let cut = file.get(..length).unwrap_or(&[]);
+    let cut = front(&file, length);
     runs(alloc, OPEN, b"pw\n", cut, broken_off(how, b"hello"))
 }
 
 #[test]
 fn files_that_are_cut(rt: HostRuntime) {
     for (length, how) in &CUTS {
-        assert!(rt; is_cut(rt.alloc(), *length, *how), "{length}");
+        assert_number(&rt, is_cut(rt.alloc(), *length, *how), *length as u64);
     }
 }
 
@@ -300,9 +350,7 @@ fn longer_file(alloc: Global) -> Vec<u8> {
 
 // Whether a run of status 1 said that the input is damaged, and wrote `hello` and a byte more.
 fn is_damaged_after_hello(host: &MemoryHost) -> bool {
-    only_line(host) == Some(DAMAGED)
-        && host.output().len() == 6
-        && host.output().starts_with(b"hello")
+    says(host, Some(DAMAGED)) && host.output().len() == 6 && host.output().starts_with(b"hello")
 }
 
 // Whether `dec` of the longer file ends so: its last 32 bytes are no code, and the byte before them is released.
@@ -346,7 +394,7 @@ fn is_noticed(alloc: Global, place: usize, how: Broken) -> bool {
 #[test]
 fn files_that_are_changed(rt: HostRuntime) {
     for (place, how) in &CHANGES {
-        assert!(rt; is_noticed(rt.alloc(), *place, *how), "{place}");
+        assert_number(&rt, is_noticed(rt.alloc(), *place, *how), *place as u64);
     }
 }
 
@@ -397,9 +445,7 @@ static LIMITS: [RunCase; 21] = [
 
 #[test]
 fn limits(rt: HostRuntime) {
-    for row in &LIMITS {
-        assert!(rt; row_runs(rt.alloc(), row), "{}", row.0);
-    }
+    assert_rows(&rt, rt.alloc(), &LIMITS);
 }
 
 const HUGE_SHOWN: &[u8] =
@@ -485,9 +531,7 @@ static PASSPHRASES: [RunCase; 11] = [
 
 #[test]
 fn passphrases(rt: HostRuntime) {
-    for row in &PASSPHRASES {
-        assert!(rt; row_runs(rt.alloc(), row), "{}", row.0);
-    }
+    assert_rows(&rt, rt.alloc(), &PASSPHRASES);
 }
 
 // Words that are refused: nothing is read and nothing is opened.
@@ -504,7 +548,7 @@ static WORDS: [(&str, &str); 8] = [
 
 // Whether that alone came of a run.
 fn is_told_alone(host: &MemoryHost, told: &str) -> bool {
-    only_line(host) == Some(told) && host.input_name().is_none() && host.output_name().is_none()
+    says(host, Some(told)) && host.input_name().is_none() && host.output_name().is_none()
 }
 
 // Whether words are refused by this line.
@@ -519,7 +563,7 @@ fn is_refused(alloc: Global, line: &str, told: &str) -> bool {
 #[test]
 fn words_that_are_refused(rt: HostRuntime) {
     for (line, told) in &WORDS {
-        assert!(rt; is_refused(rt.alloc(), line, told), "{line}");
+        assert_row(&rt, is_refused(rt.alloc(), line, told), line);
     }
 }
 
@@ -593,7 +637,7 @@ fn dec_ends(alloc: Global, call: u64, end: End<'_>) -> bool {
 fn each_host_call_of_dec_fails(rt: HostRuntime) {
     for call in 1..=142u64 {
         let end = broken_off(broken_dec(call), b"hello");
-        assert!(rt; dec_ends(rt.alloc(), call, end), "{call}");
+        assert_number(&rt, dec_ends(rt.alloc(), call, end), call);
     }
     // there is no further call
     assert!(rt; dec_ends(rt.alloc(), 143, done(b"hello")));
@@ -624,7 +668,7 @@ const HOST_SALT: &str = "enc --logN 4 -r 1 -p 1 -P in";
 fn each_host_call_of_enc_fails(rt: HostRuntime) {
     for call in 1..=143u64 {
         let how = Some(broken_enc(call));
-        assert!(rt; enc_ends(rt.alloc(), HOST_SALT, 1, call, how), "{call}");
+        assert_number(&rt, enc_ends(rt.alloc(), HOST_SALT, 1, call, how), call);
     }
     // there is no further call
     assert!(rt; enc_ends(rt.alloc(), HOST_SALT, 1, 144, None));
@@ -654,10 +698,8 @@ static BROKEN_BY_WHOLE_PUSHES: [(u64, Broken); 16] = [
 #[test]
 fn each_host_call_of_enc_by_whole_pushes_fails(rt: HostRuntime) {
     for (call, how) in &BROKEN_BY_WHOLE_PUSHES {
-        assert!(rt;
-            enc_ends(rt.alloc(), NEW_FILE, usize::MAX, *call, Some(*how)),
-            "{call}"
-        );
+        let is_so = enc_ends(rt.alloc(), NEW_FILE, usize::MAX, *call, Some(*how));
+        assert_number(&rt, is_so, *call);
     }
     // there is no further call
     assert!(rt; enc_ends(rt.alloc(), NEW_FILE, usize::MAX, 17, None));
@@ -672,15 +714,12 @@ static UNSAID: [(u64, Option<&str>); 3] = [
 
 // Whether nothing is opened nor written, and this alone is said.
 fn is_said_alone(host: &MemoryHost, told: Option<&str>) -> bool {
-    only_line(host) == told
-        && host.lines().len() == usize::from(told.is_some())
-        && host.output().is_empty()
-        && host.output_name().is_none()
+    says(host, told) && host.output().is_empty() && host.output_name().is_none()
 }
 
 // Whether that is so where this call fails.
 fn says_only(alloc: Global, call: u64, told: Option<&str>) -> bool {
-    let mut host = host_with(alloc, &file(alloc, REST_OF_HELLO), b"pv\n");
+    let mut host = host_of_hello(alloc, b"pv\n");
     host.set_sizes(1, usize::MAX);
     host.fail_at(call);
     let status = run_line(alloc, OPEN, &mut host);
@@ -692,22 +731,22 @@ fn says_only(alloc: Global, call: u64, told: Option<&str>) -> bool {
 #[test]
 fn line_of_a_wrong_passphrase_is_not_said(rt: HostRuntime) {
     for (call, told) in &UNSAID {
-        assert!(rt; says_only(rt.alloc(), *call, *told), "{call}");
+        assert_number(&rt, says_only(rt.alloc(), *call, *told), *call);
     }
 }
 
-// The status of a run without words whose line cannot be said, and how many lines were.
-fn unsaid(alloc: Global) -> (u8, usize) {
+// Whether a run without words, whose line cannot be said, has status 1 and says no line.
+fn is_silent(alloc: Global) -> bool {
     let mut host = host_with(alloc, b"", b"");
     host.fail_at(1);
     let status = run_line(alloc, "", &mut host);
     let count = host.lines().len();
     drop(host);
-    (status, count)
+    status == 1 && count == 0
 }
 
 // A line that cannot be said is passed over.
 #[test]
 fn says_nothing(rt: HostRuntime) {
-    assert_eq!(rt; unsaid(rt.alloc()), (1, 0));
+    assert!(rt; is_silent(rt.alloc()));
 }

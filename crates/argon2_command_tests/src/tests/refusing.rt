@@ -8,7 +8,7 @@ use argon2_words::{Request, Settings};
 use std::alloc::{AllocError, Global};
 
 /// A request for memory.
-#[derive(Clone, Copy, Debug, PartialEq, Eq)]
+#[derive(Clone, Copy, PartialEq, Eq)]
 pub enum Asked {
     Zeros,
     Line,

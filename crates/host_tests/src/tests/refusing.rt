@@ -3,7 +3,7 @@ ghost use Rattle.std.specs.Prelude.{◌≡◌, ◌+◌, ◌^◌, None};
 ghost use Rattle.host.specs.Faults.{AreBelow};
 ghost use Rattle.memory_host.specs.Memory.{memory_faults};
 
-use crate::fixtures::{list, new_host, text};
+use crate::fixtures::{is_under, list, new_host, text};
 use host::{Host, Source};
 use memory_host::{GrowthMemory, MemoryHost, NamedSecret};
 use std::alloc::{AllocError, Global};
@@ -105,8 +105,8 @@ fn is_seen(host: &mut MemoryHost, call: Call) -> bool
     match call {
         Call::SetVariable => host.secret(Source::Env("pw"), &mut [0; 6]) == Ok(6),
         Call::SetFile => host.secret(Source::File("pw"), &mut [0; 6]) == Ok(6),
-        Call::OpenInput => host.input_name() == Some(Some("in")),
-        Call::OpenOutput => host.output_name() == Some(Some("out")),
+        Call::OpenInput => is_under(host.input_name(), "in"),
+        Call::OpenOutput => is_under(host.output_name(), "out"),
         Call::Push => host.output() == b"text".as_slice(),
         Call::Say => host.lines().len() == 1,
     }

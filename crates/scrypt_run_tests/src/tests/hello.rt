@@ -1,8 +1,10 @@
 //! A text that is encrypted, whatever the sizes of pulls and pushes.
-use host::Source;
-use memory_host::MemoryHost;
-use romix::{Costs, Limits, Ticks};
-use scrypt_run::{Encryption, Request, Task, run};
+ghost use Rattle.scrypt_request.specs.Request.{IsAllowed, request_seen};
+
+use super::{TASK, is_run, new_host};
+use romix::Costs;
+use scrypt_run::{Encryption, Request};
+use std::alloc::Global;
 use std::test::Fail;
 
 // The salt 00 01 .. 1f.
@@ -26,42 +28,45 @@ const HELLO_FILE: &[u8] = &[
 ];
 
 // The most bytes that one pull and one push take.
-const SIZES: &[(usize, usize)] = &[(1, 1), (3, 100), (200, 7), (5000, 5000)];
+static SIZES: [(usize, usize); 4] = [(1, 1), (3, 100), (200, 7), (5000, 5000)];
 
 // The given salt, and that of the host.
-const SALTS: &[(Option<[u8; 32]>, [u8; 32])] = &[(Some(SALT), [7; 32]), (None, SALT)];
+type Salts = (Option<[u8; 32]>, [u8; 32]);
+
+static SALTS: [Salts; 2] = [(Some(SALT), [7; 32]), (None, SALT)];
+
+// Whether a request over a host with this salt and these sizes writes the file.
+fn is_written(alloc: Global, request: &Request<'_>, salt: [u8; 32], sizes: (usize, usize)) -> bool
+    requires allowed { IsAllowed (request_seen request.now) }
+{
+    let (pull, push) = sizes;
+    let mut host = new_host(alloc, b"hello", b"pw\r\nmore", salt);
+    host.set_sizes(pull.max(1), push.max(1));
+    let is_so = is_run(alloc, &mut host, request) && host.output() == HELLO_FILE;
+    drop(host);
+    is_so
+}
+
+// The same with each of the sizes.
+fn is_written_by_each_size(alloc: Global, costs: Costs, (given, of_host): &Salts) -> bool {
+    let request = Request::Encrypt(Encryption {
+        costs,
+        salt: *given,
+        task: TASK,
+    });
+    for sizes in &SIZES {
+        if !is_written(alloc, &request, *of_host, *sizes) {
+            return false;
+        }
+    }
+    true
+}
 
 #[test]
 fn writes_the_file_of_hello(rt: HostRuntime) -> Result<(), Fail> {
-    let alloc = rt.alloc();
-    let Ok(costs) = Costs::new(4, 1, 1) else {
-        panic!(rt; "costs out of range");
-    };
-    for (given, of_host) in SALTS {
-        for (pull, push) in SIZES {
-            let request = Request::Encrypt(Encryption {
-                costs,
-                salt: *given,
-                task: Task {
-                    limits: Limits {
-                        max_bytes: 1 << 20,
-                        max_ops: 1 << 20,
-                    },
-                    keep: 1,
-                    source: Source::StdinOnce,
-                    infile: Some("in"),
-                    outfile: Some("out"),
-                },
-            });
-            let input = b"hello".to_vec(alloc)?;
-            let stdin = b"pw\r\nmore".to_vec(alloc)?;
-            let mut host = MemoryHost::new(alloc, input, stdin, *of_host);
-            host.set_sizes(*pull, *push);
-            let mut memory = alloc;
-            let mut ticks = Ticks::new(alloc);
-            assert_eq!(rt; run(&mut memory, &mut host, &request, &mut ticks), Ok(()));
-            assert_eq!(rt; host.output(), HELLO_FILE);
-        }
+    let costs = Costs::new(4, 1, 1)?;
+    for salts in &SALTS {
+        assert!(rt; is_written_by_each_size(rt.alloc(), costs, salts));
     }
     Ok(())
 }
