@@ -62,7 +62,7 @@ def build(checks, folder):
     for higher in pathlib.Path(folder, "lib/glibc-hwcaps").glob("*"):
         binaries.shared_library(checks, str(higher / "libpikhsen.so.0"), sorted(prototypes(HEADER)), True)
         status, said_there = ran(TOP / "tests/library/python_module.py", higher)
-        checks.that(f"the module over that for {higher.name}", (status, said_there.splitlines()[:-1]), (0, []))
+        checks.that(f"the module over that for {higher.name}", (status, said_there if status else ""), (0, ""))
     return f"{folder}/lib"
 
 
