@@ -30,9 +30,11 @@ linked() {
     mkdir -p "$1"
     ld -r -o "$work/pikhsen.o" --whole-archive "$archive" "$kit/c/liblibc_c.a"
     objcopy --wildcard --keep-global-symbol='pikhsen_*' --remove-section=.comment "$work/pikhsen.o"
-    # --build-id=none and no start files: nothing of the machine at hand is in it.
+    # --build-id=none and no start files: nothing of the machine at hand is in it. A function of it that calls another of
+    # it reaches no other's of that name.
     cc -shared -nostartfiles -Wl,-soname,libpikhsen.so.0 -Wl,--version-script=packaging/pikhsen.map -Wl,-z,defs \
-        -Wl,-z,now -Wl,-z,noexecstack -Wl,--build-id=none -o "$1/libpikhsen.so.0" "$work/pikhsen.o"
+        -Wl,-z,now -Wl,-z,noexecstack -Wl,--build-id=none -Wl,-Bsymbolic-functions -o "$1/libpikhsen.so.0" \
+        "$work/pikhsen.o"
 }
 
 for level in "${@:-}"; do

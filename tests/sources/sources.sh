@@ -98,13 +98,14 @@ in_c() {
     for file in "$@"; do set -- "$@" "crates/pikhsen_c/src/$file.rt" && shift; done
     expect_below crates/pikhsen_c "$text" "$reason" "$@"
 }
-in_c 'source.matrix(&params, settings.max_kib, settings.max_ops)' "a matrix is for a hash" argon2 encoded
+in_c 'source.matrix(&params, limits.max_kib, limits.max_ops)' "a matrix is for a hash" argon2 encoded
 in_c '.matrix(' "a matrix is for a hash" argon2 encoded
 in_c '.text(' "a text is for the text of a hash" encoded
 in_c '.workspace(' "the memory of a derivation is taken in one place" scrypt
-in_c '.read(' "a text is read for its settings and for the test of a password" settings settings verifying
-# Nothing comes after the zeros over the stack.
-! found=$(cd "$code" && sed 's/wipe_stack(told,machine)}//g' crates/pikhsen_c/src/[!w]*.rt | grep -oE '.{0,40}\bwipe_stack\(.{0,40}') ||
+in_c '.read(' "a text is read for its settings and for the test of a password" settings verifying
+# Nothing comes after the zeros over the stack, and nothing after a call of another function for C, which puts them there.
+last='s/\b(wipe_stack\(told,machine|pikhsen_\w+\(machine,[^()]*)\)\}//g; s/\bfn pikhsen_\w+\(//g'
+! found=$(cd "$code" && sed -E "$last" crates/pikhsen_c/src/[!w]*.rt | grep -oE '.{0,40}\b(wipe_stack|pikhsen_\w+)\(.{0,40}') ||
     fail "something comes after zeros were put over the stack: $found"
 expect 'Drop for ' "a drop at the end of a function for C comes after the zeros over the stack" \
     crates/argon/src/blocks.rt crates/romix/src/words.rt

@@ -5,26 +5,26 @@ use Rattle.std.proofs.lemmas.List.{length-map}
 use Rattle.std.proofs.lemmas.Nat.{xor_lt}
 use Rattle.std.proofs.lemmas.Nat.Bits.{same_from_bits_below}
 use Rattle.std.proofs.lemmas.Simd.{Each1-get_or, Each1-zip2, Each2-of, length-zip2}
-use Rattle.aes_ctr.specs.Aes.{add_round_key, byte_at, mix_columns, product, shift_rows, state_of, sub_byte, sub_bytes}
-use Rattle.aes_ctr.specs.Planes.{AreBytes, IsBlock, bits, round_key}
-use Rattle.aes_ctr.specs.Inside.PlaneSteps.{rows_below}
+use Rattle.aes_ctr.specs.Aes.{add_round_key, byte_at, mix_columns, product, shift_rows, aes_state_of_entries, sub_byte, sub_bytes}
+use Rattle.aes_ctr.specs.Planes.{AreBytes, IsAesBlock, bits, round_key}
+use Rattle.aes_ctr.specs.Inside.PlaneSteps.{row_below_in_plane}
 use Rattle.aes_ctr.proofs.Bytes.{product_two-lt, sub_byte-lt}
 use Rattle.aes_ctr.proofs.Doubles.{mix_columns-pairs, pairs}
 use Rattle.aes_ctr.proofs.Sixteen.{map-sub_byte, xor-round_key}
 
-IsBlock-state_of : (entry : ℕ → ℕ → ℕ) → ((row column : ℕ) → row < 4 → column < 4 → entry row column < 256) → IsBlock (state_of entry)
-IsBlock-state_of entry e = (refl, (e 0 0 (omega arith) (omega arith), (e 1 0 (omega arith) (omega arith), (e 2 0 (omega arith) (omega arith), (e 3 0 (omega arith) (omega arith), (e 0 1 (omega arith) (omega arith), (e 1 1 (omega arith) (omega arith), (e 2 1 (omega arith) (omega arith), (e 3 1 (omega arith) (omega arith), (e 0 2 (omega arith) (omega arith), (e 1 2 (omega arith) (omega arith), (e 2 2 (omega arith) (omega arith), (e 3 2 (omega arith) (omega arith), (e 0 3 (omega arith) (omega arith), (e 1 3 (omega arith) (omega arith), (e 2 3 (omega arith) (omega arith), (e 3 3 (omega arith) (omega arith), tt)))))))))))))))))
+IsAesBlock-aes_state_of_entries : (entry : ℕ → ℕ → ℕ) → ((row column : ℕ) → row < 4 → column < 4 → entry row column < 256) → IsAesBlock (aes_state_of_entries entry)
+IsAesBlock-aes_state_of_entries entry e = (refl, (e 0 0 (omega arith) (omega arith), (e 1 0 (omega arith) (omega arith), (e 2 0 (omega arith) (omega arith), (e 3 0 (omega arith) (omega arith), (e 0 1 (omega arith) (omega arith), (e 1 1 (omega arith) (omega arith), (e 2 1 (omega arith) (omega arith), (e 3 1 (omega arith) (omega arith), (e 0 2 (omega arith) (omega arith), (e 1 2 (omega arith) (omega arith), (e 2 2 (omega arith) (omega arith), (e 3 2 (omega arith) (omega arith), (e 0 3 (omega arith) (omega arith), (e 1 3 (omega arith) (omega arith), (e 2 3 (omega arith) (omega arith), (e 3 3 (omega arith) (omega arith), tt)))))))))))))))))
 
-byte_at-lt : (x : List ℕ) → IsBlock x → (row column : ℕ) → row < 4 → column < 4 → byte_at x row column < 256
+byte_at-lt : (x : List ℕ) → IsAesBlock x → (row column : ℕ) → row < 4 → column < 4 → byte_at x row column < 256
 byte_at-lt x ok row column h i = Each1-get_or (λ a. a < 256) x (row + 4 * column) 0 (omega (arith, ok.0)) ok.1
 
-pub IsBlock-shift_rows : (x : List ℕ) → IsBlock x → IsBlock (shift_rows x)
+pub IsAesBlock-shift_rows : (x : List ℕ) → IsAesBlock x → IsAesBlock (shift_rows x)
 unfolding shift_rows
-IsBlock-shift_rows x ok = IsBlock-state_of (λ row column. byte_at x row ((column + row) % 4)) (λ row column h i. byte_at-lt x ok row ((column + row) % 4) h (omega arith))
+IsAesBlock-shift_rows x ok = IsAesBlock-aes_state_of_entries (λ row column. byte_at x row ((column + row) % 4)) (λ row column h i. byte_at-lt x ok row ((column + row) % 4) h (omega arith))
 
-pub IsBlock-rows_below : (n : ℕ) (x : List ℕ) → IsBlock x → IsBlock (rows_below n x)
-unfolding rows_below
-IsBlock-rows_below n x ok = IsBlock-state_of (λ row column. byte_at x ((row + n) % 4) column) (λ row column h i. byte_at-lt x ok ((row + n) % 4) column (omega arith) i)
+pub IsAesBlock-row_below_in_plane : (x : List ℕ) → IsAesBlock x → IsAesBlock (row_below_in_plane x)
+unfolding row_below_in_plane
+IsAesBlock-row_below_in_plane x ok = IsAesBlock-aes_state_of_entries (λ row column. byte_at x ((row + 1) % 4) column) (λ row column h i. byte_at-lt x ok ((row + 1) % 4) column (omega arith) i)
 
 Each1-map : (f : ℕ → ℕ) → ((a : ℕ) → a < 256 → f a < 256) → (x : List ℕ) → Each1 (λ a. a < 256) x → Each1 (λ a. a < 256) (map f x)
 Each1-map f e [] h = tt
@@ -33,8 +33,8 @@ Each1-map f e (a ∷ x) h = (e a h.0, Each1-map f e x h.1)
 pub AreBytes-map : {n : ℕ} (f : ℕ → ℕ) → ((a : ℕ) → a < 256 → f a < 256) → (x : List ℕ) → AreBytes n x → AreBytes n (map f x)
 AreBytes-map f e x ok = (length-map x f ∙ ok.0, Each1-map f e x ok.1)
 
-pub IsBlock-sub_bytes : (x : List ℕ) → IsBlock x → IsBlock (sub_bytes x)
-IsBlock-sub_bytes x ok = rw (← map-sub_byte x ok.0) (AreBytes-map sub_byte sub_byte-lt x ok)
+pub IsAesBlock-sub_bytes : (x : List ℕ) → IsAesBlock x → IsAesBlock (sub_bytes x)
+IsAesBlock-sub_bytes x ok = rw (← map-sub_byte x ok.0) (AreBytes-map sub_byte sub_byte-lt x ok)
 
 pub AreBytes-xor : {n : ℕ} (x y : List ℕ) → AreBytes n x → AreBytes n y → AreBytes n (zip2 bit_xor x y)
 AreBytes-xor x y ok also = (
@@ -42,15 +42,15 @@ AreBytes-xor x y ok also = (
   Each1-zip2 bit_xor (λ a. a < 256) x y (Each2-of (λ a. a < 256) (λ a. a < 256) (λ a b. bit_xor a b < 256) (λ a b h i. xor_lt 8 a b h i) x y ok.1 also.1),
 )
 
-pub IsBlock-mix_columns : (x : List ℕ) → IsBlock x → IsBlock (mix_columns x)
-IsBlock-mix_columns x ok =
-    let sums : IsBlock (pairs x) = AreBytes-xor x (rows_below 1 x) ok (IsBlock-rows_below 1 x ok) in
+pub IsAesBlock-mix_columns : (x : List ℕ) → IsAesBlock x → IsAesBlock (mix_columns x)
+IsAesBlock-mix_columns x ok =
+    let sums : IsAesBlock (pairs x) = AreBytes-xor x (row_below_in_plane x) ok (IsAesBlock-row_below_in_plane x ok) in
     rw (← mix_columns-pairs x ok)
-    (AreBytes-xor (map (product 2) (pairs x)) (zip2 bit_xor (rows_below 1 x) (rows_below 2 (pairs x))) (AreBytes-map (product 2) product_two-lt (pairs x) sums)
-    (AreBytes-xor (rows_below 1 x) (rows_below 2 (pairs x)) (IsBlock-rows_below 1 x ok) (IsBlock-rows_below 2 (pairs x) sums)))
+    (AreBytes-xor (map (product 2) (pairs x)) (zip2 bit_xor (row_below_in_plane x) (row_below_in_plane (row_below_in_plane (pairs x)))) (AreBytes-map (product 2) product_two-lt (pairs x) sums)
+    (AreBytes-xor (row_below_in_plane x) (row_below_in_plane (row_below_in_plane (pairs x))) (IsAesBlock-row_below_in_plane x ok) (IsAesBlock-row_below_in_plane (row_below_in_plane (pairs x)) (IsAesBlock-row_below_in_plane (pairs x) sums))))
 
-pub IsBlock-add_round_key : (words : List (List ℕ)) (round : ℕ) → IsBlock (round_key words round) → (x : List ℕ) → IsBlock x → IsBlock (add_round_key words round x)
-IsBlock-add_round_key words round key x ok = rw (← xor-round_key words round x ok.0) (AreBytes-xor x (round_key words round) ok key)
+pub IsAesBlock-add_round_key : (words : List (List ℕ)) (round : ℕ) → IsAesBlock (round_key words round) → (x : List ℕ) → IsAesBlock x → IsAesBlock (add_round_key words round x)
+IsAesBlock-add_round_key words round key x ok = rw (← xor-round_key words round x ok.0) (AreBytes-xor x (round_key words round) ok key)
 
 -- ---- bytes with the same bits
 

@@ -4,7 +4,7 @@ use lib.Lanes.{top}
 use Rattle.std.specs.List.{range_with_len}
 use Rattle.std.proofs.lemmas.List.FromFn.{get_or-map-range_with_len}
 use Rattle.std.proofs.lemmas.Simd.{map-map}
-use Rattle.aes_ctr.specs.Aes.{polynomial_product, product, remainder, sub_byte}
+use Rattle.aes_ctr.specs.Aes.{polynomial_product, product, polynomial_remainder, sub_byte}
 use Rattle.aes_ctr.proofs.SBox.{entries, sub_byte-entries}
 
 -- two functions that agree on the list of all bytes agree at each byte
@@ -16,11 +16,11 @@ by_table f g e b h =
 -- ---- products
 
 pub product-one : (b : ℕ) → b < 256 → product 1 b ≡ b
-unfolding product polynomial_product remainder
+unfolding product polynomial_product polynomial_remainder
 product-one = by_table (product 1) (λ b. b) refl
 
 pub xor-product_two : (b : ℕ) → b < 256 → bit_xor b (product 2 b) ≡ product 3 b
-unfolding product polynomial_product remainder
+unfolding product polynomial_product polynomial_remainder
 xor-product_two = by_table (λ b. bit_xor b (product 2 b)) (product 3) refl
 
 -- a lane of `double`
@@ -28,11 +28,11 @@ abbrev pub doubled_lane : ℕ → ℕ
 doubled_lane b = bit_xor ((b + b) % 256) (cond (top 7 (cond (leb 128 b) 255 0)) 27 0)
 
 pub doubled_lane-is : (b : ℕ) → b < 256 → doubled_lane b ≡ product 2 b
-unfolding product polynomial_product remainder
+unfolding product polynomial_product polynomial_remainder
 doubled_lane-is = by_table doubled_lane (product 2) refl
 
 product_two-reduced : map (λ b. product 2 b % 256) (range_with_len 0 256) ≡ map (product 2) (range_with_len 0 256)
-unfolding product polynomial_product remainder
+unfolding product polynomial_product polynomial_remainder
 product_two-reduced = refl
 
 pub product_two-lt : (b : ℕ) → b < 256 → product 2 b < 256

@@ -6,9 +6,9 @@ use Rattle.std.specs.Int.{bit_at}
 use Rattle.std.proofs.lemmas.Nat.{xor_lt}
 use Rattle.std.proofs.lemmas.Nat.Bits.{same_from_bits_below}
 use Rattle.std.proofs.lemmas.Simd.{Each1-weaker, map-map, zip2_of_maps}
-use Rattle.aes_ctr.specs.Aes.{mix_columns, polynomial_product, product, remainder}
-use Rattle.aes_ctr.specs.Planes.{IsBlock, IsHeld, bits, plane}
-use Rattle.aes_ctr.specs.Inside.PlaneSteps.{IsPair, rows_below}
+use Rattle.aes_ctr.specs.Aes.{mix_columns, polynomial_product, product, polynomial_remainder}
+use Rattle.aes_ctr.specs.Planes.{IsAesBlock, BitPlanesHoldBytes, bits, plane}
+use Rattle.aes_ctr.specs.Inside.PlaneSteps.{IsBlockPair, row_below_in_plane}
 use Rattle.aes_ctr.proofs.Bytes.{by_table, product_two-lt}
 use Rattle.aes_ctr.proofs.Columns.{by_columns, by_columns-agreeing, doubles_column, doubles_column-is, matrix_column}
 use Rattle.aes_ctr.proofs.Held.{below_eight, bit_at-bit_xor, bits-zip2}
@@ -27,35 +27,35 @@ abbrev carried : ℕ → ℕ → ℕ
 carried j a = bit_xor (bit_at a j) (bit_at a 7)
 
 double_bit_0 : IsDoubleBit 0 (moved 7)
-unfolding product polynomial_product remainder
+unfolding product polynomial_product polynomial_remainder
 double_bit_0 = by_table (moved 7) (λ a. bit_at (product 2 a) 0) refl
 
 double_bit_1 : IsDoubleBit 1 (carried 0)
-unfolding product polynomial_product remainder
+unfolding product polynomial_product polynomial_remainder
 double_bit_1 = by_table (carried 0) (λ a. bit_at (product 2 a) 1) refl
 
 double_bit_2 : IsDoubleBit 2 (moved 1)
-unfolding product polynomial_product remainder
+unfolding product polynomial_product polynomial_remainder
 double_bit_2 = by_table (moved 1) (λ a. bit_at (product 2 a) 2) refl
 
 double_bit_3 : IsDoubleBit 3 (carried 2)
-unfolding product polynomial_product remainder
+unfolding product polynomial_product polynomial_remainder
 double_bit_3 = by_table (carried 2) (λ a. bit_at (product 2 a) 3) refl
 
 double_bit_4 : IsDoubleBit 4 (carried 3)
-unfolding product polynomial_product remainder
+unfolding product polynomial_product polynomial_remainder
 double_bit_4 = by_table (carried 3) (λ a. bit_at (product 2 a) 4) refl
 
 double_bit_5 : IsDoubleBit 5 (moved 4)
-unfolding product polynomial_product remainder
+unfolding product polynomial_product polynomial_remainder
 double_bit_5 = by_table (moved 4) (λ a. bit_at (product 2 a) 5) refl
 
 double_bit_6 : IsDoubleBit 6 (moved 5)
-unfolding product polynomial_product remainder
+unfolding product polynomial_product polynomial_remainder
 double_bit_6 = by_table (moved 5) (λ a. bit_at (product 2 a) 6) refl
 
 double_bit_7 : IsDoubleBit 7 (moved 6)
-unfolding product polynomial_product remainder
+unfolding product polynomial_product polynomial_remainder
 double_bit_7 = by_table (moved 6) (λ a. bit_at (product 2 a) 7) refl
 
 -- ---- the double of a sum
@@ -93,9 +93,9 @@ product_two-xor a b h i =
 
 -- ---- the doubles of a pair
 
-pub IsHeld-double : (b : ℕ) (planes : List (List ℕ)) (both : List ℕ) → IsPair both → IsHeld b planes both
-    → IsHeld b (plane planes 7 ∷ zip2 bit_xor (plane planes 0) (plane planes 7) ∷ plane planes 1 ∷ zip2 bit_xor (plane planes 2) (plane planes 7) ∷ zip2 bit_xor (plane planes 3) (plane planes 7) ∷ plane planes 4 ∷ plane planes 5 ∷ plane planes 6 ∷ []) (map (product 2) both)
-IsHeld-double b planes both ok held =
+pub BitPlanesHoldBytes-double : (b : ℕ) (planes : List (List ℕ)) (both : List ℕ) → IsBlockPair both → BitPlanesHoldBytes b planes both
+    → BitPlanesHoldBytes b (plane planes 7 ∷ zip2 bit_xor (plane planes 0) (plane planes 7) ∷ plane planes 1 ∷ zip2 bit_xor (plane planes 2) (plane planes 7) ∷ zip2 bit_xor (plane planes 3) (plane planes 7) ∷ plane planes 4 ∷ plane planes 5 ∷ plane planes 6 ∷ []) (map (product 2) both)
+BitPlanesHoldBytes-double b planes both ok held =
     below_eight (λ k. bits b (plane (plane planes 7 ∷ zip2 bit_xor (plane planes 0) (plane planes 7) ∷ plane planes 1 ∷ zip2 bit_xor (plane planes 2) (plane planes 7) ∷ zip2 bit_xor (plane planes 3) (plane planes 7) ∷ plane planes 4 ∷ plane planes 5 ∷ plane planes 6 ∷ []) k) ≡ bits k (map (product 2) both))
     (made 0 (moved 7) double_bit_0 (plane planes 7) (held 7 (omega arith)))
     (made 1 (carried 0) double_bit_1 (zip2 bit_xor (plane planes 0) (plane planes 7)) (pair 0 (omega arith)))
@@ -136,14 +136,14 @@ pairs_column-is a b c d ha hb hc hd = rw (pairs_row a b c d ha hb, pairs_row b c
 
 -- the sum of each byte and the next one of its column
 abbrev pub pairs : List ℕ → List ℕ
-pairs block = zip2 bit_xor block (rows_below 1 block)
+pairs block = zip2 bit_xor block (row_below_in_plane block)
 
-pub mix_columns-pairs : (block : List ℕ) → IsBlock block
-    → zip2 bit_xor (map (product 2) (pairs block)) (zip2 bit_xor (rows_below 1 block) (rows_below 2 (pairs block))) ≡ mix_columns block
-unfolding mix_columns rows_below
+pub mix_columns-pairs : (block : List ℕ) → IsAesBlock block
+    → zip2 bit_xor (map (product 2) (pairs block)) (zip2 bit_xor (row_below_in_plane block) (row_below_in_plane (row_below_in_plane (pairs block)))) ≡ mix_columns block
+unfolding mix_columns row_below_in_plane
 mix_columns-pairs block ok =
     let bytes : Each1 (Fits w8) block = Each1-weaker (λ a. a < 256) (Fits w8) (λ a h. record { fits = h }) block ok.1 in
-    sixteen_lanes (λ x. zip2 bit_xor (map (product 2) (pairs x)) (zip2 bit_xor (rows_below 1 x) (rows_below 2 (pairs x))) ≡ by_columns pairs_column x)
+    sixteen_lanes (λ x. zip2 bit_xor (map (product 2) (pairs x)) (zip2 bit_xor (row_below_in_plane x) (row_below_in_plane (row_below_in_plane (pairs x)))) ≡ by_columns pairs_column x)
     (λ x0 x1 x2 x3 x4 x5 x6 x7 x8 x9 x10 x11 x12 x13 x14 x15. refl) block ok.0
     ∙ by_columns-agreeing pairs_column doubles_column pairs_column-is block bytes
     ∙ by_columns-agreeing doubles_column matrix_column doubles_column-is block bytes

@@ -5,9 +5,9 @@ use Rattle.std.specs.Int.{bit_at}
 use Rattle.std.proofs.lemmas.List.{get_or-drop, length-map, map-append}
 use Rattle.std.proofs.lemmas.Nat.Bits.{bit_at-lt, bit_at_and, bit_at_xor}
 use Rattle.aes_ctr.specs.Aes.{shift_rows}
-use Rattle.aes_ctr.specs.Planes.{IsBlock, IsHeld, bits, plane}
-use Rattle.aes_ctr.specs.Inside.PlaneSteps.{in_both, rows_below}
-use Rattle.aes_ctr.proofs.Pairs.{IsPair-append, bits-in_both, in_both-append}
+use Rattle.aes_ctr.specs.Planes.{IsAesBlock, BitPlanesHoldBytes, bits, plane}
+use Rattle.aes_ctr.specs.Inside.PlaneSteps.{applied_to_both_blocks, row_below_in_plane}
+use Rattle.aes_ctr.proofs.Pairs.{IsBlockPair-append, bits-applied_to_both_blocks, applied_to_both_blocks-append}
 use Rattle.aes_ctr.proofs.Sixteen.{sixteen_lanes}
 
 -- ---- one bit
@@ -60,11 +60,11 @@ below_eight P p0 p1 p2 p3 p4 p5 p6 p7 (suc (suc (suc (suc (suc (suc (suc zero)))
 below_eight P p0 p1 p2 p3 p4 p5 p6 p7 (suc (suc (suc (suc (suc (suc (suc (suc k)))))))) h = absurd (omega arith)
 
 -- eight planes from plane n on, for both blocks of a pair
-pub IsHeld-dropped : (b n : ℕ) (planes : List (List ℕ)) (block : List ℕ) → {m0 m1 m2 m3 m4 m5 m6 m7 : List ℕ}
+pub BitPlanesHoldBytes-dropped : (b n : ℕ) (planes : List (List ℕ)) (block : List ℕ) → {m0 m1 m2 m3 m4 m5 m6 m7 : List ℕ}
     → m0 ≡ plane planes n ++ plane planes n → m1 ≡ plane planes (n + 1) ++ plane planes (n + 1) → m2 ≡ plane planes (n + 2) ++ plane planes (n + 2) → m3 ≡ plane planes (n + 3) ++ plane planes (n + 3)
     → m4 ≡ plane planes (n + 4) ++ plane planes (n + 4) → m5 ≡ plane planes (n + 5) ++ plane planes (n + 5) → m6 ≡ plane planes (n + 6) ++ plane planes (n + 6) → m7 ≡ plane planes (n + 7) ++ plane planes (n + 7)
-    → IsHeld b (drop n planes) block → IsHeld b (m0 ∷ m1 ∷ m2 ∷ m3 ∷ m4 ∷ m5 ∷ m6 ∷ m7 ∷ []) (block ++ block)
-IsHeld-dropped b n planes block {m0 = m0} {m1 = m1} {m2 = m2} {m3 = m3} {m4 = m4} {m5 = m5} {m6 = m6} {m7 = m7} e0 e1 e2 e3 e4 e5 e6 e7 held =
+    → BitPlanesHoldBytes b (drop n planes) block → BitPlanesHoldBytes b (m0 ∷ m1 ∷ m2 ∷ m3 ∷ m4 ∷ m5 ∷ m6 ∷ m7 ∷ []) (block ++ block)
+BitPlanesHoldBytes-dropped b n planes block {m0 = m0} {m1 = m1} {m2 = m2} {m3 = m3} {m4 = m4} {m5 = m5} {m6 = m6} {m7 = m7} e0 e1 e2 e3 e4 e5 e6 e7 held =
     below_eight (λ k. bits b (plane (m0 ∷ m1 ∷ m2 ∷ m3 ∷ m4 ∷ m5 ∷ m6 ∷ m7 ∷ []) k) ≡ bits k (block ++ block))
     (at 0 (omega arith) m0 (rw (add-zero n) e0)) (at 1 (omega arith) m1 e1) (at 2 (omega arith) m2 e2) (at 3 (omega arith) m3 e3) (at 4 (omega arith) m4 e4) (at 5 (omega arith) m5 e5) (at 6 (omega arith) m6 e6) (at 7 (omega arith) m7 e7)
   where
@@ -81,27 +81,20 @@ pub length-held : (b k : ℕ) (p block : List ℕ) → bits b p ≡ bits k block
 length-held b k p block e = sym (length-map p (λ a. bit_at a b)) ∙ rw e (length-map block (λ a. bit_at a k))
 
 -- a step that takes the bytes of a block to other places, on planes
-pub IsHeld-moved : (f : List ℕ → List ℕ) → ((i : ℕ) (x : List ℕ) → length x ≡ 16 → bits i (f x) ≡ f (bits i x))
-    → (b : ℕ) (planes : List (List ℕ)) (first second : List ℕ) → {m0 m1 m2 m3 m4 m5 m6 m7 : List ℕ}
-    → m0 ≡ in_both f (plane planes 0) → m1 ≡ in_both f (plane planes 1) → m2 ≡ in_both f (plane planes 2) → m3 ≡ in_both f (plane planes 3)
-    → m4 ≡ in_both f (plane planes 4) → m5 ≡ in_both f (plane planes 5) → m6 ≡ in_both f (plane planes 6) → m7 ≡ in_both f (plane planes 7)
-    → IsBlock first → IsBlock second → IsHeld b planes (first ++ second) → IsHeld b (m0 ∷ m1 ∷ m2 ∷ m3 ∷ m4 ∷ m5 ∷ m6 ∷ m7 ∷ []) (f first ++ f second)
-IsHeld-moved f e b planes first second {m0 = m0} {m1 = m1} {m2 = m2} {m3 = m3} {m4 = m4} {m5 = m5} {m6 = m6} {m7 = m7} e0 e1 e2 e3 e4 e5 e6 e7 ok also held =
-    below_eight (λ k. bits b (plane (m0 ∷ m1 ∷ m2 ∷ m3 ∷ m4 ∷ m5 ∷ m6 ∷ m7 ∷ []) k) ≡ bits k (f first ++ f second))
-    (moved 0 (omega arith) m0 e0) (moved 1 (omega arith) m1 e1) (moved 2 (omega arith) m2 e2) (moved 3 (omega arith) m3 e3) (moved 4 (omega arith) m4 e4) (moved 5 (omega arith) m5 e5) (moved 6 (omega arith) m6 e6) (moved 7 (omega arith) m7 e7)
+pub BitPlanesHoldBytes-moved : (f : List ℕ → List ℕ) → ((i : ℕ) (x : List ℕ) → length x ≡ 16 → bits i (f x) ≡ f (bits i x))
+    → (b : ℕ) (planes moved : List (List ℕ)) (first second : List ℕ) → ((k : ℕ) → k < 8 → plane moved k ≡ applied_to_both_blocks f (plane planes k))
+    → IsAesBlock first → IsAesBlock second → BitPlanesHoldBytes b planes (first ++ second) → BitPlanesHoldBytes b moved (f first ++ f second)
+BitPlanesHoldBytes-moved f e b planes moved first second same ok also held k h =
+    ap (bits b) (same k h) ∙ bits-applied_to_both_blocks f e b (plane planes k) (length-held b k (plane planes k) (first ++ second) (held k h) ∙ long)
+    ∙ ap (applied_to_both_blocks f) (held k h) ∙ sym (bits-applied_to_both_blocks f e k (first ++ second) long)
+    ∙ ap (bits k) (applied_to_both_blocks-append f first second ok.0)
   where
     long : length (first ++ second) ≡ 32
-    long = (IsPair-append first second ok also).0
+    long = (IsBlockPair-append first second ok also).0
 
-    moved : (k : ℕ) → k < 8 → (m : List ℕ) → m ≡ in_both f (plane planes k) → bits b m ≡ bits k (f first ++ f second)
-    moved k h m same =
-        ap (bits b) same ∙ bits-in_both f e b (plane planes k) (length-held b k (plane planes k) (first ++ second) (held k h) ∙ long)
-        ∙ ap (in_both f) (held k h) ∙ sym (bits-in_both f e k (first ++ second) long)
-        ∙ ap (bits k) (in_both-append f first second ok.0)
-
-pub IsHeld-xor : (b : ℕ) (left right : List (List ℕ)) (first second : List ℕ) → IsHeld b left first → IsHeld b right second
-    → IsHeld b (zip2 bit_xor (plane left 0) (plane right 0) ∷ zip2 bit_xor (plane left 1) (plane right 1) ∷ zip2 bit_xor (plane left 2) (plane right 2) ∷ zip2 bit_xor (plane left 3) (plane right 3) ∷ zip2 bit_xor (plane left 4) (plane right 4) ∷ zip2 bit_xor (plane left 5) (plane right 5) ∷ zip2 bit_xor (plane left 6) (plane right 6) ∷ zip2 bit_xor (plane left 7) (plane right 7) ∷ []) (zip2 bit_xor first second)
-IsHeld-xor b left right first second l r =
+pub BitPlanesHoldBytes-xor : (b : ℕ) (left right : List (List ℕ)) (first second : List ℕ) → BitPlanesHoldBytes b left first → BitPlanesHoldBytes b right second
+    → BitPlanesHoldBytes b (zip2 bit_xor (plane left 0) (plane right 0) ∷ zip2 bit_xor (plane left 1) (plane right 1) ∷ zip2 bit_xor (plane left 2) (plane right 2) ∷ zip2 bit_xor (plane left 3) (plane right 3) ∷ zip2 bit_xor (plane left 4) (plane right 4) ∷ zip2 bit_xor (plane left 5) (plane right 5) ∷ zip2 bit_xor (plane left 6) (plane right 6) ∷ zip2 bit_xor (plane left 7) (plane right 7) ∷ []) (zip2 bit_xor first second)
+BitPlanesHoldBytes-xor b left right first second l r =
     below_eight (λ k. bits b (plane (zip2 bit_xor (plane left 0) (plane right 0) ∷ zip2 bit_xor (plane left 1) (plane right 1) ∷ zip2 bit_xor (plane left 2) (plane right 2) ∷ zip2 bit_xor (plane left 3) (plane right 3) ∷ zip2 bit_xor (plane left 4) (plane right 4) ∷ zip2 bit_xor (plane left 5) (plane right 5) ∷ zip2 bit_xor (plane left 6) (plane right 6) ∷ zip2 bit_xor (plane left 7) (plane right 7) ∷ []) k) ≡ bits k (zip2 bit_xor first second))
     (sum 0 (omega arith)) (sum 1 (omega arith)) (sum 2 (omega arith)) (sum 3 (omega arith)) (sum 4 (omega arith)) (sum 5 (omega arith)) (sum 6 (omega arith)) (sum 7 (omega arith))
   where
@@ -115,10 +108,6 @@ pub bits-shift_rows : (i : ℕ) (x : List ℕ) → length x ≡ 16 → bits i (s
 unfolding shift_rows
 bits-shift_rows i = sixteen_lanes (λ x. bits i (shift_rows x) ≡ shift_rows (bits i x)) (λ x0 x1 x2 x3 x4 x5 x6 x7 x8 x9 x10 x11 x12 x13 x14 x15. refl)
 
-pub bits-rows_below_1 : (i : ℕ) (x : List ℕ) → length x ≡ 16 → bits i (rows_below 1 x) ≡ rows_below 1 (bits i x)
-unfolding rows_below
-bits-rows_below_1 i = sixteen_lanes (λ x. bits i (rows_below 1 x) ≡ rows_below 1 (bits i x)) (λ x0 x1 x2 x3 x4 x5 x6 x7 x8 x9 x10 x11 x12 x13 x14 x15. refl)
-
-pub bits-rows_below_2 : (i : ℕ) (x : List ℕ) → length x ≡ 16 → bits i (rows_below 2 x) ≡ rows_below 2 (bits i x)
-unfolding rows_below
-bits-rows_below_2 i = sixteen_lanes (λ x. bits i (rows_below 2 x) ≡ rows_below 2 (bits i x)) (λ x0 x1 x2 x3 x4 x5 x6 x7 x8 x9 x10 x11 x12 x13 x14 x15. refl)
+pub bits-row_below_in_plane : (i : ℕ) (x : List ℕ) → length x ≡ 16 → bits i (row_below_in_plane x) ≡ row_below_in_plane (bits i x)
+unfolding row_below_in_plane
+bits-row_below_in_plane i = sixteen_lanes (λ x. bits i (row_below_in_plane x) ≡ row_below_in_plane (bits i x)) (λ x0 x1 x2 x3 x4 x5 x6 x7 x8 x9 x10 x11 x12 x13 x14 x15. refl)

@@ -3,7 +3,7 @@ use Rattle.std.proofs.Common.{◌≡◌, ℕ, zero, suc, ◌+◌, ◌*◌, ◌<�
 use Rattle.std.proofs.lemmas.List.{take_all, take_more_set, get_or-take, take-append-le, append_assoc, take-append-drop, take-take, drop-take}
 use Rattle.std.specs.Simd.Lanes.{zip2}
 use Rattle.std.specs.List.{concat}
-use Rattle.aes_ctr.specs.Aes.{key_of, key_words, schedule_words, sub_bytes, sub_word, temporary_word, word_at}
+use Rattle.aes_ctr.specs.Aes.{key_of, key_words, schedule_words, sub_bytes, sub_word, key_expansion_temp, word_at}
 
 pub length-key_words : (key : List ℕ) (n : ℕ) → length (key_words key n) ≡ n
 unfolding key_words
@@ -14,7 +14,7 @@ pub length-schedule_words : (key : List ℕ) (n : ℕ) → length (schedule_word
 unfolding schedule_words
 length-schedule_words key zero = length-key_words key 8
 length-schedule_words key (suc n) =
-    omega (arith, length-schedule_words key n, length-append (schedule_words key n) (zip2 bit_xor (word_at (schedule_words key n) n) (temporary_word (word_at (schedule_words key n) (n + 7)) (n + 8)) ∷ []))
+    omega (arith, length-schedule_words key n, length-append (schedule_words key n) (zip2 bit_xor (word_at (schedule_words key n) n) (key_expansion_temp (word_at (schedule_words key n) (n + 7)) (n + 8)) ∷ []))
 
 -- one more word of the key
 pub key_words_more : (key : List ℕ) (words : List (List ℕ)) (i : ℕ) (x : List ℕ) → i < length words → take i words ≡ key_words key i
@@ -24,7 +24,7 @@ key_words_more key words i x h e ex = take_more_set words i x h ∙ rw (add-one 
 
 -- one more word of the schedule
 pub schedule_words_more : (key : List ℕ) (words : List (List ℕ)) (n : ℕ) (t x : List ℕ) → n + 8 < length words → take (n + 8) words ≡ schedule_words key n
-    → t ≡ temporary_word (get_or words (n + 7) []) (n + 8) → x ≡ zip2 bit_xor (get_or words n []) t
+    → t ≡ key_expansion_temp (get_or words (n + 7) []) (n + 8) → x ≡ zip2 bit_xor (get_or words n []) t
     → take (n + 1 + 8) (set words (n + 8) x) ≡ schedule_words key (n + 1)
 unfolding schedule_words
 schedule_words_more key words n t x h e et ex =

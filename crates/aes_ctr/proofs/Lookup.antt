@@ -6,7 +6,7 @@ use Rattle.std.proofs.lemmas.List.{ext_get_or, get_or-drop, get_or-map, get_or-t
 use Rattle.std.proofs.lemmas.List.FromFn.{get_or-map-range_with_len, length-map-range_with_len}
 use Rattle.std.proofs.lemmas.Simd.{get_or-swz_l_below, length-swz_l, swz_l, tops_compared, zip2_splat}
 use Rattle.aes_ctr.specs.Aes.{sub_byte}
-use Rattle.aes_ctr.specs.Inside.TableParts.{choice, part_entry}
+use Rattle.aes_ctr.specs.Inside.TableParts.{choice, s_box_part_entry}
 use Rattle.aes_ctr.proofs.Bytes.{HasLowBits, bit_and-fifteen}
 use Rattle.aes_ctr.proofs.Sixteen.{map-agreeing, sixteen_lanes}
 
@@ -26,19 +26,19 @@ take-table n h =
 
 -- that row at the four low bits of bytes
 pub swz_l-row : (n : ℕ) (x : List ℕ) → length x ≡ 16 → Each1 (Fits w8) x
-    → swz_l w8 16 (map sub_byte (range_with_len (16 * n) 16)) 0 (zip2 bit_and x (replicate 16 15)) ≡ map (part_entry 16 n) x
+    → swz_l w8 16 (map sub_byte (range_with_len (16 * n) 16)) 0 (zip2 bit_and x (replicate 16 15)) ≡ map (s_box_part_entry 16 n) x
 swz_l-row n x long bytes =
     let low : ℕ → ℕ = λ a. a % 16 in
     let entries : List ℕ = map sub_byte (range_with_len (16 * n) 16) in
     let places : zip2 bit_and x (replicate 16 15) ≡ map low x = zip2_splat bit_and x 16 15 long ∙ map-agreeing (λ a. bit_and a 15) low bit_and-fifteen x bytes in
     let many : length (swz_l w8 16 entries 0 (map low x)) ≡ 16 = length-swz_l w8 16 entries 0 (map low x) ∙ length-map x low ∙ long in
-    rw places (ext_get_or 0 _ _ (many ∙ sym (length-map x (part_entry 16 n) ∙ long)) (λ i h.
+    rw places (ext_get_or 0 _ _ (many ∙ sym (length-map x (s_box_part_entry 16 n) ∙ long)) (λ i h.
     let within : i < 16 = omega (arith, many) in
     let place : 16 * ((0 + i) / 16) + get_or x i 0 % 16 ≡ get_or x i 0 % 16 = omega arith in
     let at : get_or (map low x) i 0 ≡ get_or x i 0 % 16 = get_or-map low x i 0 0 (omega arith) in
     get_or-swz_l_below w8 16 entries 0 (map low x) i (omega (arith, length-map x low)) (omega arith)
     ∙ rw (at, place) (get_or-map-range_with_len sub_byte (16 * n) 16 (get_or x i 0 % 16) (16 * n + get_or x i 0 % 16) 0 (omega arith) refl)
-    ∙ sym (get_or-map (part_entry 16 n) x i 0 0 (omega arith))))
+    ∙ sym (get_or-map (s_box_part_entry 16 n) x i 0 0 (omega arith))))
 
 -- a choice by one bit
 pub sel_l-choice : (bit : ℕ) (f g : ℕ → ℕ) (x set clear : List ℕ) → length x ≡ 16 → set ≡ map f x → clear ≡ map g x
@@ -54,19 +54,19 @@ cond-sub_byte true size n m = ap sub_byte (let e : size * (2 * n + 1) + m ≡ si
 cond-sub_byte false size n m = refl
 
 -- two neighbouring parts of the table make one of twice the size
-choice-part_entry : (size n : ℕ) → HasLowBits size → (b : ℕ) → b < 256
-    → choice size (part_entry size (2 * n + 1)) (part_entry size (2 * n)) b ≡ part_entry (2 * size) n b
-choice-part_entry size n low b h =
+choice-s_box_part_entry : (size n : ℕ) → HasLowBits size → (b : ℕ) → b < 256
+    → choice size (s_box_part_entry size (2 * n + 1)) (s_box_part_entry size (2 * n)) b ≡ s_box_part_entry (2 * size) n b
+choice-s_box_part_entry size n low b h =
     let same : size * (2 * n) ≡ 2 * size * n = omega arith in
     cond-sub_byte (eqb (bit_and b size) size) size n (b % size) ∙ ap (λ m. sub_byte (size * (2 * n) + m)) (low b h)
     ∙ ap (λ m. sub_byte (m + b % (2 * size))) same
 
-pub map-choice-part_entry : (size n : ℕ) → HasLowBits size → (x : List ℕ) → Each1 (Fits w8) x
-    → map (choice size (part_entry size (2 * n + 1)) (part_entry size (2 * n))) x ≡ map (part_entry (2 * size) n) x
-map-choice-part_entry size n low x bytes =
-    map-agreeing (choice size (part_entry size (2 * n + 1)) (part_entry size (2 * n))) (part_entry (2 * size) n) (choice-part_entry size n low) x bytes
+pub map-choice-s_box_part_entry : (size n : ℕ) → HasLowBits size → (x : List ℕ) → Each1 (Fits w8) x
+    → map (choice size (s_box_part_entry size (2 * n + 1)) (s_box_part_entry size (2 * n))) x ≡ map (s_box_part_entry (2 * size) n) x
+map-choice-s_box_part_entry size n low x bytes =
+    map-agreeing (choice size (s_box_part_entry size (2 * n + 1)) (s_box_part_entry size (2 * n))) (s_box_part_entry (2 * size) n) (choice-s_box_part_entry size n low) x bytes
 
 -- the table in one part
-pub map-part_entry-whole : (x : List ℕ) → Each1 (Fits w8) x → map (part_entry 256 0) x ≡ map sub_byte x
-map-part_entry-whole x bytes =
-    map-agreeing (part_entry 256 0) sub_byte (λ b h. ap sub_byte (let e : 256 * 0 + b % 256 ≡ b = omega arith in e)) x bytes
+pub map-s_box_part_entry-whole : (x : List ℕ) → Each1 (Fits w8) x → map (s_box_part_entry 256 0) x ≡ map sub_byte x
+map-s_box_part_entry-whole x bytes =
+    map-agreeing (s_box_part_entry 256 0) sub_byte (λ b h. ap sub_byte (let e : 256 * 0 + b % 256 ≡ b = omega arith in e)) x bytes

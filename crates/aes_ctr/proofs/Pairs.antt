@@ -3,8 +3,8 @@ use Rattle.std.proofs.Common.{◌≡◌, ℕ, ◌<◌, List, [], ◌∷◌, ◌+
 use lib.Lanes.{Each1, zip2}
 use Rattle.std.specs.Int.{bit_at}
 use Rattle.std.proofs.lemmas.List.{length-map, length-take-le, map-append}
-use Rattle.aes_ctr.specs.Planes.{IsBlock, bits}
-use Rattle.aes_ctr.specs.Inside.PlaneSteps.{IsPair, in_both}
+use Rattle.aes_ctr.specs.Planes.{IsAesBlock, bits}
+use Rattle.aes_ctr.specs.Inside.PlaneSteps.{IsBlockPair, applied_to_both_blocks}
 use Rattle.aes_ctr.proofs.Sixteen.{sixteen_lanes}
 
 -- what holds of each two lists of sixteen elements, of a list of thirty-two
@@ -22,8 +22,8 @@ thirty_two_lanes P p =
     (λ x0 x1 x2 x3 x4 x5 x6 x7 x8 x9 x10 x11 x12 x13 x14 x15. sixteen_lanes (λ y. P (x0 ∷ x1 ∷ x2 ∷ x3 ∷ x4 ∷ x5 ∷ x6 ∷ x7 ∷ x8 ∷ x9 ∷ x10 ∷ x11 ∷ x12 ∷ x13 ∷ x14 ∷ x15 ∷ y))
     (λ y0 y1 y2 y3 y4 y5 y6 y7 y8 y9 y10 y11 y12 y13 y14 y15. p x0 x1 x2 x3 x4 x5 x6 x7 x8 x9 x10 x11 x12 x13 x14 x15 y0 y1 y2 y3 y4 y5 y6 y7 y8 y9 y10 y11 y12 y13 y14 y15) y hy) x hx)
 
-pub in_both-append : (f : List ℕ → List ℕ) (x y : List ℕ) → length x ≡ 16 → in_both f (x ++ y) ≡ f x ++ f y
-in_both-append f x y = sixteen_lanes (λ x. in_both f (x ++ y) ≡ f x ++ f y) (λ x0 x1 x2 x3 x4 x5 x6 x7 x8 x9 x10 x11 x12 x13 x14 x15. refl) x
+pub applied_to_both_blocks-append : (f : List ℕ → List ℕ) (x y : List ℕ) → length x ≡ 16 → applied_to_both_blocks f (x ++ y) ≡ f x ++ f y
+applied_to_both_blocks-append f x y = sixteen_lanes (λ x. applied_to_both_blocks f (x ++ y) ≡ f x ++ f y) (λ x0 x1 x2 x3 x4 x5 x6 x7 x8 x9 x10 x11 x12 x13 x14 x15. refl) x
 
 pub zip2-append : (f : ℕ → ℕ → ℕ) (a b c d : List ℕ) → length a ≡ length c → zip2 f (a ++ b) (c ++ d) ≡ zip2 f a c ++ zip2 f b d
 zip2-append f [] b [] d h = refl
@@ -41,20 +41,20 @@ Each1-parts P (a ∷ x) y h =
     let rest = Each1-parts P x y h.1 in
     ((h.0, rest.0), rest.1)
 
-pub IsPair-append : (x y : List ℕ) → IsBlock x → IsBlock y → IsPair (x ++ y)
-IsPair-append x y ok also =
+pub IsBlockPair-append : (x y : List ℕ) → IsAesBlock x → IsAesBlock y → IsBlockPair (x ++ y)
+IsBlockPair-append x y ok also =
     (omega (arith, length-append x y, ok.0, also.0), Each1-append (λ byte. byte < 256) x y ok.1 also.1)
 
-pub IsPair-parts : (x : List ℕ) → IsPair x → IsBlock (take 16 x) × IsBlock (drop 16 x)
-IsPair-parts x ok =
+pub IsBlockPair-parts : (x : List ℕ) → IsBlockPair x → IsAesBlock (take 16 x) × IsAesBlock (drop 16 x)
+IsBlockPair-parts x ok =
     let parts = Each1-parts (λ byte. byte < 256) (take 16 x) (drop 16 x) (rw (take-append-drop 16 x) ok.1) in
     ((length-take-le 16 x (omega (arith, ok.0)), parts.0), (omega (arith, ok.0, length-drop 16 x), parts.1))
 
 -- bits that are taken to other places within each block
-pub bits-in_both : (f : List ℕ → List ℕ) → ((i : ℕ) (x : List ℕ) → length x ≡ 16 → bits i (f x) ≡ f (bits i x))
-    → (i : ℕ) (x : List ℕ) → length x ≡ 32 → bits i (in_both f x) ≡ in_both f (bits i x)
-bits-in_both f e i =
-    two_blocks (λ x. bits i (in_both f x) ≡ in_both f (bits i x)) (λ x y hx hy.
-    ap (bits i) (in_both-append f x y hx) ∙ map-append (λ a. bit_at a i) (f x) (f y)
-    ∙ rw (e i x hx, e i y hy) (sym (in_both-append f (bits i x) (bits i y) (length-map x (λ a. bit_at a i) ∙ hx)))
-    ∙ ap (in_both f) (sym (map-append (λ a. bit_at a i) x y)))
+pub bits-applied_to_both_blocks : (f : List ℕ → List ℕ) → ((i : ℕ) (x : List ℕ) → length x ≡ 16 → bits i (f x) ≡ f (bits i x))
+    → (i : ℕ) (x : List ℕ) → length x ≡ 32 → bits i (applied_to_both_blocks f x) ≡ applied_to_both_blocks f (bits i x)
+bits-applied_to_both_blocks f e i =
+    two_blocks (λ x. bits i (applied_to_both_blocks f x) ≡ applied_to_both_blocks f (bits i x)) (λ x y hx hy.
+    ap (bits i) (applied_to_both_blocks-append f x y hx) ∙ map-append (λ a. bit_at a i) (f x) (f y)
+    ∙ rw (e i x hx, e i y hy) (sym (applied_to_both_blocks-append f (bits i x) (bits i y) (length-map x (λ a. bit_at a i) ∙ hx)))
+    ∙ ap (applied_to_both_blocks f) (sym (map-append (λ a. bit_at a i) x y)))

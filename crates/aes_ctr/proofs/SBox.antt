@@ -1,7 +1,7 @@
 -- The S-box (FIPS 197, 5.1.1), entry by entry. The checker computes them here, once: elsewhere the table stands for them.
 use Rattle.std.proofs.Common.{◌≡◌, ℕ, List, [], ◌∷◌, map, refl}
 use Rattle.std.specs.List.{range_with_len}
-use Rattle.aes_ctr.specs.Aes.{affine_bits, inverse, polynomial_product, product, product_of_squares, remainder, sub_byte}
+use Rattle.aes_ctr.specs.Aes.{affine_bits, inverse, polynomial_product, product, product_of_squares, polynomial_remainder, sub_byte}
 
 -- figure 7
 abbrev pub entries : List ℕ
@@ -24,5 +24,5 @@ entries =
     0x8C ∷ 0xA1 ∷ 0x89 ∷ 0x0D ∷ 0xBF ∷ 0xE6 ∷ 0x42 ∷ 0x68 ∷ 0x41 ∷ 0x99 ∷ 0x2D ∷ 0x0F ∷ 0xB0 ∷ 0x54 ∷ 0xBB ∷ 0x16 ∷ []
 
 pub sub_byte-entries : map sub_byte (range_with_len 0 256) ≡ entries
-unfolding sub_byte affine_bits inverse product_of_squares product polynomial_product remainder
+unfolding sub_byte affine_bits inverse product_of_squares product polynomial_product polynomial_remainder
 sub_byte-entries = refl

@@ -1,5 +1,5 @@
--- Bits that are exchanged between two planes.
-use Rattle.std.proofs.Common.{◌≡◌, ℕ, ◌+◌, ◌-◌, ◌*◌, ◌/◌, ◌%◌, ◌^◌, ◌<◌, Bool, true, false, List, [], ◌∷◌, ap, arith, bit_and, bit_xor, cond, eqb, get_or, length, map, refl, replicate, sym, ◌∙◌, w8, Fits}
+-- Bits that are exchanged between planes.
+use Rattle.std.proofs.Common.{◌≡◌, ℕ, ◌+◌, ◌-◌, ◌*◌, ◌/◌, ◌%◌, ◌^◌, ◌<◌, Bool, true, false, inl, inr, List, [], ◌∷◌, ap, arith, bit_and, bit_xor, cond, eqb, get_or, length, map, refl, replicate, sym, ◌∙◌, w8, Fits}
 use lib.Lanes.{Each1, zip2}
 use Rattle.std.specs.Int.{bit_at}
 use Rattle.std.specs.Int.Bits.{xor_zero_r}
@@ -11,7 +11,7 @@ use Rattle.std.proofs.lemmas.Simd.{below_from_Fits, map-map, zip2_splat}
 use Rattle.std.proofs.lemmas.Nat.Bits.{bit_at-zero, bit_at_ones}
 use Rattle.aes_ctr.specs.Inside.TableParts.{choice}
 use Rattle.aes_ctr.specs.Planes.{bits, plane}
-use Rattle.aes_ctr.specs.Inside.PlaneSteps.{AreParts, AreSwapped, IsPair, with_digit}
+use Rattle.aes_ctr.specs.Inside.PlaneSteps.{AreExchanged, AreLowBits, TakesBitFromOneOfTwo, IsBlockPair, bit_before, plane_before}
 use Rattle.aes_ctr.proofs.Blocks.{AreBytes-map, AreBytes-xor}
 use Rattle.aes_ctr.proofs.Held.{bit_at-bit_xor, bits-zip2}
 use Rattle.aes_ctr.proofs.Sixteen.{map-agreeing}
@@ -74,7 +74,7 @@ upper_lanes d low x y h i =
 
 -- ---- the bits
 
-pub chosen : (f g : ℕ → ℕ) (t : Bool) (b i j : ℕ) → AreParts f g t b i j
+pub chosen : (f g : ℕ → ℕ) (t : Bool) (b i j : ℕ) → TakesBitFromOneOfTwo f g t b i j
     → (x y : List ℕ) → (length x ≡ 32) × Each1 (Fits w8) x → (length y ≡ 32) × Each1 (Fits w8) y
     → bits b (zip2 bit_xor (map f x) (map g y)) ≡ cond t (bits i x) (bits j y)
 chosen f g true b i j e x y ok also =
@@ -102,32 +102,32 @@ one_of_planes false i j m n planes = refl
 
 -- a plane that was made of planes m and n
 pub from_planes : (d : ℕ) (f g i j : ℕ → ℕ) → Parts d f g i j → (m n : ℕ) (planes : List (List ℕ)) (made : List ℕ)
-    → ((t : Bool) (b i j : ℕ) → AreParts f g t b i j → bits b made ≡ cond t (bits i (plane planes m)) (bits j (plane planes n)))
+    → ((t : Bool) (b i j : ℕ) → TakesBitFromOneOfTwo f g t b i j → bits b made ≡ cond t (bits i (plane planes m)) (bits j (plane planes n)))
     → (b : ℕ) → b < 8 → bits b made ≡ bits (cond (is_low d b) (i b) (j b)) (plane planes (cond (is_low d b) m n))
 from_planes d f g i j parts m n planes made e b h =
     e (is_low d b) b (i b) (j b) (λ a small. (parts.low a b small h, parts.high a b small h)) ∙ one_of_planes (is_low d b) (i b) (j b) m n planes
 
-pub lower_bits-chosen : (d low : ℕ) (x y : List ℕ) → (length x ≡ 32) × Each1 (Fits w8) x → (length y ≡ 32) × Each1 (Fits w8) y → (t : Bool) (b i j : ℕ)
-    → AreParts (λ a. bit_and a low) (λ a. bit_and a low * 2 ^ d % 256) t b i j
+pub merged_lower_bits-chosen : (d low : ℕ) (x y : List ℕ) → (length x ≡ 32) × Each1 (Fits w8) x → (length y ≡ 32) × Each1 (Fits w8) y → (t : Bool) (b i j : ℕ)
+    → TakesBitFromOneOfTwo (λ a. bit_and a low) (λ a. bit_and a low * 2 ^ d % 256) t b i j
     → bits b (zip2 bit_xor (zip2 bit_and x (replicate 32 low)) (zip2 (λ a n. a * 2 ^ n % 256) (zip2 bit_and y (replicate 32 low)) (replicate 32 d)))
     ≡ cond t (bits i x) (bits j y)
-lower_bits-chosen d low x y ok also t b i j e =
+merged_lower_bits-chosen d low x y ok also t b i j e =
     rw (lower_lanes d low x y ok.0 also.0) (chosen (λ a. bit_and a low) (λ a. bit_and a low * 2 ^ d % 256) t b i j e x y ok also)
 
-pub upper_bits-chosen : (d low : ℕ) (x y : List ℕ) → (length x ≡ 32) × Each1 (Fits w8) x → (length y ≡ 32) × Each1 (Fits w8) y → (t : Bool) (b i j : ℕ)
-    → AreParts (λ a. bit_and (a / 2 ^ d) low) (λ a. bit_and a (255 - low)) t b i j
+pub merged_upper_bits-chosen : (d low : ℕ) (x y : List ℕ) → (length x ≡ 32) × Each1 (Fits w8) x → (length y ≡ 32) × Each1 (Fits w8) y → (t : Bool) (b i j : ℕ)
+    → TakesBitFromOneOfTwo (λ a. bit_and (a / 2 ^ d) low) (λ a. bit_and a (255 - low)) t b i j
     → bits b (zip2 bit_xor (zip2 bit_and (zip2 (λ a n. a / 2 ^ n) x (replicate 32 d)) (replicate 32 low)) (zip2 bit_and y (replicate 32 (255 - low))))
     ≡ cond t (bits i x) (bits j y)
-upper_bits-chosen d low x y ok also t b i j e =
+merged_upper_bits-chosen d low x y ok also t b i j e =
     rw (upper_lanes d low x y ok.0 also.0) (chosen (λ a. bit_and (a / 2 ^ d) low) (λ a. bit_and a (255 - low)) t b i j e x y ok also)
 
-lanes_below : (x : List ℕ) → (length x ≡ 32) × Each1 (Fits w8) x → IsPair x
+lanes_below : (x : List ℕ) → (length x ≡ 32) × Each1 (Fits w8) x → IsBlockPair x
 lanes_below x ok = (ok.0, below_from_Fits w8 x ok.1)
 
-pub lower_bits-bytes : (d low : ℕ) → low < 256 → (x y : List ℕ) → (length x ≡ 32) × Each1 (Fits w8) x → (length y ≡ 32) × Each1 (Fits w8) y
-    → IsPair x × IsPair y
-    × IsPair (zip2 bit_xor (zip2 bit_and x (replicate 32 low)) (zip2 (λ a n. a * 2 ^ n % 256) (zip2 bit_and y (replicate 32 low)) (replicate 32 d)))
-lower_bits-bytes d low small x y ok also = (
+pub merged_lower_bits-bytes : (d low : ℕ) → low < 256 → (x y : List ℕ) → (length x ≡ 32) × Each1 (Fits w8) x → (length y ≡ 32) × Each1 (Fits w8) y
+    → IsBlockPair x × IsBlockPair y
+    × IsBlockPair (zip2 bit_xor (zip2 bit_and x (replicate 32 low)) (zip2 (λ a n. a * 2 ^ n % 256) (zip2 bit_and y (replicate 32 low)) (replicate 32 d)))
+merged_lower_bits-bytes d low small x y ok also = (
   lanes_below x ok,
   lanes_below y also,
   rw (lower_lanes d low x y ok.0 also.0)
@@ -136,10 +136,10 @@ lower_bits-bytes d low small x y ok also = (
       (AreBytes-map (λ a. bit_and a low * 2 ^ d % 256) (λ a h. omega arith) y (lanes_below y also))),
 )
 
-pub upper_bits-bytes : (d low : ℕ) → low < 256 → (x y : List ℕ) → (length x ≡ 32) × Each1 (Fits w8) x → (length y ≡ 32) × Each1 (Fits w8) y
-    → IsPair x × IsPair y
-    × IsPair (zip2 bit_xor (zip2 bit_and (zip2 (λ a n. a / 2 ^ n) x (replicate 32 d)) (replicate 32 low)) (zip2 bit_and y (replicate 32 (255 - low))))
-upper_bits-bytes d low small x y ok also = (
+pub merged_upper_bits-bytes : (d low : ℕ) → low < 256 → (x y : List ℕ) → (length x ≡ 32) × Each1 (Fits w8) x → (length y ≡ 32) × Each1 (Fits w8) y
+    → IsBlockPair x × IsBlockPair y
+    × IsBlockPair (zip2 bit_xor (zip2 bit_and (zip2 (λ a n. a / 2 ^ n) x (replicate 32 d)) (replicate 32 low)) (zip2 bit_and y (replicate 32 (255 - low))))
+merged_upper_bits-bytes d low small x y ok also = (
   lanes_below x ok,
   lanes_below y also,
   rw (upper_lanes d low x y ok.0 also.0)
@@ -186,35 +186,54 @@ upper_4 = record {
   high = by_table_of_eight 256 (λ a b. bit_at (bit_and a (255 - 15)) b) (λ a b. cond (is_low 4 b) 0 (bit_at a b)) refl;
 }
 
+pub lower_parts : (d low : ℕ) → AreLowBits d low → Parts d (λ a. bit_and a low) (λ a. bit_and a low * 2 ^ d % 256) (λ b. b) (λ b. b - d)
+lower_parts d low (inl e) = rw (e.0, e.1) lower_1
+lower_parts d low (inr (inl e)) = rw (e.0, e.1) lower_2
+lower_parts d low (inr (inr e)) = rw (e.0, e.1) lower_4
+
+pub upper_parts : (d low : ℕ) → AreLowBits d low → Parts d (λ a. bit_and (a / 2 ^ d) low) (λ a. bit_and a (255 - low)) (λ b. b + d) (λ b. b)
+upper_parts d low (inl e) = rw (e.0, e.1) upper_1
+upper_parts d low (inr (inl e)) = rw (e.0, e.1) upper_2
+upper_parts d low (inr (inr e)) = rw (e.0, e.1) upper_4
+
 -- ---- all three
 
-with_digit-lt : (d : ℕ) → ((x y : ℕ) → x < 8 → y < 8 → with_digit d x y % 8 ≡ with_digit d x y) → (x y : ℕ) → x < 8 → y < 8 → with_digit d x y < 8
-with_digit-lt d e x y h i = omega (arith, e x y h i)
+below_8 : (f : ℕ → ℕ → ℕ) → ((b k : ℕ) → b < 8 → k < 8 → f b k % 8 ≡ f b k) → (b k : ℕ) → b < 8 → k < 8 → f b k < 8
+below_8 f e b k h i = omega (arith, e b k h i)
 
-with_digit-lt_4 : (x y : ℕ) → x < 8 → y < 8 → with_digit 4 x y < 8
-with_digit-lt_4 = with_digit-lt 4 (by_table_of_eight 8 (λ x y. with_digit 4 x y % 8) (with_digit 4) refl)
+bit_before-lt_4 : (b k : ℕ) → b < 8 → k < 8 → bit_before 4 b k < 8
+bit_before-lt_4 = below_8 (bit_before 4) (by_table_of_eight 8 (λ b k. bit_before 4 b k % 8) (bit_before 4) refl)
 
-with_digit-lt_2 : (x y : ℕ) → x < 8 → y < 8 → with_digit 2 x y < 8
-with_digit-lt_2 = with_digit-lt 2 (by_table_of_eight 8 (λ x y. with_digit 2 x y % 8) (with_digit 2) refl)
+plane_before-lt_4 : (b k : ℕ) → b < 8 → k < 8 → plane_before 4 b k < 8
+plane_before-lt_4 = below_8 (plane_before 4) (by_table_of_eight 8 (λ b k. plane_before 4 b k % 8) (plane_before 4) refl)
 
--- x with the digits of y, in the order in which they are looked for
-abbrev with_digits : ℕ → ℕ → ℕ
-with_digits x y =
-    with_digit 1 (with_digit 2 (with_digit 4 x y) (with_digit 4 y x)) (with_digit 2 (with_digit 4 y x) (with_digit 4 x y))
+bit_before-lt_2 : (b k : ℕ) → b < 8 → k < 8 → bit_before 2 b k < 8
+bit_before-lt_2 = below_8 (bit_before 2) (by_table_of_eight 8 (λ b k. bit_before 2 b k % 8) (bit_before 2) refl)
 
-with_digits-all : (x y : ℕ) → x < 8 → y < 8 → with_digits x y ≡ y
-with_digits-all = by_table_of_eight 8 with_digits (λ x y. y) refl
+plane_before-lt_2 : (b k : ℕ) → b < 8 → k < 8 → plane_before 2 b k < 8
+plane_before-lt_2 = below_8 (plane_before 2) (by_table_of_eight 8 (λ b k. plane_before 2 b k % 8) (plane_before 2) refl)
 
-pub transposed : (planes first second third : List (List ℕ)) → AreSwapped 1 planes first → AreSwapped 2 first second → AreSwapped 4 second third
+-- what f makes of the numbers of the bit and the plane before the last two exchanges
+abbrev before_two : (ℕ → ℕ → ℕ) → ℕ → ℕ → ℕ
+before_two f b k =
+    f (bit_before 2 (bit_before 4 b k) (plane_before 4 b k)) (plane_before 2 (bit_before 4 b k) (plane_before 4 b k))
+
+first_bit : (b k : ℕ) → b < 8 → k < 8 → before_two (bit_before 1) b k ≡ k
+first_bit = by_table_of_eight 8 (before_two (bit_before 1)) (λ b k. k) refl
+
+first_plane : (b k : ℕ) → b < 8 → k < 8 → before_two (plane_before 1) b k ≡ b
+first_plane = by_table_of_eight 8 (before_two (plane_before 1)) (λ b k. b) refl
+
+pub transposed : (planes first second third : List (List ℕ)) → AreExchanged 1 planes first → AreExchanged 2 first second → AreExchanged 4 second third
     → (b k : ℕ) → b < 8 → k < 8 → bits b (plane third k) ≡ bits k (plane planes b)
 transposed planes first second third one two four b k h i =
-    let b4 : ℕ = with_digit 4 b k in
-    let k4 : ℕ = with_digit 4 k b in
-    let b4_lt : with_digit 4 b k < 8 = with_digit-lt_4 b k h i in
-    let k4_lt : with_digit 4 k b < 8 = with_digit-lt_4 k b i h in
-    four b k h i ∙ two b4 k4 b4_lt k4_lt
-    ∙ one (with_digit 2 b4 k4) (with_digit 2 k4 b4) (with_digit-lt_2 b4 k4 b4_lt k4_lt) (with_digit-lt_2 k4 b4 k4_lt b4_lt)
-    ∙ rw (with_digits-all b k h i, with_digits-all k b i h) refl
+    let bit : ℕ = bit_before 4 b k in
+    let from : ℕ = plane_before 4 b k in
+    let bit_lt : bit_before 4 b k < 8 = bit_before-lt_4 b k h i in
+    let from_lt : plane_before 4 b k < 8 = plane_before-lt_4 b k h i in
+    four b k h i ∙ two bit from bit_lt from_lt
+    ∙ one (bit_before 2 bit from) (plane_before 2 bit from) (bit_before-lt_2 bit from bit_lt from_lt) (plane_before-lt_2 bit from bit_lt from_lt)
+    ∙ rw (first_bit b k h i, first_plane b k h i) refl
 
 -- ---- one bit for a whole lane
 

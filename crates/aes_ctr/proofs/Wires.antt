@@ -8,11 +8,11 @@ use Rattle.std.proofs.lemmas.List.FromFn.{get_or-map-range_with_len}
 use Rattle.std.proofs.lemmas.Nat.Bits.{bit_at_ones}
 use Rattle.std.proofs.lemmas.Simd.{Each1-weaker, map-map, splat_is_map, zip2_of_maps}
 use Rattle.aes_ctr.specs.Aes.{sub_byte, sub_bytes}
-use Rattle.aes_ctr.specs.Inside.Circuit.{input_sums, inverse_of_norm, norm, output_wires, products}
-use Rattle.aes_ctr.specs.Planes.{IsBlock, IsHeld, bits, plane}
-use Rattle.aes_ctr.specs.Inside.PlaneSteps.{IsPair}
+use Rattle.aes_ctr.specs.Inside.Circuit.{s_box_input_sums, inverse_of_norm, norm, output_wires, products}
+use Rattle.aes_ctr.specs.Planes.{IsAesBlock, BitPlanesHoldBytes, bits, plane}
+use Rattle.aes_ctr.specs.Inside.PlaneSteps.{IsBlockPair}
 use Rattle.aes_ctr.proofs.Held.{IsBitwise, below_eight, bit_at-bit_and, bit_at-bit_xor, bits-zip2}
-use Rattle.aes_ctr.proofs.Pairs.{IsPair-append}
+use Rattle.aes_ctr.proofs.Pairs.{IsBlockPair-append}
 use Rattle.aes_ctr.proofs.SBox.{entries, sub_byte-entries}
 use Rattle.aes_ctr.proofs.Sixteen.{map-agreeing, map-sub_byte}
 
@@ -64,11 +64,11 @@ all_wires b block (w ∷ made) (suc k) h = all_wires b block made k (omega arith
 abbrev nth : {A : Type 0} → A → List A → ℕ → A
 nth end made k = slice_index_or made k end
 
-pub input_sums-wires : (b : ℕ) (block : List ℕ) → b < 8 → length block ≡ 32 → (lanes : ℕ → List ℕ) (of : ℕ → ℕ → ℕ) → AreWires b block 8 lanes of
-    → AreWires b block 22 (plane (input_sums (zip2 bit_xor) lanes)) (λ k a. slice_index (input_sums bit_xor (λ j. of j a)) k)
-unfolding input_sums
-input_sums-wires b block small long lanes of same =
-    all_wires b block (input_sums xor_gate (nth (one_wire b block small long) (wires b block 8 lanes of same)))
+pub s_box_input_sums-wires : (b : ℕ) (block : List ℕ) → b < 8 → length block ≡ 32 → (lanes : ℕ → List ℕ) (of : ℕ → ℕ → ℕ) → AreWires b block 8 lanes of
+    → AreWires b block 22 (plane (s_box_input_sums (zip2 bit_xor) lanes)) (λ k a. slice_index (s_box_input_sums bit_xor (λ j. of j a)) k)
+unfolding s_box_input_sums
+s_box_input_sums-wires b block small long lanes of same =
+    all_wires b block (s_box_input_sums xor_gate (nth (one_wire b block small long) (wires b block 8 lanes of same)))
 
 pub norm-wires : (b : ℕ) (block : List ℕ) → b < 8 → length block ≡ 32 → (lanes : ℕ → List ℕ) (of : ℕ → ℕ → ℕ) → AreWires b block 22 lanes of
     → AreWires b block 4 (plane (norm (zip2 bit_xor) (zip2 bit_and) lanes)) (λ k a. slice_index (norm bit_xor bit_and (λ j. of j a)) k)
@@ -99,7 +99,7 @@ output_wires-wires b block small long lanes of same =
 -- ---- the circuit on bits
 
 abbrev pub sums_of : ℕ → List ℕ
-sums_of a = input_sums bit_xor (λ j. bit_at a (7 - j))
+sums_of a = s_box_input_sums bit_xor (λ j. bit_at a (7 - j))
 
 abbrev pub inverse_of : List ℕ → List ℕ
 inverse_of sums = inverse_of_norm bit_xor bit_and (slice_index (norm bit_xor bit_and (slice_index sums)))
@@ -112,7 +112,7 @@ abbrev byte_bits : ℕ → List ℕ
 byte_bits a = bit_at a 0 ∷ bit_at a 1 ∷ bit_at a 2 ∷ bit_at a 3 ∷ bit_at a 4 ∷ bit_at a 5 ∷ bit_at a 6 ∷ bit_at a 7 ∷ []
 
 outputs_of-entries : map (λ a. outputs_of (sums_of a)) (range_with_len 0 256) ≡ map byte_bits entries
-unfolding input_sums norm inverse_of_norm products output_wires
+unfolding s_box_input_sums norm inverse_of_norm products output_wires
 outputs_of-entries = refl
 
 outputs_of_all : map (λ a. outputs_of (sums_of a)) (range_with_len 0 256) ≡ map (λ a. byte_bits (sub_byte a)) (range_with_len 0 256)
@@ -131,23 +131,23 @@ map-byte_bits block =
     (same 0) (same 1) (same 2) (same 3) (same 4) (same 5) (same 6) (same 7)
 
 -- the whole circuit
-pub IsHeld-sub_bytes : (b : ℕ) (first second : List ℕ) → b < 8 → IsBlock first → IsBlock second → (planes sums norms inverses terms made : List (List ℕ))
-    → sums ≡ input_sums (zip2 bit_xor) (λ wire. plane planes (7 - wire))
+pub BitPlanesHoldBytes-sub_bytes : (b : ℕ) (first second : List ℕ) → b < 8 → IsAesBlock first → IsAesBlock second → (planes sums norms inverses terms made : List (List ℕ))
+    → sums ≡ s_box_input_sums (zip2 bit_xor) (λ wire. plane planes (7 - wire))
     → norms ≡ norm (zip2 bit_xor) (zip2 bit_and) (plane sums)
     → inverses ≡ inverse_of_norm (zip2 bit_xor) (zip2 bit_and) (plane norms)
     → terms ≡ products (zip2 bit_xor) (zip2 bit_and) (plane sums) (plane inverses)
     → made ≡ output_wires (zip2 bit_xor) (replicate 32 255) (plane terms)
-    → IsHeld b planes (first ++ second) → IsHeld b made (sub_bytes first ++ sub_bytes second)
-IsHeld-sub_bytes b first second small ok also planes sums norms inverses terms made s n i t m held k h =
+    → BitPlanesHoldBytes b planes (first ++ second) → BitPlanesHoldBytes b made (sub_bytes first ++ sub_bytes second)
+BitPlanesHoldBytes-sub_bytes b first second small ok also planes sums norms inverses terms made s n i t m held k h =
     let block : List ℕ = first ++ second in
-    let pair : IsPair block = IsPair-append first second ok also in
+    let pair : IsBlockPair block = IsBlockPair-append first second ok also in
     let long : length block ≡ 32 = pair.0 in
     let input : ℕ → ℕ → ℕ = λ wire a. bit_at a (7 - wire) in
     let f : ℕ → ℕ → ℕ = λ k a. slice_index (sums_of a) k in
     let g : ℕ → ℕ → ℕ = λ k a. slice_index (norm bit_xor bit_and (slice_index (sums_of a))) k in
     let v : ℕ → ℕ → ℕ = λ k a. slice_index (inverse_of (sums_of a)) k in
     let p : ℕ → ℕ → ℕ = λ k a. slice_index (products bit_xor bit_and (slice_index (sums_of a)) (slice_index (inverse_of (sums_of a)))) k in
-    let sums_wires : AreWires b block 22 (plane sums) f = rw s (input_sums-wires b block small long (λ wire. plane planes (7 - wire)) input (λ k h. held (7 - k) (omega arith))) in
+    let sums_wires : AreWires b block 22 (plane sums) f = rw s (s_box_input_sums-wires b block small long (λ wire. plane planes (7 - wire)) input (λ k h. held (7 - k) (omega arith))) in
     let norm_wires : AreWires b block 4 (plane norms) g = rw n (norm-wires b block small long (plane sums) f sums_wires) in
     let inverse_wires : AreWires b block 4 (plane inverses) v = rw i (inverse_of_norm-wires b block small long (plane norms) g norm_wires) in
     let product_wires : AreWires b block 18 (plane terms) p = rw t (products-wires b block small long (plane sums) (plane inverses) f v sums_wires inverse_wires) in

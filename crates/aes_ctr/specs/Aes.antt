@@ -12,13 +12,13 @@ polynomial_product a b zero = 0
 polynomial_product a b (suc n) = bit_xor (polynomial_product a b n) (a * 2 ^ n * bit_at b n)
 
 -- the remainder of the polynomial a, of degree below 8 + n, modulo m(x) = x ^ 8 + x ^ 4 + x ^ 3 + x + 1 (4.2)
-unfoldable pub remainder : ℕ → ℕ → ℕ
-remainder zero a = a
-remainder (suc n) a = remainder n (bit_xor a (0x11B * 2 ^ n * bit_at a (n + 8)))
+unfoldable pub polynomial_remainder : ℕ → ℕ → ℕ
+polynomial_remainder zero a = a
+polynomial_remainder (suc n) a = polynomial_remainder n (bit_xor a (0x11B * 2 ^ n * bit_at a (n + 8)))
 
 -- the product of two bytes (4.2)
 unfoldable pub product : ℕ → ℕ → ℕ
-product a b = remainder 7 (polynomial_product a b 8)
+product a b = polynomial_remainder 7 (polynomial_product a b 8)
 
 -- the product of the powers of a byte with exponents 2, 4, .. 2 ^ n, each the square of the one before it (4.2)
 unfoldable pub product_of_squares : ℕ → ℕ → ℕ
@@ -52,38 +52,38 @@ abbrev pub byte_at : List ℕ → ℕ → ℕ → ℕ
 byte_at state row column = slice_index state (row + 4 * column)
 
 -- a column that has `entry row column` in each row (3.5)
-abbrev pub column_of : (ℕ → ℕ → ℕ) → ℕ → List ℕ
-column_of entry column = entry 0 column ∷ entry 1 column ∷ entry 2 column ∷ entry 3 column ∷ []
+abbrev pub column_of_entries : (ℕ → ℕ → ℕ) → ℕ → List ℕ
+column_of_entries entry column = entry 0 column ∷ entry 1 column ∷ entry 2 column ∷ entry 3 column ∷ []
 
 -- the state that has `entry row column` in each row and column (3.4)
-abbrev pub state_of : (ℕ → ℕ → ℕ) → List ℕ
-state_of entry = column_of entry 0 ++ column_of entry 1 ++ column_of entry 2 ++ column_of entry 3
+abbrev pub aes_state_of_entries : (ℕ → ℕ → ℕ) → List ℕ
+aes_state_of_entries entry = column_of_entries entry 0 ++ column_of_entries entry 1 ++ column_of_entries entry 2 ++ column_of_entries entry 3
 
 -- ---- the transformations of a round
 
 -- SubBytes (5.1.1)
 unfoldable pub sub_bytes : List ℕ → List ℕ
-sub_bytes state = state_of (λ row column. sub_byte (byte_at state row column))
+sub_bytes state = aes_state_of_entries (λ row column. sub_byte (byte_at state row column))
 
 -- ShiftRows: row r is rotated left by r places (5.1.2)
 unfoldable pub shift_rows : List ℕ → List ℕ
-shift_rows state = state_of (λ row column. byte_at state row ((column + row) % 4))
+shift_rows state = aes_state_of_entries (λ row column. byte_at state row ((column + row) % 4))
 
 -- the matrix of MixColumns: its first row is 2 3 1 1, and row r is that row rotated right by r places (5.1.3)
-abbrev pub coefficient : ℕ → ℕ → ℕ
-coefficient row column = slice_index (2 ∷ 3 ∷ 1 ∷ 1 ∷ []) ((column + 4 - row) % 4)
+abbrev pub mix_columns_matrix_entry : ℕ → ℕ → ℕ
+mix_columns_matrix_entry row column = slice_index (2 ∷ 3 ∷ 1 ∷ 1 ∷ []) ((column + 4 - row) % 4)
 
 -- the byte of MixColumns in a row and a column: the product of that row of its matrix and that column of the state
 -- (5.1.3)
 abbrev pub mixed_byte : List ℕ → ℕ → ℕ → ℕ
 mixed_byte state row column =
     bit_xor
-    (bit_xor (product (coefficient row 0) (byte_at state 0 column)) (product (coefficient row 1) (byte_at state 1 column)))
-    (bit_xor (product (coefficient row 2) (byte_at state 2 column)) (product (coefficient row 3) (byte_at state 3 column)))
+    (bit_xor (product (mix_columns_matrix_entry row 0) (byte_at state 0 column)) (product (mix_columns_matrix_entry row 1) (byte_at state 1 column)))
+    (bit_xor (product (mix_columns_matrix_entry row 2) (byte_at state 2 column)) (product (mix_columns_matrix_entry row 3) (byte_at state 3 column)))
 
 -- MixColumns (5.1.3)
 unfoldable pub mix_columns : List ℕ → List ℕ
-mix_columns state = state_of (mixed_byte state)
+mix_columns state = aes_state_of_entries (mixed_byte state)
 
 -- word i of a list of words, each a list of four bytes (3.5)
 abbrev pub word_at : List (List ℕ) → ℕ → List ℕ
@@ -92,7 +92,7 @@ word_at words i = slice_index_or words i []
 -- AddRoundKey: word 4 * round + c of the key schedule is xored into column c (5.1.4)
 unfoldable pub add_round_key : List (List ℕ) → ℕ → List ℕ → List ℕ
 add_round_key words round state =
-    state_of (λ row column. bit_xor (byte_at state row column) (slice_index (word_at words (4 * round + column)) row))
+    aes_state_of_entries (λ row column. bit_xor (byte_at state row column) (slice_index (word_at words (4 * round + column)) row))
 
 -- ---- KeyExpansion with Nk = 8 and Nr = 14 (5.2)
 
@@ -109,8 +109,8 @@ abbrev pub round_constant : ℕ → List ℕ
 round_constant i = 2 ^ (i - 1) ∷ 0 ∷ 0 ∷ 0 ∷ []
 
 -- temp of figure 11: what word i takes from the word before it (5.2)
-abbrev pub temporary_word : List ℕ → ℕ → List ℕ
-temporary_word word i =
+abbrev pub key_expansion_temp : List ℕ → ℕ → List ℕ
+key_expansion_temp word i =
     if i % 8 == 0 then zip2 bit_xor (sub_word (rot_word word)) (round_constant (i / 8))
     else (if i % 8 == 4 then sub_word word else word)
 
@@ -119,11 +119,11 @@ unfoldable pub key_words : List ℕ → ℕ → List (List ℕ)
 key_words key zero = []
 key_words key (suc n) = key_words key n ++ take 4 (drop (4 * n) key) ∷ []
 
--- the first 8 + n words of the key schedule: word 8 + n is word n xor `temporary_word` of word 7 + n (5.2)
+-- the first 8 + n words of the key schedule: word 8 + n is word n xor `key_expansion_temp` of word 7 + n (5.2)
 unfoldable pub schedule_words : List ℕ → ℕ → List (List ℕ)
 schedule_words key zero = key_words key 8
 schedule_words key (suc n) = schedule_words key n
-    ++ zip2 bit_xor (word_at (schedule_words key n) n) (temporary_word (word_at (schedule_words key n) (n + 7)) (n + 8)) ∷ []
+    ++ zip2 bit_xor (word_at (schedule_words key n) n) (key_expansion_temp (word_at (schedule_words key n) (n + 7)) (n + 8)) ∷ []
 
 -- the key schedule, 60 words (5.2)
 abbrev pub key_schedule : List ℕ → List (List ℕ)

@@ -45,7 +45,7 @@ impl Aes256 {
         cipher(&self.words, u8x16::from_array(*block)).to_array()
     }
 
-    /// The key schedule (FIPS 197, 5.2) in planes, which [`xor_blocks`](crate::xor_blocks) takes. It is made once for many
+    /// The key schedule (FIPS 197, 5.2) in planes, which [`xor_blocks_with_key_stream`](crate::xor_blocks_with_key_stream) takes. It is made once for many
     /// calls, and is as secret as the key.
     pub fn key_planes(&self) -> KeyPlanes
         ensures planes { AreKeyPlanes (key_schedule self.now) result }

@@ -1,8 +1,8 @@
 //! The cipher (FIPS 197, 5.1) of sixteen blocks at once, in planes.
 ghost use Rattle.std.specs.Prelude.{◌≡◌, ◌*◌, ◌<◌, ◌++◌, ℕ, List, drop};
 ghost use Rattle.aes_ctr.specs.Aes.{add_round_key, cipher, mix_columns, shift_rows, sub_bytes};
-ghost use Rattle.aes_ctr.specs.Planes.{AreKeyPlanes, IsBlock, IsHeld, plane, round_key};
-ghost use Rattle.aes_ctr.specs.Inside.PlaneSteps.{in_both};
+ghost use Rattle.aes_ctr.specs.Planes.{AreKeyPlanes, IsAesBlock, BitPlanesHoldBytes, plane, round_key};
+ghost use Rattle.aes_ctr.specs.Inside.PlaneSteps.{applied_to_both_blocks};
 
 use crate::key_planes::{KeyPlanes, add_planes};
 use crate::mix_planes::mix_planes;
@@ -16,9 +16,9 @@ use std::simd::prelude::*;
 #[inline(always)]
 fn round(keys: &KeyPlanes, round: usize, state: Planes) -> Planes
     requires round { round < 15 }
-    ensures held { (words : List (List ℕ)) (b : ℕ) (first second : List ℕ) → b < 8 → IsBlock first → IsBlock second
-        → IsHeld b (drop (8 * round) keys.now) (round_key words round) → IsHeld b state (first ++ second)
-        → IsHeld b result (add_round_key words round (mix_columns (shift_rows (sub_bytes first)))
+    ensures held { (words : List (List ℕ)) (b : ℕ) (first second : List ℕ) → b < 8 → IsAesBlock first → IsAesBlock second
+        → BitPlanesHoldBytes b (drop (8 * round) keys.now) (round_key words round) → BitPlanesHoldBytes b state (first ++ second)
+        → BitPlanesHoldBytes b result (add_round_key words round (mix_columns (shift_rows (sub_bytes first)))
         ++ add_round_key words round (mix_columns (shift_rows (sub_bytes second)))) }
 {
     add_planes(keys, round, mix_planes(shift_planes(sub_planes(state))))
@@ -26,9 +26,9 @@ fn round(keys: &KeyPlanes, round: usize, state: Planes) -> Planes
 
 #[inline(always)]
 fn last_round(keys: &KeyPlanes, state: Planes) -> Planes
-    ensures held { (words : List (List ℕ)) (b : ℕ) (first second : List ℕ) → b < 8 → IsBlock first → IsBlock second
-        → IsHeld b (drop (8 * 14) keys.now) (round_key words 14) → IsHeld b state (first ++ second)
-        → IsHeld b result (add_round_key words 14 (shift_rows (sub_bytes first))
+    ensures held { (words : List (List ℕ)) (b : ℕ) (first second : List ℕ) → b < 8 → IsAesBlock first → IsAesBlock second
+        → BitPlanesHoldBytes b (drop (8 * 14) keys.now) (round_key words 14) → BitPlanesHoldBytes b state (first ++ second)
+        → BitPlanesHoldBytes b result (add_round_key words 14 (shift_rows (sub_bytes first))
         ++ add_round_key words 14 (shift_rows (sub_bytes second))) }
 {
     add_planes(keys, 14, shift_planes(sub_planes(state)))
@@ -37,7 +37,7 @@ fn last_round(keys: &KeyPlanes, state: Planes) -> Planes
 // The cipher of both blocks of each of eight pairs.
 pub(crate) fn cipher_sixteen(keys: &KeyPlanes, pairs: [u8x32; 8]) -> [u8x32; 8]
     ensures cipher_texts { (words : List (List ℕ)) → AreKeyPlanes words keys.now
-        → (b : ℕ) → b < 8 → plane result b ≡ in_both (cipher words) (plane pairs b) }
+        → (b : ℕ) → b < 8 → plane result b ≡ applied_to_both_blocks (cipher words) (plane pairs b) }
 {
     let mut state = add_planes(keys, 0, transposed(pairs));
     'rounds: for done in 0..13 {

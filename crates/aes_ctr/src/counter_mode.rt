@@ -4,7 +4,7 @@ ghost use Rattle.aes_ctr.specs.CounterMode.{key_stream_block, FitsKeyStream, Xor
 
 use crate::block_cipher::Aes256;
 use crate::key_planes::KeyPlanes;
-use crate::key_stream::{key_stream_block, xor_blocks};
+use crate::key_stream::{key_stream_block, xor_blocks_with_key_stream};
 use std::marker::Model;
 
 // Makes the block of key stream that holds the position, where the position begins one.
@@ -81,7 +81,7 @@ impl Ctr {
     }
 
     // Whole blocks, from the start of a block on, past the kept block of key stream.
-    fn apply_blocks(&mut self, bytes: &mut [u8])
+    fn xor_whole_blocks(&mut self, bytes: &mut [u8])
         requires block_begins { self.old.position % 16 ≡ 0 }
         requires whole_blocks { length bytes.old % 16 ≡ 0 }
         requires room { FitsKeyStream self.old.position bytes.old }
@@ -89,7 +89,7 @@ impl Ctr {
         ensures position { self.new.position ≡ self.old.position + length bytes.old }
         ensures key { self.new.key ≡ self.old.key }
     {
-        xor_blocks(&self.aes, &self.planes, self.position / 16, bytes);
+        xor_blocks_with_key_stream(&self.aes, &self.planes, self.position / 16, bytes);
         self.position += bytes.len() as u64;
     }
 
@@ -112,7 +112,7 @@ impl Ctr {
             let whole = rest.len() / 16 * 16;
             let (blocks, tail) = rest.split_at_mut(whole);
             self.apply_bytes(head);
-            self.apply_blocks(blocks);
+            self.xor_whole_blocks(blocks);
             self.apply_bytes(tail);
         }
     }

@@ -1,7 +1,7 @@
 //! KeyExpansion of AES-256 (FIPS 197, 5.2).
 ghost use Rattle.std.specs.Prelude.{◌≡◌, ◌*◌, ◌<◌, ◌≤◌, bit_xor, drop, take};
 ghost use Rattle.std.specs.Simd.Lanes.{zip2};
-ghost use Rattle.aes_ctr.specs.Aes.{key_of, key_schedule, rot_word, sub_word, temporary_word};
+ghost use Rattle.aes_ctr.specs.Aes.{key_of, key_schedule, rot_word, sub_word, key_expansion_temp};
 
 use crate::sub_bytes::sub_bytes;
 use std::simd::prelude::*;
@@ -37,10 +37,10 @@ fn xor_words(left: [u8; 4], right: [u8; 4]) -> [u8; 4]
 }
 
 // What word i takes from the word before it.
-fn temporary_word(word: [u8; 4], i: usize) -> [u8; 4]
+fn key_expansion_temp(word: [u8; 4], i: usize) -> [u8; 4]
     requires after_key { 8 ≤ i }
     requires within { i < 60 }
-    ensures word { result ≡ temporary_word word i }
+    ensures word { result ≡ key_expansion_temp word i }
 {
     if i % 8 == 0 {
         let round_constant = [1 << (i / 8 - 1), 0, 0, 0];
@@ -72,7 +72,7 @@ pub(crate) fn key_expansion(key: &[u8; 32]) -> KeySchedule
         words[i] = key_word(key, i);
     }
     'more: for n in 0..52 {
-        let temp = temporary_word(words[n + 7], n + 8);
+        let temp = key_expansion_temp(words[n + 7], n + 8);
         words[n + 8] = xor_words(words[n], temp);
     }
     words

@@ -1,12 +1,12 @@
 //! The key schedule in planes, for blocks that take the same key.
 ghost use Rattle.std.specs.Prelude.{◌≡◌, ◌*◌, ◌<◌, ◌++◌, ℕ, List, drop};
 ghost use Rattle.aes_ctr.specs.Aes.{add_round_key};
-ghost use Rattle.aes_ctr.specs.Planes.{AreKeyPlanes, IsBlock, IsHeld, bits, round_key};
+ghost use Rattle.aes_ctr.specs.Planes.{AreKeyPlanes, IsAesBlock, BitPlanesHoldBytes, bits, round_key};
 
 use crate::add_round_key::round_key;
 use crate::key_expansion::KeySchedule;
 use crate::planes::{Planes, joined, xor_planes};
-use crate::sub_bytes::by_bit;
+use crate::sub_bytes::select_by_bit;
 use std::simd::prelude::*;
 
 /// The key schedule in the form that sixteen blocks at once are encrypted with: eight planes for each of the 15 round keys,
@@ -17,10 +17,10 @@ pub type KeyPlanes = [[u8; 16]; 120];
 #[inline(always)]
 fn key_plane(key: u8x16, k: usize) -> [u8; 16]
     requires bit { k < 8 }
-    ensures key { IsBlock key }
+    ensures key { IsAesBlock key }
     ensures bits { (b : ℕ) → b < 8 → bits b result ≡ bits k key }
 {
-    by_bit(1 << k, key, u8x16::splat(255), u8x16::splat(0)).to_array()
+    select_by_bit(1 << k, key, u8x16::splat(255), u8x16::splat(0)).to_array()
 }
 
 pub(crate) fn key_planes(words: &KeySchedule) -> KeyPlanes
@@ -35,7 +35,7 @@ pub(crate) fn key_planes(words: &KeySchedule) -> KeyPlanes
 
 // The plane for both blocks of a pair.
 #[inline(always)]
-fn for_both(plane: [u8; 16]) -> u8x32
+fn bit_plane_for_both_blocks(plane: [u8; 16]) -> u8x32
     ensures twice { result ≡ plane ++ plane }
 {
     let plane = u8x16::from_array(plane);
@@ -46,19 +46,19 @@ fn for_both(plane: [u8; 16]) -> u8x32
 #[inline(always)]
 pub(crate) fn add_planes(keys: &KeyPlanes, round: usize, state: Planes) -> Planes
     requires round { round < 15 }
-    ensures held { (words : List (List ℕ)) (b : ℕ) (first second : List ℕ) → IsBlock first → IsBlock second
-        → IsHeld b (drop (8 * round) keys.now) (round_key words round) → IsHeld b state (first ++ second)
-        → IsHeld b result (add_round_key words round first ++ add_round_key words round second) }
+    ensures held { (words : List (List ℕ)) (b : ℕ) (first second : List ℕ) → IsAesBlock first → IsAesBlock second
+        → BitPlanesHoldBytes b (drop (8 * round) keys.now) (round_key words round) → BitPlanesHoldBytes b state (first ++ second)
+        → BitPlanesHoldBytes b result (add_round_key words round first ++ add_round_key words round second) }
 {
     let key = [
-        for_both(keys[8 * round]),
-        for_both(keys[8 * round + 1]),
-        for_both(keys[8 * round + 2]),
-        for_both(keys[8 * round + 3]),
-        for_both(keys[8 * round + 4]),
-        for_both(keys[8 * round + 5]),
-        for_both(keys[8 * round + 6]),
-        for_both(keys[8 * round + 7]),
+        bit_plane_for_both_blocks(keys[8 * round]),
+        bit_plane_for_both_blocks(keys[8 * round + 1]),
+        bit_plane_for_both_blocks(keys[8 * round + 2]),
+        bit_plane_for_both_blocks(keys[8 * round + 3]),
+        bit_plane_for_both_blocks(keys[8 * round + 4]),
+        bit_plane_for_both_blocks(keys[8 * round + 5]),
+        bit_plane_for_both_blocks(keys[8 * round + 6]),
+        bit_plane_for_both_blocks(keys[8 * round + 7]),
     ];
     xor_planes(state, key)
 }

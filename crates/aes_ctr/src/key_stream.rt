@@ -3,7 +3,7 @@ ghost use Rattle.std.specs.Prelude.{◌≡◌, ◌+◌, ◌*◌, ◌%◌, ◌<�
 ghost use Rattle.std.specs.Simd.Lanes.{zip2};
 ghost use Rattle.aes_ctr.specs.Aes.{key_schedule};
 ghost use Rattle.aes_ctr.specs.CounterMode.{counter_block, key_stream_block, FitsKeyStream, XorsKeyStream};
-ghost use Rattle.aes_ctr.specs.Inside.PlaneSteps.{XorsByPlanes};
+ghost use Rattle.aes_ctr.specs.Inside.PlaneSteps.{XorsKeyStreamByPlanes};
 ghost use Rattle.aes_ctr.specs.Planes.{AreKeyPlanes, plane};
 
 use crate::block_cipher::Aes256;
@@ -25,14 +25,15 @@ pub(crate) fn key_stream_block(aes: &Aes256, number: u64) -> [u8; 16]
     aes.block(&counter_block(number).to_array())
 }
 
-fn xor_into(bytes: &mut [u8], stream: u8x16)
-    requires one_block { length bytes.old ≡ 16 }
-    ensures xored { bytes.new ≡ zip2 bit_xor bytes.old stream }
+// Xors a piece of the key stream, one block or two, into as many bytes.
+fn xor_into<const N: usize>(bytes: &mut [u8], stream: Simd<u8, N>)
+    requires as_long { length bytes.old ≡ N }
+    ensures xored { bytes.new ≡ zip2 bit_xor bytes.old stream.entry }
 {
-    (u8x16::from_slice(bytes) ^ stream).copy_to_slice(bytes);
+    (Simd::<u8, N>::from_slice(bytes) ^ stream).copy_to_slice(bytes);
 }
 
-fn xor_block(aes: &Aes256, number: u64, bytes: &mut [u8])
+fn xor_one_block_with_key_stream(aes: &Aes256, number: u64, bytes: &mut [u8])
     requires one_block { length bytes.old ≡ 16 }
     ensures xored { XorsKeyStream aes.now (16 * number) bytes.old bytes.new }
 {
@@ -68,28 +69,21 @@ fn sixteen_blocks(planes: &KeyPlanes, number: u64) -> [u8x32; 8]
     )
 }
 
-fn xor_into_pair(bytes: &mut [u8], stream: u8x32)
-    requires two_blocks { length bytes.old ≡ 32 }
-    ensures xored { bytes.new ≡ zip2 bit_xor bytes.old stream }
-{
-    (u8x32::from_slice(bytes) ^ stream).copy_to_slice(bytes);
-}
-
 fn xor_sixteen_blocks(planes: &KeyPlanes, number: u64, bytes: &mut [u8])
     requires sixteen_blocks { length bytes.old ≡ 256 }
     requires room { number + 16 ≤ 2 ^ 64 }
-    ensures xored { XorsByPlanes planes.now number bytes.old bytes.new }
+    ensures xored { XorsKeyStreamByPlanes planes.now number bytes.old bytes.new }
 {
     let stream = sixteen_blocks(planes, number);
     for i in 0..8 {
-        xor_into_pair(&mut bytes[32 * i..32 * i + 32], stream[i]);
+        xor_into(&mut bytes[32 * i..32 * i + 32], stream[i]);
     }
 }
 
 fn xor_groups_of_sixteen(planes: &KeyPlanes, number: u64, bytes: &mut [u8])
     requires whole_groups { length bytes.old % 256 ≡ 0 }
     requires room { FitsKeyStream (16 * number) bytes.old }
-    ensures xored { XorsByPlanes planes.now number bytes.old bytes.new }
+    ensures xored { XorsKeyStreamByPlanes planes.now number bytes.old bytes.new }
 {
     for i in 0..bytes.len() / 256 {
         xor_sixteen_blocks(
@@ -106,7 +100,7 @@ fn xor_single_blocks(aes: &Aes256, number: u64, bytes: &mut [u8])
     ensures xored { XorsKeyStream aes.now (16 * number) bytes.old bytes.new }
 {
     for i in 0..bytes.len() / 16 {
-        xor_block(aes, number + i as u64, &mut bytes[16 * i..16 * i + 16]);
+        xor_one_block_with_key_stream(aes, number + i as u64, &mut bytes[16 * i..16 * i + 16]);
     }
 }
 
@@ -114,7 +108,7 @@ fn xor_single_blocks(aes: &Aes256, number: u64, bytes: &mut [u8])
 /// [`Ctr`](crate::Ctr) does after as many blocks. The first block has the number 0. The planes are those of the key, by
 /// [`Aes256::key_planes`]. Any number of whole blocks of 16 bytes is taken whose end in the key stream, in bytes, is below
 /// 2^64; none is refused.
-pub fn xor_blocks(aes: &Aes256, planes: &KeyPlanes, number: u64, bytes: &mut [u8])
+pub fn xor_blocks_with_key_stream(aes: &Aes256, planes: &KeyPlanes, number: u64, bytes: &mut [u8])
     requires planes { AreKeyPlanes (key_schedule aes.now) planes.now }
     requires whole_blocks { length bytes.old % 16 ≡ 0 }
     requires room { FitsKeyStream (16 * number) bytes.old }

@@ -18,7 +18,7 @@
 //! assert_eq!(rt; decryption.position(), 25);
 //! ```
 //!
-//! The tests run these lines. [`xor_blocks`] does the same to whole blocks, from the block of any number on.
+//! The tests run these lines. [`xor_blocks_with_key_stream`] does the same to whole blocks, from the block of any number on.
 #![tactic(auto)]
 
 mod add_round_key;
@@ -42,4 +42,4 @@ mod transposition;
 pub use block_cipher::Aes256;
 pub use counter_mode::Ctr;
 pub use key_planes::KeyPlanes;
-pub use key_stream::xor_blocks;
+pub use key_stream::xor_blocks_with_key_stream;

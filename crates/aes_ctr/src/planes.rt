@@ -1,7 +1,7 @@
 //! Eight pairs of blocks side by side: bit b of lane j of plane k is bit k of byte j of pair b.
-ghost use Rattle.std.specs.Prelude.{◌≡◌, ◌++◌, ℕ, List, bit_xor};
+ghost use Rattle.std.specs.Prelude.{◌≡◌, ◌<◌, ◌++◌, ℕ, List, bit_xor};
 ghost use Rattle.std.specs.Simd.Lanes.{zip2};
-ghost use Rattle.aes_ctr.specs.Planes.{IsHeld};
+ghost use Rattle.aes_ctr.specs.Planes.{BitPlanesHoldBytes, plane};
 
 use std::simd::prelude::*;
 
@@ -23,8 +23,8 @@ pub(crate) fn joined(first: u8x16, second: u8x16) -> u8x32
 
 #[inline(always)]
 pub(crate) fn xor_planes(left: Planes, right: Planes) -> Planes
-    ensures held { (b : ℕ) (first second : List ℕ) → IsHeld b left first → IsHeld b right second
-        → IsHeld b result (zip2 bit_xor first second) }
+    ensures held { (b : ℕ) (first second : List ℕ) → BitPlanesHoldBytes b left first → BitPlanesHoldBytes b right second
+        → BitPlanesHoldBytes b result (zip2 bit_xor first second) }
 {
     let [a0, a1, a2, a3, a4, a5, a6, a7] = left;
     let [b0, b1, b2, b3, b4, b5, b6, b7] = right;
@@ -37,5 +37,24 @@ pub(crate) fn xor_planes(left: Planes, right: Planes) -> Planes
         a5 ^ b5,
         a6 ^ b6,
         a7 ^ b7,
+    ]
+}
+
+// What `step` makes of each plane.
+#[inline(always)]
+pub(crate) fn each_plane<F: Fn(u8x32) -> u8x32>(planes: Planes, step: F) -> Planes
+    requires callable { F.IsAlwaysCallable step }
+    ensures steps { (k : ℕ) → k < 8 → F.post step (plane planes k) (plane result k) }
+{
+    let [a, b, c, d, e, f, g, h] = planes;
+    [
+        step(a),
+        step(b),
+        step(c),
+        step(d),
+        step(e),
+        step(f),
+        step(g),
+        step(h),
     ]
 }

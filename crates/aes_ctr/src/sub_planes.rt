@@ -4,8 +4,8 @@
 ghost use Rattle.std.specs.Prelude.{◌≡◌, ◌-◌, ◌<◌, ◌++◌, ℕ, List, bit_and, bit_xor, replicate};
 ghost use Rattle.std.specs.Simd.Lanes.{zip2};
 ghost use Rattle.aes_ctr.specs.Aes.{sub_bytes};
-ghost use Rattle.aes_ctr.specs.Inside.Circuit.{input_sums, inverse_of_norm, norm, output_wires, products};
-ghost use Rattle.aes_ctr.specs.Planes.{IsBlock, IsHeld, plane};
+ghost use Rattle.aes_ctr.specs.Inside.Circuit.{s_box_input_sums, inverse_of_norm, norm, output_wires, products};
+ghost use Rattle.aes_ctr.specs.Planes.{IsAesBlock, BitPlanesHoldBytes, plane};
 
 use crate::planes::Planes;
 use std::simd::prelude::*;
@@ -13,8 +13,8 @@ use std::simd::prelude::*;
 // The sums of input wires that the rest of the circuit takes: the last input wire at place 0, and each of the wires y1
 // to y21 at the place of its number.
 #[inline(always)]
-fn input_sums(planes: Planes) -> [u8x32; 22]
-    ensures wires { result ≡ input_sums (zip2 bit_xor) (λ wire. plane planes (7 - wire)) }
+fn s_box_input_sums(planes: Planes) -> [u8x32; 22]
+    ensures wires { result ≡ s_box_input_sums (zip2 bit_xor) (λ wire. plane planes (7 - wire)) }
 {
     let [x7, x6, x5, x4, x3, x2, x1, x0] = planes;
     let t0 = x1 ^ x2;
@@ -198,9 +198,9 @@ fn output_wires(products: [u8x32; 18]) -> Planes
 // SubBytes of the blocks that the planes hold.
 #[inline(always)]
 pub(crate) fn sub_planes(planes: Planes) -> Planes
-    ensures held { (b : ℕ) (first second : List ℕ) → b < 8 → IsBlock first → IsBlock second → IsHeld b planes (first ++ second)
-        → IsHeld b result (sub_bytes first ++ sub_bytes second) }
+    ensures held { (b : ℕ) (first second : List ℕ) → b < 8 → IsAesBlock first → IsAesBlock second → BitPlanesHoldBytes b planes (first ++ second)
+        → BitPlanesHoldBytes b result (sub_bytes first ++ sub_bytes second) }
 {
-    let sums = input_sums(planes);
+    let sums = s_box_input_sums(planes);
     output_wires(products(sums, inverse_of_norm(norm(sums))))
 }

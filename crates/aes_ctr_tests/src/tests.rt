@@ -1,5 +1,5 @@
 //! The vectors of the standards, and the bodies beside one another.
-use aes_ctr::{Aes256, Ctr, xor_blocks};
+use aes_ctr::{Aes256, Ctr, xor_blocks_with_key_stream};
 
 // The key 00 01 .. 1f of FIPS 197, C.3.
 const COUNTING_KEY: [u8; 32] = [
@@ -194,9 +194,9 @@ fn empty_piece_changes_nothing(rt: HostRuntime) {
 fn high_block_numbers(rt: HostRuntime) {
     let aes = Aes256::new(&COUNTING_KEY);
     let mut bytes = [0; 272];
-    xor_blocks(&aes, &aes.key_planes(), (1 << 32) - 1, &mut bytes);
+    xor_blocks_with_key_stream(&aes, &aes.key_planes(), (1 << 32) - 1, &mut bytes);
     assert!(rt; bytes == BLOCKS_PAST_2_32);
     let mut bytes = [0; 16];
-    xor_blocks(&aes, &aes.key_planes(), (1 << 60) - 2, &mut bytes);
+    xor_blocks_with_key_stream(&aes, &aes.key_planes(), (1 << 60) - 2, &mut bytes);
     assert!(rt; bytes == LAST_BLOCK);
 }

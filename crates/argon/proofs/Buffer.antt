@@ -8,7 +8,7 @@ use Rattle.std.proofs.lemmas.Bool.Decides.{eqb_tells}
 use Rattle.std.proofs.lemmas.Bool.{cases_lt}
 use Rattle.std.proofs.Math.Nat.{mul-le-mul_right, mul-le-mul_left, mod-lt}
 use Rattle.argon.specs.Argon2.{block_at, matrix_block}
-use Rattle.argon.specs.Buffer.{HoldsNewest, IsInSlice, block_held}
+use Rattle.argon.specs.Buffer.{HoldsNewestBlocks, IsInSlice, block_held}
 use Rattle.argon.specs.Parameters.{Parameters, lane_len, segment_len}
 use Rattle.argon.specs.Reference.{reference_lane}
 use Rattle.argon.proofs.MatrixBlocks.{IsPlace, block_at_same, block_is_next, reads}
@@ -42,7 +42,7 @@ reference_lane-lt c pass lane slice j h = lane_by (nat_eq pass 0 && nat_eq slice
 
 -- the block that a lane makes from what the buffer holds is that of the matrix
 pub block_at_is_block : (c : Parameters) (h0 : List ℕ) (buf : List (List ℕ)) (next : ℕ → ℕ) (n lane pass slice index : ℕ)
-    → HoldsNewest c h0 buf next → IsInSlice c pass slice next → IsPlace c n pass slice index → 2 ≤ segment_len c → 2 ≤ n
+    → HoldsNewestBlocks c h0 buf next → IsInSlice c pass slice next → IsPlace c n pass slice index → 2 ≤ segment_len c → 2 ≤ n
     → lane < c.lanes → next lane ≡ n
     → block_at c (block_held c buf) n pass lane slice index ≡ matrix_block c h0 n lane
 block_at_is_block c h0 buf next n lane pass slice index newest within p hs hn hl at =
@@ -68,11 +68,11 @@ block_at_is_block c h0 buf next n lane pass slice index newest within p hs hn hl
 
 -- a lane makes its next block: the buffer holds the newest blocks still
 pub step_newest : (c : Parameters) (h0 : List ℕ) (buf : List (List ℕ)) (next after : ℕ → ℕ) (new : List ℕ) (n lane pass slice index : ℕ)
-    → HoldsNewest c h0 buf next → IsInSlice c pass slice next → IsPlace c n pass slice index → 2 ≤ segment_len c → 2 ≤ n
+    → HoldsNewestBlocks c h0 buf next → IsInSlice c pass slice next → IsPlace c n pass slice index → 2 ≤ segment_len c → 2 ≤ n
     → lane < c.lanes → next lane ≡ n → length buf ≡ c.lanes * lane_len c
     → after lane ≡ n + 1 → ((l : ℕ) → l ≢ lane → after l ≡ next l)
     → new ≡ block_at c (block_held c buf) n pass lane slice index
-    → HoldsNewest c h0 (set buf (lane * lane_len c + n % lane_len c) new) after
+    → HoldsNewestBlocks c h0 (set buf (lane * lane_len c + n % lane_len c) new) after
 step_newest c h0 buf next after new n lane pass slice index newest within p hs hn hl at lb now_after rest_after e =
     let q : ℕ = lane_len c in
     let place : ℕ = lane * lane_len c + n % lane_len c in
@@ -105,7 +105,7 @@ step_newest c h0 buf next after new n lane pass slice index newest within p hs h
 
 -- what is held depends on the numbers that come next alone
 pub newest_same : (c : Parameters) (h0 : List ℕ) (buf : List (List ℕ)) (a b : ℕ → ℕ) → ((l : ℕ) → l < c.lanes → b l ≡ a l)
-    → HoldsNewest c h0 buf a → HoldsNewest c h0 buf b
+    → HoldsNewestBlocks c h0 buf a → HoldsNewestBlocks c h0 buf b
 newest_same c h0 buf a b same newest = record {
   holds = λ l n known below near.
       let e : b l ≡ a l = same l known in

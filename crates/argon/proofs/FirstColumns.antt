@@ -3,8 +3,8 @@ use Rattle.std.proofs.Common.{◌≡◌, ◌≢◌, ℕ, ◌+◌, ◌*◌, ◌%�
 use Rattle.std.proofs.lemmas.List.{get_or-set_same, get_or-set_other, append_assoc, append-nil}
 use Rattle.std.proofs.lemmas.Bool.Decides.{eqb_tells}
 use Rattle.std.proofs.Math.Nat.{mod-eq_of_lt}
-use Rattle.argon.specs.Argon2.{first_block}
-use Rattle.argon.specs.Buffer.{HoldsNewest}
+use Rattle.argon.specs.Argon2.{block_from_h0}
+use Rattle.argon.specs.Buffer.{HoldsNewestBlocks}
 use Rattle.argon.specs.Parameters.{Parameters, lane_len, segment_len}
 use Rattle.argon.proofs.Buffer.{lanes_apart}
 use Rattle.argon.proofs.MatrixBlocks.{block_first}
@@ -14,9 +14,9 @@ three_joined a b c = rw (append-nil c) (sym (append_assoc a b c))
 
 -- the first two columns of one more lane
 pub first_columns_more : (h0 : List ℕ) (buf : List (List ℕ)) (q lane : ℕ) (a b : List ℕ) → 2 ≤ q → lane * q + 1 < length buf
-    → a ≡ first_block h0 0 lane → b ≡ first_block h0 1 lane
-    → ((k n : ℕ) → k < lane → n < 2 → get_or buf (k * q + n) [] ≡ first_block h0 n k)
-    → (k n : ℕ) → k < lane + 1 → n < 2 → get_or (set (set buf (lane * q) a) (lane * q + 1) b) (k * q + n) [] ≡ first_block h0 n k
+    → a ≡ block_from_h0 h0 0 lane → b ≡ block_from_h0 h0 1 lane
+    → ((k n : ℕ) → k < lane → n < 2 → get_or buf (k * q + n) [] ≡ block_from_h0 h0 n k)
+    → (k n : ℕ) → k < lane + 1 → n < 2 → get_or (set (set buf (lane * q) a) (lane * q + 1) b) (k * q + n) [] ≡ block_from_h0 h0 n k
 first_columns_more h0 buf q lane a b hq fits ea eb done k n hk hn =
     let one : List (List ℕ) = set buf (lane * q) a in
     let len : length (set buf (lane * q) a) ≡ length buf = length-set {A = List ℕ} buf (lane * q) a in
@@ -42,11 +42,11 @@ first_columns_more h0 buf q lane a b hq fits ea eb done k n hk hn =
 
 -- with the first two columns of all lanes every place holds the newest
 pub columns_newest : (c : Parameters) (h0 : List ℕ) (buf : List (List ℕ)) (q lanes : ℕ) → 2 ≤ segment_len c → q ≡ lane_len c → lanes ≡ c.lanes
-    → ((k n : ℕ) → k < lanes → n < 2 → get_or buf (k * q + n) [] ≡ first_block h0 n k)
-    → HoldsNewest c h0 buf (λ _. 2)
+    → ((k n : ℕ) → k < lanes → n < 2 → get_or buf (k * q + n) [] ≡ block_from_h0 h0 n k)
+    → HoldsNewestBlocks c h0 buf (λ _. 2)
 columns_newest c h0 buf q lanes hs eq el done = record {
   holds = λ l n known below near.
       let at : n % lane_len c ≡ n = mod-eq_of_lt (omega arith) in
-      let from : get_or buf (l * lane_len c + n) [] ≡ first_block h0 n l = rw (← eq) (done l n (omega arith) below) in
+      let from : get_or buf (l * lane_len c + n) [] ≡ block_from_h0 h0 n l = rw (← eq) (done l n (omega arith) below) in
       ap (λ (i : ℕ). get_or buf (l * lane_len c + i) []) at ∙ from ∙ sym (block_first c h0 n l below known);
 }

@@ -5,10 +5,9 @@ use Rattle.std.specs.Simd.Lanes.{zip2}
 use Rattle.std.specs.Int.{rotate_right}
 use Rattle.blake.specs.Words.{along}
 use Rattle.blake.specs.Blake2b.{mixing_places}
-use Rattle.argon.specs.Compression.{mixed_words, permutation, words_after_mixings}
+use Rattle.argon.specs.Compression.{mixed_words, permutation, words_after_gb_steps}
 use Rattle.four_words.proofs.FourWords.{below_four}
-use Rattle.argon.specs.Inside.FourWords.{by_columns, by_diagonals, list_at, words_across}
-use Rattle.argon.specs.declared.four_lists.FourLists.{FourLists}
+use Rattle.argon.specs.Inside.FourWords.{FourLists, turned_to_columns, turned_to_diagonals, list_at, word_of_each_vector}
 
 -- two shifts of each word and an or are a rotation
 pub shifts_rotate : (k : ℕ) → 0 < k → k < 64 → (a : List ℕ) → length a ≡ 16 → (j : ℕ) → j < 16
@@ -36,7 +35,7 @@ twice_added a b x y = omega arith
 
 -- z is GB of x at the four places of each list
 abbrev pub Mixes : FourLists → FourLists → Type 0
-Mixes x z = (j : ℕ) → j < 16 → words_across j z ≡ mixed_words (words_across j x)
+Mixes x z = (j : ℕ) → j < 16 → word_of_each_vector j z ≡ mixed_words (word_of_each_vector j x)
 
 -- sixteen words after four GB more, from one of the eight on
 abbrev mixed_from : ℕ → List ℕ → List ℕ
@@ -44,13 +43,13 @@ mixed_from k w =
     along mixed_words (along mixed_words (along mixed_words (along mixed_words w (get_or mixing_places k [])) (get_or mixing_places (suc k) []))
     (get_or mixing_places (suc (suc k)) [])) (get_or mixing_places (suc (suc (suc k))) [])
 
-four_more : (v w u : List ℕ) (k : ℕ) → words_after_mixings v k ≡ w → mixed_from k w ≡ u
-    → words_after_mixings v (suc (suc (suc (suc k)))) ≡ u
-unfolding words_after_mixings
+four_more : (v w u : List ℕ) (k : ℕ) → words_after_gb_steps v k ≡ w → mixed_from k w ≡ u
+    → words_after_gb_steps v (suc (suc (suc (suc k)))) ≡ u
+unfolding words_after_gb_steps
 four_more v w u k h g = rw h g
 
-none : (v : List ℕ) → words_after_mixings v 0 ≡ v
-unfolding words_after_mixings
+none : (v : List ℕ) → words_after_gb_steps v 0 ≡ v
+unfolding words_after_gb_steps
 none v = refl
 
 columns_are : (x z : FourLists) → Mixes x z → (k : ℕ) → k < 4 → mixed_from 0 (list_at k x) ≡ list_at k z
@@ -60,16 +59,16 @@ columns_are x z h = below_four (λ k. mixed_from 0 (list_at k x) ≡ list_at k z
     (rw (← h 8 (lit< tt), ← h 9 (lit< tt), ← h 10 (lit< tt), ← h 11 (lit< tt)) refl)
     (rw (← h 12 (lit< tt), ← h 13 (lit< tt), ← h 14 (lit< tt), ← h 15 (lit< tt)) refl)
 
-diagonals_are : (x z : FourLists) → Mixes (by_diagonals x) z → (k : ℕ) → k < 4 → mixed_from 4 (list_at k x) ≡ list_at k (by_columns z)
-diagonals_are x z h = below_four (λ k. mixed_from 4 (list_at k x) ≡ list_at k (by_columns z))
+diagonals_are : (x z : FourLists) → Mixes (turned_to_diagonals x) z → (k : ℕ) → k < 4 → mixed_from 4 (list_at k x) ≡ list_at k (turned_to_columns z)
+diagonals_are x z h = below_four (λ k. mixed_from 4 (list_at k x) ≡ list_at k (turned_to_columns z))
     (rw (← h 0 (lit< tt), ← h 1 (lit< tt), ← h 2 (lit< tt), ← h 3 (lit< tt)) refl)
     (rw (← h 4 (lit< tt), ← h 5 (lit< tt), ← h 6 (lit< tt), ← h 7 (lit< tt)) refl)
     (rw (← h 8 (lit< tt), ← h 9 (lit< tt), ← h 10 (lit< tt), ← h 11 (lit< tt)) refl)
     (rw (← h 12 (lit< tt), ← h 13 (lit< tt), ← h 14 (lit< tt), ← h 15 (lit< tt)) refl)
 
 -- of each list: GB at the columns, a turn, GB at the diagonals and the turn back are P
-pub permuted_is : (x y z : FourLists) → Mixes x y → Mixes (by_diagonals y) z
-    → (k : ℕ) → k < 4 → permutation (list_at k x) ≡ list_at k (by_columns z)
+pub permuted_is : (x y z : FourLists) → Mixes x y → Mixes (turned_to_diagonals y) z
+    → (k : ℕ) → k < 4 → permutation (list_at k x) ≡ list_at k (turned_to_columns z)
 permuted_is x y z h g k within =
     four_more (list_at k x) _ _ 4
     (four_more (list_at k x) _ _ 0 (none (list_at k x)) (columns_are x y h k within))

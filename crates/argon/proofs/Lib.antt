@@ -12,7 +12,7 @@ pub mod ReadPlaces
 pub mod ReferenceSet
 pub mod RowsAndColumns
 pub mod Slices
-pub mod Weaving
+pub mod SliceProgress
 pub mod WorkLeft
 pub mod WordPlaces
 pub mod Woven

@@ -9,36 +9,36 @@ use Rattle.std.proofs.lemmas.Nat.{div-mul-add}
 use Rattle.std.proofs.lemmas.Bool.{eq-eqb, ne_eqb}
 use Rattle.std.proofs.Math.Seq.{get_or-append_seam}
 use Rattle.std.proofs.Math.Nat.{mul-le-mul_right, mul-add-mod_self_right, mod-eq_of_lt}
-use Rattle.argon.specs.Argon2.{block_at, block_of, columns_made, first_block, is_xored_in, matrix_block, next_block, stored_block}
+use Rattle.argon.specs.Argon2.{block_at, block_of, matrix_columns, block_from_h0, is_xored_in, matrix_block, next_block, stored_block}
 use Rattle.argon.specs.Compression.{compression}
 use Rattle.argon.specs.Parameters.{Parameters, lane_len, segment_len}
 use Rattle.argon.specs.Reference.{reference_lane, reference_number, reference_words}
 use Rattle.argon.proofs.ReferenceSet.{named_within}
 
-pub length-columns_made : (c : Parameters) (h0 : List ℕ) (k : ℕ) → length (columns_made c h0 k) ≡ k + 2
-unfolding columns_made
-length-columns_made c h0 zero = refl
-length-columns_made c h0 (suc k) =
-    let ih = length-columns_made c h0 k in
-    omega (arith, length-append (columns_made c h0 k) (map (next_block c (block_of (columns_made c h0 k)) (length (columns_made c h0 k))) (range_with_len 0 c.lanes) ∷ []), ih)
+pub length-matrix_columns : (c : Parameters) (h0 : List ℕ) (k : ℕ) → length (matrix_columns c h0 k) ≡ k + 2
+unfolding matrix_columns
+length-matrix_columns c h0 zero = refl
+length-matrix_columns c h0 (suc k) =
+    let ih = length-matrix_columns c h0 k in
+    omega (arith, length-append (matrix_columns c h0 k) (map (next_block c (block_of (matrix_columns c h0 k)) (length (matrix_columns c h0 k))) (range_with_len 0 c.lanes) ∷ []), ih)
 
 -- a column that is made stays
-columns_made_grow : (c : Parameters) (h0 : List ℕ) (k i : ℕ) → i < k + 2 → get_or (columns_made c h0 (suc k)) i [] ≡ get_or (columns_made c h0 k) i []
-unfolding columns_made
-columns_made_grow c h0 k i lt = get_or_append_left (columns_made c h0 k) _ [] i (omega (arith, length-columns_made c h0 k))
+columns_made_grow : (c : Parameters) (h0 : List ℕ) (k i : ℕ) → i < k + 2 → get_or (matrix_columns c h0 (suc k)) i [] ≡ get_or (matrix_columns c h0 k) i []
+unfolding matrix_columns
+columns_made_grow c h0 k i lt = get_or_append_left (matrix_columns c h0 k) _ [] i (omega (arith, length-matrix_columns c h0 k))
 
-columns_made_stay : (c : Parameters) (h0 : List ℕ) (k i d : ℕ) → i < k + 2 → get_or (columns_made c h0 (k + d)) i [] ≡ get_or (columns_made c h0 k) i []
+columns_made_stay : (c : Parameters) (h0 : List ℕ) (k i d : ℕ) → i < k + 2 → get_or (matrix_columns c h0 (k + d)) i [] ≡ get_or (matrix_columns c h0 k) i []
 columns_made_stay c h0 k i zero lt = let e : k + 0 ≡ k = omega arith in rw e refl
 columns_made_stay c h0 k i (suc d) lt =
     let e : k + suc d ≡ suc (k + d) = omega arith in
     rw e (columns_made_grow c h0 (k + d) i (omega arith) ∙ columns_made_stay c h0 k i d lt)
 
 -- B is what stands in each longer list
-pub block_of-columns_made : (c : Parameters) (h0 : List ℕ) (k n lane : ℕ) → n < k + 2 → block_of (columns_made c h0 k) n lane ≡ matrix_block c h0 n lane
+pub block_of-matrix_columns : (c : Parameters) (h0 : List ℕ) (k n lane : ℕ) → n < k + 2 → block_of (matrix_columns c h0 k) n lane ≡ matrix_block c h0 n lane
 unfolding matrix_block
-block_of-columns_made c h0 k n lane lt =
+block_of-matrix_columns c h0 k n lane lt =
     let e : n - 1 + (k - (n - 1)) ≡ k = omega arith in
-    let same : get_or (columns_made c h0 (n - 1 + (k - (n - 1)))) n [] ≡ get_or (columns_made c h0 (n - 1)) n [] =
+    let same : get_or (matrix_columns c h0 (n - 1 + (k - (n - 1)))) n [] ≡ get_or (matrix_columns c h0 (n - 1)) n [] =
     columns_made_stay c h0 (n - 1) n (k - (n - 1)) (omega arith) in
     ap (λ (col : List (List ℕ)). get_or col lane []) (rw e at same)
 
@@ -120,16 +120,16 @@ reads c n lane pass slice index j r l p hs hn er el =
     (omega (arith, le, within.0, p.number), omega (arith, within.1, p.number, p.indices), other, omega (arith, within.1, p.number))
 
 -- the last column of a longer list
-pub columns_made_last : (c : Parameters) (h0 : List ℕ) (k n lane : ℕ) → length (columns_made c h0 k) ≡ n → lane < c.lanes
-    → block_of (columns_made c h0 (suc k)) n lane ≡ next_block c (block_of (columns_made c h0 k)) n lane
-unfolding columns_made
+pub columns_made_last : (c : Parameters) (h0 : List ℕ) (k n lane : ℕ) → length (matrix_columns c h0 k) ≡ n → lane < c.lanes
+    → block_of (matrix_columns c h0 (suc k)) n lane ≡ next_block c (block_of (matrix_columns c h0 k)) n lane
+unfolding matrix_columns
 columns_made_last c h0 k n lane len hl =
-    let col : List (List ℕ) = map (next_block c (block_of (columns_made c h0 k)) (length (columns_made c h0 k))) (range_with_len 0 c.lanes) in
-    let seam : get_or (columns_made c h0 k ++ col ∷ []) (length (columns_made c h0 k)) [] ≡ col = get_or-append_seam (columns_made c h0 k) col [] [] in
-    let seam' : get_or (columns_made c h0 k ++ col ∷ []) n [] ≡ col = ap (λ (i : ℕ). get_or (columns_made c h0 k ++ col ∷ []) i []) (sym len) ∙ seam in
+    let col : List (List ℕ) = map (next_block c (block_of (matrix_columns c h0 k)) (length (matrix_columns c h0 k))) (range_with_len 0 c.lanes) in
+    let seam : get_or (matrix_columns c h0 k ++ col ∷ []) (length (matrix_columns c h0 k)) [] ≡ col = get_or-append_seam (matrix_columns c h0 k) col [] [] in
+    let seam' : get_or (matrix_columns c h0 k ++ col ∷ []) n [] ≡ col = ap (λ (i : ℕ). get_or (matrix_columns c h0 k ++ col ∷ []) i []) (sym len) ∙ seam in
     ap (λ (x : List (List ℕ)). get_or x lane []) seam'
-    ∙ get_or-map-range_with_len (next_block c (block_of (columns_made c h0 k)) (length (columns_made c h0 k))) 0 c.lanes lane lane [] hl (omega arith)
-    ∙ ap (λ (i : ℕ). next_block c (block_of (columns_made c h0 k)) i lane) len
+    ∙ get_or-map-range_with_len (next_block c (block_of (matrix_columns c h0 k)) (length (matrix_columns c h0 k))) 0 c.lanes lane lane [] hl (omega arith)
+    ∙ ap (λ (i : ℕ). next_block c (block_of (matrix_columns c h0 k)) i lane) len
 
 -- the equation of B, from 2 on
 pub block_is_next : (c : Parameters) (h0 : List ℕ) (n lane pass slice index : ℕ) → IsPlace c n pass slice index → 2 ≤ segment_len c → 2 ≤ n → lane < c.lanes
@@ -138,18 +138,18 @@ block_is_next c h0 n lane pass slice index p hs hn hl =
     let k : ℕ = n - 2 in
     let en : n - 1 ≡ suc k = omega arith in
     let e2 : k + 2 ≡ n = omega arith in
-    let len : length (columns_made c h0 k) ≡ n = length-columns_made c h0 k ∙ e2 in
-    let here : matrix_block c h0 n lane ≡ block_of (columns_made c h0 (suc k)) n lane = sym (block_of-columns_made c h0 (suc k) n lane (omega arith)) in
-    let last : block_of (columns_made c h0 (suc k)) n lane ≡ next_block c (block_of (columns_made c h0 k)) n lane = columns_made_last c h0 k n lane len hl in
-    here ∙ last ∙ next_block_at c (block_of (columns_made c h0 k)) n lane pass slice index p
-    ∙ block_at_same c (block_of (columns_made c h0 k)) (matrix_block c h0) n lane pass slice index
-    (block_of-columns_made c h0 k (n - 1) lane (omega arith))
-    (λ _. block_of-columns_made c h0 k (n - lane_len c) lane (omega arith))
-    (λ j r l er el. block_of-columns_made c h0 k r l (let w = reads c n lane pass slice index j r l p hs hn er el in omega (arith, w.0, e2)))
+    let len : length (matrix_columns c h0 k) ≡ n = length-matrix_columns c h0 k ∙ e2 in
+    let here : matrix_block c h0 n lane ≡ block_of (matrix_columns c h0 (suc k)) n lane = sym (block_of-matrix_columns c h0 (suc k) n lane (omega arith)) in
+    let last : block_of (matrix_columns c h0 (suc k)) n lane ≡ next_block c (block_of (matrix_columns c h0 k)) n lane = columns_made_last c h0 k n lane len hl in
+    here ∙ last ∙ next_block_at c (block_of (matrix_columns c h0 k)) n lane pass slice index p
+    ∙ block_at_same c (block_of (matrix_columns c h0 k)) (matrix_block c h0) n lane pass slice index
+    (block_of-matrix_columns c h0 k (n - 1) lane (omega arith))
+    (λ _. block_of-matrix_columns c h0 k (n - lane_len c) lane (omega arith))
+    (λ j r l er el. block_of-matrix_columns c h0 k r l (let w = reads c n lane pass slice index j r l p hs hn er el in omega (arith, w.0, e2)))
 
 -- the blocks of the first two columns
-pub block_first : (c : Parameters) (h0 : List ℕ) (n l : ℕ) → n < 2 → l < c.lanes → matrix_block c h0 n l ≡ first_block h0 n l
-unfolding matrix_block columns_made
-block_first c h0 zero l h hl = get_or-map-range_with_len (first_block h0 0) 0 c.lanes l l [] hl (omega arith)
-block_first c h0 (suc zero) l h hl = get_or-map-range_with_len (first_block h0 1) 0 c.lanes l l [] hl (omega arith)
+pub block_first : (c : Parameters) (h0 : List ℕ) (n l : ℕ) → n < 2 → l < c.lanes → matrix_block c h0 n l ≡ block_from_h0 h0 n l
+unfolding matrix_block matrix_columns
+block_first c h0 zero l h hl = get_or-map-range_with_len (block_from_h0 h0 0) 0 c.lanes l l [] hl (omega arith)
+block_first c h0 (suc zero) l h hl = get_or-map-range_with_len (block_from_h0 h0 1) 0 c.lanes l l [] hl (omega arith)
 block_first c h0 (suc (suc n)) l h hl = absurd (omega arith)

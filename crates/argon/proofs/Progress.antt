@@ -3,8 +3,8 @@ use Rattle.std.proofs.Common.{◌≡◌, ◌≢◌, ℕ, zero, suc, ◌+◌, ◌
 use Rattle.std.specs.Prelude.{if◌then◌else◌, ◌&&◌, min, max}
 use Rattle.std.proofs.lemmas.Bool.{ne_eqb, cases_lt}
 use Rattle.std.proofs.lemmas.Bool.Decides.{nat_tests}
-use Rattle.argon.specs.Buffer.{number_after_slices}
-use Rattle.argon.specs.Counts.{address_count, address_work, addresses_begun, first_index}
+use Rattle.argon.specs.Buffer.{column_number_after_slices}
+use Rattle.argon.specs.Counts.{address_block_count, address_work, address_blocks_made_at, first_index}
 use Rattle.argon.specs.Parameters.{Parameters, lane_len, segment_len}
 
 pub two_below : (s pass slice index : ℕ) → 2 ≤ s → (pass ≡ 0 → slice ≡ 0 → 2 ≤ index) → 2 ≤ pass * (4 * s) + (slice * s + index)
@@ -27,13 +27,13 @@ part_of first len part index h lt from to = (omega arith, λ two. omega arith, o
 
 -- one more column with the address blocks that are made with it
 pub addresses_more : (b : Bool) (index : ℕ)
-    → address_work b (max 1 (address_count (index + 1))) ≡ address_work b (max 1 (address_count index)) + address_work b (addresses_begun index)
+    → address_work b (max 1 (address_block_count (index + 1))) ≡ address_work b (max 1 (address_block_count index)) + address_work b (address_blocks_made_at index)
 addresses_more true index = grind (arith, nat_tests)
 addresses_more false index = refl
 
 -- ---- a whole slice
 
-pub next_later : (c : Parameters) (k : ℕ) → 0 < k → number_after_slices c k ≡ k * segment_len c
+pub next_later : (c : Parameters) (k : ℕ) → 0 < k → column_number_after_slices c k ≡ k * segment_len c
 next_later c zero h = absurd (omega arith)
 next_later c (suc k) h = refl
 
@@ -44,7 +44,7 @@ first_none (suc pass) slice h = let ne : suc pass ≢ 0 = omega arith in rw (ne_
 
 -- the number that comes next at the start of a slice
 pub next_is : (c : Parameters) (pass slice : ℕ)
-    → number_after_slices c (4 * pass + slice) ≡ pass * lane_len c + (slice * segment_len c + first_index pass slice)
+    → column_number_after_slices c (4 * pass + slice) ≡ pass * lane_len c + (slice * segment_len c + first_index pass slice)
 next_is c pass slice =
     elim (cases_lt 0 (4 * pass + slice)) [
       | inl later ↦
@@ -58,5 +58,5 @@ next_is c pass slice =
 
 -- the number that comes next at its end
 pub next_end : (c : Parameters) (pass slice : ℕ)
-    → number_after_slices c (4 * pass + slice + 1) ≡ pass * lane_len c + (slice * segment_len c + segment_len c)
+    → column_number_after_slices c (4 * pass + slice + 1) ≡ pass * lane_len c + (slice * segment_len c + segment_len c)
 next_end c pass slice = next_later c (4 * pass + slice + 1) (omega arith) ∙ omega arith

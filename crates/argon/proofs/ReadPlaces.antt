@@ -2,7 +2,7 @@
 use Rattle.std.proofs.Common.{◌≡◌, ◌≢◌, inl, inr, ℕ, ◌+◌, ◌-◌, ◌*◌, ◌/◌, ◌%◌, ◌<◌, ◌≤◌, true, List, refl, sym, ap, ◌∙◌, arith}
 use Rattle.std.proofs.lemmas.Bool.{cases_lt}
 use Rattle.std.proofs.Math.Nat.{mul-le-mul_right, mod-lt}
-use Rattle.argon.specs.Argon2.{block_at, block_by_words}
+use Rattle.argon.specs.Argon2.{block_at, stored_block_by_j1_j2}
 use Rattle.argon.specs.Buffer.{block_held}
 use Rattle.argon.specs.Laws.{IsMadeByReference}
 use Rattle.argon.specs.Parameters.{Parameters, lane_len, segment_len}
@@ -53,4 +53,4 @@ unfolding block_at
 made_along_plan c h0 blocks next pass lane slice index m free newest within at =
     let n : ℕ = number_of c pass slice index in
     sym (block_at_is_block c h0 blocks next n lane pass slice index newest within (place_is c pass lane slice index m) m.long (two_is c pass lane slice index m) m.lanes at)
-    ∙ ap (block_by_words c (block_held c blocks) n pass lane slice index) (word_is c pass lane slice index (block_held c blocks (n - 1) lane) free)
+    ∙ ap (stored_block_by_j1_j2 c (block_held c blocks) n pass lane slice index) (word_is c pass lane slice index (block_held c blocks (n - 1) lane) free)

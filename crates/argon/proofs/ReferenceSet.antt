@@ -4,7 +4,7 @@ use Rattle.std.specs.Prelude.{if◌then◌else◌}
 use Rattle.std.specs.List.{range_with_len}
 use Rattle.std.proofs.lemmas.List.FromFn.{length-range_with_len, get_or-range_with_len}
 use Rattle.std.proofs.Math.Nat.{mul-le-mul_right, mul-add-mod_self_right, mod_self}
-use Rattle.argon.specs.Inside.Places.{first_candidate, reference_set_len, candidate_count}
+use Rattle.argon.specs.Inside.Places.{reference_set_start, reference_set_len, candidate_count}
 use Rattle.argon.specs.Reference.{candidate_columns, reference_set, relative_place}
 
 -- one run after another
@@ -31,7 +31,7 @@ range_join3 a b d m n o c k e f g h =
     rw two (range_join a d (m + n) o c k (omega arith) g h)
 
 pub columns_standing_is : (s pass slice index : ℕ) (is_own : Bool) → slice < 4
-    → candidate_columns s pass slice index is_own ≡ range_with_len (first_candidate s pass slice) (candidate_count s pass slice (if is_own then index else 0))
+    → candidate_columns s pass slice index is_own ≡ range_with_len (reference_set_start s pass slice) (candidate_count s pass slice (if is_own then index else 0))
 columns_standing_is s zero slice index is_own h =
     range_join _ _ _ _ 0 (slice * s + (if is_own then index else 0)) (omega arith) (omega arith) (omega arith)
 columns_standing_is s (suc before) slice index is_own h =
@@ -52,10 +52,10 @@ one_at_most true = omega arith
 one_at_most false = omega arith
 
 pub reference_set_is : (s pass slice index : ℕ) (is_own : Bool) → slice < 4
-    → reference_set s pass slice index is_own ≡ range_with_len (first_candidate s pass slice) (reference_set_len s pass slice index is_own)
+    → reference_set s pass slice index is_own ≡ range_with_len (reference_set_start s pass slice) (reference_set_len s pass slice index is_own)
 reference_set_is s pass slice index is_own h =
     rw (columns_standing_is s pass slice index is_own h)
-    (front_kept (first_candidate s pass slice) (candidate_count s pass slice (if is_own then index else 0)) (is_own || nat_eq index 0))
+    (front_kept (reference_set_start s pass slice) (candidate_count s pass slice (if is_own then index else 0)) (is_own || nat_eq index 0))
 
 -- the place that J 1 names is in the set
 pub relative_place-lt : (w j : ℕ) → 0 < w → relative_place w j < w
@@ -64,13 +64,13 @@ relative_place-lt w j h = omega arith
 -- the number that J 1 names
 named_is : (s pass slice index : ℕ) (is_own : Bool) (j r : ℕ) → slice < 4 → 0 < reference_set_len s pass slice index is_own
     → r ≡ slice_index (reference_set s pass slice index is_own) (relative_place (length (reference_set s pass slice index is_own)) j)
-    → r ≡ first_candidate s pass slice + relative_place (reference_set_len s pass slice index is_own) j
+    → r ≡ reference_set_start s pass slice + relative_place (reference_set_len s pass slice index is_own) j
 named_is s pass slice index is_own j r hl some e =
-    let is : reference_set s pass slice index is_own ≡ range_with_len (first_candidate s pass slice) (reference_set_len s pass slice index is_own) =
+    let is : reference_set s pass slice index is_own ≡ range_with_len (reference_set_start s pass slice) (reference_set_len s pass slice index is_own) =
     reference_set_is s pass slice index is_own hl in
-    let len : length (range_with_len (first_candidate s pass slice) (reference_set_len s pass slice index is_own)) ≡ reference_set_len s pass slice index is_own =
+    let len : length (range_with_len (reference_set_start s pass slice) (reference_set_len s pass slice index is_own)) ≡ reference_set_len s pass slice index is_own =
     length-range_with_len _ _ in
-    let r' : r ≡ slice_index (range_with_len (first_candidate s pass slice) (reference_set_len s pass slice index is_own))
+    let r' : r ≡ slice_index (range_with_len (reference_set_start s pass slice) (reference_set_len s pass slice index is_own))
     (relative_place (reference_set_len s pass slice index is_own) j) = rw (is, len) at e in
     r' ∙ get_or-range_with_len _ _ _ 0 (relative_place-lt _ j some)
 
@@ -94,7 +94,7 @@ pub named_within : (s pass slice index : ℕ) (is_own : Bool) (j r : ℕ) → 2 
     → (r < pass * (4 * s) + slice * s + (if is_own then index else 0)) × (pass * (4 * s) + slice * s + s ≤ r + 4 * s)
 named_within s zero slice index is_own j r hs hl hi first e =
     let some : 0 < reference_set_len s zero slice index is_own = some_first s slice index is_own hs (first refl) in
-    let at : r ≡ first_candidate s zero slice + relative_place (reference_set_len s zero slice index is_own) j =
+    let at : r ≡ reference_set_start s zero slice + relative_place (reference_set_len s zero slice index is_own) j =
     named_is s zero slice index is_own j r hl some e in
     let lt : relative_place (reference_set_len s zero slice index is_own) j < reference_set_len s zero slice index is_own =
     relative_place-lt _ j some in
@@ -103,24 +103,24 @@ named_within s zero slice index is_own j r hs hl hi first e =
 named_within s (suc before) slice index is_own j r hs hl hi first e =
     let some : 0 < reference_set_len s (suc before) slice index is_own =
     omega (arith, one_at_most (is_own || nat_eq index 0)) in
-    let at : r ≡ first_candidate s (suc before) slice + relative_place (reference_set_len s (suc before) slice index is_own) j =
+    let at : r ≡ reference_set_start s (suc before) slice + relative_place (reference_set_len s (suc before) slice index is_own) j =
     named_is s (suc before) slice index is_own j r hl some e in
     let lt : relative_place (reference_set_len s (suc before) slice index is_own) j < reference_set_len s (suc before) slice index is_own =
     relative_place-lt _ j some in
     (omega arith, omega arith)
 
-pub start_later : (s pass slice : ℕ) → 0 < pass → first_candidate s pass slice % (4 * s) ≡ (slice + 1) * s % (4 * s)
+pub start_later : (s pass slice : ℕ) → 0 < pass → reference_set_start s pass slice % (4 * s) ≡ (slice + 1) * s % (4 * s)
 start_later s zero slice h = absurd (omega arith)
 start_later s (suc before) slice h = mul-add-mod_self_right before (4 * s) ((slice + 1) * s)
 
-pub start_last : (s pass slice : ℕ) → 0 < pass → slice ≡ 3 → first_candidate s pass slice % (4 * s) ≡ 0
+pub start_last : (s pass slice : ℕ) → 0 < pass → slice ≡ 3 → reference_set_start s pass slice % (4 * s) ≡ 0
 start_last s pass slice h e =
     start_later s pass slice h ∙ rw e (mod_self (4 * s))
 
 -- the number that J 1 names, by the set's length and first number
 pub named_number : (s pass slice index : ℕ) (is_own : Bool) (j : ℕ) → slice < 4 → 0 < reference_set_len s pass slice index is_own
     → slice_index (reference_set s pass slice index is_own) (relative_place (length (reference_set s pass slice index is_own)) j)
-    ≡ first_candidate s pass slice + relative_place (reference_set_len s pass slice index is_own) j
+    ≡ reference_set_start s pass slice + relative_place (reference_set_len s pass slice index is_own) j
 named_number s pass slice index is_own j hl some = named_is s pass slice index is_own j _ hl some refl
 
 -- no set that is used is empty

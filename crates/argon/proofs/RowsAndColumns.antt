@@ -4,7 +4,7 @@ use Rattle.std.proofs.lemmas.List.{take_all}
 use Rattle.std.proofs.lemmas.Simd.{take_more_put_chunk}
 use Rattle.blake.specs.Words.{words_at, with_words_at}
 use Rattle.blake.specs.Blake2b.{mixing_places}
-use Rattle.argon.specs.Compression.{block_after_columns, block_after_rows, mixed_words, permutation, row_places, words_after_mixings}
+use Rattle.argon.specs.Compression.{block_after_columns, block_after_rows, mixed_words, permutation, row_places, words_after_gb_steps}
 use Rattle.argon.specs.Inside.FourWords.{with_four_columns_permuted, with_four_rows_permuted, with_row_permuted}
 use Rattle.argon.proofs.WordPlaces.{apart, row_keyed, run_stored}
 
@@ -18,11 +18,11 @@ length-with_words_at v [] ws = refl
 length-with_words_at v (p ∷ ps) [] = refl
 length-with_words_at v (p ∷ ps) (w ∷ ws) = length-with_words_at (set v p w) ps ws ∙ length-set v p w
 
-length-mixings : (v : List ℕ) (k : ℕ) → length (words_after_mixings v k) ≡ length v
-unfolding words_after_mixings
+length-mixings : (v : List ℕ) (k : ℕ) → length (words_after_gb_steps v k) ≡ length v
+unfolding words_after_gb_steps
 length-mixings v zero = refl
 length-mixings v (suc k) =
-    length-with_words_at (words_after_mixings v k) (get_or mixing_places k []) (mixed_words (words_at (words_after_mixings v k) (get_or mixing_places k []))) ∙ length-mixings v k
+    length-with_words_at (words_after_gb_steps v k) (get_or mixing_places k []) (mixed_words (words_at (words_after_gb_steps v k) (get_or mixing_places k []))) ∙ length-mixings v k
 
 length-rows_into : (v w : List ℕ) (k : ℕ) → length (rows_into v w k) ≡ length w
 unfolding rows_into

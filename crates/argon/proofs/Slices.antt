@@ -3,7 +3,7 @@ use Rattle.std.proofs.Common.{◌≡◌, ◌≢◌, ℕ, zero, suc, ◌+◌, ◌
 use Rattle.std.proofs.lemmas.Bool.{ne_eqb, le-ltb, cases_lt}
 use Rattle.std.proofs.lemmas.Bool.Decides.{eqb_tells}
 use Rattle.std.proofs.Math.Nat.{mul-le-mul_right, mul-le-mul_left}
-use Rattle.argon.specs.Counts.{address_count, address_work, first_index, independent_segments, slice_work, work}
+use Rattle.argon.specs.Counts.{address_block_count, address_work, first_index, independent_segment_count, slice_work, work}
 use Rattle.argon.specs.Parameters.{Parameters, segment_len}
 use Rattle.argon.specs.Range.{IsInRangeWithAnyPassword}
 use Rattle.argon.specs.Reference.{is_independent}
@@ -36,12 +36,12 @@ parts p s a i =
     ap (λ (x : ℕ). p * x) e ∙ grind arith
 
 slice_later : (c : Parameters) (pass slice : ℕ) → 0 < 4 * pass + slice
-    → slice_work c pass slice ≡ c.lanes * segment_len c + 2 * address_count (segment_len c) * (c.lanes * one_if (is_independent c pass slice))
+    → slice_work c pass slice ≡ c.lanes * segment_len c + 2 * address_block_count (segment_len c) * (c.lanes * one_if (is_independent c pass slice))
 slice_later c pass slice h =
     let none : first_index pass slice ≡ 0 = first_none pass slice h in
-    let work : address_work (is_independent c pass slice) (address_count (segment_len c)) ≡ 2 * address_count (segment_len c) * one_if (is_independent c pass slice) =
-    address_work_is (is_independent c pass slice) (address_count (segment_len c)) in
-    rw (none, work) (parts c.lanes (segment_len c) (address_count (segment_len c)) (one_if (is_independent c pass slice)))
+    let work : address_work (is_independent c pass slice) (address_block_count (segment_len c)) ≡ 2 * address_block_count (segment_len c) * one_if (is_independent c pass slice) =
+    address_work_is (is_independent c pass slice) (address_block_count (segment_len c)) in
+    rw (none, work) (parts c.lanes (segment_len c) (address_block_count (segment_len c)) (one_if (is_independent c pass slice)))
 
 pub slices_more : (c : Parameters) (k : ℕ) → slices_work c (k + 1) ≡ slices_work c k + slice_work c (k / 4) (k % 4)
 unfolding slices_work
@@ -55,11 +55,11 @@ parts_first p s a i h =
     f ∙ ap (λ (x : ℕ). p * x) e ∙ grind arith
 
 slice_first : (c : Parameters) → 2 ≤ segment_len c
-    → slice_work c 0 0 + 2 * c.lanes ≡ c.lanes * segment_len c + 2 * address_count (segment_len c) * (c.lanes * one_if (is_independent c 0 0))
+    → slice_work c 0 0 + 2 * c.lanes ≡ c.lanes * segment_len c + 2 * address_block_count (segment_len c) * (c.lanes * one_if (is_independent c 0 0))
 slice_first c hs =
-    let work : address_work (is_independent c 0 0) (address_count (segment_len c)) ≡ 2 * address_count (segment_len c) * one_if (is_independent c 0 0) =
-    address_work_is (is_independent c 0 0) (address_count (segment_len c)) in
-    rw work (parts_first c.lanes (segment_len c) (address_count (segment_len c)) (one_if (is_independent c 0 0)) hs)
+    let work : address_work (is_independent c 0 0) (address_block_count (segment_len c)) ≡ 2 * address_block_count (segment_len c) * one_if (is_independent c 0 0) =
+    address_work_is (is_independent c 0 0) (address_block_count (segment_len c)) in
+    rw work (parts_first c.lanes (segment_len c) (address_block_count (segment_len c)) (one_if (is_independent c 0 0)) hs)
 
 sum_parts : (w v p x a i b k : ℕ) → w + 2 * p ≡ suc k * x + 2 * a * (p * i) → v ≡ x + 2 * a * (p * b)
     → (w + v) + 2 * p ≡ suc (suc k) * x + 2 * a * (p * (i + b))
@@ -70,7 +70,7 @@ sum_parts w v p x a i b k hw hv =
 
 -- the count of slices, by how many are independent
 slices_from : (c : Parameters) (k : ℕ) → 2 ≤ segment_len c
-    → slices_work c (suc k) + 2 * c.lanes ≡ suc k * (c.lanes * segment_len c) + 2 * address_count (segment_len c) * (c.lanes * independents c (suc k))
+    → slices_work c (suc k) + 2 * c.lanes ≡ suc k * (c.lanes * segment_len c) + 2 * address_block_count (segment_len c) * (c.lanes * independents c (suc k))
 unfolding slices_work independents
 slices_from c zero hs =
     let first = slice_first c hs in
@@ -79,7 +79,7 @@ slices_from c zero hs =
     let start : 0 + slice_work c 0 0 ≡ slice_work c 0 0 = omega arith in
     rw (one, none, start) first
 slices_from c (suc k) hs =
-    sum_parts (slices_work c (suc k)) (slice_work c (suc k / 4) (suc k % 4)) c.lanes (c.lanes * segment_len c) (address_count (segment_len c))
+    sum_parts (slices_work c (suc k)) (slice_work c (suc k / 4) (suc k % 4)) c.lanes (c.lanes * segment_len c) (address_block_count (segment_len c))
     (independents c (suc k)) (one_if (is_independent c (suc k / 4) (suc k % 4))) k
     (slices_from c k hs) (slice_later c (suc k / 4) (suc k % 4) (omega arith))
 
@@ -116,7 +116,7 @@ two_independent c (suc k) e =
     omega (arith, two_independent c k e)
 
 segments_are : (c : Parameters) (k : ℕ) → c.kind ≤ 2 → 4 * c.passes ≡ suc (suc k)
-    → c.lanes * independents c (suc (suc k)) ≡ independent_segments c
+    → c.lanes * independents c (suc (suc k)) ≡ independent_segment_count c
 segments_are c k h e =
     elim (eqb_tells c.kind 1) [
       | inl i ↦ ap (λ (x : ℕ). c.lanes * x) (all_independent c (suc (suc k)) i.1 ∙ sym e) ∙ rw i.1 (grind arith)
@@ -139,12 +139,12 @@ pub slices_work_is : (c : Parameters) → 2 ≤ segment_len c → 1 ≤ c.passes
 slices_work_is c hs hp hk =
     let k : ℕ = 4 * c.passes - 2 in
     let e : 4 * c.passes ≡ suc (suc k) = omega arith in
-    let all : slices_work c (4 * c.passes) + 2 * c.lanes ≡ 4 * c.passes * (c.lanes * segment_len c) + 2 * address_count (segment_len c) * (c.lanes * independents c (4 * c.passes)) =
+    let all : slices_work c (4 * c.passes) + 2 * c.lanes ≡ 4 * c.passes * (c.lanes * segment_len c) + 2 * address_block_count (segment_len c) * (c.lanes * independents c (4 * c.passes)) =
     rw e (slices_from c (suc k) hs) in
-    let segments : c.lanes * independents c (4 * c.passes) ≡ independent_segments c = rw e (segments_are c k hk e) in
+    let segments : c.lanes * independents c (4 * c.passes) ≡ independent_segment_count c = rw e (segments_are c k hk e) in
     let one : 1 * (c.lanes * (4 * segment_len c)) ≤ c.passes * (c.lanes * (4 * segment_len c)) = mul-le-mul_right (c.lanes * (4 * segment_len c)) hp in
     let two : c.lanes * 2 ≤ c.lanes * (4 * segment_len c) = mul-le-mul_left c.lanes (omega arith) in
-    done (slices_work c (4 * c.passes)) c.lanes c.passes (segment_len c) (address_count (segment_len c)) (independents c (4 * c.passes)) (independent_segments c)
+    done (slices_work c (4 * c.passes)) c.lanes c.passes (segment_len c) (address_block_count (segment_len c)) (independents c (4 * c.passes)) (independent_segment_count c)
     all segments (omega arith)
 
 -- in range there are two columns a segment at least

@@ -5,9 +5,8 @@ use Rattle.std.specs.Simd.Lanes.{chunk, put_chunk}
 use Rattle.std.proofs.lemmas.List.{get_or-set_other, drop_more}
 use Rattle.blake.specs.Words.{words_at, with_words_at}
 use Rattle.argon.specs.Compression.{column_places, permutation, row_places}
-use Rattle.four_words.specs.Inside.FourWords.{four_words, sixteen_words}
+use Rattle.four_words.specs.Inside.FourWords.{four_words}
 use Rattle.four_words.proofs.FourWords.{each_of_four}
-use Rattle.four_words.proofs.Runs.{sixteen_read, sixteen_written}
 use Rattle.argon.specs.Inside.FourWords.{pair_places}
 
 -- ---- runs of places
@@ -37,17 +36,6 @@ run_stored v (w ∷ ws) a zero e h = absurd (omega arith)
 run_stored v [] a (suc n) e h = absurd (omega arith)
 run_stored v (w ∷ ws) a (suc n) e h =
     run_stored (set v a w) ws (a + 1) n (omega arith) (omega (arith, length-set {A = ℕ} v a w)) ∙ put_front v ws a (a + 1) w refl (omega arith)
-
--- ---- the four vectors of a row
-
-pub row_read : (v : List ℕ) (a : ℕ) → a + 16 ≤ length v
-    → sixteen_words (chunk a 4 v) (chunk (a + 4) 4 v) (chunk (a + 8) 4 v) (chunk (a + 12) 4 v) ≡ words_at v (range_with_len a 16)
-row_read v a h = sixteen_read v a h ∙ sym (run_read v a 16 h)
-
-pub row_stored : (v a b c d : List ℕ) (at : ℕ) → at + 16 ≤ length v
-    → put_chunk (at + 12) (put_chunk (at + 8) (put_chunk (at + 4) (put_chunk at v (four_words a)) (four_words b)) (four_words c)) (four_words d)
-    ≡ with_words_at v (range_with_len at 16) (sixteen_words a b c d)
-row_stored v a b c d at h = sixteen_written v a b c d at h ∙ sym (run_stored v (sixteen_words a b c d) at 16 refl h)
 
 -- ---- the places of a column
 

@@ -9,19 +9,19 @@ use Rattle.std.proofs.lemmas.Bool.Decides.{eqb_tells}
 use Rattle.std.proofs.lemmas.Nat.{div-mul-add, div_below}
 use Rattle.std.proofs.Math.Nat.{mul-le-mul_right, mul-add-mod_self_right, mod-eq_of_lt, mod-lt}
 use Rattle.argon.specs.Argon2.{block_at, matrix_block}
-use Rattle.argon.specs.Buffer.{HoldsNewest, block_held, number_after_slices}
-use Rattle.argon.specs.Counts.{blocks_of_segment, first_index}
-use Rattle.argon.specs.Filling.{Filling, HasNext, IsFilling, IsNewest}
+use Rattle.argon.specs.Buffer.{HoldsNewestBlocks, block_held, column_number_after_slices}
+use Rattle.argon.specs.Counts.{computed_block_count, first_index}
+use Rattle.argon.specs.Filling.{Filling, HasSliceLeft, IsFilling, IsNewest}
 use Rattle.argon.specs.Parameters.{Parameters, block_count, lane_len, segment_len}
-use Rattle.argon.specs.Inside.Segment.{IsInMatrix, IsSegmentOf, column_number}
+use Rattle.argon.specs.Inside.Segment.{IsInMatrix, IsSegmentOfParameters, column_number}
 use Rattle.argon.specs.declared.segment.Segment.{Segment}
-use Rattle.argon.specs.Weaving.{IsWeaving, HasNoneLeft, Weaving, after_step, next_column, next_number, weaving_from, with_next_block}
-use Rattle.argon.specs.Woven.{IsWovenFrom, woven_block, woven_blocks, first_column, is_made, with_next_slice, woven}
-use Rattle.argon.specs.Inside.NextSlice.{AreLeft, IsNextSlice}
+use Rattle.argon.specs.SliceProgress.{IsSliceProgress, HasNoBlocksLeft, SliceProgress, after_step, next_column, next_column_number, new_slice_progress, with_next_block}
+use Rattle.argon.specs.Woven.{IsSliceProgressOf, block_in_slice_progress, all_blocks_in_slice_progress, first_column, is_column_made, with_next_slice, woven}
+use Rattle.argon.specs.Inside.NextSlice.{AreCountsOfBlocksLeft, IsNextSlice}
 use Rattle.argon.proofs.Buffer.{lanes_apart, place-lt}
 use Rattle.argon.proofs.Progress.{first_index-le, next_is}
 use Rattle.argon.proofs.Slices.{range_long}
-use Rattle.argon.proofs.Weaving.{closed, lane_with_some, stepped}
+use Rattle.argon.proofs.SliceProgress.{closed, lane_with_some, stepped}
 
 -- ---- tests
 
@@ -37,20 +37,20 @@ past false b x high = refl
 
 -- ---- the blocks, place by place
 
-length-where_left : (f : Filling) (left : List ℕ) → length (woven_blocks f left) ≡ length f.blocks
-unfolding woven_blocks
+length-where_left : (f : Filling) (left : List ℕ) → length (all_blocks_in_slice_progress f left) ≡ length f.blocks
+unfolding all_blocks_in_slice_progress
 length-where_left f left = length-map-range_with_len _ 0 (length f.blocks)
 
 at_place : (f : Filling) (left : List ℕ) (place : ℕ) → place < length f.blocks
-    → get_or (woven_blocks f left) place [] ≡ woven_block f left (place / lane_len f.parameters) (place % lane_len f.parameters)
-unfolding woven_blocks
+    → get_or (all_blocks_in_slice_progress f left) place [] ≡ block_in_slice_progress f left (place / lane_len f.parameters) (place % lane_len f.parameters)
+unfolding all_blocks_in_slice_progress
 at_place f left place lt =
-    get_or-map-range_with_len (λ place. woven_block f left (place / lane_len f.parameters) (place % lane_len f.parameters))
+    get_or-map-range_with_len (λ place. block_in_slice_progress f left (place / lane_len f.parameters) (place % lane_len f.parameters))
     0 (length f.blocks) place place [] lt (omega arith)
 
 -- the same by the lane and the column
 at_column : (f : Filling) (left : List ℕ) (lane column : ℕ) → length f.blocks ≡ block_count f.parameters → lane < f.parameters.lanes
-    → column < lane_len f.parameters → get_or (woven_blocks f left) (lane * lane_len f.parameters + column) [] ≡ woven_block f left lane column
+    → column < lane_len f.parameters → get_or (all_blocks_in_slice_progress f left) (lane * lane_len f.parameters + column) [] ≡ block_in_slice_progress f left lane column
 at_column f left lane column size known inside =
     let q : ℕ = lane_len f.parameters in
     let there : (lane * lane_len f.parameters + column) / lane_len f.parameters ≡ lane = div-mul-add lane q column inside in
@@ -71,24 +71,24 @@ same_blocks f a b some la lb same =
     rw split at (same (place / q) (place % q) (div_below place q f.parameters.lanes some (rw la at lt)) (mod-lt place some)))
 
 -- where nothing is made
-pub nothing_made : (f : Filling) → IsFilling f → woven_blocks f (weaving_from f).left ≡ f.blocks
+pub nothing_made : (f : Filling) → IsFilling f → all_blocks_in_slice_progress f (new_slice_progress f).left ≡ f.blocks
 nothing_made f filling =
     let c : Parameters = f.parameters in
     let pass : ℕ = f.slices_made / 4 in
     let slice : ℕ = f.slices_made % 4 in
     let long : 2 ≤ segment_len f.parameters = range_long c filling.in_range in
     let small : first_index (f.slices_made / 4) (f.slices_made % 4) ≤ 2 = first_index-le pass slice in
-    same_blocks f (woven_blocks f (weaving_from f).left) f.blocks (omega arith) (length-where_left f _ ∙ filling.size) filling.size
+    same_blocks f (all_blocks_in_slice_progress f (new_slice_progress f).left) f.blocks (omega arith) (length-where_left f _ ∙ filling.size) filling.size
     (λ lane column known inside.
-    let left : slice_index (weaving_from f).left lane ≡ blocks_of_segment f.parameters (f.slices_made / 4) (f.slices_made % 4) =
-    get_or-replicate c.lanes lane (blocks_of_segment c pass slice) 0 known in
-    let next : next_column (weaving_from f) lane ≡ first_column f = omega arith in
-    let none : is_made f (weaving_from f).left lane column ≡ false =
+    let left : slice_index (new_slice_progress f).left lane ≡ computed_block_count f.parameters (f.slices_made / 4) (f.slices_made % 4) =
+    get_or-replicate c.lanes lane (computed_block_count c pass slice) 0 known in
+    let next : next_column (new_slice_progress f) lane ≡ first_column f = omega arith in
+    let none : is_column_made f (new_slice_progress f).left lane column ≡ false =
     elim (cases_lt column (first_column f)) [
-      | inl lt ↦ below (first_column f) (next_column (weaving_from f) lane) column lt
-      | inr le ↦ past (nat_le (first_column f) column) (next_column (weaving_from f) lane) column (rw next le)
+      | inl lt ↦ below (first_column f) (next_column (new_slice_progress f) lane) column lt
+      | inr le ↦ past (nat_le (first_column f) column) (next_column (new_slice_progress f) lane) column (rw next le)
     ] in
-    at_column f (weaving_from f).left lane column filling.size known inside ∙ rw none refl)
+    at_column f (new_slice_progress f).left lane column filling.size known inside ∙ rw none refl)
 
 -- a lane makes one more column
 one_more : (a b x : ℕ) → x ≢ b → (nat_le a x && nat_lt x (b + 1)) ≡ (nat_le a x && nat_lt x b)
@@ -98,8 +98,8 @@ one_more a b x ne =
       | inr le ↦ past (nat_le a x) (b + 1) x (omega arith) ∙ sym (past (nat_le a x) b x le)
     ]
 
-pub block_more : (f : Filling) (left : List ℕ) (lane : ℕ) → IsWeaving (woven f left) → 0 < slice_index left lane
-    → with_next_block (woven f left) lane ≡ woven_blocks f (set left lane (slice_index left lane - 1))
+pub block_more : (f : Filling) (left : List ℕ) (lane : ℕ) → IsSliceProgress (woven f left) → 0 < slice_index left lane
+    → with_next_block (woven f left) lane ≡ all_blocks_in_slice_progress f (set left lane (slice_index left lane - 1))
 block_more f left lane weaving some =
     let known : lane < f.parameters.lanes = lane_with_some left lane f.parameters.lanes weaving.lanes some in
     let few = weaving.left lane known in
@@ -107,7 +107,7 @@ block_more f left lane weaving some =
     let count : length left ≡ f.parameters.lanes = weaving.lanes in
     let c : Parameters = f.parameters in
     let after : List ℕ = set left lane (slice_index left lane - 1) in
-    let new : List ℕ = matrix_block f.parameters f.first_hash (next_number (woven f left) lane) lane in
+    let new : List ℕ = matrix_block f.parameters f.first_hash (next_column_number (woven f left) lane) lane in
     let long : 2 ≤ segment_len f.parameters = range_long c weaving.in_range in
     let small : first_index (f.slices_made / 4) (f.slices_made % 4) ≤ 2 = first_index-le (f.slices_made / 4) (f.slices_made % 4) in
     let whole : (f.slices_made % 4 + 1) * segment_len f.parameters ≤ 4 * segment_len f.parameters = mul-le-mul_right (segment_len c) (omega arith) in
@@ -116,22 +116,22 @@ block_more f left lane weaving some =
     get_or-set_same left lane (slice_index left lane - 1) 0 (omega arith) in
     let next : next_column (woven f (set left lane (slice_index left lane - 1))) lane ≡ next_column (woven f left) lane + 1 = omega arith in
     let place : ℕ = lane * lane_len c + next_column (woven f left) lane in
-    let fits : lane * lane_len c + next_column (woven f left) lane < length (woven_blocks f left) =
+    let fits : lane * lane_len c + next_column (woven f left) lane < length (all_blocks_in_slice_progress f left) =
     rw (length-where_left f left, size) (place-lt c.lanes (lane_len c) lane (next_column (woven f left) lane) known inside) in
-    same_blocks f (with_next_block (woven f left) lane) (woven_blocks f after) (omega arith)
-    (length-set (woven_blocks f left) place new ∙ length-where_left f left ∙ size) (length-where_left f after ∙ size)
+    same_blocks f (with_next_block (woven f left) lane) (all_blocks_in_slice_progress f after) (omega arith)
+    (length-set (all_blocks_in_slice_progress f left) place new ∙ length-where_left f left ∙ size) (length-where_left f after ∙ size)
     (λ other column there within. elim (eqb_tells other lane) [
       | inl same ↦ elim (eqb_tells column (next_column (woven f left) lane)) [
         | inl now ↦
-            let made : is_made f (set left lane (slice_index left lane - 1)) lane (next_column (woven f left) lane) ≡ true =
+            let made : is_column_made f (set left lane (slice_index left lane - 1)) lane (next_column (woven f left) lane) ≡ true =
             between (first_column f) (next_column (woven f after) lane) (next_column (woven f left) lane) (omega arith) (omega arith) in
-            rw (same.1, now.1) (get_or-set_same (woven_blocks f left) place new [] fits
+            rw (same.1, now.1) (get_or-set_same (all_blocks_in_slice_progress f left) place new [] fits
             ∙ sym (at_column f after lane (next_column (woven f left) lane) size known inside ∙ rw made refl))
         | inr elsewhere ↦
             let apart : lane * lane_len f.parameters + column ≢ lane * lane_len c + next_column (woven f left) lane = let ne = elsewhere.1 in omega arith in
-            let kept : is_made f (set left lane (slice_index left lane - 1)) lane column ≡ is_made f left lane column =
+            let kept : is_column_made f (set left lane (slice_index left lane - 1)) lane column ≡ is_column_made f left lane column =
             rw next (one_more (first_column f) (next_column (woven f left) lane) column elsewhere.1) in
-            rw same.1 (get_or-set_other (woven_blocks f left) place (lane * lane_len c + column) new [] apart
+            rw same.1 (get_or-set_other (all_blocks_in_slice_progress f left) place (lane * lane_len c + column) new [] apart
             ∙ at_column f left lane column size known within ∙ sym (at_column f after lane column size known within ∙ rw kept refl))
       ]
       | inr ne ↦
@@ -139,7 +139,7 @@ block_more f left lane weaving some =
           lanes_apart (lane_len c) other lane column (next_column (woven f left) lane) within inside ne.1 in
           let kept : slice_index (set left lane (slice_index left lane - 1)) other ≡ slice_index left other =
           get_or-set_other left lane other (slice_index left lane - 1) 0 ne.1 in
-          get_or-set_other (woven_blocks f left) place (other * lane_len c + column) new [] apart
+          get_or-set_other (all_blocks_in_slice_progress f left) place (other * lane_len c + column) new [] apart
           ∙ at_column f left other column size there within ∙ sym (at_column f after other column size there within ∙ rw kept refl)
     ])
 
@@ -152,9 +152,9 @@ all_none left lanes size none =
 -- ---- every weave of a matrix holds the newest blocks
 
 -- the number of a column that is not made, or of one that is made again, against the numbers around the slice
-woven_newest : (f : Filling) (left : List ℕ) → IsFilling f → HasNext f
-    → ((lane : ℕ) → lane < f.parameters.lanes → slice_index left lane ≤ blocks_of_segment f.parameters (f.slices_made / 4) (f.slices_made % 4))
-    → HoldsNewest f.parameters f.first_hash (woven_blocks f left) (next_number (woven f left))
+woven_newest : (f : Filling) (left : List ℕ) → IsFilling f → HasSliceLeft f
+    → ((lane : ℕ) → lane < f.parameters.lanes → slice_index left lane ≤ computed_block_count f.parameters (f.slices_made / 4) (f.slices_made % 4))
+    → HoldsNewestBlocks f.parameters f.first_hash (all_blocks_in_slice_progress f left) (next_column_number (woven f left))
 woven_newest f left filling next few = record {
   holds = λ lane number known before near.
       let c : Parameters = f.parameters in
@@ -169,12 +169,12 @@ woven_newest f left filling next few = record {
       let split : number / lane_len f.parameters * lane_len f.parameters + number % lane_len f.parameters ≡ number = omega arith in
       let whole : (f.slices_made % 4 + 1) * segment_len f.parameters ≤ 4 * segment_len f.parameters = mul-le-mul_right (segment_len c) (omega arith) in
       let some = few lane known in
-      let start : number_after_slices f.parameters f.slices_made ≡ f.slices_made / 4 * lane_len f.parameters + first_column f =
+      let start : column_number_after_slices f.parameters f.slices_made ≡ f.slices_made / 4 * lane_len f.parameters + first_column f =
       (let at = next_is c pass slice in rw all at at) in
       let newest = filling.newest next.started in
-      let old : number < number_after_slices f.parameters f.slices_made → number_after_slices f.parameters f.slices_made ≤ number + lane_len f.parameters
-      → is_made f left lane (number % lane_len f.parameters) ≡ false
-      → get_or (woven_blocks f left) (lane * lane_len f.parameters + number % lane_len f.parameters) [] ≡ matrix_block f.parameters f.first_hash number lane =
+      let old : number < column_number_after_slices f.parameters f.slices_made → column_number_after_slices f.parameters f.slices_made ≤ number + lane_len f.parameters
+      → is_column_made f left lane (number % lane_len f.parameters) ≡ false
+      → get_or (all_blocks_in_slice_progress f left) (lane * lane_len f.parameters + number % lane_len f.parameters) [] ≡ matrix_block f.parameters f.first_hash number lane =
       λ lt le none. at_column f left lane column filling.size known inside ∙ rw none (newest.holds lane number known lt le) in
       let pass_is : (number / lane_len f.parameters ≡ f.slices_made / 4) ⊎ (number < f.slices_made / 4 * lane_len f.parameters) =
       elim (cases_lt (number / lane_len f.parameters) (f.slices_made / 4)) [
@@ -212,9 +212,9 @@ woven_newest f left filling next few = record {
       ];
 }
 
-pub woven_weaving : (f : Filling) (left : List ℕ) → IsFilling f → HasNext f → length left ≡ f.parameters.lanes
-    → ((lane : ℕ) → lane < f.parameters.lanes → slice_index left lane ≤ blocks_of_segment f.parameters (f.slices_made / 4) (f.slices_made % 4))
-    → IsWeaving (woven f left)
+pub woven_weaving : (f : Filling) (left : List ℕ) → IsFilling f → HasSliceLeft f → length left ≡ f.parameters.lanes
+    → ((lane : ℕ) → lane < f.parameters.lanes → slice_index left lane ≤ computed_block_count f.parameters (f.slices_made / 4) (f.slices_made % 4))
+    → IsSliceProgress (woven f left)
 woven_weaving f left filling next size few = record {
   in_range = filling.in_range;
   next = record { started = next.started; left = next.left };
@@ -226,43 +226,43 @@ woven_weaving f left filling next size few = record {
 
 -- ---- a weave, from its matrix
 
-abbrev woven_with : Filling → List (List ℕ) → List ℕ → Weaving
+abbrev woven_with : Filling → List (List ℕ) → List ℕ → SliceProgress
 woven_with f blocks left = record { matrix = record f { blocks = blocks }; left = left }
 
-abbrev pub with_slice_done : Weaving → Filling
+abbrev pub with_slice_done : SliceProgress → Filling
 with_slice_done w = record w.matrix { slices_made = w.matrix.slices_made + 1 }
 
 -- where it is opened
-pub opened_woven : (f : Filling) (left : List ℕ) → IsFilling f → HasNext f → left ≡ (weaving_from f).left
-    → IsWovenFrom f (record { matrix = record f { is_started = true }; left = left })
+pub opened_woven : (f : Filling) (left : List ℕ) → IsFilling f → HasSliceLeft f → left ≡ (new_slice_progress f).left
+    → IsSliceProgressOf f (record { matrix = record f { is_started = true }; left = left })
 opened_woven f left filling next e = record {
   woven = let P : Bool → Type 0 = λ started. woven_with (record f { is_started = started }) f.blocks left ≡ woven f left in
       subst P next.started (ap (λ (blocks : List (List ℕ)). woven_with f blocks left) (rw e (sym (nothing_made f filling))));
 }
 
 -- after a step
-step_of_woven : (f : Filling) (left : List ℕ) (lane : ℕ) → IsWeaving (woven f left) → 0 < slice_index left lane
+step_of_woven : (f : Filling) (left : List ℕ) (lane : ℕ) → IsSliceProgress (woven f left) → 0 < slice_index left lane
     → after_step (woven f left) lane ≡ woven f (set left lane (slice_index left lane - 1))
 step_of_woven f left lane weaving some =
     ap (λ (blocks : List (List ℕ)). woven_with f blocks (set left lane (slice_index left lane - 1))) (block_more f left lane weaving some)
 
-pub step_woven : (f : Filling) (w : Weaving) (lane : ℕ) → IsWeaving w → 0 < slice_index w.left lane → IsWovenFrom f w → IsWovenFrom f (after_step w lane)
+pub step_woven : (f : Filling) (w : SliceProgress) (lane : ℕ) → IsSliceProgress w → 0 < slice_index w.left lane → IsSliceProgressOf f w → IsSliceProgressOf f (after_step w lane)
 step_woven f w lane weaving some from = record {
-  woven = let P : Weaving → Type 0 = λ v. after_step v lane ≡ woven f (after_step v lane).left in
-      subst P (sym from.woven) (step_of_woven f w.left lane (subst IsWeaving from.woven weaving) some);
+  woven = let P : SliceProgress → Type 0 = λ v. after_step v lane ≡ woven f (after_step v lane).left in
+      subst P (sym from.woven) (step_of_woven f w.left lane (subst IsSliceProgress from.woven weaving) some);
 }
 
-pub stepped_woven : (w : Weaving) (lane : ℕ) (blocks : List (List ℕ)) (left : List ℕ) → IsWeaving w → 0 < slice_index w.left lane
+pub stepped_woven : (w : SliceProgress) (lane : ℕ) (blocks : List (List ℕ)) (left : List ℕ) → IsSliceProgress w → 0 < slice_index w.left lane
     → blocks ≡ with_next_block w lane → left ≡ set w.left lane (slice_index w.left lane - 1)
-    → (f : Filling) → IsWovenFrom f w → IsWovenFrom f (record { matrix = record w.matrix { blocks = blocks }; left = left })
+    → (f : Filling) → IsSliceProgressOf f w → IsSliceProgressOf f (record { matrix = record w.matrix { blocks = blocks }; left = left })
 stepped_woven w lane blocks left weaving some eb el f from = rw (eb, el) (step_woven f w lane weaving some from)
 
 -- where it is closed
-pub closed_woven : (f : Filling) (w : Weaving) → IsWeaving w → HasNoneLeft w → IsWovenFrom f w
+pub closed_woven : (f : Filling) (w : SliceProgress) → IsSliceProgress w → HasNoBlocksLeft w → IsSliceProgressOf f w
     → with_slice_done w ≡ with_next_slice f
 closed_woven f w weaving none_left from =
     let none : w.left ≡ replicate w.matrix.parameters.lanes 0 = all_none w.left w.matrix.parameters.lanes weaving.lanes none_left.none in
-    let same : w.matrix.parameters ≡ f.parameters = ap (λ (v : Weaving). v.matrix.parameters) from.woven in
+    let same : w.matrix.parameters ≡ f.parameters = ap (λ (v : SliceProgress). v.matrix.parameters) from.woven in
     let all : w.left ≡ replicate f.parameters.lanes 0 = none ∙ ap (λ (c : Parameters). replicate c.lanes 0) same in
     ap with_slice_done from.woven ∙ ap (λ (left : List ℕ). with_slice_done (woven f left)) all
 
@@ -274,8 +274,8 @@ set_twice (x ∷ xs) zero a b = refl
 set_twice (x ∷ xs) (suc i) a b = ap (λ (rest : List ℕ). x ∷ rest) (set_twice xs i a b)
 
 -- a lane with another number left
-with_left : (c : Parameters) (pass slice : ℕ) (left : List ℕ) (lane n : ℕ) → AreLeft c pass slice left → n ≤ blocks_of_segment c pass slice
-    → AreLeft c pass slice (set left lane n)
+with_left : (c : Parameters) (pass slice : ℕ) (left : List ℕ) (lane n : ℕ) → AreCountsOfBlocksLeft c pass slice left → n ≤ computed_block_count c pass slice
+    → AreCountsOfBlocksLeft c pass slice (set left lane n)
 with_left c pass slice left lane n are le = record {
   lanes = length-set left lane n ∙ are.lanes;
   few = λ l known. elim (eqb_tells l lane) [
@@ -284,23 +284,23 @@ with_left c pass slice left lane n are le = record {
   ];
 }
 
-pub are_weaving : (f : Filling) (c : Parameters) (pass slice : ℕ) (left : List ℕ) → IsNextSlice f c pass slice → AreLeft c pass slice left → IsWeaving (woven f left)
+pub are_weaving : (f : Filling) (c : Parameters) (pass slice : ℕ) (left : List ℕ) → IsNextSlice f c pass slice → AreCountsOfBlocksLeft c pass slice left → IsSliceProgress (woven f left)
 are_weaving f c pass slice left at are =
     woven_weaving f left at.filling at.next (rw at.is_of are.lanes) (rw (at.is_of, ← at.pass_is, ← at.slice_is) are.few)
 
 -- one more column of a segment
 pub column_more : (f : Filling) (c : Parameters) (at : Segment) (left : List ℕ) (old new : List (List ℕ)) (index : ℕ)
-    → IsNextSlice f c at.pass at.slice → IsSegmentOf c at → IsInMatrix at → AreLeft c at.pass at.slice left
+    → IsNextSlice f c at.pass at.slice → IsSegmentOfParameters c at → IsInMatrix at → AreCountsOfBlocksLeft c at.pass at.slice left
     → first_index at.pass at.slice ≤ index → index < at.len
-    → old ≡ woven_blocks f (set left at.lane (at.len - index))
+    → old ≡ all_blocks_in_slice_progress f (set left at.lane (at.len - index))
     → new ≡ set old (at.lane * (4 * at.len) + (at.slice * at.len + index))
     (block_at c (block_held c old) (column_number at index) at.pass at.lane at.slice index)
-    → new ≡ woven_blocks f (set left at.lane (at.len - (index + 1)))
+    → new ≡ all_blocks_in_slice_progress f (set left at.lane (at.len - (index + 1)))
 column_more f c at left old new index next is_of valid are first lt eo e =
     let lane : ℕ = at.lane in
     let now : List ℕ = set left at.lane (at.len - index) in
     let len : segment_len c ≡ at.len = is_of.len in
-    let have : AreLeft c at.pass at.slice (set left at.lane (at.len - index)) = with_left c at.pass at.slice left at.lane (at.len - index) are (omega arith) in
+    let have : AreCountsOfBlocksLeft c at.pass at.slice (set left at.lane (at.len - index)) = with_left c at.pass at.slice left at.lane (at.len - index) are (omega arith) in
     let weaving = are_weaving f c at.pass at.slice now next have in
     let fits : at.lane < length left = rw (are.lanes, is_of.lanes) valid.lane in
     let left_is : slice_index (set left at.lane (at.len - index)) at.lane ≡ at.len - index = get_or-set_same left at.lane (at.len - index) 0 fits in
@@ -314,20 +314,20 @@ column_more f c at left old new index next is_of valid are first lt eo e =
     (sym left_is) (rw next.is_of here) in
     let less : at.len - index - 1 ≡ at.len - (index + 1) = omega arith in
     one ∙ block_more f now lane weaving some
-    ∙ ap (λ (n : ℕ). woven_blocks f (set now at.lane (n - 1))) left_is
-    ∙ ap (woven_blocks f) (set_twice left at.lane (at.len - index) (at.len - index - 1))
-    ∙ ap (λ (n : ℕ). woven_blocks f (set left at.lane n)) less
+    ∙ ap (λ (n : ℕ). all_blocks_in_slice_progress f (set now at.lane (n - 1))) left_is
+    ∙ ap (all_blocks_in_slice_progress f) (set_twice left at.lane (at.len - index) (at.len - index - 1))
+    ∙ ap (λ (n : ℕ). all_blocks_in_slice_progress f (set left at.lane n)) less
 
 -- what is left where the first so many lanes have none
 unfoldable pub left_after_lanes : Parameters → ℕ → ℕ → ℕ → List ℕ
 left_after_lanes c pass slice count =
-    map (λ lane. if nat_lt lane count then 0 else blocks_of_segment c pass slice) (range_with_len 0 c.lanes)
+    map (λ lane. if nat_lt lane count then 0 else computed_block_count c pass slice) (range_with_len 0 c.lanes)
 
 left_after : (c : Parameters) (pass slice count lane : ℕ) → lane < c.lanes
-    → slice_index (left_after_lanes c pass slice count) lane ≡ (if nat_lt lane count then 0 else blocks_of_segment c pass slice)
+    → slice_index (left_after_lanes c pass slice count) lane ≡ (if nat_lt lane count then 0 else computed_block_count c pass slice)
 unfolding left_after_lanes
 left_after c pass slice count lane known =
-    get_or-map-range_with_len (λ lane. if nat_lt lane count then 0 else blocks_of_segment c pass slice) 0 c.lanes lane lane 0 known (omega arith)
+    get_or-map-range_with_len (λ lane. if nat_lt lane count then 0 else computed_block_count c pass slice) 0 c.lanes lane lane 0 known (omega arith)
 
 length-left_after : (c : Parameters) (pass slice count : ℕ) → length (left_after_lanes c pass slice count) ≡ c.lanes
 unfolding left_after_lanes
@@ -337,14 +337,14 @@ either_few : (t : Bool) (n : ℕ) → (if t then 0 else n) ≤ n
 either_few true n = omega arith
 either_few false n = omega arith
 
-pub are_left_after : (c : Parameters) (pass slice count : ℕ) → AreLeft c pass slice (left_after_lanes c pass slice count)
+pub are_left_after : (c : Parameters) (pass slice count : ℕ) → AreCountsOfBlocksLeft c pass slice (left_after_lanes c pass slice count)
 are_left_after c pass slice count = record {
   lanes = length-left_after c pass slice count;
-  few = λ lane known. rw (left_after c pass slice count lane known) (either_few (nat_lt lane count) (blocks_of_segment c pass slice));
+  few = λ lane known. rw (left_after c pass slice count lane known) (either_few (nat_lt lane count) (computed_block_count c pass slice));
 }
 
 -- the next lane has all of its segment left
-pub left_whole : (c : Parameters) (pass slice count : ℕ) → count < c.lanes → slice_index (left_after_lanes c pass slice count) count ≡ blocks_of_segment c pass slice
+pub left_whole : (c : Parameters) (pass slice count : ℕ) → count < c.lanes → slice_index (left_after_lanes c pass slice count) count ≡ computed_block_count c pass slice
 left_whole c pass slice count known = left_after c pass slice count count known ∙ rw (le-ltb count count (omega arith)) refl
 
 -- one more lane
@@ -370,17 +370,17 @@ lane_more c pass slice count known =
     ])
 
 -- before the first lane
-pub first_lane : (f : Filling) (c : Parameters) (pass slice : ℕ) → IsNextSlice f c pass slice → f.blocks ≡ woven_blocks f (left_after_lanes c pass slice 0)
+pub first_lane : (f : Filling) (c : Parameters) (pass slice : ℕ) → IsNextSlice f c pass slice → f.blocks ≡ all_blocks_in_slice_progress f (left_after_lanes c pass slice 0)
 first_lane f c pass slice next =
-    let all : (weaving_from f).left ≡ left_after_lanes c pass slice 0 =
+    let all : (new_slice_progress f).left ≡ left_after_lanes c pass slice 0 =
     rw (← next.pass_is, ← next.slice_is, next.is_of)
-    (ext_get_or 0 (replicate c.lanes (blocks_of_segment c pass slice)) (left_after_lanes c pass slice 0)
-    (length-replicate c.lanes (blocks_of_segment c pass slice) ∙ sym (length-left_after c pass slice 0))
+    (ext_get_or 0 (replicate c.lanes (computed_block_count c pass slice)) (left_after_lanes c pass slice 0)
+    (length-replicate c.lanes (computed_block_count c pass slice) ∙ sym (length-left_after c pass slice 0))
     (λ lane lt.
-    let known : lane < c.lanes = rw (length-replicate c.lanes (blocks_of_segment c pass slice)) at lt in
-    get_or-replicate c.lanes lane (blocks_of_segment c pass slice) 0 known
+    let known : lane < c.lanes = rw (length-replicate c.lanes (computed_block_count c pass slice)) at lt in
+    get_or-replicate c.lanes lane (computed_block_count c pass slice) 0 known
     ∙ sym (left_after c pass slice 0 lane known ∙ rw (le-ltb lane 0 (omega arith)) refl))) in
-    sym (nothing_made f next.filling) ∙ ap (woven_blocks f) all
+    sym (nothing_made f next.filling) ∙ ap (all_blocks_in_slice_progress f) all
 
 -- after the last lane
 pub last_lane : (c : Parameters) (pass slice count : ℕ) → count ≡ c.lanes → left_after_lanes c pass slice count ≡ replicate c.lanes 0
@@ -389,7 +389,7 @@ last_lane c pass slice count e =
     (λ lane known. left_after c pass slice count lane known ∙ rw (lt-ltb lane count (omega arith)) refl)
 
 -- the matrix with its slice made holds the newest blocks
-pub slice_is_newest : (f : Filling) → IsFilling f → HasNext f → IsNewest (with_next_slice f)
+pub slice_is_newest : (f : Filling) → IsFilling f → HasSliceLeft f → IsNewest (with_next_slice f)
 slice_is_newest f filling next =
     let none : List ℕ = replicate f.parameters.lanes 0 in
     let each : (lane : ℕ) → lane < f.parameters.lanes → slice_index (replicate f.parameters.lanes 0) lane ≡ 0 =

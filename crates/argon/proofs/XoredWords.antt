@@ -4,8 +4,6 @@ use Rattle.std.specs.Simd.Lanes.{chunk, put_chunk, zip2}
 use Rattle.std.proofs.lemmas.List.{take_all, drop-drop}
 use Rattle.std.proofs.lemmas.Simd.{length-chunk, length-zip2, take_more_put_chunk}
 use Rattle.four_words.specs.Words.{xored_words}
-use Rattle.four_words.specs.Inside.FourWords.{four_words}
-use Rattle.four_words.proofs.FourWords.{four_are}
 use Rattle.four_words.proofs.Runs.{drop_put}
 
 -- n more words xored
@@ -48,14 +46,13 @@ four_long x y a h g =
 
 pub write_more : (x y out : List ℕ) (i : ℕ) → length x ≡ 128 → length y ≡ 128 → length out ≡ 128 → i < 32
     → take (4 * i) out ≡ xored_words (take (4 * i) x) (take (4 * i) y)
-    → take (4 * (i + 1)) (put_chunk (4 * i) out (four_words (zip2 bit_xor (chunk (4 * i) 4 x) (chunk (4 * i) 4 y))))
+    → take (4 * (i + 1)) (put_chunk (4 * i) out (zip2 bit_xor (chunk (4 * i) 4 x) (chunk (4 * i) 4 y)))
     ≡ xored_words (take (4 * (i + 1)) x) (take (4 * (i + 1)) y)
 write_more x y out i hx hy ho low done =
     let w = zip2 bit_xor (chunk (4 * i) 4 x) (chunk (4 * i) 4 y) in
     let long = four_long x y (4 * i) (omega arith) (omega arith) in
-    rw (four_are w long)
-    (take_more_put_chunk (4 * i) out w (4 * (i + 1)) (omega (arith, long)) (omega arith)
-    ∙ rw done (xor_more x y (4 * i) 4 (4 * (i + 1)) (omega arith) (omega arith) (omega arith)))
+    take_more_put_chunk (4 * i) out w (4 * (i + 1)) (omega (arith, long)) (omega arith)
+    ∙ rw done (xor_more x y (4 * i) 4 (4 * (i + 1)) (omega arith) (omega arith) (omega arith))
 
 pub all_xored : (x y out : List ℕ) → length x ≡ 128 → length y ≡ 128 → length out ≡ 128
     → take 128 out ≡ xored_words (take 128 x) (take 128 y) → out ≡ xored_words x y
@@ -66,15 +63,22 @@ all_xored x y out hx hy ho e =
 drop_more_four : (v u : List ℕ) (a b : ℕ) → b ≡ a + 4 → drop a v ≡ drop a u → drop b v ≡ drop b u
 drop_more_four v u a b e h = rw (e, ← drop-drop 4 a v, ← drop-drop 4 a u, h) refl
 
-pub over_left : (old out w : List ℕ) (i : ℕ) → drop (4 * i) out ≡ drop (4 * i) old
-    → drop (4 * (i + 1)) (put_chunk (4 * i) out (four_words w)) ≡ drop (4 * (i + 1)) old
-over_left old out w i left =
-    drop_put out (four_words w) (4 * i) (4 * (i + 1)) (omega arith) ∙ drop_more_four out old (4 * i) (4 * (i + 1)) (omega arith) left
+pub over_left : (x y old out : List ℕ) (i : ℕ) → length x ≡ 128 → length y ≡ 128 → length out ≡ 128 → i < 32
+    → drop (4 * i) out ≡ drop (4 * i) old
+    → drop (4 * (i + 1)) (put_chunk (4 * i) out (zip2 bit_xor (zip2 bit_xor (chunk (4 * i) 4 x) (chunk (4 * i) 4 y)) (chunk (4 * i) 4 out)))
+    ≡ drop (4 * (i + 1)) old
+over_left x y old out i hx hy ho low left =
+    let two = zip2 bit_xor (chunk (4 * i) 4 x) (chunk (4 * i) 4 y) in
+    let one = four_long x y (4 * i) (omega arith) (omega arith) in
+    let long : length (zip2 bit_xor two (chunk (4 * i) 4 out)) ≡ 4 =
+    length-zip2 bit_xor two (chunk (4 * i) 4 out) (one ∙ sym (length-chunk (4 * i) 4 out (omega arith))) ∙ one in
+    drop_put out (zip2 bit_xor two (chunk (4 * i) 4 out)) (4 * i) (4 * (i + 1)) (omega (arith, long))
+    ∙ drop_more_four out old (4 * i) (4 * (i + 1)) (omega arith) left
 
 pub over_more : (x y old out : List ℕ) (i : ℕ) → length x ≡ 128 → length y ≡ 128 → length old ≡ 128 → length out ≡ 128 → i < 32
     → take (4 * i) out ≡ xored_words (take (4 * i) (xored_words x y)) (take (4 * i) old)
     → drop (4 * i) out ≡ drop (4 * i) old
-    → take (4 * (i + 1)) (put_chunk (4 * i) out (four_words (zip2 bit_xor (zip2 bit_xor (chunk (4 * i) 4 x) (chunk (4 * i) 4 y)) (chunk (4 * i) 4 out))))
+    → take (4 * (i + 1)) (put_chunk (4 * i) out (zip2 bit_xor (zip2 bit_xor (chunk (4 * i) 4 x) (chunk (4 * i) 4 y)) (chunk (4 * i) 4 out)))
     ≡ xored_words (take (4 * (i + 1)) (xored_words x y)) (take (4 * (i + 1)) old)
 over_more x y old out i hx hy hl ho low done left =
     rw (chunk_xored x y (4 * i) 4 (omega arith) (omega arith), ap (take 4) left)

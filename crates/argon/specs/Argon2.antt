@@ -29,8 +29,8 @@ first_hash parameters inputs =
 
 -- B[i][0] or B[i][1], the block of column 0 or 1 of lane i in the first pass: H' of 1,024 bytes of H_0 ||
 -- LE32(column) || LE32(i), as words (3.2, steps 3 and 4)
-unfoldable pub first_block : List ℕ → ℕ → ℕ → List ℕ
-first_block h0 column lane =
+unfoldable pub block_from_h0 : List ℕ → ℕ → ℕ → List ℕ
+block_from_h0 h0 column lane =
     words 128 (long_hash 1024 (h0 ++ little_bytes 4 column ++ little_bytes 4 lane))
 
 -- the block of a lane in the column with a number, of a list of columns by their numbers
@@ -49,8 +49,8 @@ stored_block true old new = xored_words new old
 -- what is stored as the block with a number, in a lane, pass, slice and index in the segment, if J is its word: it is
 -- made of G of the block before it and of B[l][z], the block that J names, and of the old block of its place;
 -- `blocks` gives the blocks of lower numbers, by number and lane (3.2, steps 5 and 6)
-abbrev pub block_by_words : Parameters → (ℕ → ℕ → List ℕ) → ℕ → ℕ → ℕ → ℕ → ℕ → ℕ → List ℕ
-block_by_words parameters blocks number pass lane slice index j =
+abbrev pub stored_block_by_j1_j2 : Parameters → (ℕ → ℕ → List ℕ) → ℕ → ℕ → ℕ → ℕ → ℕ → ℕ → List ℕ
+stored_block_by_j1_j2 parameters blocks number pass lane slice index j =
     stored_block (is_xored_in parameters pass) (blocks (number - lane_len parameters) lane)
     (compression (blocks (number - 1) lane)
     (blocks (reference_number parameters pass lane slice index j) (reference_lane parameters pass lane slice j)))
@@ -59,7 +59,7 @@ block_by_words parameters blocks number pass lane slice index j =
 -- belongs to this place; `blocks` gives the blocks of lower numbers, by number and lane (3.2, steps 5 and 6; 3.4.1)
 unfoldable pub block_at : Parameters → (ℕ → ℕ → List ℕ) → ℕ → ℕ → ℕ → ℕ → ℕ → List ℕ
 block_at parameters blocks number pass lane slice index =
-    block_by_words parameters blocks number pass lane slice index
+    stored_block_by_j1_j2 parameters blocks number pass lane slice index
     (reference_words parameters pass lane slice index (blocks (number - 1) lane))
 
 -- what is stored as the block of a lane with a number from 2 on, by the blocks of lower numbers; its pass, slice and
@@ -70,38 +70,38 @@ next_block parameters blocks number lane =
     (number % lane_len parameters / segment_len parameters) (number % segment_len parameters)
 
 -- a list of columns by their numbers, and the next column after them: one block for each lane (3.2, steps 5 and 6)
-abbrev pub with_next_column : Parameters → List (List (List ℕ)) → List (List (List ℕ))
-with_next_column parameters columns =
+abbrev pub with_next_matrix_column : Parameters → List (List (List ℕ)) → List (List (List ℕ))
+with_next_matrix_column parameters columns =
     columns ++ map (next_block parameters (block_of columns) (length columns)) (range_with_len 0 parameters.lanes) ∷ []
 
 -- columns 0 and 1 of the first pass, which come from H_0 (3.2, steps 3 and 4), and `count` columns after them (steps
 -- 5 and 6)
-unfoldable pub columns_made : Parameters → List ℕ → ℕ → List (List (List ℕ))
-columns_made parameters h0 zero =
-    map (first_block h0 0) (range_with_len 0 parameters.lanes)
-    ∷ map (first_block h0 1) (range_with_len 0 parameters.lanes) ∷ []
-columns_made parameters h0 (suc count) = with_next_column parameters (columns_made parameters h0 count)
+unfoldable pub matrix_columns : Parameters → List ℕ → ℕ → List (List (List ℕ))
+matrix_columns parameters h0 zero =
+    map (block_from_h0 h0 0) (range_with_len 0 parameters.lanes)
+    ∷ map (block_from_h0 h0 1) (range_with_len 0 parameters.lanes) ∷ []
+matrix_columns parameters h0 (suc count) = with_next_matrix_column parameters (matrix_columns parameters h0 count)
 
 -- B: the block of a lane in the column with a number, where column c of pass r has the number r * q + c (3.2, steps 3
 -- to 6)
 unfoldable pub matrix_block : Parameters → List ℕ → ℕ → ℕ → List ℕ
-matrix_block parameters h0 number lane = block_of (columns_made parameters h0 (number - 1)) number lane
+matrix_block parameters h0 number lane = block_of (matrix_columns parameters h0 (number - 1)) number lane
 
 -- C, the xor of the blocks of a column, which is the last one (3.2, step 7)
-abbrev pub xor_of_blocks : List (List ℕ) → List ℕ
-xor_of_blocks column = fold xored_words zero_block column
+abbrev pub xor_of_column_blocks : List (List ℕ) → List ℕ
+xor_of_column_blocks column = fold xored_words zero_block column
 
 -- the tag by the columns of all passes: C of the last column of the last pass, and H' of C (3.2, steps 7 and 8)
 abbrev pub tag_of_columns : Parameters → List (List (List ℕ)) → List ℕ
 tag_of_columns parameters columns =
     long_hash parameters.tag_len
-    (bytes_of_words (xor_of_blocks (get_or columns (parameters.passes * lane_len parameters - 1) [])))
+    (bytes_of_words (xor_of_column_blocks (get_or columns (parameters.passes * lane_len parameters - 1) [])))
 
 -- the tag by H_0: the t * q columns of all passes, of which the first two come from H_0, and what is made of the last
 -- one (3.2, steps 3 to 8)
 unfoldable pub tag_by_first_hash : Parameters → List ℕ → List ℕ
 tag_by_first_hash parameters h0 =
-    tag_of_columns parameters (columns_made parameters h0 (parameters.passes * lane_len parameters - 2))
+    tag_of_columns parameters (matrix_columns parameters h0 (parameters.passes * lane_len parameters - 2))
 
 -- the tag of the texts under the parameters (3.2, steps 1 to 8)
 unfoldable pub argon2_tag : Parameters → Inputs → List ℕ

@@ -12,15 +12,15 @@ block_held parameters blocks number lane =
 
 -- each lane has made the columns of the numbers below the one that comes next, and each place of
 -- the buffer holds the newest of those that belong there
-pub record HoldsNewest (parameters : Parameters) (h0 : List ℕ) (blocks : List (List ℕ)) (next : ℕ → ℕ) : Type 0 where
+pub record HoldsNewestBlocks (parameters : Parameters) (h0 : List ℕ) (blocks : List (List ℕ)) (next : ℕ → ℕ) : Type 0 where
   pub holds : (lane number : ℕ) → lane < parameters.lanes → number < next lane → next lane ≤ number + lane_len parameters
       → block_held parameters blocks number lane ≡ matrix_block parameters h0 number lane
 
 -- the number of the column that each lane makes next after so many slices: two columns are there from the start (3.2,
 -- steps 3 and 4)
-abbrev pub number_after_slices : Parameters → ℕ → ℕ
-number_after_slices parameters zero = 2
-number_after_slices parameters (suc count) = suc count * segment_len parameters
+abbrev pub column_number_after_slices : Parameters → ℕ → ℕ
+column_number_after_slices parameters zero = 2
+column_number_after_slices parameters (suc count) = suc count * segment_len parameters
 
 -- the numbers that come next belong to a slice, or to its end
 pub record IsInSlice (parameters : Parameters) (pass slice : ℕ) (next : ℕ → ℕ) : Type 0 where

@@ -12,8 +12,8 @@ abbrev pub sum_with_product : ℕ → ℕ → ℕ
 sum_with_product a b = (a + b + 2 * (a % 2 ^ 32) * (b % 2 ^ 32)) % 2 ^ 64
 
 -- half of GB on the words a, b, c, d: its first rotation and its second (3.6)
-abbrev pub half_mixed_words : ℕ → ℕ → List ℕ → List ℕ
-half_mixed_words first second words =
+abbrev pub words_after_half_gb : ℕ → ℕ → List ℕ → List ℕ
+words_after_half_gb first second words =
     let a = sum_with_product (slice_index words 0) (slice_index words 1) in
     let d = rotate_right w64 (bit_xor (slice_index words 3) a) first in
     let c = sum_with_product (slice_index words 2) d in
@@ -22,17 +22,17 @@ half_mixed_words first second words =
 
 -- GB on the words a, b, c, d (3.6)
 unfoldable pub mixed_words : List ℕ → List ℕ
-mixed_words words = half_mixed_words 16 63 (half_mixed_words 32 24 words)
+mixed_words words = words_after_half_gb 16 63 (words_after_half_gb 32 24 words)
 
 -- sixteen words after the first `count` of the eight GB of the permutation P (3.6)
-unfoldable pub words_after_mixings : List ℕ → ℕ → List ℕ
-words_after_mixings words zero = words
-words_after_mixings words (suc count) =
-    along mixed_words (words_after_mixings words count) (get_or mixing_places count [])
+unfoldable pub words_after_gb_steps : List ℕ → ℕ → List ℕ
+words_after_gb_steps words zero = words
+words_after_gb_steps words (suc count) =
+    along mixed_words (words_after_gb_steps words count) (get_or mixing_places count [])
 
 -- the permutation P of sixteen words (3.6)
 abbrev pub permutation : List ℕ → List ℕ
-permutation words = words_after_mixings words 8
+permutation words = words_after_gb_steps words 8
 
 -- the places of a row of a block: sixteen words (3.5)
 abbrev pub row_places : ℕ → List ℕ

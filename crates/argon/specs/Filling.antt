@@ -1,6 +1,6 @@
 -- A matrix that is being filled, as contracts see it.
 use Rattle.std.specs.Prelude.{◌≡◌, ℕ, ◌*◌, ◌/◌, ◌%◌, ◌<◌, ◌≤◌, Bool, true, ◌&&◌, nat_lt, List, length, Option, Some, None, if◌then◌else◌}
-use Rattle.argon.specs.Buffer.{HoldsNewest, number_after_slices}
+use Rattle.argon.specs.Buffer.{HoldsNewestBlocks, column_number_after_slices}
 use Rattle.argon.specs.Parameters.{Parameters, block_count}
 use Rattle.argon.specs.Range.{IsInRangeWithAnyPassword}
 
@@ -18,8 +18,8 @@ pub record Filling : Type 0 where
 -- every place holds the newest version of its block, where one exists
 abbrev pub IsNewest : Filling → Type 0
 IsNewest filling =
-    HoldsNewest filling.parameters filling.first_hash filling.blocks
-    (λ _. number_after_slices filling.parameters filling.slices_made)
+    HoldsNewestBlocks filling.parameters filling.first_hash filling.blocks
+    (λ _. column_number_after_slices filling.parameters filling.slices_made)
 
 -- what holds of every matrix
 pub record IsFilling (filling : Filling) : Type 0 where
@@ -29,7 +29,7 @@ pub record IsFilling (filling : Filling) : Type 0 where
   pub newest : filling.is_started ≡ true → IsNewest filling
 
 -- a slice is left to be made
-pub record HasNext (filling : Filling) : Type 0 where
+pub record HasSliceLeft (filling : Filling) : Type 0 where
   pub started : filling.is_started ≡ true
   pub left : filling.slices_made < 4 * filling.parameters.passes
 

@@ -14,7 +14,7 @@ inputs_of lent = record {
 
 -- password and salt have the lengths that the parameters say, and secret and associated data fewer than 2^32 bytes
 -- (3.1)
-pub record AreInputsOf (parameters : Parameters) (inputs : Inputs) : Type 0 where
+pub record InputsFitParameters (parameters : Parameters) (inputs : Inputs) : Type 0 where
   pub password : length inputs.password ≡ parameters.password_len
   pub salt : length inputs.salt ≡ parameters.salt_len
   pub secret : length inputs.secret < 2 ^ 32

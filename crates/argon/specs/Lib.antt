@@ -11,7 +11,7 @@ pub mod Buffer
 pub mod Filling
 pub mod Matrix
 pub mod Plan
-pub mod Weaving
+pub mod SliceProgress
 pub mod Woven
 pub mod Lanes
 pub mod Weave

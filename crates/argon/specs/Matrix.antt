@@ -4,8 +4,8 @@ use Rattle.argon.specs.Filling.{IsFilling}
 use Rattle.argon.specs.declared.matrix.Matrix.TheInside.{Inside}
 
 -- what the fields of a matrix say
-abbrev pub filling_of : Inside → Filling
-filling_of matrix = record {
+abbrev pub filling_state_of_matrix : Inside → Filling
+filling_state_of_matrix matrix = record {
   parameters = matrix.params;
   is_started = matrix.is_started;
   first_hash = matrix.h0;
@@ -14,5 +14,5 @@ filling_of matrix = record {
 }
 
 -- what holds of the fields of each matrix
-abbrev pub IsMatrix : Inside → Type 0
-IsMatrix matrix = IsFilling (filling_of matrix)
+abbrev pub IsArgon2Matrix : Inside → Type 0
+IsArgon2Matrix matrix = IsFilling (filling_state_of_matrix matrix)

@@ -20,7 +20,7 @@ parameters_of params = record {
 }
 
 -- what holds of the fields
-pub record IsParams (params : Inside) : Type 0 where
+pub record AreArgon2Params (params : Inside) : Type 0 where
   pub in_range : IsInRangeWithAnyPassword (parameters_of params)
   pub segment : params.segment_len ≡ segment_len (parameters_of params)
 

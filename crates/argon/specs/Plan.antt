@@ -1,7 +1,7 @@
 -- What is planned for a segment with independent addressing (RFC 9106, 3.4.1.2 and 3.4.2).
 use Rattle.std.specs.Prelude.{◌≡◌, ℕ, ◌+◌, ◌-◌, ◌*◌, ◌/◌, ◌%◌, List, [], get_or, slice_index}
-use Rattle.argon.specs.Argon2.{block_by_words, is_xored_in, matrix_block, stored_block}
-use Rattle.argon.specs.Buffer.{HoldsNewest, IsInSlice, block_held}
+use Rattle.argon.specs.Argon2.{stored_block_by_j1_j2, is_xored_in, matrix_block, stored_block}
+use Rattle.argon.specs.Buffer.{HoldsNewestBlocks, IsInSlice, block_held}
 use Rattle.argon.specs.Compression.{compression}
 use Rattle.argon.specs.Parameters.{Parameters, segment_len, lane_len}
 use Rattle.argon.specs.Reference.{address_block, reference_lane, reference_number}
@@ -12,14 +12,14 @@ abbrev pub entry_at : List Place → ℕ → Place
 entry_at places index = get_or places index (record { lane = 0; column = 0 })
 
 -- the word J of a column: no block of the matrix stands in it (3.4.1.2)
-abbrev pub planned_word : Parameters → ℕ → ℕ → ℕ → ℕ → ℕ
-planned_word parameters pass lane slice index =
+abbrev pub independent_reference_word : Parameters → ℕ → ℕ → ℕ → ℕ → ℕ
+independent_reference_word parameters pass lane slice index =
     slice_index (address_block parameters pass lane slice (index / 128 + 1)) (index % 128)
 
 -- the place that the planned word of a column names: its lane, and its column in the lane (3.4.2)
-abbrev pub planned_place : Parameters → ℕ → ℕ → ℕ → ℕ → Place
-planned_place parameters pass lane slice index =
-    let j = planned_word parameters pass lane slice index in record {
+abbrev pub independent_reference_place : Parameters → ℕ → ℕ → ℕ → ℕ → Place
+independent_reference_place parameters pass lane slice index =
+    let j = independent_reference_word parameters pass lane slice index in record {
       lane = reference_lane parameters pass lane slice j;
       column = reference_number parameters pass lane slice index j % lane_len parameters;
     }
@@ -30,16 +30,16 @@ abbrev pub IsMadeAsPlanned : Parameters → List ℕ → ℕ → ℕ → ℕ →
 IsMadeAsPlanned parameters h0 pass lane slice index =
     let number = pass * lane_len parameters + (slice * segment_len parameters + index) in
     matrix_block parameters h0 number lane
-    ≡ block_by_words parameters (matrix_block parameters h0) number pass lane slice index
-    (planned_word parameters pass lane slice index)
+    ≡ stored_block_by_j1_j2 parameters (matrix_block parameters h0) number pass lane slice index
+    (independent_reference_word parameters pass lane slice index)
 
 -- in every memory that holds the newest blocks of this H_0 while the lane stands at that column: its block is G of the
 -- one before it and of the one that stands at the planned place, with the old block xored in where `is_xored_in`
 abbrev pub IsMadeAlongPlan : Parameters → List ℕ → List (List ℕ) → (ℕ → ℕ) → ℕ → ℕ → ℕ → ℕ → Type 0
 IsMadeAlongPlan parameters h0 blocks next pass lane slice index =
     let number = pass * lane_len parameters + (slice * segment_len parameters + index) in
-    let place = planned_place parameters pass lane slice index in
-    HoldsNewest parameters h0 blocks next → IsInSlice parameters pass slice next → next lane ≡ number
+    let place = independent_reference_place parameters pass lane slice index in
+    HoldsNewestBlocks parameters h0 blocks next → IsInSlice parameters pass slice next → next lane ≡ number
     → matrix_block parameters h0 number lane
     ≡ stored_block (is_xored_in parameters pass) (block_held parameters blocks (number - lane_len parameters) lane)
     (compression (block_held parameters blocks (number - 1) lane)

@@ -50,33 +50,33 @@ abbrev pub is_between : ℕ → ℕ → ℕ → Bool
 is_between low number high = nat_le low number && nat_le number high
 
 -- `rest` where the test holds, and the fault where it fails
-abbrev pub rest_or_fault : {A : Type 0} → Bool → ParamFault → Result A ParamFault → Result A ParamFault
-rest_or_fault test refusal rest = if test then rest else Err refusal
+abbrev pub fault_unless : {A : Type 0} → Bool → ParamFault → Result A ParamFault → Result A ParamFault
+fault_unless test refusal rest = if test then rest else Err refusal
 
 -- the parameters where each number is in its range (3.1, and this project's lengths), or the first fault in the order
 -- of the lines; kind and version are not tested here
 abbrev pub checked_parameters : Parameters → Result Parameters ParamFault
 checked_parameters parameters =
-    rest_or_fault (is_between 1 parameters.passes 0xFFFFFFFF) fault.Passes
-    (rest_or_fault (is_between 1 parameters.lanes 0xFFFFFF) fault.Lanes
-    (rest_or_fault (is_between (8 * parameters.lanes) parameters.memory_kib 0xFFFFFFFF) fault.Memory
-    (rest_or_fault (is_between 4 parameters.tag_len 4096) fault.TagLength
-    (rest_or_fault (is_between 8 parameters.salt_len 255) fault.SaltLength
-    (rest_or_fault (is_between 1 parameters.password_len 127) fault.PasswordLength (Ok parameters))))))
+    fault_unless (is_between 1 parameters.passes 0xFFFFFFFF) fault.Passes
+    (fault_unless (is_between 1 parameters.lanes 0xFFFFFF) fault.Lanes
+    (fault_unless (is_between (8 * parameters.lanes) parameters.memory_kib 0xFFFFFFFF) fault.Memory
+    (fault_unless (is_between 4 parameters.tag_len 4096) fault.TagLength
+    (fault_unless (is_between 8 parameters.salt_len 255) fault.SaltLength
+    (fault_unless (is_between 1 parameters.password_len 127) fault.PasswordLength (Ok parameters))))))
 
 -- the same with a password of any length that the RFC allows, 0 to 2^32-1 bytes
-abbrev pub checked_with_any_password : Parameters → Result Parameters ParamFault
-checked_with_any_password p =
-    rest_or_fault (is_between 1 p.passes 0xFFFFFFFF) fault.Passes
-    (rest_or_fault (is_between 1 p.lanes 0xFFFFFF) fault.Lanes
-    (rest_or_fault (is_between (8 * p.lanes) p.memory_kib 0xFFFFFFFF) fault.Memory
-    (rest_or_fault (is_between 4 p.tag_len 4096) fault.TagLength
-    (rest_or_fault (is_between 8 p.salt_len 255) fault.SaltLength
-    (rest_or_fault (nat_le p.password_len 0xFFFFFFFF) fault.PasswordLength (Ok p))))))
+abbrev pub checked_with_any_password_length : Parameters → Result Parameters ParamFault
+checked_with_any_password_length p =
+    fault_unless (is_between 1 p.passes 0xFFFFFFFF) fault.Passes
+    (fault_unless (is_between 1 p.lanes 0xFFFFFF) fault.Lanes
+    (fault_unless (is_between (8 * p.lanes) p.memory_kib 0xFFFFFFFF) fault.Memory
+    (fault_unless (is_between 4 p.tag_len 4096) fault.TagLength
+    (fault_unless (is_between 8 p.salt_len 255) fault.SaltLength
+    (fault_unless (nat_le p.password_len 0xFFFFFFFF) fault.PasswordLength (Ok p))))))
 
 -- Ok where the blocks, each of 1 KiB, are no more than `max_kib` and the block functions no more than `max_ops`; or
 -- the first fault
 abbrev pub admission : Parameters → ℕ → ℕ → Result ⊤ ParamFault
 admission parameters max_kib max_ops =
-    rest_or_fault (nat_le (block_count parameters) max_kib) fault.MemoryLimit
-    (rest_or_fault (nat_le (work parameters) max_ops) fault.WorkLimit (Ok tt))
+    fault_unless (nat_le (block_count parameters) max_kib) fault.MemoryLimit
+    (fault_unless (nat_le (work parameters) max_ops) fault.WorkLimit (Ok tt))

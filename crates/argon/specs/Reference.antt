@@ -34,16 +34,16 @@ HasAddresses parameters pass lane slice index addresses =
 -- J, one word whose low half is J_1 and whose high half is J_2: where they come from the position alone, the word of
 -- the address block of 128 columns in which the index falls (3.4.1.2), and else the first word of the block before
 -- (3.4.1.1)
-abbrev pub reference_words_by : Bool → Parameters → ℕ → ℕ → ℕ → ℕ → List ℕ → ℕ
-reference_words_by true parameters pass lane slice index previous =
+abbrev pub j1_j2_by_addressing : Bool → Parameters → ℕ → ℕ → ℕ → ℕ → List ℕ → ℕ
+j1_j2_by_addressing true parameters pass lane slice index previous =
     slice_index (address_block parameters pass lane slice (index / 128 + 1)) (index % 128)
-reference_words_by false parameters pass lane slice index previous = slice_index previous 0
+j1_j2_by_addressing false parameters pass lane slice index previous = slice_index previous 0
 
 -- J, one word whose low half is J_1 and whose high half is J_2, of a column at a place, by the block before it: in
 -- Argon2d by 3.4.1.1, in Argon2i by 3.4.1.2, in Argon2id by the one or the other as 3.4.1.3 says
 unfoldable pub reference_words : Parameters → ℕ → ℕ → ℕ → ℕ → List ℕ → ℕ
 reference_words parameters pass lane slice index previous =
-    reference_words_by (is_independent parameters pass slice) parameters pass lane slice index previous
+    j1_j2_by_addressing (is_independent parameters pass slice) parameters pass lane slice index previous
 
 -- l = J_2 mod p, the lane of the reference; in the first slice of the first pass it is the lane of the block itself
 -- (3.4.2)
@@ -53,22 +53,22 @@ reference_lane parameters pass lane slice j =
 
 -- the numbers of the columns `from`, `from` + 1, .. up to but without `to` of a pass, by the length of a segment:
 -- column c of pass r has the number r * q + c, and q is 4 * segment
-abbrev pub column_numbers : ℕ → ℕ → ℕ → ℕ → List ℕ
-column_numbers segment pass from to = range_with_len (pass * (4 * segment) + from) (to - from)
+abbrev pub column_numbers_in_range : ℕ → ℕ → ℕ → ℕ → List ℕ
+column_numbers_in_range segment pass from to = range_with_len (pass * (4 * segment) + from) (to - from)
 
 -- the numbers of the columns of the slices after this one, which the pass before has made; none in the first pass
 -- (3.4.2)
-abbrev pub later_slice_numbers : ℕ → ℕ → ℕ → List ℕ
-later_slice_numbers segment zero slice = []
-later_slice_numbers segment (suc before) slice = column_numbers segment before ((slice + 1) * segment) (4 * segment)
+abbrev pub columns_of_later_slices : ℕ → ℕ → ℕ → List ℕ
+columns_of_later_slices segment zero slice = []
+columns_of_later_slices segment (suc before) slice = column_numbers_in_range segment before ((slice + 1) * segment) (4 * segment)
 
 -- the numbers of the columns of a lane from which W is taken, in the order in which they were made: those of its last
 -- three finished segments, or of as many as the first pass has finished, and, if it is the lane of the block, those
 -- of this segment that come before the block (3.4.2)
 abbrev pub candidate_columns : ℕ → ℕ → ℕ → ℕ → Bool → List ℕ
 candidate_columns segment pass slice index is_own =
-    later_slice_numbers segment pass slice ++ column_numbers segment pass 0 (slice * segment)
-    ++ column_numbers segment pass (slice * segment) (slice * segment + (if is_own then index else 0))
+    columns_of_later_slices segment pass slice ++ column_numbers_in_range segment pass 0 (slice * segment)
+    ++ column_numbers_in_range segment pass (slice * segment) (slice * segment + (if is_own then index else 0))
 
 -- W, as the numbers of columns of a lane: `candidate_columns`, without its last one where the lane is that of the
 -- block, since that is the block before it, or where the block is the first of its segment; where both hold, one is

@@ -2,8 +2,8 @@
 use Rattle.argon.specs.Parameters.{Parameters}
 
 -- Argon2i of version 0x13 with three passes, two lanes and 1,610 KiB: 201 columns a segment, and two KiB left over
-abbrev pub two_lanes : Parameters
-two_lanes = record {
+abbrev pub two_lane_sample_parameters : Parameters
+two_lane_sample_parameters = record {
   kind = 1;
   version = 0x13;
   passes = 3;

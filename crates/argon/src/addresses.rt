@@ -1,8 +1,7 @@
 //! The address blocks of independent addressing (RFC 9106, section 3.4.1.2).
 ghost use Rattle.std.specs.Prelude.{◌≡◌, ◌+◌, ◌/◌, ◌<◌, ◌^◌, true};
-ghost use Rattle.argon.specs.Counts.{address_count, address_work, addresses_begun};
-ghost use Rattle.argon.specs.Reference.{HasAddresses, address_block};
-ghost use Rattle.argon.specs.Inside.Segment.{IsSegmentOf};
+ghost use Rattle.argon.specs.Counts.{address_block_count, address_work};
+ghost use Rattle.argon.specs.Reference.{address_block};
 
 use crate::block::{Block, write_xor};
 use crate::compression::{Scratch, compression};
@@ -12,9 +11,9 @@ use crate::ticks::Ticks;
 
 /// How many address blocks a segment of so many columns needs: each has the words J of 128 columns,
 /// one part.
-pub(crate) fn address_count(segment_len: u32) -> u32
+pub(crate) fn address_block_count(segment_len: u32) -> u32
     requires short { segment_len < 2 ^ 31 }
-    ensures value { result ≡ address_count segment_len }
+    ensures value { result ≡ address_block_count segment_len }
 {
     (segment_len + 127) / 128
 }
@@ -51,28 +50,4 @@ pub(crate) fn prepare_addresses(
     write_xor(&scratch.permuted, &scratch.xored, &mut input);
     compression(&zero, &input, scratch, ticks);
     write_xor(&scratch.permuted, &scratch.xored, addresses);
-}
-
-/// Makes the address block that the word J of a column stands in, where the addressing of the
-/// segment is independent and the column is the first of a part after the first. Else it is the one
-/// of the column before.
-pub(crate) fn renew_addresses(
-    params: &Params,
-    segment: &Segment,
-    index: u32,
-    addresses: &mut Block,
-    scratch: &mut Scratch,
-    ticks: &mut Ticks,
-)
-    requires is_of { IsSegmentOf params.now segment.now }
-    requires addresses { HasAddresses params.now segment.now.pass segment.now.lane segment.now.slice index
-        addresses.old }
-    ensures addresses { HasAddresses params.now segment.now.pass segment.now.lane segment.now.slice
-        (index + 1) addresses.new }
-    ensures count { ticks.new
-        ≡ ticks.old + address_work segment.now.is_independent (addresses_begun index) }
-{
-    if index > 0 && index % 128 == 0 {
-        prepare_addresses(params, segment, index / 128, addresses, scratch, ticks);
-    }
 }

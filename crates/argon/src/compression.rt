@@ -86,7 +86,7 @@ fn permute_columns(block: &mut Block)
 
 /// The block function, which is the compression function G (RFC 9106, section 3.5): leaves in the scratch blocks R and Z,
 /// whose xor is G of the two blocks, and counts one. [`write_xor`](crate::write_xor) writes that xor where it is wanted,
-/// and [`write_xor_over`](crate::write_xor_over) xors it into a block. Any two blocks are taken, one block twice too.
+/// and [`xor_two_blocks_into`](crate::xor_two_blocks_into) xors it into a block. Any two blocks are taken, one block twice too.
 pub fn compression(first: &Block, second: &Block, scratch: &mut Scratch, ticks: &mut Ticks)
     ensures xored { scratch.new.xored ≡ xored_words first.now second.now }
     ensures value { xored_words scratch.new.permuted scratch.new.xored

@@ -2,7 +2,7 @@
 use thiserror::Error;
 
 /// Why parameters are refused: the first that holds, in this order. `Params::new` and
-/// `Params::with_any_password` answer 1 to 6, `Params::admitted` 7 and 8.
+/// `Params::with_any_password_length` answer 1 to 6, `Params::admitted` 7 and 8.
 #[derive(Clone, Copy, Debug, PartialEq, Eq, Error)]
 pub enum ParamFault {
     /// 1: the passes t are not 1 to 2^32-1.
@@ -20,7 +20,7 @@ pub enum ParamFault {
     /// 5: the length of the salt, in bytes, is not 8 to 255.
     #[error("the salt is not 8 to 255 bytes long")]
     SaltLength,
-    /// 6: the length of the password, in bytes, is not 1 to 127, or for `with_any_password` not 0 to 2^32-1.
+    /// 6: the length of the password, in bytes, is not 1 to 127, or for `with_any_password_length` not 0 to 2^32-1.
     #[error("the password is shorter or longer than allowed")]
     PasswordLength,
     /// 7: the matrix has more blocks of 1 KiB than are allowed.

@@ -3,7 +3,7 @@ ghost use Rattle.std.specs.Prelude.{◌≡◌, ◌⊎◌, false, true, IfOk, OnE
 
 use crate::blocks::Blocks;
 use crate::matrix_memory::MatrixMemory;
-use crate::numbers::Numbers;
+use crate::numbers::GrantedNumbers;
 use crate::params::Params;
 use crate::wiped_blocks::WipedBlocks;
 use std::alloc::{AllocError, Global};
@@ -16,7 +16,7 @@ use std::marker::Model;
 pub struct Lanes {
     pub(crate) params: Params,
     // How many blocks of the slice each lane has still to make: none, between two slices.
-    pub(crate) left: Numbers,
+    pub(crate) left: GrantedNumbers,
     // The address block that the words J of each lane stand in, where the addressing is
     // independent.
     pub(crate) addresses: Blocks,
@@ -27,11 +27,11 @@ impl Model for Lanes {
 
     ghost Value = { Parameters };
 
-    ghost use Rattle.argon.specs.Lanes.{IsForLanes};
+    ghost use Rattle.argon.specs.Lanes.{AreLanesWithNoBlocksLeft};
 
     ghost view = { λ lanes. lanes.params };
 
-    ghost invariant = { IsForLanes };
+    ghost invariant = { AreLanesWithNoBlocksLeft };
 }
 
 /// Takes the memory for the lanes of these parameters from a source of your own: a number of four bytes for each, and then

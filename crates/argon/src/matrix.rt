@@ -2,14 +2,14 @@
 ghost use Rattle.std.specs.Prelude.{◌≡◌, ◌+◌, ◌*◌, ◌/◌, ◌%◌, true, false, ◌↔◌, is_ok, length, IfOk, IsSome};
 ghost use Rattle.argon.specs.Argon2.{argon2_tag, first_hash, tag_by_first_hash};
 ghost use Rattle.argon.specs.Counts.{slice_work, work};
-ghost use Rattle.argon.specs.Filling.{HasNext, IsDone, IsNewest, next_slice};
-ghost use Rattle.argon.specs.Inputs.{AreInputsOf, inputs_of};
+ghost use Rattle.argon.specs.Filling.{HasSliceLeft, IsDone, IsNewest, next_slice};
+ghost use Rattle.argon.specs.Inputs.{InputsFitParameters, inputs_of};
 ghost use Rattle.argon.specs.Parameters.{block_count};
 ghost use Rattle.argon.specs.Woven.{with_next_slice};
 
 use crate::block::Block;
 use crate::blocks::Blocks;
-use crate::first_columns::{first_hash, put_first_columns};
+use crate::first_columns::{fill_first_two_columns, first_hash};
 use crate::inputs::Inputs;
 use crate::matrix_memory::MatrixMemory;
 use crate::params::Params;
@@ -36,13 +36,13 @@ pub struct Matrix {
 }
 
 impl Model for Matrix {
-    ghost use Rattle.argon.specs.Matrix.{Filling, filling_of, IsMatrix};
+    ghost use Rattle.argon.specs.Matrix.{Filling, filling_state_of_matrix, IsArgon2Matrix};
 
     ghost Value = { Filling };
 
-    ghost view = { filling_of };
+    ghost view = { filling_state_of_matrix };
 
-    ghost invariant = { IsMatrix };
+    ghost invariant = { IsArgon2Matrix };
 }
 
 /// Takes the memory of a hash with these parameters from a source of your own: m' blocks of 1,024 bytes (RFC 9106, section
@@ -81,7 +81,7 @@ impl Matrix {
     /// Computes H0 and the first two columns (RFC 9106, section 3.2, steps 1, 3 and 4). What was
     /// made before is given up, and pass 0, slice 0 comes next.
     pub fn start(&mut self, inputs: &Inputs<'_>)
-        requires inputs { AreInputsOf self.old.parameters (inputs_of inputs.now) }
+        requires inputs { InputsFitParameters self.old.parameters (inputs_of inputs.now) }
         ensures parameters { self.new.parameters ≡ self.old.parameters }
         ensures started { self.new.is_started ≡ true }
         ensures first_hash { self.new.first_hash
@@ -91,7 +91,7 @@ impl Matrix {
         ensures size { length self.new.blocks ≡ length self.old.blocks }
     {
         self.h0 = first_hash(&self.params, inputs);
-        put_first_columns(self.blocks.held.blocks_mut(), &self.params, &self.h0);
+        fill_first_two_columns(self.blocks.held.blocks_mut(), &self.params, &self.h0);
         self.slices_made = 0;
         self.is_started = true;
     }
@@ -100,7 +100,7 @@ impl Matrix {
     /// `start` wasn't called.
     pub fn next(&self) -> Option<(u32, u32)>
         ensures value { result ≡ next_slice self.now }
-        ensures left { IsSome result ↔ HasNext self.now }
+        ensures left { IsSome result ↔ HasSliceLeft self.now }
     {
         if self.is_started && self.slices_made < 4 * self.params.passes() as u64 {
             Some(((self.slices_made / 4) as u32, (self.slices_made % 4) as u32))
@@ -112,7 +112,7 @@ impl Matrix {
     /// Makes the blocks of the next slice, lane by lane (RFC 9106, section 3.2, steps 5 and 6). Every other place of the
     /// matrix stays as it was.
     pub fn slice(&mut self, ticks: &mut Ticks)
-        requires next { HasNext self.old }
+        requires next { HasSliceLeft self.old }
         ensures matrix { self.new ≡ with_next_slice self.old }
         ensures parameters { self.new.parameters ≡ self.old.parameters }
         ensures started { self.new.is_started ≡ true }
@@ -163,7 +163,7 @@ impl Matrix {
     /// Writes the tag of the inputs: `start`, every slice, `tag`. `out` has the tag's length, in
     /// bytes. It takes as many block functions as `Params::work` says.
     pub fn hash(&mut self, inputs: &Inputs<'_>, out: &mut [u8], ticks: &mut Ticks)
-        requires inputs { AreInputsOf self.old.parameters (inputs_of inputs.now) }
+        requires inputs { InputsFitParameters self.old.parameters (inputs_of inputs.now) }
         requires len { length out.old ≡ self.old.parameters.tag_len }
         ensures tag { out.new ≡ argon2_tag self.old.parameters (inputs_of inputs.now) }
         ensures parameters { self.new.parameters ≡ self.old.parameters }

@@ -1,7 +1,7 @@
 //! Where the memory of a matrix and of lanes comes from: the heap, or a source of the caller's own.
 ghost use Rattle.std.specs.Prelude.{◌≡◌, ℕ, Bool, IfOk, is_ok, vec_len};
 
-use crate::numbers::Numbers;
+use crate::numbers::GrantedNumbers;
 use crate::wiped_blocks::GrantedBlocks;
 use std::alloc::{AllocError, Global};
 
@@ -23,7 +23,7 @@ pub trait MatrixMemory {
         ensures asked { self.new ≡ after_blocks self.old count (is_ok result) };
 
     /// So many numbers of four bytes, whatever they are. `AllocError` where they are refused, and then nothing is held.
-    fn numbers(&mut self, count: usize) -> Result<Numbers, AllocError>
+    fn numbers(&mut self, count: usize) -> Result<GrantedNumbers, AllocError>
         ensures size { IfOk result (λ numbers. vec_len numbers.list ≡ count) }
         ensures asked { self.new ≡ after_numbers self.old count (is_ok result) };
 }
@@ -37,7 +37,7 @@ impl MatrixMemory for Global {
         Ok(GrantedBlocks::new(vec![in *self; [0; 128]; count]?))
     }
 
-    fn numbers(&mut self, count: usize) -> Result<Numbers, AllocError> {
-        Ok(Numbers::new(vec![in *self; 0; count]?))
+    fn numbers(&mut self, count: usize) -> Result<GrantedNumbers, AllocError> {
+        Ok(GrantedNumbers::new(vec![in *self; 0; count]?))
     }
 }

@@ -4,16 +4,16 @@ ghost use Rattle.std.specs.Prelude.{◌≡◌, ◌-◌, ◌<◌, length, replica
 /// Numbers of four bytes that a source of memory grants. Their number stays as it is, and the heap that
 /// they are from is out of reach: what has them can take no memory through them.
 #[derive(Drop)]
-pub struct Numbers {
+pub struct GrantedNumbers {
     list: Vec<u32>,
 }
 
-impl Numbers {
+impl GrantedNumbers {
     /// The numbers of this list.
-    pub fn new(list: Vec<u32>) -> Numbers
+    pub fn new(list: Vec<u32>) -> GrantedNumbers
         ensures list { result.list ≡ list }
     {
-        Numbers { list }
+        GrantedNumbers { list }
     }
 
     /// The number at a place, 0 where there is none.

@@ -1,14 +1,14 @@
 //! The parameters (RFC 9106, section 3.1), tested once.
 ghost use Rattle.std.specs.Prelude.{◌≡◌, ◌*◌, ◌<◌, ◌≤◌, ◌^◌, true, IfOk, Result};
 ghost use Rattle.argon.specs.Argon2.{is_xored_in};
-ghost use Rattle.argon.specs.Counts.{independent_segments, work};
+ghost use Rattle.argon.specs.Counts.{independent_segment_count, work};
 ghost use Rattle.argon.specs.Kind.{type_number};
 ghost use Rattle.argon.specs.Parameters.{Parameters, block_count, segment_len};
 ghost use Rattle.argon.specs.Params.{AreAsGiven};
-ghost use Rattle.argon.specs.Range.{IsInRange, IsInRangeWithAnyPassword, admission, checked_parameters, checked_with_any_password, is_between, is_version};
+ghost use Rattle.argon.specs.Range.{IsInRange, IsInRangeWithAnyPassword, admission, checked_parameters, checked_with_any_password_length, is_between, is_version};
 ghost use Rattle.argon.specs.Reference.{is_independent};
 
-use crate::addresses::address_count;
+use crate::addresses::address_block_count;
 use crate::fault::ParamFault;
 use crate::kind::Kind;
 use std::marker::Model;
@@ -34,11 +34,11 @@ impl Model for Params {
 
     ghost Value = { Parameters };
 
-    ghost use Rattle.argon.specs.Params.{parameters_of, IsParams};
+    ghost use Rattle.argon.specs.Params.{parameters_of, AreArgon2Params};
 
     ghost view = { parameters_of };
 
-    ghost invariant = { IsParams };
+    ghost invariant = { AreArgon2Params };
 }
 
 // Whether a number is in a range, its ends included.
@@ -78,7 +78,7 @@ impl Params {
             password_len result }
         ensures in_range { IfOk result IsInRange }
     {
-        let params = Params::with_any_password(
+        let params = Params::with_any_password_length(
             kind,
             version,
             passes,
@@ -96,7 +96,7 @@ impl Params {
 
     /// Tests the parameters of a hash as `new` does, but the password has any length that RFC 9106 allows: 0 to 2^32-1
     /// bytes. An empty password is accepted: refuse it before you enrol it.
-    pub fn with_any_password(
+    pub fn with_any_password_length(
         kind: Kind,
         version: u32,
         passes: u32,
@@ -107,7 +107,7 @@ impl Params {
         password_len: usize,
     ) -> Result<Params, ParamFault>
         requires version { is_version version ≡ true }
-        ensures exact { result ≡ checked_with_any_password (record {
+        ensures exact { result ≡ checked_with_any_password_length (record {
           kind = type_number kind;
           version = version;
           passes = passes;
@@ -240,12 +240,14 @@ impl Params {
         ensures value { result ≡ work self.now }
     {
         let made = self.passes as u128 * self.blocks() as u128 - 2 * self.lanes as u128;
-        made + 2 * address_count(self.segment_len) as u128 * self.independent_segments() as u128
+        made + 2
+            * address_block_count(self.segment_len) as u128
+            * self.independent_segment_count() as u128
     }
 
     // How many segments have independent addressing.
-    fn independent_segments(&self) -> u64
-        ensures value { result ≡ independent_segments self.now }
+    fn independent_segment_count(&self) -> u64
+        ensures value { result ≡ independent_segment_count self.now }
         ensures small { result < 2 ^ 58 }
     {
         match self.kind {

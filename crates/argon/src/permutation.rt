@@ -3,9 +3,9 @@
 ghost use Rattle.std.specs.Prelude.{◌≡◌, ℕ, ◌+◌, ◌*◌, ◌%◌, ◌^◌, ◌<◌, slice_index, bit_xor};
 ghost use Rattle.std.specs.Int.{w64, rotate_right};
 ghost use Rattle.argon.specs.Compression.{mixed_words, permutation, sum_with_product};
-ghost use Rattle.argon.specs.Inside.FourWords.{by_columns, by_diagonals, each_in_order, words_across, words_by_rows};
+ghost use Rattle.argon.specs.Inside.FourWords.{turned_to_columns, turned_to_diagonals, word_of_each_vector};
 
-use crate::four_lists::{FourLists, Sixteen, apart, side_by_side};
+use crate::four_lists::{FourLists, transposed};
 use std::simd::u64x16;
 
 // The low 32 bits of each word.
@@ -54,7 +54,7 @@ fn rotated(words: u64x16, count: u64) -> u64x16
 }
 
 #[inline(always)]
-fn xor_rotated(a: u64x16, b: u64x16, count: u64) -> u64x16
+fn rotated_xor(a: u64x16, b: u64x16, count: u64) -> u64x16
     requires range { (0 < count) × (count < 64) }
     ensures value { (number : ℕ) → number < 16
         → slice_index result number
@@ -63,86 +63,57 @@ fn xor_rotated(a: u64x16, b: u64x16, count: u64) -> u64x16
     rotated(a ^ b, count)
 }
 
-// GB at the four places of each list: a, b, c and d are the standard's words.
+// GB at the four places of each of four lists that stand side by side: a, b, c and d are the standard's words.
 #[inline(always)]
 fn mix(lists: FourLists) -> FourLists
     ensures value { (number : ℕ) → number < 16
-        → words_across number result ≡ mixed_words (words_across number lists) }
+        → word_of_each_vector number result ≡ mixed_words (word_of_each_vector number lists) }
 {
-    let FourLists { a, b, c, d } = lists;
+    let (a, b, c, d) = lists;
     let a = sum_with_product(a, b);
-    let d = xor_rotated(d, a, 32);
+    let d = rotated_xor(d, a, 32);
     let c = sum_with_product(c, d);
-    let b = xor_rotated(b, c, 24);
+    let b = rotated_xor(b, c, 24);
     let a = sum_with_product(a, b);
-    let d = xor_rotated(d, a, 16);
+    let d = rotated_xor(d, a, 16);
     let c = sum_with_product(c, d);
-    let b = xor_rotated(b, c, 63);
-    FourLists { a, b, c, d }
+    let b = rotated_xor(b, c, 63);
+    (a, b, c, d)
 }
 
-// The words of each list turned by one place.
-#[inline(always)]
-fn turned_by_one(words: u64x16) -> u64x16
-    ensures value { result ≡ each_in_order words 1 2 3 0 }
-{
-    words.swizzle([1, 2, 3, 0, 5, 6, 7, 4, 9, 10, 11, 8, 13, 14, 15, 12])
-}
-
-#[inline(always)]
-fn turned_by_two(words: u64x16) -> u64x16
-    ensures value { result ≡ each_in_order words 2 3 0 1 }
-{
-    words.swizzle([2, 3, 0, 1, 6, 7, 4, 5, 10, 11, 8, 9, 14, 15, 12, 13])
-}
-
-#[inline(always)]
-fn turned_by_three(words: u64x16) -> u64x16
-    ensures value { result ≡ each_in_order words 3 0 1 2 }
-{
-    words.swizzle([3, 0, 1, 2, 7, 4, 5, 6, 11, 8, 9, 10, 15, 12, 13, 14])
-}
-
-// From columns to diagonals.
+// From columns to diagonals: the words of each list in b turned by one place, in c by two and in d by three.
 #[inline(always)]
 fn to_diagonals(lists: FourLists) -> FourLists
-    ensures diagonals { result ≡ by_diagonals lists }
+    ensures diagonals { result ≡ turned_to_diagonals lists }
 {
-    FourLists {
-        a: lists.a,
-        b: turned_by_one(lists.b),
-        c: turned_by_two(lists.c),
-        d: turned_by_three(lists.d),
-    }
+    let (a, b, c, d) = lists;
+    (
+        a,
+        b.swizzle([1, 2, 3, 0, 5, 6, 7, 4, 9, 10, 11, 8, 13, 14, 15, 12]),
+        c.swizzle([2, 3, 0, 1, 6, 7, 4, 5, 10, 11, 8, 9, 14, 15, 12, 13]),
+        d.swizzle([3, 0, 1, 2, 7, 4, 5, 6, 11, 8, 9, 10, 15, 12, 13, 14]),
+    )
 }
 
-// From diagonals back to columns.
+// From diagonals back to columns: the same turn, with b and d in each other's place.
 #[inline(always)]
 fn to_columns(lists: FourLists) -> FourLists
-    ensures columns { result ≡ by_columns lists }
+    ensures columns { result ≡ turned_to_columns lists }
 {
-    FourLists {
-        a: lists.a,
-        b: turned_by_three(lists.b),
-        c: turned_by_two(lists.c),
-        d: turned_by_one(lists.d),
-    }
+    let (a, b, c, d) = lists;
+    let (a, d, c, b) = to_diagonals((a, d, c, b));
+    (a, b, c, d)
 }
 
-/// The permutation P of four lists.
+/// The permutation P of four lists, one in each vector, before and after.
 #[inline(always)]
-pub(crate) fn permute(
-    one: Sixteen,
-    two: Sixteen,
-    three: Sixteen,
-    four: Sixteen,
-) -> (Sixteen, Sixteen, Sixteen, Sixteen)
-    ensures first { words_by_rows result.0 ≡ permutation (words_by_rows one) }
-    ensures second { words_by_rows result.1 ≡ permutation (words_by_rows two) }
-    ensures third { words_by_rows result.2 ≡ permutation (words_by_rows three) }
-    ensures fourth { words_by_rows result.3 ≡ permutation (words_by_rows four) }
+pub(crate) fn permute(one: u64x16, two: u64x16, three: u64x16, four: u64x16) -> FourLists
+    ensures first { result.0 ≡ permutation one }
+    ensures second { result.1 ≡ permutation two }
+    ensures third { result.2 ≡ permutation three }
+    ensures fourth { result.3 ≡ permutation four }
 {
-    let mixed = mix(side_by_side(one, two, three, four));
+    let mixed = mix(transposed((one, two, three, four)));
     let mixed = mix(to_diagonals(mixed));
-    apart(to_columns(mixed))
+    transposed(to_columns(mixed))
 }

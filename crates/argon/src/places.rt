@@ -1,7 +1,11 @@
 //! Which block a word J names (RFC 9106, section 3.4.2).
 ghost use Rattle.std.specs.Prelude.{◌≡◌, ℕ, ◌+◌, ◌-◌, ◌*◌, ◌/◌, ◌%◌, ◌^◌, ◌<◌, ◌≤◌, ◌&&◌, length, slice_index, nat_eq, if◌then◌else◌};
-ghost use Rattle.argon.specs.Inside.Places.{first_candidate, reference_set_len, candidate_count, IsAfterFirstTwo, FitsLane};
+ghost use Rattle.argon.specs.Counts.{first_index};
+ghost use Rattle.argon.specs.Inside.Places.{reference_set_start, reference_set_len, candidate_count, IsAfterFirstTwo, LaneLengthFitsU32};
+ghost use Rattle.argon.specs.Inside.Segment.{IsInMatrix, place_by_word};
 ghost use Rattle.argon.specs.Reference.{reference_set, relative_place};
+
+use crate::segment::Segment;
 
 /// A place of the matrix: the lane i and the column j of the block B\[i\]\[j\] (RFC 9106, section
 /// 3.2).
@@ -26,8 +30,8 @@ fn relative_place(len: u32, j1: u32) -> u32
 }
 
 // How many columns of a lane stand in finished segments.
-fn finished_columns(segment_len: u32, pass: u32, slice: u32) -> u32
-    requires short { FitsLane segment_len }
+fn finished_column_count(segment_len: u32, pass: u32, slice: u32) -> u32
+    requires short { LaneLengthFitsU32 segment_len }
     requires slices { slice < 4 }
     ensures value { result ≡ candidate_count segment_len pass slice 0 }
 {
@@ -41,13 +45,13 @@ fn finished_columns(segment_len: u32, pass: u32, slice: u32) -> u32
 // |W|.
 fn reference_set_len(segment_len: u32, pass: u32, slice: u32, index: u32, is_own: bool) -> u32
     requires long { 2 ≤ segment_len }
-    requires short { FitsLane segment_len }
+    requires short { LaneLengthFitsU32 segment_len }
     requires slices { slice < 4 }
     requires indices { index < segment_len }
     requires first { IsAfterFirstTwo pass slice index is_own }
     ensures value { result ≡ reference_set_len segment_len pass slice index is_own }
 {
-    let finished = finished_columns(segment_len, pass, slice);
+    let finished = finished_column_count(segment_len, pass, slice);
     if is_own {
         finished + index - 1
     } else if index == 0 {
@@ -58,11 +62,11 @@ fn reference_set_len(segment_len: u32, pass: u32, slice: u32, index: u32, is_own
 }
 
 // The column that W begins with.
-fn first_candidate(segment_len: u32, pass: u32, slice: u32) -> u32
+fn reference_set_start(segment_len: u32, pass: u32, slice: u32) -> u32
     requires long { 2 ≤ segment_len }
-    requires short { FitsLane segment_len }
+    requires short { LaneLengthFitsU32 segment_len }
     requires slices { slice < 4 }
-    ensures value { result ≡ first_candidate segment_len pass slice % (4 * segment_len) }
+    ensures value { result ≡ reference_set_start segment_len pass slice % (4 * segment_len) }
 {
     if pass == 0 {
         0
@@ -85,8 +89,8 @@ fn wrapped(sum: u64, len: u32) -> u32
     }
 }
 
-/// z, the column that J 1 names, in a lane of four segments of that length.
-pub(crate) fn reference_column(
+// z, the column that J 1 names, in a lane of four segments of that length.
+fn reference_column(
     segment_len: u32,
     pass: u32,
     slice: u32,
@@ -95,7 +99,7 @@ pub(crate) fn reference_column(
     j1: u32,
 ) -> u32
     requires long { 2 ≤ segment_len }
-    requires short { FitsLane segment_len }
+    requires short { LaneLengthFitsU32 segment_len }
     requires slices { slice < 4 }
     requires indices { index < segment_len }
     requires first { IsAfterFirstTwo pass slice index is_own }
@@ -107,7 +111,7 @@ pub(crate) fn reference_column(
         reference_set_len(segment_len, pass, slice, index, is_own),
         j1,
     );
-    let start = first_candidate(segment_len, pass, slice);
+    let start = reference_set_start(segment_len, pass, slice);
     wrapped(start as u64 + place as u64, 4 * segment_len)
 }
 
@@ -125,8 +129,8 @@ pub(crate) fn previous_column(lane_len: usize, column: usize) -> usize
     }
 }
 
-/// l, the lane that J 2, the high half of J, names.
-pub(crate) fn reference_lane(lanes: u32, pass: u32, lane: u32, slice: u32, j: u64) -> u32
+// l, the lane that J 2, the high half of J, names.
+fn reference_lane(lanes: u32, pass: u32, lane: u32, slice: u32, j: u64) -> u32
     requires known { lane < lanes }
     ensures value { result
         ≡ (if nat_eq pass 0 && nat_eq slice 0 then lane else j / 2 ^ 32 % lanes) }
@@ -137,4 +141,26 @@ pub(crate) fn reference_lane(lanes: u32, pass: u32, lane: u32, slice: u32, j: u6
     } else {
         ((j >> 32) % lanes as u64) as u32
     }
+}
+
+/// The place that the word J of a column names.
+pub(crate) fn reference_place(segment: &Segment, index: u32, j: u64) -> Place
+    requires valid { IsInMatrix segment.now }
+    requires indices { index < segment.now.len }
+    requires first { first_index segment.now.pass segment.now.slice ≤ index }
+    ensures value { result ≡ place_by_word segment.now index j }
+    ensures lanes { result.lane < segment.now.lanes }
+    ensures columns { result.column < 4 * segment.now.len }
+{
+    let lane = reference_lane(segment.lanes, segment.pass, segment.lane, segment.slice, j);
+    let j1 = (j % 0x1_0000_0000) as u32;
+    let column = reference_column(
+        segment.len,
+        segment.pass,
+        segment.slice,
+        index,
+        lane == segment.lane,
+        j1,
+    );
+    Place { lane, column }
 }

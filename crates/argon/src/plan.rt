@@ -1,55 +1,35 @@
 //! The places that a segment of independent addressing reads, from its position alone (RFC 9106,
 //! section 3.4.1.2).
 ghost use Rattle.std.specs.Prelude.{◌≡◌, ℕ, ◌+◌, ◌*◌, ◌<◌, ◌≤◌, true, length, List};
-ghost use Rattle.argon.specs.Counts.{address_count, first_index};
+ghost use Rattle.argon.specs.Counts.{address_block_count, first_index};
 ghost use Rattle.argon.specs.Parameters.{segment_len};
-ghost use Rattle.argon.specs.Plan.{IsMadeAlongPlan, IsMadeAsPlanned, entry_at, planned_place};
-ghost use Rattle.argon.specs.Inside.Planning.{PlansPart, place_by_segment};
+ghost use Rattle.argon.specs.Plan.{IsMadeAlongPlan, IsMadeAsPlanned, entry_at, independent_reference_place};
+ghost use Rattle.argon.specs.Inside.Planning.{PlansPartOfReferences};
 ghost use Rattle.argon.specs.Reference.{is_independent};
-ghost use Rattle.argon.specs.Inside.Segment.{IsInMatrix, index_after_parts};
+ghost use Rattle.argon.specs.Inside.Segment.{IsInMatrix, index_in_segment_after_parts};
 
-use crate::addresses::{address_count, prepare_addresses};
+use crate::addresses::{address_block_count, prepare_addresses};
 use crate::block::Block;
 use crate::compression::Scratch;
 use crate::params::Params;
-use crate::places::{Place, reference_column, reference_lane};
-use crate::segment::{Segment, end_of_parts};
+use crate::places::{Place, reference_place};
+use crate::segment::{Segment, segment_index_after_parts};
 use crate::ticks::Ticks;
 
-// The place that a word of the address block names.
-fn planned_place(segment: &Segment, index: u32, addresses: &Block) -> Place
-    requires valid { IsInMatrix segment.now }
-    requires indices { index < segment.now.len }
-    requires first { first_index segment.now.pass segment.now.slice ≤ index }
-    ensures value { result ≡ place_by_segment segment.now index addresses.now }
-{
-    let j = addresses[(index % 128) as usize];
-    let lane = reference_lane(segment.lanes, segment.pass, segment.lane, segment.slice, j);
-    let j1 = (j % 0x1_0000_0000) as u32;
-    let column = reference_column(
-        segment.len,
-        segment.pass,
-        segment.slice,
-        index,
-        lane == segment.lane,
-        j1,
-    );
-    Place { lane, column }
-}
-
 // Plans a part: the columns whose words J stand in one address block.
-fn plan_part(segment: &Segment, part: u32, addresses: &Block, out: &mut [Place])
+fn plan_columns_of_address_block(segment: &Segment, part: u32, addresses: &Block, out: &mut [Place])
     requires valid { IsInMatrix segment.now }
     requires parts { 128 * part < segment.now.len }
     requires size { length out.old ≡ segment.now.len }
     ensures size { length out.new ≡ length out.old }
-    ensures planned { PlansPart segment.now addresses.now out.old out.new (index_after_parts segment.now part)
-        (index_after_parts segment.now (part + 1)) }
+    ensures planned { PlansPartOfReferences segment.now addresses.now out.old out.new (index_in_segment_after_parts segment.now part)
+        (index_in_segment_after_parts segment.now (part + 1)) }
 {
-    let from = end_of_parts(segment, part);
-    let to = end_of_parts(segment, part + 1);
+    let from = segment_index_after_parts(segment, part);
+    let to = segment_index_after_parts(segment, part + 1);
     for index in from..to {
-        out[index as usize] = planned_place(segment, index, addresses);
+        let j = addresses[(index % 128) as usize];
+        out[index as usize] = reference_place(segment, index, j);
     }
 }
 
@@ -77,7 +57,7 @@ pub fn plan_segment(
     ensures size { length out.new ≡ length out.old }
     ensures planned { (index : ℕ) → first_index pass slice ≤ index
         → index < segment_len params.now
-        → entry_at out.new index ≡ planned_place params.now pass lane slice index }
+        → entry_at out.new index ≡ independent_reference_place params.now pass lane slice index }
     ensures made { (h0 : List ℕ) (index : ℕ) → first_index pass slice ≤ index
         → index < segment_len params.now
         → IsMadeAsPlanned params.now h0 pass lane slice index }
@@ -86,13 +66,13 @@ pub fn plan_segment(
         → IsMadeAlongPlan params.now h0 blocks next pass lane slice index }
     ensures kept { (index : ℕ) → index < first_index pass slice
         → entry_at out.new index ≡ entry_at out.old index }
-    ensures count { ticks.new ≡ ticks.old + 2 * address_count (segment_len params.now) }
+    ensures count { ticks.new ≡ ticks.old + 2 * address_block_count (segment_len params.now) }
 {
     let segment = Segment::new(params, pass, lane, slice);
     let mut scratch = Scratch::new();
     let mut addresses = [0; 128];
-    for part in 0..address_count(segment.len) {
+    for part in 0..address_block_count(segment.len) {
         prepare_addresses(params, &segment, part, &mut addresses, &mut scratch, ticks);
-        plan_part(&segment, part, &addresses, out);
+        plan_columns_of_address_block(&segment, part, &addresses, out);
     }
 }

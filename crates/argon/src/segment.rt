@@ -2,20 +2,20 @@
 ghost use Rattle.std.specs.Prelude.{◌≡◌, ℕ, ◌+◌, ◌*◌, ◌/◌, ◌%◌, ◌<◌, ◌≤◌, ◌^◌, List, length, true, false, slice_index, slice_set};
 ghost use Rattle.argon.specs.Argon2.{block_at};
 ghost use Rattle.argon.specs.Buffer.{block_held};
-ghost use Rattle.argon.specs.Counts.{blocks_of_segment, column_work, first_index, segment_work, slice_work};
+ghost use Rattle.argon.specs.Counts.{computed_block_count, column_work, first_index, segment_work, slice_work};
 ghost use Rattle.argon.specs.Filling.{Filling};
 ghost use Rattle.argon.specs.Parameters.{Parameters, block_count};
 ghost use Rattle.argon.specs.Reference.{HasAddresses, address_block};
-ghost use Rattle.argon.specs.Inside.Segment.{IsInMatrix, IsSegmentOf, column_number, index_after_parts, AreOfMatrix};
-ghost use Rattle.argon.specs.Woven.{woven_blocks, with_next_slice};
-ghost use Rattle.argon.specs.Inside.NextSlice.{AreLeft, IsNextSlice};
+ghost use Rattle.argon.specs.Inside.Segment.{IsInMatrix, IsSegmentOfParameters, column_number, index_in_segment_after_parts, AreOfMatrix};
+ghost use Rattle.argon.specs.Woven.{all_blocks_in_slice_progress, with_next_slice};
+ghost use Rattle.argon.specs.Inside.NextSlice.{AreCountsOfBlocksLeft, IsNextSlice};
 
-use crate::addresses::{prepare_addresses, renew_addresses};
+use crate::addresses::prepare_addresses;
 use crate::block::Block;
 use crate::compression::Scratch;
+use crate::compute_and_store_block::compute_and_store_block;
 use crate::params::Params;
-use crate::places::{previous_column, reference_column, reference_lane};
-use crate::store_block::store_block;
+use crate::places::{previous_column, reference_place};
 use crate::ticks::Ticks;
 
 /// One lane's part of a slice.
@@ -41,7 +41,7 @@ impl Segment {
         requires slices { slice < 4 }
         requires known { lane < params.now.lanes }
         ensures valid { IsInMatrix result }
-        ensures is_of { IsSegmentOf params.now result }
+        ensures is_of { IsSegmentOfParameters params.now result }
         ensures pass { result.pass ≡ pass }
         ensures lane { result.lane ≡ lane }
         ensures slice { result.slice ≡ slice }
@@ -71,7 +71,7 @@ fn reference_word(is_independent: bool, addresses: &Block, index: u32, previous:
 }
 
 // Where a column of a lane stands in the buffer, which has the lanes one after the other.
-fn place_held(segment: &Segment, lane: u32, column: usize) -> usize
+fn matrix_index_of_column(segment: &Segment, lane: u32, column: usize) -> usize
     requires valid { IsInMatrix segment.now }
     requires lanes { lane < segment.now.lanes }
     requires columns { column < 4 * segment.now.len }
@@ -82,7 +82,7 @@ fn place_held(segment: &Segment, lane: u32, column: usize) -> usize
 }
 
 // Makes the block of one column.
-fn fill_column(
+fn fill_block_at_column(
     blocks: &mut [Block],
     segment: &Segment,
     index: u32,
@@ -95,7 +95,7 @@ fn fill_column(
     requires first { first_index segment.now.pass segment.now.slice ≤ index }
     requires size { AreOfMatrix segment.now blocks.old }
     ensures count { ticks.new ≡ ticks.old + 1 }
-    ensures value { (parameters : Parameters) → IsSegmentOf parameters segment.now
+    ensures value { (parameters : Parameters) → IsSegmentOfParameters parameters segment.now
         → (segment.now.is_independent ≡ true
         → addresses.now
         ≡ address_block parameters segment.now.pass segment.now.lane segment.now.slice (index / 128 + 1))
@@ -107,21 +107,12 @@ fn fill_column(
     let lane_len = 4 * segment.len as usize;
     let column = (segment.slice * segment.len + index) as usize;
     let before = previous_column(lane_len, column);
-    let previous = place_held(segment, segment.lane, before);
+    let previous = matrix_index_of_column(segment, segment.lane, before);
     let j = reference_word(segment.is_independent, addresses, index, &blocks[previous]);
-    let lane = reference_lane(segment.lanes, segment.pass, segment.lane, segment.slice, j);
-    let j1 = (j % 0x1_0000_0000) as u32;
-    let other = reference_column(
-        segment.len,
-        segment.pass,
-        segment.slice,
-        index,
-        lane == segment.lane,
-        j1,
-    );
-    let reference = place_held(segment, lane, other as usize);
-    let place = place_held(segment, segment.lane, column);
-    store_block(
+    let named = reference_place(segment, index, j);
+    let reference = matrix_index_of_column(segment, named.lane, named.column as usize);
+    let place = matrix_index_of_column(segment, segment.lane, column);
+    compute_and_store_block(
         segment.is_xored,
         blocks,
         place,
@@ -140,16 +131,16 @@ pub(crate) fn first_index(pass: u32, slice: u32) -> u32
 }
 
 /// The index up to which a segment is made after so many parts of 128 columns.
-pub(crate) fn end_of_parts(segment: &Segment, parts: u32) -> u32
+pub(crate) fn segment_index_after_parts(segment: &Segment, parts: u32) -> u32
     requires in_32_bits { 128 * parts < 2 ^ 32 }
-    ensures value { result ≡ index_after_parts segment.now parts }
+    ensures value { result ≡ index_in_segment_after_parts segment.now parts }
 {
     first_index(segment.pass, segment.slice).max((128 * parts).min(segment.len))
 }
 
 /// Makes the block of a segment's next column, whose index is given, and before it the address
 /// block that its word J stands in, where that is not the one of the column before.
-pub(crate) fn fill_next_column(
+pub(crate) fn fill_next_block(
     blocks: &mut [Block],
     params: &Params,
     segment: &Segment,
@@ -159,7 +150,7 @@ pub(crate) fn fill_next_column(
     ticks: &mut Ticks,
 )
     requires valid { IsInMatrix segment.now }
-    requires is_of { IsSegmentOf params.now segment.now }
+    requires is_of { IsSegmentOfParameters params.now segment.now }
     requires indices { index < segment.now.len }
     requires first { first_index segment.now.pass segment.now.slice ≤ index }
     requires size { AreOfMatrix segment.now blocks.old }
@@ -173,8 +164,11 @@ pub(crate) fn fill_next_column(
         segment.now.pass segment.now.lane segment.now.slice index) }
     ensures count { ticks.new ≡ ticks.old + column_work params.now segment.now.pass segment.now.slice index }
 {
-    renew_addresses(params, segment, index, addresses, scratch, ticks);
-    fill_column(blocks, segment, index, addresses, scratch, ticks);
+    // The first column of a part after the first; where the addressing is dependent, nothing is made.
+    if index > 0 && index % 128 == 0 {
+        prepare_addresses(params, segment, index / 128, addresses, scratch, ticks);
+    }
+    fill_block_at_column(blocks, segment, index, addresses, scratch, ticks);
 }
 
 // Makes the blocks of a segment.
@@ -186,21 +180,21 @@ fn fill_segment(
     ticks: &mut Ticks,
 )
     requires valid { IsInMatrix segment.now }
-    requires is_of { IsSegmentOf params.now segment.now }
+    requires is_of { IsSegmentOfParameters params.now segment.now }
     requires size { AreOfMatrix segment.now blocks.old }
     ensures size { length blocks.new ≡ length blocks.old }
     ensures count { ticks.new ≡ ticks.old + segment_work params.now segment.now.pass segment.now.slice }
     ensures made { (matrix : Filling) (left : List ℕ)
         → IsNextSlice matrix params.now segment.now.pass segment.now.slice
-        → AreLeft params.now segment.now.pass segment.now.slice left
-        → slice_index left segment.now.lane ≡ blocks_of_segment params.now segment.now.pass segment.now.slice
-        → blocks.old ≡ woven_blocks matrix left
-        → blocks.new ≡ woven_blocks matrix (slice_set left segment.now.lane 0) }
+        → AreCountsOfBlocksLeft params.now segment.now.pass segment.now.slice left
+        → slice_index left segment.now.lane ≡ computed_block_count params.now segment.now.pass segment.now.slice
+        → blocks.old ≡ all_blocks_in_slice_progress matrix left
+        → blocks.new ≡ all_blocks_in_slice_progress matrix (slice_set left segment.now.lane 0) }
 {
     let mut addresses = [0; 128];
     prepare_addresses(params, segment, 0, &mut addresses, scratch, ticks);
     for index in first_index(segment.pass, segment.slice)..segment.len {
-        fill_next_column(
+        fill_next_block(
             blocks,
             params,
             segment,

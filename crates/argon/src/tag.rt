@@ -3,7 +3,7 @@ ghost use Rattle.std.specs.Prelude.{◌≡◌, ◌+◌, ◌-◌, ◌*◌, ◌<�
 ghost use Rattle.std.specs.List.{range_with_len};
 ghost use Rattle.blake.specs.LongHash.{long_hash};
 ghost use Rattle.blake.specs.Words.{bytes_of_words};
-ghost use Rattle.argon.specs.Argon2.{xor_of_blocks};
+ghost use Rattle.argon.specs.Argon2.{xor_of_column_blocks};
 ghost use Rattle.four_words.specs.Words.{xored_words};
 
 use crate::block::Block;
@@ -24,7 +24,7 @@ pub(crate) fn xor_last_column(blocks: &[Block], lanes: u32, lane_len: u32) -> Bl
     requires at_least_1 { 1 ≤ lane_len }
     requires small { lanes * lane_len < 2 ^ 32 }
     requires size { length blocks.now ≡ lanes * lane_len }
-    ensures value { result ≡ xor_of_blocks
+    ensures value { result ≡ xor_of_column_blocks
         (map (λ lane. slice_index_or blocks.now (lane * lane_len + (lane_len - 1)) [])
         (range_with_len 0 lanes)) }
 {

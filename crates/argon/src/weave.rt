@@ -2,10 +2,10 @@
 //! a slice no lane reads what another makes).
 ghost use Rattle.std.specs.Prelude.{◌≡◌, ℕ, ◌+◌, ◌-◌, ◌*◌, ◌/◌, ◌%◌, ◌<◌, length, slice_index, slice_index_or, slice_set, []};
 ghost use Rattle.argon.specs.Counts.{address_work, column_work, slice_work};
-ghost use Rattle.argon.specs.Filling.{Filling, HasNext, IsNewest};
+ghost use Rattle.argon.specs.Filling.{Filling, HasSliceLeft, IsNewest};
 ghost use Rattle.argon.specs.Reference.{HasAddresses, ReadsFinishedSegments, is_independent};
-ghost use Rattle.argon.specs.Weaving.{HasNoneLeft, LanesHoldNewest, next_index, weaving_from, with_next_block, work_left};
-ghost use Rattle.argon.specs.Woven.{IsWovenFrom, with_next_slice};
+ghost use Rattle.argon.specs.SliceProgress.{HasNoBlocksLeft, HoldsNewestBlocksByLane, next_index_in_segment, new_slice_progress, with_next_block, work_left};
+ghost use Rattle.argon.specs.Woven.{IsSliceProgressOf, with_next_slice};
 
 use crate::addresses::prepare_addresses;
 use crate::block::Block;
@@ -13,9 +13,9 @@ use crate::blocks::Blocks;
 use crate::compression::Scratch;
 use crate::lanes::Lanes;
 use crate::matrix::Matrix;
-use crate::numbers::Numbers;
+use crate::numbers::GrantedNumbers;
 use crate::params::Params;
-use crate::segment::{Segment, fill_next_column, first_index};
+use crate::segment::{Segment, fill_next_block, first_index};
 use crate::ticks::Ticks;
 use std::marker::Model;
 
@@ -31,23 +31,23 @@ pub struct Weave {
     h0: [u8; 64],
     slices_made: u64,
     blocks: Blocks,
-    left: Numbers,
+    left: GrantedNumbers,
     addresses: Blocks,
     scratch: Scratch,
 }
 
 impl Model for Weave {
-    ghost use Rattle.argon.specs.Weave.{Weaving, weaving_of, IsWeave};
+    ghost use Rattle.argon.specs.Weave.{SliceProgress, slice_progress_of, IsSliceProgressWithAddresses};
 
-    ghost Value = { Weaving };
+    ghost Value = { SliceProgress };
 
-    ghost view = { weaving_of };
+    ghost view = { slice_progress_of };
 
-    ghost invariant = { IsWeave };
+    ghost invariant = { IsSliceProgressWithAddresses };
 }
 
 // Makes the first address block of each lane where the addressing of the slice is independent.
-fn prepare_lanes(
+fn prepare_lane_addresses(
     params: &Params,
     pass: u32,
     slice: u32,
@@ -81,10 +81,10 @@ impl Weave {
     /// first address block of each lane, in two block functions.
     pub fn open(matrix: Matrix, lanes: Lanes, ticks: &mut Ticks) -> Weave
         requires parameters { lanes ≡ matrix.parameters }
-        requires next { HasNext matrix }
-        ensures weave { result ≡ weaving_from matrix }
-        ensures woven { IsWovenFrom matrix result }
-        ensures newest { LanesHoldNewest result }
+        requires next { HasSliceLeft matrix }
+        ensures weave { result ≡ new_slice_progress matrix }
+        ensures woven { IsSliceProgressOf matrix result }
+        ensures newest { HoldsNewestBlocksByLane result }
         ensures share { ticks.new + work_left result ≡ ticks.old
             + slice_work matrix.parameters (matrix.slices_made / 4) (matrix.slices_made % 4) }
         ensures count { ticks.new ≡ ticks.old + matrix.parameters.lanes
@@ -107,7 +107,7 @@ impl Weave {
         } = lanes;
         let mut scratch = Scratch::new();
         left.fill(params.segment_len() - first_index(pass, slice));
-        prepare_lanes(
+        prepare_lane_addresses(
             &params,
             pass,
             slice,
@@ -143,22 +143,22 @@ impl Weave {
             ≡ slice_set self.old.left lane (slice_index self.old.left lane - 1) }
         ensures matrix { self.new.matrix
             ≡ record self.old.matrix { blocks = with_next_block self.old lane } }
-        ensures woven { (matrix : Filling) → IsWovenFrom matrix self.old
-            → IsWovenFrom matrix self.new }
-        ensures newest { LanesHoldNewest self.new }
+        ensures woven { (matrix : Filling) → IsSliceProgressOf matrix self.old
+            → IsSliceProgressOf matrix self.new }
+        ensures newest { HoldsNewestBlocksByLane self.new }
         ensures apart { ReadsFinishedSegments self.old.matrix.parameters
             (self.old.matrix.slices_made / 4) lane (self.old.matrix.slices_made % 4)
-            (next_index self.old lane) }
+            (next_index_in_segment self.old lane) }
         ensures share { ticks.new + work_left self.new ≡ ticks.old + work_left self.old }
         ensures count { ticks.new ≡ ticks.old
             + column_work self.old.matrix.parameters (self.old.matrix.slices_made / 4)
-            (self.old.matrix.slices_made % 4) (next_index self.old lane) }
+            (self.old.matrix.slices_made % 4) (next_index_in_segment self.old lane) }
     {
         let pass = (self.slices_made / 4) as u32;
         let slice = (self.slices_made % 4) as u32;
         let segment = Segment::new(&self.params, pass, lane, slice);
         let index = segment.len - self.left.at(lane);
-        fill_next_column(
+        fill_next_block(
             self.blocks.held.blocks_mut(),
             &self.params,
             &segment,
@@ -173,10 +173,10 @@ impl Weave {
     /// Gives the matrix with the slice made, and the lanes for another slice, where no lane has
     /// blocks left to make.
     pub fn close(self) -> (Matrix, Lanes)
-        requires none_left { HasNoneLeft self }
+        requires none_left { HasNoBlocksLeft self }
         ensures matrix { result.0
             ≡ record self.matrix { slices_made = self.matrix.slices_made + 1 } }
-        ensures woven { (matrix : Filling) → IsWovenFrom matrix self
+        ensures woven { (matrix : Filling) → IsSliceProgressOf matrix self
             → result.0 ≡ with_next_slice matrix }
         ensures newest { IsNewest result.0 }
         ensures lanes { result.1 ≡ self.matrix.parameters }

@@ -2,7 +2,7 @@
 //! nor take memory from its heap.
 ghost use Rattle.std.specs.Prelude.{◌≡◌, length, replicate, vec_len};
 ghost use Rattle.std.specs.Borrow.{sem};
-ghost use Rattle.argon.specs.Inside.WipedBlocks.{LendsBlocks};
+ghost use Rattle.argon.specs.Inside.WipedBlocks.{LendsMutableBlocks};
 
 use crate::block::Block;
 
@@ -49,7 +49,7 @@ impl WipedBlocks {
     /// The blocks, to be written: as many as before.
     #[inline(always)]
     pub(crate) fn blocks_mut(&mut self) -> &mut [Block]
-        ensures* writes_back { sem 𝓛 (LendsBlocks self.entry result) }
+        ensures* writes_back { sem 𝓛 (LendsMutableBlocks self.entry result) }
         ensures value { result.now ≡ self.old.list.items }
         ensures len { length result.now ≡ vec_len self.old.list }
     {

@@ -1,6 +1,6 @@
 -- The command argon2: what it writes, and what a run comes to.
 pub mod Output
-pub mod Asking
+pub mod MemoryRequestEffects
 pub mod RunAsking
 pub mod Run
 pub mod Inside

@@ -46,16 +46,16 @@ parameters_of q password = record {
 }
 
 -- what was found, or the refusal of the command by the fault of parameters
-abbrev pub with_refusal : {A : Type 0} → Result A ParamFault → Result A Argon2Refusal
-with_refusal (Ok x) = Ok x
-with_refusal (Err fault) = Err (refusal_of fault)
+abbrev pub param_fault_as_refusal : {A : Type 0} → Result A ParamFault → Result A Argon2Refusal
+param_fault_as_refusal (Ok x) = Ok x
+param_fault_as_refusal (Err fault) = Err (refusal_of fault)
 
 -- the parameters of a request and a password, where they are in range and the limits of the request admit them, or
 -- the first refusal (A6.1 to A6.5, A7a, A7b)
 abbrev pub admitted_parameters : Request → List ℕ → Result Parameters Argon2Refusal
 admitted_parameters q password = do
-  parameters ← with_refusal (checked_parameters (parameters_of q password))
-  admitted ← with_refusal (admission parameters q.settings.max_memory_kib q.settings.max_ops)
+  parameters ← param_fault_as_refusal (checked_parameters (parameters_of q password))
+  admitted ← param_fault_as_refusal (admission parameters q.settings.max_memory_kib q.settings.max_ops)
   Ok parameters
 
 -- the tag of a password and a salt, with no secret and no associated data (RFC 9106, 3.2, steps 1 to 8)
@@ -63,8 +63,8 @@ abbrev pub tag_of : Text → List ℕ → Parameters → List ℕ
 tag_of salt password p = argon2_tag p (record { password = password; salt = salt; secret = []; associated = [] })
 
 -- the value that the encoded text of a request's tag says
-abbrev pub value_with : Request → List ℕ → Value
-value_with q tag = record {
+abbrev pub value_of_request_and_tag : Request → List ℕ → Value
+value_of_request_and_tag q tag = record {
   kind = q.settings.kind;
   version = version_number q.settings.version;
   memory = q.settings.memory_kib;
@@ -76,7 +76,7 @@ value_with q tag = record {
 
 -- a tag in the form that is asked for: the encoded text, or lower hexadecimal
 abbrev pub tag_text : Form → Request → List ℕ → List ℕ
-tag_text Encoded q tag = encoded_text (value_with q tag)
+tag_text Encoded q tag = encoded_text (value_of_request_and_tag q tag)
 tag_text Hex q tag = encode_lower tag
 
 -- a tag in the form that is asked for, and a line feed
@@ -99,8 +99,8 @@ output_for words stdin = do
 
 -- what standard output gets of a run over this host, if no call of the host fails and memory is there, or the
 -- refusal: first of the words, then of the password, then of the parameters, then of the limits
-abbrev pub argon2_output : List Text → HostState → Result (List ℕ) Argon2Refusal
-argon2_output words seen = output_for words seen.stdin
+abbrev pub argon2_command_output : List Text → HostState → Result (List ℕ) Argon2Refusal
+argon2_command_output words seen = output_for words seen.stdin
 
 -- how many block functions the hash of a request takes, which no password changes
 abbrev pub request_work : Request → ℕ

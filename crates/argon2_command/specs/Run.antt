@@ -1,53 +1,53 @@
 -- A whole run of argon2: what stands at its end.
 use Rattle.std.specs.Prelude.{◌≡◌, ◌⊎◌, ℕ, Bool, List, Option, None, Result, Ok, Err, IfErr, IsErrOf, IsOk, IsTrue, MatchResult, is_ok, if◌then◌else◌}
-use Rattle.host.specs.Output.{IsCutShort, after_writing}
-use Rattle.host.specs.HostState.{HostState, Text, after_ask, after_ask_output, stdin_once}
+use Rattle.host.specs.Output.{IsOutputCutShort, after_writing}
+use Rattle.host.specs.HostState.{HostState, Text, after_ask_secret, after_ask_output, stdin_once}
 use Rattle.host.specs.Faults.{Faults}
 use Rattle.host.specs.Lines.{SaysOneLine}
-use Rattle.argon2_words.specs.Refusal.{IsEarly, IsLate, counted_by, line_of}
+use Rattle.argon2_words.specs.Refusal.{IsEarly, IsMemoryOrOutputRefusal, faults_after_refusal, line_of}
 pub use Rattle.argon2_words.specs.Request.{argon2_request}
-pub use Rattle.argon2_command.specs.Output.{argon2_output}
+pub use Rattle.argon2_command.specs.Output.{argon2_command_output}
 use Rattle.argon2_command.specs.Output.{output_for}
 use Rattle.argon2_words.specs.declared.refusal.Argon2Refusal.{Argon2Refusal}
 use Rattle.argon2_words.specs.declared.refusal.Argon2Refusal.TheVariants as refusal
 
 -- the host after the words were read: where they are accepted, standard input was asked for the password, and where
 -- they are refused, no source was asked
-abbrev pub password_asked : List Text → HostState → HostState
-password_asked words before = if is_ok (argon2_request words) then after_ask stdin_once before else before
+abbrev pub after_password_asked : List Text → HostState → HostState
+after_password_asked words before = if is_ok (argon2_request words) then after_ask_secret stdin_once before else before
 
 -- the run ended with status 0: standard output got the whole output
 pub record Succeeds (words : List Text) (before after : HostState) : Type 0 where
   pub output : List ℕ
-  pub due : argon2_output words before ≡ Ok output
-  pub written : after ≡ after_writing None output (password_asked words before)
+  pub due : argon2_command_output words before ≡ Ok output
+  pub written : after ≡ after_writing None output (after_password_asked words before)
 
 -- the refusal is the one that is due by the words, the password, the parameters or the limits, before memory is asked
 -- for
-abbrev pub IsDue : Argon2Refusal → List Text → HostState → HostState → Type 0
-IsDue r words before after = (argon2_output words before ≡ Err r) × IsEarly r × (after ≡ password_asked words before)
+abbrev pub IsRefusedBeforeMemory : Argon2Refusal → List Text → HostState → HostState → Type 0
+IsRefusedBeforeMemory r words before after = (argon2_command_output words before ≡ Err r) × IsEarly r × (after ≡ after_password_asked words before)
 
 -- the words are accepted, and the host failed to give the password
 abbrev pub FailsPassword : Argon2Refusal → List Text → HostState → HostState → Type 0
-FailsPassword r words before after = (r ≡ refusal.PasswordFault) × IsOk (argon2_request words) × (after ≡ password_asked words before)
+FailsPassword r words before after = (r ≡ refusal.PasswordFault) × IsOk (argon2_request words) × (after ≡ after_password_asked words before)
 
 -- the refusal is that of memory, where no other was due, and before the output was asked for; contracts do not see the
 -- heap, so nothing here says that it refused
 abbrev pub LacksMemory : Argon2Refusal → List Text → HostState → HostState → Type 0
-LacksMemory r words before after = (r ≡ refusal.OutOfMemory) × IsOk (argon2_output words before) × (after ≡ password_asked words before)
+LacksMemory r words before after = (r ≡ refusal.OutOfMemory) × IsOk (argon2_command_output words before) × (after ≡ after_password_asked words before)
 
 -- no refusal was due, and the host failed to open standard output or to take all of the output
 pub record FailsOutput (r : Argon2Refusal) (words : List Text) (before after : HostState) : Type 0 where
   pub is : r ≡ refusal.OutputFault
   pub output : List ℕ
-  pub due : argon2_output words before ≡ Ok output
-  pub left : (after ≡ after_ask_output None (password_asked words before))
-      ⊎ IsCutShort None output (password_asked words before) after
+  pub due : argon2_command_output words before ≡ Ok output
+  pub left : (after ≡ after_ask_output None (after_password_asked words before))
+      ⊎ IsOutputCutShort None output (after_password_asked words before) after
 
 -- the run ended with this refusal, before its line is said
 abbrev pub IsRefused : Argon2Refusal → List Text → HostState → HostState → Type 0
 IsRefused r words before after =
-    IsDue r words before after
+    IsRefusedBeforeMemory r words before after
     ⊎ FailsPassword r words before after
     ⊎ LacksMemory r words before after
     ⊎ FailsOutput r words before after
@@ -59,21 +59,21 @@ EndsRefused words result before after = IfErr result (λ r. IsRefused r words be
 -- ---- of every host, also one that tells nothing
 
 -- a run with this result, on these words: words that have a refusal end it with that
-abbrev pub RefusesWords : {A : Type 0} → List Text → Result A Argon2Refusal → Type 0
-RefusesWords words result = (refusal : Argon2Refusal) → argon2_request words ≡ Err refusal → IsErrOf result refusal
+abbrev pub RefusesFaultyCommandLine : {A : Type 0} → List Text → Result A Argon2Refusal → Type 0
+RefusesFaultyCommandLine words result = (refusal : Argon2Refusal) → argon2_request words ≡ Err refusal → IsErrOf result refusal
 
 -- for these words some standard input gives an output
-abbrev pub SucceedsForSome : List Text → Type 0
-SucceedsForSome words = (stdin : Option (List ℕ)) × IsOk (output_for words stdin)
+abbrev pub SucceedsForSomeInput : List Text → Type 0
+SucceedsForSomeInput words = (stdin : Option (List ℕ)) × IsOk (output_for words stdin)
 
 -- the refusal is one that can be reported for these words: some standard input gives it, or gives an output, where
 -- memory or the output can still fail
-abbrev pub IsToldForSome : List Text → Argon2Refusal → Type 0
-IsToldForSome words r = (stdin : Option (List ℕ)) × ((output_for words stdin ≡ Err r) ⊎ (IsLate r × IsOk (output_for words stdin)))
+abbrev pub IsReportedForSomeInput : List Text → Argon2Refusal → Type 0
+IsReportedForSomeInput words r = (stdin : Option (List ℕ)) × ((output_for words stdin ≡ Err r) ⊎ (IsMemoryOrOutputRefusal r × IsOk (output_for words stdin)))
 
 -- a run with this result, on these words: some standard input leads to it
-abbrev pub EndsForSome : {A : Type 0} → List Text → Result A Argon2Refusal → Type 0
-EndsForSome words result = MatchResult result (λ _. SucceedsForSome words) (IsToldForSome words)
+abbrev pub EndsSoForSomeInput : {A : Type 0} → List Text → Result A Argon2Refusal → Type 0
+EndsSoForSomeInput words result = MatchResult result (λ _. SucceedsForSomeInput words) (IsReportedForSomeInput words)
 
 -- ---- the end with a refusal
 
@@ -83,6 +83,6 @@ pub record Refuses (tells : Bool) (words : List Text) (before after : HostState)
     : Type 0 where
   pub told : Argon2Refusal
   pub unsaid : HostState
-  pub some_input : IsToldForSome words told
-  pub says : SaysOneLine tells (line_of told) unsaid after (counted_by told faults_before) faults_after
+  pub some_input : IsReportedForSomeInput words told
+  pub says : SaysOneLine tells (line_of told) unsaid after (faults_after_refusal told faults_before) faults_after
   pub refused : IsTrue tells → IsRefused told words before unsaid

@@ -1,7 +1,7 @@
 //! Bytes of which there stay as many as there are.
 ghost use Rattle.std.specs.Borrow.{sem};
 ghost use Rattle.std.specs.Prelude.{◌≡◌, IfOk, length, vec_len};
-ghost use Rattle.argon2_command.specs.Inside.Bytes.{LendsBytes};
+ghost use Rattle.argon2_command.specs.Inside.Bytes.{LendsMutableBytes};
 
 use std::alloc::{AllocError, Global};
 
@@ -36,7 +36,7 @@ impl Bytes {
 
     /// The bytes, to be written: as many as before.
     pub(crate) fn as_mut_slice(&mut self) -> &mut [u8]
-        ensures* writes_back { sem 𝓛 (LendsBytes self.entry result) }
+        ensures* writes_back { sem 𝓛 (LendsMutableBytes self.entry result) }
         ensures value { result.now ≡ self.old.list.items }
         ensures len { length result.now ≡ vec_len self.old.list }
     {

@@ -13,5 +13,5 @@ mod run_memory;
 
 pub use argon2_words::Argon2Refusal;
 pub use bytes::Bytes;
-pub use run::{argon2, attempt};
+pub use run::{argon2, run_without_report};
 pub use run_memory::RunMemory;

@@ -1,14 +1,14 @@
 //! What a run writes: the hash, as an encoded text or in hexadecimal.
 ghost use Rattle.std.specs.Prelude.{◌≡◌, ◌+◌, IfOk, IfErr, OnOk, OnErr, Ok, length};
 ghost use Rattle.argon.specs.Counts.{work};
-ghost use Rattle.argon2_command.specs.Asking.{LacksOne, asking, with_all};
+ghost use Rattle.argon2_command.specs.MemoryRequestEffects.{OneRequestRefused, memory_request_effects, after_all_requests};
 ghost use Rattle.argon2_command.specs.Output.{admitted_parameters, output_line, parameters_of, tag_line};
 ghost use Rattle.argon2_words.specs.Refusal.{IsEarly};
-ghost use Rattle.argon2_words.specs.RequestView.{request_of};
+ghost use Rattle.argon2_words.specs.RequestView.{argon2_request_view};
 ghost use Rattle.host.specs.HostState.{KeepsOnErr};
 
 use crate::bytes::Bytes;
-use crate::line::put_tag;
+use crate::line::replace_tag;
 use crate::password::Password;
 use crate::run_memory::RunMemory;
 use argon::{Inputs, Matrix, Params, Ticks};
@@ -17,8 +17,8 @@ use std::alloc::AllocError;
 
 /// The parameters that a request and a password ask for, in range and admitted by the request's limits.
 pub fn parameters(request: &Request<'_>, password: &Password) -> Result<Params, Argon2Refusal>
-    ensures parameters { result ≡ admitted_parameters (request_of request.now) password.now }
-    ensures value { IfOk result (λ params. params ≡ parameters_of (request_of request.now) password.now) }
+    ensures parameters { result ≡ admitted_parameters (argon2_request_view request.now) password.now }
+    ensures value { IfOk result (λ params. params ≡ parameters_of (argon2_request_view request.now) password.now) }
     ensures early { IfErr result IsEarly }
 {
     let settings = &request.settings;
@@ -45,10 +45,10 @@ fn hash_into(
     password: &Password,
     ticks: &mut Ticks,
 )
-    requires parameters { matrix.old.parameters ≡ parameters_of (request_of request.now) password.now }
+    requires parameters { matrix.old.parameters ≡ parameters_of (argon2_request_view request.now) password.now }
     requires len { length tag.old ≡ matrix.old.parameters.tag_len }
-    requires line { line.old ≡ tag_line (request_of request.now) tag.old }
-    ensures line { line.new ≡ output_line (request_of request.now) password.now matrix.old.parameters }
+    requires line { line.old ≡ tag_line (argon2_request_view request.now) tag.old }
+    ensures line { line.new ≡ output_line (argon2_request_view request.now) password.now matrix.old.parameters }
     ensures count { ticks.new ≡ ticks.old + work matrix.old.parameters }
 {
     let inputs = Inputs {
@@ -58,7 +58,7 @@ fn hash_into(
         associated: &[],
     };
     matrix.hash(&inputs, tag, ticks);
-    put_tag(request, line, tag);
+    replace_tag(request, line, tag);
 }
 
 /// The whole output of a run, with its line feed. All memory is taken before the hash: until then the
@@ -70,15 +70,15 @@ pub fn output<R: RunMemory>(
     params: &Params,
     ticks: &mut Ticks,
 ) -> Result<Bytes, AllocError>
-    requires admitted { admitted_parameters (request_of request.now) password.now ≡ Ok params.now }
-    requires parameters { params.now ≡ parameters_of (request_of request.now) password.now }
+    requires admitted { admitted_parameters (argon2_request_view request.now) password.now ≡ Ok params.now }
+    requires parameters { params.now ≡ parameters_of (argon2_request_view request.now) password.now }
     ensures line { IfOk result (λ line.
-        line.list.items ≡ output_line (request_of request.now) password.now params.now) }
+        line.list.items ≡ output_line (argon2_request_view request.now) password.now params.now) }
     // Memory is asked for the tag, the line and one matrix, up to the first that is refused.
-    ensures memory_granted { OnOk result (memory.new ≡ with_all (asking R.after_zeros R.after_line R.after_matrix)
-        (request_of request.now) params.now memory.old) }
-    ensures memory_refused { OnErr result (LacksOne (asking R.after_zeros R.after_line R.after_matrix)
-        (request_of request.now) params.now memory.old memory.new) }
+    ensures memory_granted { OnOk result (memory.new ≡ after_all_requests (memory_request_effects R.after_zeros R.after_line R.after_matrix)
+        (argon2_request_view request.now) params.now memory.old) }
+    ensures memory_refused { OnErr result (OneRequestRefused (memory_request_effects R.after_zeros R.after_line R.after_matrix)
+        (argon2_request_view request.now) params.now memory.old memory.new) }
     // No hash begins before every refusal is ruled out, that of memory too.
     ensures no_work { KeepsOnErr result ticks.old ticks.new }
     ensures count { IfOk result (λ _. ticks.new ≡ ticks.old + work params.now) }

@@ -1,8 +1,8 @@
 //! The password: the whole standard input.
 ghost use Rattle.std.specs.Prelude.{◌≡◌, ◌<◌, ◌^◌, ◌⊎◌, ℕ, List, true, Some, Ok, Err, take, length, IfOk, IfErr, IsTrue};
 ghost use Rattle.host.specs.Faults.{AreBelow};
-ghost use Rattle.host.specs.GrantedCalls.{with_secret_asked};
-ghost use Rattle.host.specs.HostState.{after_ask, stdin_once};
+ghost use Rattle.host.specs.CallsGrantedByHost.{with_secret_asked};
+ghost use Rattle.host.specs.HostState.{after_ask_secret, stdin_once};
 ghost use Rattle.argon2_command.specs.Output.{RefusesInput, password_in};
 ghost use Rattle.argon2_words.specs.Refusal.{IsEarly, CountsFault};
 ghost use Rattle.argon2_words.specs.declared.refusal.Argon2Refusal.TheVariants.{PasswordFault};
@@ -48,7 +48,7 @@ pub fn read_password<H: Host>(host: &mut H) -> Result<Password, Argon2Refusal>
     ensures valid { IfOk result (λ p. password_in (Some p) ≡ Ok p) }
     ensures some_input { IfErr result RefusesInput }
     ensures granted { H.grants host.new ≡ with_secret_asked (H.grants host.old) }
-    ensures asks { IsTrue H.tells → H.seen host.new ≡ after_ask stdin_once (H.seen host.old) }
+    ensures asks { IsTrue H.tells → H.seen host.new ≡ after_ask_secret stdin_once (H.seen host.old) }
     ensures read { IsTrue H.tells → IfOk result (λ p. password_in (H.seen host.old).stdin ≡ Ok p) }
     ensures refused { IsTrue H.tells →
         IfErr result (λ r. (password_in (H.seen host.old).stdin ≡ Err r) ⊎ (r ≡ PasswordFault)) }

@@ -1,15 +1,15 @@
 //! A whole run of `argon2`.
 ghost use Rattle.std.specs.Prelude.{◌≡◌, ◌≢◌, ◌≤◌, ◌+◌, ◌^◌, Ok, Err, true, IfOk, IfErr, IsOk, OnOk, IsTrue, map, string_bytes};
 ghost use Rattle.host.specs.Faults.{AreBelow, CountsNoFailure};
-ghost use Rattle.host.specs.GrantedCalls.{GrantsAll, with_secret_asked};
+ghost use Rattle.host.specs.CallsGrantedByHost.{GrantsAllHostCalls, with_secret_asked};
 ghost use Rattle.host.specs.Lines.{SaysOneLine};
 ghost use Rattle.host.specs.HostState.{IsUnasked, KeepsOnErr};
-ghost use Rattle.argon2_command.specs.Asking.{asking};
-ghost use Rattle.argon2_command.specs.RunAsking.{RunGranted, MemoryRefused};
-ghost use Rattle.argon2_command.specs.Output.{argon2_output, request_work};
-ghost use Rattle.argon2_words.specs.Refusal.{IsEarly, counted_by, line_of, CountsFault};
+ghost use Rattle.argon2_command.specs.MemoryRequestEffects.{memory_request_effects};
+ghost use Rattle.argon2_command.specs.RunAsking.{RunGranted, HasRefusedRequestIfOutOfMemory};
+ghost use Rattle.argon2_command.specs.Output.{argon2_command_output, request_work};
+ghost use Rattle.argon2_words.specs.Refusal.{IsEarly, faults_after_refusal, line_of, CountsFault};
 ghost use Rattle.argon2_words.specs.Request.{argon2_request};
-ghost use Rattle.argon2_command.specs.Run.{Refuses, Succeeds, SucceedsForSome, password_asked, EndsForSome, EndsRefused, RefusesWords};
+ghost use Rattle.argon2_command.specs.Run.{Refuses, Succeeds, SucceedsForSomeInput, after_password_asked, EndsSoForSomeInput, EndsRefused, RefusesFaultyCommandLine};
 ghost use Rattle.argon2_words.specs.declared.refusal.Argon2Refusal.{Argon2Refusal};
 
 use crate::bytes::Bytes;
@@ -22,7 +22,7 @@ use host::{Host, refuse, write_output};
 use std::alloc::Global;
 
 // Reads the words and the password, and makes the whole output.
-fn prepare<R: RunMemory, H: Host>(
+fn read_and_make_output<R: RunMemory, H: Host>(
     memory: &mut R,
     words: &[String],
     host: &mut H,
@@ -33,20 +33,20 @@ fn prepare<R: RunMemory, H: Host>(
     ensures counts { CountsFault result (H.faults host.old) (H.faults host.new) }
     ensures granted { OnOk result (H.grants host.new ≡ with_secret_asked (H.grants host.old)) }
     ensures asks { IsTrue H.tells →
-        H.seen host.new ≡ password_asked (map string_bytes words.now) (H.seen host.old) }
+        H.seen host.new ≡ after_password_asked (map string_bytes words.now) (H.seen host.old) }
     ensures words { IfOk result (λ _. IsOk (argon2_request (map string_bytes words.now))) }
-    ensures words_refused { RefusesWords (map string_bytes words.now) result }
-    ensures some_input { EndsForSome (map string_bytes words.now) result }
+    ensures words_refused { RefusesFaultyCommandLine (map string_bytes words.now) result }
+    ensures some_input { EndsSoForSomeInput (map string_bytes words.now) result }
     ensures due { IsTrue H.tells → IfOk result (λ line.
-        argon2_output (map string_bytes words.now) (H.seen host.old) ≡ Ok line.list.items) }
+        argon2_command_output (map string_bytes words.now) (H.seen host.old) ≡ Ok line.list.items) }
     ensures refused { IsTrue H.tells →
         EndsRefused (map string_bytes words.now) result (H.seen host.old) (H.seen host.new) }
     // Nothing is asked of the source of memory before every other refusal is ruled out.
     ensures unasked_for_memory { IfErr result (λ r. r ≢ Argon2Refusal.OutOfMemory → memory.new ≡ memory.old) }
     // Memory is asked for the tag, the line and one matrix, with parameters that the limits admit.
     ensures memory_granted { OnOk result (RunGranted
-        (asking R.after_zeros R.after_line R.after_matrix) (map string_bytes words.now) memory.old memory.new) }
-    ensures memory_refused { MemoryRefused (asking R.after_zeros R.after_line R.after_matrix)
+        (memory_request_effects R.after_zeros R.after_line R.after_matrix) (map string_bytes words.now) memory.old memory.new) }
+    ensures memory_refused { HasRefusedRequestIfOutOfMemory (memory_request_effects R.after_zeros R.after_line R.after_matrix)
         (map string_bytes words.now) result memory.old memory.new }
     // No hash begins before every refusal is ruled out, that of memory too.
     ensures no_work { KeepsOnErr result ticks.old ticks.new }
@@ -76,7 +76,7 @@ fn prepare<R: RunMemory, H: Host>(
 ///
 /// `ticks` counts the block functions: none where a fault comes before the output, and the work of the
 /// request's hash after success or `OutputFault`.
-pub fn attempt<R: RunMemory, H: Host>(
+pub fn run_without_report<R: RunMemory, H: Host>(
     memory: &mut R,
     words: &[String],
     host: &mut H,
@@ -84,12 +84,12 @@ pub fn attempt<R: RunMemory, H: Host>(
 ) -> Result<(), Argon2Refusal>
     requires room { AreBelow (2 ^ 63) (H.faults host.old) }
     requires fresh { IsTrue H.tells → IsUnasked (H.seen host.old) }
-    requires granted { GrantsAll (H.grants host.old) }
+    requires granted { GrantsAllHostCalls (H.grants host.old) }
     ensures counts { CountsNoFailure result (H.faults host.old) (H.faults host.new) }
-    ensures counted { IfErr result (λ r. H.faults host.new ≡ counted_by r (H.faults host.old)) }
+    ensures counted { IfErr result (λ r. H.faults host.new ≡ faults_after_refusal r (H.faults host.old)) }
     ensures words { OnOk result (IsOk (argon2_request (map string_bytes words.now))) }
-    ensures words_refused { RefusesWords (map string_bytes words.now) result }
-    ensures some_input { EndsForSome (map string_bytes words.now) result }
+    ensures words_refused { RefusesFaultyCommandLine (map string_bytes words.now) result }
+    ensures some_input { EndsSoForSomeInput (map string_bytes words.now) result }
     ensures succeeds { IsTrue H.tells →
         OnOk result (Succeeds (map string_bytes words.now) (H.seen host.old) (H.seen host.new)) }
     ensures refused { IsTrue H.tells →
@@ -98,11 +98,11 @@ pub fn attempt<R: RunMemory, H: Host>(
     ensures unasked_for_memory { IfErr result (λ r. IsEarly r → memory.new ≡ memory.old) }
     // Memory is asked for the tag, the line and one matrix, with parameters that the limits admit.
     ensures memory_granted { OnOk result (RunGranted
-        (asking R.after_zeros R.after_line R.after_matrix) (map string_bytes words.now) memory.old memory.new) }
-    ensures memory_refused { MemoryRefused (asking R.after_zeros R.after_line R.after_matrix)
+        (memory_request_effects R.after_zeros R.after_line R.after_matrix) (map string_bytes words.now) memory.old memory.new) }
+    ensures memory_refused { HasRefusedRequestIfOutOfMemory (memory_request_effects R.after_zeros R.after_line R.after_matrix)
         (map string_bytes words.now) result memory.old memory.new }
     ensures memory_granted_for_output { IfErr result (λ r. r ≡ Argon2Refusal.OutputFault → RunGranted
-        (asking R.after_zeros R.after_line R.after_matrix) (map string_bytes words.now) memory.old memory.new) }
+        (memory_request_effects R.after_zeros R.after_line R.after_matrix) (map string_bytes words.now) memory.old memory.new) }
     // The output's refusal is the one that comes after the hash, of which nothing is left to be done.
     ensures no_work { IfErr result (λ r. r ≢ Argon2Refusal.OutputFault → ticks.new ≡ ticks.old) }
     ensures count { OnOk result (IfOk (argon2_request (map string_bytes words.now))
@@ -111,7 +111,7 @@ pub fn attempt<R: RunMemory, H: Host>(
         → IfOk (argon2_request (map string_bytes words.now))
         (λ request. ticks.new ≡ ticks.old + request_work request)) }
 {
-    let line = prepare(memory, words, host, ticks)?;
+    let line = read_and_make_output(memory, words, host, ticks)?;
     let Ok(()) = write_output(host, line.as_slice()) else {
         return Err(Argon2Refusal::OutputFault);
     };
@@ -127,11 +127,11 @@ pub fn attempt<R: RunMemory, H: Host>(
 /// refusal, which says its one line ([`Argon2Refusal`] has them all); a line that cannot be said is
 /// passed over. The words, the password, the parameters and the limits are tested before any growth
 /// of memory, all memory is taken before the hash, and the whole output stands in memory before
-/// standard output is opened: the contract of `attempt`, which does the run, says so.
+/// standard output is opened: the contract of `run_without_report`, which does the run, says so.
 pub fn argon2<H: Host>(alloc: Global, words: &[String], host: &mut H) -> u8
     requires room { AreBelow (2 ^ 63) (H.faults host.old) }
     requires fresh { IsTrue H.tells → IsUnasked (H.seen host.old) }
-    requires granted { GrantsAll (H.grants host.old) }
+    requires granted { GrantsAllHostCalls (H.grants host.old) }
     ensures status { result ≤ 1 }
     ensures counts { result ≡ 0 → H.faults host.new ≡ H.faults host.old }
     // of every host, also one that tells nothing
@@ -139,15 +139,15 @@ pub fn argon2<H: Host>(alloc: Global, words: &[String], host: &mut H) -> u8
     ensures words_refused { (refusal : Argon2Refusal)
         → argon2_request (map string_bytes words.now) ≡ Err refusal
         → (result ≡ 1) × SaysOneLine H.tells (line_of refusal) (H.seen host.old) (H.seen host.new)
-        (counted_by refusal (H.faults host.old)) (H.faults host.new) }
-    ensures some_input { result ≡ 0 → SucceedsForSome (map string_bytes words.now) }
+        (faults_after_refusal refusal (H.faults host.old)) (H.faults host.new) }
+    ensures some_input { result ≡ 0 → SucceedsForSomeInput (map string_bytes words.now) }
     ensures succeeds { IsTrue H.tells → result ≡ 0 →
         Succeeds (map string_bytes words.now) (H.seen host.old) (H.seen host.new) }
     ensures refuses { result ≡ 1 → Refuses H.tells (map string_bytes words.now)
         (H.seen host.old) (H.seen host.new) (H.faults host.old) (H.faults host.new) }
 {
     let mut memory = alloc;
-    match attempt(&mut memory, words, host, &mut Ticks::new(alloc)) {
+    match run_without_report(&mut memory, words, host, &mut Ticks::new(alloc)) {
         Ok(()) => 0,
         Err(refusal) => refuse(host, refusal.line()),
     }

@@ -2,8 +2,8 @@
 ghost use Rattle.std.specs.Prelude.{◌≡◌, ℕ, Bool, Ok, IfOk, is_ok, length, true};
 ghost use Rattle.argon.specs.Range.{admission};
 ghost use Rattle.argon_text.specs.Value.{is_in_range};
-ghost use Rattle.argon2_command.specs.Output.{Parameters, Request, tag_line, value_with};
-ghost use Rattle.argon2_words.specs.RequestView.{request_of};
+ghost use Rattle.argon2_command.specs.Output.{Parameters, Request, tag_line, value_of_request_and_tag};
+ghost use Rattle.argon2_words.specs.RequestView.{argon2_request_view};
 
 use crate::bytes::Bytes;
 use crate::line::line_of;
@@ -32,10 +32,10 @@ pub trait RunMemory {
 
     /// The line of a tag.
     fn line(&mut self, request: &Request<'_>, tag: &[u8]) -> Result<Bytes, AllocError>
-        requires in_range { is_in_range (value_with (request_of request.now) tag.now) ≡ true }
-        ensures line { IfOk result (λ line. line.list.items ≡ tag_line (request_of request.now) tag.now) }
+        requires in_range { is_in_range (value_of_request_and_tag (argon2_request_view request.now) tag.now) ≡ true }
+        ensures line { IfOk result (λ line. line.list.items ≡ tag_line (argon2_request_view request.now) tag.now) }
         ensures asked { self.new
-            ≡ after_line self.old (request_of request.now) (length tag.now) (is_ok result) };
+            ≡ after_line self.old (argon2_request_view request.now) (length tag.now) (is_ok result) };
 
     /// The matrix of a hash with these parameters, which the settings' limits admit: so none is asked
     /// for before the limits are tested.

@@ -4,12 +4,12 @@ mod refusing;
 
 ghost use Rattle.std.specs.Prelude.{◌^◌, ◌<◌};
 ghost use Rattle.host.specs.Faults.{AreBelow};
-ghost use Rattle.memory_host.specs.Memory.{memory_faults, memory_seen};
+ghost use Rattle.memory_host.specs.Memory.{memory_host_failure_counts, memory_host_state};
 ghost use Rattle.host.specs.HostState.{IsUnasked};
 
 use self::refusing::{Asked, Refusing};
 use argon::Ticks;
-use argon2_command::{Argon2Refusal, argon2, attempt};
+use argon2_command::{Argon2Refusal, argon2, run_without_report};
 use memory_host::MemoryHost;
 use std::alloc::Global;
 use std::process::Abort;
@@ -202,8 +202,8 @@ fn words(alloc: Global, line: &str) -> Vec<String> {
 // A host with this standard input. Who makes one lets it go by `drop`: the end of a scope would let go of its parts one
 // by one, in each proof anew.
 fn host_with(alloc: Global, stdin: &[u8]) -> MemoryHost
-    ensures room { AreBelow (2 ^ 63) (memory_faults result) }
-    ensures fresh { IsUnasked (memory_seen result) }
+    ensures room { AreBelow (2 ^ 63) (memory_host_failure_counts result) }
+    ensures fresh { IsUnasked (memory_host_state result) }
 {
     let stdin = stdin.to_vec(alloc).unwrap_or(Vec::new(alloc));
     MemoryHost::new(alloc, Vec::new(alloc), stdin, [0; 32])
@@ -211,8 +211,8 @@ fn host_with(alloc: Global, stdin: &[u8]) -> MemoryHost
 
 // The status of a run of the words of a line.
 fn run_line(alloc: Global, line: &str, host: &mut MemoryHost) -> u8
-    requires room { AreBelow (2 ^ 63) (memory_faults host.old) }
-    requires fresh { IsUnasked (memory_seen host.old) }
+    requires room { AreBelow (2 ^ 63) (memory_host_failure_counts host.old) }
+    requires fresh { IsUnasked (memory_host_state host.old) }
 {
     argon2(alloc, &words(alloc, line), host)
 }
@@ -421,7 +421,7 @@ fn answer(alloc: Global, line: &str, left: u32) -> Answer {
     };
     let mut host = host_with(alloc, b"password");
     let words = words(alloc, line);
-    let refusal = attempt(&mut memory, &words, &mut host, &mut Ticks::new(alloc)).err();
+    let refusal = run_without_report(&mut memory, &words, &mut host, &mut Ticks::new(alloc)).err();
     let is_opened = host.output_name().is_some();
     drop(host);
     (refusal, memory.last, is_opened)

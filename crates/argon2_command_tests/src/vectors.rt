@@ -1,10 +1,10 @@
 //! The definitions of argon2's output, run on what the reference program gives.
 ghost use Rattle.std.specs.Prelude.{◌≡◌, [], ◌∷◌, ◌++◌, Ok, Err, None, Some, codes, replicate, true};
 ghost use Rattle.argon.specs.Argon2.{argon2_tag};
-ghost use Rattle.argon_text.specs.Vectors.{known_text, known_value};
-ghost use Rattle.argon2_command.specs.Output.{argon2_output, output_for, tag_line};
-ghost use Rattle.argon2_command.specs.Run.{password_asked};
-ghost use Rattle.host.specs.HostState.{nothing_seen, stdin_once};
+ghost use Rattle.argon_text.specs.Vectors.{sample_encoded_text, sample_encoded_value};
+ghost use Rattle.argon2_command.specs.Output.{argon2_command_output, output_for, tag_line};
+ghost use Rattle.argon2_command.specs.Run.{after_password_asked};
+ghost use Rattle.host.specs.HostState.{placeholder_host_state, stdin_once};
 ghost use Rattle.argon2_words.specs.Settings.{defaults};
 ghost use Rattle.argon2_words.specs.declared.items.Form.TheVariants.{Encoded, Hex};
 ghost use Rattle.argon2_words.specs.declared.refusal.Argon2Refusal.TheVariants.{EmptyPassword, LongPassword, MemoryLimit, OneForm, Passes, PasswordFault, SaltLength, WorkLimit};
@@ -27,10 +27,10 @@ fn output_of_one_pass()
           salt = codes "somesalt";
           secret = [];
           associated = [];
-        }) ≡ known_value.tag →
-        argon2_output
+        }) ≡ sample_encoded_value.tag →
+        argon2_command_output
         (codes "somesalt" ∷ codes "-d" ∷ codes "-t" ∷ codes "1" ∷ codes "-k" ∷ codes "8" ∷ codes "-e" ∷ [])
-        (record nothing_seen { stdin = Some (codes "password") }) ≡ Ok (known_text ++ 10 ∷ []) }
+        (record placeholder_host_state { stdin = Some (codes "password") }) ≡ Ok (sample_encoded_text ++ 10 ∷ []) }
 {}
 
 // printf password | argon2 somesalt -i -t 2 -k 9 -p 1 -l 32, with -e and with -r: the memory as it is given, of which 8 KiB
@@ -62,6 +62,6 @@ fn first_refusal_of_a_run()
 
 // Standard input is asked for the password where the words are taken, and nothing is where they are refused.
 fn password_by_words()
-    ensures taken { (password_asked (codes "somesalt" ∷ codes "-e" ∷ []) nothing_seen).asked ≡ Some stdin_once }
-    ensures refused { (password_asked (codes "somesalt" ∷ []) nothing_seen).asked ≡ None }
+    ensures taken { (after_password_asked (codes "somesalt" ∷ codes "-e" ∷ []) placeholder_host_state).asked ≡ Some stdin_once }
+    ensures refused { (after_password_asked (codes "somesalt" ∷ []) placeholder_host_state).asked ≡ None }
 {}

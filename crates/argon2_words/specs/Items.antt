@@ -33,8 +33,8 @@ option_of word =
     else None
 
 -- the item of a word that names no option
-abbrev pub flag_of : Text → Item
-flag_of word =
+abbrev pub item_of_flag : Text → Item
+item_of_flag word =
     if bytes_eq word (codes "-d") then kind D
     else if bytes_eq word (codes "-i") then kind I
     else if bytes_eq word (codes "-id") then kind Id
@@ -44,17 +44,17 @@ flag_of word =
     else unknown_word
 
 -- the item that a word makes by itself, where it names no option
-abbrev pub item_alone : Option OptionName → Text → List Item
-item_alone None word = flag_of word ∷ []
-item_alone (Some name) word = []
+abbrev pub flag_item_unless_option : Option OptionName → Text → List Item
+flag_item_unless_option None word = item_of_flag word ∷ []
+flag_item_unless_option (Some name) word = []
 
 -- the items of the words, where the first word is the value of an option that came before them, if one is given
-abbrev pub items_after : Option OptionName → List Text → List Item
-items_after None [] = []
-items_after (Some name) [] = missing_value ∷ []
-items_after None (word ∷ words) = item_alone (option_of word) word ++ items_after (option_of word) words
-items_after (Some name) (word ∷ words) = valued name word ∷ items_after None words
+abbrev pub items_after_pending_option : Option OptionName → List Text → List Item
+items_after_pending_option None [] = []
+items_after_pending_option (Some name) [] = missing_value ∷ []
+items_after_pending_option None (word ∷ words) = flag_item_unless_option (option_of word) word ++ items_after_pending_option (option_of word) words
+items_after_pending_option (Some name) (word ∷ words) = valued name word ∷ items_after_pending_option None words
 
 -- the items of the words after the salt, from the left
 abbrev pub items : List Text → List Item
-items words = items_after None words
+items words = items_after_pending_option None words

@@ -7,7 +7,7 @@ use Rattle.argon2_words.specs.declared.refusal.Argon2Refusal.{Argon2Refusal}
 use Rattle.argon2_words.specs.declared.settings.Settings.{Settings}
 
 -- the settings after items and then one item more
-abbrev pub with_last_item : Settings → List Item → Item → Result Settings Argon2Refusal
-with_last_item s xs x = do
+abbrev pub settings_with_last_item : Settings → List Item → Item → Result Settings Argon2Refusal
+settings_with_last_item s xs x = do
   before ← settings_after s xs
   with_item before x

@@ -3,7 +3,7 @@ use Rattle.std.specs.Prelude.{◌≡◌, Result, MatchResult, codes}
 use Rattle.argon.specs.declared.fault.ParamFault.{ParamFault}
 use Rattle.argon.specs.declared.fault.ParamFault.TheVariants as fault
 use Rattle.host.specs.HostState.{Text}
-use Rattle.host.specs.Faults.{Faults, output_failed, secret_failed}
+use Rattle.host.specs.Faults.{Faults, with_output_failure_counted, with_secret_failure_counted}
 use Rattle.argon2_words.specs.declared.refusal.Argon2Refusal.{Argon2Refusal}
 use Rattle.argon2_words.specs.declared.refusal.Argon2Refusal.TheVariants as refusal
 
@@ -21,14 +21,14 @@ refusal_of fault.WorkLimit = refusal.WorkLimit
 
 -- the counts of failures after a refusal: where it names a call of the host that failed, the count of that kind is
 -- one more; every other refusal raises none
-abbrev pub counted_by : Argon2Refusal → Faults → Faults
-counted_by refusal.PasswordFault f = secret_failed f
-counted_by refusal.OutputFault f = output_failed f
-counted_by r f = f
+abbrev pub faults_after_refusal : Argon2Refusal → Faults → Faults
+faults_after_refusal refusal.PasswordFault f = with_secret_failure_counted f
+faults_after_refusal refusal.OutputFault f = with_output_failure_counted f
+faults_after_refusal r f = f
 
 -- a step with this result, and the counts before and after it: a refusal raises its own, and nothing else raises any
 abbrev pub CountsFault : {A : Type 0} → Result A Argon2Refusal → Faults → Faults → Type 0
-CountsFault result before after = MatchResult result (λ _. after ≡ before) (λ r. after ≡ counted_by r before)
+CountsFault result before after = MatchResult result (λ _. after ≡ before) (λ r. after ≡ faults_after_refusal r before)
 
 -- the refusal is one of A1 to A8c, that is, neither A9 (of the output) nor A10 (of memory), which a run meets only
 -- after these
@@ -38,14 +38,14 @@ IsEarly refusal.OutOfMemory = ⊥
 IsEarly r = Unit {0}
 
 -- the refusal is A10, of memory, or A9, of the output, which come where no other is due
-abbrev pub IsLate : Argon2Refusal → Type 0
-IsLate refusal.OutOfMemory = Unit {0}
-IsLate refusal.OutputFault = Unit {0}
-IsLate r = ⊥
+abbrev pub IsMemoryOrOutputRefusal : Argon2Refusal → Type 0
+IsMemoryOrOutputRefusal refusal.OutOfMemory = Unit {0}
+IsMemoryOrOutputRefusal refusal.OutputFault = Unit {0}
+IsMemoryOrOutputRefusal r = ⊥
 
 -- the refusal is none of a failing call of the host, and so raises no count
 abbrev pub RaisesNoCount : Argon2Refusal → Type 0
-RaisesNoCount r = (f : Faults) → counted_by r f ≡ f
+RaisesNoCount r = (f : Faults) → faults_after_refusal r f ≡ f
 
 -- the line of a refusal, without a line feed
 abbrev pub line_of : Argon2Refusal → Text

@@ -18,20 +18,20 @@ pub record Request : Type 0 where
   pub form : Form
 
 -- the salt, which is the first word, whatever it is, except -h (A1)
-abbrev pub salt_in : Text → Result Text Argon2Refusal
-salt_in word = if bytes_eq word (codes "-h") then Err refusal.Usage else Ok word
+abbrev pub salt_of_first_word : Text → Result Text Argon2Refusal
+salt_of_first_word word = if bytes_eq word (codes "-h") then Err refusal.Usage else Ok word
 
 -- the form that is asked for, by whether -e and -r stand among the items: exactly one of them is needed (A5)
-abbrev pub one_form : Bool → Bool → Result Form Argon2Refusal
-one_form true false = Ok Encoded
-one_form false true = Ok Hex
-one_form _ _ = Err refusal.OneForm
+abbrev pub chosen_output_form : Bool → Bool → Result Form Argon2Refusal
+chosen_output_form true false = Ok Encoded
+chosen_output_form false true = Ok Hex
+chosen_output_form _ _ = Err refusal.OneForm
 
 -- what argon2's words ask for, or the first refusal in the order of the lines
 abbrev pub argon2_request : List Text → Result Request Argon2Refusal
 argon2_request [] = Err refusal.Usage
 argon2_request (word ∷ words) = do
-  salt ← salt_in word
+  salt ← salt_of_first_word word
   settings ← settings_after defaults (items words)
-  form ← one_form settings.encoded settings.hex
+  form ← chosen_output_form settings.encoded settings.hex
   Ok (record { salt = salt; settings = settings; form = form })

@@ -20,13 +20,13 @@ use Rattle.argon2_words.specs.declared.settings.Settings.{Settings}
 -- ---- values
 
 -- the value of -t, -k, -p or -l: 0 to 2^32 - 1; the ranges of RFC 9106, 3.1 are tested later
-abbrev pub count_in : Text → Option ℕ
-count_in text = number_in 0 (2 ^ 32) text
+abbrev pub count_from_word : Text → Option ℕ
+count_from_word text = number_in 0 (2 ^ 32) text
 
 -- the value of -m, as KiB: 2^n for a number word n from 1 to 31. The reference program (its run.c) takes 32 too, for
 -- 2^32 - 1 KiB, and reads the number by strtoul, which takes more than digits
-abbrev pub power_in : Text → Option ℕ
-power_in text = option_map (λ n. 2 ^ n) (number_in 1 32 text)
+abbrev pub power_of_two_from_word : Text → Option ℕ
+power_of_two_from_word text = option_map (λ n. 2 ^ n) (number_in 1 32 text)
 
 -- the version that the value of -v names, in hexadecimal: 10 or 13
 abbrev pub version_named : Text → Option Version
@@ -45,11 +45,11 @@ version_number V13 = 0x13
 -- the settings after an option with its value, if the option takes that value; --maxmem takes 1 to 2^32 - 1, --maxops
 -- 1 to 2^63 - 1
 abbrev pub with_value : Settings → OptionName → Text → Option Settings
-with_value s option.Passes text = option_map (λ n. record s { passes = n }) (count_in text)
-with_value s option.LogMemory text = option_map (λ n. record s { memory_kib = n }) (power_in text)
-with_value s option.Memory text = option_map (λ n. record s { memory_kib = n }) (count_in text)
-with_value s option.Lanes text = option_map (λ n. record s { lanes = n }) (count_in text)
-with_value s option.TagLength text = option_map (λ n. record s { tag_length = n }) (count_in text)
+with_value s option.Passes text = option_map (λ n. record s { passes = n }) (count_from_word text)
+with_value s option.LogMemory text = option_map (λ n. record s { memory_kib = n }) (power_of_two_from_word text)
+with_value s option.Memory text = option_map (λ n. record s { memory_kib = n }) (count_from_word text)
+with_value s option.Lanes text = option_map (λ n. record s { lanes = n }) (count_from_word text)
+with_value s option.TagLength text = option_map (λ n. record s { tag_length = n }) (count_from_word text)
 with_value s option.Version text = option_map (λ v. record s { version = v }) (version_named text)
 with_value s option.MaxMemory text = option_map (λ n. record s { max_memory_kib = n }) (number_in 1 (2 ^ 32) text)
 with_value s option.MaxOps text = option_map (λ n. record s { max_ops = n }) (number_in 1 (2 ^ 63) text)

@@ -1,6 +1,6 @@
 //! The items of the words after the salt: flags, and options with the word after them.
 ghost use Rattle.std.specs.Prelude.{◌≡◌, map, string_bytes};
-ghost use Rattle.argon2_words.specs.Items.{flag_of, items, option_of};
+ghost use Rattle.argon2_words.specs.Items.{item_of_flag, items, option_of};
 ghost use Rattle.argon2_words.specs.ItemView.{item_of, items_left};
 
 use argon::Kind;
@@ -72,7 +72,7 @@ fn option_named(word: &str) -> Option<OptionName>
 
 // The item of a word that is no option.
 fn flag_named(word: &str) -> Item<'static>
-    ensures item { item_of result ≡ flag_of word.now }
+    ensures item { item_of result ≡ item_of_flag word.now }
 {
     match word {
         "-d" => Item::Kind(Kind::D),

@@ -1,9 +1,9 @@
 //! What the words ask for.
 ghost use Rattle.std.specs.Prelude.{◌≡◌, IfErr, map, string_bytes};
-ghost use Rattle.command_words.specs.Answer.{answered};
+ghost use Rattle.command_words.specs.Answer.{map_ok};
 ghost use Rattle.argon2_words.specs.Refusal.{IsEarly, RaisesNoCount};
-ghost use Rattle.argon2_words.specs.Request.{argon2_request, one_form};
-ghost use Rattle.argon2_words.specs.RequestView.{request_of};
+ghost use Rattle.argon2_words.specs.Request.{argon2_request, chosen_output_form};
+ghost use Rattle.argon2_words.specs.RequestView.{argon2_request_view};
 
 use crate::items::Form;
 use crate::refusal::Argon2Refusal;
@@ -21,8 +21,8 @@ pub struct Request<'a> {
 }
 
 // The one form of output that is asked for.
-fn one_form(encoded: bool, hex: bool) -> Result<Form, Argon2Refusal>
-    ensures form { result ≡ one_form encoded hex }
+fn chosen_output_form(encoded: bool, hex: bool) -> Result<Form, Argon2Refusal>
+    ensures form { result ≡ chosen_output_form encoded hex }
     ensures early { IfErr result IsEarly }
     ensures counts { IfErr result RaisesNoCount }
 {
@@ -37,7 +37,7 @@ fn one_form(encoded: bool, hex: bool) -> Result<Form, Argon2Refusal>
 pub fn read_request(words: &[String]) -> Result<Request<'_>, Argon2Refusal>
     ensures early { IfErr result IsEarly }
     ensures counts { IfErr result RaisesNoCount }
-    ensures request { answered request_of result ≡ argon2_request (map string_bytes words.now) }
+    ensures request { map_ok argon2_request_view result ≡ argon2_request (map string_bytes words.now) }
 {
     let Some((salt, others)) = words.split_first() else {
         return Err(Argon2Refusal::Usage);
@@ -46,7 +46,7 @@ pub fn read_request(words: &[String]) -> Result<Request<'_>, Argon2Refusal>
         return Err(Argon2Refusal::Usage);
     }
     let settings = read_settings(others)?;
-    let form = one_form(settings.encoded, settings.hex)?;
+    let form = chosen_output_form(settings.encoded, settings.hex)?;
     Ok(Request {
         salt: salt.as_str(),
         settings,

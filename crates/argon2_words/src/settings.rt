@@ -5,7 +5,7 @@ ghost use Rattle.argon2_words.specs.Items.{items};
 ghost use Rattle.argon2_words.specs.ItemView.{item_of};
 ghost use Rattle.argon2_words.specs.Refusal.{IsEarly, RaisesNoCount};
 ghost use Rattle.command_words.specs.Number.{number_in};
-ghost use Rattle.argon2_words.specs.Settings.{defaults, power_in, settings_after, version_named, version_number, with_item, with_value};
+ghost use Rattle.argon2_words.specs.Settings.{defaults, power_of_two_from_word, settings_after, version_named, version_number, with_item, with_value};
 
 use crate::items::{Form, Item, Items, OptionName};
 use crate::refusal::Argon2Refusal;
@@ -74,15 +74,15 @@ const DEFAULTS: Settings = Settings {
 };
 
 // The number of a number word that is at least `least` and below 2^32.
-fn u32_from(least: u64, text: &str) -> Option<u32>
+fn u32_from_word(least: u64, text: &str) -> Option<u32>
     ensures value { result ≡ number_in least (2 ^ 32) text.now }
 {
     Some(number_in(least, 1 << 32, text)? as u32)
 }
 
 // 2 to the power that a number word from 1 to 31 gives.
-fn power_in(text: &str) -> Option<u32>
-    ensures value { result ≡ power_in text.now }
+fn power_of_two_from_word(text: &str) -> Option<u32>
+    ensures value { result ≡ power_of_two_from_word text.now }
 {
     let exponent = number_in(1, 32, text)?;
     Some(2u32.pow(exponent as u32))
@@ -106,13 +106,13 @@ impl Settings {
     {
         let mut settings = self;
         match name {
-            OptionName::Passes => settings.passes = u32_from(0, text)?,
-            OptionName::LogMemory => settings.memory_kib = power_in(text)?,
-            OptionName::Memory => settings.memory_kib = u32_from(0, text)?,
-            OptionName::Lanes => settings.lanes = u32_from(0, text)?,
-            OptionName::TagLength => settings.tag_length = u32_from(0, text)?,
+            OptionName::Passes => settings.passes = u32_from_word(0, text)?,
+            OptionName::LogMemory => settings.memory_kib = power_of_two_from_word(text)?,
+            OptionName::Memory => settings.memory_kib = u32_from_word(0, text)?,
+            OptionName::Lanes => settings.lanes = u32_from_word(0, text)?,
+            OptionName::TagLength => settings.tag_length = u32_from_word(0, text)?,
             OptionName::Version => settings.version = version_named(text)?,
-            OptionName::MaxMemory => settings.max_memory_kib = u32_from(1, text)?,
+            OptionName::MaxMemory => settings.max_memory_kib = u32_from_word(1, text)?,
             OptionName::MaxOps => settings.max_ops = number_in(1, 1 << 63, text)?,
         }
         Some(settings)

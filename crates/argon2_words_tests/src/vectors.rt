@@ -3,7 +3,7 @@ ghost use Rattle.std.specs.Prelude.{◌≡◌, [], ◌∷◌, Ok, Err, codes, fa
 ghost use Rattle.argon.specs.declared.kind.Kind.TheVariants.{I, Id};
 ghost use Rattle.argon2_words.specs.Request.{argon2_request};
 ghost use Rattle.argon2_words.specs.Settings.{defaults};
-ghost use Rattle.argon2_words.specs.Refusal.{counted_by, line_of};
+ghost use Rattle.argon2_words.specs.Refusal.{faults_after_refusal, line_of};
 ghost use Rattle.host.specs.Faults.{no_faults};
 ghost use Rattle.argon2_words.specs.declared.items.Form.TheVariants.{Encoded, Hex};
 ghost use Rattle.argon2_words.specs.declared.refusal.Argon2Refusal.TheVariants.{BadNumber, EmptyPassword, Lanes, LongPassword, Memory, MemoryLimit, MissingValue, OneForm, OutOfMemory, OutputFault, Passes, PasswordFault, SaltLength, TagLength, UnknownWord, Usage, WorkLimit};
@@ -117,7 +117,7 @@ fn lines_of_refusals()
     ensures unknown_word { line_of UnknownWord ≡ codes "argon2: unknown word" }
     ensures missing_value { line_of MissingValue ≡ codes "argon2: missing value" }
     ensures bad_number { line_of BadNumber ≡ codes "argon2: bad number" }
-    ensures one_form { line_of OneForm ≡ codes "argon2: exactly one of -e and -r is needed" }
+    ensures chosen_output_form { line_of OneForm ≡ codes "argon2: exactly one of -e and -r is needed" }
     ensures password_fault { line_of PasswordFault ≡ codes "argon2: password cannot be read" }
     ensures empty_password { line_of EmptyPassword ≡ codes "argon2: password is empty" }
     ensures long_password { line_of LongPassword ≡ codes "argon2: password is longer than 127 bytes" }
@@ -134,7 +134,7 @@ fn lines_of_refusals()
 
 // A failing call of the host raises its own count, and no other refusal raises one.
 fn counts_of_refusals()
-    ensures password { counted_by PasswordFault no_faults ≡ record { input = 0; output = 0; secrets = 1; salt = 0; lines = 0 } }
-    ensures output { counted_by OutputFault no_faults ≡ record { input = 0; output = 1; secrets = 0; salt = 0; lines = 0 } }
-    ensures memory { counted_by OutOfMemory no_faults ≡ no_faults }
+    ensures password { faults_after_refusal PasswordFault no_faults ≡ record { input = 0; output = 0; secrets = 1; salt = 0; lines = 0 } }
+    ensures output { faults_after_refusal OutputFault no_faults ≡ record { input = 0; output = 1; secrets = 0; salt = 0; lines = 0 } }
+    ensures memory { faults_after_refusal OutOfMemory no_faults ≡ no_faults }
 {}

@@ -1,6 +1,6 @@
 //! Tags of RFC 9106 and of independent programs; the limits; the plan; a refused reservation.
 ghost use Rattle.std.specs.Prelude.{◌≡◌, ◌-◌, ◌<◌, ◌^◌, true, length};
-ghost use Rattle.argon.specs.Inputs.{AreInputsOf, inputs_of};
+ghost use Rattle.argon.specs.Inputs.{InputsFitParameters, inputs_of};
 ghost use Rattle.argon.specs.Range.{is_version};
 ghost use Rattle.argon.specs.Reference.{is_independent};
 
@@ -16,8 +16,8 @@ mod version_0x10;
 use argon::compression::{Scratch, compression};
 use argon::matrix::reserve_from;
 use argon::{
-    Block, GrantedBlocks, Inputs, Kind, Lanes, Matrix, MatrixMemory, Numbers, ParamFault, Params,
-    Place, Ticks, lanes, plan_segment, write_xor, write_xor_over,
+    Block, GrantedBlocks, GrantedNumbers, Inputs, Kind, Lanes, Matrix, MatrixMemory, ParamFault,
+    Params, Place, Ticks, lanes, plan_segment, write_xor, xor_two_blocks_into,
 };
 use reference_tags::{LONGER_RUNS, LONGEST, OTHER_RUNS, RUNS};
 use rows::{has_tag, right_rows, right_rows_of, run_of};
@@ -295,7 +295,7 @@ fn hash_by_slices(
     ticks: &mut Ticks,
 ) -> [Option<(u32, u32)>; 5]
     requires one_pass { matrix.old.parameters.passes ≡ 1 }
-    requires inputs { AreInputsOf matrix.old.parameters (inputs_of inputs.now) }
+    requires inputs { InputsFitParameters matrix.old.parameters (inputs_of inputs.now) }
     requires len { length out.old ≡ matrix.old.parameters.tag_len }
 {
     matrix.start(inputs);
@@ -383,11 +383,11 @@ impl MatrixMemory for Refusing {
         Ok(GrantedBlocks::new(vec![in self.alloc; [0; 128]; count]?))
     }
 
-    fn numbers(&mut self, count: usize) -> Result<Numbers, AllocError> {
+    fn numbers(&mut self, count: usize) -> Result<GrantedNumbers, AllocError> {
         if !self.grants() {
             return Err(AllocError);
         }
-        Ok(Numbers::new(vec![in self.alloc; 0; count]?))
+        Ok(GrantedNumbers::new(vec![in self.alloc; 0; count]?))
     }
 }
 
@@ -467,7 +467,7 @@ fn agree_on(
     write_xor(&scratch.permuted, &scratch.xored, out);
     let is_same = *out == expected;
     let mut over = *second;
-    write_xor_over(&scratch.permuted, &scratch.xored, &mut over);
+    xor_two_blocks_into(&scratch.permuted, &scratch.xored, &mut over);
     for k in 0..128 {
         expected[k] ^= second[k];
     }

@@ -4,13 +4,13 @@ ghost use Rattle.std.specs.Prelude.{◌≡◌, ◌+◌, ◌-◌, ◌*◌, ◌%�
 ghost use Rattle.std.specs.List.{range_with_len};
 ghost use Rattle.argon.specs.Argon2.{argon2_tag, first_hash};
 ghost use Rattle.argon.specs.Compression.{compression};
-ghost use Rattle.argon.specs.Counts.{addresses_begun, column_work, slice_work, work};
-ghost use Rattle.argon.specs.Inputs.{AreInputsOf, inputs_of};
+ghost use Rattle.argon.specs.Counts.{address_blocks_made_at, column_work, slice_work, work};
+ghost use Rattle.argon.specs.Inputs.{InputsFitParameters, inputs_of};
 ghost use Rattle.argon.specs.Kind.{type_number};
-ghost use Rattle.argon.specs.Range.{admission, checked_parameters, checked_with_any_password};
+ghost use Rattle.argon.specs.Range.{admission, checked_parameters, checked_with_any_password_length};
 ghost use Rattle.argon.specs.Reference.{is_independent, reference_lane, reference_set, reference_words, relative_place};
-ghost use Rattle.argon.specs.Vectors.{two_lanes};
-ghost use Rattle.argon.specs.Weaving.{lane_work_left, work_left};
+ghost use Rattle.argon.specs.Vectors.{two_lane_sample_parameters};
+ghost use Rattle.argon.specs.SliceProgress.{lane_work_left, work_left};
 ghost use Rattle.argon.specs.declared.fault.ParamFault.TheVariants.{Lanes, Memory, MemoryLimit, Passes, PasswordLength, SaltLength, TagLength, WorkLimit};
 ghost use Rattle.argon.specs.declared.kind.Kind.TheVariants.{D, I, Id};
 
@@ -207,7 +207,7 @@ fn count_of_argon2d(matrix: &mut Matrix, inputs: &Inputs<'_>, out: &mut [u8], ti
       salt_len = 16;
       password_len = 32;
     } }
-    requires inputs { AreInputsOf matrix.old.parameters (inputs_of inputs.now) }
+    requires inputs { InputsFitParameters matrix.old.parameters (inputs_of inputs.now) }
     requires len { length out.old ≡ matrix.old.parameters.tag_len }
     ensures count { ticks.new ≡ ticks.old + 88 }
 {
@@ -226,7 +226,7 @@ fn count_of_argon2i(matrix: &mut Matrix, inputs: &Inputs<'_>, out: &mut [u8], ti
       salt_len = 16;
       password_len = 32;
     } }
-    requires inputs { AreInputsOf matrix.old.parameters (inputs_of inputs.now) }
+    requires inputs { InputsFitParameters matrix.old.parameters (inputs_of inputs.now) }
     requires len { length out.old ≡ matrix.old.parameters.tag_len }
     ensures count { ticks.new ≡ ticks.old + 184 }
 {
@@ -245,7 +245,7 @@ fn count_of_argon2id(matrix: &mut Matrix, inputs: &Inputs<'_>, out: &mut [u8], t
       salt_len = 16;
       password_len = 32;
     } }
-    requires inputs { AreInputsOf matrix.old.parameters (inputs_of inputs.now) }
+    requires inputs { InputsFitParameters matrix.old.parameters (inputs_of inputs.now) }
     requires len { length out.old ≡ matrix.old.parameters.tag_len }
     ensures count { ticks.new ≡ ticks.old + 104 }
 {
@@ -344,7 +344,7 @@ fn first_hash_of_the_standard()
 // The word J of a column that the second address block of its segment has, in the third pass, the second lane and the
 // last slice, as tests/library/address_block.c prints it of Debian's libargon2 0~20171227, the reference implementation.
 fn word_of_the_second_address_block()
-    ensures word { reference_words two_lanes 2 1 3 200 [] ≡ 0xC5D6A329209A6F59 }
+    ensures word { reference_words two_lane_sample_parameters 2 1 3 200 [] ≡ 0xC5D6A329209A6F59 }
 {}
 
 // W of segments of three columns, by RFC 9106, section 3.4.2, by hand: column c of pass r has the number 12 * r + c.
@@ -356,7 +356,7 @@ fn reference_sets_of_three_columns()
     ensures first_slice { reference_set 3 1 0 1 true ≡ range_with_len 3 9 }
     ensures last_slice { reference_set 3 1 3 1 true ≡ range_with_len 12 9 }
     ensures first_pass { reference_set 3 0 1 2 true ≡ range_with_len 0 4 }
-    ensures first_block { reference_set 3 0 0 2 true ≡ 0 ∷ [] }
+    ensures block_from_h0 { reference_set 3 0 0 2 true ≡ 0 ∷ [] }
 {}
 
 // J 1 of 0, of a half and of the greatest word, by RFC 9106, section 3.4.2: x is 0, a quarter and almost all.
@@ -375,41 +375,41 @@ fn numbers_of_types()
 
 // Which lane J 2 names, and which segments are addressed without blocks (RFC 9106, 3.4.1.3 and 3.4.2).
 fn lanes_and_kinds_of_segments()
-    ensures other_lane { reference_lane two_lanes 0 0 1 (2 ^ 32) ≡ 1 }
-    ensures own_lane { reference_lane two_lanes 0 1 1 (2 ^ 33) ≡ 0 }
-    ensures first_slice { reference_lane two_lanes 0 1 0 (2 ^ 33) ≡ 1 }
-    ensures first_slice_later { reference_lane two_lanes 1 1 0 (2 ^ 33) ≡ 0 }
-    ensures argon2i { is_independent two_lanes 2 3 ≡ true }
-    ensures argon2d { is_independent (record two_lanes { kind = 0 }) 0 0 ≡ false }
-    ensures argon2id { is_independent (record two_lanes { kind = 2 }) 0 1 ≡ true }
-    ensures argon2id_third_slice { is_independent (record two_lanes { kind = 2 }) 0 2 ≡ false }
-    ensures argon2id_second_pass { is_independent (record two_lanes { kind = 2 }) 1 0 ≡ false }
+    ensures other_lane { reference_lane two_lane_sample_parameters 0 0 1 (2 ^ 32) ≡ 1 }
+    ensures own_lane { reference_lane two_lane_sample_parameters 0 1 1 (2 ^ 33) ≡ 0 }
+    ensures first_slice { reference_lane two_lane_sample_parameters 0 1 0 (2 ^ 33) ≡ 1 }
+    ensures first_slice_later { reference_lane two_lane_sample_parameters 1 1 0 (2 ^ 33) ≡ 0 }
+    ensures argon2i { is_independent two_lane_sample_parameters 2 3 ≡ true }
+    ensures argon2d { is_independent (record two_lane_sample_parameters { kind = 0 }) 0 0 ≡ false }
+    ensures argon2id { is_independent (record two_lane_sample_parameters { kind = 2 }) 0 1 ≡ true }
+    ensures argon2id_third_slice { is_independent (record two_lane_sample_parameters { kind = 2 }) 0 2 ≡ false }
+    ensures argon2id_second_pass { is_independent (record two_lane_sample_parameters { kind = 2 }) 1 0 ≡ false }
 {}
 
 // Block functions of a column, of what a lane has left of a segment of 201 columns, and of what two lanes have: one for
 // each column, and two for each address block, of which the first is made with the segment. Of 4,824 blocks of a hash 4
 // come from H0; two address blocks has each of 24 segments of Argon2i, of 4 of Argon2id, and none of Argon2d.
 fn work_by_columns()
-    ensures first_column { addresses_begun 0 ≡ 0 }
-    ensures column_64 { addresses_begun 64 ≡ 0 }
-    ensures column_127 { addresses_begun 127 ≡ 0 }
-    ensures column_128 { addresses_begun 128 ≡ 1 }
-    ensures column_256 { addresses_begun 256 ≡ 1 }
-    ensures work_of_column_127 { column_work two_lanes 1 2 127 ≡ 1 }
-    ensures work_of_column_128 { column_work two_lanes 1 2 128 ≡ 3 }
-    ensures work_of_argon2d { column_work (record two_lanes { kind = 0 }) 1 2 128 ≡ 1 }
-    ensures all_left { lane_work_left two_lanes 1 2 201 ≡ 203 }
-    ensures before_column_128 { lane_work_left two_lanes 1 2 73 ≡ 75 }
-    ensures after_column_128 { lane_work_left two_lanes 1 2 72 ≡ 72 }
-    ensures none_left { lane_work_left two_lanes 1 2 0 ≡ 0 }
-    ensures left_of_argon2d { lane_work_left (record two_lanes { kind = 0 }) 1 2 201 ≡ 201 }
-    ensures slice { slice_work two_lanes 1 2 ≡ 410 }
-    ensures first_slice { slice_work two_lanes 0 0 ≡ 406 }
-    ensures whole { work two_lanes ≡ 4916 }
-    ensures whole_of_argon2id { work (record two_lanes { kind = 2 }) ≡ 4836 }
-    ensures whole_of_argon2d { work (record two_lanes { kind = 0 }) ≡ 4820 }
+    ensures first_column { address_blocks_made_at 0 ≡ 0 }
+    ensures column_64 { address_blocks_made_at 64 ≡ 0 }
+    ensures column_127 { address_blocks_made_at 127 ≡ 0 }
+    ensures column_128 { address_blocks_made_at 128 ≡ 1 }
+    ensures column_256 { address_blocks_made_at 256 ≡ 1 }
+    ensures work_of_column_127 { column_work two_lane_sample_parameters 1 2 127 ≡ 1 }
+    ensures work_of_column_128 { column_work two_lane_sample_parameters 1 2 128 ≡ 3 }
+    ensures work_of_argon2d { column_work (record two_lane_sample_parameters { kind = 0 }) 1 2 128 ≡ 1 }
+    ensures all_left { lane_work_left two_lane_sample_parameters 1 2 201 ≡ 203 }
+    ensures before_column_128 { lane_work_left two_lane_sample_parameters 1 2 73 ≡ 75 }
+    ensures after_column_128 { lane_work_left two_lane_sample_parameters 1 2 72 ≡ 72 }
+    ensures none_left { lane_work_left two_lane_sample_parameters 1 2 0 ≡ 0 }
+    ensures left_of_argon2d { lane_work_left (record two_lane_sample_parameters { kind = 0 }) 1 2 201 ≡ 201 }
+    ensures slice { slice_work two_lane_sample_parameters 1 2 ≡ 410 }
+    ensures first_slice { slice_work two_lane_sample_parameters 0 0 ≡ 406 }
+    ensures whole { work two_lane_sample_parameters ≡ 4916 }
+    ensures whole_of_argon2id { work (record two_lane_sample_parameters { kind = 2 }) ≡ 4836 }
+    ensures whole_of_argon2d { work (record two_lane_sample_parameters { kind = 0 }) ≡ 4820 }
     ensures two_lanes_left { work_left (record {
-      matrix = record { parameters = two_lanes; is_started = true; first_hash = []; slices_made = 6; blocks = [] };
+      matrix = record { parameters = two_lane_sample_parameters; is_started = true; first_hash = []; slices_made = 6; blocks = [] };
       left = 201 ∷ 72 ∷ [];
     }) ≡ 275 }
 {}
@@ -417,38 +417,38 @@ fn work_by_columns()
 // Parameters at the ends of their ranges, the first fault of several, and limits (RFC 9106, 3.1; the upper ends of tag,
 // salt and password, and the lower ends of salt and password, are own).
 fn faults_of_parameters()
-    ensures in_range { checked_parameters two_lanes ≡ Ok two_lanes }
-    ensures passes { checked_parameters (record two_lanes { passes = 0; lanes = 0; memory_kib = 0; tag_len = 0; salt_len = 0; password_len = 0 }) ≡ Err Passes }
-    ensures lanes { checked_parameters (record two_lanes { lanes = 0; memory_kib = 2 ^ 32; tag_len = 0; salt_len = 0; password_len = 0 }) ≡ Err Lanes }
-    ensures memory { checked_parameters (record two_lanes { memory_kib = 15; tag_len = 0; salt_len = 0; password_len = 0 }) ≡ Err Memory }
-    ensures tag { checked_parameters (record two_lanes { memory_kib = 16; tag_len = 3; salt_len = 0; password_len = 0 }) ≡ Err TagLength }
-    ensures salt { checked_parameters (record two_lanes { tag_len = 4; salt_len = 7; password_len = 0 }) ≡ Err SaltLength }
-    ensures password { checked_parameters (record two_lanes { tag_len = 4096; salt_len = 255; password_len = 128 }) ≡ Err PasswordLength }
-    ensures passes_above { checked_parameters (record two_lanes { passes = 2 ^ 32 }) ≡ Err Passes }
-    ensures lanes_above { checked_parameters (record two_lanes { lanes = 2 ^ 24 }) ≡ Err Lanes }
-    ensures memory_above { checked_parameters (record two_lanes { memory_kib = 2 ^ 32 }) ≡ Err Memory }
-    ensures tag_above { checked_parameters (record two_lanes { tag_len = 4097 }) ≡ Err TagLength }
-    ensures salt_above { checked_parameters (record two_lanes { salt_len = 256 }) ≡ Err SaltLength }
-    ensures admitted { admission two_lanes 1608 4916 ≡ Ok tt }
-    ensures memory_limit { admission two_lanes 1607 4915 ≡ Err MemoryLimit }
-    ensures work_limit { admission two_lanes 1608 4915 ≡ Err WorkLimit }
+    ensures in_range { checked_parameters two_lane_sample_parameters ≡ Ok two_lane_sample_parameters }
+    ensures passes { checked_parameters (record two_lane_sample_parameters { passes = 0; lanes = 0; memory_kib = 0; tag_len = 0; salt_len = 0; password_len = 0 }) ≡ Err Passes }
+    ensures lanes { checked_parameters (record two_lane_sample_parameters { lanes = 0; memory_kib = 2 ^ 32; tag_len = 0; salt_len = 0; password_len = 0 }) ≡ Err Lanes }
+    ensures memory { checked_parameters (record two_lane_sample_parameters { memory_kib = 15; tag_len = 0; salt_len = 0; password_len = 0 }) ≡ Err Memory }
+    ensures tag { checked_parameters (record two_lane_sample_parameters { memory_kib = 16; tag_len = 3; salt_len = 0; password_len = 0 }) ≡ Err TagLength }
+    ensures salt { checked_parameters (record two_lane_sample_parameters { tag_len = 4; salt_len = 7; password_len = 0 }) ≡ Err SaltLength }
+    ensures password { checked_parameters (record two_lane_sample_parameters { tag_len = 4096; salt_len = 255; password_len = 128 }) ≡ Err PasswordLength }
+    ensures passes_above { checked_parameters (record two_lane_sample_parameters { passes = 2 ^ 32 }) ≡ Err Passes }
+    ensures lanes_above { checked_parameters (record two_lane_sample_parameters { lanes = 2 ^ 24 }) ≡ Err Lanes }
+    ensures memory_above { checked_parameters (record two_lane_sample_parameters { memory_kib = 2 ^ 32 }) ≡ Err Memory }
+    ensures tag_above { checked_parameters (record two_lane_sample_parameters { tag_len = 4097 }) ≡ Err TagLength }
+    ensures salt_above { checked_parameters (record two_lane_sample_parameters { salt_len = 256 }) ≡ Err SaltLength }
+    ensures admitted { admission two_lane_sample_parameters 1608 4916 ≡ Ok tt }
+    ensures memory_limit { admission two_lane_sample_parameters 1607 4915 ≡ Err MemoryLimit }
+    ensures work_limit { admission two_lane_sample_parameters 1608 4915 ≡ Err WorkLimit }
 {}
 
 // The same with any password, whose range is that of RFC 9106, 3.1: it is tested last.
 fn faults_of_parameters_with_any_password()
-    ensures in_range { checked_with_any_password two_lanes ≡ Ok two_lanes }
-    ensures empty { checked_with_any_password (record two_lanes { password_len = 0 }) ≡ Ok (record two_lanes { password_len = 0 }) }
-    ensures longest { checked_with_any_password (record two_lanes { password_len = 2 ^ 32 - 1 })
-        ≡ Ok (record two_lanes { password_len = 2 ^ 32 - 1 }) }
-    ensures password { checked_with_any_password (record two_lanes { tag_len = 4096; salt_len = 255; password_len = 2 ^ 32 }) ≡ Err PasswordLength }
-    ensures passes { checked_with_any_password (record two_lanes { passes = 0; lanes = 0; memory_kib = 0; tag_len = 0; salt_len = 0; password_len = 2 ^ 32 }) ≡ Err Passes }
-    ensures lanes { checked_with_any_password (record two_lanes { lanes = 0; memory_kib = 2 ^ 32; tag_len = 0; salt_len = 0; password_len = 2 ^ 32 }) ≡ Err Lanes }
-    ensures memory { checked_with_any_password (record two_lanes { memory_kib = 15; tag_len = 0; salt_len = 0; password_len = 2 ^ 32 }) ≡ Err Memory }
-    ensures tag { checked_with_any_password (record two_lanes { memory_kib = 16; tag_len = 3; salt_len = 0; password_len = 2 ^ 32 }) ≡ Err TagLength }
-    ensures salt { checked_with_any_password (record two_lanes { tag_len = 4; salt_len = 7; password_len = 2 ^ 32 }) ≡ Err SaltLength }
-    ensures passes_above { checked_with_any_password (record two_lanes { passes = 2 ^ 32 }) ≡ Err Passes }
-    ensures lanes_above { checked_with_any_password (record two_lanes { lanes = 2 ^ 24 }) ≡ Err Lanes }
-    ensures memory_above { checked_with_any_password (record two_lanes { memory_kib = 2 ^ 32 }) ≡ Err Memory }
-    ensures tag_above { checked_with_any_password (record two_lanes { tag_len = 4097 }) ≡ Err TagLength }
-    ensures salt_above { checked_with_any_password (record two_lanes { salt_len = 256 }) ≡ Err SaltLength }
+    ensures in_range { checked_with_any_password_length two_lane_sample_parameters ≡ Ok two_lane_sample_parameters }
+    ensures empty { checked_with_any_password_length (record two_lane_sample_parameters { password_len = 0 }) ≡ Ok (record two_lane_sample_parameters { password_len = 0 }) }
+    ensures longest { checked_with_any_password_length (record two_lane_sample_parameters { password_len = 2 ^ 32 - 1 })
+        ≡ Ok (record two_lane_sample_parameters { password_len = 2 ^ 32 - 1 }) }
+    ensures password { checked_with_any_password_length (record two_lane_sample_parameters { tag_len = 4096; salt_len = 255; password_len = 2 ^ 32 }) ≡ Err PasswordLength }
+    ensures passes { checked_with_any_password_length (record two_lane_sample_parameters { passes = 0; lanes = 0; memory_kib = 0; tag_len = 0; salt_len = 0; password_len = 2 ^ 32 }) ≡ Err Passes }
+    ensures lanes { checked_with_any_password_length (record two_lane_sample_parameters { lanes = 0; memory_kib = 2 ^ 32; tag_len = 0; salt_len = 0; password_len = 2 ^ 32 }) ≡ Err Lanes }
+    ensures memory { checked_with_any_password_length (record two_lane_sample_parameters { memory_kib = 15; tag_len = 0; salt_len = 0; password_len = 2 ^ 32 }) ≡ Err Memory }
+    ensures tag { checked_with_any_password_length (record two_lane_sample_parameters { memory_kib = 16; tag_len = 3; salt_len = 0; password_len = 2 ^ 32 }) ≡ Err TagLength }
+    ensures salt { checked_with_any_password_length (record two_lane_sample_parameters { tag_len = 4; salt_len = 7; password_len = 2 ^ 32 }) ≡ Err SaltLength }
+    ensures passes_above { checked_with_any_password_length (record two_lane_sample_parameters { passes = 2 ^ 32 }) ≡ Err Passes }
+    ensures lanes_above { checked_with_any_password_length (record two_lane_sample_parameters { lanes = 2 ^ 24 }) ≡ Err Lanes }
+    ensures memory_above { checked_with_any_password_length (record two_lane_sample_parameters { memory_kib = 2 ^ 32 }) ≡ Err Memory }
+    ensures tag_above { checked_with_any_password_length (record two_lane_sample_parameters { tag_len = 4097 }) ≡ Err TagLength }
+    ensures salt_above { checked_with_any_password_length (record two_lane_sample_parameters { salt_len = 256 }) ≡ Err SaltLength }
 {}

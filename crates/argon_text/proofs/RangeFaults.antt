@@ -5,7 +5,7 @@ use Rattle.std.proofs.Common.{◌≡◌, ◌-◌, ◌*◌, ◌^◌, ◌<◌, ◌
 use Rattle.std.proofs.lemmas.Bool.Decides.{leb_tells}
 use Rattle.argon.specs.Range.{is_between, is_version}
 use Rattle.argon_text.specs.Inside.Capped.{IsCapped}
-use Rattle.argon_text.specs.Settings.{first_out, range_fault}
+use Rattle.argon_text.specs.Settings.{first_field_range_fault, first_encoded_range_fault}
 use Rattle.argon_text.specs.Value.{Value, is_in_range}
 use Rattle.argon_text.specs.declared.range.RangeFault.{RangeFault}
 use Rattle.argon_text.specs.declared.range.RangeFault.TheVariants as fault
@@ -28,7 +28,7 @@ all_hold true true false memory tag salt none = absurd (cc)
 all_hold true false lanes memory tag salt none = absurd (cc)
 all_hold false passes lanes memory tag salt none = absurd (cc)
 
-pub in_range_of_none : (v : Value) → range_fault v ≡ None → is_in_range v ≡ true
+pub in_range_of_none : (v : Value) → first_encoded_range_fault v ≡ None → is_in_range v ≡ true
 in_range_of_none v none =
     all_hold (is_version v.version) (is_between 1 v.passes (2 ^ 32 - 1)) (is_between 1 v.lanes (2 ^ 24 - 1))
     (is_between (8 * v.lanes) v.memory (2 ^ 32 - 1)) (is_between 4 (length v.tag) 4096) (is_between 8 (length v.salt) 255) none
@@ -58,7 +58,7 @@ same_memory lanes memory c n of_lanes of_memory =
     ]
 
 pub first_of_capped : (version passes lanes memory v p l m tag_len salt_len : ℕ) → IsCapped version v → IsCapped passes p → IsCapped lanes l
-    → IsCapped memory m → first_out version passes lanes memory tag_len salt_len ≡ first_out v p l m tag_len salt_len
+    → IsCapped memory m → first_field_range_fault version passes lanes memory tag_len salt_len ≡ first_field_range_fault v p l m tag_len salt_len
 first_of_capped version passes lanes memory v p l m tag_len salt_len of_version of_passes of_lanes of_memory =
     rw (
       same_version version v of_version,
@@ -69,6 +69,6 @@ first_of_capped version passes lanes memory v p l m tag_len salt_len of_version 
 
 -- ---- what is told of a value that is not in range
 
-pub some_out : (v : Value) (told : Option RangeFault) → told ≡ range_fault v → (is_in_range v ≡ true → ⊥) → IsSome told
+pub some_out : (v : Value) (told : Option RangeFault) → told ≡ first_encoded_range_fault v → (is_in_range v ≡ true → ⊥) → IsSome told
 some_out v None told outside = absurd (outside (in_range_of_none v (sym told)))
 some_out v (Some found) told outside = refl

@@ -1,8 +1,8 @@
 -- What reading may answer.
 use Rattle.std.specs.Prelude.{ℕ, List, Result, Ok, Err}
-use Rattle.argon_text.specs.Value.{IsValue}
-use Rattle.argon_text.specs.EncodedText.{IsTextOf}
-use Rattle.argon_text.specs.Grammar.{HasNumbers, IsText, IsTextInRange}
+use Rattle.argon_text.specs.Value.{IsEncodableValue}
+use Rattle.argon_text.specs.EncodedText.{IsEncodedTextOf}
+use Rattle.argon_text.specs.Grammar.{HasWellFormedNumbers, IsEncodedText, IsEncodedTextInRange}
 use Rattle.argon_text.specs.View.{value_of}
 use Rattle.argon_text.specs.declared.encoded.Encoded.{Encoded}
 use Rattle.argon_text.specs.declared.fault.ReadFault.{ReadFault}
@@ -10,12 +10,12 @@ use Rattle.argon_text.specs.declared.fault.ReadFault.TheVariants.{NotInGrammar, 
 
 -- a fault, by the grammar and the ranges alone; memory is asked for once the numbers are read, and refused for no
 -- other text
-abbrev pub IsFaultOf : List ℕ → ReadFault → Type 0
-IsFaultOf s NotInGrammar = IsText s → ⊥
-IsFaultOf s OutOfRange = IsText s × (IsTextInRange s → ⊥)
-IsFaultOf s OutOfMemory = HasNumbers s
+abbrev pub IsReadFaultOfText : List ℕ → ReadFault → Type 0
+IsReadFaultOfText s NotInGrammar = IsEncodedText s → ⊥
+IsReadFaultOfText s OutOfRange = IsEncodedText s × (IsEncodedTextInRange s → ⊥)
+IsReadFaultOfText s OutOfMemory = HasWellFormedNumbers s
 
 -- an answer
-abbrev pub IsAnswerOf : List ℕ → Result Encoded ReadFault → Type 0
-IsAnswerOf s (Ok e) = IsValue (value_of e) × IsTextOf (value_of e) s
-IsAnswerOf s (Err f) = IsFaultOf s f
+abbrev pub IsResultOfReading : List ℕ → Result Encoded ReadFault → Type 0
+IsResultOfReading s (Ok e) = IsEncodableValue (value_of e) × IsEncodedTextOf (value_of e) s
+IsResultOfReading s (Err f) = IsReadFaultOfText s f

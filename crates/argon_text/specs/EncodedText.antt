@@ -29,19 +29,19 @@ text_of_fields kind version memory passes lanes salt tag =
     ++ codes ",p=" ++ lanes ++ codes "$" ++ salt ++ codes "$" ++ tag
 
 -- the text of a value with this field of the version, its numbers in decimal
-abbrev pub text_with : List ℕ → Value → List ℕ
-text_with version v =
+abbrev pub text_with_version_field : List ℕ → Value → List ℕ
+text_with_version_field version v =
     text_of_fields (kind_name v.kind) version (decimal v.memory) (decimal v.passes) (decimal v.lanes)
     (base64_text v.salt) (base64_text v.tag)
 
 -- the encoded text of a value, with the field of its version
 abbrev pub encoded_text : Value → List ℕ
-encoded_text v = text_with (version_field (decimal v.version)) v
+encoded_text v = text_with_version_field (version_field (decimal v.version)) v
 
 -- the text of a value without the field of the version, as one of version 0x10 was written before texts had versions
 abbrev pub short_text : Value → List ℕ
-short_text v = text_with [] v
+short_text v = text_with_version_field [] v
 
 -- s is a text of the value: its encoded text, or, at version 0x10, the one without a version
-abbrev pub IsTextOf : Value → List ℕ → Type 0
-IsTextOf v s = (s ≡ encoded_text v) ⊎ ((v.version ≡ 0x10) × (s ≡ short_text v))
+abbrev pub IsEncodedTextOf : Value → List ℕ → Type 0
+IsEncodedTextOf v s = (s ≡ encoded_text v) ⊎ ((v.version ≡ 0x10) × (s ≡ short_text v))

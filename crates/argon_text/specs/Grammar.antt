@@ -58,12 +58,12 @@ pub record HasFields (s : List ℕ) (fields : Fields) : Type 0 where
   pub tag : is_base64 fields.tag ≡ true
 
 -- s is in the grammar of encoded texts: it is the text of some fields that have their form
-abbrev pub IsText : List ℕ → Type 0
-IsText s = (fields : Fields) × HasFields s fields
+abbrev pub IsEncodedText : List ℕ → Type 0
+IsEncodedText s = (fields : Fields) × HasFields s fields
 
 -- s is the text of some fields whose numbers have their form, whatever stands for salt and tag
-abbrev pub HasNumbers : List ℕ → Type 0
-HasNumbers s = (fields : Fields) × (s ≡ text_of fields) × AreNumbers fields
+abbrev pub HasWellFormedNumbers : List ℕ → Type 0
+HasWellFormedNumbers s = (fields : Fields) × (s ≡ text_of fields) × AreNumbers fields
 
 -- the version that a text says, by its digits: 0x10 where it has none
 abbrev pub version_said : Option (List ℕ) → ℕ
@@ -71,8 +71,8 @@ version_said None = 0x10
 version_said (Some digits) = number_value digits
 
 -- the value that fields say, if salt and tag have these bytes
-abbrev pub value_with : Fields → List ℕ → List ℕ → Value
-value_with fields salt tag = record {
+abbrev pub value_with_salt_and_tag : Fields → List ℕ → List ℕ → Value
+value_with_salt_and_tag fields salt tag = record {
   kind = fields.kind;
   version = version_said fields.version;
   memory = number_value fields.memory;
@@ -84,15 +84,15 @@ value_with fields salt tag = record {
 
 -- the value that fields say
 abbrev pub value_of_fields : Fields → Value
-value_of_fields fields = value_with fields (base64_bytes fields.salt) (base64_bytes fields.tag)
+value_of_fields fields = value_with_salt_and_tag fields (base64_bytes fields.salt) (base64_bytes fields.tag)
 
 -- s is in the grammar of encoded texts, and the value that it says lies in the ranges
-abbrev pub IsTextInRange : List ℕ → Type 0
-IsTextInRange s = (fields : Fields) × HasFields s fields × (is_in_range (value_of_fields fields) ≡ true)
+abbrev pub IsEncodedTextInRange : List ℕ → Type 0
+IsEncodedTextInRange s = (fields : Fields) × HasFields s fields × (is_in_range (value_of_fields fields) ≡ true)
 
 -- the fields of a value's text with these digits of the version, its other numbers in decimal
-abbrev pub fields_with : Option (List ℕ) → Value → Fields
-fields_with version v = record {
+abbrev pub fields_with_version : Option (List ℕ) → Value → Fields
+fields_with_version version v = record {
   kind = v.kind;
   version = version;
   memory = decimal v.memory;
@@ -104,4 +104,4 @@ fields_with version v = record {
 
 -- the fields as which a value is written, with its version
 abbrev pub fields_of_value : Value → Fields
-fields_of_value v = fields_with (Some (decimal v.version)) v
+fields_of_value v = fields_with_version (Some (decimal v.version)) v

@@ -8,8 +8,8 @@ use Rattle.argon_text.specs.declared.range.RangeFault.TheVariants as fault
 use Rattle.argon_text.specs.declared.settings.Settings.{Settings}
 
 -- all that a value says but the bytes of salt and tag, of which it keeps the lengths
-abbrev pub settings_of : Value → Settings
-settings_of v = record {
+abbrev pub settings_of_encoded_value : Value → Settings
+settings_of_encoded_value v = record {
   kind = v.kind;
   version = v.version;
   memory = v.memory;
@@ -21,8 +21,8 @@ settings_of v = record {
 
 -- the first of these that is out of its range: version, passes, lanes, memory, and the lengths of tag and salt; the
 -- ranges are those of `are_in_range`
-abbrev pub first_out : ℕ → ℕ → ℕ → ℕ → ℕ → ℕ → Option RangeFault
-first_out version passes lanes memory tag_len salt_len =
+abbrev pub first_field_range_fault : ℕ → ℕ → ℕ → ℕ → ℕ → ℕ → Option RangeFault
+first_field_range_fault version passes lanes memory tag_len salt_len =
     if not (is_version version) then Some fault.Version
     else if not (is_between 1 passes (2 ^ 32 - 1)) then Some fault.Passes
     else if not (is_between 1 lanes (2 ^ 24 - 1)) then Some fault.Lanes
@@ -32,9 +32,9 @@ first_out version passes lanes memory tag_len salt_len =
     else None
 
 -- the first of the numbers and lengths of a value that is out of its range
-abbrev pub range_fault : Value → Option RangeFault
-range_fault v = first_out v.version v.passes v.lanes v.memory (length v.tag) (length v.salt)
+abbrev pub first_encoded_range_fault : Value → Option RangeFault
+first_encoded_range_fault v = first_field_range_fault v.version v.passes v.lanes v.memory (length v.tag) (length v.salt)
 
 -- if the text is in the grammar, the answer is the first fault of the ranges of the value that the text says
 abbrev pub IsFirstFault : List ℕ → Option RangeFault → Type 0
-IsFirstFault text told = (fields : Fields) → HasFields text fields → told ≡ range_fault (value_of_fields fields)
+IsFirstFault text told = (fields : Fields) → HasFields text fields → told ≡ first_encoded_range_fault (value_of_fields fields)

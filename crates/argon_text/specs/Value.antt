@@ -31,7 +31,7 @@ abbrev pub is_in_range : Value → Bool
 is_in_range v = are_in_range v.version v.memory v.passes v.lanes (length v.salt) (length v.tag)
 
 -- a value that an `Encoded` can have
-pub record IsValue (v : Value) : Type 0 where
+pub record IsEncodableValue (v : Value) : Type 0 where
   pub in_range : is_in_range v ≡ true
   pub salt : IsBytes v.salt
   pub tag : IsBytes v.tag

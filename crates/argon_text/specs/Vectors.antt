@@ -6,8 +6,8 @@ use Rattle.argon_text.specs.Grammar.{Fields}
 use Rattle.argon_text.specs.Value.{Value}
 
 -- what the text says
-abbrev pub known_value : Value
-known_value = record {
+abbrev pub sample_encoded_value : Value
+sample_encoded_value = record {
   kind = D;
   version = 0x13;
   memory = 8;
@@ -19,12 +19,12 @@ known_value = record {
 }
 
 -- the text
-abbrev pub known_text : List ℕ
-known_text = codes "$argon2d$v=19$m=8,t=1,p=1$c29tZXNhbHQ$xRnmA6xgPsGutbcexEpheePzl1sUwMl+ORTHnmNj4Xg"
+abbrev pub sample_encoded_text : List ℕ
+sample_encoded_text = codes "$argon2d$v=19$m=8,t=1,p=1$c29tZXNhbHQ$xRnmA6xgPsGutbcexEpheePzl1sUwMl+ORTHnmNj4Xg"
 
 -- its fields
-abbrev pub known_fields : Fields
-known_fields = record {
+abbrev pub sample_encoded_fields : Fields
+sample_encoded_fields = record {
   kind = D;
   version = Some (codes "19");
   memory = codes "8";
@@ -35,8 +35,8 @@ known_fields = record {
 }
 
 -- what the second text says
-abbrev pub old_value : Value
-old_value = record {
+abbrev pub version_16_sample_value : Value
+version_16_sample_value = record {
   kind = I;
   version = 0x10;
   memory = 256;
@@ -48,8 +48,8 @@ old_value = record {
 }
 
 -- the second text
-abbrev pub old_text : List ℕ
-old_text = codes "$argon2i$v=16$m=256,t=2,p=1$c29tZXNhbHQ$/U3YPXYsSb3q9XxHvc0MLxur+GP960kN9j7emXX8zwY"
+abbrev pub version_16_sample_text : List ℕ
+version_16_sample_text = codes "$argon2i$v=16$m=256,t=2,p=1$c29tZXNhbHQ$/U3YPXYsSb3q9XxHvc0MLxur+GP960kN9j7emXX8zwY"
 
 -- the second text without its version
 abbrev pub old_short_text : List ℕ

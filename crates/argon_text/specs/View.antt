@@ -16,8 +16,8 @@ value_of e = record {
 }
 
 -- the value of a `HashView`, by the bytes that are lent
-abbrev pub value_viewed : HashView → Value
-value_viewed view = record {
+abbrev pub encoded_value_of_hash_view : HashView → Value
+encoded_value_of_hash_view view = record {
   kind = view.kind;
   version = view.version;
   memory = view.memory;

@@ -44,14 +44,14 @@ impl Encoded {
         ensures err { OnErr result (out.new.items ≡ out.old.items) }
     {
         let mut source = *out.allocator();
-        self.write_in(&mut source, out)
+        self.write_with_memory(&mut source, out)
     }
 
     /// Appends the encoded text as `write` does, with memory from `source`: the heap (`Global`), or a source of
     /// the caller's. After a refusal `out` is unchanged. Contracts see no request; tests count them: 21 at most,
     /// two for the symbols of salt and tag, two for the name of the type, three for each of the four numbers,
     /// two for each of the two parts after them, and one for `out`, and none after one that was refused.
-    pub fn write_in<R: TextMemory>(
+    pub fn write_with_memory<R: TextMemory>(
         &self,
         source: &mut R,
         out: &mut Vec<u8>,
@@ -87,7 +87,7 @@ impl Encoded {
 /// Writes a tag over the tag of an encoded text, of the same length: its symbols take the place of as many at the end of
 /// `text`, which stays where it has fewer. It takes no memory: whoever makes the text before the hash, with any tag, is
 /// refused nothing after it.
-pub fn put_tag(text: &mut [u8], tag: &[u8])
+pub fn replace_tag(text: &mut [u8], tag: &[u8])
     ensures text { (v : Value) → text.old ≡ encoded_text v → length v.tag ≡ length tag.now
         → text.new ≡ encoded_text (record v { tag = tag.now }) }
     // Of any text the end is written over, and what is before it stays.

@@ -52,7 +52,7 @@ impl<'a> Reader<'a> {
     fn until(&mut self, mark: u8) -> Option<&'a [u8]>
         ensures found { Steps (λ part. part.now) result self.new (cut mark self.old) }
     {
-        let place = place_of(self.left, mark)?;
+        let place = index_of_byte_in_text(self.left, mark)?;
         let (before, from) = self.left.split_at(place);
         self.left = &from[1..];
         Some(before)
@@ -132,7 +132,7 @@ impl<'a> Reader<'a> {
 }
 
 // The place of the first byte `mark`.
-fn place_of(text: &[u8], mark: u8) -> Option<usize>
+fn index_of_byte_in_text(text: &[u8], mark: u8) -> Option<usize>
     ensures place { result ≡ position (λ x. x == mark) text.now }
 {
     text.iter().position(|byte| *byte == mark)

@@ -25,12 +25,7 @@ pub trait HashMemory {
 impl HashMemory for Global {
     ghost after_matrix = { λ source _ _ _ _. source };
 
-    fn matrix(
-        &mut self,
-        params: &Params,
-        _max_kib: u32,
-        _max_ops: u64,
-    ) -> Result<Matrix, AllocError> {
+    fn matrix(&mut self, params: &Params, _: u32, _: u64) -> Result<Matrix, AllocError> {
         Matrix::reserve(*self, params)
     }
 }

@@ -28,11 +28,11 @@ pub struct HashView<'a> {
 }
 
 impl<'a> HashView<'a> {
-    ghost use Rattle.argon_text.specs.View.{value_viewed, value_of};
+    ghost use Rattle.argon_text.specs.View.{encoded_value_of_hash_view, value_of};
 
     /// What this value lends.
     pub fn of(encoded: &'a Encoded) -> HashView<'a>
-        ensures value { value_viewed result ≡ value_of encoded.now }
+        ensures value { encoded_value_of_hash_view result ≡ value_of encoded.now }
     {
         HashView {
             kind: encoded.kind,

@@ -36,12 +36,12 @@ mod text_memory;
 mod verify_password;
 
 pub use decode_memory::DecodeMemory;
-pub use encoded::{Encoded, put_tag};
+pub use encoded::{Encoded, replace_tag};
 pub use fault::{ReadFault, VerifyFault};
 pub use hash_memory::HashMemory;
 pub use hash_view::HashView;
-pub use range::{RangeFault, range_fault};
-pub use read::read_from;
+pub use range::{RangeFault, first_encoded_range_fault};
+pub use read::read_encoded_with_memory;
 pub use settings::Settings;
 pub use text_memory::TextMemory;
 pub use verify_password::{verify, verify_keyed};

@@ -2,9 +2,9 @@
 ghost use Rattle.std.specs.Prelude.{◌≡◌, ◌^◌, ◌<◌, ◌≤◌, true, length, IsSome};
 ghost use Rattle.argon.specs.Range.{is_between};
 ghost use Rattle.argon_text.specs.Base64.{base64_bytes};
-ghost use Rattle.argon_text.specs.Grammar.{AreNumbers, IsText, IsTextInRange, is_number, number_value, value_of_fields, version_said};
+ghost use Rattle.argon_text.specs.Grammar.{AreNumbers, IsEncodedText, IsEncodedTextInRange, is_number, number_value, value_of_fields, version_said};
 ghost use Rattle.argon_text.specs.Inside.FieldsRead.{fields_of};
-ghost use Rattle.argon_text.specs.Settings.{IsFirstFault, first_out, range_fault};
+ghost use Rattle.argon_text.specs.Settings.{IsFirstFault, first_field_range_fault, first_encoded_range_fault};
 ghost use Rattle.argon_text.specs.Inside.Capped.{IsCapped};
 
 use crate::fields::{Fields, fields_in};
@@ -37,19 +37,19 @@ pub enum RangeFault {
 
 /// The first part of an encoded text that is out of range, or None where all of it is in range. It takes no memory. Of
 /// bytes that are no encoded text it tells nothing.
-pub fn range_fault(text: &[u8]) -> Option<RangeFault>
+pub fn first_encoded_range_fault(text: &[u8]) -> Option<RangeFault>
     ensures first { IsFirstFault text.now result }
     // So one is told of each text for which `Encoded::read` says that a value is out of range.
-    ensures found { IsText text.now → (IsTextInRange text.now → ⊥) → IsSome result }
+    ensures found { IsEncodedText text.now → (IsEncodedTextInRange text.now → ⊥) → IsSome result }
 {
     let fields = fields_in(text)?;
-    fault_of(&fields)
+    range_fault_of_fields(&fields)
 }
 
 // The first of the fields that is out of range. A number of 2^32 or more is out of it as 2^32 is.
-fn fault_of(fields: &Fields<'_>) -> Option<RangeFault>
+fn range_fault_of_fields(fields: &Fields<'_>) -> Option<RangeFault>
     requires numbers { AreNumbers (fields_of fields.now) }
-    ensures first { result ≡ range_fault (value_of_fields (fields_of fields.now)) }
+    ensures first { result ≡ first_encoded_range_fault (value_of_fields (fields_of fields.now)) }
 {
     let version = version_of(fields);
     let passes = capped(fields.passes);
@@ -57,7 +57,7 @@ fn fault_of(fields: &Fields<'_>) -> Option<RangeFault>
     let memory = capped(fields.memory);
     let tag_len = bytes_of(fields.tag);
     let salt_len = bytes_of(fields.salt);
-    first_out(version, passes, lanes, memory, tag_len, salt_len)
+    first_field_range_fault(version, passes, lanes, memory, tag_len, salt_len)
 }
 
 // The version that the fields say, where there is one.
@@ -72,7 +72,7 @@ fn version_of(fields: &Fields<'_>) -> u64
 }
 
 // The first of these that is out of range.
-fn first_out(
+fn first_field_range_fault(
     version: u64,
     passes: u64,
     lanes: u64,
@@ -81,7 +81,7 @@ fn first_out(
     salt_len: u64,
 ) -> Option<RangeFault>
     requires small { lanes ≤ 2 ^ 32 }
-    ensures first { result ≡ first_out version passes lanes memory tag_len salt_len }
+    ensures first { result ≡ first_field_range_fault version passes lanes memory tag_len salt_len }
 {
     if version != 0x10 && version != 0x13 {
         Some(RangeFault::Version)

@@ -2,12 +2,12 @@
 ghost use Rattle.std.specs.Prelude.{◌≡◌, ◌≤◌, ◌+◌, ◌^◌, ◌⊎◌, true, false, is_ok, length, None, IfSome, IfOk, IfErr, OnOk, OnErr, IsErrOf, MatchOption, MatchResult};
 ghost use Rattle.std.specs.Char.{is_ascii_digit};
 ghost use Rattle.base64.specs.GeneralPurpose.{IsBytes};
-ghost use Rattle.argon_text.specs.Answer.{IsAnswerOf};
+ghost use Rattle.argon_text.specs.Answer.{IsResultOfReading};
 ghost use Rattle.argon_text.specs.Inside.Base64Fault.{IsBase64Fault};
-ghost use Rattle.argon_text.specs.EncodedText.{IsTextOf, base64_text};
-ghost use Rattle.argon_text.specs.Grammar.{AreNumbers, HasNumbers, IsText, IsTextInRange, is_number, number_value, value_with};
+ghost use Rattle.argon_text.specs.EncodedText.{IsEncodedTextOf, base64_text};
+ghost use Rattle.argon_text.specs.Grammar.{AreNumbers, HasWellFormedNumbers, IsEncodedText, IsEncodedTextInRange, is_number, number_value, value_with_salt_and_tag};
 ghost use Rattle.argon_text.specs.Reading.{fields_at};
-ghost use Rattle.argon_text.specs.Value.{IsValue, Value, are_in_range, is_in_range};
+ghost use Rattle.argon_text.specs.Value.{IsEncodableValue, Value, are_in_range, is_in_range};
 ghost use Rattle.argon_text.specs.View.{value_of};
 ghost use Rattle.argon_text.specs.Inside.FieldsRead.{fields_of};
 
@@ -28,19 +28,19 @@ impl Encoded {
     /// with a value out of range (`Encoded` has the ranges), 3 where memory was refused.
     pub fn read(alloc: Global, text: &[u8]) -> Result<Encoded, ReadFault>
         // What is read is a text of the value, each byte of it.
-        ensures found { IfOk result (λ e. IsTextOf (value_of e) text.now) }
-        ensures value { IfOk result (λ e. IsValue (value_of e)) }
-        ensures not_in_grammar { IsErrOf result ReadFault.NotInGrammar → IsText text.now → ⊥ }
+        ensures found { IfOk result (λ e. IsEncodedTextOf (value_of e) text.now) }
+        ensures value { IfOk result (λ e. IsEncodableValue (value_of e)) }
+        ensures not_in_grammar { IsErrOf result ReadFault.NotInGrammar → IsEncodedText text.now → ⊥ }
         ensures out_of_range { IsErrOf result ReadFault.OutOfRange
-            → IsText text.now × (IsTextInRange text.now → ⊥) }
+            → IsEncodedText text.now × (IsEncodedTextInRange text.now → ⊥) }
         // Memory is refused of no text but one whose numbers have their form.
-        ensures out_of_memory { IsErrOf result ReadFault.OutOfMemory → HasNumbers text.now }
+        ensures out_of_memory { IsErrOf result ReadFault.OutOfMemory → HasWellFormedNumbers text.now }
         // A text of a value is read, unless memory is refused.
-        ensures again { (v : Value) → IsValue v → IsTextOf v text.now
+        ensures again { (v : Value) → IsEncodableValue v → IsEncodedTextOf v text.now
             → MatchResult result (λ e. value_of e ≡ v) (λ f. f ≡ ReadFault.OutOfMemory) }
     {
         let mut source = alloc;
-        read_from(&mut source, text)
+        read_encoded_with_memory(&mut source, text)
     }
 }
 
@@ -53,8 +53,11 @@ impl Encoded {
 ///
 /// The faults, by their numbers: 1 where the bytes are no encoded text, 2 where they are one with a
 /// value out of range (`Encoded` has the ranges), 3 where memory was refused.
-pub fn read_from<R: DecodeMemory>(source: &mut R, text: &[u8]) -> Result<Encoded, ReadFault>
-    ensures answer { IsAnswerOf text.now result }
+pub fn read_encoded_with_memory<R: DecodeMemory>(
+    source: &mut R,
+    text: &[u8],
+) -> Result<Encoded, ReadFault>
+    ensures answer { IsResultOfReading text.now result }
     // Nothing is asked of the source of memory for a text whose fields are not found.
     ensures unasked { fields_at text.now ≡ None → source.new ≡ source.old }
     // For any other the bytes of the salt are asked for, and then, unless that was refused, those of the tag.
@@ -69,22 +72,22 @@ pub fn read_from<R: DecodeMemory>(source: &mut R, text: &[u8]) -> Result<Encoded
     let Some(fields) = fields_in(text) else {
         return Err(ReadFault::NotInGrammar);
     };
-    let salt = decoded(source, fields.salt)?;
-    let tag = decoded(source, fields.tag)?;
-    match encoded_of(&fields, salt, tag) {
+    let salt = decode_base64(source, fields.salt)?;
+    let tag = decode_base64(source, fields.tag)?;
+    match encoded_from_fields(&fields, salt, tag) {
         Some(encoded) => Ok(encoded),
         None => Err(ReadFault::OutOfRange),
     }
 }
 
 // The bytes that symbols of base64 stand for.
-fn decoded<R: DecodeMemory>(source: &mut R, symbols: &[u8]) -> Result<Vec<u8>, ReadFault>
+fn decode_base64<R: DecodeMemory>(source: &mut R, symbols: &[u8]) -> Result<Vec<u8>, ReadFault>
     ensures bytes { IfOk result (λ bytes. IsBytes bytes.items) }
     ensures text { IfOk result (λ bytes. symbols.now ≡ base64_text bytes.items) }
     ensures err { IfErr result (IsBase64Fault symbols.now) }
     ensures asked { source.new ≡ R.after_decoded source.old symbols.now (is_ok result) }
 {
-    match source.decoded(symbols) {
+    match source.decode_base64(symbols) {
         Ok(bytes) => Ok(bytes),
         Err(DecodeAllocError::OutOfMemory) => Err(ReadFault::OutOfMemory),
         Err(DecodeAllocError::DecodeError(_)) => Err(ReadFault::NotInGrammar),
@@ -92,11 +95,11 @@ fn decoded<R: DecodeMemory>(source: &mut R, symbols: &[u8]) -> Result<Vec<u8>, R
 }
 
 // The value of the fields, where it is in range.
-fn encoded_of(fields: &Fields<'_>, salt: Vec<u8>, tag: Vec<u8>) -> Option<Encoded>
+fn encoded_from_fields(fields: &Fields<'_>, salt: Vec<u8>, tag: Vec<u8>) -> Option<Encoded>
     requires numbers { AreNumbers (fields_of fields.now) }
     ensures value { MatchOption result
-        (is_in_range (value_with (fields_of fields.now) salt.items tag.items) ≡ false)
-        (λ e. value_of e ≡ value_with (fields_of fields.now) salt.items tag.items) }
+        (is_in_range (value_with_salt_and_tag (fields_of fields.now) salt.items tag.items) ≡ false)
+        (λ e. value_of e ≡ value_with_salt_and_tag (fields_of fields.now) salt.items tag.items) }
 {
     let version = match fields.version {
         None => 0x10,

@@ -1,6 +1,6 @@
 //! The settings of a hash, as its encoded text says them.
 ghost use Rattle.std.specs.Prelude.{◌≡◌, ◌≢◌, ◌↔◌, IsTrue};
-ghost use Rattle.argon_text.specs.Settings.{settings_of};
+ghost use Rattle.argon_text.specs.Settings.{settings_of_encoded_value};
 ghost use Rattle.argon_text.specs.View.{value_of};
 
 use crate::encoded::Encoded;
@@ -28,7 +28,7 @@ pub struct Settings {
 impl Encoded {
     /// The settings by which the hash was made. No password is tested.
     pub fn settings(&self) -> Settings
-        ensures settings { result ≡ settings_of (value_of self.now) }
+        ensures settings { result ≡ settings_of_encoded_value (value_of self.now) }
     {
         Settings {
             kind: self.kind,
@@ -44,7 +44,7 @@ impl Encoded {
     /// Whether the hash was made by other settings than these, weaker or stronger: then it is made anew when the password
     /// is there next, after a good login.
     pub fn needs_rehash(&self, wanted: &Settings) -> bool
-        ensures other { IsTrue result ↔ settings_of (value_of self.now) ≢ wanted.now }
+        ensures other { IsTrue result ↔ settings_of_encoded_value (value_of self.now) ≢ wanted.now }
     {
         self.settings() != *wanted
     }

@@ -6,7 +6,7 @@ ghost use Rattle.argon_text.specs.EncodedText.{base64_text};
 use base64::engine::general_purpose::STANDARD_NO_PAD;
 use std::alloc::{AllocError, Global};
 
-/// Where `Encoded::write_in` takes the memory of a text: the heap (`Global`), or a type of the caller's that counts
+/// Where `Encoded::write_with_memory` takes the memory of a text: the heap (`Global`), or a type of the caller's that counts
 /// requests or refuses some.
 pub trait TextMemory {
     /// A text of no bytes, for which nothing is asked for.

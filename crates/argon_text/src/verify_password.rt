@@ -1,9 +1,9 @@
 //! Whether a password gives the tag of a value.
-ghost use Rattle.std.specs.Prelude.{◌≡◌, ◌+◌, ◌<◌, ◌^◌, ◌↔◌, None, Ok, true, false, nat_le, length, IfOk, IfErr, OnOk, OnErr, IsTrue};
+ghost use Rattle.std.specs.Prelude.{◌≡◌, ◌+◌, ◌<◌, ◌^◌, None, Ok, true, false, nat_le, length, IfOk, IfErr, OnOk, OnErr};
 ghost use Rattle.argon.specs.Counts.{work};
 ghost use Rattle.argon.specs.Range.{admission};
-ghost use Rattle.argon_text.specs.Verifying.{IsToldFault, keyed_fault, keyed_tag, parameters_with, tag_of_password, verify_fault, AsksLast, HashesOnce, MatrixGranted, MatrixRefused};
-ghost use Rattle.argon_text.specs.View.{value_viewed};
+ghost use Rattle.argon_text.specs.Verifying.{IsToldFault, keyed_verify_fault, keyed_tag, parameters_of_value, tag_of_password, verify_fault, RequestsMemoryLast, HashesOnce, TellsSame};
+ghost use Rattle.argon_text.specs.View.{encoded_value_of_hash_view};
 
 use crate::fault::VerifyFault;
 use crate::hash_memory::HashMemory;
@@ -29,22 +29,17 @@ pub fn verify<R: HashMemory>(
     max_ops: u64,
     ticks: &mut Ticks,
 ) -> Result<bool, VerifyFault>
-    ensures answer { IfOk result (λ same. IsTrue same
-        ↔ tag_of_password (value_viewed view.now) password.now ≡ view.now.tag.now) }
+    ensures answer { TellsSame result (tag_of_password (encoded_value_of_hash_view view.now) password.now) view.now.tag.now }
     // There is an answer only where the password's length and both limits are kept.
-    ensures admitted { IfOk result (λ _. verify_fault (value_viewed view.now) password.now max_kib max_ops ≡ None) }
+    ensures admitted { IfOk result (λ _. verify_fault (encoded_value_of_hash_view view.now) password.now max_kib max_ops ≡ None) }
     // What is told is the first that holds, and memory was asked for where none does.
-    ensures fault { IfErr result (IsToldFault (verify_fault (value_viewed view.now) password.now max_kib max_ops)) }
-    // Nothing is asked of the source of memory before every other refusal is ruled out.
-    ensures unasked { AsksLast result source.old source.new }
-    // And then the matrix alone, under the caller's own limits; want of memory is told where that was refused.
-    ensures asked { MatrixGranted R.after_matrix (value_viewed view.now) password.now max_kib max_ops
-        result source.old source.new }
-    ensures refused { MatrixRefused R.after_matrix (value_viewed view.now) password.now max_kib max_ops
+    ensures fault { IfErr result (IsToldFault (verify_fault (encoded_value_of_hash_view view.now) password.now max_kib max_ops)) }
+    // Nothing is asked of the source of memory before every other refusal is ruled out, and then the matrix alone, under
+    // the caller's own limits; want of memory is told where that was refused.
+    ensures asked { RequestsMemoryLast R.after_matrix (encoded_value_of_hash_view view.now) password.now max_kib max_ops
         result source.old source.new }
     // No block function is run before every refusal is ruled out, that of memory too, and then those of one hash.
-    ensures no_work { IfErr result (λ _. ticks.new ≡ ticks.old) }
-    ensures count { HashesOnce (value_viewed view.now) password.now result ticks.old ticks.new }
+    ensures works { HashesOnce (encoded_value_of_hash_view view.now) password.now result ticks.old ticks.new }
 {
     if !is_between(1, password.len() as u64, 127) {
         return Err(VerifyFault::PasswordLength);
@@ -68,28 +63,24 @@ pub fn verify_keyed<R: HashMemory>(
     max_ops: u64,
     ticks: &mut Ticks,
 ) -> Result<bool, VerifyFault>
-    ensures answer { IfOk result (λ same. IsTrue same
-        ↔ keyed_tag (value_viewed view.now) password.now secret.now associated.now ≡ view.now.tag.now) }
+    ensures answer { TellsSame result
+        (keyed_tag (encoded_value_of_hash_view view.now) password.now secret.now associated.now) view.now.tag.now }
     // There is an answer only where the lengths and both limits are kept.
     ensures admitted { IfOk result (λ _.
-        keyed_fault (value_viewed view.now) password.now (length secret.now) (length associated.now) max_kib max_ops
+        keyed_verify_fault (encoded_value_of_hash_view view.now) password.now (length secret.now) (length associated.now) max_kib max_ops
         ≡ None) }
     // What is told is the first that holds, and memory was asked for where none does.
     ensures fault { IfErr result (IsToldFault
-        (keyed_fault (value_viewed view.now) password.now (length secret.now)
+        (keyed_verify_fault (encoded_value_of_hash_view view.now) password.now (length secret.now)
         (length associated.now) max_kib max_ops)) }
-    // Nothing is asked of the source of memory before every other refusal is ruled out.
-    ensures unasked { AsksLast result source.old source.new }
-    // And then the matrix alone, under the caller's own limits; want of memory is told where that was refused.
-    ensures asked { MatrixGranted R.after_matrix (value_viewed view.now) password.now max_kib max_ops
-        result source.old source.new }
-    ensures refused { MatrixRefused R.after_matrix (value_viewed view.now) password.now max_kib max_ops
+    // Nothing is asked of the source of memory before every other refusal is ruled out, and then the matrix alone, under
+    // the caller's own limits; want of memory is told where that was refused.
+    ensures asked { RequestsMemoryLast R.after_matrix (encoded_value_of_hash_view view.now) password.now max_kib max_ops
         result source.old source.new }
     // No block function is run before every refusal is ruled out, that of memory too, and then those of one hash.
-    ensures no_work { IfErr result (λ _. ticks.new ≡ ticks.old) }
-    ensures count { HashesOnce (value_viewed view.now) password.now result ticks.old ticks.new }
+    ensures works { HashesOnce (encoded_value_of_hash_view view.now) password.now result ticks.old ticks.new }
 {
-    let params = params_of(view, password)?;
+    let params = params_of_hash(view, password)?;
     if secret.len() > 0xFFFF_FFFF || associated.len() > 0xFFFF_FFFF {
         return Err(VerifyFault::InputLength);
     }
@@ -114,13 +105,13 @@ pub fn verify_keyed<R: HashMemory>(
 }
 
 // The parameters of the hash. All but the password's length are in range.
-fn params_of(view: &HashView<'_>, password: &[u8]) -> Result<Params, VerifyFault>
-    ensures parameters { IfOk result (λ params. params ≡ parameters_with (value_viewed view.now) password.now) }
+fn params_of_hash(view: &HashView<'_>, password: &[u8]) -> Result<Params, VerifyFault>
+    ensures parameters { IfOk result (λ params. params ≡ parameters_of_value (encoded_value_of_hash_view view.now) password.now) }
     ensures admitted { IfOk result (λ _. nat_le (length password.now) 0xFFFFFFFF ≡ true) }
     ensures fault { IfErr result (λ fault. (nat_le (length password.now) 0xFFFFFFFF ≡ false)
         × (fault ≡ VerifyFault.PasswordLength)) }
 {
-    match Params::with_any_password(
+    match Params::with_any_password_length(
         view.kind,
         view.version,
         view.passes,
@@ -147,12 +138,12 @@ fn write_tag<R: HashMemory>(
     ticks: &mut Ticks,
 ) -> Result<(), AllocError>
     requires admitted { admission params.now max_kib max_ops ≡ Ok tt }
-    requires parameters { params.now ≡ parameters_with (value_viewed view.now) inputs.now.password.now }
+    requires parameters { params.now ≡ parameters_of_value (encoded_value_of_hash_view view.now) inputs.now.password.now }
     requires salt { inputs.now.salt.now ≡ view.now.salt.now }
     requires secret { length inputs.now.secret.now < 2 ^ 32 }
     requires associated { length inputs.now.associated.now < 2 ^ 32 }
     requires size { length out.old ≡ length view.now.tag.now }
-    ensures tag { OnOk result (out.new ≡ keyed_tag (value_viewed view.now) inputs.now.password.now
+    ensures tag { OnOk result (out.new ≡ keyed_tag (encoded_value_of_hash_view view.now) inputs.now.password.now
         inputs.now.secret.now inputs.now.associated.now) }
     ensures asked { OnOk result (source.new ≡ R.after_matrix source.old params.now max_kib max_ops true) }
     ensures refused { OnErr result (source.new ≡ R.after_matrix source.old params.now max_kib max_ops false) }

@@ -13,7 +13,7 @@ mod version_0x10;
 
 use self::refusing::RefusingText;
 use argon::Kind;
-use argon_text::{Encoded, put_tag};
+use argon_text::{Encoded, replace_tag};
 use std::alloc::{AllocError, Global};
 use verifying::tested;
 
@@ -134,7 +134,7 @@ static PUT_TAGS: [PutTag; 4] = [
 fn is_put(alloc: Global, row: &PutTag) -> bool {
     match row.before.as_bytes().to_vec(alloc) {
         Ok(mut text) => {
-            put_tag(&mut text, row.tag);
+            replace_tag(&mut text, row.tag);
             text.as_slice() == row.after.as_bytes()
         }
         Err(_) => false,
@@ -169,7 +169,7 @@ fn is_all_or_nothing_at(alloc: Global, value: &Encoded, refused: u32) -> bool {
         asked: 0,
         refused,
     };
-    let is_written = value.write_in(&mut source, &mut out).is_ok();
+    let is_written = value.write_with_memory(&mut source, &mut out).is_ok();
     let expected = if refused == 22 {
         b"before: $argon2d$v=19$m=8,t=1,p=1$c29tZXNhbHQ$eT/2lA".as_slice()
     } else {

@@ -2,11 +2,11 @@
 ghost use Rattle.std.specs.Prelude.{◌≡◌, ◌≤◌, IsTrue};
 ghost use Rattle.host.specs.Faults.{no_faults};
 ghost use Rattle.argon_tool.specs.Program.{ProgramRefuses, ProgramSucceeds};
-ghost use Rattle.tools.specs.World.{IsUnused};
+ghost use Rattle.tools.specs.SystemState.{IsUnused};
 
 use argon2_command::{Argon2Refusal, argon2};
 use std::alloc::Global;
-use tools::{FailureCounts, System, SystemHost, WordsFault, words};
+use tools::{RunFailureCounts, System, SystemHost, WordsFault, words};
 
 /// `argon2` with the words of a process, over a system of which nothing was used. It gives the status, the
 /// system as the run left it, and how often each kind of call has failed. Nothing else is kept of the system:
@@ -14,14 +14,14 @@ use tools::{FailureCounts, System, SystemHost, WordsFault, words};
 ///
 /// This is what the program promises: over every system that tells its bytes, they, the line and the
 /// status are what the definitions of `argon2_command` make of the words and of what the system gives.
-pub fn run<S: System>(alloc: Global, system: S) -> (u8, S, FailureCounts<S>)
-    requires unused { IsTrue S.tells → IsUnused (S.world system) }
+pub fn run<S: System>(alloc: Global, system: S) -> (u8, S, RunFailureCounts<S>)
+    requires unused { IsTrue S.tells → IsUnused (S.state system) }
     ensures status { result.0 ≤ 1 }
     ensures counts { result.0 ≡ 0 → result.2 ≡ no_faults }
     ensures succeeds { IsTrue S.tells → result.0 ≡ 0 →
-        ProgramSucceeds (S.words system) (S.world system) (S.world result.1) }
+        ProgramSucceeds (S.words system) (S.state system) (S.state result.1) }
     ensures refuses { IsTrue S.tells → result.0 ≡ 1 →
-        ProgramRefuses S.tells (S.words system) (S.world system) (S.world result.1) result.2 }
+        ProgramRefuses S.tells (S.words system) (S.state system) (S.state result.1) result.2 }
 {
     let read = words(&system, alloc);
     let mut host = SystemHost::new(system);

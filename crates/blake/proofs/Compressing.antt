@@ -5,13 +5,13 @@ use Rattle.std.specs.Prelude.{if◌then◌else◌}
 use Rattle.std.proofs.lemmas.List.{take_more_set}
 use Rattle.std.proofs.lemmas.List.FromFn.{fill_by_all}
 use Rattle.std.proofs.Math.Nat.{mod-eq_of_lt, div-eq_of_lt}
-use Rattle.blake.specs.Blake2b.{iv, work_vector, new_state}
+use Rattle.blake.specs.Blake2b.{iv, work_vector, state_xored_with_halves}
 
 -- one more word of the state
-pub new_state_more : (i x : ℕ) (h now v : List ℕ) → i < length now → take i now ≡ new_state i h v → slice_index now i ≡ slice_index h i
+pub new_state_more : (i x : ℕ) (h now v : List ℕ) → i < length now → take i now ≡ state_xored_with_halves i h v → slice_index now i ≡ slice_index h i
     → x ≡ bit_xor (bit_xor (slice_index now i) (slice_index v i)) (slice_index v (i + 8))
-    → take (i + 1) (set now i x) ≡ new_state (i + 1) h v
-unfolding new_state
+    → take (i + 1) (set now i x) ≡ state_xored_with_halves (i + 1) h v
+unfolding state_xored_with_halves
 new_state_more i x h now v lt done at e =
     take_more_set now i x lt ∙ rw (add-one, done, e, at) refl
 

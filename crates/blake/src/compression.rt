@@ -1,7 +1,7 @@
 //! The compression function F of BLAKE2b and the steps in it (RFC 7693, 2.6 to 3.2).
-ghost use Rattle.std.specs.Prelude.{◌≡◌, ℕ, ◌<◌, EachIndex, List, [], ◌∷◌, slice_index};
+ghost use Rattle.std.specs.Prelude.{◌≡◌, ◌<◌, EachIndex, [], ◌∷◌, slice_index};
 ghost use Rattle.blake.specs.Words.{along};
-ghost use Rattle.blake.specs.Blake2b.{compress, mix, mixings, new_state, work_vector};
+ghost use Rattle.blake.specs.Blake2b.{compress, mix, vector_after_mixings, state_xored_with_halves, work_vector};
 
 use byteorder::{ByteOrder, LittleEndian};
 
@@ -57,37 +57,21 @@ fn mix(v: &mut [u64; 16], a: usize, b: usize, c: usize, d: usize, x: u64, y: u64
     v[d] = whole_d;
 }
 
-// The first four mixings of a round, in the letters of RFC 7693, 3.2: v is the work vector, of which
-// they take the columns, m the words of the block, and s the row of SIGMA that gives their order.
-fn mix_columns(v: &mut [u64; 16], m: &[u64; 16], s: &[usize; 16])
+// One round, in the letters of RFC 7693, 3.2: v is the work vector, of which the first four mixings take the
+// columns and the last four the diagonals, m the words of the block, and s the row of SIGMA that gives
+// their order.
+fn round(v: &mut [u64; 16], m: &[u64; 16], s: &[usize; 16])
     requires places { EachIndex s.now (λ k. slice_index s.now k < 16) }
-    ensures mixed { v.new ≡ mixings m.now s.now v.old 4 }
+    ensures mixed { v.new ≡ vector_after_mixings m.now s.now v.old 8 }
 {
     mix(v, 0, 4, 8, 12, m[s[0]], m[s[1]]);
     mix(v, 1, 5, 9, 13, m[s[2]], m[s[3]]);
     mix(v, 2, 6, 10, 14, m[s[4]], m[s[5]]);
     mix(v, 3, 7, 11, 15, m[s[6]], m[s[7]]);
-}
-
-// The last four mixings of a round, which take the diagonals, after the first four.
-fn mix_diagonals(v: &mut [u64; 16], m: &[u64; 16], s: &[usize; 16])
-    requires places { EachIndex s.now (λ k. slice_index s.now k < 16) }
-    ensures mixed { (before : List ℕ) → v.old ≡ mixings m.now s.now before 4
-        → v.new ≡ mixings m.now s.now before 8 }
-{
     mix(v, 0, 5, 10, 15, m[s[8]], m[s[9]]);
     mix(v, 1, 6, 11, 12, m[s[10]], m[s[11]]);
     mix(v, 2, 7, 8, 13, m[s[12]], m[s[13]]);
     mix(v, 3, 4, 9, 14, m[s[14]], m[s[15]]);
-}
-
-// One round (RFC 7693, 3.2).
-fn round(v: &mut [u64; 16], m: &[u64; 16], s: &[usize; 16])
-    requires places { EachIndex s.now (λ k. slice_index s.now k < 16) }
-    ensures mixed { v.new ≡ mixings m.now s.now v.old 8 }
-{
-    mix_columns(v, m, s);
-    mix_diagonals(v, m, s);
 }
 
 // The work vector before the first round: the state, then IV with the count of message bytes and
@@ -116,8 +100,8 @@ fn work_vector(state: &[u64; 8], count: u64, last: bool) -> [u64; 16]
 }
 
 // Takes both halves of the work vector v into the state (RFC 7693, 3.2).
-fn take_halves(state: &mut [u64; 8], v: &[u64; 16])
-    ensures state { state.new ≡ new_state 8 state.old v.now }
+fn xor_halves_into_state(state: &mut [u64; 8], v: &[u64; 16])
+    ensures state { state.new ≡ state_xored_with_halves 8 state.old v.now }
 {
     'halves: for i in 0..8 {
         state[i] = state[i] ^ v[i] ^ v[i + 8];
@@ -136,5 +120,5 @@ pub(crate) fn compress(state: &mut [u64; 8], block: &[u8; BLOCK_LEN], count: u64
     for i in 0..12 {
         round(&mut vector, &words, &SIGMA[i % 10]);
     }
-    take_halves(state, &vector);
+    xor_halves_into_state(state, &vector);
 }

@@ -24,8 +24,8 @@ fn make_room(state: &mut [u64; 8], buffer: &[u8; BLOCK_LEN], used: usize, total:
 
 /// BLAKE2b without a key (RFC 7693) of a message that is handed in piece by piece.
 ///
-/// Contracts see of a value `s` its `output_len s`, the bytes of the hash that it will give, 1 to
-/// 64; its `message_len s`, the bytes of message that it was handed so far, fewer than 2^64; and
+/// Contracts see of a value `s` its `hash_len s`, the bytes of the hash that it will give, 1 to
+/// 64; its `hashed_message_len s`, the bytes of message that it was handed so far, fewer than 2^64; and
 /// by `Holds n s m` the message itself: `s` will give a hash of `n` bytes, and was handed `m`.
 #[derive(Drop)]
 pub struct Blake2b {
@@ -43,14 +43,14 @@ pub struct Blake2b {
 }
 
 impl Blake2b {
-    ghost use Rattle.blake.specs.State.{Holds, message_len, output_len};
+    ghost use Rattle.blake.specs.State.{Holds, hashed_message_len, hash_len};
 
     /// A hash of `out_len` bytes, 1 to 64, that was handed nothing so far (RFC 7693, 2.1 and 2.5).
     pub fn new(out_len: usize) -> Self
         requires at_least_1 { 1 ≤ out_len }
         requires at_most_64 { out_len ≤ 64 }
-        ensures output_len { output_len result ≡ out_len }
-        ensures message_len { message_len result ≡ 0 }
+        ensures hash_len { hash_len result ≡ out_len }
+        ensures hashed_message_len { hashed_message_len result ≡ 0 }
         ensures holds { Holds out_len result [] }
     {
         let mut state = IV;
@@ -67,11 +67,11 @@ impl Blake2b {
     // Takes in as many bytes as fit the block at hand, and gives how many these are.
     fn take_some(&mut self, bytes: &[u8]) -> usize
         requires not_empty { 0 < length bytes.now }
-        requires fits { message_len self.old + length bytes.now < 2 ^ 64 }
+        requires fits { hashed_message_len self.old + length bytes.now < 2 ^ 64 }
         ensures at_least_1 { 0 < result }
         ensures within { result ≤ length bytes.now }
-        ensures output_len { output_len self.new ≡ output_len self.old }
-        ensures message_len { message_len self.new ≡ message_len self.old + result }
+        ensures hash_len { hash_len self.new ≡ hash_len self.old }
+        ensures hashed_message_len { hashed_message_len self.new ≡ hashed_message_len self.old + result }
         ensures holds { (n : ℕ) (m : List ℕ) → Holds n self.old m
             → Holds n self.new (m ++ take result bytes.now) }
     {
@@ -86,9 +86,9 @@ impl Blake2b {
     /// Hands in the next bytes of the message, any number of them. A message has fewer than 2^64
     /// bytes in all, where RFC 7693, 2.1 allows 2^128.
     pub fn update(&mut self, bytes: &[u8])
-        requires fits { message_len self.old + length bytes.now < 2 ^ 64 }
-        ensures output_len { output_len self.new ≡ output_len self.old }
-        ensures message_len { message_len self.new ≡ message_len self.old + length bytes.now }
+        requires fits { hashed_message_len self.old + length bytes.now < 2 ^ 64 }
+        ensures hash_len { hash_len self.new ≡ hash_len self.old }
+        ensures hashed_message_len { hashed_message_len self.new ≡ hashed_message_len self.old + length bytes.now }
         ensures holds { (n : ℕ) (m : List ℕ) → Holds n self.old m
             → Holds n self.new (m ++ bytes.now) }
     {
@@ -101,7 +101,7 @@ impl Blake2b {
     /// Writes the hash of the message handed in into `out`, which has as many bytes as `new` was
     /// asked for (RFC 7693, 3.3).
     pub fn finish(self, out: &mut [u8])
-        requires output_len { length out.old ≡ output_len self }
+        requires hash_len { length out.old ≡ hash_len self }
         ensures hash { (n : ℕ) (m : List ℕ) → Holds n self m → out.new ≡ blake2b n m }
     {
         let mut block = [0u8; BLOCK_LEN];

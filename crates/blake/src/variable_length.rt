@@ -2,13 +2,13 @@
 ghost use Rattle.std.specs.Prelude.{◌≡◌, ◌+◌, ◌-◌, ◌*◌, ◌^◌, ◌<◌, ◌≤◌, ◌++◌, length, take};
 ghost use Rattle.byteorder.specs.Endian.{little_bytes};
 ghost use Rattle.blake.specs.Blake2b.{blake2b};
-ghost use Rattle.blake.specs.LongHash.{joined, link_count, links, long_hash};
+ghost use Rattle.blake.specs.LongHash.{joined, hash_link_count, links, long_hash};
 
 use crate::hasher::Blake2b;
 use byteorder::{ByteOrder, LittleEndian};
 
 // BLAKE2b of bytes that are there in one piece.
-fn write_hash(bytes: &[u8], out: &mut [u8])
+fn write_blake2b(bytes: &[u8], out: &mut [u8])
     requires at_least_1 { 1 ≤ length out.old }
     requires at_most_64 { length out.old ≤ 64 }
     requires fits { length bytes.now < 2 ^ 64 }
@@ -20,7 +20,7 @@ fn write_hash(bytes: &[u8], out: &mut [u8])
 }
 
 // BLAKE2b of `number` in four bytes and of the parts after it.
-fn write_hash_of_parts(number: u32, parts: &[&[u8]], out: &mut [u8])
+fn write_blake2b_of_parts(number: u32, parts: &[&[u8]], out: &mut [u8])
     requires at_least_1 { 1 ≤ length out.old }
     requires at_most_64 { length out.old ≤ 64 }
     requires fits { 4 + length (joined parts.now) < 2 ^ 64 }
@@ -42,12 +42,12 @@ fn next_link(v: &[u8; 64]) -> [u8; 64]
     ensures hash { result ≡ blake2b 64 v.now }
 {
     let mut next = [0u8; 64];
-    write_hash(v, &mut next);
+    write_blake2b(v, &mut next);
     next
 }
 
 // Writes the first 32 bytes of v to the place `at`.
-fn write_front(out: &mut [u8], at: usize, v: &[u8; 64])
+fn write_first_32_bytes(out: &mut [u8], at: usize, v: &[u8; 64])
     requires fits { at + 32 ≤ length out.old }
     ensures front { take (at + 32) out.new ≡ take at out.old ++ take 32 v.now }
 {
@@ -60,22 +60,22 @@ fn write_last(out: &mut [u8], at: usize, v: &[u8; 64])
     requires at_most_64 { length out.old ≤ at + 64 }
     ensures last { out.new ≡ take at out.old ++ blake2b (length out.old - at) v.now }
 {
-    write_hash(v, &mut out[at..]);
+    write_blake2b(v, &mut out[at..]);
 }
 
 // H' of more than 64 bytes, from V_1 on.
 fn write_links(first: &[u8; 64], out: &mut [u8])
     requires more_than_64 { 64 < length out.old }
-    ensures links { out.new ≡ links (length out.old - 32 * link_count (length out.old))
-        (link_count (length out.old) - 1) first.now }
+    ensures links { out.new ≡ links (length out.old - 32 * hash_link_count (length out.old))
+        (hash_link_count (length out.old) - 1) first.now }
 {
     let count = out.len().div_ceil(32) - 2;
     let mut v = *first;
     'links: for i in 0..count - 1 {
-        write_front(out, 32 * i, &v);
+        write_first_32_bytes(out, 32 * i, &v);
         v = next_link(&v);
     }
-    write_front(out, 32 * (count - 1), &v);
+    write_first_32_bytes(out, 32 * (count - 1), &v);
     write_last(out, 32 * count, &v);
 }
 
@@ -93,10 +93,10 @@ pub fn long_hash(parts: &[&[u8]], out: &mut [u8])
     let len = out.len() as u32;
     let short = len <= 64;
     if short {
-        write_hash_of_parts(len, parts, out);
+        write_blake2b_of_parts(len, parts, out);
     } else {
         let mut first = [0u8; 64];
-        write_hash_of_parts(len, parts, &mut first);
+        write_blake2b_of_parts(len, parts, &mut first);
         write_links(&first, out);
     }
 }

@@ -8,6 +8,6 @@ abbrev pub ◌>>=◌ : {A B R : Type 0} → Result A R → (A → Result B R) �
 (Err r) >>= f = Err r
 
 -- an answer with what `f` makes of its value; a refusal stays
-abbrev pub answered : {A B R : Type 0} → (A → B) → Result A R → Result B R
-answered f (Ok x) = Ok (f x)
-answered f (Err r) = Err r
+abbrev pub map_ok : {A B R : Type 0} → (A → B) → Result A R → Result B R
+map_ok f (Ok x) = Ok (f x)
+map_ok f (Err r) = Err r

@@ -10,18 +10,18 @@ use Rattle.macs.proofs.Keys.{length-hmac_sha256}
 use Rattle.aes_ctr.specs.CounterMode.{KeyStreamPlace, counter_mode}
 use Rattle.aes_ctr.proofs.KeyStream.{counter_mode_from-twice, length-counter_mode_from}
 use Rattle.romix.specs.Costs.{IsInRange, Parameters}
-use Rattle.encfile.specs.Header.{bytes_at, checksum, costs_and_salt, costs_of, header, salt_of}
-use Rattle.encfile.specs.EncryptedFile.{HasRightHeaderCode, body, cipher_key, code_key, encrypted_file, final_code, head, header_code, released_text}
+use Rattle.encfile.specs.Header.{bytes_at, checksum, first_48_header_bytes, costs_of, header, salt_of}
+use Rattle.encfile.specs.EncryptedFile.{HasRightHeaderHmac, body, cipher_key, hmac_key, encrypted_file, final_hmac, head, header_hmac, released_text}
 use Rattle.encfile.specs.Encrypting.{FitsSha256, HasEncrypted}
-use Rattle.encfile.specs.Inside.Lengths.{length_encrypted}
-use Rattle.encfile.specs.Laws.{GivesBack}
+use Rattle.encfile.specs.Inside.Lengths.{bytes_encrypted_so_far}
+use Rattle.encfile.specs.Laws.{EncryptionRoundTrips}
 use Rattle.encfile.specs.declared.enc.Enc.{Enc}
 use Rattle.encfile.proofs.Pieces.{middle}
 
 -- ---- lengths
 
-pub length-costs_and_salt : (costs : Parameters) (salt : List ℕ) → length salt ≡ 32 → length (costs_and_salt costs salt) ≡ 48
-length-costs_and_salt costs salt h = omega (arith, h)
+pub length-first_48_header_bytes : (costs : Parameters) (salt : List ℕ) → length salt ≡ 32 → length (first_48_header_bytes costs salt) ≡ 48
+length-first_48_header_bytes costs salt h = omega (arith, h)
 
 length-checksum : (bytes : List ℕ) → length (checksum bytes) ≡ 16
 length-checksum bytes = omega (arith, length-take 16 (sha256 bytes), length-sha256 bytes)
@@ -29,15 +29,15 @@ length-checksum bytes = omega (arith, length-take 16 (sha256 bytes), length-sha2
 pub length-header : (costs : Parameters) (salt : List ℕ) → length salt ≡ 32 → length (header costs salt) ≡ 64
 unfolding header
 length-header costs salt h =
-    let front : List ℕ = costs_and_salt costs salt in
-    omega (arith, length-costs_and_salt costs salt h, length-checksum front, length-append front (checksum front))
+    let front : List ℕ = first_48_header_bytes costs salt in
+    omega (arith, length-first_48_header_bytes costs salt h, length-checksum front, length-append front (checksum front))
 
 pub length-head : (passphrase salt : List ℕ) (costs : Parameters) → length salt ≡ 32 → length (head passphrase salt costs) ≡ 96
 unfolding head
 length-head passphrase salt costs h =
     let front : List ℕ = header costs salt in
-    let code : List ℕ = header_code passphrase salt costs in
-    omega (arith, length-header costs salt h, length-hmac_sha256 (code_key passphrase salt costs) front, length-append front code)
+    let code : List ℕ = header_hmac passphrase salt costs in
+    omega (arith, length-header costs salt h, length-hmac_sha256 (hmac_key passphrase salt costs) front, length-append front code)
 
 pub length-body : (passphrase salt : List ℕ) (costs : Parameters) (text : List ℕ) → length salt ≡ 32
     → length (body passphrase salt costs text) ≡ 96 + length text
@@ -51,7 +51,7 @@ pub length-encrypted_file : (passphrase salt : List ℕ) (costs : Parameters) (t
 unfolding encrypted_file
 length-encrypted_file passphrase salt costs text h =
     let front : List ℕ = body passphrase salt costs text in
-    omega (arith, length-body passphrase salt costs text h, length-hmac_sha256 (code_key passphrase salt costs) front, length-append front (final_code passphrase salt costs text))
+    omega (arith, length-body passphrase salt costs text h, length-hmac_sha256 (hmac_key passphrase salt costs) front, length-append front (final_hmac passphrase salt costs text))
 
 -- a body of a text below the limit fits SHA-256
 pub FitsSha256-body : (passphrase salt : List ℕ) (costs : Parameters) (text : List ℕ) → length salt ≡ 32 → length text < 2 ^ 60
@@ -66,22 +66,22 @@ first_of_five a b c d e = simp append_assoc
 
 -- the whole file, with its costs and its salt in front
 pub encrypted_file-front : (passphrase salt : List ℕ) (costs : Parameters) (text : List ℕ)
-    → (rest : List ℕ) × (encrypted_file passphrase salt costs text ≡ costs_and_salt costs salt ++ rest)
+    → (rest : List ℕ) × (encrypted_file passphrase salt costs text ≡ first_48_header_bytes costs salt ++ rest)
 unfolding encrypted_file body head header
 encrypted_file-front passphrase salt costs text =
-    let front : List ℕ = costs_and_salt costs salt in
-    let code : List ℕ = header_code passphrase salt costs in
+    let front : List ℕ = first_48_header_bytes costs salt in
+    let code : List ℕ = header_hmac passphrase salt costs in
     let made : List ℕ = counter_mode (cipher_key passphrase salt costs) text in
-    let end : List ℕ = final_code passphrase salt costs text in
+    let end : List ℕ = final_hmac passphrase salt costs text in
     (checksum front ++ (code ++ (made ++ end)), first_of_five front (checksum front) code made end)
 
-pub costs_of-front : (costs : Parameters) (salt rest : List ℕ) → IsInRange costs → costs_of (costs_and_salt costs salt ++ rest) ≡ costs
+pub costs_of-front : (costs : Parameters) (salt rest : List ℕ) → IsInRange costs → costs_of (first_48_header_bytes costs salt ++ rest) ≡ costs
 costs_of-front costs salt rest h =
     let r : costs.r < 2 ^ 32 = omega (arith, h.product, mul-le-mul_left costs.r h.p_low) in
     let p : costs.p < 2 ^ 32 = omega (arith, h.product, mul-le-mul_left costs.p h.r_low) in
     rw (from_be_bytes-to_be_bytes_4 costs.r r, from_be_bytes-to_be_bytes_4 costs.p p) refl
 
-pub salt_of-front : (costs : Parameters) (salt rest : List ℕ) → length salt ≡ 32 → salt_of (costs_and_salt costs salt ++ rest) ≡ salt
+pub salt_of-front : (costs : Parameters) (salt rest : List ℕ) → length salt ≡ 32 → salt_of (first_48_header_bytes costs salt ++ rest) ≡ salt
 salt_of-front costs salt rest h = take_at salt rest 32 h
 
 pub costs_of-encrypted_file : (passphrase salt : List ℕ) (costs : Parameters) (text : List ℕ) → IsInRange costs
@@ -101,36 +101,36 @@ pub checksum-encrypted_file : (passphrase salt : List ℕ) (costs : Parameters) 
     → bytes_at (encrypted_file passphrase salt costs text) 48 16 ≡ checksum (take 48 (encrypted_file passphrase salt costs text))
 unfolding encrypted_file body head header
 checksum-encrypted_file passphrase salt costs text h =
-    let front : List ℕ = costs_and_salt costs salt in
+    let front : List ℕ = first_48_header_bytes costs salt in
     let sum : List ℕ = checksum front in
-    let code : List ℕ = header_code passphrase salt costs in
+    let code : List ℕ = header_hmac passphrase salt costs in
     let made : List ℕ = counter_mode (cipher_key passphrase salt costs) text in
-    let end : List ℕ = final_code passphrase salt costs text in
+    let end : List ℕ = final_hmac passphrase salt costs text in
     let rest : List ℕ = code ++ (made ++ end) in
     let joined = first_of_five front sum code made end in
-    let long : length front ≡ 48 = length-costs_and_salt costs salt h in
+    let long : length front ≡ 48 = length-first_48_header_bytes costs salt h in
     ap (λ f. bytes_at f 48 16) (joined ∙ sym (append_assoc front sum rest)) ∙ middle front sum rest 48 16 long (length-checksum front)
     ∙ ap checksum (sym (ap (take 48) joined ∙ take_at front (sum ++ rest) 48 long))
 
 -- bytes 64 to 95 are the HMAC of bytes 0 to 63
-header_code-encrypted_file : (passphrase salt : List ℕ) (costs : Parameters) (text : List ℕ) → length salt ≡ 32
-    → (bytes_at (encrypted_file passphrase salt costs text) 64 32 ≡ header_code passphrase salt costs)
+header_hmac-encrypted_file : (passphrase salt : List ℕ) (costs : Parameters) (text : List ℕ) → length salt ≡ 32
+    → (bytes_at (encrypted_file passphrase salt costs text) 64 32 ≡ header_hmac passphrase salt costs)
     × (take 64 (encrypted_file passphrase salt costs text) ≡ header costs salt)
 unfolding encrypted_file body head
-header_code-encrypted_file passphrase salt costs text h =
+header_hmac-encrypted_file passphrase salt costs text h =
     let front : List ℕ = header costs salt in
-    let code : List ℕ = header_code passphrase salt costs in
+    let code : List ℕ = header_hmac passphrase salt costs in
     let made : List ℕ = counter_mode (cipher_key passphrase salt costs) text in
-    let end : List ℕ = final_code passphrase salt costs text in
+    let end : List ℕ = final_hmac passphrase salt costs text in
     let joined : front ++ code ++ made ++ end ≡ front ++ code ++ (made ++ end) = append_assoc (front ++ code) made end in (
-      ap (λ f. bytes_at f 64 32) joined ∙ middle front code (made ++ end) 64 32 (length-header costs salt h) (length-hmac_sha256 (code_key passphrase salt costs) front),
+      ap (λ f. bytes_at f 64 32) joined ∙ middle front code (made ++ end) 64 32 (length-header costs salt h) (length-hmac_sha256 (hmac_key passphrase salt costs) front),
       ap (take 64) (joined ∙ append_assoc front code (made ++ end)) ∙ take_at front (code ++ (made ++ end)) 64 (length-header costs salt h),
     )
 
-pub HasRightHeaderCode-encrypted_file : (passphrase salt : List ℕ) (costs : Parameters) (text : List ℕ) → length salt ≡ 32 → IsInRange costs
-    → HasRightHeaderCode (encrypted_file passphrase salt costs text) passphrase
-HasRightHeaderCode-encrypted_file passphrase salt costs text long range =
-    let code = header_code-encrypted_file passphrase salt costs text long in
+pub HasRightHeaderHmac-encrypted_file : (passphrase salt : List ℕ) (costs : Parameters) (text : List ℕ) → length salt ≡ 32 → IsInRange costs
+    → HasRightHeaderHmac (encrypted_file passphrase salt costs text) passphrase
+HasRightHeaderHmac-encrypted_file passphrase salt costs text long range =
+    let code = header_hmac-encrypted_file passphrase salt costs text long in
     rw (costs_of-encrypted_file passphrase salt costs text range, salt_of-encrypted_file passphrase salt costs text long, code.0, code.1) refl
 
 -- ---- the text comes back
@@ -140,7 +140,7 @@ bytes_at-encrypted_file : (passphrase salt : List ℕ) (costs : Parameters) (tex
 unfolding encrypted_file body
 bytes_at-encrypted_file passphrase salt costs text h =
     let key : List ℕ = cipher_key passphrase salt costs in
-    middle (head passphrase salt costs) (counter_mode key text) (final_code passphrase salt costs text) 96 (length text)
+    middle (head passphrase salt costs) (counter_mode key text) (final_hmac passphrase salt costs text) 96 (length text)
     (length-head passphrase salt costs h) (length-counter_mode_from key 0 text)
 
 pub released_text-encrypted_file : (passphrase salt : List ℕ) (costs : Parameters) (text : List ℕ) → length salt ≡ 32 → IsInRange costs
@@ -159,10 +159,10 @@ released_text-encrypted_file passphrase salt costs text long range =
       bytes_at-encrypted_file passphrase salt costs text long,
     ) (counter_mode_from-twice (cipher_key passphrase salt costs) 0 text)
 
-pub GivesBack-is : (passphrase salt : List ℕ) (costs : Parameters) (text : List ℕ) → length salt ≡ 32 → IsInRange costs → length text < 2 ^ 60
-    → GivesBack passphrase salt costs text
-GivesBack-is passphrase salt costs text long range short = record {
-  code = HasRightHeaderCode-encrypted_file passphrase salt costs text long range;
+pub EncryptionRoundTrips-is : (passphrase salt : List ℕ) (costs : Parameters) (text : List ℕ) → length salt ≡ 32 → IsInRange costs → length text < 2 ^ 60
+    → EncryptionRoundTrips passphrase salt costs text
+EncryptionRoundTrips-is passphrase salt costs text long range short = record {
+  code = HasRightHeaderHmac-encrypted_file passphrase salt costs text long range;
   released = released_text-encrypted_file passphrase salt costs text long range;
   encryption = record {
     salt = salt;
@@ -177,6 +177,6 @@ GivesBack-is passphrase salt costs text long range short = record {
 -- ---- a running encryption
 
 -- its text is as long as it says
-pub length_encrypted-is : (enc : Enc) (passphrase salt : List ℕ) (costs : Parameters) (text : List ℕ) → HasEncrypted enc passphrase salt costs text
-    → length text ≡ length_encrypted enc
-length_encrypted-is enc passphrase salt costs text h = sym (ap (λ (p : KeyStreamPlace). p.position) h.state.cipher)
+pub bytes_encrypted_so_far-is : (enc : Enc) (passphrase salt : List ℕ) (costs : Parameters) (text : List ℕ) → HasEncrypted enc passphrase salt costs text
+    → length text ≡ bytes_encrypted_so_far enc
+bytes_encrypted_so_far-is enc passphrase salt costs text h = sym (ap (λ (p : KeyStreamPlace). p.position) h.state.cipher)

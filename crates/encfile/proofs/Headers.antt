@@ -6,7 +6,7 @@ use Rattle.std.specs.Cmp.Lexicographic.{bytes_decides}
 use Rattle.std.proofs.lemmas.List.{get_or-take, take-append-drop, take_all, take_more, take-take}
 use Rattle.std.proofs.lemmas.Nat.{be_bytes_4}
 use Rattle.romix.specs.FirstOf.{first_of}
-use Rattle.encfile.specs.Header.{bytes_at, checksum, costs_and_salt, costs_of, has_magic, has_right_checksum, header, salt_of}
+use Rattle.encfile.specs.Header.{bytes_at, checksum, first_48_header_bytes, costs_of, has_magic, has_right_checksum, header, salt_of}
 use Rattle.romix.specs.Costs.{Parameters}
 use Rattle.encfile.specs.HeaderFaults.{are_out_of_range, header_fault}
 use Rattle.encfile.specs.declared.fault.HeaderFault.{HeaderFault}
@@ -37,11 +37,11 @@ four_bytes bytes i within small =
 -- ---- the header
 
 assembled : (log_n r p : ℕ) (first second salt : List ℕ) → to_be_bytes w32 r ≡ first → to_be_bytes w32 p ≡ second
-    → codes "scrypt" ++ (0 ∷ log_n ∷ []) ++ first ++ second ++ salt ≡ costs_and_salt (record { log_n = log_n; r = r; p = p }) salt
+    → codes "scrypt" ++ (0 ∷ log_n ∷ []) ++ first ++ second ++ salt ≡ first_48_header_bytes (record { log_n = log_n; r = r; p = p }) salt
 assembled log_n r p first second salt h g = ap₂ (λ x y. codes "scrypt" ++ (0 ∷ log_n ∷ []) ++ x ++ y ++ salt) (sym h) (sym g)
 
 take_48 : (bytes : List ℕ) → length bytes ≡ 64 → AreBytes bytes → take 6 bytes ≡ codes "scrypt" → slice_index bytes 6 ≡ 0
-    → take 48 bytes ≡ costs_and_salt (costs_of bytes) (salt_of bytes)
+    → take 48 bytes ≡ first_48_header_bytes (costs_of bytes) (salt_of bytes)
 take_48 bytes long small magic version =
     let seven : take 7 bytes ≡ take 6 bytes ++ slice_index bytes 6 ∷ [] = take_more bytes 6 0 (omega arith) in
     let eight : take 8 bytes ≡ take 7 bytes ++ slice_index bytes 7 ∷ [] = take_more bytes 7 0 (omega arith) in

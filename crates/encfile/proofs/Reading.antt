@@ -7,11 +7,11 @@ use Rattle.macs.proofs.Keys.{length-hmac_sha256}
 use Rattle.aes_ctr.specs.CounterMode.{KeyStreamPlace, counter_mode, counter_mode_from}
 use Rattle.aes_ctr.proofs.KeyStream.{counter_mode_from-append, counter_mode_from-twice, length-counter_mode_from}
 use Rattle.romix.specs.Costs.{IsInRange, Parameters}
-use Rattle.encfile.specs.Header.{bytes_at, checksum, costs_and_salt, costs_of, header, salt_of}
-use Rattle.encfile.specs.EncryptedFile.{IsEncryptionOf, body, cipher_key, code_key, derived_key, encrypted_file, head, header_code, released_text, right_header_code}
+use Rattle.encfile.specs.Header.{bytes_at, checksum, first_48_header_bytes, costs_of, header, salt_of}
+use Rattle.encfile.specs.EncryptedFile.{IsEncryptionOf, body, cipher_key, hmac_key, derived_key, encrypted_file, head, header_hmac, released_text, right_header_hmac}
 use Rattle.encfile.specs.Encrypting.{FitsSha256}
-use Rattle.encfile.specs.Decrypting.{HasRead, IsSplit}
-use Rattle.encfile.specs.Inside.Lengths.{length_read}
+use Rattle.encfile.specs.Decrypting.{DecryptionHasRead, IsSplit}
+use Rattle.encfile.specs.Inside.Lengths.{bytes_read_so_far}
 use Rattle.encfile.specs.declared.dec.Dec.{Dec}
 use Rattle.encfile.proofs.Files.{costs_of-encrypted_file, costs_of-front, length-head, salt_of-encrypted_file, salt_of-front}
 use Rattle.encfile.proofs.Pieces.{bytes_at-take, place_after, same_end}
@@ -20,11 +20,11 @@ use Rattle.encfile.proofs.Headers.{costs_of-take}
 -- ---- a file that begins with the right 96 bytes
 
 -- with its costs and its salt in front
-head-front : (passphrase salt : List ℕ) (costs : Parameters) (more : List ℕ) → (rest : List ℕ) × (head passphrase salt costs ++ more ≡ costs_and_salt costs salt ++ rest)
+head-front : (passphrase salt : List ℕ) (costs : Parameters) (more : List ℕ) → (rest : List ℕ) × (head passphrase salt costs ++ more ≡ first_48_header_bytes costs salt ++ rest)
 unfolding head header
 head-front passphrase salt costs more =
-    let front : List ℕ = costs_and_salt costs salt in
-    let code : List ℕ = header_code passphrase salt costs in (
+    let front : List ℕ = first_48_header_bytes costs salt in
+    let code : List ℕ = header_hmac passphrase salt costs in (
       checksum front ++ (code ++ more),
       append_assoc (front ++ checksum front) code more ∙ append_assoc front (checksum front) (code ++ more),
     )
@@ -67,8 +67,8 @@ length-split file passphrase salt costs done held s =
     omega (arith, ap length s.bytes, length-append front (done ++ held), length-append done held, length-head passphrase salt costs s.salt_has_32_bytes)
 
 -- the length of a file that was read
-pub length-read : (dec : Dec) (passphrase file : List ℕ) → HasRead dec passphrase file → length file ≡ 96 + length_read dec
-unfolding length_read
+pub length-read : (dec : Dec) (passphrase file : List ℕ) → DecryptionHasRead dec passphrase file → length file ≡ 96 + bytes_read_so_far dec
+unfolding bytes_read_so_far
 length-read dec passphrase file h = omega (
   arith,
   length-split file passphrase h.salt h.costs h.done h.held h.split,
@@ -98,18 +98,18 @@ released_text-short file passphrase h = let e : leb 128 (length file) ≡ false 
 -- the file of what some bytes decrypt to
 encrypted_file-counter_mode : (passphrase salt : List ℕ) (costs : Parameters) (done : List ℕ)
     → encrypted_file passphrase salt costs (counter_mode (cipher_key passphrase salt costs) done)
-    ≡ head passphrase salt costs ++ done ++ hmac_sha256 (code_key passphrase salt costs) (head passphrase salt costs ++ done)
+    ≡ head passphrase salt costs ++ done ++ hmac_sha256 (hmac_key passphrase salt costs) (head passphrase salt costs ++ done)
 unfolding encrypted_file body
 encrypted_file-counter_mode passphrase salt costs done = rw (counter_mode_from-twice (cipher_key passphrase salt costs) 0 done) refl
 
 -- where the last bytes are the code of those before, the whole is an encryption
 pub encryption_by_code : (file passphrase salt : List ℕ) (costs : Parameters) (done held : List ℕ) → IsSplit file passphrase salt costs done held
-    → length file < 2 ^ 60 + 128 → held ≡ hmac_sha256 (code_key passphrase salt costs) (head passphrase salt costs ++ done)
+    → length file < 2 ^ 60 + 128 → held ≡ hmac_sha256 (hmac_key passphrase salt costs) (head passphrase salt costs ++ done)
     → IsEncryptionOf file passphrase (released_text file passphrase)
 encryption_by_code file passphrase salt costs done held s short code =
     let front : List ℕ = head passphrase salt costs in
     let text = released_text-split file passphrase salt costs done held s in
-    let n : length held ≡ 32 = ap length code ∙ length-hmac_sha256 (code_key passphrase salt costs) (front ++ done) in
+    let n : length held ≡ 32 = ap length code ∙ length-hmac_sha256 (hmac_key passphrase salt costs) (front ++ done) in
     let long = length-split file passphrase salt costs done held s in
     record {
       salt = salt;
@@ -123,12 +123,12 @@ encryption_by_code file passphrase salt costs done held s short code =
 -- where the whole is an encryption, the last bytes are the code of those before
 pub code_by_encryption : (file passphrase salt : List ℕ) (costs : Parameters) (done held : List ℕ) → IsSplit file passphrase salt costs done held
     → IsEncryptionOf file passphrase (released_text file passphrase)
-    → held ≡ hmac_sha256 (code_key passphrase salt costs) (head passphrase salt costs ++ done)
+    → held ≡ hmac_sha256 (hmac_key passphrase salt costs) (head passphrase salt costs ++ done)
 code_by_encryption file passphrase salt costs done held s w =
     let front : List ℕ = head passphrase salt costs in
     let text : List ℕ = released_text file passphrase in
     let made : List ℕ = counter_mode (cipher_key passphrase salt costs) done in
-    let code : List ℕ = hmac_sha256 (code_key passphrase salt costs) (front ++ done) in
+    let code : List ℕ = hmac_sha256 (hmac_key passphrase salt costs) (front ++ done) in
     let same_costs : w.costs ≡ costs =
     sym (ap costs_of w.bytes ∙ costs_of-encrypted_file passphrase w.salt w.costs text w.in_range)
     ∙ (ap costs_of s.bytes ∙ costs_of-head passphrase salt costs (done ++ held) s.in_range) in
@@ -191,15 +191,15 @@ FitsSha256-take n file h = omega (arith, length-take n file)
 
 -- where they have a right header and a right code, they are the first bytes of a file
 pub head_is : (front passphrase salt : List ℕ) (costs : Parameters) → length front ≡ 96 → take 64 front ≡ header costs salt
-    → bytes_at front 64 32 ≡ hmac_sha256 (code_key passphrase salt costs) (take 64 front) → front ≡ head passphrase salt costs
+    → bytes_at front 64 32 ≡ hmac_sha256 (hmac_key passphrase salt costs) (take 64 front) → front ≡ head passphrase salt costs
 unfolding head
 head_is front passphrase salt costs long first code =
     let rest : take 32 (drop 64 front) ≡ drop 64 front = take_all 32 (drop 64 front) (omega (arith, length-drop 64 front)) in
-    sym (take-append-drop 64 front) ∙ ap (λ t. take 64 front ++ t) (sym rest ∙ code) ∙ ap (λ t. t ++ hmac_sha256 (code_key passphrase salt costs) t) first
+    sym (take-append-drop 64 front) ∙ ap (λ t. take 64 front ++ t) (sym rest ∙ code) ∙ ap (λ t. t ++ hmac_sha256 (hmac_key passphrase salt costs) t) first
 
-header-front : (costs : Parameters) (salt : List ℕ) → (rest : List ℕ) × (header costs salt ≡ costs_and_salt costs salt ++ rest)
+header-front : (costs : Parameters) (salt : List ℕ) → (rest : List ℕ) × (header costs salt ≡ first_48_header_bytes costs salt ++ rest)
 unfolding header
-header-front costs salt = (checksum (costs_and_salt costs salt), refl)
+header-front costs salt = (checksum (first_48_header_bytes costs salt), refl)
 
 -- the costs and the salt that a header says
 pub costs_of-header : (front salt : List ℕ) (costs : Parameters) → IsInRange costs → take 64 front ≡ header costs salt → costs_of front ≡ costs
@@ -213,10 +213,10 @@ salt_of-header front salt costs long first =
     sym (bytes_at-take 64 16 32 front (omega arith)) ∙ ap salt_of (first ∙ whole.1) ∙ salt_of-front costs salt whole.0 long
 
 -- what bytes 64 to 95 should be, by the keys of that header
-pub right_header_code-is : (front passphrase salt keys code : List ℕ) (costs : Parameters) → length salt ≡ 32 → IsInRange costs
+pub right_header_hmac-is : (front passphrase salt keys code : List ℕ) (costs : Parameters) → length salt ≡ 32 → IsInRange costs
     → take 64 front ≡ header costs salt → keys ≡ derived_key passphrase salt costs → code ≡ hmac_sha256 (drop 32 keys) (take 64 front)
-    → code ≡ right_header_code front passphrase
-right_header_code-is front passphrase salt keys code costs long range first made h =
+    → code ≡ right_header_hmac front passphrase
+right_header_hmac-is front passphrase salt keys code costs long range first made h =
     h ∙ ap (λ k. hmac_sha256 (drop 32 k) (take 64 front)) made
-    ∙ sym (ap₂ (λ (s : List ℕ) (k : Parameters). hmac_sha256 (code_key passphrase s k) (take 64 front))
+    ∙ sym (ap₂ (λ (s : List ℕ) (k : Parameters). hmac_sha256 (hmac_key passphrase s k) (take 64 front))
     (salt_of-header front salt costs long first) (costs_of-header front salt costs range first))

@@ -7,7 +7,7 @@ use Rattle.encfile.specs.declared.dec.Dec.{Dec}
 
 -- a running decryption after these first 96 bytes, with these 64 bytes of keys: the bytes that it has decrypted are
 -- `done`, and those that it holds are `last`
-pub record Decrypts (dec : Dec) (front keys done last : List ℕ) : Type 0 where
+pub record HasDecryptedWithKeys (dec : Dec) (front keys done last : List ℕ) : Type 0 where
   pub cipher : dec.ctr ≡ record { key = take 32 keys; position = length done }
   pub held : dec.held ≡ last
   pub code : Holds dec.hmac (drop 32 keys) (front ++ done)
@@ -22,11 +22,11 @@ pub record IsSplit (file passphrase salt : List ℕ) (costs : Parameters) (done 
   pub bytes : file ≡ head passphrase salt costs ++ (done ++ held)
 
 -- a running decryption was opened under the passphrase on the first 96 bytes of the file, and has read the file
-pub record HasRead (dec : Dec) (passphrase file : List ℕ) : Type 0 where
+pub record DecryptionHasRead (dec : Dec) (passphrase file : List ℕ) : Type 0 where
   pub salt : List ℕ
   pub costs : Parameters
   pub done : List ℕ
   pub held : List ℕ
-  pub state : Decrypts dec (head passphrase salt costs) (derived_key passphrase salt costs) done held
+  pub state : HasDecryptedWithKeys dec (head passphrase salt costs) (derived_key passphrase salt costs) done held
   pub split : IsSplit file passphrase salt costs done held
   pub below_limit : length file < 2 ^ 60 + 128

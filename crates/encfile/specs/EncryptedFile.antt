@@ -3,8 +3,8 @@ use Rattle.std.specs.Prelude.{◌≡◌, ℕ, ◌+◌, ◌-◌, ◌^◌, ◌<◌
 pub use Rattle.macs.specs.HmacSha256.{hmac_sha256}
 use Rattle.romix.specs.Costs.{IsInRange, Parameters}
 use Rattle.romix.specs.Scrypt.{scrypt}
-use Rattle.romix.specs.Sparse.{sparse_cores}
-use Rattle.romix.specs.SparseCosts.{SparseParameters, cores_bound}
+use Rattle.romix.specs.Sparse.{sparse_table_core_count}
+use Rattle.romix.specs.SparseCosts.{CostsAndKeep, cores_bound}
 use Rattle.aes_ctr.specs.CounterMode.{counter_mode}
 use Rattle.encfile.specs.Header.{bytes_at, costs_of, header, salt_of}
 
@@ -19,28 +19,28 @@ abbrev pub cipher_key : List ℕ → List ℕ → Parameters → List ℕ
 cipher_key passphrase salt costs = take 32 (derived_key passphrase salt costs)
 
 -- the last 32 of the 64 bytes of keys: the key of HMAC-SHA-256
-abbrev pub code_key : List ℕ → List ℕ → Parameters → List ℕ
-code_key passphrase salt costs = drop 32 (derived_key passphrase salt costs)
+abbrev pub hmac_key : List ℕ → List ℕ → Parameters → List ℕ
+hmac_key passphrase salt costs = drop 32 (derived_key passphrase salt costs)
 
 -- bytes 64 to 95: the HMAC of bytes 0 to 63
-abbrev pub header_code : List ℕ → List ℕ → Parameters → List ℕ
-header_code passphrase salt costs = hmac_sha256 (code_key passphrase salt costs) (header costs salt)
+abbrev pub header_hmac : List ℕ → List ℕ → Parameters → List ℕ
+header_hmac passphrase salt costs = hmac_sha256 (hmac_key passphrase salt costs) (header costs salt)
 
 -- bytes 0 to 95: the header of 64 bytes and its HMAC
 unfoldable pub head : List ℕ → List ℕ → Parameters → List ℕ
-head passphrase salt costs = header costs salt ++ header_code passphrase salt costs
+head passphrase salt costs = header costs salt ++ header_hmac passphrase salt costs
 
 -- all but the last 32 bytes of the file: bytes 0 to 95, and from byte 96 on the encrypted text
 unfoldable pub body : List ℕ → List ℕ → Parameters → List ℕ → List ℕ
 body passphrase salt costs text = head passphrase salt costs ++ counter_mode (cipher_key passphrase salt costs) text
 
 -- the last 32 bytes of the file: the HMAC of all bytes before them
-abbrev pub final_code : List ℕ → List ℕ → Parameters → List ℕ → List ℕ
-final_code passphrase salt costs text = hmac_sha256 (code_key passphrase salt costs) (body passphrase salt costs text)
+abbrev pub final_hmac : List ℕ → List ℕ → Parameters → List ℕ → List ℕ
+final_hmac passphrase salt costs text = hmac_sha256 (hmac_key passphrase salt costs) (body passphrase salt costs text)
 
 -- the whole file of a text under a passphrase, with this salt and these costs
 unfoldable pub encrypted_file : List ℕ → List ℕ → Parameters → List ℕ → List ℕ
-encrypted_file passphrase salt costs text = body passphrase salt costs text ++ final_code passphrase salt costs text
+encrypted_file passphrase salt costs text = body passphrase salt costs text ++ final_hmac passphrase salt costs text
 
 -- the file is that of the text under the passphrase, with some salt of 32 bytes and some costs in range, and the text
 -- has fewer than 2^60 bytes, which is this project's bound
@@ -64,19 +64,19 @@ released_text file passphrase =
 
 -- what bytes 64 to 95 of a file should be: the HMAC of bytes 0 to 63, under the key that the passphrase gives with
 -- the costs and the salt that stand in bytes 7 to 47
-abbrev pub right_header_code : List ℕ → List ℕ → List ℕ
-right_header_code file passphrase = hmac_sha256 (code_key passphrase (salt_of file) (costs_of file)) (take 64 file)
+abbrev pub right_header_hmac : List ℕ → List ℕ → List ℕ
+right_header_hmac file passphrase = hmac_sha256 (hmac_key passphrase (salt_of file) (costs_of file)) (take 64 file)
 
 -- bytes 64 to 95 of the file are the HMAC of bytes 0 to 63 under the passphrase
-abbrev pub HasRightHeaderCode : List ℕ → List ℕ → Type 0
-HasRightHeaderCode file passphrase = bytes_at file 64 32 ≡ right_header_code file passphrase
+abbrev pub HasRightHeaderHmac : List ℕ → List ℕ → Type 0
+HasRightHeaderHmac file passphrase = bytes_at file 64 32 ≡ right_header_hmac file passphrase
 
 -- ---- the work of the derivation of the keys
 
 -- the count of Salsa20/8 cores went on by those of one derivation
-abbrev pub CountsDerivation : List ℕ → List ℕ → SparseParameters → ℕ → ℕ → Type 0
-CountsDerivation passphrase salt sparse before after = after ≡ before + sparse_cores passphrase salt sparse
+abbrev pub CountsDerivation : List ℕ → List ℕ → CostsAndKeep → ℕ → ℕ → Type 0
+CountsDerivation passphrase salt sparse before after = after ≡ before + sparse_table_core_count passphrase salt sparse
 
 -- and by no more than the bound that the costs and S tell before it begins
-abbrev pub CountsWithinBound : SparseParameters → ℕ → ℕ → Type 0
+abbrev pub CountsWithinBound : CostsAndKeep → ℕ → ℕ → Type 0
 CountsWithinBound sparse before after = after ≤ before + cores_bound sparse

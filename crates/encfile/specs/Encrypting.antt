@@ -7,14 +7,14 @@ use Rattle.encfile.specs.EncryptedFile.{derived_key, head}
 use Rattle.encfile.specs.declared.enc.Enc.{Enc}
 
 -- a running encryption with these first 96 bytes and these 64 bytes of keys, which has encrypted this text so far
-pub record Encrypts (enc : Enc) (front keys text : List ℕ) : Type 0 where
+pub record HasEncryptedWithKeys (enc : Enc) (front keys text : List ℕ) : Type 0 where
   pub header : enc.header ≡ front
   pub cipher : enc.ctr ≡ record { key = take 32 keys; position = length text }
   pub code : Holds enc.hmac (drop 32 keys) (front ++ counter_mode (take 32 keys) text)
 
 -- a running encryption has encrypted this text so far, for the file of this passphrase, salt and costs
 pub record HasEncrypted (enc : Enc) (passphrase salt : List ℕ) (costs : Parameters) (text : List ℕ) : Type 0 where
-  pub state : Encrypts enc (head passphrase salt costs) (derived_key passphrase salt costs) text
+  pub state : HasEncryptedWithKeys enc (head passphrase salt costs) (derived_key passphrase salt costs) text
   pub salt_has_32_bytes : length salt ≡ 32
   pub in_range : IsInRange costs
   pub below_limit : length text < 2 ^ 60

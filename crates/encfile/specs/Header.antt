@@ -6,15 +6,15 @@ use Rattle.sha2.specs.Sha256.{sha256}
 use Rattle.romix.specs.Costs.{IsInRange, Parameters}
 
 -- what a header says: the costs and the salt of the derivation
-pub record Derivation : Type 0 where
+pub record CostsAndSalt : Type 0 where
   pub costs : Parameters
   pub salt : List ℕ
 
 -- ---- the header of costs and a salt
 
 -- bytes 0 to 47: the text `scrypt`, the version 0, log2 N, r and p (big-endian), and the salt
-abbrev pub costs_and_salt : Parameters → List ℕ → List ℕ
-costs_and_salt costs salt =
+abbrev pub first_48_header_bytes : Parameters → List ℕ → List ℕ
+first_48_header_bytes costs salt =
     codes "scrypt" ++ (0 ∷ costs.log_n ∷ []) ++ to_be_bytes w32 costs.r ++ to_be_bytes w32 costs.p ++ salt
 
 -- bytes 48 to 63: the first 16 bytes of the SHA-256 of bytes 0 to 47
@@ -23,10 +23,10 @@ checksum bytes = take 16 (sha256 bytes)
 
 -- bytes 0 to 63: bytes 0 to 47 and their checksum
 unfoldable pub header : Parameters → List ℕ → List ℕ
-header costs salt = costs_and_salt costs salt ++ checksum (costs_and_salt costs salt)
+header costs salt = first_48_header_bytes costs salt ++ checksum (first_48_header_bytes costs salt)
 
 -- the list is the header of these costs, which are in range, and of this salt, which has 32 bytes
-pub record IsHeaderOf (list : List ℕ) (said : Derivation) : Type 0 where
+pub record IsHeaderOf (list : List ℕ) (said : CostsAndSalt) : Type 0 where
   pub salt_has_32_bytes : length said.salt ≡ 32
   pub in_range : IsInRange said.costs
   pub bytes : list ≡ header said.costs said.salt

@@ -2,13 +2,13 @@
 ghost use Rattle.std.specs.Prelude.{◌≡◌, ℕ, ◌+◌, ◌-◌, ◌*◌, ◌^◌, ◌<◌, ◌≤◌, ◌++◌, List, [], length, take, drop, IfOk, OnOk, OnErr};
 ghost use Rattle.romix.specs.Costs.{cores};
 ghost use Rattle.encfile.specs.Header.{IsHeaderOf};
-ghost use Rattle.encfile.specs.EncryptedFile.{HasRightHeaderCode, IsEncryptionOf, released_text, CountsDerivation, CountsWithinBound};
+ghost use Rattle.encfile.specs.EncryptedFile.{HasRightHeaderHmac, IsEncryptionOf, released_text, CountsDerivation, CountsWithinBound};
 ghost use Rattle.encfile.specs.Encrypting.{FitsSha256};
-ghost use Rattle.encfile.specs.Decrypting.{Decrypts, HasRead};
+ghost use Rattle.encfile.specs.Decrypting.{HasDecryptedWithKeys, DecryptionHasRead};
 
 use crate::fault::{Damaged, TooLong, WrongPassphrase};
 use crate::header::Header;
-use crate::keys::{derived_key, final_code, header_code, key_stream, running_code};
+use crate::keys::{derived_key, final_hmac, header_hmac, key_stream, start_file_hmac};
 use crate::tail::Tail;
 use aes_ctr::Ctr;
 use comparison::are_same;
@@ -17,12 +17,12 @@ use romix::{Ticks, Workspace};
 
 /// The bytes after the first 96, a text of fewer than 2^60 bytes and the final code, are fewer
 /// than this.
-const REST_LIMIT: u64 = (1 << 60) + 32;
+const LIMIT_AFTER_FIRST_96_BYTES: u64 = (1 << 60) + 32;
 
 /// A running decryption. It holds back the last bytes that it was fed, at most 32, since they may
 /// be the final code.
 ///
-/// Contracts see, by `HasRead`, the passphrase and all bytes of the file so far, the first 96 too.
+/// Contracts see, by `DecryptionHasRead`, the passphrase and all bytes of the file so far, the first 96 too.
 /// What was released is the `released_text` of those bytes. Only [`finish`](Dec::finish) tells
 /// whether it can be trusted.
 #[derive(Drop)]
@@ -35,11 +35,11 @@ pub struct Dec {
 impl Dec {
     // A decryption after these first 96 bytes.
     fn with_keys(front: &[u8; 96], keys: &[u8; 64]) -> Dec
-        ensures begun { Decrypts result front.now keys.now [] [] }
+        ensures begun { HasDecryptedWithKeys result front.now keys.now [] [] }
     {
         Dec {
             ctr: key_stream(keys),
-            hmac: running_code(keys, front),
+            hmac: start_file_hmac(keys, front),
             held: Tail::new(),
         }
     }
@@ -57,17 +57,17 @@ impl Dec {
     ) -> Result<Dec, WrongPassphrase>
         requires header { IsHeaderOf (take 64 front.now) header }
         requires workspace { workspace.old.sparse.costs ≡ header.costs }
-        ensures opened { IfOk result (λ dec. HasRead dec passphrase.now front.now) }
+        ensures opened { IfOk result (λ dec. DecryptionHasRead dec passphrase.now front.now) }
         ensures nothing { OnOk result (released_text front.now passphrase.now ≡ []) }
-        ensures right { OnOk result (HasRightHeaderCode front.now passphrase.now) }
-        ensures wrong { OnErr result (HasRightHeaderCode front.now passphrase.now → ⊥) }
+        ensures right { OnOk result (HasRightHeaderHmac front.now passphrase.now) }
+        ensures wrong { OnErr result (HasRightHeaderHmac front.now passphrase.now → ⊥) }
         ensures memory { workspace.new ≡ workspace.old }
         ensures count { CountsDerivation passphrase.now header.salt workspace.old.sparse ticks.old ticks.new }
         ensures bound { CountsWithinBound workspace.old.sparse ticks.old ticks.new }
         ensures whole { workspace.old.sparse.keep ≡ 1 → ticks.new ≡ ticks.old + cores header.costs }
     {
         let keys = derived_key(passphrase, header.salt(), workspace, ticks);
-        if !are_same(&front[64..], &header_code(&keys, &front[..64])) {
+        if !are_same(&front[64..], &header_hmac(&keys, &front[..64])) {
             return Err(WrongPassphrase);
         }
         Ok(Dec::with_keys(front, &keys))
@@ -81,27 +81,27 @@ impl Dec {
     /// refusal `out` and the decryption are as they were.
     pub fn feed(&mut self, piece: &[u8], out: &mut [u8]) -> Result<usize, TooLong>
         requires room { length piece.now + 32 ≤ length out.old }
-        ensures read { OnOk result ((passphrase file : List ℕ) → HasRead self.old passphrase file
-            → HasRead self.new passphrase (file ++ piece.now)) }
+        ensures read { OnOk result ((passphrase file : List ℕ) → DecryptionHasRead self.old passphrase file
+            → DecryptionHasRead self.new passphrase (file ++ piece.now)) }
         ensures released { IfOk result (λ n. (passphrase file : List ℕ)
-            → HasRead self.old passphrase file
+            → DecryptionHasRead self.old passphrase file
             → released_text file passphrase ++ take n out.new
             ≡ released_text (file ++ piece.now) passphrase) }
         ensures within { IfOk result (λ n. n ≤ length piece.now) }
         ensures rest { drop (length piece.now + 32) out.new ≡ drop (length piece.now + 32) out.old }
-        ensures fits { OnOk result ((passphrase file : List ℕ) → HasRead self.old passphrase file
+        ensures fits { OnOk result ((passphrase file : List ℕ) → DecryptionHasRead self.old passphrase file
             → length file + length piece.now < 2 ^ 60 + 128) }
         // all but the last 32 bytes, which the final code is compared with
-        ensures hashed { OnOk result ((passphrase file : List ℕ) → HasRead self.old passphrase file
+        ensures hashed { OnOk result ((passphrase file : List ℕ) → DecryptionHasRead self.old passphrase file
             → FitsSha256 (take (length file + length piece.now - 32) (file ++ piece.now))) }
         ensures too_long { OnErr result ((passphrase file : List ℕ)
-            → HasRead self.old passphrase file
+            → DecryptionHasRead self.old passphrase file
             → 2 ^ 60 + 128 ≤ length file + length piece.now) }
         ensures unchanged { OnErr result (self.new ≡ self.old) }
         ensures untouched { OnErr result (out.new ≡ out.old) }
     {
         let rest = self.ctr.position().saturating_add(self.held.len() as u64);
-        if piece.len() as u64 >= REST_LIMIT.saturating_sub(rest) {
+        if piece.len() as u64 >= LIMIT_AFTER_FIRST_96_BYTES.saturating_sub(rest) {
             return Err(TooLong);
         }
         let released = self.held.take_in(piece, out);
@@ -114,13 +114,13 @@ impl Dec {
     /// Whether the bytes that were read are, all together, an encryption under the passphrase of
     /// the text that was released: 32 bytes are held, and they are the HMAC of everything before.
     pub fn finish(self) -> Result<(), Damaged>
-        ensures whole { OnOk result ((passphrase file : List ℕ) → HasRead self passphrase file
+        ensures whole { OnOk result ((passphrase file : List ℕ) → DecryptionHasRead self passphrase file
             → IsEncryptionOf file passphrase (released_text file passphrase)) }
-        ensures damaged { OnErr result ((passphrase file : List ℕ) → HasRead self passphrase file
+        ensures damaged { OnErr result ((passphrase file : List ℕ) → DecryptionHasRead self passphrase file
             → IsEncryptionOf file passphrase (released_text file passphrase) → ⊥) }
     {
         let Dec { hmac, held, .. } = self;
-        if held.is(&final_code(hmac)) {
+        if held.is(&final_hmac(hmac)) {
             Ok(())
         } else {
             Err(Damaged)

@@ -4,11 +4,11 @@ ghost use Rattle.macs.specs.HmacSha256.{hmac_sha256};
 ghost use Rattle.romix.specs.Costs.{IsInRange, Parameters, cores};
 ghost use Rattle.encfile.specs.Header.{header};
 ghost use Rattle.encfile.specs.EncryptedFile.{body, encrypted_file, head, CountsDerivation, CountsWithinBound};
-ghost use Rattle.encfile.specs.Encrypting.{Encrypts, FitsSha256, HasEncrypted};
+ghost use Rattle.encfile.specs.Encrypting.{HasEncryptedWithKeys, FitsSha256, HasEncrypted};
 
 use crate::fault::TooLong;
 use crate::header_bytes::header;
-use crate::keys::{derived_key, final_code, header_code, key_stream, running_code};
+use crate::keys::{derived_key, final_hmac, header_hmac, key_stream, start_file_hmac};
 use aes_ctr::Ctr;
 use macs::Hmac;
 use romix::{Costs, Ticks, Workspace};
@@ -25,7 +25,7 @@ fn head(costs: &Costs, salt: &[u8; 32], keys: &[u8; 64]) -> [u8; 96]
     let front = header(costs, salt);
     let mut bytes = [0u8; 96];
     bytes[..64].copy_from_slice(&front);
-    bytes[64..].copy_from_slice(&header_code(keys, &front));
+    bytes[64..].copy_from_slice(&header_hmac(keys, &front));
     bytes
 }
 
@@ -44,10 +44,10 @@ pub struct Enc {
 impl Enc {
     // An encryption after these first 96 bytes.
     fn with_keys(header: [u8; 96], keys: &[u8; 64]) -> Enc
-        ensures begun { Encrypts result header keys.now [] }
+        ensures begun { HasEncryptedWithKeys result header keys.now [] }
     {
         let ctr = key_stream(keys);
-        let hmac = running_code(keys, &header);
+        let hmac = start_file_hmac(keys, &header);
         Enc { header, ctr, hmac }
     }
 
@@ -125,6 +125,6 @@ impl Enc {
             → body passphrase salt costs text ++ result
             ≡ encrypted_file passphrase salt costs text }
     {
-        final_code(self.hmac)
+        final_hmac(self.hmac)
     }
 }

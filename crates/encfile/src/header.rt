@@ -1,7 +1,7 @@
 //! The header of a file, read.
 ghost use Rattle.std.specs.Prelude.{◌≡◌, ◌+◌, ◌≤◌, Some, None, take, IfOk, IfErr, OnOk};
 ghost use Rattle.std.specs.Int.{w32, from_be_bytes};
-ghost use Rattle.encfile.specs.Header.{Derivation, IsHeaderOf, bytes_at, costs_of, has_magic, has_right_checksum, salt_of};
+ghost use Rattle.encfile.specs.Header.{CostsAndSalt, IsHeaderOf, bytes_at, costs_of, has_magic, has_right_checksum, salt_of};
 ghost use Rattle.encfile.specs.HeaderFaults.{header_fault};
 
 use crate::fault::HeaderFault;
@@ -20,9 +20,9 @@ pub struct Header {
 }
 
 impl Model for Header {
-    ghost use Rattle.encfile.specs.Header.{Derivation};
+    ghost use Rattle.encfile.specs.Header.{CostsAndSalt};
 
-    ghost Value = { Derivation };
+    ghost Value = { CostsAndSalt };
 
     ghost view = { λ h. record { costs = h.costs; salt = h.salt } };
 }
@@ -42,7 +42,7 @@ fn has_right_checksum(bytes: &[u8; 64]) -> bool
 }
 
 // The number in four bytes from place `at` on, the highest first.
-fn number_at(bytes: &[u8; 64], at: usize) -> u32
+fn big_endian_u32_at(bytes: &[u8; 64], at: usize) -> u32
     requires within { at + 4 ≤ 64 }
     ensures number { result ≡ from_be_bytes w32 (bytes_at bytes.now at 4) }
 {
@@ -72,7 +72,11 @@ impl Header {
         }
         let mut salt = [0u8; 32];
         salt.copy_from_slice(&bytes[16..48]);
-        match Costs::new(bytes[7], number_at(bytes, 8), number_at(bytes, 12)) {
+        match Costs::new(
+            bytes[7],
+            big_endian_u32_at(bytes, 8),
+            big_endian_u32_at(bytes, 12),
+        ) {
             Ok(costs) => Ok(Header { costs, salt }),
             Err(_) => Err(HeaderFault::CostsOutOfRange),
         }

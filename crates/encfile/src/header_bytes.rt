@@ -1,14 +1,14 @@
 //! The first 64 bytes of a file (FORMAT).
 ghost use Rattle.std.specs.Prelude.{◌≡◌};
 ghost use Rattle.romix.specs.Costs.{IsInRange};
-ghost use Rattle.encfile.specs.Header.{checksum, costs_and_salt, header};
+ghost use Rattle.encfile.specs.Header.{checksum, first_48_header_bytes, header};
 
 use romix::Costs;
 use sha2::{Digest, Sha256};
 
 // Bytes 0 to 47: the text `scrypt`, the version, log2 N, r, p, and the salt.
-fn costs_and_salt(costs: &Costs, salt: &[u8; 32]) -> [u8; 48]
-    ensures bytes { result ≡ costs_and_salt costs.now salt.now }
+fn first_48_header_bytes(costs: &Costs, salt: &[u8; 32]) -> [u8; 48]
+    ensures bytes { result ≡ first_48_header_bytes costs.now salt.now }
     ensures in_range { IsInRange costs.now }
 {
     let [s, c, r, y, p, t] = *b"scrypt";
@@ -37,7 +37,7 @@ pub(crate) fn header(costs: &Costs, salt: &[u8; 32]) -> [u8; 64]
     ensures bytes { result ≡ header costs.now salt.now }
     ensures in_range { IsInRange costs.now }
 {
-    let front = costs_and_salt(costs, salt);
+    let front = first_48_header_bytes(costs, salt);
     let mut bytes = [0u8; 64];
     bytes[..48].copy_from_slice(&front);
     bytes[48..].copy_from_slice(&checksum(&front));

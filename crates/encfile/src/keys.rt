@@ -37,7 +37,7 @@ pub(crate) fn key_stream(keys: &[u8; 64]) -> Ctr
 }
 
 // The running code of the first bytes of a file.
-pub(crate) fn running_code(keys: &[u8; 64], front: &[u8]) -> Hmac
+pub(crate) fn start_file_hmac(keys: &[u8; 64], front: &[u8]) -> Hmac
     ensures code { Holds result (drop 32 keys.now) front.now }
 {
     let mut code = Hmac::new(&keys[32..]);
@@ -46,14 +46,14 @@ pub(crate) fn running_code(keys: &[u8; 64], front: &[u8]) -> Hmac
 }
 
 // Bytes 64 to 95, for bytes 0 to 63.
-pub(crate) fn header_code(keys: &[u8; 64], header: &[u8]) -> [u8; 32]
+pub(crate) fn header_hmac(keys: &[u8; 64], header: &[u8]) -> [u8; 32]
     ensures code { result ≡ hmac_sha256 (drop 32 keys.now) header.now }
 {
-    running_code(keys, header).finish()
+    start_file_hmac(keys, header).finish()
 }
 
 // The last 32 bytes, by the running code of everything before.
-pub(crate) fn final_code(running: Hmac) -> [u8; 32]
+pub(crate) fn final_hmac(running: Hmac) -> [u8; 32]
     ensures code { (key message : List ℕ) → Holds running key message
         → result ≡ hmac_sha256 key message }
 {

@@ -5,13 +5,13 @@ ghost use Rattle.romix.specs.Costs.{IsInRange, Parameters};
 ghost use Rattle.encfile.specs.EncryptedFile.{encrypted_file};
 ghost use Rattle.encfile.specs.Front.{front_refusal};
 ghost use Rattle.encfile.specs.Front.FrontRefusal.{NotScryptData};
-ghost use Rattle.encfile.specs.Laws.{GivesBack, IsDecidedByCalls, IsDecidedInOrder};
+ghost use Rattle.encfile.specs.Laws.{EncryptionRoundTrips, IsRefusedByFirstFailingCall, IsDecidedInOrder};
 
 // The file of a text has the right header code, gives the text back, and is an encryption of it.
 fn file_gives_its_text_back()
     ensures back { (passphrase salt : List ℕ) (costs : Parameters) (text : List ℕ)
         → length salt ≡ 32 → IsInRange costs → length text < 2 ^ 60
-        → GivesBack passphrase salt costs text }
+        → EncryptionRoundTrips passphrase salt costs text }
 {}
 
 // The file of a text has 128 bytes more than the text.
@@ -39,7 +39,7 @@ fn short_file_is_refused()
 fn front_is_decided_by_calls()
     ensures decided { (file : List ℕ) (allowed : Allowance) (passphrase front : List ℕ)
         → 96 ≤ length file → front ≡ take 96 file
-        → IsDecidedByCalls file allowed passphrase front }
+        → IsRefusedByFirstFailingCall file allowed passphrase front }
 {}
 
 // A file that is refused whatever the passphrase is refused under each, and another by its header's

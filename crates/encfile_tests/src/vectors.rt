@@ -2,11 +2,11 @@
 ghost use Rattle.std.specs.Prelude.{◌≡◌, ◌++◌, ◌^◌, [], ◌∷◌, codes, slice_set, take, Some, None};
 ghost use Rattle.std.specs.List.{range_with_len};
 ghost use Rattle.encfile.specs.EncryptedFile.{encrypted_file, released_text};
-ghost use Rattle.encfile.specs.Front.{format_refusal, front_refusal, limits_refusal};
+ghost use Rattle.encfile.specs.Front.{format_refusal, front_refusal, file_refusal_before_passphrase};
 ghost use Rattle.encfile.specs.Front.FrontRefusal.{KeepAboveN, NotScryptData, WrongPassphrase, UnsupportedVersion, TooMuchMemory, TooMuchWork};
 ghost use Rattle.encfile.specs.Header.{costs_of, header, salt_of};
 ghost use Rattle.encfile.specs.HeaderFaults.{header_fault};
-ghost use Rattle.encfile.specs.Vectors.{allowance, front_of_costs, front_of_hello, rest_of_hello};
+ghost use Rattle.encfile.specs.Vectors.{allowance, front_of_costs, front_of_hello, hello_file_from_byte_96};
 ghost use Rattle.encfile.specs.declared.fault.HeaderFault.TheVariants.{Checksum, CostsOutOfRange, Magic, Version};
 
 // The file of `hello` with log2 N 4, r 1, p 1, the passphrase `pw` and the salt 00 01 .. 1f, as
@@ -27,7 +27,7 @@ fn file_of_hello()
         0x92 ∷ 0x5E ∷ 0x75 ∷ 0x4D ∷ 0x1B ∷ 0x00 ∷ 0xD8 ∷ 0xF6 ∷ 0xAC ∷ 0xAA ∷ 0x79 ∷ 0x86 ∷
         0x8E ∷ 0x22 ∷ 0x1C ∷ 0xD3 ∷ 0xC4 ∷ 0x0E ∷ 0xFB ∷ 0x4B ∷ 0xDD ∷ 0x9F ∷ 0xFB ∷ 0x35 ∷
         0xB8 ∷ [] }
-    ensures text { released_text (front_of_hello ++ rest_of_hello) (codes "pw") ≡ codes "hello" }
+    ensures text { released_text (front_of_hello ++ hello_file_from_byte_96) (codes "pw") ≡ codes "hello" }
     ensures cut_off { released_text front_of_hello (codes "pw") ≡ [] }
 {}
 
@@ -72,15 +72,15 @@ fn refusals_of_fronts()
     ensures version { format_refusal (slice_set (front_of_costs 4 1 1) 6 1) ≡ Some UnsupportedVersion }
     ensures checksum { format_refusal (slice_set (front_of_costs 4 1 1) 20 0) ≡ Some NotScryptData }
     ensures zero { format_refusal (front_of_costs 4 0 1) ≡ Some NotScryptData }
-    ensures memory { limits_refusal (front_of_costs 4 1 1) (allowance 1 2047 63) ≡ Some TooMuchMemory }
-    ensures work { limits_refusal (front_of_costs 4 1 1) (allowance 1 2048 63) ≡ Some TooMuchWork }
-    ensures admitted { limits_refusal (front_of_costs 4 1 1) (allowance 1 2048 64) ≡ None }
-    ensures greatest { limits_refusal (front_of_costs 63 1 1) (allowance 1 (2 ^ 40) (2 ^ 63)) ≡ Some TooMuchMemory }
-    ensures sparse { limits_refusal (front_of_costs 4 1 1) (allowance 4 512 160) ≡ None }
-    ensures sparse_memory { limits_refusal (front_of_costs 4 1 1) (allowance 4 511 160) ≡ Some TooMuchMemory }
-    ensures sparse_work { limits_refusal (front_of_costs 4 1 1) (allowance 4 512 159) ≡ Some TooMuchWork }
-    ensures sparsest { limits_refusal (front_of_costs 4 1 1) (allowance 16 128 544) ≡ None }
-    ensures keep { limits_refusal (front_of_costs 4 1 1) (allowance 32 1 1) ≡ Some KeepAboveN }
+    ensures memory { file_refusal_before_passphrase (front_of_costs 4 1 1) (allowance 1 2047 63) ≡ Some TooMuchMemory }
+    ensures work { file_refusal_before_passphrase (front_of_costs 4 1 1) (allowance 1 2048 63) ≡ Some TooMuchWork }
+    ensures admitted { file_refusal_before_passphrase (front_of_costs 4 1 1) (allowance 1 2048 64) ≡ None }
+    ensures greatest { file_refusal_before_passphrase (front_of_costs 63 1 1) (allowance 1 (2 ^ 40) (2 ^ 63)) ≡ Some TooMuchMemory }
+    ensures sparse { file_refusal_before_passphrase (front_of_costs 4 1 1) (allowance 4 512 160) ≡ None }
+    ensures sparse_memory { file_refusal_before_passphrase (front_of_costs 4 1 1) (allowance 4 511 160) ≡ Some TooMuchMemory }
+    ensures sparse_work { file_refusal_before_passphrase (front_of_costs 4 1 1) (allowance 4 512 159) ≡ Some TooMuchWork }
+    ensures sparsest { file_refusal_before_passphrase (front_of_costs 4 1 1) (allowance 16 128 544) ≡ None }
+    ensures keep { file_refusal_before_passphrase (front_of_costs 4 1 1) (allowance 32 1 1) ≡ Some KeepAboveN }
 {}
 
 // The same fronts by the fault of the header: the first of text, version, checksum and costs.

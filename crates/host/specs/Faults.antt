@@ -10,24 +10,24 @@ pub record Faults : Type 0 where
   pub lines : ℕ
 
 -- the counts with one failure of the input more
-abbrev pub input_failed : Faults → Faults
-input_failed f = record f { input = f.input + 1 }
+abbrev pub with_input_failure_counted : Faults → Faults
+with_input_failure_counted f = record f { input = f.input + 1 }
 
 -- the counts with one failure of the output more
-abbrev pub output_failed : Faults → Faults
-output_failed f = record f { output = f.output + 1 }
+abbrev pub with_output_failure_counted : Faults → Faults
+with_output_failure_counted f = record f { output = f.output + 1 }
 
 -- the counts with one failure of a secret source more
-abbrev pub secret_failed : Faults → Faults
-secret_failed f = record f { secrets = f.secrets + 1 }
+abbrev pub with_secret_failure_counted : Faults → Faults
+with_secret_failure_counted f = record f { secrets = f.secrets + 1 }
 
 -- the counts with one failure of the salt more
-abbrev pub salt_failed : Faults → Faults
-salt_failed f = record f { salt = f.salt + 1 }
+abbrev pub with_salt_failure_counted : Faults → Faults
+with_salt_failure_counted f = record f { salt = f.salt + 1 }
 
 -- the counts with one line more that could not be said
-abbrev pub line_failed : Faults → Faults
-line_failed f = record f { lines = f.lines + 1 }
+abbrev pub with_line_failure_counted : Faults → Faults
+with_line_failure_counted f = record f { lines = f.lines + 1 }
 
 -- each of the five counts is below n
 pub record AreBelow (n : ℕ) (f : Faults) : Type 0 where

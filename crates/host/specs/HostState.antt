@@ -61,16 +61,16 @@ abbrev pub after_open_output : Option Text → HostState → HostState
 after_open_output name s = record s { output_opened = Some name; output_asked = Some name }
 
 -- the host after this secret source was asked, whatever came of it
-abbrev pub after_ask : SecretSource → HostState → HostState
-after_ask source s = record s { asked = Some source }
+abbrev pub after_ask_secret : SecretSource → HostState → HostState
+after_ask_secret source s = record s { asked = Some source }
 
 -- the host after a salt was asked for, whatever came of it
 abbrev pub after_salt : HostState → HostState
 after_salt s = record s { salted = true }
 
 -- stands for what is seen of a host that does not tell its bytes
-abbrev pub nothing_seen : HostState
-nothing_seen = record {
+abbrev pub placeholder_host_state : HostState
+placeholder_host_state = record {
   input = [];
   output = [];
   input_opened = None;

@@ -2,7 +2,7 @@
 pub mod HostState
 pub mod AskedSource
 pub mod Faults
-pub mod GrantedCalls
+pub mod CallsGrantedByHost
 pub mod Secret
 pub mod Lines
 pub mod Output

@@ -1,12 +1,12 @@
 -- A line that is said once, at the end of a run that was refused.
 use Rattle.std.specs.Prelude.{◌≡◌, Bool, true, false, IsTrue}
 use Rattle.host.specs.HostState.{HostState, Text, after_say}
-use Rattle.host.specs.Faults.{Faults, line_failed}
+use Rattle.host.specs.Faults.{Faults, with_line_failure_counted}
 
 -- the counts of failures after a line that was said, or that could not be said, where `lines` is one more
 abbrev pub faults_after_line : Bool → Faults → Faults
 faults_after_line true f = f
-faults_after_line false f = line_failed f
+faults_after_line false f = with_line_failure_counted f
 
 -- the host after a line that was said, or that could not be said, where nothing changes
 abbrev pub after_line : Bool → Text → HostState → HostState

@@ -1,11 +1,11 @@
 -- A host whose fields differ from one another.
 use Rattle.std.specs.Prelude.{Some, None, codes, if◌then◌else◌}
 use Rattle.std.specs.Str.{bytes_eq}
-use Rattle.host.specs.HostState.{HostState, nothing_seen}
+use Rattle.host.specs.HostState.{HostState, placeholder_host_state}
 
 -- an input, an output so far, a secret in each place, and a salt
-abbrev pub host_shown : HostState
-host_shown = record nothing_seen {
+abbrev pub sample_host : HostState
+sample_host = record placeholder_host_state {
   input = codes "abcd";
   output = codes "o";
   stdin = Some (codes "typed\nmore");

@@ -1,9 +1,9 @@
 //! What a command asks of the world.
 ghost use Rattle.std.specs.Prelude.{◌≡◌, ◌-◌, ◌<◌, ◌^◌, Bool, true, [], take, length, option_map, IfOk, OnOk, OnErr, IsTrue};
-ghost use Rattle.host.specs.Faults.{Faults, AreBelow, input_failed, output_failed, secret_failed, salt_failed, line_failed, CountsFailure, CountsNoFailure};
-ghost use Rattle.host.specs.GrantedCalls.{GrantedCalls, with_input_opened, with_output_asked, with_output_opened, with_salt_asked, with_secret_asked};
-ghost use Rattle.host.specs.Secret.{secret_of, source_of, IsBeginning};
-ghost use Rattle.host.specs.HostState.{HostState, after_ask, after_pull, after_push, after_salt, after_say, after_ask_output, after_open_input, after_open_output, FitsWithin, KeepsOnErr, KeepsOnOk, TakesSome};
+ghost use Rattle.host.specs.Faults.{Faults, AreBelow, with_input_failure_counted, with_output_failure_counted, with_secret_failure_counted, with_salt_failure_counted, with_line_failure_counted, CountsFailure, CountsNoFailure};
+ghost use Rattle.host.specs.CallsGrantedByHost.{CallsGrantedByHost, with_input_opened, with_output_asked, with_output_opened, with_salt_asked, with_secret_asked};
+ghost use Rattle.host.specs.Secret.{secret_of_source, source_of, IsBeginning};
+ghost use Rattle.host.specs.HostState.{HostState, after_ask_secret, after_pull, after_push, after_salt, after_say, after_ask_output, after_open_input, after_open_output, FitsWithin, KeepsOnErr, KeepsOnOk, TakesSome};
 
 use thiserror::Error;
 
@@ -53,14 +53,14 @@ pub trait Host {
     ghost faults: { Self → Faults };
 
     // The calls that are granted.
-    ghost grants: { Self → GrantedCalls };
+    ghost grants: { Self → CallsGrantedByHost };
 
     /// Opens the input under this name, once; `None` is standard input.
     fn open_input(&mut self, name: Option<&str>) -> Result<(), HostFault>
         requires room { AreBelow (2 ^ 64 - 1) (faults self.old) }
         requires unopened { (grants self.old).input ≡ true }
         ensures counts { CountsNoFailure result (faults self.old) (faults self.new) }
-        ensures counted { CountsFailure input_failed result (faults self.old) (faults self.new) }
+        ensures counted { CountsFailure with_input_failure_counted result (faults self.old) (faults self.new) }
         ensures kept { IsTrue tells → KeepsOnErr result (seen self.old) (seen self.new) }
         ensures opened { IsTrue tells → OnOk result
             (seen self.new ≡ after_open_input (option_map (λ n. n.now) name.entry) (seen self.old)) }
@@ -73,7 +73,7 @@ pub trait Host {
         requires room { AreBelow (2 ^ 64 - 1) (faults self.old) }
         requires unasked { (grants self.old).output ≡ true }
         ensures counts { CountsNoFailure result (faults self.old) (faults self.new) }
-        ensures counted { CountsFailure output_failed result (faults self.old) (faults self.new) }
+        ensures counted { CountsFailure with_output_failure_counted result (faults self.old) (faults self.new) }
         ensures asks { IsTrue tells → OnErr result
             (seen self.new ≡ after_ask_output (option_map (λ n. n.now) name.entry) (seen self.old)) }
         ensures opened { IsTrue tells → OnOk result
@@ -88,7 +88,7 @@ pub trait Host {
         requires readable { (grants self.old).readable ≡ true }
         ensures bound { FitsWithin result buf.old }
         ensures counts { CountsNoFailure result (faults self.old) (faults self.new) }
-        ensures counted { CountsFailure input_failed result (faults self.old) (faults self.new) }
+        ensures counted { CountsFailure with_input_failure_counted result (faults self.old) (faults self.new) }
         ensures kept { IsTrue tells → KeepsOnErr result (seen self.old) (seen self.new) }
         ensures within { IsTrue tells → FitsWithin result (seen self.old).input }
         ensures bytes { IsTrue tells →
@@ -108,7 +108,7 @@ pub trait Host {
         ensures bound { FitsWithin result bytes.now }
         ensures progress { TakesSome result bytes.now }
         ensures counts { CountsNoFailure result (faults self.old) (faults self.new) }
-        ensures counted { CountsFailure output_failed result (faults self.old) (faults self.new) }
+        ensures counted { CountsFailure with_output_failure_counted result (faults self.old) (faults self.new) }
         ensures kept { IsTrue tells → KeepsOnErr result (seen self.old) (seen self.new) }
         ensures put { IsTrue tells →
             IfOk result (λ n. seen self.new ≡ after_push (take n bytes.now) (seen self.old)) }
@@ -121,11 +121,11 @@ pub trait Host {
         requires unasked { (grants self.old).secret ≡ true }
         ensures bound { FitsWithin result buf.old }
         ensures counts { CountsNoFailure result (faults self.old) (faults self.new) }
-        ensures counted { CountsFailure secret_failed result (faults self.old) (faults self.new) }
+        ensures counted { CountsFailure with_secret_failure_counted result (faults self.old) (faults self.new) }
         ensures asks { IsTrue tells →
-            seen self.new ≡ after_ask (source_of source.entry) (seen self.old) }
+            seen self.new ≡ after_ask_secret (source_of source.entry) (seen self.old) }
         ensures bytes { IsTrue tells →
-            IfOk result (λ n. IsBeginning (secret_of source.entry (seen self.old)) n buf.new) }
+            IfOk result (λ n. IsBeginning (secret_of_source source.entry (seen self.old)) n buf.new) }
         ensures granted { grants self.new ≡ with_secret_asked (grants self.old) };
 
     /// Fills the buffer with the salt of a new file. No salt was asked for before; now one was,
@@ -134,7 +134,7 @@ pub trait Host {
         requires room { AreBelow (2 ^ 64 - 1) (faults self.old) }
         requires unsalted { (grants self.old).salt ≡ true }
         ensures counts { CountsNoFailure result (faults self.old) (faults self.new) }
-        ensures counted { CountsFailure salt_failed result (faults self.old) (faults self.new) }
+        ensures counted { CountsFailure with_salt_failure_counted result (faults self.old) (faults self.new) }
         ensures salts { IsTrue tells → seen self.new ≡ after_salt (seen self.old) }
         ensures bytes { IsTrue tells → OnOk result (out.new ≡ (seen self.old).salt) }
         ensures granted { grants self.new ≡ with_salt_asked (grants self.old) };
@@ -143,7 +143,7 @@ pub trait Host {
     fn say(&mut self, line: &str) -> Result<(), HostFault>
         requires room { AreBelow (2 ^ 64 - 1) (faults self.old) }
         ensures counts { CountsNoFailure result (faults self.old) (faults self.new) }
-        ensures counted { CountsFailure line_failed result (faults self.old) (faults self.new) }
+        ensures counted { CountsFailure with_line_failure_counted result (faults self.old) (faults self.new) }
         ensures kept { IsTrue tells → KeepsOnErr result (seen self.old) (seen self.new) }
         ensures said { IsTrue tells →
             OnOk result (seen self.new ≡ after_say line.now (seen self.old)) }

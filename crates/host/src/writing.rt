@@ -1,8 +1,8 @@
 //! Bytes and lines to a host.
 ghost use Rattle.std.specs.Prelude.{◌≡◌, ◌-◌, ◌<◌, ◌^◌, ◌⊎◌, ℕ, true, None, take, length, OnOk, OnErr, IsTrue};
-ghost use Rattle.host.specs.Faults.{AreBelow, output_failed, CountsFailure, CountsNoFailure};
+ghost use Rattle.host.specs.Faults.{AreBelow, with_output_failure_counted, CountsFailure, CountsNoFailure};
 ghost use Rattle.host.specs.Lines.{SaysOneLine};
-ghost use Rattle.host.specs.Output.{IsCutShort, after_writing};
+ghost use Rattle.host.specs.Output.{IsOutputCutShort, after_writing};
 ghost use Rattle.host.specs.HostState.{after_ask_output, after_push, KeepsOnOk};
 
 use crate::host::{Host, HostFault};
@@ -12,7 +12,7 @@ pub fn push_all<H: Host>(host: &mut H, bytes: &[u8]) -> Result<(), HostFault>
     requires room { AreBelow (2 ^ 64 - 1) (H.faults host.old) }
     requires writable { (H.grants host.old).writable ≡ true }
     ensures counts { CountsNoFailure result (H.faults host.old) (H.faults host.new) }
-    ensures counted { CountsFailure output_failed result (H.faults host.old) (H.faults host.new) }
+    ensures counted { CountsFailure with_output_failure_counted result (H.faults host.old) (H.faults host.new) }
     ensures granted { KeepsOnOk result (H.grants host.old) (H.grants host.new) }
     ensures put { IsTrue H.tells →
         OnOk result (H.seen host.new ≡ after_push bytes.now (H.seen host.old)) }
@@ -32,11 +32,11 @@ pub fn write_output<H: Host>(host: &mut H, bytes: &[u8]) -> Result<(), HostFault
     requires room { AreBelow (2 ^ 64 - 1) (H.faults host.old) }
     requires unasked { (H.grants host.old).output ≡ true }
     ensures counts { CountsNoFailure result (H.faults host.old) (H.faults host.new) }
-    ensures counted { CountsFailure output_failed result (H.faults host.old) (H.faults host.new) }
+    ensures counted { CountsFailure with_output_failure_counted result (H.faults host.old) (H.faults host.new) }
     ensures written { IsTrue H.tells →
         OnOk result (H.seen host.new ≡ after_writing None bytes.now (H.seen host.old)) }
     ensures left { IsTrue H.tells → OnErr result ((H.seen host.new ≡ after_ask_output None (H.seen host.old))
-        ⊎ IsCutShort None bytes.now (H.seen host.old) (H.seen host.new)) }
+        ⊎ IsOutputCutShort None bytes.now (H.seen host.old) (H.seen host.new)) }
 {
     host.open_output(None)?;
     push_all(host, bytes)

@@ -2,7 +2,7 @@
 //! lets it go by `drop`: the end of a scope would let go of its parts one by one, in each proof anew.
 ghost use Rattle.std.specs.Prelude.{◌≡◌, ◌^◌, None, false};
 ghost use Rattle.host.specs.Faults.{AreBelow};
-ghost use Rattle.memory_host.specs.Memory.{memory_faults};
+ghost use Rattle.memory_host.specs.Memory.{memory_host_failure_counts};
 
 use memory_host::MemoryHost;
 use std::alloc::Global;
@@ -24,7 +24,7 @@ pub fn is_under(opened: Option<Option<&str>>, name: &str) -> bool {
 
 /// A new host with this input and this standard input.
 pub fn new_host(alloc: Global, input: &[u8], stdin: &[u8]) -> MemoryHost
-    ensures room { AreBelow (2 ^ 63) (memory_faults result) }
+    ensures room { AreBelow (2 ^ 63) (memory_host_failure_counts result) }
     ensures unopened { result.input_opened ≡ None }
     ensures unasked { result.output_asked ≡ None }
     ensures secret_unasked { result.asked ≡ None }

@@ -1,7 +1,7 @@
 //! A host in memory: the example at the head of `host`, secrets, pieces, and calls that fail.
 ghost use Rattle.std.specs.Prelude.{◌≡◌, ◌+◌, ◌^◌, ◌<◌, true, None};
 ghost use Rattle.host.specs.Faults.{AreBelow};
-ghost use Rattle.memory_host.specs.Memory.{memory_faults};
+ghost use Rattle.memory_host.specs.Memory.{memory_host_failure_counts};
 
 mod refusing;
 
@@ -12,7 +12,7 @@ use std::alloc::Global;
 
 // The calls of the example at the head of the crate.
 fn copy(host: &mut MemoryHost) -> Result<(), HostFault>
-    requires room { AreBelow (2 ^ 63) (memory_faults host.old) }
+    requires room { AreBelow (2 ^ 63) (memory_host_failure_counts host.old) }
     requires unopened { host.old.input_opened ≡ None }
     requires unasked { host.old.output_asked ≡ None }
 {
@@ -33,9 +33,9 @@ fn example(rt: HostRuntime) {
 
 // Gives the variable PW this value.
 fn set_variable(alloc: Global, host: &mut MemoryHost, value: &[u8])
-    requires room { AreBelow (2 ^ 63) (memory_faults host.old) }
+    requires room { AreBelow (2 ^ 63) (memory_host_failure_counts host.old) }
     requires unasked { host.old.asked ≡ None }
-    ensures room { AreBelow (2 ^ 63) (memory_faults host.new) }
+    ensures room { AreBelow (2 ^ 63) (memory_host_failure_counts host.new) }
     ensures unasked { host.new.asked ≡ None }
 {
     let _ = host.set_env(text(alloc, "PW"), list(alloc, value));
@@ -43,7 +43,7 @@ fn set_variable(alloc: Global, host: &mut MemoryHost, value: &[u8])
 
 // A host that has three secrets.
 fn with_secrets(alloc: Global) -> MemoryHost
-    ensures room { AreBelow (2 ^ 63) (memory_faults result) }
+    ensures room { AreBelow (2 ^ 63) (memory_host_failure_counts result) }
     ensures unasked { result.asked ≡ None }
 {
     let mut host = new_host(alloc, b"", b"typed");
@@ -89,9 +89,9 @@ fn is_pulled(
     given: (usize, &[u8; 4]),
 ) -> bool
     requires at_least_1 { 0 < most }
-    requires room { AreBelow (2 ^ 63) (memory_faults host.old) }
+    requires room { AreBelow (2 ^ 63) (memory_host_failure_counts host.old) }
     requires readable { host.old.readable ≡ true }
-    ensures faults { result ≡ true → memory_faults host.new ≡ memory_faults host.old }
+    ensures faults { result ≡ true → memory_host_failure_counts host.new ≡ memory_host_failure_counts host.old }
     ensures readable { result ≡ true → host.new.readable ≡ true }
 {
     let (count, after) = given;
@@ -104,7 +104,7 @@ fn is_pulled(
 
 // Whether four pulls give an input, the last of which gives nothing.
 fn is_given(host: &mut MemoryHost) -> bool
-    requires room { AreBelow (2 ^ 63) (memory_faults host.old) }
+    requires room { AreBelow (2 ^ 63) (memory_host_failure_counts host.old) }
     requires unopened { host.old.input_opened ≡ None }
 {
     let mut buf = [0u8; 4];
@@ -142,9 +142,9 @@ fn gives_the_salt(rt: HostRuntime) {
 
 // Whether a first opening of the input fails, and leaves no name.
 fn is_refused(host: &mut MemoryHost) -> bool
-    requires room { AreBelow (2 ^ 63) (memory_faults host.old) }
+    requires room { AreBelow (2 ^ 63) (memory_host_failure_counts host.old) }
     requires unopened { host.old.input_opened ≡ None }
-    ensures room { AreBelow (2 ^ 63 + 1) (memory_faults host.new) }
+    ensures room { AreBelow (2 ^ 63 + 1) (memory_host_failure_counts host.new) }
     ensures unopened { result ≡ true → host.new.input_opened ≡ None }
 {
     host.fail_at(1);
@@ -153,7 +153,7 @@ fn is_refused(host: &mut MemoryHost) -> bool
 
 // Whether an input of two bytes has its name, and is all left after a pull that fails.
 fn is_left_whole(host: &mut MemoryHost) -> bool
-    requires room { AreBelow (2 ^ 63 + 1) (memory_faults host.old) }
+    requires room { AreBelow (2 ^ 63 + 1) (memory_host_failure_counts host.old) }
     requires readable { host.old.readable ≡ true }
 {
     let mut buf = [0u8; 4];
@@ -161,12 +161,12 @@ fn is_left_whole(host: &mut MemoryHost) -> bool
     is_under(host.input_name(), "in")
         && host.pull(&mut buf) == Err(HostFault)
         && buf == [0; 4]
-        && host.unread_input() == b"in".as_slice()
+        && host.remaining_input() == b"in".as_slice()
 }
 
 // Whether each call of the input fails so.
 fn is_whole_after_failures(host: &mut MemoryHost) -> bool
-    requires room { AreBelow (2 ^ 63) (memory_faults host.old) }
+    requires room { AreBelow (2 ^ 63) (memory_host_failure_counts host.old) }
     requires unopened { host.old.input_opened ≡ None }
 {
     is_refused(host) && host.open_input(Some("in")).is_ok() && is_left_whole(host)
@@ -182,7 +182,7 @@ fn fails_at_each_call_of_the_input(rt: HostRuntime) {
 
 // Whether two bytes are pushed, no more are, and a line is said, where a host's third call fails.
 fn goes_on(host: &mut MemoryHost) -> bool
-    requires room { AreBelow (2 ^ 63) (memory_faults host.old) }
+    requires room { AreBelow (2 ^ 63) (memory_host_failure_counts host.old) }
     requires unasked { host.old.output_asked ≡ None }
 {
     host.set_sizes(1, 2);

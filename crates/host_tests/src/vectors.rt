@@ -1,56 +1,56 @@
 //! What the checker computes of the definitions in specs/: what each call leaves of a host, and what is counted.
 ghost use Rattle.std.specs.Prelude.{◌≡◌, [], ◌∷◌, Some, None, codes, false, true};
-ghost use Rattle.host.specs.Faults.{input_failed, line_failed, no_faults, output_failed, salt_failed, secret_failed};
-ghost use Rattle.host.specs.GrantedCalls.{nothing_asked, with_input_opened, with_output_asked, with_output_opened, with_salt_asked, with_secret_asked};
+ghost use Rattle.host.specs.Faults.{with_input_failure_counted, with_line_failure_counted, no_faults, with_output_failure_counted, with_salt_failure_counted, with_secret_failure_counted};
+ghost use Rattle.host.specs.CallsGrantedByHost.{nothing_asked, with_input_opened, with_output_asked, with_output_opened, with_salt_asked, with_secret_asked};
 ghost use Rattle.host.specs.Lines.{after_line, faults_after_line};
 ghost use Rattle.host.specs.Entries.{lookup};
 ghost use Rattle.host.specs.Output.{after_writing};
-ghost use Rattle.host.specs.Secret.{secret_at};
-ghost use Rattle.host.specs.HostState.{after_ask, after_ask_output, after_open_input, after_open_output, after_pull, after_push, after_salt, after_say, env, file, stdin_once};
-ghost use Rattle.host.specs.Vectors.{host_shown};
+ghost use Rattle.host.specs.Secret.{secret_bytes_in_host};
+ghost use Rattle.host.specs.HostState.{after_ask_secret, after_ask_output, after_open_input, after_open_output, after_pull, after_push, after_salt, after_say, env, file, stdin_once};
+ghost use Rattle.host.specs.Vectors.{sample_host};
 
 // The next bytes of the input are gone; those that are written, and the lines that are said, come after those before them.
 fn streams_after_calls()
-    ensures pull { (after_pull 3 host_shown).input ≡ codes "d" }
-    ensures pull_at_the_end { (after_pull 5 host_shown).input ≡ [] }
-    ensures push { (after_push (codes "ut") host_shown).output ≡ codes "out" }
-    ensures lines { (after_say (codes "two") (after_say (codes "one") host_shown)).said ≡ codes "one" ∷ codes "two" ∷ [] }
-    ensures line_said { (after_line true (codes "one") host_shown).said ≡ codes "one" ∷ [] }
-    ensures line_unsaid { (after_line false (codes "one") host_shown).said ≡ [] }
-    ensures written { (after_writing None (codes "ut") host_shown).output ≡ codes "out" }
+    ensures pull { (after_pull 3 sample_host).input ≡ codes "d" }
+    ensures pull_at_the_end { (after_pull 5 sample_host).input ≡ [] }
+    ensures push { (after_push (codes "ut") sample_host).output ≡ codes "out" }
+    ensures lines { (after_say (codes "two") (after_say (codes "one") sample_host)).said ≡ codes "one" ∷ codes "two" ∷ [] }
+    ensures line_said { (after_line true (codes "one") sample_host).said ≡ codes "one" ∷ [] }
+    ensures line_unsaid { (after_line false (codes "one") sample_host).said ≡ [] }
+    ensures written { (after_writing None (codes "ut") sample_host).output ≡ codes "out" }
 {}
 
 // What is opened and what is asked for is under its name; an output that cannot be opened was asked for, too.
 fn names_after_calls()
-    ensures input { (after_open_input (Some (codes "in")) host_shown).input_opened ≡ Some (Some (codes "in")) }
-    ensures standard_input { (after_open_input None host_shown).input_opened ≡ Some None }
-    ensures output { (after_open_output (Some (codes "out")) host_shown).output_opened ≡ Some (Some (codes "out")) }
-    ensures output_asked { (after_open_output None host_shown).output_asked ≡ Some None }
-    ensures only_asked { (after_ask_output None host_shown).output_asked ≡ Some None }
-    ensures not_opened { (after_ask_output None host_shown).output_opened ≡ None }
-    ensures written { (after_writing None (codes "ut") host_shown).output_opened ≡ Some None }
-    ensures secret { (after_ask (env (codes "PW")) host_shown).asked ≡ Some (env (codes "PW")) }
-    ensures salt { (after_salt host_shown).salted ≡ true }
+    ensures input { (after_open_input (Some (codes "in")) sample_host).input_opened ≡ Some (Some (codes "in")) }
+    ensures standard_input { (after_open_input None sample_host).input_opened ≡ Some None }
+    ensures output { (after_open_output (Some (codes "out")) sample_host).output_opened ≡ Some (Some (codes "out")) }
+    ensures output_asked { (after_open_output None sample_host).output_asked ≡ Some None }
+    ensures only_asked { (after_ask_output None sample_host).output_asked ≡ Some None }
+    ensures not_opened { (after_ask_output None sample_host).output_opened ≡ None }
+    ensures written { (after_writing None (codes "ut") sample_host).output_opened ≡ Some None }
+    ensures secret { (after_ask_secret (env (codes "PW")) sample_host).asked ≡ Some (env (codes "PW")) }
+    ensures salt { (after_salt sample_host).salted ≡ true }
 {}
 
 // A failure raises its own count by one.
 fn counts_after_failures()
-    ensures input { input_failed no_faults ≡ record { input = 1; output = 0; secrets = 0; salt = 0; lines = 0 } }
-    ensures output { output_failed no_faults ≡ record { input = 0; output = 1; secrets = 0; salt = 0; lines = 0 } }
-    ensures secret { secret_failed no_faults ≡ record { input = 0; output = 0; secrets = 1; salt = 0; lines = 0 } }
-    ensures salt { salt_failed no_faults ≡ record { input = 0; output = 0; secrets = 0; salt = 1; lines = 0 } }
-    ensures line { line_failed no_faults ≡ record { input = 0; output = 0; secrets = 0; salt = 0; lines = 1 } }
+    ensures input { with_input_failure_counted no_faults ≡ record { input = 1; output = 0; secrets = 0; salt = 0; lines = 0 } }
+    ensures output { with_output_failure_counted no_faults ≡ record { input = 0; output = 1; secrets = 0; salt = 0; lines = 0 } }
+    ensures secret { with_secret_failure_counted no_faults ≡ record { input = 0; output = 0; secrets = 1; salt = 0; lines = 0 } }
+    ensures salt { with_salt_failure_counted no_faults ≡ record { input = 0; output = 0; secrets = 0; salt = 1; lines = 0 } }
+    ensures line { with_line_failure_counted no_faults ≡ record { input = 0; output = 0; secrets = 0; salt = 0; lines = 1 } }
     ensures line_said { faults_after_line true no_faults ≡ no_faults }
     ensures line_unsaid { (faults_after_line false no_faults).lines ≡ 1 }
 {}
 
 // A source gives what stands in its own place, if anything does.
 fn secrets_by_source()
-    ensures stdin { secret_at stdin_once host_shown ≡ Some (codes "typed\nmore") }
-    ensures variable { secret_at (env (codes "PW")) host_shown ≡ Some (codes "set") }
-    ensures no_variable { secret_at (env (codes "pw")) host_shown ≡ None }
-    ensures file { secret_at (file (codes "pw")) host_shown ≡ Some (codes "kept") }
-    ensures no_file { secret_at (file (codes "PW")) host_shown ≡ None }
+    ensures stdin { secret_bytes_in_host stdin_once sample_host ≡ Some (codes "typed\nmore") }
+    ensures variable { secret_bytes_in_host (env (codes "PW")) sample_host ≡ Some (codes "set") }
+    ensures no_variable { secret_bytes_in_host (env (codes "pw")) sample_host ≡ None }
+    ensures file { secret_bytes_in_host (file (codes "pw")) sample_host ≡ Some (codes "kept") }
+    ensures no_file { secret_bytes_in_host (file (codes "PW")) sample_host ≡ None }
     ensures first_of_two { lookup (record { name = codes "a"; bytes = codes "1" } ∷ record { name = codes "b"; bytes = codes "2" }
         ∷ record { name = codes "b"; bytes = codes "3" } ∷ []) (codes "b") ≡ Some (codes "2") }
 {}

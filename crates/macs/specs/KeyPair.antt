@@ -4,5 +4,5 @@ use Rattle.macs.specs.Hmac.{Holds}
 use Rattle.macs.specs.declared.pbkdf2_pair.Pbkdf2Pair.{Pbkdf2Pair}
 
 -- the running PBKDF2 `pair` has this password, and was given the bytes of this salt so far
-abbrev pub HoldsSalt : Pbkdf2Pair → List ℕ → List ℕ → Type 0
-HoldsSalt pair password salt = Holds pair.salted password salt
+abbrev pub Pbkdf2HasPasswordAndSalt : Pbkdf2Pair → List ℕ → List ℕ → Type 0
+Pbkdf2HasPasswordAndSalt pair password salt = Holds pair.salted password salt

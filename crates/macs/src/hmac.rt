@@ -1,6 +1,6 @@
 //! HMAC with SHA-256 (RFC 2104).
 ghost use Rattle.std.specs.Prelude.{◌≡◌, ℕ, ◌++◌, List, []};
-ghost use Rattle.macs.specs.HmacSha256.{hmac_sha256, key_block, xored_bytes};
+ghost use Rattle.macs.specs.HmacSha256.{hmac_sha256, key_block, xored_with_byte};
 ghost use Rattle.macs.specs.Hmac.{Holds};
 
 use sha2::{Digest, Sha256};
@@ -29,8 +29,8 @@ fn key_block(key: &[u8]) -> [u8; BLOCK_LEN]
 }
 
 // Each byte of the block xored with one byte.
-fn xored_bytes(block: &[u8; BLOCK_LEN], byte: u8) -> [u8; BLOCK_LEN]
-    ensures bytes { result ≡ xored_bytes byte block.now }
+fn xored_with_byte(block: &[u8; BLOCK_LEN], byte: u8) -> [u8; BLOCK_LEN]
+    ensures bytes { result ≡ xored_with_byte byte block.now }
 {
     let mut xored = [0u8; BLOCK_LEN];
     for i in 0..BLOCK_LEN {
@@ -58,9 +58,9 @@ impl Hmac {
     {
         let block = key_block(key);
         let mut inner = Sha256::new();
-        inner.update(xored_bytes(&block, INNER_PAD).as_slice());
+        inner.update(xored_with_byte(&block, INNER_PAD).as_slice());
         let mut outer = Sha256::new();
-        outer.update(xored_bytes(&block, OUTER_PAD).as_slice());
+        outer.update(xored_with_byte(&block, OUTER_PAD).as_slice());
         Hmac { inner, outer }
     }
 

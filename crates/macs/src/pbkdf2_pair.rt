@@ -1,15 +1,15 @@
 //! PBKDF2 of a salt that is handed in by pieces.
 ghost use Rattle.std.specs.Prelude.{◌≡◌, ℕ, ◌*◌, ◌-◌, ◌^◌, ◌≤◌, ◌++◌, List, [], length};
-ghost use Rattle.macs.specs.KeyPair.{HoldsSalt};
+ghost use Rattle.macs.specs.KeyPair.{Pbkdf2HasPasswordAndSalt};
 ghost use Rattle.macs.specs.Pbkdf2.{pbkdf2, pbkdf2_block};
 
 use crate::hmac::Hmac;
-use crate::pbkdf2_sha256::{block_after_salt, write_key};
+use crate::pbkdf2_sha256::{block_from_salted_hmac, write_key};
 
 /// A running PBKDF2 with one iteration (RFC 8018, section 5.2): a password, and a salt that is handed
 /// in by pieces. The salt is hashed once, for all blocks of the key.
 ///
-/// Contracts see the password and the salt so far, by `HoldsSalt`.
+/// Contracts see the password and the salt so far, by `Pbkdf2HasPasswordAndSalt`.
 #[derive(Drop)]
 pub struct Pbkdf2Pair {
     // has the salt
@@ -19,7 +19,7 @@ pub struct Pbkdf2Pair {
 impl Pbkdf2Pair {
     /// Under `password`, with the empty salt.
     pub fn new(password: &[u8]) -> Pbkdf2Pair
-        ensures empty { HoldsSalt result password.now [] }
+        ensures empty { Pbkdf2HasPasswordAndSalt result password.now [] }
     {
         Pbkdf2Pair {
             salted: Hmac::new(password),
@@ -28,8 +28,8 @@ impl Pbkdf2Pair {
 
     /// Appends `bytes` to the salt.
     pub fn update(&mut self, bytes: &[u8])
-        ensures appended { (password salt : List ℕ) → HoldsSalt self.old password salt
-            → HoldsSalt self.new password (salt ++ bytes.now) }
+        ensures appended { (password salt : List ℕ) → Pbkdf2HasPasswordAndSalt self.old password salt
+            → Pbkdf2HasPasswordAndSalt self.new password (salt ++ bytes.now) }
     {
         self.salted.update(bytes);
     }
@@ -37,15 +37,15 @@ impl Pbkdf2Pair {
     /// Block `index` of the key (RFC 8018, section 5.2, step 3; blocks are counted from 1), of a
     /// key of any length.
     pub fn block(&self, index: u32) -> [u8; 32]
-        ensures block { (password salt : List ℕ) → HoldsSalt self.now password salt
+        ensures block { (password salt : List ℕ) → Pbkdf2HasPasswordAndSalt self.now password salt
             → result ≡ pbkdf2_block password salt index }
     {
-        block_after_salt(&self.salted, index)
+        block_from_salted_hmac(&self.salted, index)
     }
 
     /// Writes the key of 64 bytes, a pair of blocks.
     pub fn finish(self, out: &mut [u8; 64])
-        ensures key { (password salt : List ℕ) → HoldsSalt self password salt
+        ensures key { (password salt : List ℕ) → Pbkdf2HasPasswordAndSalt self password salt
             → out.new ≡ pbkdf2 password salt 64 }
     {
         self.write_key(out);
@@ -54,7 +54,7 @@ impl Pbkdf2Pair {
     /// Writes the key of as many bytes as `out` has, at most 32 * (2^32 - 1).
     pub fn write_key(self, out: &mut [u8])
         requires fits { length out.old ≤ 32 * (2 ^ 32 - 1) }
-        ensures key { (password salt : List ℕ) → HoldsSalt self password salt
+        ensures key { (password salt : List ℕ) → Pbkdf2HasPasswordAndSalt self password salt
             → out.new ≡ pbkdf2 password salt (length out.old) }
     {
         write_key(&self.salted, out);

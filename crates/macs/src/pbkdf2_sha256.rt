@@ -9,7 +9,7 @@ use crate::hmac::Hmac;
 const BLOCK_LEN: usize = 32;
 
 // The HMAC under the password of the salt so far, with which each block begins.
-fn salted_mac(password: &[u8], salt: &[u8]) -> Hmac
+fn running_hmac_of_salt(password: &[u8], salt: &[u8]) -> Hmac
     ensures salt { Holds result password.now salt.now }
 {
     let mut mac = Hmac::new(password);
@@ -18,7 +18,7 @@ fn salted_mac(password: &[u8], salt: &[u8]) -> Hmac
 }
 
 // The block of this index, on from the HMAC of the salt.
-pub(crate) fn block_after_salt(salted: &Hmac, index: u32) -> [u8; BLOCK_LEN]
+pub(crate) fn block_from_salted_hmac(salted: &Hmac, index: u32) -> [u8; BLOCK_LEN]
     ensures block { (password salt : List ℕ) → Holds salted.now password salt
         → result ≡ pbkdf2_block password salt index }
 {
@@ -33,7 +33,7 @@ pub(crate) fn block_after_salt(salted: &Hmac, index: u32) -> [u8; BLOCK_LEN]
 pub fn pbkdf2_block(password: &[u8], salt: &[u8], index: u32) -> [u8; 32]
     ensures block { result ≡ pbkdf2_block password.now salt.now index }
 {
-    block_after_salt(&salted_mac(password, salt), index)
+    block_from_salted_hmac(&running_hmac_of_salt(password, salt), index)
 }
 
 // Fills `out` with the key that PBKDF2 derives, on from the HMAC of the salt.
@@ -43,7 +43,7 @@ pub(crate) fn write_key(salted: &Hmac, out: &mut [u8])
         → out.new ≡ pbkdf2 password salt (length out.old) }
 {
     for done in 0..out.len().div_ceil(BLOCK_LEN) {
-        let block = block_after_salt(salted, done as u32 + 1);
+        let block = block_from_salted_hmac(salted, done as u32 + 1);
         let start = BLOCK_LEN * done;
         let len = BLOCK_LEN.min(out.len() - start);
         out[start..start + len].copy_from_slice(&block[..len]);
@@ -56,5 +56,5 @@ pub fn pbkdf2(password: &[u8], salt: &[u8], out: &mut [u8])
     requires fits { length out.old ≤ 32 * (2 ^ 32 - 1) }
     ensures key { out.new ≡ pbkdf2 password.now salt.now (length out.old) }
 {
-    write_key(&salted_mac(password, salt), out);
+    write_key(&running_hmac_of_salt(password, salt), out);
 }

@@ -2,7 +2,7 @@
 use Rattle.std.specs.Prelude.{Bool, false, not, ℕ, ◌-◌, ◌^◌, List, [], ◌∷◌, Option, Some, None, is_none, is_some}
 use Rattle.host.specs.HostState.{SecretSource, HostState, Text}
 use Rattle.host.specs.Faults.{Faults, no_faults}
-use Rattle.host.specs.GrantedCalls.{GrantedCalls}
+use Rattle.host.specs.CallsGrantedByHost.{CallsGrantedByHost}
 use Rattle.host.specs.Entries.{Entry, lookup}
 
 -- a host in memory: its bytes, names and lines, whether its input may be pulled from, its counts of failures, the
@@ -30,8 +30,8 @@ pub record Memory : Type 0 where
 
 -- a new host: nothing is opened, asked, said or written, nothing failed, no call is to fail, and the sizes are not
 -- bounded
-abbrev pub new_memory : List ℕ → List ℕ → List ℕ → Memory
-new_memory input stdin salt = record {
+abbrev pub new_host_in_memory : List ℕ → List ℕ → List ℕ → Memory
+new_host_in_memory input stdin salt = record {
   input = input;
   output = [];
   input_opened = None;
@@ -53,8 +53,8 @@ new_memory input stdin salt = record {
 }
 
 -- what contracts see of a host in memory: its bytes, names and lines
-abbrev pub memory_seen : Memory → HostState
-memory_seen m = record {
+abbrev pub memory_host_state : Memory → HostState
+memory_host_state m = record {
   input = m.input;
   output = m.output;
   input_opened = m.input_opened;
@@ -70,8 +70,8 @@ memory_seen m = record {
 }
 
 -- the calls that a host in memory grants
-abbrev pub memory_grants : Memory → GrantedCalls
-memory_grants m = record {
+abbrev pub memory_host_grants : Memory → CallsGrantedByHost
+memory_host_grants m = record {
   input = is_none m.input_opened;
   readable = m.readable;
   output = is_none m.output_asked;
@@ -81,12 +81,12 @@ memory_grants m = record {
 }
 
 -- the counts of failures of a host in memory
-abbrev pub memory_faults : Memory → Faults
-memory_faults m = m.faults
+abbrev pub memory_host_failure_counts : Memory → Faults
+memory_host_failure_counts m = m.faults
 
 -- the host in memory with a variable more
-abbrev pub with_variable : Text → List ℕ → Memory → Memory
-with_variable name bytes m = record m { variables = record { name = name; bytes = bytes } ∷ m.variables }
+abbrev pub with_environment_variable : Text → List ℕ → Memory → Memory
+with_environment_variable name bytes m = record m { variables = record { name = name; bytes = bytes } ∷ m.variables }
 
 -- the host in memory with a secret file more
 abbrev pub with_file : Text → List ℕ → Memory → Memory

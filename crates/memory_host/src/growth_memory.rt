@@ -7,8 +7,8 @@ use std::alloc::{AllocError, Global};
 /// A source of memory for the growths of a host in memory.
 ///
 /// The heap, `Global`, is one, and grants what the system grants. Write another to bound what a
-/// [`MemoryHost`](crate::MemoryHost) takes, or to refuse a growth of it at will: `set_env_with`,
-/// `set_file_with`, `open_input_with`, `open_output_with`, `push_with` and `say_with` take their memory
+/// [`MemoryHost`](crate::MemoryHost) takes, or to refuse a growth of it at will: `set_env_with_memory`,
+/// `set_file_with_memory`, `open_input_with_memory`, `open_output_with_memory`, `push_with_memory` and `say_with_memory` take their memory
 /// from it. Each method is one growth, which is done whole, or is refused by `AllocError` and changes
 /// nothing. Which of them a call makes, and how many, is not in its contract: tests count them.
 pub trait GrowthMemory {
@@ -27,7 +27,7 @@ pub trait GrowthMemory {
         ensures err { OnErr result (lines.new.items ≡ lines.old.items) };
 
     /// Puts the entry before the others. After a refusal they are as they were.
-    fn add_first(
+    fn prepend_entry(
         &mut self,
         entries: &mut Vec<NamedSecret>,
         entry: NamedSecret,
@@ -50,7 +50,7 @@ impl GrowthMemory for Global {
         Ok(())
     }
 
-    fn add_first(
+    fn prepend_entry(
         &mut self,
         entries: &mut Vec<NamedSecret>,
         entry: NamedSecret,

@@ -1,16 +1,16 @@
 //! A host in memory.
 ghost use Rattle.std.specs.Prelude.{◌≡◌, ◌-◌, ◌^◌, ◌<◌, ◌≤◌, ◌==◌, ℕ, true, List, take, drop, length, min, map, option_map, Some, IfOk, OnOk, OnErr, string_bytes, bytes_eq, if◌then◌else◌};
 ghost use Rattle.host.specs.AskedSource.{asked_source, name_bytes};
-ghost use Rattle.host.specs.Faults.{AreBelow, input_failed, line_failed, output_failed};
-ghost use Rattle.host.specs.GrantedCalls.{with_input_opened, with_output_asked, with_output_opened};
+ghost use Rattle.host.specs.Faults.{AreBelow, with_input_failure_counted, with_line_failure_counted, with_output_failure_counted};
+ghost use Rattle.host.specs.CallsGrantedByHost.{with_input_opened, with_output_asked, with_output_opened};
 ghost use Rattle.host.specs.Entries.{lookup};
-ghost use Rattle.memory_host.specs.Memory.{Memory, memory_seen, memory_faults, memory_grants, new_memory, with_variable, with_file};
-ghost use Rattle.memory_host.specs.Inside.{next_call};
-ghost use Rattle.host.specs.Secret.{secret_of};
+ghost use Rattle.memory_host.specs.Memory.{Memory, memory_host_state, memory_host_failure_counts, memory_host_grants, new_host_in_memory, with_environment_variable, with_file};
+ghost use Rattle.memory_host.specs.Inside.{next_call_number};
+ghost use Rattle.host.specs.Secret.{secret_of_source};
 ghost use Rattle.host.specs.HostState.{after_ask_output, after_open_input, after_open_output, after_push, after_say};
 
 use crate::growth_memory::GrowthMemory;
-use crate::named_secret::{NamedSecret, find, put_first};
+use crate::named_secret::{NamedSecret, find, prepend_named_secret};
 use host::{AskedSource, GhostName, Host, HostFault, Source};
 use std::alloc::{AllocError, Global};
 use std::marker::Model;
@@ -88,7 +88,7 @@ impl MemoryHost {
     /// and whose salt is `salt`. It has no variables and no secret files, bounds no pull and no
     /// push, and fails at no call.
     pub fn new(alloc: Global, input: Vec<u8>, stdin: Vec<u8>, salt: [u8; 32]) -> MemoryHost
-        ensures fresh { result ≡ new_memory input.items stdin.items salt }
+        ensures fresh { result ≡ new_host_in_memory input.items stdin.items salt }
     {
         MemoryHost {
             alloc,
@@ -120,28 +120,28 @@ impl MemoryHost {
 
     /// Gives the environment variable `name` a value. Where a name is given again, the later bytes count.
     pub fn set_env(&mut self, name: String, bytes: Vec<u8>) -> Result<(), AllocError>
-        ensures ok { OnOk result (self.new ≡ with_variable (string_bytes name) bytes.items self.old) }
+        ensures ok { OnOk result (self.new ≡ with_environment_variable (string_bytes name) bytes.items self.old) }
         ensures given { OnOk result ((asked : List ℕ) →
             lookup self.new.variables asked ≡ (if bytes_eq (string_bytes name) asked
             then Some bytes.items else lookup self.old.variables asked)) }
         ensures err { OnErr result (self.new ≡ self.old) }
     {
         let mut growth = self.alloc;
-        put_first(&mut growth, &mut self.variables, name, bytes)
+        prepend_named_secret(&mut growth, &mut self.variables, name, bytes)
     }
 
     /// Gives an environment variable a value, as [`MemoryHost::set_env`] does, with memory from `growth`.
     /// Where that is refused no value is given, and the answer is `AllocError`.
-    pub fn set_env_with<G: GrowthMemory>(
+    pub fn set_env_with_memory<G: GrowthMemory>(
         &mut self,
         growth: &mut G,
         name: String,
         bytes: Vec<u8>,
     ) -> Result<(), AllocError>
-        ensures ok { OnOk result (self.new ≡ with_variable (string_bytes name) bytes.items self.old) }
+        ensures ok { OnOk result (self.new ≡ with_environment_variable (string_bytes name) bytes.items self.old) }
         ensures err { OnErr result (self.new ≡ self.old) }
     {
-        put_first(growth, &mut self.variables, name, bytes)
+        prepend_named_secret(growth, &mut self.variables, name, bytes)
     }
 
     /// Gives the secret file `name` its bytes. Where a name is given again, the later bytes count.
@@ -153,12 +153,12 @@ impl MemoryHost {
         ensures err { OnErr result (self.new ≡ self.old) }
     {
         let mut growth = self.alloc;
-        put_first(&mut growth, &mut self.files, name, bytes)
+        prepend_named_secret(&mut growth, &mut self.files, name, bytes)
     }
 
     /// Gives a secret file its bytes, as [`MemoryHost::set_file`] does, with memory from `growth`. Where
     /// that is refused no bytes are given, and the answer is `AllocError`.
-    pub fn set_file_with<G: GrowthMemory>(
+    pub fn set_file_with_memory<G: GrowthMemory>(
         &mut self,
         growth: &mut G,
         name: String,
@@ -167,7 +167,7 @@ impl MemoryHost {
         ensures ok { OnOk result (self.new ≡ with_file (string_bytes name) bytes.items self.old) }
         ensures err { OnErr result (self.new ≡ self.old) }
     {
-        put_first(growth, &mut self.files, name, bytes)
+        prepend_named_secret(growth, &mut self.files, name, bytes)
     }
 
     /// Sets the greatest number of bytes of a pull and of a push, each at least 1.
@@ -190,7 +190,7 @@ impl MemoryHost {
     }
 
     /// The input that is left: what no pull has given.
-    pub fn unread_input(&self) -> &[u8]
+    pub fn remaining_input(&self) -> &[u8]
         ensures value { result.now ≡ self.now.input }
     {
         &self.input[self.taken..]
@@ -214,19 +214,19 @@ impl MemoryHost {
     pub fn input_name(&self) -> Option<Option<&str>>
         ensures value { option_map (option_map (λ n. n.now)) result ≡ self.now.input_opened }
     {
-        name_kept(&self.input_name)
+        kept_name(&self.input_name)
     }
 
     /// The name under which the output was opened, where it was; `Some(None)` is standard output.
     pub fn output_name(&self) -> Option<Option<&str>>
         ensures value { option_map (option_map (λ n. n.now)) result ≡ self.now.output_opened }
     {
-        name_kept(&self.output_name)
+        kept_name(&self.output_name)
     }
 
     // The bytes of a secret source, if the host has it.
     fn secret_bytes(&self, source: Source<'_>) -> Option<&[u8]>
-        ensures found { option_map (λ b. b.now) result ≡ secret_of source.entry (memory_seen self.now) }
+        ensures found { option_map (λ b. b.now) result ≡ secret_of_source source.entry (memory_host_state self.now) }
     {
         match source {
             Source::StdinOnce => Some(self.stdin.as_slice()),
@@ -236,9 +236,9 @@ impl MemoryHost {
     }
 
     // Counts a call, and says whether it is the one to fail.
-    fn is_failing(&mut self) -> bool
-        ensures counted { self.new ≡ (let m = self.old in record m { calls = next_call m.calls }) }
-        ensures failing { result ≡ (next_call self.old.calls == self.old.failing) }
+    fn next_call_fails(&mut self) -> bool
+        ensures counted { self.new ≡ (let m = self.old in record m { calls = next_call_number m.calls }) }
+        ensures failing { result ≡ (next_call_number self.old.calls == self.old.failing) }
     {
         if self.calls < u64::MAX {
             self.calls += 1;
@@ -248,22 +248,22 @@ impl MemoryHost {
 
     /// Opens the input, as [`Host::open_input`] does, with memory from `growth` for its name. A refusal is
     /// a fault, which is counted; the input is not opened then.
-    pub fn open_input_with<G: GrowthMemory>(
+    pub fn open_input_with_memory<G: GrowthMemory>(
         &mut self,
         growth: &mut G,
         name: Option<&str>,
     ) -> Result<(), HostFault>
-        requires room { AreBelow (2 ^ 64 - 1) (memory_faults self.old) }
-        ensures counts { OnOk result (memory_faults self.new ≡ memory_faults self.old) }
-        ensures counted { OnErr result (memory_faults self.new ≡ input_failed (memory_faults self.old)) }
-        ensures kept { OnErr result (memory_seen self.new ≡ memory_seen self.old) }
-        ensures opened { OnOk result (memory_seen self.new
-            ≡ after_open_input (option_map (λ n. n.now) name.entry) (memory_seen self.old)) }
-        ensures granted { OnOk result (memory_grants self.new ≡ with_input_opened (memory_grants self.old)) }
-        ensures granted_as_before { OnErr result (memory_grants self.new ≡ memory_grants self.old) }
+        requires room { AreBelow (2 ^ 64 - 1) (memory_host_failure_counts self.old) }
+        ensures counts { OnOk result (memory_host_failure_counts self.new ≡ memory_host_failure_counts self.old) }
+        ensures counted { OnErr result (memory_host_failure_counts self.new ≡ with_input_failure_counted (memory_host_failure_counts self.old)) }
+        ensures kept { OnErr result (memory_host_state self.new ≡ memory_host_state self.old) }
+        ensures opened { OnOk result (memory_host_state self.new
+            ≡ after_open_input (option_map (λ n. n.now) name.entry) (memory_host_state self.old)) }
+        ensures granted { OnOk result (memory_host_grants self.new ≡ with_input_opened (memory_host_grants self.old)) }
+        ensures granted_as_before { OnErr result (memory_host_grants self.new ≡ memory_host_grants self.old) }
     {
-        if !self.is_failing()
-            && let Ok(kept) = keep_name(growth, name)
+        if !self.next_call_fails()
+            && let Ok(kept) = copy_name(growth, name)
         {
             self.input_name = Some(kept);
             self.readable = true;
@@ -275,24 +275,24 @@ impl MemoryHost {
 
     /// Opens the output, as [`Host::open_output`] does, with memory from `growth` for its name. A refusal
     /// is a fault, which is counted; the output was asked for then, and is not opened.
-    pub fn open_output_with<G: GrowthMemory>(
+    pub fn open_output_with_memory<G: GrowthMemory>(
         &mut self,
         growth: &mut G,
         name: Option<&str>,
     ) -> Result<(), HostFault>
-        requires room { AreBelow (2 ^ 64 - 1) (memory_faults self.old) }
-        ensures counts { OnOk result (memory_faults self.new ≡ memory_faults self.old) }
-        ensures counted { OnErr result (memory_faults self.new ≡ output_failed (memory_faults self.old)) }
-        ensures asks { OnErr result (memory_seen self.new
-            ≡ after_ask_output (option_map (λ n. n.now) name.entry) (memory_seen self.old)) }
-        ensures opened { OnOk result (memory_seen self.new
-            ≡ after_open_output (option_map (λ n. n.now) name.entry) (memory_seen self.old)) }
-        ensures granted { OnOk result (memory_grants self.new ≡ with_output_opened (memory_grants self.old)) }
-        ensures granted_no_other { OnErr result (memory_grants self.new ≡ with_output_asked (memory_grants self.old)) }
+        requires room { AreBelow (2 ^ 64 - 1) (memory_host_failure_counts self.old) }
+        ensures counts { OnOk result (memory_host_failure_counts self.new ≡ memory_host_failure_counts self.old) }
+        ensures counted { OnErr result (memory_host_failure_counts self.new ≡ with_output_failure_counted (memory_host_failure_counts self.old)) }
+        ensures asks { OnErr result (memory_host_state self.new
+            ≡ after_ask_output (option_map (λ n. n.now) name.entry) (memory_host_state self.old)) }
+        ensures opened { OnOk result (memory_host_state self.new
+            ≡ after_open_output (option_map (λ n. n.now) name.entry) (memory_host_state self.old)) }
+        ensures granted { OnOk result (memory_host_grants self.new ≡ with_output_opened (memory_host_grants self.old)) }
+        ensures granted_no_other { OnErr result (memory_host_grants self.new ≡ with_output_asked (memory_host_grants self.old)) }
     {
-        self.output_asked = Some(name_asked(name));
-        if !self.is_failing()
-            && let Ok(kept) = keep_name(growth, name)
+        self.output_asked = Some(to_ghost_name(name));
+        if !self.next_call_fails()
+            && let Ok(kept) = copy_name(growth, name)
         {
             self.output_name = Some(kept);
             return Ok(());
@@ -303,23 +303,23 @@ impl MemoryHost {
 
     /// Takes a beginning of the bytes, as [`Host::push`] does, with memory from `growth`. A refusal is a
     /// fault, which is counted; no byte is taken then.
-    pub fn push_with<G: GrowthMemory>(
+    pub fn push_with_memory<G: GrowthMemory>(
         &mut self,
         growth: &mut G,
         bytes: &[u8],
     ) -> Result<usize, HostFault>
-        requires room { AreBelow (2 ^ 64 - 1) (memory_faults self.old) }
+        requires room { AreBelow (2 ^ 64 - 1) (memory_host_failure_counts self.old) }
         ensures bound { IfOk result (λ n. n ≤ length bytes.now) }
         ensures progress { IfOk result (λ n. 0 < length bytes.now → 0 < n) }
-        ensures counts { OnOk result (memory_faults self.new ≡ memory_faults self.old) }
-        ensures counted { OnErr result (memory_faults self.new ≡ output_failed (memory_faults self.old)) }
-        ensures kept { OnErr result (memory_seen self.new ≡ memory_seen self.old) }
-        ensures put { IfOk result (λ n. memory_seen self.new
-            ≡ after_push (take n bytes.now) (memory_seen self.old)) }
-        ensures granted { memory_grants self.new ≡ memory_grants self.old }
+        ensures counts { OnOk result (memory_host_failure_counts self.new ≡ memory_host_failure_counts self.old) }
+        ensures counted { OnErr result (memory_host_failure_counts self.new ≡ with_output_failure_counted (memory_host_failure_counts self.old)) }
+        ensures kept { OnErr result (memory_host_state self.new ≡ memory_host_state self.old) }
+        ensures put { IfOk result (λ n. memory_host_state self.new
+            ≡ after_push (take n bytes.now) (memory_host_state self.old)) }
+        ensures granted { memory_host_grants self.new ≡ memory_host_grants self.old }
     {
         let n = bytes.len().min(self.push_size);
-        if self.is_failing() || growth.append(&mut self.output, &bytes[..n]).is_err() {
+        if self.next_call_fails() || growth.append(&mut self.output, &bytes[..n]).is_err() {
             self.output_faults += 1;
             return Err(HostFault);
         }
@@ -328,15 +328,19 @@ impl MemoryHost {
 
     /// Says a line, as [`Host::say`] does, with memory from `growth`. A refusal is a fault, which is
     /// counted; the line is not said then.
-    pub fn say_with<G: GrowthMemory>(&mut self, growth: &mut G, line: &str) -> Result<(), HostFault>
-        requires room { AreBelow (2 ^ 64 - 1) (memory_faults self.old) }
-        ensures counts { OnOk result (memory_faults self.new ≡ memory_faults self.old) }
-        ensures counted { OnErr result (memory_faults self.new ≡ line_failed (memory_faults self.old)) }
-        ensures kept { OnErr result (memory_seen self.new ≡ memory_seen self.old) }
-        ensures said { OnOk result (memory_seen self.new ≡ after_say line.now (memory_seen self.old)) }
-        ensures granted { memory_grants self.new ≡ memory_grants self.old }
+    pub fn say_with_memory<G: GrowthMemory>(
+        &mut self,
+        growth: &mut G,
+        line: &str,
+    ) -> Result<(), HostFault>
+        requires room { AreBelow (2 ^ 64 - 1) (memory_host_failure_counts self.old) }
+        ensures counts { OnOk result (memory_host_failure_counts self.new ≡ memory_host_failure_counts self.old) }
+        ensures counted { OnErr result (memory_host_failure_counts self.new ≡ with_line_failure_counted (memory_host_failure_counts self.old)) }
+        ensures kept { OnErr result (memory_host_state self.new ≡ memory_host_state self.old) }
+        ensures said { OnOk result (memory_host_state self.new ≡ after_say line.now (memory_host_state self.old)) }
+        ensures granted { memory_host_grants self.new ≡ memory_host_grants self.old }
     {
-        if !self.is_failing()
+        if !self.next_call_fails()
             && let Ok(kept) = growth.copy_of(line)
             && growth.add_line(&mut self.lines, kept).is_ok()
         {
@@ -348,7 +352,7 @@ impl MemoryHost {
 }
 
 // A name as it was kept.
-fn name_kept(name: &Option<Option<String>>) -> Option<Option<&str>>
+fn kept_name(name: &Option<Option<String>>) -> Option<Option<&str>>
     ensures name { option_map (option_map (λ n. n.now)) result ≡
         option_map (option_map string_bytes) name.now }
 {
@@ -360,7 +364,7 @@ fn name_kept(name: &Option<Option<String>>) -> Option<Option<&str>>
 }
 
 // A name as it was asked for, of which contracts alone see all bytes.
-fn name_asked(name: Option<&str>) -> Option<GhostName>
+fn to_ghost_name(name: Option<&str>) -> Option<GhostName>
     ensures asked { option_map name_bytes result ≡ option_map (λ n. n.now) name.entry }
 {
     match name {
@@ -370,7 +374,7 @@ fn name_asked(name: Option<&str>) -> Option<GhostName>
 }
 
 // A name to be kept, with memory from `growth`.
-fn keep_name<G: GrowthMemory>(
+fn copy_name<G: GrowthMemory>(
     growth: &mut G,
     name: Option<&str>,
 ) -> Result<Option<String>, AllocError>
@@ -397,24 +401,24 @@ fn fill(bytes: &[u8], buf: &mut [u8]) -> usize
 impl Host for MemoryHost {
     ghost tells = { true };
 
-    ghost seen = { memory_seen };
+    ghost seen = { memory_host_state };
 
-    ghost faults = { memory_faults };
+    ghost faults = { memory_host_failure_counts };
 
-    ghost grants = { memory_grants };
+    ghost grants = { memory_host_grants };
 
     fn open_input(&mut self, name: Option<&str>) -> Result<(), HostFault> {
         let mut growth = self.alloc;
-        self.open_input_with(&mut growth, name)
+        self.open_input_with_memory(&mut growth, name)
     }
 
     fn open_output(&mut self, name: Option<&str>) -> Result<(), HostFault> {
         let mut growth = self.alloc;
-        self.open_output_with(&mut growth, name)
+        self.open_output_with_memory(&mut growth, name)
     }
 
     fn pull(&mut self, buf: &mut [u8]) -> Result<usize, HostFault> {
-        if self.is_failing() {
+        if self.next_call_fails() {
             self.input_faults += 1;
             self.readable = false;
             return Err(HostFault);
@@ -428,12 +432,12 @@ impl Host for MemoryHost {
 
     fn push(&mut self, bytes: &[u8]) -> Result<usize, HostFault> {
         let mut growth = self.alloc;
-        self.push_with(&mut growth, bytes)
+        self.push_with_memory(&mut growth, bytes)
     }
 
     fn secret(&mut self, source: Source<'_>, buf: &mut [u8]) -> Result<usize, HostFault> {
         self.asked = Some(AskedSource::of(&source));
-        if !self.is_failing()
+        if !self.next_call_fails()
             && let Some(bytes) = self.secret_bytes(source)
         {
             return Ok(fill(bytes, buf));
@@ -444,7 +448,7 @@ impl Host for MemoryHost {
 
     fn salt(&mut self, out: &mut [u8; 32]) -> Result<(), HostFault> {
         self.salted = true;
-        if self.is_failing() {
+        if self.next_call_fails() {
             self.salt_faults += 1;
             return Err(HostFault);
         }
@@ -454,6 +458,6 @@ impl Host for MemoryHost {
 
     fn say(&mut self, line: &str) -> Result<(), HostFault> {
         let mut growth = self.alloc;
-        self.say_with(&mut growth, line)
+        self.say_with_memory(&mut growth, line)
     }
 }

@@ -7,7 +7,7 @@ use std::alloc::AllocError;
 use std::marker::Model;
 
 /// The bytes of a secret and its name, as a [`MemoryHost`](crate::MemoryHost) keeps it. A source of memory
-/// of one's own passes it on as it is: [`GrowthMemory::add_first`]. Contracts see an `Entry`.
+/// of one's own passes it on as it is: [`GrowthMemory::prepend_entry`]. Contracts see an `Entry`.
 #[derive(Drop)]
 pub struct NamedSecret {
     name: String,
@@ -35,7 +35,7 @@ impl NamedSecret {
 }
 
 // Puts a secret before the others, with memory from `growth`.
-pub(crate) fn put_first<G: GrowthMemory>(
+pub(crate) fn prepend_named_secret<G: GrowthMemory>(
     growth: &mut G,
     entries: &mut Vec<NamedSecret>,
     name: String,
@@ -45,7 +45,7 @@ pub(crate) fn put_first<G: GrowthMemory>(
         record { name = string_bytes name; bytes = bytes.items } ∷ entries.old.items) }
     ensures err { OnErr result (entries.new.items ≡ entries.old.items) }
 {
-    growth.add_first(entries, NamedSecret { name, bytes })
+    growth.prepend_entry(entries, NamedSecret { name, bytes })
 }
 
 // The bytes of the first entry of this name.

@@ -8,4 +8,4 @@ mod system;
 mod unbounded_count;
 
 pub use contents::{Contents, Identities};
-pub use system::{MADE, MemorySystem};
+pub use system::{IDENTITY_OF_CREATED_OUTPUT, MemorySystem};

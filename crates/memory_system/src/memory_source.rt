@@ -1,8 +1,8 @@
 //! A stream of a system in memory that is read.
 ghost use Rattle.std.specs.Prelude.{◌≡◌, ◌<◌, ◌≤◌, [], None, length, min, option_map, take, IfOk, OnErr};
 ghost use Rattle.host.specs.AskedSource.{name_bytes};
-ghost use Rattle.memory_system.specs.Memory.{unopened_source};
-ghost use Rattle.tools.specs.World.{after_reading, opened_source};
+ghost use Rattle.memory_system.specs.Memory.{source_not_yet_opened};
+ghost use Rattle.tools.specs.SystemState.{after_reading, opened_source};
 
 use host::GhostName;
 use std::io;
@@ -12,17 +12,17 @@ use std::marker::Model;
 /// A stream that is read, or is to be: the name under which it was opened, what it gives, how much of
 /// that was taken, and whether a read found the end. Contracts see a `Source`.
 #[derive(Drop)]
-pub struct MemorySource {
+pub struct InMemoryStream {
     opened: Option<Option<GhostName>>,
     bytes: Vec<u8>,
     taken: usize,
     is_ended: bool,
 }
 
-impl Model for MemorySource {
+impl Model for InMemoryStream {
     ghost use Rattle.std.specs.Prelude.{drop, length, option_map, ◌≤◌};
     ghost use Rattle.host.specs.AskedSource.{name_bytes};
-    ghost use Rattle.tools.specs.World.{Source};
+    ghost use Rattle.tools.specs.SystemState.{Source};
 
     ghost Value = { Source };
 
@@ -35,12 +35,12 @@ impl Model for MemorySource {
     ghost invariant = { λ s. s.taken ≤ length s.bytes.items };
 }
 
-impl MemorySource {
+impl InMemoryStream {
     /// A stream that is not opened yet.
-    pub fn new(bytes: Vec<u8>) -> MemorySource
-        ensures unopened { result ≡ unopened_source bytes.items }
+    pub fn new(bytes: Vec<u8>) -> InMemoryStream
+        ensures unopened { result ≡ source_not_yet_opened bytes.items }
     {
-        MemorySource {
+        InMemoryStream {
             opened: None,
             bytes,
             taken: 0,
@@ -52,7 +52,7 @@ impl MemorySource {
     pub fn open(&mut self, name: Option<&str>)
         ensures opened { self.new ≡ opened_source (option_map (λ n. n.now) name.entry) self.old.left }
     {
-        self.opened = Some(name_asked(name));
+        self.opened = Some(to_ghost_name(name));
         self.is_ended = false;
     }
 
@@ -77,7 +77,7 @@ impl MemorySource {
 }
 
 /// A name as it was asked for, of which contracts alone see all bytes.
-pub fn name_asked(name: Option<&str>) -> Option<GhostName>
+pub fn to_ghost_name(name: Option<&str>) -> Option<GhostName>
     ensures asked { option_map name_bytes result ≡ option_map (λ n. n.now) name.entry }
 {
     match name {

@@ -1,11 +1,11 @@
 //! A system in memory.
 ghost use Rattle.std.specs.Prelude.{◌≡◌, ◌+◌, ◌-◌, ◌<◌, ◌^◌, true, map, min, option_map, Some, IfOk, OnOk, OnErr, string_bytes};
-ghost use Rattle.memory_system.specs.Memory.{new_memory, unopened_source, with_error, with_file, with_input, with_stdin, with_variable, with_word};
-ghost use Rattle.tools.specs.World.{Opens, stands_at};
+ghost use Rattle.memory_system.specs.Memory.{new_system_in_memory, source_not_yet_opened, with_standard_error_file, with_file, with_input_bytes, with_stdin_bytes, with_environment_variable, append_word};
+ghost use Rattle.tools.specs.SystemState.{Opens, stands_at};
 ghost use Rattle.tools.specs.declared.system.Reading.TheVariants as reading;
 
 use crate::contents::{Contents, Identities, Named, find};
-use crate::memory_source::{MemorySource, fill, name_asked};
+use crate::memory_source::{InMemoryStream, fill, to_ghost_name};
 use crate::unbounded_count::UnboundedCount;
 use host::{GhostName, HostFault};
 use std::alloc::{AllocError, Global};
@@ -13,24 +13,24 @@ use std::cell::Cell;
 use std::io;
 use std::io::ErrorKind;
 use std::marker::Model;
-use tools::{FileIdentity, Reading, Stream, System, WordFault};
+use tools::{FileIdentity, Reading, StreamRole, System, WordFault};
 
 /// The file that is made where an output has a name under which nothing stands. Give it to no file.
-pub const MADE: FileIdentity = FileIdentity::Regular {
+pub const IDENTITY_OF_CREATED_OUTPUT: FileIdentity = FileIdentity::Regular {
     device: u64::MAX,
     inode: u64::MAX,
 };
 
 /// Which files the opened streams are.
 #[derive(Clone, Copy)]
-struct OpenedFiles {
+struct IdentitiesOfOpenedFiles {
     input: Option<FileIdentity>,
     secret: Option<FileIdentity>,
     output: Option<FileIdentity>,
     error: Option<FileIdentity>,
 }
 
-const NO_FILES: OpenedFiles = OpenedFiles {
+const NO_FILES: IdentitiesOfOpenedFiles = IdentitiesOfOpenedFiles {
     input: None,
     secret: None,
     output: None,
@@ -55,9 +55,9 @@ pub struct MemorySystem {
     stdout: Identities,
     input_name: Option<Option<String>>,
     input_file: Identities,
-    input: MemorySource,
-    secret: MemorySource,
-    random: MemorySource,
+    input: InMemoryStream,
+    secret: InMemoryStream,
+    random: InMemoryStream,
     output: Vec<u8>,
     output_asked: Option<Option<GhostName>>,
     is_new: bool,
@@ -66,8 +66,8 @@ pub struct MemorySystem {
     sync_asked: bool,
     is_synced: bool,
     lines: Vec<String>,
-    opened: OpenedFiles,
-    opened_then: OpenedFiles,
+    opened: IdentitiesOfOpenedFiles,
+    opened_then: IdentitiesOfOpenedFiles,
     tries: UnboundedCount,
     read_size: usize,
     write_size: usize,
@@ -85,7 +85,7 @@ impl Model for MemorySystem {
     ghost Value = { Memory };
 
     ghost view = { λ m. record {
-      world = record {
+      state = record {
         input = m.input;
         secret = m.secret;
         random = m.random;
@@ -113,7 +113,7 @@ impl MemorySystem {
     /// A system in which nothing stands under any name. Its pieces have no bound, and no call is
     /// interrupted or fails.
     pub fn new(alloc: Global) -> MemorySystem
-        ensures fresh { result ≡ new_memory }
+        ensures fresh { result ≡ new_system_in_memory }
     {
         MemorySystem {
             alloc,
@@ -124,9 +124,9 @@ impl MemorySystem {
             stdout: Identities::NONE,
             input_name: None,
             input_file: Identities::NONE,
-            input: MemorySource::new(Vec::new(alloc)),
-            secret: MemorySource::new(Vec::new(alloc)),
-            random: MemorySource::new(Vec::new(alloc)),
+            input: InMemoryStream::new(Vec::new(alloc)),
+            secret: InMemoryStream::new(Vec::new(alloc)),
+            random: InMemoryStream::new(Vec::new(alloc)),
             output: Vec::new(alloc),
             output_asked: None,
             is_new: false,
@@ -159,7 +159,7 @@ impl MemorySystem {
 
     /// Gives a variable a value. Where a name is given again, the later value counts.
     pub fn set_variable(&mut self, name: String, bytes: Vec<u8>) -> Result<(), AllocError>
-        ensures ok { OnOk result (self.new ≡ with_variable (string_bytes name) bytes.items self.old) }
+        ensures ok { OnOk result (self.new ≡ with_environment_variable (string_bytes name) bytes.items self.old) }
         ensures err { OnErr result (self.new ≡ self.old) }
     {
         let value = Contents::new(bytes, Identities::NONE);
@@ -168,8 +168,8 @@ impl MemorySystem {
     }
 
     /// Adds a word of the process, the first of which is its name.
-    pub fn add_word(&mut self, word: Vec<u8>) -> Result<(), AllocError>
-        ensures ok { OnOk result (self.new ≡ with_word word.items self.old) }
+    pub fn add_command_line_word(&mut self, word: Vec<u8>) -> Result<(), AllocError>
+        ensures ok { OnOk result (self.new ≡ append_word word.items self.old) }
         ensures err { OnErr result (self.new ≡ self.old) }
     {
         self.words.push(Contents::new(word, Identities::NONE))?;
@@ -178,7 +178,7 @@ impl MemorySystem {
 
     /// Opens standard input, which gives the contents from their beginning, and standard output.
     pub fn set_standard(&mut self, stdin: Contents, stdout: Identities)
-        ensures stdin { self.new ≡ with_stdin stdin self.old }
+        ensures stdin { self.new ≡ with_stdin_bytes stdin self.old }
     {
         self.stdin = Some(stdin);
         self.stdout = stdout;
@@ -186,7 +186,7 @@ impl MemorySystem {
 
     /// Says which file standard error is, if it is one.
     pub fn set_standard_error(&mut self, file: Option<FileIdentity>)
-        ensures error { self.new ≡ with_error file self.old }
+        ensures error { self.new ≡ with_standard_error_file file self.old }
     {
         self.opened.error = file;
         self.opened_then.error = file;
@@ -194,10 +194,10 @@ impl MemorySystem {
 
     /// Says under which name the input stands, which must be there; `None` is standard input. Under any
     /// other name the input cannot be opened.
-    pub fn set_input(&mut self, name: Option<&str>) -> Result<(), HostFault>
-        ensures ok { OnOk result (self.new ≡ with_input self.new.world.input.left self.old) }
+    pub fn set_input_name(&mut self, name: Option<&str>) -> Result<(), HostFault>
+        ensures ok { OnOk result (self.new ≡ with_input_bytes self.new.state.input.left self.old) }
         ensures given { OnOk result
-            (stands_at (option_map (λ n. n.now) name.entry) self.old.world ≡ Some self.new.world.input.left) }
+            (stands_at (option_map (λ n. n.now) name.entry) self.old.state ≡ Some self.new.state.input.left) }
         ensures err { OnErr result (self.new ≡ self.old) }
     {
         let kept = match name {
@@ -222,7 +222,7 @@ impl MemorySystem {
     }
 
     /// Says how often each read and each write is interrupted before it is done.
-    pub fn interrupt(&mut self, times: u64)
+    pub fn set_interrupt_count(&mut self, times: u64)
         ensures same { self.new ≡ self.old }
     {
         self.interruptions = times;
@@ -238,28 +238,28 @@ impl MemorySystem {
 
     /// What was written to the output.
     pub fn output(&self) -> &[u8]
-        ensures bytes { result.now ≡ self.now.world.output }
+        ensures bytes { result.now ≡ self.now.state.output }
     {
         self.output.as_slice()
     }
 
     /// Whether the output was emptied.
     pub fn is_emptied(&self) -> bool
-        ensures emptied { result ≡ self.now.world.is_emptied }
+        ensures emptied { result ≡ self.now.state.is_emptied }
     {
         self.is_emptied
     }
 
     /// Whether the output was brought to the disk.
     pub fn is_synced(&self) -> bool
-        ensures synced { result ≡ self.now.world.is_synced }
+        ensures synced { result ≡ self.now.state.is_synced }
     {
         self.is_synced
     }
 
     /// The lines said so far.
     pub fn lines(&self) -> &[String]
-        ensures lines { map string_bytes result.now ≡ self.now.world.said }
+        ensures lines { map string_bytes result.now ≡ self.now.state.said }
     {
         self.lines.as_slice()
     }
@@ -277,17 +277,17 @@ impl MemorySystem {
     }
 
     // Counts a call, and says whether it is the one to fail.
-    fn is_failing(&self) -> bool {
+    fn next_call_fails(&self) -> bool {
         self.calls.set(self.calls.get().saturating_add(1));
         self.calls.get() == self.failing
     }
 
     // Counts a read or a write, which is refused where it is the call to fail, or is interrupted.
-    fn try_once(&mut self) -> io::Result<()>
+    fn count_read_or_write_or_fail(&mut self) -> io::Result<()>
         ensures tried { self.new ≡ (let m = self.old in record m { tries = m.tries + 1 }) }
     {
         self.tries.add_one();
-        if self.is_failing() {
+        if self.next_call_fails() {
             return Err(io::Error::from(ErrorKind::Other));
         }
         if self.interrupted < self.interruptions {
@@ -301,7 +301,7 @@ impl MemorySystem {
     // What stands under this name.
     fn stands_at(&self, name: Option<&str>) -> Option<&Contents>
         ensures found { option_map (λ c. c.now) result
-            ≡ stands_at (option_map (λ n. n.now) name.entry) self.now.world }
+            ≡ stands_at (option_map (λ n. n.now) name.entry) self.now.state }
     {
         match name {
             None => self.stdin.as_ref(),
@@ -310,18 +310,18 @@ impl MemorySystem {
     }
 
     // A stream of what stands under this name, which is not opened yet, and which file it is.
-    fn source_of(&self, name: Option<&str>) -> Result<(MemorySource, Identities), HostFault>
-        ensures unopened { IfOk result (λ s. s.0 ≡ unopened_source s.0.left) }
+    fn source_of(&self, name: Option<&str>) -> Result<(InMemoryStream, Identities), HostFault>
+        ensures unopened { IfOk result (λ s. s.0 ≡ source_not_yet_opened s.0.left) }
         ensures given { IfOk result (λ s.
-            stands_at (option_map (λ n. n.now) name.entry) self.now.world ≡ Some s.0.left) }
+            stands_at (option_map (λ n. n.now) name.entry) self.now.state ≡ Some s.0.left) }
     {
         let contents = self.stands_at(name).ok_or(HostFault)?;
         let bytes = contents.bytes().to_vec(self.alloc).map_err(|_| HostFault)?;
-        Ok((MemorySource::new(bytes), contents.identities()))
+        Ok((InMemoryStream::new(bytes), contents.identities()))
     }
 
     // Whether the input stands under this name.
-    fn gives_input(&self, name: Option<&str>) -> bool {
+    fn is_input_name(&self, name: Option<&str>) -> bool {
         match &self.input_name {
             None => false,
             Some(None) => name.is_none(),
@@ -332,10 +332,10 @@ impl MemorySystem {
     // Opens the input, if it stands under this name.
     fn open_input(&mut self, name: Option<&str>) -> Result<(), HostFault>
         ensures ok { OnOk result (Opens reading.Input (option_map (λ n. n.now) name.entry)
-            self.old.world self.new.world) }
-        ensures err { OnErr result (self.new.world ≡ self.old.world) }
+            self.old.state self.new.state) }
+        ensures err { OnErr result (self.new.state ≡ self.old.state) }
     {
-        if !self.gives_input(name) {
+        if !self.is_input_name(name) {
             return Err(HostFault);
         }
         self.input.open(name);
@@ -345,11 +345,11 @@ impl MemorySystem {
     }
 
     // Which file an output of this name is.
-    fn output_file(&self, name: Option<&str>) -> Identities {
+    fn identities_of_output(&self, name: Option<&str>) -> Identities {
         match name {
             None => self.stdout,
             Some(text) => match find(self.files.as_slice(), text) {
-                None => Identities::of(MADE),
+                None => Identities::of(IDENTITY_OF_CREATED_OUTPUT),
                 Some(contents) => contents.identities(),
             },
         }
@@ -359,7 +359,7 @@ impl MemorySystem {
 impl System for MemorySystem {
     ghost tells = { true };
 
-    ghost world = { λ m. m.world };
+    ghost state = { λ m. m.state };
 
     ghost files = { λ m. m.files };
 
@@ -376,7 +376,7 @@ impl System for MemorySystem {
     }
 
     fn variable(&self, name: &str, buf: &mut [u8]) -> Result<usize, HostFault> {
-        if self.is_failing() {
+        if self.next_call_fails() {
             return Err(HostFault);
         }
         match find(self.variables.as_slice(), name) {
@@ -386,7 +386,7 @@ impl System for MemorySystem {
     }
 
     fn open(&mut self, reading: Reading, name: Option<&str>) -> Result<(), HostFault> {
-        if self.is_failing() {
+        if self.next_call_fails() {
             return Err(HostFault);
         }
         match reading {
@@ -408,7 +408,7 @@ impl System for MemorySystem {
     }
 
     fn read(&mut self, reading: Reading, buf: &mut [u8]) -> io::Result<usize> {
-        self.try_once()?;
+        self.count_read_or_write_or_fail()?;
         match reading {
             Reading::Input => self.input.read(buf, self.read_size),
             Reading::Secret => self.secret.read(buf, self.read_size),
@@ -417,12 +417,12 @@ impl System for MemorySystem {
     }
 
     fn open_output(&mut self, name: Option<&str>) -> Result<(), HostFault> {
-        self.output_asked = Some(name_asked(name));
-        if self.is_failing() {
+        self.output_asked = Some(to_ghost_name(name));
+        if self.next_call_fails() {
             return Err(HostFault);
         }
-        let file = self.output_file(name).after;
-        self.opened = OpenedFiles {
+        let file = self.identities_of_output(name).after;
+        self.opened = IdentitiesOfOpenedFiles {
             output: file,
             ..self.opened_then
         };
@@ -434,20 +434,20 @@ impl System for MemorySystem {
         Ok(())
     }
 
-    fn file(&self, stream: Stream) -> Result<Option<FileIdentity>, HostFault> {
-        if self.is_failing() {
+    fn file(&self, stream: StreamRole) -> Result<Option<FileIdentity>, HostFault> {
+        if self.next_call_fails() {
             return Err(HostFault);
         }
         Ok(match stream {
-            Stream::Input => self.opened.input,
-            Stream::Secret => self.opened.secret,
-            Stream::Output => self.opened.output,
-            Stream::Error => self.opened.error,
+            StreamRole::Input => self.opened.input,
+            StreamRole::Secret => self.opened.secret,
+            StreamRole::Output => self.opened.output,
+            StreamRole::Error => self.opened.error,
         })
     }
 
     fn empty(&mut self) -> Result<(), HostFault> {
-        if self.is_failing() {
+        if self.next_call_fails() {
             return Err(HostFault);
         }
         self.is_new = true;
@@ -456,7 +456,7 @@ impl System for MemorySystem {
     }
 
     fn write(&mut self, bytes: &[u8]) -> io::Result<usize> {
-        self.try_once()?;
+        self.count_read_or_write_or_fail()?;
         let n = bytes.len().min(self.write_size);
         if self.output.extend_from_slice(&bytes[..n]).is_err() {
             return Err(io::Error::from(ErrorKind::OutOfMemory));
@@ -466,7 +466,7 @@ impl System for MemorySystem {
 
     fn sync(&mut self) -> Result<(), HostFault> {
         self.sync_asked = true;
-        if self.is_failing() {
+        if self.next_call_fails() {
             return Err(HostFault);
         }
         self.is_synced = true;
@@ -474,7 +474,7 @@ impl System for MemorySystem {
     }
 
     fn line(&mut self, line: &str) -> Result<(), HostFault> {
-        if self.is_failing() {
+        if self.next_call_fails() {
             return Err(HostFault);
         }
         let kept = String::from_str(self.alloc, line).map_err(|_| HostFault)?;

@@ -6,15 +6,15 @@ use std::snapshot::Snapshot;
 
 /// A whole number, of which contracts alone see all: at run time nothing is kept of it but whether it is 0.
 #[derive(Drop)]
-pub enum GhostNumber {
+pub enum GhostNaturalNumber {
     Zero,
-    OneMore(Snapshot<GhostNumber>),
+    OneMore(Snapshot<GhostNaturalNumber>),
 }
 
 /// A count without a bound. Contracts see the number, and code sees it up to 2^64-1.
 #[derive(Drop)]
 pub struct UnboundedCount {
-    number: GhostNumber,
+    number: GhostNaturalNumber,
     shown: u64,
 }
 
@@ -35,7 +35,7 @@ impl UnboundedCount {
         ensures none { result ≡ 0 }
     {
         UnboundedCount {
-            number: GhostNumber::Zero,
+            number: GhostNaturalNumber::Zero,
             shown: 0,
         }
     }
@@ -44,7 +44,7 @@ impl UnboundedCount {
     pub fn add_one(&mut self)
         ensures one_more { self.new ≡ self.old + 1 }
     {
-        self.number = GhostNumber::OneMore(Snapshot::of(&self.number));
+        self.number = GhostNaturalNumber::OneMore(Snapshot::of(&self.number));
         self.shown = self.shown.saturating_add(1);
     }
 

@@ -45,7 +45,7 @@ sentence_of status =
     else codes "unknown number"
 
 -- a text stands at the front of a buffer, a byte 0 is after it, and what is after that is as it was
-pub record IsWritten (bytes : List ℕ) (len : ℕ) (old new : List ℕ) : Type 0 where
+pub record IsWrittenAsCString (bytes : List ℕ) (len : ℕ) (old new : List ℕ) : Type 0 where
   pub text : take len new ≡ bytes
   pub end : take (len + 1) new ≡ bytes ++ 0 ∷ []
   pub rest : drop (len + 1) new ≡ drop (len + 1) old

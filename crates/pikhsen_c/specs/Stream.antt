@@ -3,41 +3,41 @@ use Rattle.std.specs.Prelude.{◌≡◌, ◌==◌, ℕ, ◌+◌, ◌^◌, ◌<�
 use Rattle.romix.specs.Costs.{Parameters}
 use Rattle.encfile.specs.EncryptedFile.{IsEncryptionOf, body, encrypted_file, released_text}
 use Rattle.encfile.specs.Encrypting.{HasEncrypted}
-use Rattle.encfile.specs.Decrypting.{HasRead}
-use Rattle.pikhsen_c.specs.File.{encrypt_status, opening_status}
-use Rattle.pikhsen_c.specs.Status.{no_stream, short_file}
+use Rattle.encfile.specs.Decrypting.{DecryptionHasRead}
+use Rattle.pikhsen_c.specs.File.{encrypt_status, header_and_limits_status}
+use Rattle.pikhsen_c.specs.Status.{wrong_stream_state_status, short_file_status}
 use Rattle.pikhsen_c.specs.declared.stream.StreamState.{StreamState}
 use Rattle.pikhsen_c.specs.declared.stream.StreamState.TheVariants as running
 use Rattle.pikhsen_c.specs.declared.stream.PikhsenStream.{PikhsenStream}
 
 -- it is an encryption, which has encrypted this text so far
-abbrev pub Encrypts : StreamState → List ℕ → List ℕ → Parameters → List ℕ → Type 0
-Encrypts (running.Enc enc) passphrase salt costs text = HasEncrypted enc passphrase salt costs text
-Encrypts (running.Dec dec) passphrase salt costs text = ⊥
-Encrypts (running.Over zeros) passphrase salt costs text = ⊥
+abbrev pub StreamStateHasEncrypted : StreamState → List ℕ → List ℕ → Parameters → List ℕ → Type 0
+StreamStateHasEncrypted (running.Enc enc) passphrase salt costs text = HasEncrypted enc passphrase salt costs text
+StreamStateHasEncrypted (running.Dec dec) passphrase salt costs text = ⊥
+StreamStateHasEncrypted (running.Over zeros) passphrase salt costs text = ⊥
 
 -- it is a decryption, which has read this file so far
-abbrev pub Reads : StreamState → List ℕ → List ℕ → Type 0
-Reads (running.Enc enc) passphrase file = ⊥
-Reads (running.Dec dec) passphrase file = HasRead dec passphrase file
-Reads (running.Over zeros) passphrase file = ⊥
+abbrev pub StreamStateHasRead : StreamState → List ℕ → List ℕ → Type 0
+StreamStateHasRead (running.Enc enc) passphrase file = ⊥
+StreamStateHasRead (running.Dec dec) passphrase file = DecryptionHasRead dec passphrase file
+StreamStateHasRead (running.Over zeros) passphrase file = ⊥
 
 abbrev KeptEncrypts : Option StreamState → List ℕ → List ℕ → Parameters → List ℕ → Type 0
 KeptEncrypts None passphrase salt costs text = ⊥
-KeptEncrypts (Some run) passphrase salt costs text = Encrypts run passphrase salt costs text
+KeptEncrypts (Some run) passphrase salt costs text = StreamStateHasEncrypted run passphrase salt costs text
 
 abbrev KeptReads : Option StreamState → List ℕ → List ℕ → Type 0
 KeptReads None passphrase file = ⊥
-KeptReads (Some run) passphrase file = Reads run passphrase file
+KeptReads (Some run) passphrase file = StreamStateHasRead run passphrase file
 
 -- the stream runs, and has encrypted this text so far, for the file of this passphrase, salt and costs
-pub record HasFed (stream : PikhsenStream) (passphrase salt : List ℕ) (costs : Parameters) (text : List ℕ)
+pub record StreamHasEncrypted (stream : PikhsenStream) (passphrase salt : List ℕ) (costs : Parameters) (text : List ℕ)
     : Type 0 where
   pub runs : stream.runs ≡ 1
   pub kept : KeptEncrypts stream.kept.value passphrase salt costs text
 
 -- the stream runs, and has read this file so far, under this passphrase
-pub record HasGot (stream : PikhsenStream) (passphrase file : List ℕ) : Type 0 where
+pub record StreamHasRead (stream : PikhsenStream) (passphrase file : List ℕ) : Type 0 where
   pub runs : stream.runs ≡ 2
   pub kept : KeptReads stream.kept.value passphrase file
 
@@ -51,14 +51,14 @@ pub record IsAsBefore (before after : PikhsenStream) : Type 0 where
 -- the same of an encryption
 abbrev pub encrypt_start_status : ℕ → Parameters → ℕ → ℕ → ℕ → ℕ → ℕ → ℕ
 encrypt_start_status runs costs keep max_bytes max_ops salt_len head_len =
-    if not (runs == 0) then no_stream else encrypt_status costs keep max_bytes max_ops salt_len 0 (head_len + 32)
+    if not (runs == 0) then wrong_stream_state_status else encrypt_status costs keep max_bytes max_ops salt_len 0 (head_len + 32)
 
 -- the same of a decryption, whatever the passphrase
 abbrev pub decrypt_start_status : ℕ → List ℕ → ℕ → ℕ → ℕ → ℕ
 decrypt_start_status runs front keep max_bytes max_ops =
-    if not (runs == 0) then no_stream
-    else if nat_lt (length front) 96 then short_file
-    else opening_status front keep max_bytes max_ops
+    if not (runs == 0) then wrong_stream_state_status
+    else if nat_lt (length front) 96 then short_file_status
+    else header_and_limits_status front keep max_bytes max_ops
 
 -- ---- what the calls make of an encryption, of which a predicate says what it has encrypted so far
 
@@ -66,46 +66,46 @@ abbrev Of : Type 1
 Of = List ℕ → List ℕ → Parameters → List ℕ → Type 0
 
 -- the text that it has encrypted grows by a piece
-abbrev pub FeedsOn : Of → Of → List ℕ → Type 0
-FeedsOn Had Has piece = (passphrase salt : List ℕ) (costs : Parameters) (text : List ℕ)
+abbrev pub EncryptsNextPiece : Of → Of → List ℕ → Type 0
+EncryptsNextPiece Had Has piece = (passphrase salt : List ℕ) (costs : Parameters) (text : List ℕ)
     → Had passphrase salt costs text → Has passphrase salt costs (text ++ piece)
 
 -- these bytes are the next of the file, where its text grows by a piece
-abbrev pub AreNext : Of → List ℕ → List ℕ → Type 0
-AreNext Had piece bytes = (passphrase salt : List ℕ) (costs : Parameters) (text : List ℕ)
+abbrev pub AreNextFileBytes : Of → List ℕ → List ℕ → Type 0
+AreNextFileBytes Had piece bytes = (passphrase salt : List ℕ) (costs : Parameters) (text : List ℕ)
     → Had passphrase salt costs text
     → body passphrase salt costs text ++ bytes ≡ body passphrase salt costs (text ++ piece)
 
 -- so many more bytes are encrypted where the text stays below 2^60 bytes
-abbrev pub FeedsWhatFits : Of → ℕ → ℕ → Type 0
-FeedsWhatFits Had more status = (passphrase salt : List ℕ) (costs : Parameters) (text : List ℕ)
+abbrev pub EncryptsUnlessTextTooLong : Of → ℕ → ℕ → Type 0
+EncryptsUnlessTextTooLong Had more status = (passphrase salt : List ℕ) (costs : Parameters) (text : List ℕ)
     → Had passphrase salt costs text → length text + more < 2 ^ 60 → status ≡ 0
 
 -- these bytes are the last of the file
-abbrev pub AreLast : Of → List ℕ → Type 0
-AreLast Had code = (passphrase salt : List ℕ) (costs : Parameters) (text : List ℕ)
+abbrev pub AreLastFileBytes : Of → List ℕ → Type 0
+AreLastFileBytes Had code = (passphrase salt : List ℕ) (costs : Parameters) (text : List ℕ)
     → Had passphrase salt costs text
     → body passphrase salt costs text ++ code ≡ encrypted_file passphrase salt costs text
 
 -- ---- what the calls make of a decryption, of which a predicate says what it has read so far
 
 -- the file that it has read grows by a piece
-abbrev pub ReadsOn : (List ℕ → List ℕ → Type 0) → (List ℕ → List ℕ → Type 0) → List ℕ → Type 0
-ReadsOn Had Has piece = (passphrase file : List ℕ) → Had passphrase file → Has passphrase (file ++ piece)
+abbrev pub ReadsNextPiece : (List ℕ → List ℕ → Type 0) → (List ℕ → List ℕ → Type 0) → List ℕ → Type 0
+ReadsNextPiece Had Has piece = (passphrase file : List ℕ) → Had passphrase file → Has passphrase (file ++ piece)
 
 -- this text is released where the file grows by a piece
-abbrev pub IsReleased : (List ℕ → List ℕ → Type 0) → List ℕ → List ℕ → Type 0
-IsReleased Had piece text = (passphrase file : List ℕ) → Had passphrase file
+abbrev pub IsNextReleasedText : (List ℕ → List ℕ → Type 0) → List ℕ → List ℕ → Type 0
+IsNextReleasedText Had piece text = (passphrase file : List ℕ) → Had passphrase file
     → released_text file passphrase ++ text ≡ released_text (file ++ piece) passphrase
 
 -- so many more bytes are read where the file stays below 2^60 + 128 bytes
-abbrev pub ReadsWhatFits : (List ℕ → List ℕ → Type 0) → ℕ → ℕ → Type 0
-ReadsWhatFits Had more status = (passphrase file : List ℕ) → Had passphrase file
+abbrev pub ReadsUnlessFileTooLong : (List ℕ → List ℕ → Type 0) → ℕ → ℕ → Type 0
+ReadsUnlessFileTooLong Had more status = (passphrase file : List ℕ) → Had passphrase file
     → length file + more < 2 ^ 60 + 128 → status ≡ 0
 
 -- the file is an encryption of the text that was released
-abbrev pub IsWhole : (List ℕ → List ℕ → Type 0) → Type 0
-IsWhole Had = (passphrase file : List ℕ) → Had passphrase file
+abbrev pub IsEncryptionOfReleasedText : (List ℕ → List ℕ → Type 0) → Type 0
+IsEncryptionOfReleasedText Had = (passphrase file : List ℕ) → Had passphrase file
     → IsEncryptionOf file passphrase (released_text file passphrase)
 
 -- the file is no encryption of the text that was released

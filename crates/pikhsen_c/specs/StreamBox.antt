@@ -12,6 +12,6 @@ abbrev heap : Global
 heap = record { memory = record { seal = tt } }
 
 -- the value at the pointer, with the right to free its block, as a box owns them; or nothing
-abbrev pub kept_owns : (R : RattleType) → Ptr → Option R.Denot → Fml
-kept_owns R p None = ftrue
-kept_owns R p (Some x) = box_owns (ghosts.dealloc_token heap) R p x
+abbrev pub owns_optional_box : (R : RattleType) → Ptr → Option R.Denot → Fml
+owns_optional_box R p None = ftrue
+owns_optional_box R p (Some x) = box_owns (ghosts.dealloc_token heap) R p x

@@ -5,11 +5,11 @@ ghost use Rattle.argon.specs.Counts.{work};
 ghost use Rattle.argon.specs.Inputs.{inputs_of};
 ghost use Rattle.argon.specs.Kind.{type_number};
 ghost use Rattle.argon.specs.Range.{IsInRangeWithAnyPassword, admission};
-ghost use Rattle.pikhsen_c.specs.Argon2.{hash_status, inputs_given, kind_numbered, limits_status, parameters_given, params_status};
-ghost use Rattle.pikhsen_c.specs.Heap.{AsksOnce, CountsWorkOnce, asked_for_matrix};
-ghost use Rattle.pikhsen_c.specs.Inside.Numbers.{IsEarly, number_told};
-ghost use Rattle.pikhsen_c.specs.Inside.Settings.{parameters_of};
-ghost use Rattle.pikhsen_c.specs.Status.{TellsFirst, KeepsAtRefusal};
+ghost use Rattle.pikhsen_c.specs.Argon2.{hash_status, inputs_given, kind_numbered, limits_status, parameters_of_numbers, params_status};
+ghost use Rattle.pikhsen_c.specs.Heap.{RequestsMemoryAtMostOnce, CountsWorkOnce, after_matrix_request};
+ghost use Rattle.pikhsen_c.specs.Inside.Numbers.{IsEarly, status_of_result};
+ghost use Rattle.pikhsen_c.specs.Inside.Settings.{hash_refusal, parameters_of};
+ghost use Rattle.pikhsen_c.specs.Status.{ReturnsFirstStatus, IsUnchangedIfRefused};
 
 use crate::call_memory::CallMemory;
 use crate::machine::Machine;
@@ -17,7 +17,14 @@ use crate::status;
 use crate::wiping::{Answer, wipe_stack};
 use argon::{Inputs, Kind, Params, Ticks};
 
-/// What a caller sets, and the limits of what may be taken.
+/// How many blocks of 1 KiB a hash may take, and how many block functions.
+#[derive(Drop)]
+pub(crate) struct HashLimits {
+    pub max_kib: u32,
+    pub max_ops: u64,
+}
+
+/// What a caller sets, and the limits.
 #[derive(Drop)]
 pub(crate) struct Settings {
     pub kind: u32,
@@ -25,8 +32,7 @@ pub(crate) struct Settings {
     pub passes: u32,
     pub memory_kib: u32,
     pub lanes: u32,
-    pub max_kib: u32,
-    pub max_ops: u64,
+    pub limits: HashLimits,
 }
 
 impl Settings {
@@ -46,8 +52,7 @@ impl Settings {
           passes = passes;
           memory_kib = memory_kib;
           lanes = lanes;
-          max_kib = max_kib;
-          max_ops = max_ops;
+          limits = record { max_kib = max_kib; max_ops = max_ops };
         } }
     {
         Settings {
@@ -56,8 +61,7 @@ impl Settings {
             passes,
             memory_kib,
             lanes,
-            max_kib,
-            max_ops,
+            limits: HashLimits { max_kib, max_ops },
         }
     }
 }
@@ -76,17 +80,12 @@ pub(crate) fn kind_of(number: u32) -> Option<Kind>
     }
 }
 
-// The parameters of these settings, if the type and the version are there and the others in range; or the
-// number of the first fault.
-fn params_of(
-    settings: &Settings,
-    tag_len: usize,
-    salt_len: usize,
-    password_len: usize,
-) -> Result<Params, u32>
-    ensures parameters { IfOk result (λ params. params ≡ parameters_of settings.now tag_len salt_len password_len) }
+// The parameters of a hash, if the type and the version are there and the others in range; or the number of the first
+// fault.
+fn params_of(settings: &Settings, tag_len: usize, inputs: &Inputs<'_>) -> Result<Params, u32>
+    ensures parameters { IfOk result (λ params. params ≡ parameters_of settings.now tag_len inputs.now) }
     ensures in_range { IfOk result IsInRangeWithAnyPassword }
-    ensures status { params_status (parameters_of settings.now tag_len salt_len password_len) ≡ number_told result }
+    ensures status { params_status (parameters_of settings.now tag_len inputs.now) ≡ status_of_result result }
     ensures early { IfErr result IsEarly }
 {
     let Some(kind) = kind_of(settings.kind) else {
@@ -95,59 +94,56 @@ fn params_of(
     if settings.version != 0x10 && settings.version != 0x13 {
         return Err(status::ARGON2_VERSION);
     }
-    match Params::with_any_password(
+    match Params::with_any_password_length(
         kind,
         settings.version,
         settings.passes,
         settings.lanes,
         settings.memory_kib,
         tag_len,
-        salt_len,
-        password_len,
+        inputs.salt.len(),
+        inputs.password.len(),
     ) {
         Ok(params) => Ok(params),
-        Err(fault) => Err(status::of_params(fault)),
+        Err(fault) => Err(status::param_fault_status(fault)),
     }
 }
 
 // Whether the limits admit the parameters, or the number of the first fault.
-fn admitted(params: &Params, settings: &Settings) -> Result<(), u32>
-    ensures admitted { OnOk result (admission params.now settings.now.max_kib settings.now.max_ops ≡ Ok tt) }
-    ensures status { limits_status params.now settings.now.max_kib settings.now.max_ops ≡ number_told result }
+fn admitted(params: &Params, limits: &HashLimits) -> Result<(), u32>
+    ensures admitted { OnOk result (admission params.now limits.now.max_kib limits.now.max_ops ≡ Ok tt) }
+    ensures status { limits_status params.now limits.now.max_kib limits.now.max_ops ≡ status_of_result result }
     ensures early { IfErr result IsEarly }
 {
-    match params.admitted(settings.max_kib, settings.max_ops) {
+    match params.admitted(limits.max_kib, limits.max_ops) {
         Ok(()) => Ok(()),
-        Err(fault) => Err(status::of_params(fault)),
+        Err(fault) => Err(status::param_fault_status(fault)),
     }
 }
 
 /// The parameters of a hash, if nothing refuses it before memory is asked for; or the number of the first fault.
-pub(crate) fn checked_params(
+pub(crate) fn checked_argon2_params(
     settings: &Settings,
     tag_len: usize,
-    salt_len: usize,
-    password_len: usize,
-    secret_len: usize,
-    associated_len: usize,
+    inputs: &Inputs<'_>,
 ) -> Result<Params, u32>
-    ensures parameters { IfOk result (λ params. params ≡ parameters_of settings.now tag_len salt_len password_len) }
+    ensures parameters { IfOk result (λ params. params ≡ parameters_of settings.now tag_len inputs.now) }
     ensures in_range { IfOk result IsInRangeWithAnyPassword }
-    ensures admitted { IfOk result (λ params. admission params settings.now.max_kib settings.now.max_ops ≡ Ok tt) }
-    ensures secret { OnOk result (secret_len < 2 ^ 32) }
-    ensures associated { OnOk result (associated_len < 2 ^ 32) }
-    ensures status { hash_status (parameters_of settings.now tag_len salt_len password_len)
-        secret_len associated_len settings.now.max_kib settings.now.max_ops ≡ number_told result }
+    ensures admitted { IfOk result (λ params.
+        admission params settings.now.limits.max_kib settings.now.limits.max_ops ≡ Ok tt) }
+    ensures secret { OnOk result (length inputs.now.secret.now < 2 ^ 32) }
+    ensures associated { OnOk result (length inputs.now.associated.now < 2 ^ 32) }
+    ensures status { hash_refusal settings.now tag_len inputs.now ≡ status_of_result result }
     ensures early { IfErr result IsEarly }
 {
-    let params = match params_of(settings, tag_len, salt_len, password_len) {
+    let params = match params_of(settings, tag_len, inputs) {
         Ok(params) => params,
         Err(status) => return Err(status),
     };
-    if secret_len > 0xFFFF_FFFF || associated_len > 0xFFFF_FFFF {
+    if inputs.secret.len() > 0xFFFF_FFFF || inputs.associated.len() > 0xFFFF_FFFF {
         return Err(status::INPUT_LENGTH);
     }
-    match admitted(&params, settings) {
+    match admitted(&params, &settings.limits) {
         Ok(()) => Ok(params),
         Err(status) => Err(status),
     }
@@ -162,34 +158,24 @@ fn hash_in<S: CallMemory>(
     out: &mut [u8],
     ticks: &mut Ticks,
 ) -> u32
-    ensures tag { result ≡ 0 → out.new ≡ argon2_tag (parameters_of settings.now
-        (length out.old) (length inputs.now.salt.now) (length inputs.now.password.now)) (inputs_of inputs.now) }
-    ensures first { TellsFirst (hash_status (parameters_of settings.now
-        (length out.old) (length inputs.now.salt.now) (length inputs.now.password.now))
-        (length inputs.now.secret.now) (length inputs.now.associated.now)
-        settings.now.max_kib settings.now.max_ops) result }
-    ensures untouched { KeepsAtRefusal result out.old out.new }
+    ensures tag { result ≡ 0
+        → out.new ≡ argon2_tag (parameters_of settings.now (length out.old) inputs.now) (inputs_of inputs.now) }
+    ensures first { ReturnsFirstStatus (hash_refusal settings.now (length out.old) inputs.now) result }
+    ensures untouched { IsUnchangedIfRefused result out.old out.new }
     // Nothing is asked of the source before every other refusal is ruled out, and then the matrix alone, under the
     // caller's own limits; want of memory is told where that was refused, and only there.
-    ensures asked { AsksOnce (S.after_matrix source.old (parameters_of settings.now
-        (length out.old) (length inputs.now.salt.now) (length inputs.now.password.now))
-        settings.now.max_kib settings.now.max_ops) result source.old source.new }
+    ensures asked { RequestsMemoryAtMostOnce (S.after_matrix source.old (parameters_of settings.now (length out.old) inputs.now)
+        settings.now.limits.max_kib settings.now.limits.max_ops) result source.old source.new }
     // No hash begins before every refusal is ruled out, and then one.
-    ensures works { CountsWorkOnce (work (parameters_of settings.now
-        (length out.old) (length inputs.now.salt.now) (length inputs.now.password.now))) result ticks.old ticks.new }
+    ensures works { CountsWorkOnce (work (parameters_of settings.now (length out.old) inputs.now))
+        result ticks.old ticks.new }
 {
-    let params = match checked_params(
-        settings,
-        out.len(),
-        inputs.salt.len(),
-        inputs.password.len(),
-        inputs.secret.len(),
-        inputs.associated.len(),
-    ) {
+    let params = match checked_argon2_params(settings, out.len(), inputs) {
         Ok(params) => params,
         Err(status) => return status,
     };
-    let Ok(mut matrix) = source.matrix(&params, settings.max_kib, settings.max_ops) else {
+    let limits = &settings.limits;
+    let Ok(mut matrix) = source.matrix(&params, limits.max_kib, limits.max_ops) else {
         return status::OUT_OF_MEMORY;
     };
     matrix.hash(inputs, out, ticks);
@@ -214,19 +200,19 @@ pub extern "C" fn pikhsen_argon2_hash(
     max_ops: u64,
     out: &mut [u8],
 ) -> Answer
-    ensures tag { result.status ≡ 0 → out.new ≡ argon2_tag (parameters_given kind version passes lanes memory_kib
+    ensures tag { result.status ≡ 0 → out.new ≡ argon2_tag (parameters_of_numbers kind version passes lanes memory_kib
         (length out.old) (length salt.now) (length password.now))
         (inputs_given password.now salt.now secret.now associated.now) }
     // Memory is asked for, and refused, only where nothing else is.
-    ensures first { TellsFirst (hash_status (parameters_given kind version passes lanes memory_kib
+    ensures first { ReturnsFirstStatus (hash_status (parameters_of_numbers kind version passes lanes memory_kib
         (length out.old) (length salt.now) (length password.now))
         (length secret.now) (length associated.now) max_kib max_ops) result.status }
-    ensures untouched { KeepsAtRefusal result.status out.old out.new }
+    ensures untouched { IsUnchangedIfRefused result.status out.old out.new }
     // What was asked of the heap.
-    ensures asked { AsksOnce (asked_for_matrix machine.heap) result.status machine.heap result.machine.heap }
+    ensures asked { RequestsMemoryAtMostOnce (after_matrix_request machine.heap) result.status machine.heap result.machine.heap }
     ensures no_cores { result.machine.cores ≡ machine.cores }
     // No hash begins before every refusal is ruled out, and then one.
-    ensures works { CountsWorkOnce (work (parameters_given kind version passes lanes memory_kib
+    ensures works { CountsWorkOnce (work (parameters_of_numbers kind version passes lanes memory_kib
         (length out.old) (length salt.now) (length password.now)))
         result.status machine.blocks result.machine.blocks }
 {

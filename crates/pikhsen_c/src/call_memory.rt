@@ -2,12 +2,12 @@
 ghost use Rattle.std.specs.Prelude.{◌≡◌, ◌^◌, ℕ, Bool, true, List, is_ok, length, IfOk, IfErr, OnOk, IsErrOf};
 ghost use Rattle.argon.specs.Parameters.{Parameters};
 ghost use Rattle.argon.specs.Range.{IsInRangeWithAnyPassword};
-ghost use Rattle.argon_text.specs.EncodedText.{IsTextOf};
-ghost use Rattle.argon_text.specs.Grammar.{HasNumbers, IsText, IsTextInRange};
-ghost use Rattle.argon_text.specs.Value.{IsValue};
+ghost use Rattle.argon_text.specs.EncodedText.{IsEncodedTextOf};
+ghost use Rattle.argon_text.specs.Grammar.{HasWellFormedNumbers, IsEncodedText, IsEncodedTextInRange};
+ghost use Rattle.argon_text.specs.Value.{IsEncodableValue};
 ghost use Rattle.argon_text.specs.View.{value_of};
-ghost use Rattle.romix.specs.SparseCosts.{SparseFitsMemory, SparseParameters};
-ghost use Rattle.pikhsen_c.specs.Argon2.{text_of_zeros};
+ghost use Rattle.romix.specs.SparseCosts.{SparseFitsMemory, CostsAndKeep};
+ghost use Rattle.pikhsen_c.specs.Argon2.{encoded_text_with_zero_tag};
 ghost use Rattle.pikhsen_c.specs.Inside.Numbers.{had_memory_to_read};
 ghost use Rattle.pikhsen_c.specs.Scrypt.{limits_status};
 
@@ -26,7 +26,7 @@ pub(crate) trait CallMemory: HashMemory {
     ghost after_text: { Self → Parameters → List ℕ → Bool → Self };
 
     // The same for the memory of a derivation.
-    ghost after_workspace: { Self → SparseParameters → ℕ → ℕ → Bool → Self };
+    ghost after_workspace: { Self → CostsAndKeep → ℕ → ℕ → Bool → Self };
 
     // The same for the reading of a text.
     ghost after_reading: { Self → List ℕ → Bool → Self };
@@ -35,7 +35,7 @@ pub(crate) trait CallMemory: HashMemory {
     fn text(&mut self, params: &Params, salt: &[u8]) -> Result<Text, AllocError>
         requires in_range { IsInRangeWithAnyPassword params.now }
         requires salt { length salt.now ≡ params.now.salt_len }
-        ensures text { IfOk result (λ text. text.list.items ≡ text_of_zeros params.now salt.now) }
+        ensures text { IfOk result (λ text. text.list.items ≡ encoded_text_with_zero_tag params.now salt.now) }
         ensures asked { self.new ≡ after_text self.old params.now salt.now (is_ok result) };
 
     /// The memory of a derivation that the limits admit.
@@ -52,12 +52,12 @@ pub(crate) trait CallMemory: HashMemory {
 
     /// What `Encoded::read` answers, without the lists of a value.
     fn read(&mut self, text: &[u8]) -> Result<Reading, ReadFault>
-        ensures found { IfOk result (λ reading. IsTextOf (value_of reading.encoded) text.now) }
-        ensures value { IfOk result (λ reading. IsValue (value_of reading.encoded)) }
-        ensures not_in_grammar { IsErrOf result ReadFault.NotInGrammar → IsText text.now → ⊥ }
+        ensures found { IfOk result (λ reading. IsEncodedTextOf (value_of reading.encoded) text.now) }
+        ensures value { IfOk result (λ reading. IsEncodableValue (value_of reading.encoded)) }
+        ensures not_in_grammar { IsErrOf result ReadFault.NotInGrammar → IsEncodedText text.now → ⊥ }
         ensures out_of_range { IsErrOf result ReadFault.OutOfRange
-            → IsText text.now × (IsTextInRange text.now → ⊥) }
-        ensures out_of_memory { IsErrOf result ReadFault.OutOfMemory → HasNumbers text.now }
+            → IsEncodedText text.now × (IsEncodedTextInRange text.now → ⊥) }
+        ensures out_of_memory { IsErrOf result ReadFault.OutOfMemory → HasWellFormedNumbers text.now }
         ensures asked { OnOk result (self.new ≡ after_reading self.old text.now true) }
         ensures refused { IfErr result (λ fault. self.new
             ≡ after_reading self.old text.now (had_memory_to_read fault)) };

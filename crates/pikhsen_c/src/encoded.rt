@@ -1,13 +1,14 @@
 //! Encoded texts of hashes by Argon2.
-ghost use Rattle.std.specs.Prelude.{◌≡◌, ◌≢◌, ◌+◌, ◌^◌, ◌++◌, ◌<◌, ◌≤◌, ◌∷◌, [], length, take, drop, Ok};
+ghost use Rattle.std.specs.Prelude.{◌≡◌, ◌≢◌, ◌+◌, ◌++◌, ◌<◌, ◌≤◌, ◌∷◌, [], length, take, drop};
 ghost use Rattle.argon.specs.Counts.{work};
-ghost use Rattle.pikhsen_c.specs.Argon2.{encoded_hash, encoded_keyed_hash, encoded_keyed_status, encoded_status, hash_status, parameters_given, text_of_zeros};
-ghost use Rattle.pikhsen_c.specs.Heap.{AsksTwice, CountsWorkOnce, asked_for_matrix, asked_for_text};
-ghost use Rattle.pikhsen_c.specs.Inside.Settings.{parameters_of};
-ghost use Rattle.pikhsen_c.specs.Message.{IsWritten};
-ghost use Rattle.pikhsen_c.specs.Status.{out_of_memory, KeepsAtRefusal, TellsNoLength};
+ghost use Rattle.argon.specs.Inputs.{InputsFitParameters, inputs_of};
+ghost use Rattle.pikhsen_c.specs.Argon2.{encoded_hash, encoded_keyed_hash, encoded_keyed_status, hash_to_encoded_status, hash_status, parameters_of_numbers, encoded_text_with_zero_tag};
+ghost use Rattle.pikhsen_c.specs.Heap.{RequestsMemoryForTextAndHash, CountsWorkOnce, after_matrix_request, after_text_request};
+ghost use Rattle.pikhsen_c.specs.Inside.Settings.{encoded_text_of, encoding_refusal, hash_refusal, parameters_of};
+ghost use Rattle.pikhsen_c.specs.Message.{IsWrittenAsCString};
+ghost use Rattle.pikhsen_c.specs.Status.{out_of_memory_status, IsUnchangedIfRefused, ReturnsNoLengthIfRefused};
 
-use crate::argon2::{Settings, checked_params};
+use crate::argon2::{Settings, checked_argon2_params};
 use crate::call_memory::CallMemory;
 use crate::machine::Machine;
 use crate::status;
@@ -19,34 +20,21 @@ use argon::{Inputs, Matrix, Ticks};
 fn hash_into(
     text: &mut Text,
     matrix: &mut Matrix,
-    password: &[u8],
-    salt: &[u8],
-    secret: &[u8],
-    associated: &[u8],
+    inputs: &Inputs<'_>,
     tag_len: usize,
     ticks: &mut Ticks,
 )
     requires tag_len { matrix.old.parameters.tag_len ≡ tag_len }
     requires short { tag_len ≤ 4096 }
-    requires password { length password.now ≡ matrix.old.parameters.password_len }
-    requires salt { length salt.now ≡ matrix.old.parameters.salt_len }
-    requires secret { length secret.now < 2 ^ 32 }
-    requires associated { length associated.now < 2 ^ 32 }
-    requires zeros { text.old.list.items ≡ text_of_zeros matrix.old.parameters salt.now }
-    ensures text { text.new.list.items
-        ≡ encoded_keyed_hash matrix.old.parameters password.now salt.now secret.now associated.now }
+    requires inputs { InputsFitParameters matrix.old.parameters (inputs_of inputs.now) }
+    requires zeros { text.old.list.items ≡ encoded_text_with_zero_tag matrix.old.parameters inputs.now.salt.now }
+    ensures text { text.new.list.items ≡ encoded_text_of matrix.old.parameters inputs.now }
     ensures len { length text.new.list.items ≡ length text.old.list.items }
     ensures count { ticks.new ≡ ticks.old + work matrix.old.parameters }
 {
     let mut longest = [0u8; 4096];
     let tag = &mut longest[..tag_len];
-    let inputs = Inputs {
-        password,
-        salt,
-        secret,
-        associated,
-    };
-    matrix.hash(&inputs, tag, ticks);
+    matrix.hash(inputs, tag, ticks);
     text.put(tag);
 }
 
@@ -66,68 +54,43 @@ pub(crate) fn copy_text(text: &[u8], out: &mut [u8])
 pub(crate) fn encode_in<S: CallMemory>(
     source: &mut S,
     settings: &Settings,
-    password: &[u8],
-    salt: &[u8],
-    secret: &[u8],
-    associated: &[u8],
+    inputs: &Inputs<'_>,
     tag_len: usize,
     out: &mut [u8],
     text_len: &mut usize,
     ticks: &mut Ticks,
 ) -> u32
-    ensures written { result ≡ 0 → IsWritten
-        (encoded_keyed_hash (parameters_of settings.now tag_len (length salt.now) (length password.now))
-        password.now salt.now secret.now associated.now) text_len.new out.old out.new }
-    ensures status { result ≢ out_of_memory → result
-        ≡ encoded_keyed_status (parameters_of settings.now tag_len (length salt.now) (length password.now)) salt.now
-        (length secret.now) (length associated.now) settings.now.max_kib settings.now.max_ops (length out.old) }
-    ensures memory { result ≡ out_of_memory
-        → hash_status (parameters_of settings.now tag_len (length salt.now) (length password.now))
-        (length secret.now) (length associated.now) settings.now.max_kib settings.now.max_ops ≡ 0 }
-    ensures untouched { KeepsAtRefusal result out.old out.new }
-    ensures nothing { TellsNoLength result text_len.new }
+    ensures written { result ≡ 0 → IsWrittenAsCString (encoded_text_of (parameters_of settings.now tag_len inputs.now) inputs.now)
+        text_len.new out.old out.new }
+    ensures status { result ≢ out_of_memory_status → result ≡ encoding_refusal settings.now tag_len inputs.now (length out.old) }
+    ensures memory { result ≡ out_of_memory_status → hash_refusal settings.now tag_len inputs.now ≡ 0 }
+    ensures untouched { IsUnchangedIfRefused result out.old out.new }
+    ensures nothing { ReturnsNoLengthIfRefused result text_len.new }
     // Nothing is asked of the source before settings, lengths and limits are tested. That the buffer is too small is
     // told after the text alone was asked for, and granted; otherwise the matrix alone, under the caller's own
     // limits.
-    ensures asked { let parameters = parameters_of settings.now tag_len (length salt.now) (length password.now) in
-        AsksTwice (S.after_text source.old parameters salt.now)
-        (λ source. S.after_matrix source parameters settings.now.max_kib settings.now.max_ops)
-        (encoded_keyed_status parameters salt.now (length secret.now) (length associated.now)
-        settings.now.max_kib settings.now.max_ops (length out.old)) result source.old source.new }
-    ensures works { CountsWorkOnce (work (parameters_of settings.now tag_len (length salt.now) (length password.now)))
-        result ticks.old ticks.new }
+    ensures asked { let parameters = parameters_of settings.now tag_len inputs.now in
+        RequestsMemoryForTextAndHash (S.after_text source.old parameters inputs.now.salt.now)
+        (λ source. S.after_matrix source parameters settings.now.limits.max_kib settings.now.limits.max_ops)
+        (encoding_refusal settings.now tag_len inputs.now (length out.old)) result source.old source.new }
+    ensures works { CountsWorkOnce (work (parameters_of settings.now tag_len inputs.now)) result ticks.old ticks.new }
 {
     *text_len = 0;
-    let params = match checked_params(
-        settings,
-        tag_len,
-        salt.len(),
-        password.len(),
-        secret.len(),
-        associated.len(),
-    ) {
+    let params = match checked_argon2_params(settings, tag_len, inputs) {
         Ok(params) => params,
         Err(status) => return status,
     };
-    let Ok(mut text) = source.text(&params, salt) else {
+    let Ok(mut text) = source.text(&params, inputs.salt) else {
         return status::OUT_OF_MEMORY;
     };
     if out.len() <= text.as_slice().len() {
         return status::BUFFER;
     }
-    let Ok(mut matrix) = source.matrix(&params, settings.max_kib, settings.max_ops) else {
+    let limits = &settings.limits;
+    let Ok(mut matrix) = source.matrix(&params, limits.max_kib, limits.max_ops) else {
         return status::OUT_OF_MEMORY;
     };
-    hash_into(
-        &mut text,
-        &mut matrix,
-        password,
-        salt,
-        secret,
-        associated,
-        tag_len,
-        ticks,
-    );
+    hash_into(&mut text, &mut matrix, inputs, tag_len, ticks);
     copy_text(text.as_slice(), out);
     *text_len = text.as_slice().len();
     status::OK
@@ -151,42 +114,44 @@ pub extern "C" fn pikhsen_argon2_encoded(
     out: &mut [u8],
     text_len: &mut usize,
 ) -> Answer
-    ensures written { result.status ≡ 0 → IsWritten (encoded_hash (parameters_given kind version passes lanes
+    ensures written { result.status ≡ 0 → IsWrittenAsCString (encoded_hash (parameters_of_numbers kind version passes lanes
         memory_kib tag_len (length salt.now) (length password.now))
         password.now salt.now) text_len.new out.old out.new }
-    ensures status { result.status ≢ out_of_memory → result.status
-        ≡ encoded_status (parameters_given kind version passes lanes memory_kib
+    ensures status { result.status ≢ out_of_memory_status → result.status
+        ≡ hash_to_encoded_status (parameters_of_numbers kind version passes lanes memory_kib
         tag_len (length salt.now) (length password.now)) salt.now max_kib max_ops (length out.old) }
     // Memory is asked for, and refused, only where the settings are not.
-    ensures memory { result.status ≡ out_of_memory → hash_status (parameters_given kind version passes lanes
+    ensures memory { result.status ≡ out_of_memory_status → hash_status (parameters_of_numbers kind version passes lanes
         memory_kib tag_len (length salt.now) (length password.now)) 0 0 max_kib max_ops ≡ 0 }
-    ensures untouched { KeepsAtRefusal result.status out.old out.new }
-    ensures nothing { TellsNoLength result.status text_len.new }
+    ensures untouched { IsUnchangedIfRefused result.status out.old out.new }
+    ensures nothing { ReturnsNoLengthIfRefused result.status text_len.new }
     // What was asked of the heap.
-    ensures asked { AsksTwice (asked_for_text machine.heap) asked_for_matrix
-        (encoded_status (parameters_given kind version passes lanes memory_kib
+    ensures asked { RequestsMemoryForTextAndHash (after_text_request machine.heap) after_matrix_request
+        (hash_to_encoded_status (parameters_of_numbers kind version passes lanes memory_kib
         tag_len (length salt.now) (length password.now)) salt.now max_kib max_ops (length out.old))
         result.status machine.heap result.machine.heap }
     ensures no_cores { result.machine.cores ≡ machine.cores }
     // No hash begins before every refusal is ruled out, and then one.
-    ensures works { CountsWorkOnce (work (parameters_given kind version passes lanes memory_kib
+    ensures works { CountsWorkOnce (work (parameters_of_numbers kind version passes lanes memory_kib
         tag_len (length salt.now) (length password.now))) result.status machine.blocks result.machine.blocks }
 {
-    let mut machine = machine;
-    let settings = Settings::new(kind, version, passes, memory_kib, lanes, max_kib, max_ops);
-    let told = encode_in(
-        &mut machine.heap,
-        &settings,
+    pikhsen_argon2_encoded_keyed(
+        machine,
+        kind,
+        version,
+        passes,
+        memory_kib,
+        lanes,
         password,
         salt,
         &[],
         &[],
         tag_len,
+        max_kib,
+        max_ops,
         out,
         text_len,
-        &mut machine.blocks,
-    );
-    wipe_stack(told, machine)
+    )
 }
 
 /// The encoded text of a password's hash with a secret value and associated data, as `pikhsen_argon2_encoded` gives it
@@ -209,39 +174,42 @@ pub extern "C" fn pikhsen_argon2_encoded_keyed(
     out: &mut [u8],
     text_len: &mut usize,
 ) -> Answer
-    ensures written { result.status ≡ 0 → IsWritten (encoded_keyed_hash (parameters_given kind version passes lanes
+    ensures written { result.status ≡ 0 → IsWrittenAsCString (encoded_keyed_hash (parameters_of_numbers kind version passes lanes
         memory_kib tag_len (length salt.now) (length password.now))
         password.now salt.now secret.now associated.now) text_len.new out.old out.new }
-    ensures status { result.status ≢ out_of_memory → result.status
-        ≡ encoded_keyed_status (parameters_given kind version passes lanes memory_kib
+    ensures status { result.status ≢ out_of_memory_status → result.status
+        ≡ encoded_keyed_status (parameters_of_numbers kind version passes lanes memory_kib
         tag_len (length salt.now) (length password.now)) salt.now
         (length secret.now) (length associated.now) max_kib max_ops (length out.old) }
     // Memory is asked for, and refused, only where nothing but the buffer is refused.
-    ensures memory { result.status ≡ out_of_memory → hash_status (parameters_given kind version passes lanes
+    ensures memory { result.status ≡ out_of_memory_status → hash_status (parameters_of_numbers kind version passes lanes
         memory_kib tag_len (length salt.now) (length password.now))
         (length secret.now) (length associated.now) max_kib max_ops ≡ 0 }
-    ensures untouched { KeepsAtRefusal result.status out.old out.new }
-    ensures nothing { TellsNoLength result.status text_len.new }
+    ensures untouched { IsUnchangedIfRefused result.status out.old out.new }
+    ensures nothing { ReturnsNoLengthIfRefused result.status text_len.new }
     // What was asked of the heap.
-    ensures asked { AsksTwice (asked_for_text machine.heap) asked_for_matrix
-        (encoded_keyed_status (parameters_given kind version passes lanes memory_kib
+    ensures asked { RequestsMemoryForTextAndHash (after_text_request machine.heap) after_matrix_request
+        (encoded_keyed_status (parameters_of_numbers kind version passes lanes memory_kib
         tag_len (length salt.now) (length password.now)) salt.now
         (length secret.now) (length associated.now) max_kib max_ops (length out.old))
         result.status machine.heap result.machine.heap }
     ensures no_cores { result.machine.cores ≡ machine.cores }
     // No hash begins before every refusal is ruled out, and then one.
-    ensures works { CountsWorkOnce (work (parameters_given kind version passes lanes memory_kib
+    ensures works { CountsWorkOnce (work (parameters_of_numbers kind version passes lanes memory_kib
         tag_len (length salt.now) (length password.now))) result.status machine.blocks result.machine.blocks }
 {
     let mut machine = machine;
     let settings = Settings::new(kind, version, passes, memory_kib, lanes, max_kib, max_ops);
-    let told = encode_in(
-        &mut machine.heap,
-        &settings,
+    let inputs = Inputs {
         password,
         salt,
         secret,
         associated,
+    };
+    let told = encode_in(
+        &mut machine.heap,
+        &settings,
+        &inputs,
         tag_len,
         out,
         text_len,

@@ -1,21 +1,21 @@
 //! scrypt's encrypted files, whole in memory.
 ghost use Rattle.std.specs.Prelude.{◌≡◌, ◌≢◌, ℕ, ◌+◌, ◌-◌, ◌^◌, ◌<◌, ◌≤◌, List, [], length, replicate, take, drop, IfOk, IfErr, OnOk, OnErr};
 ghost use Rattle.romix.specs.Costs.{Parameters};
-ghost use Rattle.encfile.specs.Decrypting.{HasRead};
-ghost use Rattle.encfile.specs.EncryptedFile.{HasRightHeaderCode, IsEncryptionOf, encrypted_file, released_text};
+ghost use Rattle.encfile.specs.Decrypting.{DecryptionHasRead};
+ghost use Rattle.encfile.specs.EncryptedFile.{HasRightHeaderHmac, IsEncryptionOf, encrypted_file, released_text};
 ghost use Rattle.encfile.specs.Encrypting.{HasEncrypted};
 ghost use Rattle.encfile.specs.Header.{IsHeaderOf, costs_of, salt_of};
 ghost use Rattle.encfile.specs.HeaderFaults.{header_fault};
-ghost use Rattle.pikhsen_c.specs.File.{cores_to_open, encrypt_status, front_status, header_status, lengths_status, number_of};
-ghost use Rattle.pikhsen_c.specs.Heap.{AsksOnce, AsksToCheck, CountsWorkOnce, CountsWorkToCheck, asked_for_workspace};
-ghost use Rattle.pikhsen_c.specs.Inside.Numbers.{IsEarly, number_told, IsRefusal};
-ghost use Rattle.pikhsen_c.specs.Inside.Settings.{asks_workspace, cores_of_settings, costs_of_settings, encryption_refusal, front_refusal, length_to_encrypt, opening_refusal, text_to_encrypt, HasFront};
-ghost use Rattle.pikhsen_c.specs.Scrypt.{costs_given, sparse_given, cores_given};
-ghost use Rattle.pikhsen_c.specs.Status.{TellsFirst, TellsFirstOrLate, damaged, long_text, wrong_passphrase, KeepsAtRefusal, TellsNoLength};
+ghost use Rattle.pikhsen_c.specs.File.{salsa20_cores_to_open, encrypt_status, front_status, header_status, lengths_status, number_of};
+ghost use Rattle.pikhsen_c.specs.Heap.{RequestsMemoryAtMostOnce, RequestsMemoryUnlessEarly, CountsWorkOnce, CountsWorkUnlessEarly, after_workspace_request};
+ghost use Rattle.pikhsen_c.specs.Inside.Numbers.{IsEarly, status_of_result, IsRefusalStatus};
+ghost use Rattle.pikhsen_c.specs.Inside.Settings.{source_after_workspace_request, salsa20_cores_of_settings, costs_of_settings, encryption_refusal, front_refusal, length_of_text_to_encrypt, header_and_limits_status_of_settings, text_to_encrypt, HasFront};
+ghost use Rattle.pikhsen_c.specs.Scrypt.{costs_of_numbers, costs_with_keep, salsa20_cores_of_numbers};
+ghost use Rattle.pikhsen_c.specs.Status.{ReturnsFirstStatus, ReturnsFirstOrLateStatus, damaged_status, long_text_status, wrong_passphrase_status, IsUnchangedIfRefused, ReturnsNoLengthIfRefused};
 
 use crate::call_memory::CallMemory;
 use crate::machine::Machine;
-use crate::scrypt::{ScryptLimits, ScryptSettings, admitted, costs_of, workspace};
+use crate::scrypt::{ScryptCostsAndLimits, ScryptLimits, admitted, costs_of, workspace};
 use crate::status;
 use crate::wiping::{Answer, wipe_stack};
 use encfile::{Dec, Enc, Header, TooLong};
@@ -31,12 +31,12 @@ pub struct PikhsenScryptCosts {
 }
 
 // The header of a file of at least 64 bytes, or the number of the first fault.
-fn header_of(file: &[u8]) -> Result<Header, u32>
+fn read_file_header(file: &[u8]) -> Result<Header, u32>
     requires long { 64 ≤ length file.now }
     ensures header { IfOk result (λ header. IsHeaderOf (take 64 file.now) header) }
     ensures costs { IfOk result (λ header. header.costs ≡ costs_of (take 64 file.now)) }
     ensures salt { IfOk result (λ header. header.salt ≡ salt_of (take 64 file.now)) }
-    ensures status { number_of (header_fault (take 64 file.now)) ≡ number_told result }
+    ensures status { number_of (header_fault (take 64 file.now)) ≡ status_of_result result }
     ensures at_least_22 { IfErr result (λ status. 22 ≤ status) }
     ensures below { IfErr result (λ status. status ≤ 25) }
 {
@@ -44,21 +44,21 @@ fn header_of(file: &[u8]) -> Result<Header, u32>
     front.copy_from_slice(&file[..64]);
     match Header::read(&front) {
         Ok(header) => Ok(header),
-        Err(fault) => Err(status::of_header(fault)),
+        Err(fault) => Err(status::header_fault_status(fault)),
     }
 }
 
 /// The costs that the header of a file says. Anyone can make a header, so nothing is known of who wrote it.
 #[unsafe(no_mangle)]
 pub extern "C" fn pikhsen_scrypt_info(file: &[u8], costs: &mut PikhsenScryptCosts) -> u32
-    ensures costs { result ≡ 0 → costs_given costs.new.log_n costs.new.r costs.new.p ≡ costs_of (take 64 file.now) }
+    ensures costs { result ≡ 0 → costs_of_numbers costs.new.log_n costs.new.r costs.new.p ≡ costs_of (take 64 file.now) }
     ensures status { result ≡ header_status file.now }
-    ensures untouched { KeepsAtRefusal result costs.old costs.new }
+    ensures untouched { IsUnchangedIfRefused result costs.old costs.new }
 {
     if file.len() < 64 {
         return status::TOO_SHORT;
     }
-    match header_of(file) {
+    match read_file_header(file) {
         Ok(header) => {
             let said = header.costs();
             *costs = PikhsenScryptCosts {
@@ -74,7 +74,7 @@ pub extern "C" fn pikhsen_scrypt_info(file: &[u8], costs: &mut PikhsenScryptCost
 
 // Whether salt, text and file have lengths that fit, or the number of the first fault.
 fn check_lengths(salt: &[u8], text_len: usize, out_len: usize) -> Result<(), u32>
-    ensures status { lengths_status (length salt.now) text_len out_len ≡ number_told result }
+    ensures status { lengths_status (length salt.now) text_len out_len ≡ status_of_result result }
     ensures salt { OnOk result (length salt.now ≡ 32) }
     ensures text { OnOk result (text_len < 2 ^ 60) }
     ensures room { OnOk result (out_len ≡ text_len + 128) }
@@ -94,12 +94,12 @@ fn check_lengths(salt: &[u8], text_len: usize, out_len: usize) -> Result<(), u32
 
 /// What an encryption is refused for before memory is asked for, if it is, by its number.
 pub(crate) fn check_encryption(
-    settings: &ScryptSettings,
+    settings: &ScryptCostsAndLimits,
     salt: &[u8],
     text_len: usize,
     out_len: usize,
 ) -> Result<(), u32>
-    ensures status { encryption_refusal settings.now (length salt.now) text_len out_len ≡ number_told result }
+    ensures status { encryption_refusal settings.now (length salt.now) text_len out_len ≡ status_of_result result }
     ensures early { IfErr result IsEarly }
 {
     let costs = costs_of(settings.log_n, settings.r, settings.p)?;
@@ -112,7 +112,7 @@ pub(crate) fn check_encryption(
 /// number of what it is refused for.
 pub(crate) fn start_encryption<S: CallMemory>(
     source: &mut S,
-    settings: &ScryptSettings,
+    settings: &ScryptCostsAndLimits,
     passphrase: &[u8],
     salt: &[u8],
     text_len: usize,
@@ -122,16 +122,16 @@ pub(crate) fn start_encryption<S: CallMemory>(
     ensures begun { IfOk result (λ enc. HasEncrypted enc passphrase.now salt.now (costs_of_settings settings.now) []) }
     ensures text { OnOk result (text_len < 2 ^ 60) }
     ensures room { OnOk result (out_len ≡ text_len + 128) }
-    ensures first { TellsFirst (encryption_refusal settings.now (length salt.now) text_len out_len)
-        (number_told result) }
-    ensures at_least_1 { IfErr result IsRefusal }
+    ensures first { ReturnsFirstStatus (encryption_refusal settings.now (length salt.now) text_len out_len)
+        (status_of_result result) }
+    ensures at_least_1 { IfErr result IsRefusalStatus }
     // Nothing is asked of the source before every other refusal is ruled out, and then it is asked once.
-    ensures asked { AsksOnce (asks_workspace S.after_workspace settings.now.limits
+    ensures asked { RequestsMemoryAtMostOnce (source_after_workspace_request S.after_workspace settings.now.limits
         (costs_of_settings settings.now) source.old)
-        (number_told result) source.old source.new }
+        (status_of_result result) source.old source.new }
     // No derivation begins before every refusal is ruled out, and then one.
-    ensures works { CountsWorkOnce (cores_of_settings settings.now passphrase.now salt.now)
-        (number_told result) ticks.old ticks.new }
+    ensures works { CountsWorkOnce (salsa20_cores_of_settings settings.now passphrase.now salt.now)
+        (status_of_result result) ticks.old ticks.new }
 {
     let costs = costs_of(settings.log_n, settings.r, settings.p)?;
     check_lengths(salt, text_len, out_len)?;
@@ -143,7 +143,7 @@ pub(crate) fn start_encryption<S: CallMemory>(
 
 // The length of the text that is given, or else of a buffer of `out_len` bytes without its last 128.
 fn length_of(text: Option<&[u8]>, out_len: usize) -> usize
-    ensures length { result ≡ length_to_encrypt text.entry out_len }
+    ensures length { result ≡ length_of_text_to_encrypt text.entry out_len }
 {
     match text {
         Some(text) => text.len(),
@@ -153,7 +153,7 @@ fn length_of(text: Option<&[u8]>, out_len: usize) -> usize
 
 // Puts the text to where it stands in a file.
 fn place_text(text: Option<&[u8]>, out: &mut [u8])
-    requires room { length out.old ≡ length_to_encrypt text (length out.old) + 128 }
+    requires room { length out.old ≡ length_of_text_to_encrypt text (length out.old) + 128 }
     ensures placed { take (length out.old - 128) (drop 96 out.new) ≡ text_to_encrypt text.entry out.old }
 {
     let text_len = out.len() - 128;
@@ -164,7 +164,7 @@ fn place_text(text: Option<&[u8]>, out: &mut [u8])
 }
 
 // Makes the file of the text that stands in its place, by an encryption of nothing yet. It is never too long.
-fn put_file(enc: Enc, out: &mut [u8]) -> Result<(), TooLong>
+fn make_file_in_place(enc: Enc, out: &mut [u8]) -> Result<(), TooLong>
     requires room { 128 ≤ length out.old }
     requires short { length out.old < 2 ^ 60 + 128 }
     ensures file { OnOk result ((passphrase salt : List ℕ) (costs : Parameters)
@@ -187,7 +187,7 @@ fn put_file(enc: Enc, out: &mut [u8]) -> Result<(), TooLong>
 #[inline(never)]
 fn encrypt_in<S: CallMemory>(
     source: &mut S,
-    settings: &ScryptSettings,
+    settings: &ScryptCostsAndLimits,
     passphrase: &[u8],
     salt: &[u8],
     text: Option<&[u8]>,
@@ -196,22 +196,22 @@ fn encrypt_in<S: CallMemory>(
 ) -> u32
     ensures file { result ≡ 0 → out.new
         ≡ encrypted_file passphrase.now salt.now (costs_of_settings settings.now) (text_to_encrypt text.entry out.old) }
-    ensures first { TellsFirst (encryption_refusal settings.now (length salt.now)
-        (length_to_encrypt text.entry (length out.old)) (length out.old)) result }
-    ensures untouched { KeepsAtRefusal result out.old out.new }
+    ensures first { ReturnsFirstStatus (encryption_refusal settings.now (length salt.now)
+        (length_of_text_to_encrypt text.entry (length out.old)) (length out.old)) result }
+    ensures untouched { IsUnchangedIfRefused result out.old out.new }
     // Nothing is asked of the source before every other refusal is ruled out, and then it is asked once.
-    ensures asked { AsksOnce (asks_workspace S.after_workspace settings.now.limits
+    ensures asked { RequestsMemoryAtMostOnce (source_after_workspace_request S.after_workspace settings.now.limits
         (costs_of_settings settings.now) source.old)
         result source.old source.new }
     // No derivation begins before every refusal is ruled out, and then one.
-    ensures works { CountsWorkOnce (cores_of_settings settings.now passphrase.now salt.now) result ticks.old ticks.new }
+    ensures works { CountsWorkOnce (salsa20_cores_of_settings settings.now passphrase.now salt.now) result ticks.old ticks.new }
 {
     let out_len = out.len();
     let text_len = length_of(text, out_len);
     match start_encryption(source, settings, passphrase, salt, text_len, out_len, ticks) {
         Ok(enc) => {
             place_text(text, out);
-            match put_file(enc, out) {
+            match make_file_in_place(enc, out) {
                 Ok(()) => status::OK,
                 Err(_) => status::TOO_LONG,
             }
@@ -236,20 +236,20 @@ pub extern "C" fn pikhsen_scrypt_encrypt(
     out: &mut [u8],
 ) -> Answer
     ensures file { result.status ≡ 0
-        → out.new ≡ encrypted_file passphrase.now salt.now (costs_given log_n r p) text.now }
+        → out.new ≡ encrypted_file passphrase.now salt.now (costs_of_numbers log_n r p) text.now }
     // Memory is asked for, and refused, only where nothing else is.
-    ensures first { TellsFirst (encrypt_status (costs_given log_n r p) keep max_bytes max_ops
+    ensures first { ReturnsFirstStatus (encrypt_status (costs_of_numbers log_n r p) keep max_bytes max_ops
         (length salt.now) (length text.now) (length out.old)) result.status }
-    ensures untouched { KeepsAtRefusal result.status out.old out.new }
+    ensures untouched { IsUnchangedIfRefused result.status out.old out.new }
     // What was asked of the heap.
-    ensures asked { AsksOnce (asked_for_workspace machine.heap) result.status machine.heap result.machine.heap }
+    ensures asked { RequestsMemoryAtMostOnce (after_workspace_request machine.heap) result.status machine.heap result.machine.heap }
     ensures no_blocks { result.machine.blocks ≡ machine.blocks }
     // No derivation begins before every refusal is ruled out, and then one.
-    ensures works { CountsWorkOnce (cores_given passphrase.now salt.now log_n r p keep) result.status
+    ensures works { CountsWorkOnce (salsa20_cores_of_numbers passphrase.now salt.now log_n r p keep) result.status
         machine.cores result.machine.cores }
 {
     let mut machine = machine;
-    let settings = ScryptSettings::new(log_n, r, p, keep, max_bytes, max_ops);
+    let settings = ScryptCostsAndLimits::new(log_n, r, p, keep, max_bytes, max_ops);
     let told = encrypt_in(
         &mut machine.heap,
         &settings,
@@ -276,19 +276,19 @@ pub extern "C" fn pikhsen_scrypt_encrypt_in_place(
     max_ops: u64,
     out: &mut [u8],
 ) -> Answer
-    ensures file { result.status ≡ 0 → out.new ≡ encrypted_file passphrase.now salt.now (costs_given log_n r p)
+    ensures file { result.status ≡ 0 → out.new ≡ encrypted_file passphrase.now salt.now (costs_of_numbers log_n r p)
         (take (length out.old - 128) out.old) }
-    ensures first { TellsFirst (encrypt_status (costs_given log_n r p) keep max_bytes max_ops
+    ensures first { ReturnsFirstStatus (encrypt_status (costs_of_numbers log_n r p) keep max_bytes max_ops
         (length salt.now) (length out.old - 128) (length out.old)) result.status }
     // The text stays where it is not encrypted.
-    ensures untouched { KeepsAtRefusal result.status out.old out.new }
-    ensures asked { AsksOnce (asked_for_workspace machine.heap) result.status machine.heap result.machine.heap }
+    ensures untouched { IsUnchangedIfRefused result.status out.old out.new }
+    ensures asked { RequestsMemoryAtMostOnce (after_workspace_request machine.heap) result.status machine.heap result.machine.heap }
     ensures no_blocks { result.machine.blocks ≡ machine.blocks }
-    ensures works { CountsWorkOnce (cores_given passphrase.now salt.now log_n r p keep) result.status
+    ensures works { CountsWorkOnce (salsa20_cores_of_numbers passphrase.now salt.now log_n r p keep) result.status
         machine.cores result.machine.cores }
 {
     let mut machine = machine;
-    let settings = ScryptSettings::new(log_n, r, p, keep, max_bytes, max_ops);
+    let settings = ScryptCostsAndLimits::new(log_n, r, p, keep, max_bytes, max_ops);
     let told = encrypt_in(
         &mut machine.heap,
         &settings,
@@ -312,12 +312,12 @@ fn front_of(file: &[u8]) -> [u8; 96]
 }
 
 /// What a file is refused for before memory is asked for, if it is, by its number.
-pub(crate) fn check_opening(file: &[u8], limits: &ScryptLimits) -> Result<(), u32>
+pub(crate) fn check_header_and_limits(file: &[u8], limits: &ScryptLimits) -> Result<(), u32>
     requires long { HasFront file.now }
-    ensures status { opening_refusal limits.now file.now ≡ number_told result }
+    ensures status { header_and_limits_status_of_settings limits.now file.now ≡ status_of_result result }
     ensures early { IfErr result IsEarly }
 {
-    let header = match header_of(file) {
+    let header = match read_file_header(file) {
         Ok(header) => header,
         Err(status) => return Err(status),
     };
@@ -326,7 +326,7 @@ pub(crate) fn check_opening(file: &[u8], limits: &ScryptLimits) -> Result<(), u3
 }
 
 // The header of a file, and the memory of the derivation that opens it; or the number of what the file is refused for.
-fn memory_to_open<S: CallMemory>(
+fn header_and_workspace<S: CallMemory>(
     source: &mut S,
     limits: &ScryptLimits,
     file: &[u8],
@@ -336,15 +336,15 @@ fn memory_to_open<S: CallMemory>(
     ensures costs { IfOk result (λ both. both.0.costs ≡ costs_of (take 64 file.now)) }
     ensures salt { IfOk result (λ both. both.0.salt ≡ salt_of (take 64 file.now)) }
     ensures sparse { IfOk result (λ both.
-        both.1.sparse ≡ sparse_given (costs_of (take 64 file.now)) limits.now.keep) }
-    ensures first { TellsFirst (opening_refusal limits.now file.now) (number_told result) }
-    ensures at_least_1 { IfErr result IsRefusal }
+        both.1.sparse ≡ costs_with_keep (costs_of (take 64 file.now)) limits.now.keep) }
+    ensures first { ReturnsFirstStatus (header_and_limits_status_of_settings limits.now file.now) (status_of_result result) }
+    ensures at_least_1 { IfErr result IsRefusalStatus }
     ensures below { IfErr result (λ status. status ≤ 25) }
     // Nothing is asked of the source before header and limits are tested, and then it is asked once.
-    ensures asked { AsksOnce (asks_workspace S.after_workspace limits.now (costs_of (take 64 file.now)) source.old)
-        (number_told result) source.old source.new }
+    ensures asked { RequestsMemoryAtMostOnce (source_after_workspace_request S.after_workspace limits.now (costs_of (take 64 file.now)) source.old)
+        (status_of_result result) source.old source.new }
 {
-    let header = match header_of(file) {
+    let header = match read_file_header(file) {
         Ok(header) => header,
         Err(status) => return Err(status),
     };
@@ -363,24 +363,24 @@ pub(crate) fn start_decryption<S: CallMemory>(
     ticks: &mut Ticks,
 ) -> Result<Dec, u32>
     requires long { HasFront file.now }
-    ensures opened { IfOk result (λ dec. HasRead dec passphrase.now (take 96 file.now)) }
+    ensures opened { IfOk result (λ dec. DecryptionHasRead dec passphrase.now (take 96 file.now)) }
     ensures nothing { OnOk result (released_text (take 96 file.now) passphrase.now ≡ []) }
-    ensures right { OnOk result (HasRightHeaderCode (take 96 file.now) passphrase.now) }
-    ensures wrong { IfErr result (λ status. status ≡ wrong_passphrase
-        → HasRightHeaderCode (take 96 file.now) passphrase.now → ⊥) }
-    ensures first { TellsFirstOrLate (number_told result ≡ wrong_passphrase)
-        (opening_refusal limits.now file.now) (number_told result) }
-    ensures at_least_1 { IfErr result IsRefusal }
+    ensures right { OnOk result (HasRightHeaderHmac (take 96 file.now) passphrase.now) }
+    ensures wrong { IfErr result (λ status. status ≡ wrong_passphrase_status
+        → HasRightHeaderHmac (take 96 file.now) passphrase.now → ⊥) }
+    ensures first { ReturnsFirstOrLateStatus (status_of_result result ≡ wrong_passphrase_status)
+        (header_and_limits_status_of_settings limits.now file.now) (status_of_result result) }
+    ensures at_least_1 { IfErr result IsRefusalStatus }
     ensures below { IfErr result (λ status. status ≤ 27) }
     // Nothing is asked of the source before header and limits are tested, and then it is asked once.
-    ensures asked { AsksToCheck (number_told result ≡ wrong_passphrase)
-        (asks_workspace S.after_workspace limits.now (costs_of (take 64 file.now)) source.old)
-        (number_told result) source.old source.new }
+    ensures asked { RequestsMemoryUnlessEarly (status_of_result result ≡ wrong_passphrase_status)
+        (source_after_workspace_request S.after_workspace limits.now (costs_of (take 64 file.now)) source.old)
+        (status_of_result result) source.old source.new }
     // There is one derivation, after which the passphrase alone is refused.
-    ensures works { CountsWorkToCheck (number_told result ≡ wrong_passphrase)
-        (cores_to_open passphrase.now file.now limits.now.keep) (number_told result) ticks.old ticks.new }
+    ensures works { CountsWorkUnlessEarly (status_of_result result ≡ wrong_passphrase_status)
+        (salsa20_cores_to_open passphrase.now file.now limits.now.keep) (status_of_result result) ticks.old ticks.new }
 {
-    let (header, workspace) = match memory_to_open(source, limits, file) {
+    let (header, workspace) = match header_and_workspace(source, limits, file) {
         Ok(both) => both,
         Err(status) => return Err(status),
     };
@@ -398,14 +398,14 @@ pub(crate) fn start_decryption<S: CallMemory>(
 fn text_of(dec: Dec, file: &[u8], out: &mut [u8]) -> Result<usize, u32>
     requires long { HasFront file.now }
     requires room { length file.now ≤ length out.old }
-    ensures whole { IfOk result (λ n. (passphrase : List ℕ) → HasRead dec passphrase (take 96 file.now)
+    ensures whole { IfOk result (λ n. (passphrase : List ℕ) → DecryptionHasRead dec passphrase (take 96 file.now)
         → released_text (take 96 file.now) passphrase ≡ []
         → IsEncryptionOf file.now passphrase (take n out.new)) }
-    ensures not_whole { IfErr result (λ status. status ≡ damaged
-        → (passphrase : List ℕ) → HasRead dec passphrase (take 96 file.now)
+    ensures not_whole { IfErr result (λ status. status ≡ damaged_status
+        → (passphrase : List ℕ) → DecryptionHasRead dec passphrase (take 96 file.now)
         → IsEncryptionOf file.now passphrase (released_text file.now passphrase) → ⊥) }
-    ensures too_long { IfErr result (λ status. status ≡ long_text
-        → (passphrase : List ℕ) → HasRead dec passphrase (take 96 file.now)
+    ensures too_long { IfErr result (λ status. status ≡ long_text_status
+        → (passphrase : List ℕ) → DecryptionHasRead dec passphrase (take 96 file.now)
         → 2 ^ 60 + 128 ≤ length file.now) }
     ensures at_least_28 { IfErr result (λ status. 28 ≤ status) }
     ensures at_most_29 { IfErr result (λ status. status ≤ 29) }
@@ -423,7 +423,7 @@ fn text_of(dec: Dec, file: &[u8], out: &mut [u8]) -> Result<usize, u32>
 }
 
 // Puts zeros after the first `len` bytes.
-fn clear_after(len: usize, out: &mut [u8])
+fn zero_bytes_after_length(len: usize, out: &mut [u8])
     requires within { len ≤ length out.old }
     ensures front { take len out.new ≡ take len out.old }
     ensures rest { drop len out.new ≡ replicate (length out.old - len) 0 }
@@ -444,25 +444,25 @@ fn decrypt_in<S: CallMemory>(
 ) -> u32
     ensures whole { result ≡ 0 → IsEncryptionOf file.now passphrase.now (take text_len.new out.new) }
     ensures rest { result ≡ 0 → drop text_len.new out.new ≡ replicate (length out.old - text_len.new) 0 }
-    ensures nothing { TellsNoLength result text_len.new }
-    ensures first { TellsFirstOrLate (wrong_passphrase ≤ result)
+    ensures nothing { ReturnsNoLengthIfRefused result text_len.new }
+    ensures first { ReturnsFirstOrLateStatus (wrong_passphrase_status ≤ result)
         (front_refusal limits.now file.now (length out.old)) result }
-    ensures wrong { result ≡ wrong_passphrase → HasRightHeaderCode (take 96 file.now) passphrase.now → ⊥ }
-    ensures right { wrong_passphrase < result → HasRightHeaderCode (take 96 file.now) passphrase.now }
-    ensures damaged { result ≡ damaged
+    ensures wrong { result ≡ wrong_passphrase_status → HasRightHeaderHmac (take 96 file.now) passphrase.now → ⊥ }
+    ensures right { wrong_passphrase_status < result → HasRightHeaderHmac (take 96 file.now) passphrase.now }
+    ensures damaged { result ≡ damaged_status
         → IsEncryptionOf file.now passphrase.now (released_text file.now passphrase.now) → ⊥ }
-    ensures too_long { result ≡ long_text → 2 ^ 60 + 128 ≤ length file.now }
+    ensures too_long { result ≡ long_text_status → 2 ^ 60 + 128 ≤ length file.now }
     ensures high { result ≤ 29 }
-    ensures zeros { wrong_passphrase < result → out.new ≡ replicate (length out.old) 0 }
-    ensures untouched { result ≢ 0 → result ≤ wrong_passphrase → out.new ≡ out.old }
+    ensures zeros { wrong_passphrase_status < result → out.new ≡ replicate (length out.old) 0 }
+    ensures untouched { result ≢ 0 → result ≤ wrong_passphrase_status → out.new ≡ out.old }
     // Nothing is asked of the source before buffer, header and limits are tested, and then it is asked once; want of
     // memory is told where that was refused, and only there.
-    ensures asked { AsksToCheck (wrong_passphrase ≤ result)
-        (asks_workspace S.after_workspace limits.now (costs_of
+    ensures asked { RequestsMemoryUnlessEarly (wrong_passphrase_status ≤ result)
+        (source_after_workspace_request S.after_workspace limits.now (costs_of
         (take 64 file.now)) source.old) result source.old source.new }
     // No derivation begins before these refusals are ruled out, and then one.
-    ensures works { CountsWorkToCheck (wrong_passphrase ≤ result)
-        (cores_to_open passphrase.now file.now limits.now.keep)
+    ensures works { CountsWorkUnlessEarly (wrong_passphrase_status ≤ result)
+        (salsa20_cores_to_open passphrase.now file.now limits.now.keep)
         result ticks.old ticks.new }
 {
     *text_len = 0;
@@ -478,12 +478,12 @@ fn decrypt_in<S: CallMemory>(
     };
     match text_of(dec, file, out) {
         Ok(len) => {
-            clear_after(len, out);
+            zero_bytes_after_length(len, out);
             *text_len = len;
             status::OK
         }
         Err(status) => {
-            clear_after(0, out);
+            zero_bytes_after_length(0, out);
             status
         }
     }
@@ -504,25 +504,25 @@ pub extern "C" fn pikhsen_scrypt_decrypt(
 ) -> Answer
     ensures whole { result.status ≡ 0 → IsEncryptionOf file.now passphrase.now (take text_len.new out.new) }
     ensures rest { result.status ≡ 0 → drop text_len.new out.new ≡ replicate (length out.old - text_len.new) 0 }
-    ensures nothing { TellsNoLength result.status text_len.new }
+    ensures nothing { ReturnsNoLengthIfRefused result.status text_len.new }
     // What is refused whatever the passphrase is told by the first fault, and nothing else is then told.
-    ensures first { TellsFirstOrLate (wrong_passphrase ≤ result.status)
+    ensures first { ReturnsFirstOrLateStatus (wrong_passphrase_status ≤ result.status)
         (front_status file.now keep max_bytes max_ops (length out.old)) result.status }
-    ensures wrong { result.status ≡ wrong_passphrase → HasRightHeaderCode (take 96 file.now) passphrase.now → ⊥ }
-    ensures right { wrong_passphrase < result.status → HasRightHeaderCode (take 96 file.now) passphrase.now }
-    ensures damaged { result.status ≡ damaged
+    ensures wrong { result.status ≡ wrong_passphrase_status → HasRightHeaderHmac (take 96 file.now) passphrase.now → ⊥ }
+    ensures right { wrong_passphrase_status < result.status → HasRightHeaderHmac (take 96 file.now) passphrase.now }
+    ensures damaged { result.status ≡ damaged_status
         → IsEncryptionOf file.now passphrase.now (released_text file.now passphrase.now) → ⊥ }
-    ensures too_long { result.status ≡ long_text → 2 ^ 60 + 128 ≤ length file.now }
+    ensures too_long { result.status ≡ long_text_status → 2 ^ 60 + 128 ≤ length file.now }
     ensures high { result.status ≤ 29 }
     // No text is left of a file that is not whole.
-    ensures zeros { wrong_passphrase < result.status → out.new ≡ replicate (length out.old) 0 }
-    ensures untouched { result.status ≢ 0 → result.status ≤ wrong_passphrase → out.new ≡ out.old }
+    ensures zeros { wrong_passphrase_status < result.status → out.new ≡ replicate (length out.old) 0 }
+    ensures untouched { result.status ≢ 0 → result.status ≤ wrong_passphrase_status → out.new ≡ out.old }
     // What was asked of the heap.
-    ensures asked { AsksToCheck (wrong_passphrase ≤ result.status) (asked_for_workspace machine.heap)
+    ensures asked { RequestsMemoryUnlessEarly (wrong_passphrase_status ≤ result.status) (after_workspace_request machine.heap)
         result.status machine.heap result.machine.heap }
     ensures no_blocks { result.machine.blocks ≡ machine.blocks }
     // No derivation begins before these refusals are ruled out, and then one.
-    ensures works { CountsWorkToCheck (wrong_passphrase ≤ result.status) (cores_to_open passphrase.now file.now keep)
+    ensures works { CountsWorkUnlessEarly (wrong_passphrase_status ≤ result.status) (salsa20_cores_to_open passphrase.now file.now keep)
         result.status machine.cores result.machine.cores }
 {
     let mut machine = machine;

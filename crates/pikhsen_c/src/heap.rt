@@ -1,8 +1,8 @@
 //! The heap of the program that calls, as the functions for C have it: contracts see what was asked of it.
 ghost use Rattle.std.specs.Prelude.{◌≡◌, length, IfOk, Some, is_ok, is_some, true};
 ghost use Rattle.argon.specs.Range.{IsInRangeWithAnyPassword};
-ghost use Rattle.pikhsen_c.specs.Argon2.{text_of_zeros};
-ghost use Rattle.pikhsen_c.specs.Heap.{asked_for_matrix, asked_for_state, asked_for_text, asked_for_workspace, asked_to_read, one_more};
+ghost use Rattle.pikhsen_c.specs.Argon2.{encoded_text_with_zero_tag};
+ghost use Rattle.pikhsen_c.specs.Heap.{after_matrix_request, after_state_request, after_text_request, after_workspace_request, after_reading_request, one_more};
 
 use crate::call_memory::CallMemory;
 use crate::reading::Reading;
@@ -17,7 +17,7 @@ use std::alloc::{AllocError, Global};
 /// How many requests of one kind were granted and refused.
 #[repr(C)]
 #[derive(Drop)]
-pub struct Requests {
+pub struct RequestCounts {
     granted: Count,
     refused: Count,
 }
@@ -28,14 +28,14 @@ pub struct Requests {
 #[derive(Drop)]
 pub struct Heap {
     alloc: Global,
-    matrices: Requests,
-    texts: Requests,
-    workspaces: Requests,
-    readings: Requests,
-    states: Requests,
+    matrices: RequestCounts,
+    texts: RequestCounts,
+    workspaces: RequestCounts,
+    readings: RequestCounts,
+    states: RequestCounts,
 }
 
-impl Requests {
+impl RequestCounts {
     // Counts one request.
     fn count(&mut self, granted: bool)
         ensures counted { self.new ≡ one_more self.old granted }
@@ -51,7 +51,7 @@ impl Requests {
 impl Heap {
     /// Takes the block of a stream, with zeros in it.
     pub(crate) fn block(&mut self) -> Result<Box<StreamState, Global>, AllocError>
-        ensures asked { self.new ≡ asked_for_state self.old (is_ok result) }
+        ensures asked { self.new ≡ after_state_request self.old (is_ok result) }
     {
         let block = Box::new(self.alloc, StreamState::Over([0; 311]));
         self.states.count(block.is_ok());
@@ -73,14 +73,9 @@ impl Heap {
 }
 
 impl HashMemory for Heap {
-    ghost after_matrix = { λ heap _ _ _ granted. asked_for_matrix heap granted };
+    ghost after_matrix = { λ heap _ _ _ granted. after_matrix_request heap granted };
 
-    fn matrix(
-        &mut self,
-        params: &Params,
-        _max_kib: u32,
-        _max_ops: u64,
-    ) -> Result<Matrix, AllocError> {
+    fn matrix(&mut self, params: &Params, _: u32, _: u64) -> Result<Matrix, AllocError> {
         let matrix = Matrix::reserve(self.alloc, params);
         self.matrices.count(matrix.is_ok());
         matrix
@@ -88,24 +83,19 @@ impl HashMemory for Heap {
 }
 
 impl CallMemory for Heap {
-    ghost after_text = { λ heap _ _ granted. asked_for_text heap granted };
+    ghost after_text = { λ heap _ _ granted. after_text_request heap granted };
 
-    ghost after_workspace = { λ heap _ _ _ granted. asked_for_workspace heap granted };
+    ghost after_workspace = { λ heap _ _ _ granted. after_workspace_request heap granted };
 
-    ghost after_reading = { λ heap _ granted. asked_to_read heap granted };
+    ghost after_reading = { λ heap _ granted. after_reading_request heap granted };
 
     fn text(&mut self, params: &Params, salt: &[u8]) -> Result<Text, AllocError> {
-        let text = text_of_zeros(self.alloc, params, salt);
+        let text = encoded_text_with_zero_tag(self.alloc, params, salt);
         self.texts.count(text.is_ok());
         text
     }
 
-    fn workspace(
-        &mut self,
-        sparse: &Sparse,
-        _max_bytes: u64,
-        _max_ops: u64,
-    ) -> Result<Workspace, AllocError> {
+    fn workspace(&mut self, sparse: &Sparse, _: u64, _: u64) -> Result<Workspace, AllocError> {
         let workspace = Workspace::reserve(self.alloc, sparse);
         self.workspaces.count(workspace.is_ok());
         workspace
@@ -123,10 +113,14 @@ impl CallMemory for Heap {
 }
 
 // The text that has zeros for a tag.
-fn text_of_zeros(alloc: Global, params: &Params, salt: &[u8]) -> Result<Text, AllocError>
+fn encoded_text_with_zero_tag(
+    alloc: Global,
+    params: &Params,
+    salt: &[u8],
+) -> Result<Text, AllocError>
     requires in_range { IsInRangeWithAnyPassword params.now }
     requires salt { length salt.now ≡ params.now.salt_len }
-    ensures text { IfOk result (λ text. text.list.items ≡ text_of_zeros params.now salt.now) }
+    ensures text { IfOk result (λ text. text.list.items ≡ encoded_text_with_zero_tag params.now salt.now) }
 {
     let encoded = Encoded {
         kind: params.kind(),

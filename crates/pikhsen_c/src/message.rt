@@ -1,8 +1,8 @@
 //! What each number says.
 ghost use Rattle.std.specs.Prelude.{◌≡◌, ◌≤◌, ◌<◌, length};
 ghost use Rattle.pikhsen_c.specs.Argon2.{room_status};
-ghost use Rattle.pikhsen_c.specs.Message.{IsWritten, sentence_of};
-ghost use Rattle.pikhsen_c.specs.Status.{KeepsAtRefusal, TellsNoLength};
+ghost use Rattle.pikhsen_c.specs.Message.{IsWrittenAsCString, sentence_of};
+ghost use Rattle.pikhsen_c.specs.Status.{IsUnchangedIfRefused, ReturnsNoLengthIfRefused};
 
 use crate::encoded::copy_text;
 use crate::status;
@@ -58,11 +58,11 @@ fn sentence(status: u32) -> &'static str
 /// What a number says, at the front of `out`, and a byte 0 after it; its length, without that byte, goes to `text_len`.
 #[unsafe(no_mangle)]
 pub extern "C" fn pikhsen_message(status: u32, out: &mut [u8], text_len: &mut usize) -> u32
-    ensures written { result ≡ 0 → IsWritten (sentence_of status) text_len.new out.old out.new }
+    ensures written { result ≡ 0 → IsWrittenAsCString (sentence_of status) text_len.new out.old out.new }
     ensures status { result ≡ room_status (length (sentence_of status)) (length out.old) }
     ensures room { 80 ≤ length out.old → result ≡ 0 }
-    ensures untouched { KeepsAtRefusal result out.old out.new }
-    ensures nothing { TellsNoLength result text_len.new }
+    ensures untouched { IsUnchangedIfRefused result out.old out.new }
+    ensures nothing { ReturnsNoLengthIfRefused result text_len.new }
 {
     *text_len = 0;
     let text = sentence(status).as_bytes();

@@ -11,8 +11,8 @@ pub(crate) struct Reading {
 }
 
 impl Reading {
-    ghost use Rattle.argon_text.specs.Settings.{settings_of};
-    ghost use Rattle.argon_text.specs.View.{value_viewed, value_of};
+    ghost use Rattle.argon_text.specs.Settings.{settings_of_encoded_value};
+    ghost use Rattle.argon_text.specs.View.{encoded_value_of_hash_view, value_of};
 
     /// What was read.
     pub(crate) fn new(encoded: Encoded) -> Reading
@@ -23,14 +23,14 @@ impl Reading {
 
     /// What it lends to the test of a password.
     pub(crate) fn hash_view(&self) -> HashView<'_>
-        ensures value { value_viewed result ≡ value_of self.now.encoded }
+        ensures value { encoded_value_of_hash_view result ≡ value_of self.now.encoded }
     {
         HashView::of(&self.encoded)
     }
 
     /// The settings that the text says.
     pub(crate) fn settings(&self) -> Settings
-        ensures settings { result ≡ settings_of (value_of self.now.encoded) }
+        ensures settings { result ≡ settings_of_encoded_value (value_of self.now.encoded) }
     {
         self.encoded.settings()
     }

@@ -2,11 +2,11 @@
 ghost use Rattle.std.specs.Prelude.{◌≡◌, ◌≤◌, ◌^◌, length, IfOk, IfErr};
 ghost use Rattle.romix.specs.Scrypt.{scrypt};
 ghost use Rattle.romix.specs.SparseCosts.{SparseFitsMemory};
-ghost use Rattle.pikhsen_c.specs.Heap.{AsksOnce, CountsWorkOnce, asked_for_workspace};
-ghost use Rattle.pikhsen_c.specs.Inside.Numbers.{IsEarly, number_told, IsRefusal};
-ghost use Rattle.pikhsen_c.specs.Inside.Settings.{asks_workspace, cores_of_settings, limits_refusal, costs_of_settings, derivation_refusal};
-ghost use Rattle.pikhsen_c.specs.Scrypt.{costs_given, costs_status, scrypt_status, sparse_given, cores_given};
-ghost use Rattle.pikhsen_c.specs.Status.{TellsFirst, KeepsAtRefusal};
+ghost use Rattle.pikhsen_c.specs.Heap.{RequestsMemoryAtMostOnce, CountsWorkOnce, after_workspace_request};
+ghost use Rattle.pikhsen_c.specs.Inside.Numbers.{IsEarly, status_of_result, IsRefusalStatus};
+ghost use Rattle.pikhsen_c.specs.Inside.Settings.{source_after_workspace_request, salsa20_cores_of_settings, limits_refusal, costs_of_settings, derivation_refusal};
+ghost use Rattle.pikhsen_c.specs.Scrypt.{costs_of_numbers, costs_status, scrypt_status, costs_with_keep, salsa20_cores_of_numbers};
+ghost use Rattle.pikhsen_c.specs.Status.{ReturnsFirstStatus, IsUnchangedIfRefused};
 
 use crate::call_memory::CallMemory;
 use crate::machine::Machine;
@@ -27,7 +27,7 @@ pub(crate) struct ScryptLimits {
 
 /// What a caller sets, and the limits.
 #[derive(Drop)]
-pub(crate) struct ScryptSettings {
+pub(crate) struct ScryptCostsAndLimits {
     pub log_n: u32,
     pub r: u32,
     pub p: u32,
@@ -47,7 +47,7 @@ impl ScryptLimits {
     }
 }
 
-impl ScryptSettings {
+impl ScryptCostsAndLimits {
     /// The settings of these numbers.
     pub(crate) fn new(log_n: u32, r: u32, p: u32, keep: u32, max_bytes: u64, max_ops: u64) -> Self
         ensures settings { result ≡ record {
@@ -57,7 +57,7 @@ impl ScryptSettings {
           limits = record { keep = keep; max_bytes = max_bytes; max_ops = max_ops };
         } }
     {
-        ScryptSettings {
+        ScryptCostsAndLimits {
             log_n,
             r,
             p,
@@ -68,31 +68,31 @@ impl ScryptSettings {
 
 /// The costs of these numbers, or the number of the first fault.
 pub(crate) fn costs_of(log_n: u32, r: u32, p: u32) -> Result<Costs, u32>
-    ensures costs { IfOk result (λ costs. costs ≡ costs_given log_n r p) }
-    ensures status { costs_status (costs_given log_n r p) ≡ number_told result }
+    ensures costs { IfOk result (λ costs. costs ≡ costs_of_numbers log_n r p) }
+    ensures status { costs_status (costs_of_numbers log_n r p) ≡ status_of_result result }
     ensures early { IfErr result IsEarly }
 {
     if log_n > 63 {
-        return Err(status::of_costs(romix::CostFault::LogN));
+        return Err(status::cost_fault_status(romix::CostFault::LogN));
     }
     match Costs::new(log_n as u8, r, p) {
         Ok(costs) => Ok(costs),
-        Err(fault) => Err(status::of_costs(fault)),
+        Err(fault) => Err(status::cost_fault_status(fault)),
     }
 }
 
 /// The costs with the rows kept whose number `keep` divides, where `keep` may be and the limits admit it; or
 /// the number of the first fault.
 pub(crate) fn admitted(costs: &Costs, limits: &ScryptLimits) -> Result<Sparse, u32>
-    ensures sparse { IfOk result (λ sparse. sparse ≡ sparse_given costs.now limits.now.keep) }
+    ensures sparse { IfOk result (λ sparse. sparse ≡ costs_with_keep costs.now limits.now.keep) }
     ensures fits { IfOk result (λ sparse. SparseFitsMemory sparse (2 ^ 40)) }
-    ensures status { limits_refusal limits.now costs.now ≡ number_told result }
+    ensures status { limits_refusal limits.now costs.now ≡ status_of_result result }
     ensures early { IfErr result IsEarly }
     ensures below { IfErr result (λ status. status ≤ 21) }
 {
     let sparse = match Sparse::new(costs, u64::from(limits.keep)) {
         Ok(sparse) => sparse,
-        Err(fault) => return Err(status::of_costs(fault)),
+        Err(fault) => return Err(status::cost_fault_status(fault)),
     };
     let most = Limits {
         max_bytes: limits.max_bytes.min(MOST_BYTES),
@@ -100,7 +100,7 @@ pub(crate) fn admitted(costs: &Costs, limits: &ScryptLimits) -> Result<Sparse, u
     };
     match sparse.admitted(&most) {
         Ok(()) => Ok(sparse),
-        Err(fault) => Err(status::of_costs(fault)),
+        Err(fault) => Err(status::cost_fault_status(fault)),
     }
 }
 
@@ -110,15 +110,15 @@ pub(crate) fn workspace<S: CallMemory>(
     costs: &Costs,
     limits: &ScryptLimits,
 ) -> Result<Workspace, u32>
-    ensures sparse { IfOk result (λ workspace. workspace.sparse ≡ sparse_given costs.now limits.now.keep) }
+    ensures sparse { IfOk result (λ workspace. workspace.sparse ≡ costs_with_keep costs.now limits.now.keep) }
     ensures costs { IfOk result (λ workspace. workspace.sparse.costs ≡ costs.now) }
-    ensures first { TellsFirst (limits_refusal limits.now costs.now) (number_told result) }
-    ensures at_least_1 { IfErr result IsRefusal }
+    ensures first { ReturnsFirstStatus (limits_refusal limits.now costs.now) (status_of_result result) }
+    ensures at_least_1 { IfErr result IsRefusalStatus }
     ensures below { IfErr result (λ status. status ≤ 21) }
     // Nothing is asked of the source before `keep` and the caller's own limits are tested, and then it is asked once,
     // under these; want of memory is told where that was refused, and only there.
-    ensures asked { AsksOnce (asks_workspace S.after_workspace limits.now costs.now source.old)
-        (number_told result) source.old source.new }
+    ensures asked { RequestsMemoryAtMostOnce (source_after_workspace_request S.after_workspace limits.now costs.now source.old)
+        (status_of_result result) source.old source.new }
 {
     let sparse = admitted(costs, limits)?;
     match source.workspace(&sparse, limits.max_bytes, limits.max_ops) {
@@ -131,7 +131,7 @@ pub(crate) fn workspace<S: CallMemory>(
 #[inline(never)]
 fn derive_in<S: CallMemory>(
     source: &mut S,
-    settings: &ScryptSettings,
+    settings: &ScryptCostsAndLimits,
     password: &[u8],
     salt: &[u8],
     out: &mut [u8],
@@ -139,13 +139,13 @@ fn derive_in<S: CallMemory>(
 ) -> u32
     ensures key { result ≡ 0 → out.new
         ≡ scrypt password.now salt.now (2 ^ settings.now.log_n) settings.now.r settings.now.p (length out.old) }
-    ensures first { TellsFirst (derivation_refusal settings.now (length out.old)) result }
-    ensures untouched { KeepsAtRefusal result out.old out.new }
-    ensures asked { AsksOnce (asks_workspace S.after_workspace settings.now.limits
+    ensures first { ReturnsFirstStatus (derivation_refusal settings.now (length out.old)) result }
+    ensures untouched { IsUnchangedIfRefused result out.old out.new }
+    ensures asked { RequestsMemoryAtMostOnce (source_after_workspace_request S.after_workspace settings.now.limits
         (costs_of_settings settings.now) source.old)
         result source.old source.new }
     // No derivation begins before every refusal is ruled out, and then one.
-    ensures works { CountsWorkOnce (cores_of_settings settings.now password.now salt.now) result ticks.old ticks.new }
+    ensures works { CountsWorkOnce (salsa20_cores_of_settings settings.now password.now salt.now) result ticks.old ticks.new }
 {
     let costs = match costs_of(settings.log_n, settings.r, settings.p) {
         Ok(costs) => costs,
@@ -181,18 +181,18 @@ pub extern "C" fn pikhsen_scrypt(
 ) -> Answer
     ensures key { result.status ≡ 0 → out.new ≡ scrypt password.now salt.now (2 ^ log_n) r p (length out.old) }
     // Memory is asked for, and refused, only where nothing else is.
-    ensures first { TellsFirst (scrypt_status (costs_given log_n r p) keep max_bytes max_ops (length out.old))
+    ensures first { ReturnsFirstStatus (scrypt_status (costs_of_numbers log_n r p) keep max_bytes max_ops (length out.old))
         result.status }
-    ensures untouched { KeepsAtRefusal result.status out.old out.new }
+    ensures untouched { IsUnchangedIfRefused result.status out.old out.new }
     // What was asked of the heap.
-    ensures asked { AsksOnce (asked_for_workspace machine.heap) result.status machine.heap result.machine.heap }
+    ensures asked { RequestsMemoryAtMostOnce (after_workspace_request machine.heap) result.status machine.heap result.machine.heap }
     ensures no_blocks { result.machine.blocks ≡ machine.blocks }
     // No derivation begins before every refusal is ruled out, and then one.
-    ensures works { CountsWorkOnce (cores_given password.now salt.now log_n r p keep) result.status
+    ensures works { CountsWorkOnce (salsa20_cores_of_numbers password.now salt.now log_n r p keep) result.status
         machine.cores result.machine.cores }
 {
     let mut machine = machine;
-    let settings = ScryptSettings::new(log_n, r, p, keep, max_bytes, max_ops);
+    let settings = ScryptCostsAndLimits::new(log_n, r, p, keep, max_bytes, max_ops);
     let told = derive_in(
         &mut machine.heap,
         &settings,

@@ -1,7 +1,7 @@
 //! The numbers that tell a program in C what came of a call. No number changes its meaning, ever.
 ghost use Rattle.std.specs.Prelude.{◌≡◌, ◌≢◌, ◌≤◌, ◌<◌};
-ghost use Rattle.pikhsen_c.specs.Status.{costs_number, header_number, params_number, range_number};
-ghost use Rattle.pikhsen_c.specs.Inside.Numbers.{had_memory, had_memory_to_read, read_number, verify_number};
+ghost use Rattle.pikhsen_c.specs.Status.{cost_fault_status, header_fault_status, param_fault_status, range_fault_status};
+ghost use Rattle.pikhsen_c.specs.Inside.Numbers.{was_memory_granted, had_memory_to_read, read_fault_status, verify_fault_status};
 
 use argon::ParamFault;
 use argon_text::{RangeFault, ReadFault, VerifyFault};
@@ -54,8 +54,8 @@ pub(crate) const FILE_SALT: u32 = 30;
 pub(crate) const STREAM: u32 = 37;
 
 /// The number of what Argon2's parameters are refused for: 1 to 8.
-pub(crate) fn of_params(fault: ParamFault) -> u32
-    ensures number { result ≡ params_number fault }
+pub(crate) fn param_fault_status(fault: ParamFault) -> u32
+    ensures number { result ≡ param_fault_status fault }
     ensures at_least_1 { 1 ≤ result }
     ensures below { result ≤ 8 }
 {
@@ -72,8 +72,8 @@ pub(crate) fn of_params(fault: ParamFault) -> u32
 }
 
 /// The number of why a password isn't tested: 6 to 9, or 12.
-pub(crate) fn of_verify(fault: VerifyFault) -> u32
-    ensures number { result ≡ verify_number fault }
+pub(crate) fn verify_fault_status(fault: VerifyFault) -> u32
+    ensures number { result ≡ verify_fault_status fault }
     ensures memory { result ≡ 9 → fault ≡ VerifyFault.OutOfMemory }
     ensures other { result ≢ 9 → fault ≢ VerifyFault.OutOfMemory }
     ensures at_least_6 { 6 ≤ result }
@@ -90,9 +90,9 @@ pub(crate) fn of_verify(fault: VerifyFault) -> u32
 }
 
 /// The number of why a text isn't read: 9, 14 or 15.
-pub(crate) fn of_read(fault: ReadFault) -> u32
-    ensures number { result ≡ read_number fault }
-    ensures memory { had_memory_to_read fault ≡ had_memory result }
+pub(crate) fn read_fault_status(fault: ReadFault) -> u32
+    ensures number { result ≡ read_fault_status fault }
+    ensures memory { had_memory_to_read fault ≡ was_memory_granted result }
     ensures not_in_grammar { result ≡ 14 → fault ≡ ReadFault.NotInGrammar }
     ensures out_of_range { result ≡ 15 → fault ≡ ReadFault.OutOfRange }
     ensures out_of_memory { result ≡ 9 → fault ≡ ReadFault.OutOfMemory }
@@ -108,8 +108,8 @@ pub(crate) fn of_read(fault: ReadFault) -> u32
 }
 
 /// The number of what scrypt's costs are refused for: 7, 8, or 17 to 21.
-pub(crate) fn of_costs(fault: CostFault) -> u32
-    ensures number { result ≡ costs_number fault }
+pub(crate) fn cost_fault_status(fault: CostFault) -> u32
+    ensures number { result ≡ cost_fault_status fault }
     ensures at_least_7 { 7 ≤ result }
     ensures gap { 8 < result → 17 ≤ result }
     ensures below { result ≤ 21 }
@@ -126,8 +126,8 @@ pub(crate) fn of_costs(fault: CostFault) -> u32
 }
 
 /// The number of what the header of a file is refused for: 22 to 25.
-pub(crate) fn of_header(fault: HeaderFault) -> u32
-    ensures number { result ≡ header_number fault }
+pub(crate) fn header_fault_status(fault: HeaderFault) -> u32
+    ensures number { result ≡ header_fault_status fault }
     ensures at_least_22 { 22 ≤ result }
     ensures below { result ≤ 25 }
 {
@@ -140,8 +140,8 @@ pub(crate) fn of_header(fault: HeaderFault) -> u32
 }
 
 /// The number of which part of an encoded text is out of range: 31 to 36.
-pub(crate) fn of_range(fault: RangeFault) -> u32
-    ensures number { result ≡ range_number fault }
+pub(crate) fn range_fault_status(fault: RangeFault) -> u32
+    ensures number { result ≡ range_fault_status fault }
     ensures at_least_31 { 31 ≤ result }
     ensures below { result ≤ 36 }
 {

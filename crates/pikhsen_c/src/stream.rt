@@ -1,6 +1,6 @@
 //! A file in pieces: what the caller keeps between calls.
 ghost use Rattle.std.specs.Prelude.{◌≡◌, Option, Some, None, is_some, replicate, true};
-ghost use Rattle.pikhsen_c.specs.Inside.StreamState.{is_decryption, is_encryption, kept_is};
+ghost use Rattle.pikhsen_c.specs.Inside.StreamState.{is_decryption, is_encryption, kept_state_satisfies};
 ghost use Rattle.pikhsen_c.specs.declared.stream.StreamState.{StreamState};
 
 use crate::status::OUT_OF_MEMORY;
@@ -23,7 +23,7 @@ impl StreamState {
     ghost use Rattle.pikhsen_c.specs.declared.stream.StreamState.TheVariants.{Over};
 
     /// What runs in the box. Zeros are put in its place.
-    pub(crate) fn out_of(boxed: &mut Box<StreamState, Global>) -> StreamState
+    pub(crate) fn take_out_of_box(boxed: &mut Box<StreamState, Global>) -> StreamState
         ensures same { result ≡ boxed.old.value }
         ensures zeros { boxed.new.value ≡ Over (replicate 311 0) }
     {
@@ -57,10 +57,10 @@ pub struct StreamBox {
 }
 
 impl Model for StreamBox {
-    ghost use Rattle.pikhsen_c.specs.StreamBox.{kept_owns};
+    ghost use Rattle.pikhsen_c.specs.StreamBox.{owns_optional_box};
     ghost use Rattle.pikhsen_c.specs.contracts.stream.StreamState.{the_row};
 
-    ghost also_owns = { λ kept. kept_owns the_row kept.at kept.value };
+    ghost also_owns = { λ kept. owns_optional_box the_row kept.at kept.value };
 }
 
 impl StreamBox {
@@ -83,9 +83,9 @@ impl StreamBox {
 }
 
 /// What runs.
-pub(crate) const ENCRYPTION: u8 = 1;
+pub(crate) const STREAM_ENCRYPTS: u8 = 1;
 
-pub(crate) const DECRYPTION: u8 = 2;
+pub(crate) const STREAM_DECRYPTS: u8 = 2;
 
 /// What C keeps between the calls for a file in pieces: which of the two runs, or 0, and its box.
 #[repr(C)]
@@ -93,8 +93,8 @@ pub(crate) const DECRYPTION: u8 = 2;
 pub struct PikhsenStream {
     pub(crate) runs: u8,
     pub(crate) kept: StreamBox,
-    ghost encryption: { runs ≡ 1 → kept_is is_encryption kept.value ≡ true },
-    ghost decryption: { runs ≡ 2 → kept_is is_decryption kept.value ≡ true },
+    ghost encryption: { runs ≡ 1 → kept_state_satisfies is_encryption kept.value ≡ true },
+    ghost decryption: { runs ≡ 2 → kept_state_satisfies is_decryption kept.value ≡ true },
 }
 
 impl PikhsenStream {

@@ -1,20 +1,20 @@
 //! scrypt's encrypted files in pieces.
 ghost use Rattle.std.specs.Prelude.{◌≡◌, ◌≢◌, ℕ, ◌+◌, ◌-◌, ◌^◌, ◌<◌, ◌≤◌, ◌++◌, List, [], length, take, drop, true, false};
-ghost use Rattle.encfile.specs.EncryptedFile.{HasRightHeaderCode, body, released_text};
-ghost use Rattle.pikhsen_c.specs.File.{cores_to_open};
-ghost use Rattle.pikhsen_c.specs.Heap.{AsksToStart, CountsWorkOnce, CountsWorkToCheck};
+ghost use Rattle.encfile.specs.EncryptedFile.{HasRightHeaderHmac, body, released_text};
+ghost use Rattle.pikhsen_c.specs.File.{salsa20_cores_to_open};
+ghost use Rattle.pikhsen_c.specs.Heap.{RequestsMemoryToStart, CountsWorkOnce, CountsWorkUnlessEarly};
 ghost use Rattle.pikhsen_c.specs.Inside.StreamState.{is_decryption, is_encryption};
-ghost use Rattle.pikhsen_c.specs.Inside.Settings.{cores_of_settings, costs_of_settings, decryption_start_refusal, encryption_start_refusal};
-ghost use Rattle.pikhsen_c.specs.Scrypt.{costs_given, cores_given};
-ghost use Rattle.pikhsen_c.specs.Status.{TellsFirst, TellsFirstOrLate, damaged, long_text, no_stream, wrong_buffer, wrong_passphrase, KeepsAtRefusal};
-ghost use Rattle.pikhsen_c.specs.Stream.{AreLast, AreNext, Encrypts, FeedsOn, FeedsWhatFits, HasFed, HasGot, IsAsBefore, IsDamaged, IsReleased, IsWhole, Reads, ReadsOn, ReadsWhatFits, decrypt_start_status, encrypt_start_status};
+ghost use Rattle.pikhsen_c.specs.Inside.Settings.{salsa20_cores_of_settings, costs_of_settings, decryption_start_refusal, encryption_start_refusal};
+ghost use Rattle.pikhsen_c.specs.Scrypt.{costs_of_numbers, salsa20_cores_of_numbers};
+ghost use Rattle.pikhsen_c.specs.Status.{ReturnsFirstStatus, ReturnsFirstOrLateStatus, damaged_status, long_text_status, wrong_stream_state_status, wrong_buffer_status, wrong_passphrase_status, IsUnchangedIfRefused};
+ghost use Rattle.pikhsen_c.specs.Stream.{AreLastFileBytes, AreNextFileBytes, StreamStateHasEncrypted, EncryptsNextPiece, EncryptsUnlessTextTooLong, StreamHasEncrypted, StreamHasRead, IsAsBefore, IsDamaged, IsNextReleasedText, IsEncryptionOfReleasedText, StreamStateHasRead, ReadsNextPiece, ReadsUnlessFileTooLong, decrypt_start_status, encrypt_start_status};
 
-use crate::file::{check_encryption, check_opening, start_decryption, start_encryption};
+use crate::file::{check_encryption, check_header_and_limits, start_decryption, start_encryption};
 use crate::heap::Heap;
 use crate::machine::Machine;
-use crate::scrypt::{ScryptLimits, ScryptSettings};
+use crate::scrypt::{ScryptCostsAndLimits, ScryptLimits};
 use crate::status;
-use crate::stream::{DECRYPTION, ENCRYPTION, PikhsenStream, StreamState};
+use crate::stream::{PikhsenStream, STREAM_DECRYPTS, STREAM_ENCRYPTS, StreamState};
 use crate::wiping::{Answer, wipe_stack};
 use romix::Ticks;
 use std::alloc::Global;
@@ -23,21 +23,21 @@ use std::alloc::Global;
 #[inline(never)]
 fn encrypt_start_in(
     heap: &mut Heap,
-    settings: &ScryptSettings,
+    settings: &ScryptCostsAndLimits,
     passphrase: &[u8],
     salt: &[u8],
     stream: &mut PikhsenStream,
     head: &mut [u8],
     ticks: &mut Ticks,
 ) -> u32
-    ensures begun { result ≡ 0 → HasFed stream.new passphrase.now salt.now (costs_of_settings settings.now) [] }
+    ensures begun { result ≡ 0 → StreamHasEncrypted stream.new passphrase.now salt.now (costs_of_settings settings.now) [] }
     ensures head { result ≡ 0 → head.new ≡ body passphrase.now salt.now (costs_of_settings settings.now) [] }
-    ensures first { TellsFirst (encryption_start_refusal stream.old.runs settings.now
+    ensures first { ReturnsFirstStatus (encryption_start_refusal stream.old.runs settings.now
         (length salt.now) (length head.old)) result }
-    ensures untouched { KeepsAtRefusal result head.old head.new }
-    ensures unchanged { KeepsAtRefusal result stream.old stream.new }
-    ensures asked { AsksToStart result heap.old heap.new }
-    ensures works { CountsWorkOnce (cores_of_settings settings.now passphrase.now salt.now) result ticks.old ticks.new }
+    ensures untouched { IsUnchangedIfRefused result head.old head.new }
+    ensures unchanged { IsUnchangedIfRefused result stream.old stream.new }
+    ensures asked { RequestsMemoryToStart result heap.old heap.new }
+    ensures works { CountsWorkOnce (salsa20_cores_of_settings settings.now passphrase.now salt.now) result ticks.old ticks.new }
 {
     if stream.runs != 0 {
         return status::STREAM;
@@ -53,7 +53,7 @@ fn encrypt_start_in(
         Ok(enc) => {
             head.copy_from_slice(&enc.header());
             drop(Box::replace(&mut block, StreamState::Enc(enc)));
-            *stream = PikhsenStream::of(ENCRYPTION, block);
+            *stream = PikhsenStream::of(STREAM_ENCRYPTS, block);
             status::OK
         }
         Err(status) => status,
@@ -75,21 +75,21 @@ pub extern "C" fn pikhsen_scrypt_encrypt_start(
     stream: &mut PikhsenStream,
     head: &mut [u8],
 ) -> Answer
-    ensures begun { result.status ≡ 0 → HasFed stream.new passphrase.now salt.now (costs_given log_n r p) [] }
-    ensures head { result.status ≡ 0 → head.new ≡ body passphrase.now salt.now (costs_given log_n r p) [] }
+    ensures begun { result.status ≡ 0 → StreamHasEncrypted stream.new passphrase.now salt.now (costs_of_numbers log_n r p) [] }
+    ensures head { result.status ≡ 0 → head.new ≡ body passphrase.now salt.now (costs_of_numbers log_n r p) [] }
     // Memory is asked for, and refused, only where nothing else is.
-    ensures first { TellsFirst (encrypt_start_status stream.old.runs (costs_given log_n r p) keep max_bytes max_ops
+    ensures first { ReturnsFirstStatus (encrypt_start_status stream.old.runs (costs_of_numbers log_n r p) keep max_bytes max_ops
         (length salt.now) (length head.old)) result.status }
-    ensures untouched { KeepsAtRefusal result.status head.old head.new }
-    ensures unchanged { KeepsAtRefusal result.status stream.old stream.new }
-    ensures asked { AsksToStart result.status machine.heap result.machine.heap }
+    ensures untouched { IsUnchangedIfRefused result.status head.old head.new }
+    ensures unchanged { IsUnchangedIfRefused result.status stream.old stream.new }
+    ensures asked { RequestsMemoryToStart result.status machine.heap result.machine.heap }
     ensures no_blocks { result.machine.blocks ≡ machine.blocks }
     // No derivation begins before every refusal is ruled out, and then one.
-    ensures works { CountsWorkOnce (cores_given passphrase.now salt.now log_n r p keep) result.status
+    ensures works { CountsWorkOnce (salsa20_cores_of_numbers passphrase.now salt.now log_n r p keep) result.status
         machine.cores result.machine.cores }
 {
     let mut machine = machine;
-    let settings = ScryptSettings::new(log_n, r, p, keep, max_bytes, max_ops);
+    let settings = ScryptCostsAndLimits::new(log_n, r, p, keep, max_bytes, max_ops);
     let told = encrypt_start_in(
         &mut machine.heap,
         &settings,
@@ -106,12 +106,12 @@ pub extern "C" fn pikhsen_scrypt_encrypt_start(
 #[inline(never)]
 fn encrypted(running: &mut StreamState, bytes: &mut [u8]) -> u32
     requires encryption { is_encryption running.old ≡ true }
-    ensures fed { result ≡ 0 → FeedsOn (Encrypts running.old) (Encrypts running.new) bytes.old }
-    ensures written { result ≡ 0 → AreNext (Encrypts running.old) bytes.old bytes.new }
-    ensures fits { FeedsWhatFits (Encrypts running.old) (length bytes.old) result }
-    ensures long { result ≢ 0 → result ≡ long_text }
-    ensures untouched { KeepsAtRefusal result bytes.old bytes.new }
-    ensures unchanged { KeepsAtRefusal result running.old running.new }
+    ensures fed { result ≡ 0 → EncryptsNextPiece (StreamStateHasEncrypted running.old) (StreamStateHasEncrypted running.new) bytes.old }
+    ensures written { result ≡ 0 → AreNextFileBytes (StreamStateHasEncrypted running.old) bytes.old bytes.new }
+    ensures fits { EncryptsUnlessTextTooLong (StreamStateHasEncrypted running.old) (length bytes.old) result }
+    ensures long { result ≢ 0 → result ≡ long_text_status }
+    ensures untouched { IsUnchangedIfRefused result bytes.old bytes.new }
+    ensures unchanged { IsUnchangedIfRefused result running.old running.new }
     ensures stays { is_encryption running.new ≡ true }
 {
     match running {
@@ -130,34 +130,34 @@ pub extern "C" fn pikhsen_scrypt_encrypt_feed(
     stream: &mut PikhsenStream,
     bytes: &mut [u8],
 ) -> Answer
-    ensures fed { result.status ≡ 0 → FeedsOn (HasFed stream.old) (HasFed stream.new) bytes.old }
-    ensures written { result.status ≡ 0 → AreNext (HasFed stream.old) bytes.old bytes.new }
-    ensures fits { FeedsWhatFits (HasFed stream.old) (length bytes.old) result.status }
-    ensures other { stream.old.runs ≢ 1 → result.status ≡ no_stream }
-    ensures long { stream.old.runs ≡ 1 → result.status ≢ 0 → result.status ≡ long_text }
-    ensures untouched { KeepsAtRefusal result.status bytes.old bytes.new }
+    ensures fed { result.status ≡ 0 → EncryptsNextPiece (StreamHasEncrypted stream.old) (StreamHasEncrypted stream.new) bytes.old }
+    ensures written { result.status ≡ 0 → AreNextFileBytes (StreamHasEncrypted stream.old) bytes.old bytes.new }
+    ensures fits { EncryptsUnlessTextTooLong (StreamHasEncrypted stream.old) (length bytes.old) result.status }
+    ensures other { stream.old.runs ≢ 1 → result.status ≡ wrong_stream_state_status }
+    ensures long { stream.old.runs ≡ 1 → result.status ≢ 0 → result.status ≡ long_text_status }
+    ensures untouched { IsUnchangedIfRefused result.status bytes.old bytes.new }
     ensures unchanged { result.status ≢ 0 → IsAsBefore stream.old stream.new }
     ensures machine { result.machine ≡ machine }
 {
     let mut told = status::STREAM;
-    if stream.runs == ENCRYPTION {
+    if stream.runs == STREAM_ENCRYPTS {
         let mut boxed = machine.heap.take(stream);
         told = encrypted(&mut boxed, bytes);
-        *stream = PikhsenStream::of(ENCRYPTION, boxed);
+        *stream = PikhsenStream::of(STREAM_ENCRYPTS, boxed);
     }
     wipe_stack(told, machine)
 }
 
 // Ends an encryption, and gives the last 32 bytes of its file.
 #[inline(never)]
-fn last_bytes(boxed: Box<StreamState, Global>, code: &mut [u8]) -> u32
+fn finish_encryption(boxed: Box<StreamState, Global>, code: &mut [u8]) -> u32
     requires encryption { is_encryption boxed.value ≡ true }
     requires room { length code.old ≡ 32 }
-    ensures code { AreLast (Encrypts boxed.value) code.new }
+    ensures code { AreLastFileBytes (StreamStateHasEncrypted boxed.value) code.new }
     ensures done { result ≡ 0 }
 {
     let mut boxed = boxed;
-    if let StreamState::Enc(enc) = StreamState::out_of(&mut boxed) {
+    if let StreamState::Enc(enc) = StreamState::take_out_of_box(&mut boxed) {
         code.copy_from_slice(&enc.finish());
     }
     StreamState::free(boxed, status::OK)
@@ -170,20 +170,20 @@ pub extern "C" fn pikhsen_scrypt_encrypt_finish(
     stream: &mut PikhsenStream,
     code: &mut [u8],
 ) -> Answer
-    ensures code { result.status ≡ 0 → AreLast (HasFed stream.old) code.new }
-    ensures buffer { length code.old ≢ 32 → result.status ≡ wrong_buffer }
-    ensures other { length code.old ≡ 32 → stream.old.runs ≢ 1 → result.status ≡ no_stream }
+    ensures code { result.status ≡ 0 → AreLastFileBytes (StreamHasEncrypted stream.old) code.new }
+    ensures buffer { length code.old ≢ 32 → result.status ≡ wrong_buffer_status }
+    ensures other { length code.old ≡ 32 → stream.old.runs ≢ 1 → result.status ≡ wrong_stream_state_status }
     ensures ends { length code.old ≡ 32 → stream.old.runs ≡ 1 → result.status ≡ 0 }
     ensures over { result.status ≡ 0 → stream.new.runs ≡ 0 }
-    ensures untouched { KeepsAtRefusal result.status code.old code.new }
-    ensures unchanged { KeepsAtRefusal result.status stream.old stream.new }
+    ensures untouched { IsUnchangedIfRefused result.status code.old code.new }
+    ensures unchanged { IsUnchangedIfRefused result.status stream.old stream.new }
     ensures machine { result.machine ≡ machine }
 {
     let mut told = status::STREAM;
     if code.len() != 32 {
         told = status::BUFFER;
-    } else if stream.runs == ENCRYPTION {
-        told = last_bytes(machine.heap.take(stream), code);
+    } else if stream.runs == STREAM_ENCRYPTS {
+        told = finish_encryption(machine.heap.take(stream), code);
     }
     wipe_stack(told, machine)
 }
@@ -198,16 +198,16 @@ fn decrypt_start_in(
     stream: &mut PikhsenStream,
     ticks: &mut Ticks,
 ) -> u32
-    ensures begun { result ≡ 0 → HasGot stream.new passphrase.now (take 96 front.now) }
+    ensures begun { result ≡ 0 → StreamHasRead stream.new passphrase.now (take 96 front.now) }
     ensures nothing { result ≡ 0 → released_text (take 96 front.now) passphrase.now ≡ [] }
-    ensures right { result ≡ 0 → HasRightHeaderCode (take 96 front.now) passphrase.now }
-    ensures wrong { result ≡ wrong_passphrase → HasRightHeaderCode (take 96 front.now) passphrase.now → ⊥ }
-    ensures first { TellsFirstOrLate (result ≡ wrong_passphrase)
+    ensures right { result ≡ 0 → HasRightHeaderHmac (take 96 front.now) passphrase.now }
+    ensures wrong { result ≡ wrong_passphrase_status → HasRightHeaderHmac (take 96 front.now) passphrase.now → ⊥ }
+    ensures first { ReturnsFirstOrLateStatus (result ≡ wrong_passphrase_status)
         (decryption_start_refusal stream.old.runs limits.now front.now) result }
-    ensures unchanged { KeepsAtRefusal result stream.old stream.new }
-    ensures asked { AsksToStart result heap.old heap.new }
-    ensures works { CountsWorkToCheck (result ≡ wrong_passphrase)
-        (cores_to_open passphrase.now front.now limits.now.keep) result ticks.old ticks.new }
+    ensures unchanged { IsUnchangedIfRefused result stream.old stream.new }
+    ensures asked { RequestsMemoryToStart result heap.old heap.new }
+    ensures works { CountsWorkUnlessEarly (result ≡ wrong_passphrase_status)
+        (salsa20_cores_to_open passphrase.now front.now limits.now.keep) result ticks.old ticks.new }
 {
     if stream.runs != 0 {
         return status::STREAM;
@@ -215,7 +215,7 @@ fn decrypt_start_in(
     if front.len() < 96 {
         return status::TOO_SHORT;
     }
-    if let Err(status) = check_opening(front, limits) {
+    if let Err(status) = check_header_and_limits(front, limits) {
         return status;
     }
     let Ok(mut block) = heap.block() else {
@@ -224,7 +224,7 @@ fn decrypt_start_in(
     match start_decryption(heap, limits, passphrase, front, ticks) {
         Ok(dec) => {
             drop(Box::replace(&mut block, StreamState::Dec(dec)));
-            *stream = PikhsenStream::of(DECRYPTION, block);
+            *stream = PikhsenStream::of(STREAM_DECRYPTS, block);
             status::OK
         }
         Err(status) => status,
@@ -242,18 +242,18 @@ pub extern "C" fn pikhsen_scrypt_decrypt_start(
     front: &[u8],
     stream: &mut PikhsenStream,
 ) -> Answer
-    ensures begun { result.status ≡ 0 → HasGot stream.new passphrase.now (take 96 front.now) }
+    ensures begun { result.status ≡ 0 → StreamHasRead stream.new passphrase.now (take 96 front.now) }
     ensures nothing { result.status ≡ 0 → released_text (take 96 front.now) passphrase.now ≡ [] }
-    ensures right { result.status ≡ 0 → HasRightHeaderCode (take 96 front.now) passphrase.now }
-    ensures wrong { result.status ≡ wrong_passphrase → HasRightHeaderCode (take 96 front.now) passphrase.now → ⊥ }
+    ensures right { result.status ≡ 0 → HasRightHeaderHmac (take 96 front.now) passphrase.now }
+    ensures wrong { result.status ≡ wrong_passphrase_status → HasRightHeaderHmac (take 96 front.now) passphrase.now → ⊥ }
     // Memory is asked for, and refused, only where nothing else is; and so is a passphrase.
-    ensures first { TellsFirstOrLate (result.status ≡ wrong_passphrase)
+    ensures first { ReturnsFirstOrLateStatus (result.status ≡ wrong_passphrase_status)
         (decrypt_start_status stream.old.runs front.now keep max_bytes max_ops) result.status }
-    ensures unchanged { KeepsAtRefusal result.status stream.old stream.new }
-    ensures asked { AsksToStart result.status machine.heap result.machine.heap }
+    ensures unchanged { IsUnchangedIfRefused result.status stream.old stream.new }
+    ensures asked { RequestsMemoryToStart result.status machine.heap result.machine.heap }
     ensures no_blocks { result.machine.blocks ≡ machine.blocks }
     // There is one derivation, after which the passphrase alone is refused.
-    ensures works { CountsWorkToCheck (result.status ≡ wrong_passphrase) (cores_to_open passphrase.now front.now keep)
+    ensures works { CountsWorkUnlessEarly (result.status ≡ wrong_passphrase_status) (salsa20_cores_to_open passphrase.now front.now keep)
         result.status machine.cores result.machine.cores }
 {
     let mut machine = machine;
@@ -274,15 +274,15 @@ pub extern "C" fn pikhsen_scrypt_decrypt_start(
 fn decrypted(running: &mut StreamState, piece: &[u8], out: &mut [u8], released: &mut usize) -> u32
     requires decryption { is_decryption running.old ≡ true }
     requires room { length piece.now + 32 ≤ length out.old }
-    ensures read { result ≡ 0 → ReadsOn (Reads running.old) (Reads running.new) piece.now }
-    ensures released { result ≡ 0 → IsReleased (Reads running.old) piece.now (take released.new out.new) }
+    ensures read { result ≡ 0 → ReadsNextPiece (StreamStateHasRead running.old) (StreamStateHasRead running.new) piece.now }
+    ensures released { result ≡ 0 → IsNextReleasedText (StreamStateHasRead running.old) piece.now (take released.new out.new) }
     ensures within { result ≡ 0 → released.new ≤ length piece.now }
     ensures rest { result ≡ 0 → drop (length piece.now + 32) out.new ≡ drop (length piece.now + 32) out.old }
-    ensures fits { ReadsWhatFits (Reads running.old) (length piece.now) result }
-    ensures long { result ≢ 0 → result ≡ long_text }
-    ensures untouched { KeepsAtRefusal result out.old out.new }
-    ensures nothing { KeepsAtRefusal result released.old released.new }
-    ensures unchanged { KeepsAtRefusal result running.old running.new }
+    ensures fits { ReadsUnlessFileTooLong (StreamStateHasRead running.old) (length piece.now) result }
+    ensures long { result ≢ 0 → result ≡ long_text_status }
+    ensures untouched { IsUnchangedIfRefused result out.old out.new }
+    ensures nothing { IsUnchangedIfRefused result released.old released.new }
+    ensures unchanged { IsUnchangedIfRefused result running.old running.new }
     ensures stays { is_decryption running.new ≡ true }
 {
     match running {
@@ -306,17 +306,17 @@ pub extern "C" fn pikhsen_scrypt_decrypt_feed(
     out: &mut [u8],
     released: &mut usize,
 ) -> Answer
-    ensures read { result.status ≡ 0 → ReadsOn (HasGot stream.old) (HasGot stream.new) piece.now }
-    ensures released { result.status ≡ 0 → IsReleased (HasGot stream.old) piece.now (take released.new out.new) }
+    ensures read { result.status ≡ 0 → ReadsNextPiece (StreamHasRead stream.old) (StreamHasRead stream.new) piece.now }
+    ensures released { result.status ≡ 0 → IsNextReleasedText (StreamHasRead stream.old) piece.now (take released.new out.new) }
     ensures within { result.status ≡ 0 → released.new ≤ length piece.now }
     ensures rest { result.status ≡ 0 → drop (length piece.now + 32) out.new ≡ drop (length piece.now + 32) out.old }
-    ensures buffer { length out.old < length piece.now + 32 → result.status ≡ wrong_buffer }
+    ensures buffer { length out.old < length piece.now + 32 → result.status ≡ wrong_buffer_status }
     ensures fits { length piece.now + 32 ≤ length out.old
-        → ReadsWhatFits (HasGot stream.old) (length piece.now) result.status }
-    ensures other { length piece.now + 32 ≤ length out.old → stream.old.runs ≢ 2 → result.status ≡ no_stream }
+        → ReadsUnlessFileTooLong (StreamHasRead stream.old) (length piece.now) result.status }
+    ensures other { length piece.now + 32 ≤ length out.old → stream.old.runs ≢ 2 → result.status ≡ wrong_stream_state_status }
     ensures long { length piece.now + 32 ≤ length out.old → stream.old.runs ≡ 2
-        → result.status ≢ 0 → result.status ≡ long_text }
-    ensures untouched { KeepsAtRefusal result.status out.old out.new }
+        → result.status ≢ 0 → result.status ≡ long_text_status }
+    ensures untouched { IsUnchangedIfRefused result.status out.old out.new }
     ensures nothing { result.status ≢ 0 → released.new ≡ 0 }
     ensures unchanged { result.status ≢ 0 → IsAsBefore stream.old stream.new }
     ensures machine { result.machine ≡ machine }
@@ -325,10 +325,10 @@ pub extern "C" fn pikhsen_scrypt_decrypt_feed(
     let mut told = status::STREAM;
     if out.len() < 32 || out.len() - 32 < piece.len() {
         told = status::BUFFER;
-    } else if stream.runs == DECRYPTION {
+    } else if stream.runs == STREAM_DECRYPTS {
         let mut boxed = machine.heap.take(stream);
         told = decrypted(&mut boxed, piece, out, released);
-        *stream = PikhsenStream::of(DECRYPTION, boxed);
+        *stream = PikhsenStream::of(STREAM_DECRYPTS, boxed);
     }
     wipe_stack(told, machine)
 }
@@ -337,13 +337,13 @@ pub extern "C" fn pikhsen_scrypt_decrypt_feed(
 #[inline(never)]
 fn judged(boxed: Box<StreamState, Global>) -> u32
     requires decryption { is_decryption boxed.value ≡ true }
-    ensures whole { result ≡ 0 → IsWhole (Reads boxed.value) }
-    ensures damaged { result ≢ 0 → IsDamaged (Reads boxed.value) }
-    ensures known { result ≢ 0 → result ≡ damaged }
+    ensures whole { result ≡ 0 → IsEncryptionOfReleasedText (StreamStateHasRead boxed.value) }
+    ensures damaged { result ≢ 0 → IsDamaged (StreamStateHasRead boxed.value) }
+    ensures known { result ≢ 0 → result ≡ damaged_status }
 {
     let mut boxed = boxed;
     let mut told = status::DAMAGED;
-    if let StreamState::Dec(dec) = StreamState::out_of(&mut boxed) {
+    if let StreamState::Dec(dec) = StreamState::take_out_of_box(&mut boxed) {
         if dec.finish().is_ok() {
             told = status::OK;
         }
@@ -357,16 +357,16 @@ pub extern "C" fn pikhsen_scrypt_decrypt_finish(
     machine: Machine,
     stream: &mut PikhsenStream,
 ) -> Answer
-    ensures whole { result.status ≡ 0 → IsWhole (HasGot stream.old) }
-    ensures damaged { result.status ≡ damaged → IsDamaged (HasGot stream.old) }
-    ensures other { stream.old.runs ≢ 2 → result.status ≡ no_stream }
-    ensures ends { stream.old.runs ≡ 2 → result.status ≢ 0 → result.status ≡ damaged }
-    ensures over { result.status ≢ no_stream → stream.new.runs ≡ 0 }
-    ensures unchanged { result.status ≡ no_stream → stream.new ≡ stream.old }
+    ensures whole { result.status ≡ 0 → IsEncryptionOfReleasedText (StreamHasRead stream.old) }
+    ensures damaged { result.status ≡ damaged_status → IsDamaged (StreamHasRead stream.old) }
+    ensures other { stream.old.runs ≢ 2 → result.status ≡ wrong_stream_state_status }
+    ensures ends { stream.old.runs ≡ 2 → result.status ≢ 0 → result.status ≡ damaged_status }
+    ensures over { result.status ≢ wrong_stream_state_status → stream.new.runs ≡ 0 }
+    ensures unchanged { result.status ≡ wrong_stream_state_status → stream.new ≡ stream.old }
     ensures machine { result.machine ≡ machine }
 {
     let mut told = status::STREAM;
-    if stream.runs == DECRYPTION {
+    if stream.runs == STREAM_DECRYPTS {
         told = judged(machine.heap.take(stream));
     }
     wipe_stack(told, machine)
@@ -378,7 +378,7 @@ fn ended(boxed: Box<StreamState, Global>) -> u32
     ensures done { result ≡ 0 }
 {
     let mut boxed = boxed;
-    drop(StreamState::out_of(&mut boxed));
+    drop(StreamState::take_out_of_box(&mut boxed));
     StreamState::free(boxed, status::OK)
 }
 
@@ -390,7 +390,7 @@ pub extern "C" fn pikhsen_stream_free(machine: Machine, stream: &mut PikhsenStre
     ensures machine { result.machine ≡ machine }
 {
     let mut told = status::OK;
-    if stream.runs == ENCRYPTION || stream.runs == DECRYPTION {
+    if stream.runs == STREAM_ENCRYPTS || stream.runs == STREAM_DECRYPTS {
         told = ended(machine.heap.take(stream));
     }
     stream.runs = 0;

@@ -3,7 +3,7 @@ ghost use Rattle.std.specs.Prelude.{◌≡◌, length};
 ghost use Rattle.argon_text.specs.EncodedText.{encoded_text};
 ghost use Rattle.argon_text.specs.Value.{Value};
 
-use argon_text::put_tag;
+use argon_text::replace_tag;
 
 /// The encoded text of a hash that is being made. Its length does not change, and it lends bytes alone: a list lends
 /// its allocator, so whoever had it could take memory, or make a counter, beside the source.
@@ -33,6 +33,6 @@ impl Text {
             → self.new.list.items ≡ encoded_text (record v { tag = tag.now }) }
         ensures len { length self.new.list.items ≡ length self.old.list.items }
     {
-        put_tag(&mut self.list, tag);
+        replace_tag(&mut self.list, tag);
     }
 }

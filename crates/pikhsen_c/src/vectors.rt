@@ -4,28 +4,28 @@ ghost use Rattle.std.specs.Prelude.{◌≡◌, ◌-◌, ◌*◌, ◌+◌, ◌^�
 ghost use Rattle.argon.specs.Argon2.{argon2_tag};
 ghost use Rattle.argon.specs.declared.fault.ParamFault.TheVariants.{Lanes, Memory, MemoryLimit, Passes, PasswordLength, SaltLength, TagLength, WorkLimit};
 ghost use Rattle.argon.specs.declared.kind.Kind.TheVariants.{D, I, Id};
-ghost use Rattle.argon_text.specs.Vectors.{known_text, known_value};
+ghost use Rattle.argon_text.specs.Vectors.{sample_encoded_text, sample_encoded_value};
 ghost use Rattle.argon_text.specs.declared.range.RangeFault.TheVariants as range;
 ghost use Rattle.encfile.specs.declared.fault.HeaderFault.TheVariants.{Checksum, CostsOutOfRange, Magic, Version};
 ghost use Rattle.romix.specs.declared.fault.CostFault.TheVariants as costs;
-ghost use Rattle.pikhsen_c.specs.Argon2.{encoded_hash, encoded_keyed_hash, encoded_keyed_status, encoded_status, hash_status, inputs_given, kind_numbered, parameters_given, room_status, value_given};
+ghost use Rattle.pikhsen_c.specs.Argon2.{encoded_hash, encoded_keyed_hash, encoded_keyed_status, hash_to_encoded_status, hash_status, inputs_given, kind_numbered, parameters_of_numbers, room_status, value_to_encode};
 ghost use Rattle.pikhsen_c.specs.File.{encrypt_status, front_status, header_status, number_of as number_of_header};
 ghost use Rattle.pikhsen_c.specs.Message.{sentence_of};
-ghost use Rattle.pikhsen_c.specs.Scrypt.{costs_given, limits_given, number_of as number_of_costs, scrypt_status};
-ghost use Rattle.pikhsen_c.specs.Settings.{number_of as number_of_range, settings_told};
+ghost use Rattle.pikhsen_c.specs.Scrypt.{costs_of_numbers, limits_of_numbers, number_of as number_of_costs, scrypt_status};
+ghost use Rattle.pikhsen_c.specs.Settings.{number_of as number_of_range, c_settings_of_value};
 ghost use Rattle.pikhsen_c.specs.Stream.{decrypt_start_status, encrypt_start_status};
-ghost use Rattle.pikhsen_c.specs.Status.{costs_number, damaged, first_told, header_number, long_password, mismatch, above_memory_limit, above_work_limit, no_stream, not_encoded, out_of_memory, out_of_range, params_number, wrong_passphrase};
+ghost use Rattle.pikhsen_c.specs.Status.{cost_fault_status, damaged_status, first_nonzero_status, header_fault_status, long_password_status, mismatch_status, above_memory_limit_status, above_work_limit_status, wrong_stream_state_status, not_encoded_status, out_of_memory_status, out_of_range_status, param_fault_status, wrong_passphrase_status};
 
 // PIKHSEN_PASSES to PIKHSEN_WORK_LIMIT.
 fn numbers_of_parameters()
-    ensures passes { params_number Passes ≡ 1 }
-    ensures lanes { params_number Lanes ≡ 2 }
-    ensures memory { params_number Memory ≡ 3 }
-    ensures tag { params_number TagLength ≡ 4 }
-    ensures salt { params_number SaltLength ≡ 5 }
-    ensures password { params_number PasswordLength ≡ 6 }
-    ensures memory_limit { params_number MemoryLimit ≡ 7 }
-    ensures work_limit { params_number WorkLimit ≡ 8 }
+    ensures passes { param_fault_status Passes ≡ 1 }
+    ensures lanes { param_fault_status Lanes ≡ 2 }
+    ensures memory { param_fault_status Memory ≡ 3 }
+    ensures tag { param_fault_status TagLength ≡ 4 }
+    ensures salt { param_fault_status SaltLength ≡ 5 }
+    ensures password { param_fault_status PasswordLength ≡ 6 }
+    ensures memory_limit { param_fault_status MemoryLimit ≡ 7 }
+    ensures work_limit { param_fault_status WorkLimit ≡ 8 }
 {}
 
 // PIKHSEN_LOG_N to PIKHSEN_KEEP_ABOVE_N, and the two limits, which have one number for both standards.
@@ -36,8 +36,8 @@ fn numbers_of_costs()
     ensures product { number_of_costs (Some costs.Product) ≡ 19 }
     ensures keep { number_of_costs (Some costs.Keep) ≡ 20 }
     ensures keep_above_n { number_of_costs (Some costs.KeepAboveN) ≡ 21 }
-    ensures memory_limit { costs_number costs.Memory ≡ 7 }
-    ensures work_limit { costs_number costs.Work ≡ 8 }
+    ensures memory_limit { cost_fault_status costs.Memory ≡ 7 }
+    ensures work_limit { cost_fault_status costs.Work ≡ 8 }
 {}
 
 // PIKHSEN_MAGIC to PIKHSEN_FILE_COSTS.
@@ -46,7 +46,7 @@ fn numbers_of_headers()
     ensures magic { number_of_header (Some Magic) ≡ 22 }
     ensures version { number_of_header (Some Version) ≡ 23 }
     ensures checksum { number_of_header (Some Checksum) ≡ 24 }
-    ensures costs_out_of_range { header_number CostsOutOfRange ≡ 25 }
+    ensures costs_out_of_range { header_fault_status CostsOutOfRange ≡ 25 }
 {}
 
 // PIKHSEN_TEXT_VERSION to PIKHSEN_TEXT_SALT_LENGTH.
@@ -62,7 +62,7 @@ fn numbers_of_ranges()
 
 // What the known text says, `$argon2d$v=19$m=8,t=1,p=1$`, with a salt of 8 bytes and a tag of 32.
 fn settings_of_the_known_value()
-    ensures settings { settings_told known_value ≡ record {
+    ensures settings { c_settings_of_value sample_encoded_value ≡ record {
       kind = 0;
       version = 19;
       passes = 1;
@@ -75,24 +75,24 @@ fn settings_of_the_known_value()
 
 // The numbers that no order below tells.
 fn numbers_told_late()
-    ensures long_password { long_password ≡ 6 }
-    ensures above_memory_limit { above_memory_limit ≡ 7 }
-    ensures above_work_limit { above_work_limit ≡ 8 }
-    ensures out_of_memory { out_of_memory ≡ 9 }
-    ensures not_encoded { not_encoded ≡ 14 }
-    ensures out_of_range { out_of_range ≡ 15 }
-    ensures mismatch { mismatch ≡ 16 }
-    ensures wrong_passphrase { wrong_passphrase ≡ 27 }
-    ensures damaged { damaged ≡ 28 }
-    ensures stream { no_stream ≡ 37 }
+    ensures long_password { long_password_status ≡ 6 }
+    ensures above_memory_limit { above_memory_limit_status ≡ 7 }
+    ensures above_work_limit { above_work_limit_status ≡ 8 }
+    ensures out_of_memory { out_of_memory_status ≡ 9 }
+    ensures not_encoded { not_encoded_status ≡ 14 }
+    ensures out_of_range { out_of_range_status ≡ 15 }
+    ensures mismatch { mismatch_status ≡ 16 }
+    ensures wrong_passphrase { wrong_passphrase_status ≡ 27 }
+    ensures damaged { damaged_status ≡ 28 }
+    ensures stream { wrong_stream_state_status ≡ 37 }
 {}
 
 // 0 tells no fault.
 fn first_of_two_numbers()
-    ensures neither { first_told 0 0 ≡ 0 }
-    ensures second { first_told 0 8 ≡ 8 }
-    ensures first { first_told 3 0 ≡ 3 }
-    ensures both { first_told 3 8 ≡ 3 }
+    ensures neither { first_nonzero_status 0 0 ≡ 0 }
+    ensures second { first_nonzero_status 0 8 ≡ 8 }
+    ensures first { first_nonzero_status 3 0 ≡ 3 }
+    ensures both { first_nonzero_status 3 8 ≡ 3 }
 {}
 
 // PIKHSEN_ARGON2D, PIKHSEN_ARGON2I and PIKHSEN_ARGON2ID.
@@ -104,132 +104,132 @@ fn kinds_by_number()
 
 // Each number, and each text, goes to its own place.
 fn places_of_what_is_given()
-    ensures kind { (parameters_given 2 0x10 3 4 5 6 7 8).kind ≡ 2 }
-    ensures version { (parameters_given 2 0x10 3 4 5 6 7 8).version ≡ 0x10 }
-    ensures passes { (parameters_given 2 0x10 3 4 5 6 7 8).passes ≡ 3 }
-    ensures lanes { (parameters_given 2 0x10 3 4 5 6 7 8).lanes ≡ 4 }
-    ensures memory { (parameters_given 2 0x10 3 4 5 6 7 8).memory_kib ≡ 5 }
-    ensures tag { (parameters_given 2 0x10 3 4 5 6 7 8).tag_len ≡ 6 }
-    ensures salt { (parameters_given 2 0x10 3 4 5 6 7 8).salt_len ≡ 7 }
-    ensures password { (parameters_given 2 0x10 3 4 5 6 7 8).password_len ≡ 8 }
+    ensures kind { (parameters_of_numbers 2 0x10 3 4 5 6 7 8).kind ≡ 2 }
+    ensures version { (parameters_of_numbers 2 0x10 3 4 5 6 7 8).version ≡ 0x10 }
+    ensures passes { (parameters_of_numbers 2 0x10 3 4 5 6 7 8).passes ≡ 3 }
+    ensures lanes { (parameters_of_numbers 2 0x10 3 4 5 6 7 8).lanes ≡ 4 }
+    ensures memory { (parameters_of_numbers 2 0x10 3 4 5 6 7 8).memory_kib ≡ 5 }
+    ensures tag { (parameters_of_numbers 2 0x10 3 4 5 6 7 8).tag_len ≡ 6 }
+    ensures salt { (parameters_of_numbers 2 0x10 3 4 5 6 7 8).salt_len ≡ 7 }
+    ensures password { (parameters_of_numbers 2 0x10 3 4 5 6 7 8).password_len ≡ 8 }
     ensures password_text { (inputs_given (codes "p") (codes "s") (codes "k") (codes "x")).password ≡ codes "p" }
     ensures salt_text { (inputs_given (codes "p") (codes "s") (codes "k") (codes "x")).salt ≡ codes "s" }
     ensures secret_text { (inputs_given (codes "p") (codes "s") (codes "k") (codes "x")).secret ≡ codes "k" }
     ensures associated_text { (inputs_given (codes "p") (codes "s") (codes "k") (codes "x")).associated ≡ codes "x" }
-    ensures log_n { (costs_given 4 3 5).log_n ≡ 4 }
-    ensures r { (costs_given 4 3 5).r ≡ 3 }
-    ensures p { (costs_given 4 3 5).p ≡ 5 }
+    ensures log_n { (costs_of_numbers 4 3 5).log_n ≡ 4 }
+    ensures r { (costs_of_numbers 4 3 5).r ≡ 3 }
+    ensures p { (costs_of_numbers 4 3 5).p ≡ 5 }
 {}
 
 // A hash: the kind, the version, each range, the lengths of secret and associated data, the limits. The last
 // parameters have 8 blocks, of which 6 are made from other ones (RFC 9106, 3.2).
 fn refusals_of_a_hash()
-    ensures kind { hash_status (parameters_given 3 0 0 0 0 0 0 0) (2 ^ 32) (2 ^ 32) 0 0 ≡ 10 }
-    ensures version { hash_status (parameters_given 2 0x12 0 0 0 0 0 0) (2 ^ 32) (2 ^ 32) 0 0 ≡ 11 }
-    ensures passes { hash_status (parameters_given 2 0x13 0 0 0 0 0 0) (2 ^ 32) (2 ^ 32) 0 0 ≡ 1 }
-    ensures lanes { hash_status (parameters_given 1 0x10 1 0 2147483648 0 0 0) (2 ^ 32) (2 ^ 32) 0 0 ≡ 2 }
-    ensures memory { hash_status (parameters_given 1 0x10 1 1 7 0 0 0) (2 ^ 32) (2 ^ 32) 0 0 ≡ 3 }
-    ensures tag { hash_status (parameters_given 0 0x13 1 1 8 3 0 0) (2 ^ 32) (2 ^ 32) 0 0 ≡ 4 }
-    ensures salt { hash_status (parameters_given 0 0x13 1 1 8 32 7 0) (2 ^ 32) (2 ^ 32) 0 0 ≡ 5 }
-    ensures password { hash_status (parameters_given 0 0x13 1 1 8 32 8 (2 ^ 32)) (2 ^ 32) (2 ^ 32) 0 0 ≡ 6 }
-    ensures secret { hash_status (parameters_given 0 0x13 1 1 8 32 8 8) (2 ^ 32) 0 7 5 ≡ 12 }
-    ensures associated { hash_status (parameters_given 0 0x13 1 1 8 32 8 8) 0 (2 ^ 32) 7 5 ≡ 12 }
-    ensures memory_limit { hash_status (parameters_given 0 0x13 1 1 8 32 8 8) (2 ^ 32 - 1) (2 ^ 32 - 1) 7 5 ≡ 7 }
-    ensures work_limit { hash_status (parameters_given 0 0x13 1 1 8 32 8 8) (2 ^ 32 - 1) (2 ^ 32 - 1) 8 5 ≡ 8 }
-    ensures none { hash_status (parameters_given 0 0x13 1 1 8 32 8 8) (2 ^ 32 - 1) (2 ^ 32 - 1) 8 6 ≡ 0 }
-    ensures empty_password { hash_status (parameters_given 0 0x13 1 1 8 32 8 0) 0 0 8 6 ≡ 0 }
-    ensures longest_password { hash_status (parameters_given 0 0x13 1 1 8 32 8 (2 ^ 32 - 1)) 0 0 8 6 ≡ 0 }
+    ensures kind { hash_status (parameters_of_numbers 3 0 0 0 0 0 0 0) (2 ^ 32) (2 ^ 32) 0 0 ≡ 10 }
+    ensures version { hash_status (parameters_of_numbers 2 0x12 0 0 0 0 0 0) (2 ^ 32) (2 ^ 32) 0 0 ≡ 11 }
+    ensures passes { hash_status (parameters_of_numbers 2 0x13 0 0 0 0 0 0) (2 ^ 32) (2 ^ 32) 0 0 ≡ 1 }
+    ensures lanes { hash_status (parameters_of_numbers 1 0x10 1 0 2147483648 0 0 0) (2 ^ 32) (2 ^ 32) 0 0 ≡ 2 }
+    ensures memory { hash_status (parameters_of_numbers 1 0x10 1 1 7 0 0 0) (2 ^ 32) (2 ^ 32) 0 0 ≡ 3 }
+    ensures tag { hash_status (parameters_of_numbers 0 0x13 1 1 8 3 0 0) (2 ^ 32) (2 ^ 32) 0 0 ≡ 4 }
+    ensures salt { hash_status (parameters_of_numbers 0 0x13 1 1 8 32 7 0) (2 ^ 32) (2 ^ 32) 0 0 ≡ 5 }
+    ensures password { hash_status (parameters_of_numbers 0 0x13 1 1 8 32 8 (2 ^ 32)) (2 ^ 32) (2 ^ 32) 0 0 ≡ 6 }
+    ensures secret { hash_status (parameters_of_numbers 0 0x13 1 1 8 32 8 8) (2 ^ 32) 0 7 5 ≡ 12 }
+    ensures associated { hash_status (parameters_of_numbers 0 0x13 1 1 8 32 8 8) 0 (2 ^ 32) 7 5 ≡ 12 }
+    ensures memory_limit { hash_status (parameters_of_numbers 0 0x13 1 1 8 32 8 8) (2 ^ 32 - 1) (2 ^ 32 - 1) 7 5 ≡ 7 }
+    ensures work_limit { hash_status (parameters_of_numbers 0 0x13 1 1 8 32 8 8) (2 ^ 32 - 1) (2 ^ 32 - 1) 8 5 ≡ 8 }
+    ensures none { hash_status (parameters_of_numbers 0 0x13 1 1 8 32 8 8) (2 ^ 32 - 1) (2 ^ 32 - 1) 8 6 ≡ 0 }
+    ensures empty_password { hash_status (parameters_of_numbers 0 0x13 1 1 8 32 8 0) 0 0 8 6 ≡ 0 }
+    ensures longest_password { hash_status (parameters_of_numbers 0 0x13 1 1 8 32 8 (2 ^ 32 - 1)) 0 0 8 6 ≡ 0 }
 {}
 
 // A text: the parameters, the limits, and last the room, for the byte 0 after the text, too.
 fn refusals_of_a_text()
-    ensures kind { encoded_status (parameters_given 3 0 0 0 0 0 0 0) (codes "somesalt") 0 0 0 ≡ 10 }
-    ensures password { encoded_status (parameters_given 0 0x13 1 1 8 32 8 (2 ^ 32)) (codes "somesalt") 0 0 0 ≡ 6 }
-    ensures empty_password { encoded_status (parameters_given 0 0x13 1 1 8 32 8 0) (codes "somesalt") 7 5 0 ≡ 7 }
-    ensures memory_limit { encoded_status (parameters_given 0 0x13 1 1 8 32 8 8) (codes "somesalt") 7 5 0 ≡ 7 }
-    ensures work_limit { encoded_status (parameters_given 0 0x13 1 1 8 32 8 8) (codes "somesalt") 8 5 0 ≡ 8 }
+    ensures kind { hash_to_encoded_status (parameters_of_numbers 3 0 0 0 0 0 0 0) (codes "somesalt") 0 0 0 ≡ 10 }
+    ensures password { hash_to_encoded_status (parameters_of_numbers 0 0x13 1 1 8 32 8 (2 ^ 32)) (codes "somesalt") 0 0 0 ≡ 6 }
+    ensures empty_password { hash_to_encoded_status (parameters_of_numbers 0 0x13 1 1 8 32 8 0) (codes "somesalt") 7 5 0 ≡ 7 }
+    ensures memory_limit { hash_to_encoded_status (parameters_of_numbers 0 0x13 1 1 8 32 8 8) (codes "somesalt") 7 5 0 ≡ 7 }
+    ensures work_limit { hash_to_encoded_status (parameters_of_numbers 0 0x13 1 1 8 32 8 8) (codes "somesalt") 8 5 0 ≡ 8 }
     ensures no_room_for_zero { room_status 81 81 ≡ 13 }
     ensures room_for_zero { room_status 81 82 ≡ 0 }
 {}
 
 // The same with a secret and associated data: their lengths are tested after the parameters, before the limits.
 fn refusals_of_a_text_with_a_secret()
-    ensures password { encoded_keyed_status (parameters_given 0 0x13 1 1 8 32 8 (2 ^ 32))
+    ensures password { encoded_keyed_status (parameters_of_numbers 0 0x13 1 1 8 32 8 (2 ^ 32))
         (codes "somesalt") (2 ^ 32) 0 0 0 0 ≡ 6 }
-    ensures secret { encoded_keyed_status (parameters_given 0 0x13 1 1 8 32 8 8)
+    ensures secret { encoded_keyed_status (parameters_of_numbers 0 0x13 1 1 8 32 8 8)
         (codes "somesalt") (2 ^ 32) 0 7 5 0 ≡ 12 }
-    ensures associated { encoded_keyed_status (parameters_given 0 0x13 1 1 8 32 8 8)
+    ensures associated { encoded_keyed_status (parameters_of_numbers 0 0x13 1 1 8 32 8 8)
         (codes "somesalt") 0 (2 ^ 32) 7 5 0 ≡ 12 }
-    ensures memory_limit { encoded_keyed_status (parameters_given 0 0x13 1 1 8 32 8 8) (codes "somesalt")
+    ensures memory_limit { encoded_keyed_status (parameters_of_numbers 0 0x13 1 1 8 32 8 8) (codes "somesalt")
         (2 ^ 32 - 1) (2 ^ 32 - 1) 7 5 0 ≡ 7 }
-    ensures work_limit { encoded_keyed_status (parameters_given 0 0x13 1 1 8 32 8 8) (codes "somesalt")
+    ensures work_limit { encoded_keyed_status (parameters_of_numbers 0 0x13 1 1 8 32 8 8) (codes "somesalt")
         (2 ^ 32 - 1) (2 ^ 32 - 1) 8 5 0 ≡ 8 }
 {}
 
 // The text of the reference program, by the tag that it gives for the same words (argon's vectors compute it).
 fn text_of_the_reference_program()
-    ensures text { argon2_tag (parameters_given 0 0x13 1 1 8 32 8 8)
-        (inputs_given (codes "password") (codes "somesalt") [] []) ≡ known_value.tag →
-        encoded_hash (parameters_given 0 0x13 1 1 8 32 8 8) (codes "password") (codes "somesalt") ≡ known_text }
+    ensures text { argon2_tag (parameters_of_numbers 0 0x13 1 1 8 32 8 8)
+        (inputs_given (codes "password") (codes "somesalt") [] []) ≡ sample_encoded_value.tag →
+        encoded_hash (parameters_of_numbers 0 0x13 1 1 8 32 8 8) (codes "password") (codes "somesalt") ≡ sample_encoded_text }
 {}
 
 // Secret and associated data go to the hash, and not into its text: the same text, where they give the tag.
 fn text_of_a_hash_with_a_secret()
-    ensures text { argon2_tag (parameters_given 0 0x13 1 1 8 32 8 8)
-        (inputs_given (codes "password") (codes "somesalt") (codes "k") (codes "x")) ≡ known_value.tag →
-        encoded_keyed_hash (parameters_given 0 0x13 1 1 8 32 8 8) (codes "password") (codes "somesalt")
-        (codes "k") (codes "x") ≡ known_text }
+    ensures text { argon2_tag (parameters_of_numbers 0 0x13 1 1 8 32 8 8)
+        (inputs_given (codes "password") (codes "somesalt") (codes "k") (codes "x")) ≡ sample_encoded_value.tag →
+        encoded_keyed_hash (parameters_of_numbers 0 0x13 1 1 8 32 8 8) (codes "password") (codes "somesalt")
+        (codes "k") (codes "x") ≡ sample_encoded_text }
 {}
 
 // The start of a stream: that none runs, and then what an encryption of a text of no bytes, or a file, is refused for.
 fn refusals_of_a_start()
-    ensures encryption { encrypt_start_status 1 (costs_given 64 0 1) 3 0 0 31 0 ≡ 37 }
-    ensures costs { encrypt_start_status 0 (costs_given 64 0 1) 3 0 0 31 0 ≡ 17 }
-    ensures head { encrypt_start_status 0 (costs_given 4 1 1) 4 512 160 32 95 ≡ 13 }
-    ensures none { encrypt_start_status 0 (costs_given 4 1 1) 4 512 160 32 96 ≡ 0 }
+    ensures encryption { encrypt_start_status 1 (costs_of_numbers 64 0 1) 3 0 0 31 0 ≡ 37 }
+    ensures costs { encrypt_start_status 0 (costs_of_numbers 64 0 1) 3 0 0 31 0 ≡ 17 }
+    ensures head { encrypt_start_status 0 (costs_of_numbers 4 1 1) 4 512 160 32 95 ≡ 13 }
+    ensures none { encrypt_start_status 0 (costs_of_numbers 4 1 1) 4 512 160 32 96 ≡ 0 }
     ensures decryption { decrypt_start_status 2 [] 1 0 0 ≡ 37 }
     ensures short { decrypt_start_status 0 [] 1 0 0 ≡ 26 }
 {}
 
 // What the text of the reference program says.
 fn value_of_the_reference_program()
-    ensures value { value_given (parameters_given 0 0x13 1 1 8 32 8 8)
-        (codes "somesalt") known_value.tag ≡ known_value }
+    ensures value { value_to_encode (parameters_of_numbers 0 0x13 1 1 8 32 8 8)
+        (codes "somesalt") sample_encoded_value.tag ≡ sample_encoded_value }
 {}
 
 // A key: the costs, its length, which rows are kept, and the limits. With S = 4 a quarter of the 2,048 bytes of V is
 // kept, and at most 2 * r * p * N * (1 + S) cores are run (RFC 7914, 4 to 6). No more than 2^40 bytes are asked for,
 // whatever the limit.
 fn refusals_of_a_key()
-    ensures log_n { scrypt_status (costs_given 0 0 0) 3 0 0 (2 ^ 40) ≡ 17 }
-    ensures zero { scrypt_status (costs_given 4 0 1) 3 0 0 (2 ^ 40) ≡ 18 }
-    ensures product { scrypt_status (costs_given 4 32768 32768) 3 0 0 (2 ^ 40) ≡ 19 }
-    ensures length { scrypt_status (costs_given 4 1 1) 3 0 0 (32 * (2 ^ 32 - 1) + 1) ≡ 13 }
-    ensures keep { scrypt_status (costs_given 4 1 1) 3 0 0 (32 * (2 ^ 32 - 1)) ≡ 20 }
-    ensures keep_above_n { scrypt_status (costs_given 4 1 1) 32 0 0 32 ≡ 21 }
-    ensures memory_limit { scrypt_status (costs_given 4 1 1) 4 511 159 32 ≡ 7 }
-    ensures work_limit { scrypt_status (costs_given 4 1 1) 4 512 159 32 ≡ 8 }
-    ensures none { scrypt_status (costs_given 4 1 1) 4 512 160 32 ≡ 0 }
-    ensures greatest { scrypt_status (costs_given 33 1 1) 1 (2 ^ 63) (2 ^ 63) 32 ≡ 0 }
-    ensures above_2_40_bytes { scrypt_status (costs_given 34 1 1) 1 (2 ^ 63) (2 ^ 63) 32 ≡ 7 }
-    ensures bytes_below { (limits_given 2048 64).max_bytes ≡ 2048 }
-    ensures bytes_above { (limits_given (2 ^ 40 + 1) 64).max_bytes ≡ 2 ^ 40 }
-    ensures cores { (limits_given 2048 64).max_ops ≡ 64 }
+    ensures log_n { scrypt_status (costs_of_numbers 0 0 0) 3 0 0 (2 ^ 40) ≡ 17 }
+    ensures zero { scrypt_status (costs_of_numbers 4 0 1) 3 0 0 (2 ^ 40) ≡ 18 }
+    ensures product { scrypt_status (costs_of_numbers 4 32768 32768) 3 0 0 (2 ^ 40) ≡ 19 }
+    ensures length { scrypt_status (costs_of_numbers 4 1 1) 3 0 0 (32 * (2 ^ 32 - 1) + 1) ≡ 13 }
+    ensures keep { scrypt_status (costs_of_numbers 4 1 1) 3 0 0 (32 * (2 ^ 32 - 1)) ≡ 20 }
+    ensures keep_above_n { scrypt_status (costs_of_numbers 4 1 1) 32 0 0 32 ≡ 21 }
+    ensures memory_limit { scrypt_status (costs_of_numbers 4 1 1) 4 511 159 32 ≡ 7 }
+    ensures work_limit { scrypt_status (costs_of_numbers 4 1 1) 4 512 159 32 ≡ 8 }
+    ensures none { scrypt_status (costs_of_numbers 4 1 1) 4 512 160 32 ≡ 0 }
+    ensures greatest { scrypt_status (costs_of_numbers 33 1 1) 1 (2 ^ 63) (2 ^ 63) 32 ≡ 0 }
+    ensures above_2_40_bytes { scrypt_status (costs_of_numbers 34 1 1) 1 (2 ^ 63) (2 ^ 63) 32 ≡ 7 }
+    ensures bytes_below { (limits_of_numbers 2048 64).max_bytes ≡ 2048 }
+    ensures bytes_above { (limits_of_numbers (2 ^ 40 + 1) 64).max_bytes ≡ 2 ^ 40 }
+    ensures cores { (limits_of_numbers 2048 64).max_ops ≡ 64 }
 {}
 
 // An encryption: the costs, the lengths of salt, text and file, which rows are kept, and the limits. A file has 128
 // bytes more than its text (FORMAT of Tarsnap's scrypt).
 fn refusals_of_an_encryption()
-    ensures costs { encrypt_status (costs_given 64 0 1) 3 0 0 31 (2 ^ 60) 0 ≡ 17 }
-    ensures salt { encrypt_status (costs_given 4 1 1) 3 0 0 31 (2 ^ 60) 0 ≡ 30 }
-    ensures text { encrypt_status (costs_given 4 1 1) 3 0 0 32 (2 ^ 60) 0 ≡ 29 }
-    ensures longest { encrypt_status (costs_given 4 1 1) 3 0 0 32 (2 ^ 60 - 1) 0 ≡ 13 }
-    ensures file { encrypt_status (costs_given 4 1 1) 3 0 0 32 5 132 ≡ 13 }
-    ensures longer_file { encrypt_status (costs_given 4 1 1) 3 0 0 32 5 134 ≡ 13 }
-    ensures keep { encrypt_status (costs_given 4 1 1) 3 0 0 32 5 133 ≡ 20 }
-    ensures memory_limit { encrypt_status (costs_given 4 1 1) 4 511 159 32 5 133 ≡ 7 }
-    ensures work_limit { encrypt_status (costs_given 4 1 1) 4 512 159 32 5 133 ≡ 8 }
-    ensures none { encrypt_status (costs_given 4 1 1) 4 512 160 32 5 133 ≡ 0 }
+    ensures costs { encrypt_status (costs_of_numbers 64 0 1) 3 0 0 31 (2 ^ 60) 0 ≡ 17 }
+    ensures salt { encrypt_status (costs_of_numbers 4 1 1) 3 0 0 31 (2 ^ 60) 0 ≡ 30 }
+    ensures text { encrypt_status (costs_of_numbers 4 1 1) 3 0 0 32 (2 ^ 60) 0 ≡ 29 }
+    ensures longest { encrypt_status (costs_of_numbers 4 1 1) 3 0 0 32 (2 ^ 60 - 1) 0 ≡ 13 }
+    ensures file { encrypt_status (costs_of_numbers 4 1 1) 3 0 0 32 5 132 ≡ 13 }
+    ensures longer_file { encrypt_status (costs_of_numbers 4 1 1) 3 0 0 32 5 134 ≡ 13 }
+    ensures keep { encrypt_status (costs_of_numbers 4 1 1) 3 0 0 32 5 133 ≡ 20 }
+    ensures memory_limit { encrypt_status (costs_of_numbers 4 1 1) 4 511 159 32 5 133 ≡ 7 }
+    ensures work_limit { encrypt_status (costs_of_numbers 4 1 1) 4 512 159 32 5 133 ≡ 8 }
+    ensures none { encrypt_status (costs_of_numbers 4 1 1) 4 512 160 32 5 133 ≡ 0 }
 {}
 
 // A file: the buffer, its own length, its header.

@@ -36,7 +36,7 @@ fn wipe(room: &mut [u64]) -> bool
     ensures wiped { result ≡ true }
 {
     room.fill(0);
-    copy_zeros(room);
+    wipe_vector_registers(room);
     are_zeros(room)
 }
 
@@ -45,7 +45,7 @@ fn wipe(room: &mut [u64]) -> bool
 // key after a call. A copy of 1 KiB writes all of them. A shorter one writes fewer, and a longer one may be made by a
 // string instruction, which writes none.
 #[inline(never)]
-fn copy_zeros(words: &mut [u64])
+fn wipe_vector_registers(words: &mut [u64])
     ensures zeros { words.old ≡ replicate (length words.old) 0 → words.new ≡ words.old }
 {
     let part = words.len() / 32;

@@ -6,7 +6,7 @@ use Rattle.std.proofs.Math.Pow.{pow-lt}
 use Rattle.std.proofs.lemmas.Bool.{cases_lt, eqb-true}
 use Rattle.std.proofs.lemmas.Bool.Decides.{eqb_tells}
 use Rattle.std.proofs.lemmas.Nat.{pow-add}
-use Rattle.romix.specs.SparseCosts.{is_keep}
+use Rattle.romix.specs.SparseCosts.{is_valid_keep}
 
 pub fits_work : (a n k : ℕ) → a < 2 ^ 31 → n < 2 ^ 64 → k ≤ 1024 → a * n * (1 + k) < 2 ^ 128
 fits_work a n k ha hn hk =
@@ -22,7 +22,7 @@ one_of P f s k v rest e more h =
     ]
 
 -- what holds of the powers of two holds of S
-each_keep : (P : ℕ → Type 0) → ((k : ℕ) → P (2 ^ k)) → (s : ℕ) → is_keep s ≡ true → P s
+each_keep : (P : ℕ → Type 0) → ((k : ℕ) → P (2 ^ k)) → (s : ℕ) → is_valid_keep s ≡ true → P s
 each_keep P f s = one_of P f s 10 1024 _ refl
     (one_of P f s 9 512 _ refl
     (one_of P f s 8 256 _ refl
@@ -45,5 +45,5 @@ power_divides n k h =
     ]
 
 -- S divides N
-pub keep_divides : (n s : ℕ) → is_keep s ≡ true → s ≤ 2 ^ n → 2 ^ n % s ≡ 0
+pub keep_divides : (n s : ℕ) → is_valid_keep s ≡ true → s ≤ 2 ^ n → 2 ^ n % s ≡ 0
 keep_divides n s h = each_keep (λ s. s ≤ 2 ^ n → 2 ^ n % s ≡ 0) (power_divides n) s h

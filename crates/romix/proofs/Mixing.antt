@@ -2,15 +2,15 @@
 use Rattle.std.proofs.Common.{◌≡◌, ℕ, ◌+◌, ◌*◌, ◌/◌, List, ◌++◌, add-one}
 use Rattle.romix.specs.Salsa20.{salsa20_8}
 use Rattle.four_words.specs.Words.{xored_words}
-use Rattle.romix.specs.BlockMix.{block_at, block_count, chain_block, every_second_output, block_mix}
+use Rattle.romix.specs.BlockMix.{block_at, block_count, block_mix_x_after, every_second_output, block_mix}
 
 -- one more turn of the chain: t is x xor block o, and z its core
-pub chain_more : (b x t z o : List ℕ) (i j : ℕ) → x ≡ chain_block b i → o ≡ block_at b i → t ≡ xored_words x o → z ≡ salsa20_8 t → j ≡ i + 1 → z ≡ chain_block b j
-unfolding chain_block
+pub chain_more : (b x t z o : List ℕ) (i j : ℕ) → x ≡ block_mix_x_after b i → o ≡ block_at b i → t ≡ xored_words x o → z ≡ salsa20_8 t → j ≡ i + 1 → z ≡ block_mix_x_after b j
+unfolding block_mix_x_after
 chain_more b x t z o i j hx ho ht hz e = rw (e, add-one i, hz, ht, ho, hx)
 
 -- one more output
-pub every_second_more : (b e x : List ℕ) (s i k : ℕ) → e ≡ every_second_output b s i → x ≡ chain_block b k → k ≡ s + 2 * i + 1 → e ++ x ≡ every_second_output b s (i + 1)
+pub every_second_more : (b e x : List ℕ) (s i k : ℕ) → e ≡ every_second_output b s i → x ≡ block_mix_x_after b k → k ≡ s + 2 * i + 1 → e ++ x ≡ every_second_output b s (i + 1)
 unfolding every_second_output
 every_second_more b e x s i k he hx h = rw (he, hx, h, add-one i, add-one (s + 2 * i))
 

@@ -6,7 +6,7 @@ use Rattle.std.proofs.Math.Nat.{add-mul-mod_self_right, mul-le-mul_left}
 use Rattle.std.specs.Simd.Lanes.{number_l}
 use Rattle.four_words.specs.Words.{xored_words}
 use Rattle.romix.specs.BlockMix.{block_mix}
-use Rattle.romix.specs.Romix.{integerify, row_after, table_row}
+use Rattle.romix.specs.Romix.{integerify, romix_row_after_turns, row_of_v}
 use Rattle.romix.specs.Inside.Table.{row_at}
 
 -- a row depends on the table up to its end alone
@@ -50,14 +50,14 @@ integerify_low w k long h fits =
     rw (high, one_shl k 64 h, digits) (low_words a b (number_l (2 ^ 32) (drop (n + 1 + 1) w)) k (omega arith))
 
 -- one more row of V
-pub table_row_more : (b r s : List ℕ) (i j : ℕ) → r ≡ table_row b i → s ≡ block_mix r → j ≡ i + 1 → s ≡ table_row b j
-unfolding table_row
+pub table_row_more : (b r s : List ℕ) (i j : ℕ) → r ≡ row_of_v b i → s ≡ block_mix r → j ≡ i + 1 → s ≡ row_of_v b j
+unfolding row_of_v
 table_row_more b r s i j hr hs e = rw (e, add-one i, hs, hr)
 
 -- one more turn of X: s is r xor row t of V, and z its BlockMix
-pub row_after_more : (b r t s z : List ℕ) (n i j k : ℕ) → r ≡ row_after b n i → t ≡ table_row b k → k ≡ integerify r % n → s ≡ xored_words r t → z ≡ block_mix s
-    → j ≡ i + 1 → z ≡ row_after b n j
-unfolding row_after
+pub row_after_more : (b r t s z : List ℕ) (n i j k : ℕ) → r ≡ romix_row_after_turns b n i → t ≡ row_of_v b k → k ≡ integerify r % n → s ≡ xored_words r t → z ≡ block_mix s
+    → j ≡ i + 1 → z ≡ romix_row_after_turns b n j
+unfolding romix_row_after_turns
 row_after_more b r t s z n i j k hr ht hk hs hz e = rw (e, add-one i, hz, hs, ht, hk, hr)
 
 -- what holds below 2 * i and of the next two

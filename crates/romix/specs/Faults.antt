@@ -2,7 +2,7 @@
 use Rattle.std.specs.Prelude.{ℕ, ◌*◌, ◌^◌, Bool, not, ◌&&◌, ◌||◌, [], ◌∷◌, nat_eq, nat_lt, nat_le, Option}
 use Rattle.romix.specs.Costs.{Parameters, cores, parts_bytes, table_bytes}
 use Rattle.romix.specs.FirstOf.{first_of}
-use Rattle.romix.specs.SparseCosts.{SparseParameters, cores_bound, is_keep, sparse_table_bytes}
+use Rattle.romix.specs.SparseCosts.{CostsAndKeep, cores_bound, is_valid_keep, sparse_table_bytes}
 use Rattle.romix.specs.declared.limits.Limits.{Limits}
 use Rattle.romix.specs.declared.fault.CostFault.{CostFault}
 use Rattle.romix.specs.declared.fault.CostFault.TheVariants.{LogN, Zero, Product, Memory, Work, Keep, KeepAboveN}
@@ -26,21 +26,21 @@ limit_fault c limits = first_of (
 -- ---- over a sparse table
 
 -- whether S is above N
-abbrev pub is_keep_above_n : SparseParameters → Bool
-is_keep_above_n s = nat_lt (2 ^ s.costs.log_n) s.keep
+abbrev pub is_keep_number_above_n : CostsAndKeep → Bool
+is_keep_number_above_n s = nat_lt (2 ^ s.costs.log_n) s.keep
 
 -- whether the rows of V that are kept, or B, have more bytes than the limit
-abbrev pub exceeds_memory : SparseParameters → Limits → Bool
+abbrev pub exceeds_memory : CostsAndKeep → Limits → Bool
 exceeds_memory s limits = nat_lt limits.max_bytes (sparse_table_bytes s) || nat_lt limits.max_bytes (parts_bytes s.costs)
 
 -- whether the upper bound on the Salsa20/8 cores is above the limit
-abbrev pub exceeds_work : SparseParameters → Limits → Bool
+abbrev pub exceeds_work : CostsAndKeep → Limits → Bool
 exceeds_work s limits = nat_lt limits.max_ops (cores_bound s)
 
 -- why S doesn't go with the costs, if it doesn't: it is no power of two from 1 to 1,024, or it is above N
-abbrev pub keep_fault : SparseParameters → Option CostFault
-keep_fault s = first_of ((not (is_keep s.keep), Keep) ∷ (is_keep_above_n s, KeepAboveN) ∷ [])
+abbrev pub keep_parameter_fault : CostsAndKeep → Option CostFault
+keep_parameter_fault s = first_of ((not (is_valid_keep s.keep), Keep) ∷ (is_keep_number_above_n s, KeepAboveN) ∷ [])
 
 -- why the limits don't admit the costs with S, if they don't: of memory, or of work
-abbrev pub sparse_limit_fault : SparseParameters → Limits → Option CostFault
+abbrev pub sparse_limit_fault : CostsAndKeep → Limits → Option CostFault
 sparse_limit_fault s limits = first_of ((exceeds_memory s limits, Memory) ∷ (exceeds_work s limits, Work) ∷ [])

@@ -23,11 +23,11 @@ abbrev pub mixed_part : List ℕ → ℕ → ℕ → List ℕ
 mixed_part octets n r = octets_of (romix (words_of octets (32 * r)) n)
 
 -- scryptROMix of each of the first p parts of B, joined, with n for N (step 2)
-unfoldable pub mixed_parts : List ℕ → ℕ → ℕ → ℕ → List ℕ
-mixed_parts b n r zero = []
-mixed_parts b n r (suc p) = mixed_parts b n r p ++ mixed_part (part_at b r p) n r
+unfoldable pub parts_after_romix : List ℕ → ℕ → ℕ → ℕ → List ℕ
+parts_after_romix b n r zero = []
+parts_after_romix b n r (suc p) = parts_after_romix b n r p ++ mixed_part (part_at b r p) n r
 
 -- scrypt (P, S, N, r, p, dkLen), with n for N: PBKDF2 gives B (step 1), and with the mixed B as its salt the key
 -- (step 3)
 unfoldable pub scrypt : List ℕ → List ℕ → ℕ → ℕ → ℕ → ℕ → List ℕ
-scrypt password salt n r p len = pbkdf2 password (mixed_parts (pbkdf2 password salt (128 * r * p)) n r p) len
+scrypt password salt n r p len = pbkdf2 password (parts_after_romix (pbkdf2 password salt (128 * r * p)) n r p) len

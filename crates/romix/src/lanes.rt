@@ -1,6 +1,6 @@
 //! Sixteen words in four vectors: how they are read, written, xored and turned.
 ghost use Rattle.std.specs.Prelude.{◌≡◌, ◌+◌, ◌*◌, ◌≤◌, ◌++◌, length, take, drop};
-ghost use Rattle.std.specs.Simd.Lanes.{chunk, put_chunk};
+ghost use Rattle.std.specs.Simd.Lanes.{put_chunk};
 ghost use Rattle.four_words.specs.Words.{xored_words};
 ghost use Rattle.romix.specs.BlockMix.{block_at};
 ghost use Rattle.four_words.specs.Inside.FourWords.{four_words};
@@ -18,15 +18,6 @@ pub(crate) struct Lanes {
     pub(crate) fourth: u32x4,
 }
 
-// The four words from a place on.
-#[inline(always)]
-fn four(words: &[u32], at: usize) -> u32x4
-    requires room { at + 4 ≤ length words.now }
-    ensures words { result ≡ chunk at 4 words.now }
-{
-    u32x4::from_slice(&words[at..])
-}
-
 // Writes four words from a place on.
 #[inline(always)]
 fn put_four(words: &mut [u32], at: usize, four: u32x4)
@@ -38,7 +29,7 @@ fn put_four(words: &mut [u32], at: usize, four: u32x4)
 
 // The xor of two vectors.
 #[inline(always)]
-fn xor_four(x: u32x4, y: u32x4) -> u32x4
+fn xor_vectors(x: u32x4, y: u32x4) -> u32x4
     ensures words { four_words result ≡ xored_words (four_words x) (four_words y) }
 {
     x ^ y
@@ -53,10 +44,10 @@ impl Lanes {
     {
         let at = 16 * i;
         Lanes {
-            first: four(row, at),
-            second: four(row, at + 4),
-            third: four(row, at + 8),
-            fourth: four(row, at + 12),
+            first: u32x4::from_slice(&row[at..]),
+            second: u32x4::from_slice(&row[at + 4..]),
+            third: u32x4::from_slice(&row[at + 8..]),
+            fourth: u32x4::from_slice(&row[at + 12..]),
         }
     }
 
@@ -82,10 +73,10 @@ impl Lanes {
             ≡ xored_words (words_by_diagonals self) (words_by_diagonals other) }
     {
         Lanes {
-            first: xor_four(self.first, other.first),
-            second: xor_four(self.second, other.second),
-            third: xor_four(self.third, other.third),
-            fourth: xor_four(self.fourth, other.fourth),
+            first: xor_vectors(self.first, other.first),
+            second: xor_vectors(self.second, other.second),
+            third: xor_vectors(self.third, other.third),
+            fourth: xor_vectors(self.fourth, other.fourth),
         }
     }
 

@@ -3,7 +3,7 @@
 //! [`Costs`] are the parameters, and [`Sparse`] says besides how many rows of the table are kept: with
 //! S above 1 a derivation takes 1/S of the table's memory, and up to (1 + S) / 2 times the work. The
 //! key is the same. [`Workspace::reserve`] takes all the memory of a derivation, and [`reserve_from`] takes
-//! it from a [`Reservation`] of the caller's; nothing in it grows with p. No other call takes any, and none
+//! it from a [`WorkspaceMemory`] of the caller's; nothing in it grows with p. No other call takes any, and none
 //! but [`Costs::new`], [`Sparse::new`] and `admitted` of both refuses its arguments. Each call that applies
 //! the core counts that in a [`Ticks`], which contracts see and which has no bytes. [`salsa8`], [`block_mix`]
 //! and [`romix::romix`] are the steps alone.
@@ -46,7 +46,7 @@ pub use block_mix_by_rows::block_mix;
 pub use costs::Costs;
 pub use fault::CostFault;
 pub use limits::Limits;
-pub use reservation::Reservation;
+pub use reservation::WorkspaceMemory;
 pub use salsa20::salsa8;
 pub use sparse::Sparse;
 pub use ticks::Ticks;

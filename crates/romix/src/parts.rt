@@ -1,10 +1,10 @@
 //! The parts of scrypt (RFC 7914, section 6), one at a time: each is made, mixed, and handed on.
 ghost use Rattle.std.specs.Prelude.{◌≡◌, ℕ, ◌+◌, ◌*◌, ◌/◌, ◌%◌, ◌^◌, ◌<◌, ◌≤◌, ◌++◌, List, length};
-ghost use Rattle.macs.specs.KeyPair.{HoldsSalt};
+ghost use Rattle.macs.specs.KeyPair.{Pbkdf2HasPasswordAndSalt};
 ghost use Rattle.macs.specs.Pbkdf2.{pbkdf2};
 ghost use Rattle.romix.specs.Costs.{parts_bytes};
-ghost use Rattle.romix.specs.Scrypt.{mixed_parts, octets_of, part_at, words_of};
-ghost use Rattle.romix.specs.Sparse.{sparse_cores};
+ghost use Rattle.romix.specs.Scrypt.{parts_after_romix, octets_of, part_at, words_of};
+ghost use Rattle.romix.specs.Sparse.{sparse_table_core_count};
 
 use crate::romix::romix;
 use crate::sparse::Sparse;
@@ -14,10 +14,10 @@ use macs::Pbkdf2Pair;
 
 // Fills the row with part `k`, from 0, of the key that `salted` derives: so many of its blocks, of
 // eight words each.
-fn read_part(salted: &Pbkdf2Pair, k: usize, row: &mut [u32])
+fn derive_part(salted: &Pbkdf2Pair, k: usize, row: &mut [u32])
     requires whole { length row.old % 32 ≡ 0 }
     requires fits { length row.old / 8 * (k + 1) < 2 ^ 32 }
-    ensures part { (password salt : List ℕ) → HoldsSalt salted.now password salt → (p : ℕ) → k < p
+    ensures part { (password salt : List ℕ) → Pbkdf2HasPasswordAndSalt salted.now password salt → (p : ℕ) → k < p
         → row.new ≡ words_of (part_at (pbkdf2 password salt (128 * (length row.old / 32) * p)) (length row.old / 32) k)
         (length row.old) }
 {
@@ -31,8 +31,8 @@ fn read_part(salted: &Pbkdf2Pair, k: usize, row: &mut [u32])
 // Appends the octets of the row to the salt of `pair`.
 fn feed(pair: &mut Pbkdf2Pair, row: &[u32])
     requires whole { length row.now % 16 ≡ 0 }
-    ensures fed { (password salt : List ℕ) → HoldsSalt pair.old password salt
-        → HoldsSalt pair.new password (salt ++ octets_of row.now) }
+    ensures fed { (password salt : List ℕ) → Pbkdf2HasPasswordAndSalt pair.old password salt
+        → Pbkdf2HasPasswordAndSalt pair.new password (salt ++ octets_of row.now) }
 {
     let mut octets = [0u8; 64];
     for i in 0..row.len() / 16 {
@@ -58,10 +58,10 @@ pub(crate) fn mix_parts(
     requires spare { 1 < sparse.now.keep → length spare.old ≡ 32 * sparse.now.costs.r }
     requires table { length table.old
         ≡ 32 * sparse.now.costs.r * (2 ^ sparse.now.costs.log_n / sparse.now.keep) }
-    ensures fed { HoldsSalt result password.now (mixed_parts
+    ensures fed { Pbkdf2HasPasswordAndSalt result password.now (parts_after_romix
         (pbkdf2 password.now salt.now (parts_bytes sparse.now.costs))
         (2 ^ sparse.now.costs.log_n) sparse.now.costs.r sparse.now.costs.p) }
-    ensures count { ticks.new ≡ ticks.old + sparse_cores password.now salt.now sparse.now }
+    ensures count { ticks.new ≡ ticks.old + sparse_table_core_count password.now salt.now sparse.now }
 {
     let costs = sparse.costs();
     let log_n = u32::from(costs.log_n());
@@ -70,7 +70,7 @@ pub(crate) fn mix_parts(
     salted.update(salt);
     let mut pair = Pbkdf2Pair::new(password);
     'parts: for k in 0..costs.p() as usize {
-        read_part(&salted, k, row);
+        derive_part(&salted, k, row);
         romix(row, other, spare, table, log_n, keep, ticks);
         feed(&mut pair, row);
     }

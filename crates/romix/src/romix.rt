@@ -3,14 +3,14 @@
 ghost use Rattle.std.specs.Prelude.{◌≡◌, ◌+◌, ◌*◌, ◌/◌, ◌%◌, ◌^◌, ◌<◌, ◌≤◌, length};
 ghost use Rattle.four_words.specs.Words.{xored_words};
 ghost use Rattle.romix.specs.BlockMix.{block_count, block_mix};
-ghost use Rattle.romix.specs.Inside.Diagonals.{natural_row};
-ghost use Rattle.romix.specs.Romix.{integerify, romix, table_row};
+ghost use Rattle.romix.specs.Inside.Diagonals.{row_in_standard_order};
+ghost use Rattle.romix.specs.Romix.{integerify, romix, row_of_v};
 ghost use Rattle.romix.specs.Sparse.{mixes};
 ghost use Rattle.romix.specs.Inside.Table.{row_at};
 
 use crate::lanes::Lanes;
 use crate::salsa20::core_by_diagonals;
-use crate::table::{keep_row, load_row};
+use crate::table::{keep_row, load_table_row};
 use crate::ticks::Ticks;
 
 // BlockMix (RFC 7914, section 4) of a row by diagonals, with X in four vectors throughout.
@@ -19,7 +19,7 @@ fn block_mix_by_diagonals(input: &[u32], out: &mut [u32], ticks: &mut Ticks)
     requires same { length out.old ≡ length input.now }
     requires pairs { length input.now % 32 ≡ 0 }
     requires not_empty { 0 < length input.now }
-    ensures words { natural_row out.new ≡ block_mix (natural_row input.now) }
+    ensures words { row_in_standard_order out.new ≡ block_mix (row_in_standard_order input.now) }
     ensures count { ticks.new ≡ ticks.old + block_count input.now }
 {
     let pairs = input.len() / 32;
@@ -53,7 +53,7 @@ fn integerify(row: &[u32], log_n: u32) -> u64
     requires long { 16 ≤ length row.now }
     requires whole { length row.now % 16 ≡ 0 }
     requires log_n_high { log_n < 64 }
-    ensures number { result ≡ integerify (natural_row row.now) % 2 ^ log_n }
+    ensures number { result ≡ integerify (row_in_standard_order row.now) % 2 ^ log_n }
 {
     let last = row.len() - 16;
     let low = u64::from(row[last]) + (u64::from(row[last + 13]) << 32);
@@ -63,7 +63,7 @@ fn integerify(row: &[u32], log_n: u32) -> u64
 // Puts the blocks of a row into the order of the diagonals.
 fn turn_to_diagonals(row: &mut [u32])
     requires whole { length row.old % 16 ≡ 0 }
-    ensures words { natural_row row.new ≡ row.old }
+    ensures words { row_in_standard_order row.new ≡ row.old }
 {
     for i in 0..row.len() / 16 {
         let turned = Lanes::load(row, i).to_diagonals();
@@ -74,7 +74,7 @@ fn turn_to_diagonals(row: &mut [u32])
 // Puts the blocks of a row back into their own order.
 fn turn_to_rows(row: &mut [u32])
     requires whole { length row.old % 16 ≡ 0 }
-    ensures words { row.new ≡ natural_row row.old }
+    ensures words { row.new ≡ row_in_standard_order row.old }
 {
     for i in 0..row.len() / 16 {
         let turned = Lanes::load(row, i).to_rows();
@@ -83,13 +83,19 @@ fn turn_to_rows(row: &mut [u32])
 }
 
 // Fills `out` with the row of V that stands `steps` after `from`, by diagonals.
-fn step_on(from: &[u32], steps: usize, out: &mut [u32], spare: &mut [u32], ticks: &mut Ticks)
+fn recompute_row_of_v(
+    from: &[u32],
+    steps: usize,
+    out: &mut [u32],
+    spare: &mut [u32],
+    ticks: &mut Ticks,
+)
     requires some_steps { 1 ≤ steps }
     requires pairs { length from.now % 32 ≡ 0 }
     requires not_empty { 0 < length from.now }
     requires out { length out.old ≡ length from.now }
     requires spare { length spare.old ≡ length from.now }
-    ensures words { natural_row out.new ≡ table_row (natural_row from.now) steps }
+    ensures words { row_in_standard_order out.new ≡ row_of_v (row_in_standard_order from.now) steps }
     ensures count { ticks.new ≡ ticks.old + steps * block_count from.now }
 {
     // one or two, so that the last of the pairs ends in `out`
@@ -123,16 +129,16 @@ fn xor_table_row(
     requires room { length row.old * (j / keep + 1) ≤ length table.now }
     requires work { length work.old ≡ length row.old }
     requires spare { 1 < keep → length spare.old ≡ length row.old }
-    ensures words { natural_row row.new ≡ xored_words (natural_row row.old)
-        (table_row (natural_row (row_at table.now (length row.old) (j / keep))) (j % keep)) }
+    ensures words { row_in_standard_order row.new ≡ xored_words (row_in_standard_order row.old)
+        (row_of_v (row_in_standard_order (row_at table.now (length row.old) (j / keep))) (j % keep)) }
     ensures count { ticks.new ≡ ticks.old + j % keep * block_count row.old }
 {
-    let from = load_row(table, row.len(), j / keep);
+    let from = load_table_row(table, row.len(), j / keep);
     let steps = j % keep;
     if steps == 0 {
         xor_rows(row, from);
     } else {
-        step_on(from, steps, work, spare, ticks);
+        recompute_row_of_v(from, steps, work, spare, ticks);
         xor_rows(row, work);
     }
 }

@@ -1,7 +1,7 @@
 //! The Salsa20/8 core (RFC 7914, section 3), four words at a time, on the diagonals of the state.
 ghost use Rattle.std.specs.Prelude.{◌≡◌, ℕ, ◌+◌, ◌<◌, slice_index};
 ghost use Rattle.romix.specs.Salsa20.{column_round, quarter_round, quarter_step, row_round, salsa20_8, word_sum};
-ghost use Rattle.four_words.specs.Inside.FourWords.{words_in_order};
+ghost use Rattle.four_words.specs.Inside.FourWords.{shuffled_words};
 ghost use Rattle.romix.specs.Inside.Lanes.{words_by_diagonals, words_by_rows};
 
 use crate::lanes::Lanes;
@@ -39,30 +39,6 @@ fn quarter_round(x: Lanes) -> Lanes
     }
 }
 
-// The lanes from lane 1 on, around the end.
-#[inline(always)]
-fn turned_by_1(v: u32x4) -> u32x4
-    ensures words { result ≡ words_in_order v 1 2 3 0 }
-{
-    v.rotate_elements_left::<1>()
-}
-
-// The lanes from lane 2 on, around the end.
-#[inline(always)]
-fn turned_by_2(v: u32x4) -> u32x4
-    ensures words { result ≡ words_in_order v 2 3 0 1 }
-{
-    v.rotate_elements_left::<2>()
-}
-
-// The lanes from lane 3 on, around the end.
-#[inline(always)]
-fn turned_by_3(v: u32x4) -> u32x4
-    ensures words { result ≡ words_in_order v 3 0 1 2 }
-{
-    v.rotate_elements_left::<3>()
-}
-
 // The columnround: lane j has column j, from its diagonal word on.
 #[inline(always)]
 fn column_round(x: Lanes) -> Lanes
@@ -71,23 +47,28 @@ fn column_round(x: Lanes) -> Lanes
     quarter_round(x)
 }
 
-// The rowround: the lanes are turned so that lane j has row j, from its diagonal word on, and back.
+// The lanes turned so that lane j has row j, from its diagonal word on, in place of column j; and back.
+#[inline(always)]
+fn turned(x: Lanes) -> Lanes
+    ensures first { result.first ≡ x.first }
+    ensures second { result.second ≡ shuffled_words x.fourth 1 2 3 0 }
+    ensures third { result.third ≡ shuffled_words x.third 2 3 0 1 }
+    ensures fourth { result.fourth ≡ shuffled_words x.second 3 0 1 2 }
+{
+    Lanes {
+        first: x.first,
+        second: x.fourth.rotate_elements_left::<1>(),
+        third: x.third.rotate_elements_left::<2>(),
+        fourth: x.second.rotate_elements_left::<3>(),
+    }
+}
+
+// The rowround: lane j has row j for its quarterround.
 #[inline(always)]
 fn row_round(x: Lanes) -> Lanes
     ensures words { words_by_diagonals result ≡ row_round (words_by_diagonals x) }
 {
-    let rows = quarter_round(Lanes {
-        first: x.first,
-        second: turned_by_1(x.fourth),
-        third: turned_by_2(x.third),
-        fourth: turned_by_3(x.second),
-    });
-    Lanes {
-        first: rows.first,
-        second: turned_by_1(rows.fourth),
-        third: turned_by_2(rows.third),
-        fourth: turned_by_3(rows.second),
-    }
+    turned(quarter_round(turned(x)))
 }
 
 // The sums of two vectors, lane by lane.

@@ -1,7 +1,7 @@
 //! Costs over a sparse table.
 ghost use Rattle.std.specs.Prelude.{◌≡◌, ◌≤◌, Some, None, IfOk, IfErr, OnOk};
-ghost use Rattle.romix.specs.Faults.{keep_fault, sparse_limit_fault};
-ghost use Rattle.romix.specs.SparseCosts.{IsSparse, SparseFitsMemory, cores_bound, sparse_table_bytes, whole};
+ghost use Rattle.romix.specs.Faults.{keep_parameter_fault, sparse_limit_fault};
+ghost use Rattle.romix.specs.SparseCosts.{HasCostsAndKeepInRange, SparseFitsMemory, cores_bound, sparse_table_bytes, whole};
 
 use crate::costs::Costs;
 use crate::fault::CostFault;
@@ -17,13 +17,13 @@ pub struct Sparse {
 }
 
 impl Model for Sparse {
-    ghost use Rattle.romix.specs.SparseCosts.{IsSparse, SparseParameters};
+    ghost use Rattle.romix.specs.SparseCosts.{HasCostsAndKeepInRange, CostsAndKeep};
 
-    ghost Value = { SparseParameters };
+    ghost Value = { CostsAndKeep };
 
     ghost view = { λ s. record { costs = s.costs; keep = s.keep } };
 
-    ghost invariant = { λ s. IsSparse (record { costs = s.costs; keep = s.keep }) };
+    ghost invariant = { λ s. HasCostsAndKeepInRange (record { costs = s.costs; keep = s.keep }) };
 
     ghost inverse = { λ s. record { costs = s.costs; keep = s.keep } };
 }
@@ -34,10 +34,10 @@ impl Sparse {
     /// it is above N.
     pub fn new(costs: &Costs, keep: u64) -> Result<Sparse, CostFault>
         ensures sparse { IfOk result (λ s. s ≡ record { costs = costs.now; keep = keep }) }
-        ensures in_range { IfOk result (λ s. IsSparse s) }
-        ensures ok { OnOk result (keep_fault (record { costs = costs.now; keep = keep }) ≡ None) }
+        ensures in_range { IfOk result (λ s. HasCostsAndKeepInRange s) }
+        ensures ok { OnOk result (keep_parameter_fault (record { costs = costs.now; keep = keep }) ≡ None) }
         ensures fault { IfErr result (λ fault.
-            keep_fault (record { costs = costs.now; keep = keep }) ≡ Some fault) }
+            keep_parameter_fault (record { costs = costs.now; keep = keep }) ≡ Some fault) }
     {
         if !matches!(keep, 1 | 2 | 4 | 8 | 16 | 32 | 64 | 128 | 256 | 512 | 1024) {
             return Err(CostFault::Keep);
@@ -54,7 +54,7 @@ impl Sparse {
     /// The costs with every row kept: S is 1.
     pub fn whole(costs: &Costs) -> Sparse
         ensures sparse { result ≡ whole costs.now }
-        ensures in_range { IsSparse result }
+        ensures in_range { HasCostsAndKeepInRange result }
     {
         Sparse {
             costs: costs.tested(),
@@ -65,7 +65,7 @@ impl Sparse {
     /// The costs.
     pub fn costs(&self) -> Costs
         ensures costs { result ≡ self.now.costs }
-        ensures in_range { IsSparse self.now }
+        ensures in_range { HasCostsAndKeepInRange self.now }
     {
         self.costs
     }
@@ -73,7 +73,7 @@ impl Sparse {
     /// S.
     pub fn keep(&self) -> u64
         ensures keep { result ≡ self.now.keep }
-        ensures in_range { IsSparse self.now }
+        ensures in_range { HasCostsAndKeepInRange self.now }
     {
         self.keep
     }

@@ -3,7 +3,7 @@ ghost use Rattle.std.specs.Prelude.{◌≡◌, ℕ, ◌+◌, ◌*◌, ◌/◌, �
 ghost use Rattle.romix.specs.Inside.Table.{row_at};
 
 /// Writes a row of `len` words as row `i` of the table.
-pub(crate) fn store_row(table: &mut [u32], len: usize, i: usize, row: &[u32])
+pub(crate) fn store_table_row(table: &mut [u32], len: usize, i: usize, row: &[u32])
     requires row { length row.now ≡ len }
     requires room { len * (i + 1) ≤ length table.old }
     ensures here { row_at table.new len i ≡ row.now }
@@ -14,7 +14,7 @@ pub(crate) fn store_row(table: &mut [u32], len: usize, i: usize, row: &[u32])
 }
 
 /// Row `i` of the table, of `len` words.
-pub(crate) fn load_row(table: &[u32], len: usize, i: usize) -> &[u32]
+pub(crate) fn load_table_row(table: &[u32], len: usize, i: usize) -> &[u32]
     requires room { len * (i + 1) ≤ length table.now }
     ensures row { result.now ≡ row_at table.now len i }
     ensures long { length result.now ≡ len }
@@ -33,6 +33,6 @@ pub(crate) fn keep_row(table: &mut [u32], keep: usize, i: usize, row: &[u32])
         → row_at table.new (length row.now) k ≡ row_at table.old (length row.now) k }
 {
     if i % keep == 0 {
-        store_row(table, row.len(), i / keep, row);
+        store_table_row(table, row.len(), i / keep, row);
     }
 }

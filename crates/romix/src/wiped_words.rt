@@ -2,7 +2,7 @@
 //! nor take memory from its heap.
 ghost use Rattle.std.specs.Prelude.{◌≡◌, length, replicate};
 ghost use Rattle.std.specs.Borrow.{sem};
-ghost use Rattle.romix.specs.Inside.WipedWords.{LendsWords};
+ghost use Rattle.romix.specs.Inside.WipedWords.{LendsMutableWords};
 
 /// Words that a source of memory grants. They are let go of as they are, so nobody can write to them
 /// before a workspace holds them.
@@ -39,7 +39,7 @@ impl WipedWords {
     /// The words, as many as before.
     #[inline(always)]
     pub(crate) fn words(&mut self) -> &mut [u32]
-        ensures* writes_back { sem 𝓛 (LendsWords self.entry result) }
+        ensures* writes_back { sem 𝓛 (LendsMutableWords self.entry result) }
         ensures value { result.now ≡ self.old.list.items }
     {
         self.list.as_mut_slice()

@@ -2,13 +2,13 @@
 ghost use Rattle.std.specs.Prelude.{◌≡◌, ◌+◌, ◌-◌, ◌*◌, ◌^◌, ◌<◌, ◌≤◌, ◌⊎◌, false, true, length, IfOk, OnOk, OnErr};
 ghost use Rattle.romix.specs.Costs.{cores};
 ghost use Rattle.romix.specs.Scrypt.{scrypt};
-ghost use Rattle.romix.specs.Sparse.{sparse_cores};
+ghost use Rattle.romix.specs.Sparse.{sparse_table_core_count};
 ghost use Rattle.romix.specs.SparseCosts.{SparseFitsMemory, cores_bound};
-ghost use Rattle.romix.specs.Workspace.{HasLengths};
-ghost use Rattle.romix.specs.Requests.{after_rows};
+ghost use Rattle.romix.specs.Workspace.{HasWorkspaceLengths};
+ghost use Rattle.romix.specs.Requests.{after_table_and_row_requests};
 
 use crate::parts::mix_parts;
-use crate::reservation::Reservation;
+use crate::reservation::WorkspaceMemory;
 use crate::sparse::Sparse;
 use crate::ticks::Ticks;
 use crate::wiped_words::WipedWords;
@@ -30,8 +30,8 @@ pub struct Workspace {
 
 impl Model for Workspace {
     ghost use Rattle.std.specs.Prelude.{vec_len};
-    ghost use Rattle.romix.specs.SparseCosts.{IsSparse};
-    ghost use Rattle.romix.specs.Workspace.{HasLengths, Memory};
+    ghost use Rattle.romix.specs.SparseCosts.{HasCostsAndKeepInRange};
+    ghost use Rattle.romix.specs.Workspace.{HasWorkspaceLengths, Memory};
 
     ghost Value = { Memory };
 
@@ -43,7 +43,7 @@ impl Model for Workspace {
       spare_row_words = vec_len w.spare_row.held.list;
     } };
 
-    ghost invariant = { λ w. IsSparse w.sparse × HasLengths (record {
+    ghost invariant = { λ w. HasCostsAndKeepInRange w.sparse × HasWorkspaceLengths (record {
       sparse = w.sparse;
       table_words = vec_len w.table.held.list;
       row_words = vec_len w.row.held.list;
@@ -55,30 +55,30 @@ impl Model for Workspace {
 /// The memory of derivations of these costs, as [`Workspace::reserve`] takes it, from this source. The table
 /// is asked for first, and then two rows of 32 * r words each, three if S is above 1. After a refusal
 /// nothing more is asked for, and nothing stays reserved.
-pub fn reserve_from<R: Reservation>(
+pub fn reserve_from<R: WorkspaceMemory>(
     source: &mut R,
     sparse: &Sparse,
 ) -> Result<Workspace, AllocError>
     requires memory { SparseFitsMemory sparse.now (2 ^ 40) }
     ensures sparse { IfOk result (λ w. w.sparse ≡ sparse.now) }
-    ensures lengths { IfOk result (λ w. HasLengths w) }
+    ensures lengths { IfOk result (λ w. HasWorkspaceLengths w) }
     // The table and two rows are asked for, each once, and one row more if not every row is kept.
-    ensures two_rows { sparse.now.keep ≡ 1 → OnOk result (source.new ≡ after_rows R.after_words sparse.now source.old 2 true) }
-    ensures three_rows { 1 < sparse.now.keep → OnOk result (source.new ≡ after_rows R.after_words sparse.now source.old 3 true) }
+    ensures two_rows { sparse.now.keep ≡ 1 → OnOk result (source.new ≡ after_table_and_row_requests R.after_words sparse.now source.old 2 true) }
+    ensures three_rows { 1 < sparse.now.keep → OnOk result (source.new ≡ after_table_and_row_requests R.after_words sparse.now source.old 3 true) }
     // After a refusal a beginning of these was asked for, of which the last was refused and no other.
-    ensures refused { OnErr result ((source.new ≡ after_rows R.after_words sparse.now source.old 0 false)
-        ⊎ (source.new ≡ after_rows R.after_words sparse.now source.old 1 false)
-        ⊎ (source.new ≡ after_rows R.after_words sparse.now source.old 2 false)
-        ⊎ ((1 < sparse.now.keep) × (source.new ≡ after_rows R.after_words sparse.now source.old 3 false))) }
+    ensures refused { OnErr result ((source.new ≡ after_table_and_row_requests R.after_words sparse.now source.old 0 false)
+        ⊎ (source.new ≡ after_table_and_row_requests R.after_words sparse.now source.old 1 false)
+        ⊎ (source.new ≡ after_table_and_row_requests R.after_words sparse.now source.old 2 false)
+        ⊎ ((1 < sparse.now.keep) × (source.new ≡ after_table_and_row_requests R.after_words sparse.now source.old 3 false))) }
 {
     let row_len = 32 * sparse.costs().r() as usize;
-    let table = source.zero_words((sparse.table_bytes() / 4) as usize)?;
-    let row = source.zero_words(row_len)?;
-    let other_row = source.zero_words(row_len)?;
+    let table = source.request_words((sparse.table_bytes() / 4) as usize)?;
+    let row = source.request_words(row_len)?;
+    let other_row = source.request_words(row_len)?;
     let spare_row = if sparse.keep() == 1 {
         source.no_words()
     } else {
-        source.zero_words(row_len)?
+        source.request_words(row_len)?
     };
     Ok(Workspace {
         sparse: *sparse,
@@ -104,7 +104,7 @@ impl Workspace {
     pub fn reserve(alloc: Global, sparse: &Sparse) -> Result<Workspace, AllocError>
         requires memory { SparseFitsMemory sparse.now (2 ^ 40) }
         ensures sparse { IfOk result (λ w. w.sparse ≡ sparse.now) }
-        ensures lengths { IfOk result (λ w. HasLengths w) }
+        ensures lengths { IfOk result (λ w. HasWorkspaceLengths w) }
     {
         let mut source = alloc;
         reserve_from(&mut source, sparse)
@@ -118,7 +118,7 @@ impl Workspace {
         ensures key { out.new ≡ scrypt password.now salt.now (2 ^ self.old.sparse.costs.log_n)
             self.old.sparse.costs.r self.old.sparse.costs.p (length out.old) }
         ensures memory { self.new ≡ self.old }
-        ensures count { ticks.new ≡ ticks.old + sparse_cores password.now salt.now self.old.sparse }
+        ensures count { ticks.new ≡ ticks.old + sparse_table_core_count password.now salt.now self.old.sparse }
         ensures bound { ticks.new ≤ ticks.old + cores_bound self.old.sparse }
         ensures whole { self.old.sparse.keep ≡ 1 → ticks.new ≡ ticks.old + cores self.old.sparse.costs }
     {

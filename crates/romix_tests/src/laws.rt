@@ -2,20 +2,20 @@
 ghost use Rattle.std.specs.Prelude.{◌≡◌, ◌<◌, ◌≤◌, ℕ, List};
 ghost use Rattle.romix.specs.Costs.{Parameters, cores, table_bytes};
 ghost use Rattle.romix.specs.Faults.{limit_fault, sparse_limit_fault};
-ghost use Rattle.romix.specs.Sparse.{sparse_cores};
-ghost use Rattle.romix.specs.SparseCosts.{SparseParameters, cores_bound, sparse_table_bytes, whole};
+ghost use Rattle.romix.specs.Sparse.{sparse_table_core_count};
+ghost use Rattle.romix.specs.SparseCosts.{CostsAndKeep, cores_bound, sparse_table_bytes, whole};
 ghost use Rattle.romix.specs.declared.limits.Limits.{Limits};
 
 // A derivation has at most 2 * r * p * N * (1 + S) cores, whatever the password and the salt.
 fn cores_are_bounded()
-    ensures bound { (password salt : List ℕ) (s : SparseParameters) → 0 < s.keep
-        → sparse_cores password salt s ≤ cores_bound s }
+    ensures bound { (password salt : List ℕ) (s : CostsAndKeep) → 0 < s.keep
+        → sparse_table_core_count password salt s ≤ cores_bound s }
 {}
 
 // With every row kept it has 4 * N * r * p.
 fn cores_of_a_whole_table()
     ensures cores { (password salt : List ℕ) (c : Parameters)
-        → sparse_cores password salt (whole c) ≡ cores c }
+        → sparse_table_core_count password salt (whole c) ≡ cores c }
 {}
 
 // With every row kept the figures and the faults are those of the costs alone.

@@ -2,11 +2,11 @@
 ghost use Rattle.std.specs.Prelude.{◌≡◌, ◌+◌, ◌-◌, ◌*◌, ◌^◌, ◌++◌, [], ◌∷◌, codes, replicate, Some, None};
 ghost use Rattle.romix.specs.BlockMix.{block_mix};
 ghost use Rattle.romix.specs.Costs.{cores, parts_bytes, table_bytes};
-ghost use Rattle.romix.specs.Faults.{cost_fault, keep_fault, limit_fault, sparse_limit_fault};
+ghost use Rattle.romix.specs.Faults.{cost_fault, keep_parameter_fault, limit_fault, sparse_limit_fault};
 ghost use Rattle.romix.specs.Romix.{integerify, romix};
 ghost use Rattle.romix.specs.Salsa20.{quarter_round, salsa20_8};
 ghost use Rattle.romix.specs.Scrypt.{scrypt};
-ghost use Rattle.romix.specs.Sparse.{sparse_cores};
+ghost use Rattle.romix.specs.Sparse.{sparse_table_core_count};
 ghost use Rattle.romix.specs.SparseCosts.{cores_bound, sparse_table_bytes};
 ghost use Rattle.romix.specs.declared.fault.CostFault.TheVariants.{Keep, KeepAboveN, LogN, Memory, Product, Work, Zero};
 
@@ -80,10 +80,10 @@ fn scrypt_of_nothing()
 // The same over sparse tables, of eight rows down to one. A program in Python that makes the rows
 // between again, and gives the key above, counted its cores.
 fn sparse_cores_of_nothing()
-    ensures keep_2 { sparse_cores [] [] (record { costs = record { log_n = 4; r = 1; p = 1 }; keep = 2 }) ≡ 82 }
-    ensures keep_4 { sparse_cores [] [] (record { costs = record { log_n = 4; r = 1; p = 1 }; keep = 4 }) ≡ 122 }
-    ensures keep_8 { sparse_cores [] [] (record { costs = record { log_n = 4; r = 1; p = 1 }; keep = 8 }) ≡ 178 }
-    ensures keep_16 { sparse_cores [] [] (record { costs = record { log_n = 4; r = 1; p = 1 }; keep = 16 }) ≡ 290 }
+    ensures keep_2 { sparse_table_core_count [] [] (record { costs = record { log_n = 4; r = 1; p = 1 }; keep = 2 }) ≡ 82 }
+    ensures keep_4 { sparse_table_core_count [] [] (record { costs = record { log_n = 4; r = 1; p = 1 }; keep = 4 }) ≡ 122 }
+    ensures keep_8 { sparse_table_core_count [] [] (record { costs = record { log_n = 4; r = 1; p = 1 }; keep = 8 }) ≡ 178 }
+    ensures keep_16 { sparse_table_core_count [] [] (record { costs = record { log_n = 4; r = 1; p = 1 }; keep = 16 }) ≡ 290 }
 {}
 
 // All sixteen words of the last block count, the lowest first.
@@ -106,8 +106,8 @@ fn scrypt_of_two_parts()
 // The cores of the same derivation where every second row of V is kept, and where one of four is. A program in Python that
 // makes the rows between again, and gives the key above, counted them.
 fn sparse_cores_of_two_parts()
-    ensures keep_2 { sparse_cores (replicate 65 0x70) (codes "s") (record { costs = record { log_n = 2; r = 2; p = 2 }; keep = 2 }) ≡ 80 }
-    ensures keep_4 { sparse_cores (replicate 65 0x70) (codes "s") (record { costs = record { log_n = 2; r = 2; p = 2 }; keep = 4 }) ≡ 112 }
+    ensures keep_2 { sparse_table_core_count (replicate 65 0x70) (codes "s") (record { costs = record { log_n = 2; r = 2; p = 2 }; keep = 2 }) ≡ 80 }
+    ensures keep_4 { sparse_table_core_count (replicate 65 0x70) (codes "s") (record { costs = record { log_n = 2; r = 2; p = 2 }; keep = 4 }) ≡ 112 }
 {}
 
 // The numbers of costs with r and p above 1, by RFC 7914, 4 to 6: N is 16, and every fourth row is kept.
@@ -137,11 +137,11 @@ fn faults_of_limits()
     ensures memory { limit_fault (record { log_n = 4; r = 3; p = 5 }) (record { max_bytes = 6143; max_ops = 959 }) ≡ Some Memory }
     ensures work { limit_fault (record { log_n = 4; r = 3; p = 5 }) (record { max_bytes = 6144; max_ops = 959 }) ≡ Some Work }
     ensures parts { limit_fault (record { log_n = 1; r = 3; p = 5 }) (record { max_bytes = 1919; max_ops = 960 }) ≡ Some Memory }
-    ensures keep { keep_fault (record { costs = record { log_n = 1; r = 1; p = 1 }; keep = 3 }) ≡ Some Keep }
-    ensures keep_above { keep_fault (record { costs = record { log_n = 4; r = 1; p = 1 }; keep = 32 }) ≡ Some KeepAboveN }
-    ensures greatest_keep { keep_fault (record { costs = record { log_n = 10; r = 1; p = 1 }; keep = 1024 }) ≡ None }
-    ensures keep_of_2048 { keep_fault (record { costs = record { log_n = 11; r = 1; p = 1 }; keep = 2048 }) ≡ Some Keep }
-    ensures keep_of_n { keep_fault (record { costs = record { log_n = 4; r = 1; p = 1 }; keep = 16 }) ≡ None }
+    ensures keep { keep_parameter_fault (record { costs = record { log_n = 1; r = 1; p = 1 }; keep = 3 }) ≡ Some Keep }
+    ensures keep_above { keep_parameter_fault (record { costs = record { log_n = 4; r = 1; p = 1 }; keep = 32 }) ≡ Some KeepAboveN }
+    ensures greatest_keep { keep_parameter_fault (record { costs = record { log_n = 10; r = 1; p = 1 }; keep = 1024 }) ≡ None }
+    ensures keep_of_2048 { keep_parameter_fault (record { costs = record { log_n = 11; r = 1; p = 1 }; keep = 2048 }) ≡ Some Keep }
+    ensures keep_of_n { keep_parameter_fault (record { costs = record { log_n = 4; r = 1; p = 1 }; keep = 16 }) ≡ None }
     ensures sparse { sparse_limit_fault (record { costs = record { log_n = 4; r = 3; p = 5 }; keep = 4 }) (record { max_bytes = 1919; max_ops = 1 }) ≡ Some Memory }
     ensures sparse_work { sparse_limit_fault (record { costs = record { log_n = 4; r = 3; p = 5 }; keep = 4 }) (record { max_bytes = 1920; max_ops = 2399 }) ≡ Some Work }
     ensures sparse_admitted { sparse_limit_fault (record { costs = record { log_n = 4; r = 3; p = 5 }; keep = 4 }) (record { max_bytes = 1920; max_ops = 2400 }) ≡ None }

@@ -4,7 +4,7 @@ use Rattle.std.proofs.lemmas.Option.{none-some, same_Some}
 use Rattle.host.specs.HostState.{HostState, Text}
 use Rattle.scrypt_run.specs.Laws.{AreOneEnd, IsRefusedFromOutside as RefusesFromOutside}
 use Rattle.scrypt_request.specs.Request.{Request}
-use Rattle.scrypt_run.specs.Run.{RequestRefused, RequestSucceeds}
+use Rattle.scrypt_run.specs.Run.{ScryptRequestRefused, ScryptRequestSucceeds}
 use Rattle.scrypt_request.specs.declared.refusal.ScryptRefusal.{ScryptRefusal}
 use Rattle.scrypt_request.specs.declared.refusal.ScryptRefusal.TheVariants as refusal
 use Rattle.scrypt_run.proofs.Refusals.{one_refusal}
@@ -43,7 +43,7 @@ memory_alone words request r asked (inr lacks) = lacks
 pub one_end : (words : List Text) (before a b : HostState) → Succeeds words before a → Succeeds words before b → a ≡ b
 one_end words before a b ha hb =
     one_success ha.request before a b ha.succeeds
-    (subst (λ request. RequestSucceeds request before b) (same_request words ha.request hb.request ha.asked hb.asked) hb.succeeds)
+    (subst (λ request. ScryptRequestSucceeds request before b) (same_request words ha.request hb.request ha.asked hb.asked) hb.succeeds)
 
 pub ends_from_outside : (words : List Text) (before after ended : HostState) (r : ScryptRefusal) → Succeeds words before after → IsRefused r words before ended
     → IsRefusedFromOutside words r
@@ -52,7 +52,7 @@ ends_from_outside words before after ended r h (inr ends) = inr (record {
   request = h.request;
   asked = h.asked;
   outside = refused_from_outside h.request before after ended r h.succeeds
-      (subst (λ request. RequestRefused r request before ended) (same_request words h.request ends.request h.asked ends.asked) ends.refused);
+      (subst (λ request. ScryptRequestRefused r request before ended) (same_request words h.request ends.request h.asked ends.asked) ends.refused);
 })
 
 two_requests : (words : List Text) (before after ended : HostState) (one other : ScryptRefusal) (a : RefusesRequest one words before after)
@@ -60,7 +60,7 @@ two_requests : (words : List Text) (before after ended : HostState) (one other :
     → AreOneEnd one other after ended ⊎ RefusesFromOutside a.request one ⊎ RefusesFromOutside a.request other
 two_requests words before after ended one other a b =
     one_refusal a.request before after ended one other a.refused
-    (subst (λ request. RequestRefused other request before ended) (same_request words a.request b.request a.asked b.asked) b.refused)
+    (subst (λ request. ScryptRequestRefused other request before ended) (same_request words a.request b.request a.asked b.asked) b.refused)
 
 pub one_refusal_of_words : (words : List Text) (before after ended : HostState) (one other : ScryptRefusal)
     → IsRefused one words before after → IsRefused other words before ended

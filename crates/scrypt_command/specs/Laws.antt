@@ -8,11 +8,11 @@ use Rattle.scrypt_request.specs.declared.refusal.ScryptRefusal.TheVariants as re
 use Rattle.scrypt_words.specs.Request.{scrypt_request}
 
 -- the words are accepted, and the refusal of what they ask for is one of a failing host or of refused memory
-pub record RefusesTaken (words : List Text) (r : ScryptRefusal) : Type 0 where
+pub record RefusesAcceptedWords (words : List Text) (r : ScryptRefusal) : Type 0 where
   pub request : Request
   pub asked : scrypt_request words ≡ Ok request
   pub outside : RefusesFromOutside request r
 
 -- the refusal is from outside: a growth of memory was refused, or the host failed at what the words ask for
 abbrev pub IsRefusedFromOutside : List Text → ScryptRefusal → Type 0
-IsRefusedFromOutside words r = (r ≡ refusal.OutOfMemory) ⊎ RefusesTaken words r
+IsRefusedFromOutside words r = (r ≡ refusal.OutOfMemory) ⊎ RefusesAcceptedWords words r

@@ -3,9 +3,9 @@ use Rattle.std.specs.Prelude.{◌≡◌, ◌⊎◌, Bool, List, Ok, Err, IsTrue}
 use Rattle.host.specs.Faults.{Faults}
 use Rattle.host.specs.Lines.{SaysOneLine}
 use Rattle.host.specs.HostState.{HostState, Text}
-use Rattle.scrypt_request.specs.Refusal.{counted_by, line_of}
+use Rattle.scrypt_request.specs.Refusal.{faults_after_refusal, line_of}
 use Rattle.scrypt_request.specs.Request.{Request}
-use Rattle.scrypt_run.specs.Run.{RequestRefused, RequestSucceeds}
+use Rattle.scrypt_run.specs.Run.{ScryptRequestRefused, ScryptRequestSucceeds}
 use Rattle.scrypt_request.specs.declared.refusal.ScryptRefusal.{ScryptRefusal}
 use Rattle.scrypt_request.specs.declared.refusal.ScryptRefusal.TheVariants as refusal
 use Rattle.scrypt_words.specs.Request.{scrypt_request}
@@ -14,22 +14,22 @@ use Rattle.scrypt_words.specs.Request.{scrypt_request}
 pub record Succeeds (words : List Text) (before after : HostState) : Type 0 where
   pub request : Request
   pub asked : scrypt_request words ≡ Ok request
-  pub succeeds : RequestSucceeds request before after
+  pub succeeds : ScryptRequestSucceeds request before after
 
 -- the run ended while its words were read, and nothing changed at the host: the words are refused; or the refusal is
 -- that of memory, which may come of any words: contracts do not see the heap, so nothing here says that it refused
-abbrev pub EndsReading : ScryptRefusal → List Text → HostState → HostState → Type 0
-EndsReading r words before after = ((scrypt_request words ≡ Err r) ⊎ (r ≡ refusal.OutOfMemory)) × (after ≡ before)
+abbrev pub RefusesCommandLine : ScryptRefusal → List Text → HostState → HostState → Type 0
+RefusesCommandLine r words before after = ((scrypt_request words ≡ Err r) ⊎ (r ≡ refusal.OutOfMemory)) × (after ≡ before)
 
 -- the words were accepted, and the run of what they ask for ended with this refusal
 pub record RefusesRequest (r : ScryptRefusal) (words : List Text) (before after : HostState) : Type 0 where
   pub request : Request
   pub asked : scrypt_request words ≡ Ok request
-  pub refused : RequestRefused r request before after
+  pub refused : ScryptRequestRefused r request before after
 
 -- the run ended with this refusal, before its line is said
 abbrev pub IsRefused : ScryptRefusal → List Text → HostState → HostState → Type 0
-IsRefused r words before after = EndsReading r words before after ⊎ RefusesRequest r words before after
+IsRefused r words before after = RefusesCommandLine r words before after ⊎ RefusesRequest r words before after
 
 -- the run ended with a refusal: of the counts only the one that it names rose, if it names one; then its line was
 -- said, or could not be said and `lines` rose. `told` is the refusal, and `unsaid` the host before the line
@@ -37,18 +37,18 @@ pub record Refuses (tells : Bool) (words : List Text) (before after : HostState)
     : Type 0 where
   pub told : ScryptRefusal
   pub unsaid : HostState
-  pub says : SaysOneLine tells (line_of told) unsaid after (counted_by told faults_before) faults_after
+  pub says : SaysOneLine tells (line_of told) unsaid after (faults_after_refusal told faults_before) faults_after
   pub refused : IsTrue tells → IsRefused told words before unsaid
 
 -- the refusal of words that is reported, `told`: the one that is due, or that of memory, which may come of any words
 -- while they are read
-abbrev pub TellsWords : ScryptRefusal → ScryptRefusal → Type 0
-TellsWords told due = (told ≡ due) ⊎ (told ≡ refusal.OutOfMemory)
+abbrev pub IsDueOrOutOfMemory : ScryptRefusal → ScryptRefusal → Type 0
+IsDueOrOutOfMemory told due = (told ≡ due) ⊎ (told ≡ refusal.OutOfMemory)
 
 -- the run did nothing but report the words' refusal, or that of memory: its line was said, or could not be said and
 -- `lines` rose; no other count rose. `told` is the refusal, and `due` that of the words
-pub record TellsOfWords (tells : Bool) (due : ScryptRefusal) (before after : HostState) (faults_before faults_after : Faults)
+pub record ReportsCommandLineRefusal (tells : Bool) (due : ScryptRefusal) (before after : HostState) (faults_before faults_after : Faults)
     : Type 0 where
   pub told : ScryptRefusal
-  pub fits : TellsWords told due
+  pub fits : IsDueOrOutOfMemory told due
   pub says : SaysOneLine tells (line_of told) before after faults_before faults_after

@@ -1,14 +1,14 @@
 //! A whole run of `scrypt`.
 ghost use Rattle.std.specs.Prelude.{◌≡◌, ◌≤◌, ◌+◌, ◌^◌, Err, MatchResult, IfOk, IfErr, IsOk, OnOk, IsTrue, map, string_bytes};
 ghost use Rattle.host.specs.Faults.{AreBelow};
-ghost use Rattle.host.specs.GrantedCalls.{GrantsAll};
+ghost use Rattle.host.specs.CallsGrantedByHost.{GrantsAllHostCalls};
 ghost use Rattle.host.specs.HostState.{IsUnasked};
 ghost use Rattle.scrypt_request.specs.Refusal.{CountsFault, CountsNoEarlyWork};
-ghost use Rattle.scrypt_run.specs.Run.{most_cores};
-ghost use Rattle.scrypt_run.specs.Work.{EndsAfterWork, RequestWorks, CountsNoOtherWork};
+ghost use Rattle.scrypt_run.specs.Run.{most_salsa20_cores};
+ghost use Rattle.scrypt_run.specs.Work.{EndsAfterWork, CountsRequestWork, CountsNoWorkIfRefusedEarly};
 ghost use Rattle.scrypt_request.specs.declared.refusal.ScryptRefusal.{ScryptRefusal};
 ghost use Rattle.scrypt_words.specs.Request.{scrypt_request};
-ghost use Rattle.scrypt_command.specs.Run.{IsRefused, Refuses, Succeeds, TellsOfWords, TellsWords};
+ghost use Rattle.scrypt_command.specs.Run.{IsRefused, Refuses, Succeeds, ReportsCommandLineRefusal, IsDueOrOutOfMemory};
 
 use host::{Host, refuse};
 use romix::Ticks;
@@ -18,7 +18,7 @@ use scrypt_words::read_request;
 use std::alloc::Global;
 
 // All of a run but the line of a refusal.
-fn attempt<H: Host>(
+fn run_without_report<H: Host>(
     alloc: Global,
     words: &[String],
     host: &mut H,
@@ -26,12 +26,12 @@ fn attempt<H: Host>(
 ) -> Result<(), ScryptRefusal>
     requires room { AreBelow (2 ^ 63) (H.faults host.old) }
     requires fresh { IsTrue H.tells → IsUnasked (H.seen host.old) }
-    requires granted { GrantsAll (H.grants host.old) }
+    requires granted { GrantsAllHostCalls (H.grants host.old) }
     ensures counts { CountsFault result (H.faults host.old) (H.faults host.new) }
     ensures words { OnOk result (IsOk (scrypt_request (map string_bytes words.now))) }
     ensures words_refused { (refusal : ScryptRefusal)
         → scrypt_request (map string_bytes words.now) ≡ Err refusal → (r : ScryptRefusal) × (result ≡ Err r)
-        × TellsWords r refusal × (H.faults host.new ≡ H.faults host.old)
+        × IsDueOrOutOfMemory r refusal × (H.faults host.new ≡ H.faults host.old)
         × (IsTrue H.tells → H.seen host.new ≡ H.seen host.old) }
     ensures succeeds { IsTrue H.tells →
         OnOk result (Succeeds (map string_bytes words.now) (H.seen host.old) (H.seen host.new)) }
@@ -39,15 +39,15 @@ fn attempt<H: Host>(
         IsRefused r (map string_bytes words.now) (H.seen host.old) (H.seen host.new)) }
     // Words that are refused cost no core, and others no more than their limit.
     ensures work_bound { MatchResult (scrypt_request (map string_bytes words.now))
-        (λ request. ticks.new ≤ ticks.old + most_cores request) (λ _. ticks.new ≡ ticks.old) }
+        (λ request. ticks.new ≤ ticks.old + most_salsa20_cores request) (λ _. ticks.new ≡ ticks.old) }
     ensures no_work { CountsNoEarlyWork result ticks.old ticks.new }
     // What ends well, or is refused after the derivation, counts exactly one.
     ensures count { IsTrue H.tells → OnOk result (IfOk (scrypt_request (map string_bytes words.now))
-        (λ request. RequestWorks request (H.seen host.old) ticks.old ticks.new)) }
+        (λ request. CountsRequestWork request (H.seen host.old) ticks.old ticks.new)) }
     ensures worked { IsTrue H.tells → IfErr result (λ r. EndsAfterWork r (H.seen host.new)
         → IfOk (scrypt_request (map string_bytes words.now))
-        (λ request. RequestWorks request (H.seen host.old) ticks.old ticks.new)) }
-    ensures unworked { IsTrue H.tells → CountsNoOtherWork result (H.seen host.new) ticks.old ticks.new }
+        (λ request. CountsRequestWork request (H.seen host.old) ticks.old ticks.new)) }
+    ensures unworked { IsTrue H.tells → CountsNoWorkIfRefusedEarly result (H.seen host.new) ticks.old ticks.new }
 {
     let mut memory = alloc;
     match read_request(alloc, words) {
@@ -67,21 +67,21 @@ fn attempt<H: Host>(
 pub fn scrypt<H: Host>(alloc: Global, words: &[String], host: &mut H) -> u8
     requires room { AreBelow (2 ^ 63) (H.faults host.old) }
     requires fresh { IsTrue H.tells → IsUnasked (H.seen host.old) }
-    requires granted { GrantsAll (H.grants host.old) }
+    requires granted { GrantsAllHostCalls (H.grants host.old) }
     ensures status { result ≤ 1 }
     ensures counts { result ≡ 0 → H.faults host.new ≡ H.faults host.old }
     // of every host, also one that tells nothing
     ensures words { result ≡ 0 → IsOk (scrypt_request (map string_bytes words.now)) }
     ensures words_refused { (refusal : ScryptRefusal)
         → scrypt_request (map string_bytes words.now) ≡ Err refusal
-        → (result ≡ 1) × TellsOfWords H.tells refusal (H.seen host.old) (H.seen host.new)
+        → (result ≡ 1) × ReportsCommandLineRefusal H.tells refusal (H.seen host.old) (H.seen host.new)
         (H.faults host.old) (H.faults host.new) }
     ensures succeeds { IsTrue H.tells → result ≡ 0 →
         Succeeds (map string_bytes words.now) (H.seen host.old) (H.seen host.new) }
     ensures refuses { result ≡ 1 → Refuses H.tells (map string_bytes words.now)
         (H.seen host.old) (H.seen host.new) (H.faults host.old) (H.faults host.new) }
 {
-    match attempt(alloc, words, host, &mut Ticks::new(alloc)) {
+    match run_without_report(alloc, words, host, &mut Ticks::new(alloc)) {
         Ok(()) => 0,
         Err(refusal) => refuse(host, refusal.line()),
     }

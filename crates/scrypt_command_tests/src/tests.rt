@@ -2,7 +2,7 @@
 //! aes-256-ctr, and scrypt(1) 1.3.1 opens them.
 ghost use Rattle.std.specs.Prelude.{◌^◌, ◌<◌};
 ghost use Rattle.host.specs.Faults.{AreBelow};
-ghost use Rattle.memory_host.specs.Memory.{memory_faults, memory_seen};
+ghost use Rattle.memory_host.specs.Memory.{memory_host_failure_counts, memory_host_state};
 ghost use Rattle.host.specs.HostState.{IsUnasked};
 
 use memory_host::MemoryHost;
@@ -99,8 +99,8 @@ const SALT: [u8; 32] = [
 // beginning of standard input. Who makes one lets it go by `drop`: the end of a scope would let go of its parts one by
 // one, in each proof anew.
 fn host_with(alloc: Global, input: &[u8], passphrase: &[u8]) -> MemoryHost
-    ensures room { AreBelow (2 ^ 63) (memory_faults result) }
-    ensures fresh { IsUnasked (memory_seen result) }
+    ensures room { AreBelow (2 ^ 63) (memory_host_failure_counts result) }
+    ensures fresh { IsUnasked (memory_host_state result) }
 {
     let mut host = MemoryHost::new(alloc, list(alloc, input), list(alloc, b"pw\nmore"), SALT);
     let _ = host.set_file(text(alloc, "pw"), list(alloc, passphrase));
@@ -196,8 +196,8 @@ fn ends(host: &MemoryHost, status: u8, end: End<'_>) -> bool {
 
 // The status of a run of the words of a line.
 fn run_line(alloc: Global, line: &str, host: &mut MemoryHost) -> u8
-    requires room { AreBelow (2 ^ 63) (memory_faults host.old) }
-    requires fresh { IsUnasked (memory_seen host.old) }
+    requires room { AreBelow (2 ^ 63) (memory_host_failure_counts host.old) }
+    requires fresh { IsUnasked (memory_host_state host.old) }
 {
     scrypt(alloc, &words(alloc, line), host)
 }
@@ -294,8 +294,8 @@ fn has_opened(host: &MemoryHost, input: Option<&str>, output: Option<&str>) -> b
 
 // A host with the file of `hello`.
 fn host_of_hello(alloc: Global, passphrase: &[u8]) -> MemoryHost
-    ensures room { AreBelow (2 ^ 63) (memory_faults result) }
-    ensures fresh { IsUnasked (memory_seen result) }
+    ensures room { AreBelow (2 ^ 63) (memory_host_failure_counts result) }
+    ensures fresh { IsUnasked (memory_host_state result) }
 {
     let file = file(alloc, REST_OF_HELLO);
     host_with(alloc, &file, passphrase)

@@ -1,26 +1,26 @@
 -- The refusals of scrypt: the line of each, and the count of the host's failures that it raises.
 use Rattle.std.specs.Prelude.{◌≡◌, ℕ, Bool, true, false, codes, Result, IfErr, MatchResult}
 use Rattle.host.specs.HostState.{Text}
-use Rattle.host.specs.Faults.{Faults, input_failed, output_failed, secret_failed, salt_failed}
+use Rattle.host.specs.Faults.{Faults, with_input_failure_counted, with_output_failure_counted, with_secret_failure_counted, with_salt_failure_counted}
 use Rattle.scrypt_request.specs.declared.refusal.ScryptRefusal.{ScryptRefusal}
 use Rattle.scrypt_request.specs.declared.refusal.ScryptRefusal.TheVariants as refusal
 
 -- the counts of failures after a refusal: where it names a call of the host that failed, the count of that kind is
 -- one more; every other refusal raises none
-abbrev pub counted_by : ScryptRefusal → Faults → Faults
-counted_by refusal.InputFault f = input_failed f
-counted_by refusal.OutputFault f = output_failed f
-counted_by refusal.PassphraseFault f = secret_failed f
-counted_by refusal.SaltFault f = salt_failed f
-counted_by r f = f
+abbrev pub faults_after_refusal : ScryptRefusal → Faults → Faults
+faults_after_refusal refusal.InputFault f = with_input_failure_counted f
+faults_after_refusal refusal.OutputFault f = with_output_failure_counted f
+faults_after_refusal refusal.PassphraseFault f = with_secret_failure_counted f
+faults_after_refusal refusal.SaltFault f = with_salt_failure_counted f
+faults_after_refusal r f = f
 
 -- a step with this result, and the counts before and after it: a refusal raises its own, and nothing else raises any
 abbrev pub CountsFault : {A : Type 0} → Result A ScryptRefusal → Faults → Faults → Type 0
-CountsFault result before after = MatchResult result (λ _. after ≡ before) (λ r. after ≡ counted_by r before)
+CountsFault result before after = MatchResult result (λ _. after ≡ before) (λ r. after ≡ faults_after_refusal r before)
 
 -- the refusal is none of a failing host call
 abbrev pub RaisesNoCount : ScryptRefusal → Type 0
-RaisesNoCount r = (f : Faults) → counted_by r f ≡ f
+RaisesNoCount r = (f : Faults) → faults_after_refusal r f ≡ f
 
 -- whether the refusal may come after a derivation has begun; every other refusal comes before it
 abbrev pub may_follow_work : ScryptRefusal → Bool

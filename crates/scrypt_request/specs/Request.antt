@@ -3,7 +3,7 @@ use Rattle.std.specs.Prelude.{◌≡◌, ◌^◌, ◌≤◌, true, List, ℕ, Op
 use Rattle.std.specs.Borrow.{Bor}
 use Rattle.romix.specs.Allowance.{Allowance}
 use Rattle.romix.specs.Costs.{Parameters}
-use Rattle.romix.specs.SparseCosts.{is_keep}
+use Rattle.romix.specs.SparseCosts.{is_valid_keep}
 use Rattle.romix.specs.declared.limits.Limits.{Limits}
 use Rattle.host.specs.HostState.{SecretSource, Text}
 use Rattle.host.specs.Secret.{source_of}
@@ -40,7 +40,7 @@ allowance_of task = record { limits = task.limits; keep = task.keep }
 -- the limit on bytes is at most 2^40, and S is a power of two from 1 to 1,024
 pub record HasAllowedLimits (task : Task) : Type 0 where
   pub memory : task.limits.max_bytes ≤ 2 ^ 40
-  pub keep : is_keep task.keep ≡ true
+  pub keep : is_valid_keep task.keep ≡ true
 
 -- the limit on bytes and the S of a request are allowed; `info` has none
 abbrev pub IsAllowed : Request → Type 0
@@ -55,8 +55,8 @@ abbrev pub text_of : Option (Bor Text) → Option Text
 text_of = option_map (λ s. s.now)
 
 -- a task of the code, with its names as texts
-abbrev pub task_seen : TaskInCode → Task
-task_seen t = record {
+abbrev pub task_view : TaskInCode → Task
+task_view t = record {
   limits = t.limits;
   keep = t.keep;
   source = source_of t.source;
@@ -65,15 +65,15 @@ task_seen t = record {
 }
 
 -- an encryption of the code, with its names as texts
-abbrev pub encryption_seen : EncryptionInCode → Encryption
-encryption_seen e = record { costs = e.costs; salt = e.salt; task = task_seen e.task }
+abbrev pub encryption_view : EncryptionInCode → Encryption
+encryption_view e = record { costs = e.costs; salt = e.salt; task = task_view e.task }
 
 -- a request of the code, with its names as texts
-abbrev pub request_seen : RequestInCode → Request
-request_seen (in_code.Encrypt e) = encrypt (encryption_seen e)
-request_seen (in_code.Decrypt t) = decrypt (task_seen t)
-request_seen (in_code.Inspect infile) = inspect (text_of infile)
+abbrev pub scrypt_request_view : RequestInCode → Request
+scrypt_request_view (in_code.Encrypt e) = encrypt (encryption_view e)
+scrypt_request_view (in_code.Decrypt t) = decrypt (task_view t)
+scrypt_request_view (in_code.Inspect infile) = inspect (text_of infile)
 
 -- a request of the code has limits that can be asked for
-abbrev pub AsksAllowed : RequestInCode → Type 0
-AsksAllowed request = IsAllowed (request_seen request)
+abbrev pub RequestHasAllowedLimits : RequestInCode → Type 0
+RequestHasAllowedLimits request = IsAllowed (scrypt_request_view request)

@@ -110,7 +110,7 @@ mod tests {
     use super::*;
 
     // A refusal and its line, of which no clause says that it is the one in the manual.
-    const LINES: &[(ScryptRefusal, &str)] = &[
+    const REFUSAL_LINES: &[(ScryptRefusal, &str)] = &[
         (
             ScryptRefusal::Usage,
             "scrypt: usage: scrypt enc|dec|info [options] infile [outfile]",
@@ -119,8 +119,8 @@ mod tests {
     ];
 
     #[test]
-    fn tells_lines(rt: HostRuntime) {
-        for (refusal, line) in LINES {
+    fn refusal_lines_match_manual(rt: HostRuntime) {
+        for (refusal, line) in REFUSAL_LINES {
             assert_eq!(rt; refusal.line(), *line);
         }
     }

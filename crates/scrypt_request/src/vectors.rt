@@ -1,7 +1,7 @@
 //! Vectors that the checker computes by the definitions alone.
 ghost use Rattle.std.specs.Prelude.{◌≡◌, codes, false, true};
 ghost use Rattle.host.specs.Faults.{no_faults};
-ghost use Rattle.scrypt_request.specs.Refusal.{counted_by, comes_only_after_work, is_out_of_memory, line_of, may_follow_work};
+ghost use Rattle.scrypt_request.specs.Refusal.{faults_after_refusal, comes_only_after_work, is_out_of_memory, line_of, may_follow_work};
 ghost use Rattle.scrypt_request.specs.declared.refusal.ScryptRefusal.{ScryptRefusal};
 
 // docs/REFUSALS.md, the table of scrypt: the line of each.
@@ -32,12 +32,12 @@ fn lines_of_refusals()
 
 // A failing call of the host raises its own count, and no other refusal raises one.
 fn counts_of_refusals()
-    ensures input { counted_by ScryptRefusal.InputFault no_faults ≡ record { input = 1; output = 0; secrets = 0; salt = 0; lines = 0 } }
-    ensures output { counted_by ScryptRefusal.OutputFault no_faults ≡ record { input = 0; output = 1; secrets = 0; salt = 0; lines = 0 } }
-    ensures passphrase { counted_by ScryptRefusal.PassphraseFault no_faults ≡ record { input = 0; output = 0; secrets = 1; salt = 0; lines = 0 } }
-    ensures salt { counted_by ScryptRefusal.SaltFault no_faults ≡ record { input = 0; output = 0; secrets = 0; salt = 1; lines = 0 } }
-    ensures damaged { counted_by ScryptRefusal.Damaged no_faults ≡ no_faults }
-    ensures memory { counted_by ScryptRefusal.OutOfMemory no_faults ≡ no_faults }
+    ensures input { faults_after_refusal ScryptRefusal.InputFault no_faults ≡ record { input = 1; output = 0; secrets = 0; salt = 0; lines = 0 } }
+    ensures output { faults_after_refusal ScryptRefusal.OutputFault no_faults ≡ record { input = 0; output = 1; secrets = 0; salt = 0; lines = 0 } }
+    ensures passphrase { faults_after_refusal ScryptRefusal.PassphraseFault no_faults ≡ record { input = 0; output = 0; secrets = 1; salt = 0; lines = 0 } }
+    ensures salt { faults_after_refusal ScryptRefusal.SaltFault no_faults ≡ record { input = 0; output = 0; secrets = 0; salt = 1; lines = 0 } }
+    ensures damaged { faults_after_refusal ScryptRefusal.Damaged no_faults ≡ no_faults }
+    ensures memory { faults_after_refusal ScryptRefusal.OutOfMemory no_faults ≡ no_faults }
 {}
 
 // docs/REFUSALS.md, the order of scrypt: S10, S11, S13 and S14 come after the derivation, S12 before and after it, and S15 and

@@ -1,74 +1,47 @@
 -- The beginnings of an encrypted file, as a run writes them.
-use Rattle.std.proofs.Common.{◌≡◌, ◌≤◌, ◌<◌, ◌+◌, ◌^◌, ◌++◌, ◌==◌, ◌∙◌, inl, inr, ℕ, Bool, true, false, List, [], None, take, length, if◌then◌else◌, ap, sym, refl, subst, arith, length-append}
+use Rattle.std.proofs.Common.{◌≡◌, ◌≤◌, ◌<◌, ◌+◌, ◌^◌, ◌++◌, ◌==◌, ◌∙◌, inl, inr, ℕ, Bool, true, false, List, [], take, length, if◌then◌else◌, ap, sym, refl, subst, arith, length-append}
 use Rattle.std.proofs.lemmas.Grind.{common_steps}
 use Rattle.std.proofs.lemmas.List.{append-nil}
 use Rattle.romix.specs.Costs.{Parameters}
-use Rattle.encfile.specs.EncryptedFile.{body, encrypted_file, final_code}
+use Rattle.encfile.specs.EncryptedFile.{body, encrypted_file, final_hmac}
 use Rattle.encfile.specs.Encrypting.{HasEncrypted}
-use Rattle.encfile.specs.Inside.Lengths.{length_encrypted}
+use Rattle.encfile.specs.Inside.Lengths.{bytes_encrypted_so_far}
 use Rattle.encfile.specs.declared.enc.Enc.{Enc}
-use Rattle.encfile.proofs.Files.{length-body, length-encrypted_file, length_encrypted-is}
-use Rattle.host.specs.HostState.{HostState, after_ask, after_open_input, after_pull, after_push}
-use Rattle.scrypt_run.specs.Encrypting.{EncryptRefused, costs_refusal_of, decided, salt_used}
-use Rattle.scrypt_run.specs.Inside.Encrypting.{StartRefused, TextNotOpened}
-use Rattle.scrypt_run.specs.Passphrase.{HasPassphrase, first_line_at}
+use Rattle.encfile.proofs.Files.{length-body, length-encrypted_file, bytes_encrypted_so_far-is}
+use Rattle.host.specs.HostState.{HostState, after_open_input, after_pull, after_push}
+use Rattle.scrypt_run.specs.Encrypting.{decided, salt_used}
+use Rattle.scrypt_run.specs.Passphrase.{HasPassphrase, first_line_of_source}
 use Rattle.scrypt_request.specs.Request.{Encryption}
-use Rattle.scrypt_run.specs.Steps.{after_pull_and_push, passphrase_asked}
-use Rattle.scrypt_run.specs.Text.{EndsTextEarly, FailsWriting}
+use Rattle.scrypt_run.specs.Steps.{after_pull_and_push}
+use Rattle.scrypt_run.specs.Text.{RefusesDuringText, FailsWriting}
 use Rattle.scrypt_request.specs.declared.refusal.ScryptRefusal.{ScryptRefusal}
 use Rattle.host.proofs.Pushes.{push_push}
-use Rattle.scrypt_run.proofs.Ends.{first_line_at-reading, salt_used-opening}
+use Rattle.scrypt_run.proofs.Ends.{first_line_of_source-reading, salt_used-opening}
 use Rattle.scrypt_run.proofs.Passing.{begun_on}
 
 -- ---- the passphrase and the salt
 
 -- an encryption that was started after the input's opening has the passphrase and the salt of the run
 pub started_before : (asked : Encryption) (enc : Enc) (s t : HostState) → t ≡ after_open_input asked.task.infile s
-    → (passphrase : List ℕ) × HasPassphrase (first_line_at asked.task.source t) passphrase × HasEncrypted enc passphrase (salt_used asked.salt t) asked.costs []
-    → (passphrase : List ℕ) × HasPassphrase (first_line_at asked.task.source s) passphrase × HasEncrypted enc passphrase (salt_used asked.salt s) asked.costs []
+    → (passphrase : List ℕ) × HasPassphrase (first_line_of_source asked.task.source t) passphrase × HasEncrypted enc passphrase (salt_used asked.salt t) asked.costs []
+    → (passphrase : List ℕ) × HasPassphrase (first_line_of_source asked.task.source s) passphrase × HasEncrypted enc passphrase (salt_used asked.salt s) asked.costs []
 started_before asked enc s t opened started =
-    let line = ap (first_line_at asked.task.source) opened ∙ first_line_at-reading asked.task.source asked.task.infile 0 s in
+    let line = ap (first_line_of_source asked.task.source) opened ∙ first_line_of_source-reading asked.task.source asked.task.infile 0 s in
     let salt = ap (salt_used asked.salt) opened ∙ salt_used-opening asked.salt asked.task.infile s in
     (started.0, subst (λ l. HasPassphrase l started.0) line started.1, subst (λ xs. HasEncrypted enc started.0 xs asked.costs []) salt started.2)
-
--- ---- the steps' refusals among the run's
-
--- before the input was opened
-pub opening_ends : (asked : Encryption) (before after : HostState) (r : ScryptRefusal) → TextNotOpened r asked before after → EncryptRefused r asked before after
-opening_ends asked before after r (same, inl told) = inl (told, same)
-opening_ends asked before after r (same, inr (admitted, is)) = inr (admitted, inl (is, same))
-
--- before the output was opened
-start_ends : (asked : Encryption) (before after : HostState) (r : ScryptRefusal) → costs_refusal_of asked ≡ None
-    → StartRefused r asked.salt (first_line_at asked.task.source before) (passphrase_asked asked.task 0 before) after → EncryptRefused r asked before after
-start_ends asked before after r admitted (inl refused) = inr (admitted, inr (inl refused))
-start_ends asked before after r admitted (inr (inl (is, none, same, passphrase, given))) =
-    inr (admitted, inr (inr (passphrase, given, inl (is, none, same))))
-start_ends asked before after r admitted (inr (inr (is, same, passphrase, given))) =
-    inr (admitted, inr (inr (passphrase, given, inr (inl (is, same)))))
-
--- of the host once the input was opened
-pub starting_ends : (asked : Encryption) (before opened after : HostState) (r : ScryptRefusal) → opened ≡ after_open_input asked.task.infile before
-    → costs_refusal_of asked ≡ None → StartRefused r asked.salt (first_line_at asked.task.source opened) (after_ask asked.task.source opened) after
-    → EncryptRefused r asked before after
-starting_ends asked before opened after r opens admitted refused =
-    let line = first_line_at-reading asked.task.source asked.task.infile 0 before in
-    start_ends asked before after r admitted
-    (subst (λ l. StartRefused r asked.salt l (passphrase_asked asked.task 0 before) after) line
-    (subst (λ w. StartRefused r asked.salt (first_line_at asked.task.source w) (after_ask asked.task.source w) after) opens refused))
 
 -- ---- the text so far
 
 -- a piece more was encrypted
-pub length_encrypted-more : (enc next : Enc) (passphrase salt : List ℕ) (costs : Parameters) (text piece : List ℕ) (n : ℕ) → HasEncrypted enc passphrase salt costs text
-    → HasEncrypted next passphrase salt costs (text ++ piece) → length piece ≡ n → length_encrypted enc + n ≡ length_encrypted next
-length_encrypted-more enc next passphrase salt costs text piece n before after long =
-    omega (arith, length_encrypted-is enc passphrase salt costs text before, length_encrypted-is next passphrase salt costs (text ++ piece) after, length-append text piece, long)
+pub bytes_encrypted_so_far-more : (enc next : Enc) (passphrase salt : List ℕ) (costs : Parameters) (text piece : List ℕ) (n : ℕ) → HasEncrypted enc passphrase salt costs text
+    → HasEncrypted next passphrase salt costs (text ++ piece) → length piece ≡ n → bytes_encrypted_so_far enc + n ≡ bytes_encrypted_so_far next
+bytes_encrypted_so_far-more enc next passphrase salt costs text piece n before after long =
+    omega (arith, bytes_encrypted_so_far-is enc passphrase salt costs text before, bytes_encrypted_so_far-is next passphrase salt costs (text ++ piece) after, length-append text piece, long)
 
 -- it stays below the limit
-pub length_encrypted-below : (enc : Enc) (passphrase salt : List ℕ) (costs : Parameters) (text : List ℕ) → HasEncrypted enc passphrase salt costs text
-    → length_encrypted enc < 2 ^ 60
-length_encrypted-below enc passphrase salt costs text h = omega (arith, length_encrypted-is enc passphrase salt costs text h, h.below_limit)
+pub bytes_encrypted_so_far-below : (enc : Enc) (passphrase salt : List ℕ) (costs : Parameters) (text : List ℕ) → HasEncrypted enc passphrase salt costs text
+    → bytes_encrypted_so_far enc < 2 ^ 60
+bytes_encrypted_so_far-below enc passphrase salt costs text h = omega (arith, bytes_encrypted_so_far-is enc passphrase salt costs text h, h.below_limit)
 
 -- ---- what is decided
 
@@ -83,7 +56,7 @@ eq_self n = grind (arith, common_steps)
 
 -- the file is its body and the final code
 with_code : (passphrase salt : List ℕ) (costs : Parameters) (text : List ℕ)
-    → encrypted_file passphrase salt costs text ≡ body passphrase salt costs text ++ final_code passphrase salt costs text
+    → encrypted_file passphrase salt costs text ≡ body passphrase salt costs text ++ final_hmac passphrase salt costs text
 unfolding encrypted_file
 with_code passphrase salt costs text = refl
 
@@ -98,7 +71,7 @@ tail_by : (whole : Bool) (passphrase salt : List ℕ) (costs : Parameters) (text
     → (tail : List ℕ) × (length tail ≤ 32)
     × ((if whole then encrypted_file passphrase salt costs text else body passphrase salt costs text) ≡ body passphrase salt costs text ++ tail)
 tail_by true passphrase salt costs text long =
-    let code = final_code passphrase salt costs text in
+    let code = final_hmac passphrase salt costs text in
     let short : length code ≡ 32 = length-code passphrase salt costs text code long (with_code passphrase salt costs text) in
     (code, omega (arith, short), with_code passphrase salt costs text)
 tail_by false passphrase salt costs text long = ([], omega arith, sym (append-nil (body passphrase salt costs text)))
@@ -142,8 +115,8 @@ body_cut passphrase salt costs size s t long f =
 
 -- the text's passing ended early
 pub passing_ended : (r : ScryptRefusal) (passphrase salt : List ℕ) (costs : Parameters) (size : ℕ) (s t : HostState) → length salt ≡ 32
-    → EndsTextEarly r (2 ^ 60) 4096 (body passphrase salt costs) (body passphrase salt costs) s t
-    → EndsTextEarly r (2 ^ 60) 4128 (body passphrase salt costs) (decided passphrase salt costs size) s t
+    → RefusesDuringText r (2 ^ 60) 4096 (body passphrase salt costs) (body passphrase salt costs) s t
+    → RefusesDuringText r (2 ^ 60) 4128 (body passphrase salt costs) (decided passphrase salt costs size) s t
 passing_ended r passphrase salt costs size s t long (inl f) = inl f
 passing_ended r passphrase salt costs size s t long (inr (inl f)) = inr (inl (f.0, body_cut passphrase salt costs size s t long f.1))
 passing_ended r passphrase salt costs size s t long (inr (inr f)) = inr (inr f)

@@ -3,8 +3,8 @@ use Rattle.std.proofs.Common.{◌≡◌, ℕ, List, Option, Some, None, Result, 
 use Rattle.host.specs.HostState.{SecretSource, HostState, Text, after_open_input}
 use Rattle.host.specs.HostState.SecretSource.{env as variable, file as secret_file, stdin_once}
 use Rattle.scrypt_run.specs.Encrypting.{salt_used}
-use Rattle.scrypt_run.specs.Passphrase.{first_line_at}
-use Rattle.scrypt_run.specs.Steps.{after_reading}
+use Rattle.scrypt_run.specs.Passphrase.{first_line_of_source}
+use Rattle.scrypt_run.specs.Steps.{after_reading_first_bytes}
 
 -- what follows from a result's fact
 pub on_ok : {A E : Type 0} {P Q : Type 0} (r : Result A E) → (P → Q) → OnOk r P → OnOk r Q
@@ -19,19 +19,11 @@ pub if_ok : {A E : Type 0} {P Q : A → Type 0} (r : Result A E) → ((a : A) �
 if_ok (Ok a) f h = f a h
 if_ok (Err e) f h = h
 
-pub always_ok : {A E : Type 0} {P : Type 0} (r : Result A E) → P → OnOk r P
-always_ok (Ok a) h = h
-always_ok (Err e) h = tt
-
-pub always_err : {A E : Type 0} {P : E → Type 0} (r : Result A E) → ((e : E) → P e) → IfErr r P
-always_err (Ok a) f = tt
-always_err (Err e) f = f e
-
 -- reading the input leaves the secrets
-pub first_line_at-reading : (source : SecretSource) (infile : Option Text) (n : ℕ) (s : HostState) → first_line_at source (after_reading infile n s) ≡ first_line_at source s
-first_line_at-reading stdin_once infile n s = refl
-first_line_at-reading (variable name) infile n s = refl
-first_line_at-reading (secret_file name) infile n s = refl
+pub first_line_of_source-reading : (source : SecretSource) (infile : Option Text) (n : ℕ) (s : HostState) → first_line_of_source source (after_reading_first_bytes infile n s) ≡ first_line_of_source source s
+first_line_of_source-reading stdin_once infile n s = refl
+first_line_of_source-reading (variable name) infile n s = refl
+first_line_of_source-reading (secret_file name) infile n s = refl
 
 -- and its opening leaves the salt
 pub salt_used-opening : (salt : Option (List ℕ)) (infile : Option Text) (s : HostState) → salt_used salt (after_open_input infile s) ≡ salt_used salt s

@@ -6,16 +6,16 @@ use Rattle.std.proofs.lemmas.Option.{none-some}
 use Rattle.std.specs.Fmt.{decimal}
 use Rattle.romix.specs.Allowance.{Allowance}
 use Rattle.romix.specs.Costs.{Parameters, cores, table_bytes}
-use Rattle.encfile.specs.Front.{FrontRefusal, costs_refusal, format_refusal, limits_refusal}
+use Rattle.encfile.specs.Front.{FrontRefusal, allowance_refusal, format_refusal, file_refusal_before_passphrase}
 use Rattle.encfile.specs.Header.{costs_of, salt_of}
-use Rattle.encfile.proofs.Fronts.{format_refusal-short, format_refusal-take, limits_refusal-costs, limits_refusal-format, limits_refusal-take}
+use Rattle.encfile.proofs.Fronts.{format_refusal-short, format_refusal-take, file_refusal_before_passphrase-costs, file_refusal_before_passphrase-format, file_refusal_before_passphrase-take}
 use Rattle.encfile.proofs.Headers.{costs_of-take}
 use Rattle.encfile.proofs.Pieces.{bytes_at-take}
 use Rattle.host.specs.HostState.{HostState, Text, after_open_input, after_pull}
 use Rattle.scrypt_run.specs.Front.{FrontRefused}
 use Rattle.scrypt_run.specs.Inspecting.{costs_line}
 use Rattle.scrypt_run.specs.Refusal.{refusal_of}
-use Rattle.scrypt_run.specs.Steps.{after_reading}
+use Rattle.scrypt_run.specs.Steps.{after_reading_first_bytes}
 use Rattle.scrypt_request.specs.declared.refusal.ScryptRefusal.{ScryptRefusal}
 use Rattle.scrypt_request.specs.declared.refusal.ScryptRefusal.TheVariants as refusal
 
@@ -33,7 +33,7 @@ short_input infile n s t u opened few whole pulled =
     )
 
 -- 96 at least, and then a test refuses them
-pub refused_front : (r : ScryptRefusal) (first of_front : Option FrontRefusal) (infile : Option Text) (s u : HostState) → u ≡ after_reading infile 96 s
+pub refused_front : (r : ScryptRefusal) (first of_front : Option FrontRefusal) (infile : Option Text) (s u : HostState) → u ≡ after_reading_first_bytes infile 96 s
     → of_front ≡ first → option_map refusal_of of_front ≡ Some r → FrontRefused r first infile s u
 refused_front r first of_front infile s u reads same refused = inr (ap (option_map refusal_of) (sym same) ∙ refused, reads)
 
@@ -52,13 +52,13 @@ salt_front n front file salt long first is = is ∙ ap salt_of first ∙ bytes_a
 -- ---- the costs
 
 pub limits_front : (front file : List ℕ) (allowed : Allowance) → 96 ≤ length file → front ≡ take 96 file
-    → limits_refusal front allowed ≡ limits_refusal file allowed
-limits_front front file allowed long first = ap (λ f. limits_refusal f allowed) first ∙ limits_refusal-take file allowed long
+    → file_refusal_before_passphrase front allowed ≡ file_refusal_before_passphrase file allowed
+limits_front front file allowed long first = ap (λ f. file_refusal_before_passphrase f allowed) first ∙ file_refusal_before_passphrase-take file allowed long
 
 -- what refuses costs refuses the file that has them
 pub limits_told : (front : List ℕ) (costs : Parameters) (allowed : Allowance) → format_refusal front ≡ None → costs ≡ costs_of front
-    → limits_refusal front allowed ≡ costs_refusal costs allowed
-limits_told front costs allowed valid same = limits_refusal-costs front allowed valid ∙ ap (λ (c : Parameters). costs_refusal c allowed) (sym same)
+    → file_refusal_before_passphrase front allowed ≡ allowance_refusal costs allowed
+limits_told front costs allowed valid same = file_refusal_before_passphrase-costs front allowed valid ∙ ap (λ (c : Parameters). allowance_refusal c allowed) (sym same)
 
 -- a refusal stays where another test goes on from it
 goes_on : (first later : Option FrontRefusal) (r : ScryptRefusal) → ((x : FrontRefusal) → first ≡ Some x → later ≡ Some x)
@@ -68,10 +68,10 @@ goes_on (Some x) later r more h = ap (option_map refusal_of) (more x refl) ∙ h
 
 -- what refuses the header refuses the file under each limits
 pub format_first : (r : ScryptRefusal) (allowed : Allowance) (infile : Option Text) (s u : HostState) → FrontRefused r (format_refusal s.input) infile s u
-    → FrontRefused r (limits_refusal s.input allowed) infile s u
+    → FrontRefused r (file_refusal_before_passphrase s.input allowed) infile s u
 format_first r allowed infile s u (inl h) = inl h
 format_first r allowed infile s u (inr h) =
-    inr (goes_on (format_refusal s.input) (limits_refusal s.input allowed) r (limits_refusal-format s.input allowed) h.0, h.1)
+    inr (goes_on (format_refusal s.input) (file_refusal_before_passphrase s.input allowed) r (file_refusal_before_passphrase-format s.input allowed) h.0, h.1)
 
 -- ---- the line of costs
 

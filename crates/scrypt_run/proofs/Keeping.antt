@@ -3,38 +3,38 @@ use Rattle.std.proofs.Common.{◌≡◌, inl, inr, ℕ, List, Option, Some, None
 use Rattle.std.specs.Prelude.{if◌then◌else◌}
 use Rattle.std.specs.Option.{option_or}
 use Rattle.romix.specs.Allowance.{Allowance}
-use Rattle.encfile.specs.Front.{FrontRefusal, costs_refusal, format_refusal, front_refusal, has_right_header_code, limits_refusal}
+use Rattle.encfile.specs.Front.{FrontRefusal, allowance_refusal, format_refusal, front_refusal, has_right_header_hmac, file_refusal_before_passphrase}
 use Rattle.encfile.specs.Front.FrontRefusal.{WrongPassphrase}
 use Rattle.encfile.specs.Header.{costs_of}
-use Rattle.encfile.proofs.Fronts.{limits_refusal-costs, limits_refusal-format}
+use Rattle.encfile.proofs.Fronts.{file_refusal_before_passphrase-costs, file_refusal_before_passphrase-format}
 use Rattle.host.specs.HostState.{HostState}
 use Rattle.scrypt_run.specs.Decrypting.{DecryptRefused, DecryptSucceeds}
 use Rattle.scrypt_run.specs.Encrypting.{EncryptRefused, EncryptSucceeds}
-use Rattle.scrypt_run.specs.Laws.{AdmitsCosts, with_keep}
+use Rattle.scrypt_run.specs.Laws.{AdmitsCosts, request_with_keep}
 use Rattle.scrypt_run.specs.Refusal.{refusal_of}
 use Rattle.scrypt_request.specs.Request.{Encryption, Request, Task, allowance_of, decrypt, encrypt, inspect}
-use Rattle.scrypt_run.specs.Run.{RequestRefused, RequestSucceeds}
+use Rattle.scrypt_run.specs.Run.{ScryptRequestRefused, ScryptRequestSucceeds}
 use Rattle.scrypt_request.specs.declared.refusal.ScryptRefusal.{ScryptRefusal}
 use Rattle.scrypt_run.proofs.Openings.{none_refuses}
 
 -- ---- what refuses a file
 
 by_format : (file : List ℕ) (a b : Allowance) (told : Option FrontRefusal) → format_refusal file ≡ told
-    → (format_refusal file ≡ None → costs_refusal (costs_of file) a ≡ None) → (format_refusal file ≡ None → costs_refusal (costs_of file) b ≡ None)
-    → limits_refusal file a ≡ limits_refusal file b
-by_format file a b None valid ha hb = limits_refusal-costs file a valid ∙ ha valid ∙ sym (limits_refusal-costs file b valid ∙ hb valid)
-by_format file a b (Some r) told ha hb = limits_refusal-format file a r told ∙ sym (limits_refusal-format file b r told)
+    → (format_refusal file ≡ None → allowance_refusal (costs_of file) a ≡ None) → (format_refusal file ≡ None → allowance_refusal (costs_of file) b ≡ None)
+    → file_refusal_before_passphrase file a ≡ file_refusal_before_passphrase file b
+by_format file a b None valid ha hb = file_refusal_before_passphrase-costs file a valid ∙ ha valid ∙ sym (file_refusal_before_passphrase-costs file b valid ∙ hb valid)
+by_format file a b (Some r) told ha hb = file_refusal_before_passphrase-format file a r told ∙ sym (file_refusal_before_passphrase-format file b r told)
 
 -- where both admit its costs, if it has a header
-same_limits : (file : List ℕ) (a b : Allowance) → (format_refusal file ≡ None → costs_refusal (costs_of file) a ≡ None)
-    → (format_refusal file ≡ None → costs_refusal (costs_of file) b ≡ None) → limits_refusal file a ≡ limits_refusal file b
+same_limits : (file : List ℕ) (a b : Allowance) → (format_refusal file ≡ None → allowance_refusal (costs_of file) a ≡ None)
+    → (format_refusal file ≡ None → allowance_refusal (costs_of file) b ≡ None) → file_refusal_before_passphrase file a ≡ file_refusal_before_passphrase file b
 same_limits file a b ha hb = by_format file a b (format_refusal file) refl ha hb
 
-same_front : (file : List ℕ) (a b : Allowance) (passphrase : List ℕ) → limits_refusal file a ≡ limits_refusal file b
+same_front : (file : List ℕ) (a b : Allowance) (passphrase : List ℕ) → file_refusal_before_passphrase file a ≡ file_refusal_before_passphrase file b
     → front_refusal file a passphrase ≡ front_refusal file b passphrase
 unfolding front_refusal
 same_front file a b passphrase same =
-    ap (λ first. option_or first (if has_right_header_code file passphrase then None else Some WrongPassphrase)) same
+    ap (λ first. option_or first (if has_right_header_hmac file passphrase then None else Some WrongPassphrase)) same
 
 -- ---- the runs
 
@@ -54,7 +54,7 @@ encrypted_with asked keep before after admits done = record {
 }
 
 decrypted_with : (task : Task) (keep : ℕ) (before after : HostState)
-    → limits_refusal before.input (allowance_of task) ≡ limits_refusal before.input (allowance_of (task_with keep task))
+    → file_refusal_before_passphrase before.input (allowance_of task) ≡ file_refusal_before_passphrase before.input (allowance_of (task_with keep task))
     → DecryptSucceeds task before after → DecryptSucceeds (task_with keep task) before after
 decrypted_with task keep before after same done = record {
   passphrase = done.passphrase;
@@ -63,8 +63,8 @@ decrypted_with task keep before after same done = record {
   decrypted = done.decrypted;
 }
 
-pub succeeds_with_any : (request : Request) (keep : ℕ) (before after : HostState) → AdmitsCosts request before → AdmitsCosts (with_keep keep request) before
-    → RequestSucceeds request before after → RequestSucceeds (with_keep keep request) before after
+pub succeeds_with_any : (request : Request) (keep : ℕ) (before after : HostState) → AdmitsCosts request before → AdmitsCosts (request_with_keep keep request) before
+    → ScryptRequestSucceeds request before after → ScryptRequestSucceeds (request_with_keep keep request) before after
 succeeds_with_any (encrypt asked) keep before after one other done = encrypted_with asked keep before after other done
 succeeds_with_any (decrypt task) keep before after one other done =
     decrypted_with task keep before after (same_limits before.input (allowance_of task) (allowance_of (task_with keep task)) one other) done
@@ -74,11 +74,11 @@ encrypt_refused_with : (asked : Encryption) (keep : ℕ) (before after : HostSta
     → AdmitsCosts (encrypt (encryption_with keep asked)) before → EncryptRefused r asked before after
     → EncryptRefused r (encryption_with keep asked) before after
 encrypt_refused_with asked keep before after r one other (inl told) =
-    absurd (none_refuses (costs_refusal asked.costs (allowance_of asked.task)) r one told.0)
+    absurd (none_refuses (allowance_refusal asked.costs (allowance_of asked.task)) r one told.0)
 encrypt_refused_with asked keep before after r one other (inr ends) = inr (other, ends.1)
 
 decrypt_refused_with : (task : Task) (keep : ℕ) (before after : HostState) (r : ScryptRefusal)
-    → limits_refusal before.input (allowance_of task) ≡ limits_refusal before.input (allowance_of (task_with keep task))
+    → file_refusal_before_passphrase before.input (allowance_of task) ≡ file_refusal_before_passphrase before.input (allowance_of (task_with keep task))
     → DecryptRefused r task before after → DecryptRefused r (task_with keep task) before after
 decrypt_refused_with task keep before after r same (inl (inl failed)) = inl (inl failed)
 decrypt_refused_with task keep before after r same (inl (inr told)) =
@@ -94,7 +94,7 @@ decrypt_refused_with task keep before after r same (inr (checked, inr (passphras
     inr (sym same ∙ checked, inr (passphrase, given, inr (inr (sym front ∙ ends.0, ends.1))))
 
 pub refused_with_any : (request : Request) (keep : ℕ) (before after : HostState) (r : ScryptRefusal) → AdmitsCosts request before
-    → AdmitsCosts (with_keep keep request) before → RequestRefused r request before after → RequestRefused r (with_keep keep request) before after
+    → AdmitsCosts (request_with_keep keep request) before → ScryptRequestRefused r request before after → ScryptRequestRefused r (request_with_keep keep request) before after
 refused_with_any (encrypt asked) keep before after r one other refused = encrypt_refused_with asked keep before after r one other refused
 refused_with_any (decrypt task) keep before after r one other refused =
     decrypt_refused_with task keep before after r (same_limits before.input (allowance_of task) (allowance_of (task_with keep task)) one other) refused

@@ -6,19 +6,19 @@ use Rattle.std.proofs.lemmas.Grind.{common_steps}
 use Rattle.romix.specs.Allowance.{Allowance}
 use Rattle.romix.specs.Costs.{Parameters}
 use Rattle.encfile.specs.EncryptedFile.{IsEncryptionOf, released_text}
-use Rattle.encfile.specs.Front.{FrontRefusal, front_refusal, limits_refusal}
-use Rattle.encfile.specs.Laws.{GivesBack}
-use Rattle.encfile.proofs.Files.{GivesBack-is, length-encrypted_file}
+use Rattle.encfile.specs.Front.{FrontRefusal, front_refusal, file_refusal_before_passphrase}
+use Rattle.encfile.specs.Laws.{EncryptionRoundTrips}
+use Rattle.encfile.proofs.Files.{EncryptionRoundTrips-is, length-encrypted_file}
 use Rattle.encfile.proofs.Fronts.{front_refusal-encrypted_file, front_refusal-limits}
 use Rattle.host.specs.HostState.{HostState, Text}
-use Rattle.scrypt_run.specs.Decrypting.{DecryptRefused, DecryptSucceeds, front_refusal_of, limits_refusal_of}
-use Rattle.scrypt_run.specs.Inside.Decrypting.{ReleaseRefused}
+use Rattle.scrypt_run.specs.Decrypting.{DecryptRefused, DecryptSucceeds, front_refusal_of, input_refusal_before_passphrase}
+use Rattle.scrypt_run.specs.Inside.Decrypting.{DecryptRefusedFromOutputOn}
 use Rattle.scrypt_run.specs.Laws.{CanBeOpened, IsFromOutside, WroteWhatWasEncrypted}
-use Rattle.scrypt_run.specs.Passphrase.{HasPassphrase, PassphraseRefused, first_line_at}
+use Rattle.scrypt_run.specs.Passphrase.{HasPassphrase, PassphraseRefused, first_line_of_source}
 use Rattle.scrypt_run.specs.Front.{FrontRefused}
 use Rattle.scrypt_run.specs.Refusal.{refusal_of}
 use Rattle.scrypt_request.specs.Request.{Task, allowance_of}
-use Rattle.scrypt_run.specs.Steps.{passphrase_asked}
+use Rattle.scrypt_run.specs.Steps.{after_passphrase_asked}
 use Rattle.scrypt_request.specs.declared.refusal.ScryptRefusal.{ScryptRefusal}
 
 -- a source gives one passphrase
@@ -34,7 +34,7 @@ all_of_rest n xs = grind (arith, common_steps)
 
 -- the front is taken, and the whole is an encryption, under the passphrase that the source gives
 pub record IsGenuine (task : Task) (before : HostState) (passphrase : List ℕ) : Type 0 where
-  pub given : HasPassphrase (first_line_at task.source before) passphrase
+  pub given : HasPassphrase (first_line_of_source task.source before) passphrase
   pub passes : front_refusal_of task before passphrase ≡ None
   pub encryption : IsEncryptionOf before.input passphrase (released_text before.input passphrase)
 
@@ -67,8 +67,8 @@ wrote_what_was_encrypted task before after ends = record {
 -- ---- the file of a text
 
 gives_back : (task : Task) (before : HostState) (passphrase salt : List ℕ) (costs : Parameters) (text : List ℕ)
-    → CanBeOpened task before passphrase salt costs text → GivesBack passphrase salt costs text
-gives_back task before passphrase salt costs text h = GivesBack-is passphrase salt costs text h.salt_has_32_bytes h.in_range h.below_limit
+    → CanBeOpened task before passphrase salt costs text → EncryptionRoundTrips passphrase salt costs text
+gives_back task before passphrase salt costs text h = EncryptionRoundTrips-is passphrase salt costs text h.salt_has_32_bytes h.in_range h.below_limit
 
 -- what is released is the text
 released : (task : Task) (before : HostState) (passphrase salt : List ℕ) (costs : Parameters) (text : List ℕ)
@@ -96,7 +96,7 @@ text_is_written task before after passphrase salt costs text h ends =
 -- ---- no refusal of the product's own
 
 pub limits_pass : (file : List ℕ) (allowed : Allowance) (passphrase : List ℕ) (first : Option FrontRefusal)
-    → limits_refusal file allowed ≡ first → front_refusal file allowed passphrase ≡ None → first ≡ None
+    → file_refusal_before_passphrase file allowed ≡ first → front_refusal file allowed passphrase ≡ None → first ≡ None
 limits_pass file allowed passphrase None is passes = refl
 limits_pass file allowed passphrase (Some r) is passes =
     absurd (none-some r (sym passes ∙ front_refusal-limits file allowed passphrase r is))
@@ -122,12 +122,12 @@ length_input task before passphrase h =
     ap length h.encryption.bytes
     ∙ length-encrypted_file passphrase h.encryption.salt h.encryption.costs (released_text before.input passphrase) h.encryption.salt_has_32_bytes
 
-admitted : (task : Task) (before : HostState) (passphrase : List ℕ) → IsGenuine task before passphrase → limits_refusal_of task before ≡ None
+admitted : (task : Task) (before : HostState) (passphrase : List ℕ) → IsGenuine task before passphrase → input_refusal_before_passphrase task before ≡ None
 admitted task before passphrase h = limits_pass before.input (allowance_of task) passphrase _ refl h.passes
 
 releasing_from_outside : (task : Task) (before after : HostState) (passphrase other : List ℕ) (r : ScryptRefusal) → IsGenuine task before passphrase
-    → HasPassphrase (first_line_at task.source before) other
-    → ReleaseRefused r other (take 96 before.input) task.outfile (passphrase_asked task 96 before) after → IsFromOutside r
+    → HasPassphrase (first_line_of_source task.source before) other
+    → DecryptRefusedFromOutputOn r other (take 96 before.input) task.outfile (after_passphrase_asked task 96 before) after → IsFromOutside r
 releasing_from_outside task before after passphrase other r h given (inl failed) = inr (inl failed.0)
 releasing_from_outside task before after passphrase other r h given (inr (inl (inl reading))) = inl reading.0
 releasing_from_outside task before after passphrase other r h given (inr (inl (inr (inl writing)))) = inr (inl writing.0)

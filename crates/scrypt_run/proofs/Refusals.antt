@@ -6,18 +6,18 @@ use Rattle.std.proofs.lemmas.List.{length-drop}
 use Rattle.std.proofs.lemmas.Option.{none-some, same_Some}
 use Rattle.encfile.specs.Front.{FrontRefusal, format_refusal}
 use Rattle.host.specs.HostState.{HostState, Text, after_open_output}
-use Rattle.scrypt_run.specs.Decrypting.{DecryptRefused, front_refusal_of, limits_refusal_of, text_after}
+use Rattle.scrypt_run.specs.Decrypting.{DecryptRefused, front_refusal_of, input_refusal_before_passphrase, released_text_of_header_and_rest}
 use Rattle.scrypt_run.specs.Encrypting.{EncryptRefused, costs_refusal_of}
 use Rattle.scrypt_run.specs.Front.{FrontRefused, after_front}
-use Rattle.scrypt_run.specs.Inside.Decrypting.{ReleaseRefused}
+use Rattle.scrypt_run.specs.Inside.Decrypting.{DecryptRefusedFromOutputOn}
 use Rattle.scrypt_run.specs.Inspecting.{InspectRefused}
 use Rattle.scrypt_run.specs.Laws.{AreOneEnd, IsFromOutside, IsRefusedFromOutside}
-use Rattle.scrypt_run.specs.Passphrase.{HasPassphrase, PassphraseRefused, first_line_at}
+use Rattle.scrypt_run.specs.Passphrase.{HasPassphrase, PassphraseRefused, first_line_of_source}
 use Rattle.scrypt_run.specs.Refusal.{refusal_of}
 use Rattle.scrypt_request.specs.Request.{Encryption, Request, Task, allowance_of, decrypt, encrypt, inspect}
-use Rattle.scrypt_run.specs.Run.{RequestRefused}
-use Rattle.scrypt_run.specs.Steps.{after_pull_and_push, passphrase_asked}
-use Rattle.scrypt_run.specs.Text.{EndsTextEarly}
+use Rattle.scrypt_run.specs.Run.{ScryptRequestRefused}
+use Rattle.scrypt_run.specs.Steps.{after_pull_and_push, after_passphrase_asked}
+use Rattle.scrypt_run.specs.Text.{RefusesDuringText}
 use Rattle.scrypt_request.specs.declared.refusal.ScryptRefusal.{ScryptRefusal}
 use Rattle.scrypt_request.specs.declared.refusal.ScryptRefusal.TheVariants as refusal
 use Rattle.scrypt_run.proofs.Openings.{both_parts, limits_pass}
@@ -50,27 +50,27 @@ by_length n released = if nat_lt n (2 ^ 60 + 128) then inside refusal.Damaged (S
 -- the whole text of a file was released
 abbrev all_released : Task → HostState → List ℕ → HostState
 all_released task s passphrase =
-    let asked = passphrase_asked task 96 s in
-    after_pull_and_push (text_after passphrase (take 96 s.input)) (length asked.input) (after_open_output task.outfile asked)
+    let asked = after_passphrase_asked task 96 s in
+    after_pull_and_push (released_text_of_header_and_rest passphrase (take 96 s.input)) (length asked.input) (after_open_output task.outfile asked)
 
 -- of `enc`, once the limits admit the costs; under a passphrase a text is refused from inside as too long alone
 abbrev of_text : Encryption → HostState → Option Inside
-of_text asked s = by_line (first_line_at asked.task.source s) (passphrase_asked asked.task 0 s) (λ _. Some (inside refusal.TooLong None))
+of_text asked s = by_line (first_line_of_source asked.task.source s) (after_passphrase_asked asked.task 0 s) (λ _. Some (inside refusal.TooLong None))
 
 -- of `dec`, once there is a passphrase
 abbrev under_passphrase : Task → HostState → List ℕ → Option Inside
 under_passphrase task s passphrase =
-    by_front (front_refusal_of task s passphrase) (passphrase_asked task 96 s)
+    by_front (front_refusal_of task s passphrase) (after_passphrase_asked task 96 s)
     (Some (by_length (length s.input) (all_released task s passphrase)))
 
 -- of `dec`, once the limits admit the file
 abbrev of_file : Task → HostState → Option Inside
-of_file task s = by_line (first_line_at task.source s) (passphrase_asked task 96 s) (under_passphrase task s)
+of_file task s = by_line (first_line_of_source task.source s) (after_passphrase_asked task 96 s) (under_passphrase task s)
 
 -- the one end of a request that may come from inside, if any may
 abbrev from_inside : Request → HostState → Option Inside
 from_inside (encrypt asked) s = by_front (costs_refusal_of asked) s (of_text asked s)
-from_inside (decrypt task) s = by_front (limits_refusal_of task s) (after_front task.infile s) (of_file task s)
+from_inside (decrypt task) s = by_front (input_refusal_before_passphrase task s) (after_front task.infile s) (of_file task s)
 from_inside (inspect infile) s = by_front (format_refusal s.input) (after_front infile s) None
 
 -- ---- what each test comes to
@@ -113,17 +113,17 @@ FitsEnd (Some end) r after = after ≡ end
 FitsEnd None r after = r ≡ refusal.TooLong
 
 -- the refusal is due, and the run is left in the state that is due
-record IsDue (due : Option Inside) (r : ScryptRefusal) (after : HostState) : Type 0 where
+record IsRefusedBeforeMemory (due : Option Inside) (r : ScryptRefusal) (after : HostState) : Type 0 where
   end : Option HostState
   is : due ≡ Some (inside r end)
   fits : FitsEnd end r after
 
 -- at a step: the refusal is from outside, or is this one
 abbrev OutsideOr : Option Inside → ScryptRefusal → HostState → Type 0
-OutsideOr due r after = IsFromOutside r ⊎ IsDue due r after
+OutsideOr due r after = IsFromOutside r ⊎ IsRefusedBeforeMemory due r after
 
 -- the steps before passed
-due_later : (r : ScryptRefusal) (after : HostState) (all next : Option Inside) → all ≡ next → IsDue next r after → IsDue all r after
+due_later : (r : ScryptRefusal) (after : HostState) (all next : Option Inside) → all ≡ next → IsRefusedBeforeMemory next r after → IsRefusedBeforeMemory all r after
 due_later r after all next same h = record { end = h.end; is = same ∙ h.is; fits = h.fits }
 
 later : (r : ScryptRefusal) (after : HostState) (all next : Option Inside) → all ≡ next → OutsideOr next r after → OutsideOr all r after
@@ -133,7 +133,7 @@ later r after all next same (inr due) = inr (due_later r after all next same due
 told_as : (r due : ScryptRefusal) (end : Option HostState) → r ≡ due → inside due end ≡ inside r end
 told_as r due end is = ap (λ x. inside x end) (sym is)
 
-due_at : (due : Option Inside) (r : ScryptRefusal) (at after : HostState) → due ≡ Some (inside r (Some at)) → after ≡ at → IsDue due r after
+due_at : (due : Option Inside) (r : ScryptRefusal) (at after : HostState) → due ≡ Some (inside r (Some at)) → after ≡ at → IsRefusedBeforeMemory due r after
 due_at due r at after is same = record { end = Some at; is = is; fits = same }
 
 front_refused : (first : Option FrontRefusal) (infile : Option Text) (before after : HostState) (r : ScryptRefusal) (next : Option Inside)
@@ -151,7 +151,7 @@ passphrase_refused line at after r next same (inr (is, long, line_is, longer)) =
 -- ---- of `enc`
 
 abbrev EncryptDecided : Encryption → HostState → ScryptRefusal → HostState → Type 0
-EncryptDecided asked s r after = IsRefusedFromOutside (encrypt asked) r ⊎ IsDue (from_inside (encrypt asked) s) r after
+EncryptDecided asked s r after = IsRefusedFromOutside (encrypt asked) r ⊎ IsRefusedBeforeMemory (from_inside (encrypt asked) s) r after
 
 encrypt_decided : (asked : Encryption) (s : HostState) (r : ScryptRefusal) (after : HostState) → OutsideOr (from_inside (encrypt asked) s) r after
     → EncryptDecided asked s r after
@@ -164,12 +164,12 @@ to_text asked s admitted = front_passed (costs_refusal_of asked) s (of_text aske
 
 -- the text's passing ended early
 text_ended : (asked : Encryption) (before after : HostState) (r : ScryptRefusal) (passphrase : List ℕ) (gives decides : List ℕ → List ℕ) (s : HostState)
-    → costs_refusal_of asked ≡ None → HasPassphrase (first_line_at asked.task.source before) passphrase
-    → EndsTextEarly r (2 ^ 60) 4128 gives decides s after → EncryptDecided asked before r after
+    → costs_refusal_of asked ≡ None → HasPassphrase (first_line_of_source asked.task.source before) passphrase
+    → RefusesDuringText r (2 ^ 60) 4128 gives decides s after → EncryptDecided asked before r after
 text_ended asked before after r passphrase gives decides s admitted given (inl reading) = inl (inl (inl reading.0))
 text_ended asked before after r passphrase gives decides s admitted given (inr (inl writing)) = inl (inl (inr (inl writing.0)))
 text_ended asked before after r passphrase gives decides s admitted given (inr (inr long)) =
-    let passed = line_passed (first_line_at asked.task.source before) (passphrase_asked asked.task 0 before) _ passphrase given in
+    let passed = line_passed (first_line_of_source asked.task.source before) (after_passphrase_asked asked.task 0 before) _ passphrase given in
     inr (due_later r after _ (Some (inside refusal.TooLong None)) (to_text asked before admitted ∙ passed)
     (record { end = None; is = ap Some (told_as r refusal.TooLong None long.0); fits = long.0 }))
 
@@ -180,7 +180,7 @@ encrypt_refused asked before after r (inr (admitted, inl failed)) = inl (inl (in
 encrypt_refused asked before after r (inr (admitted, inr (inl refused))) =
     encrypt_decided asked before r after
     (later r after _ (of_text asked before) (to_text asked before admitted)
-    (passphrase_refused (first_line_at asked.task.source before) (passphrase_asked asked.task 0 before) after r _ refused.1 refused.0))
+    (passphrase_refused (first_line_of_source asked.task.source before) (after_passphrase_asked asked.task 0 before) after r _ refused.1 refused.0))
 encrypt_refused asked before after r (inr (admitted, inr (inr (passphrase, given, inl failed)))) = inl (inr (failed.0, failed.1))
 encrypt_refused asked before after r (inr (admitted, inr (inr (passphrase, given, inr (inl lacks))))) = inl (inl (inr (inr (inr lacks.0))))
 encrypt_refused asked before after r (inr (admitted, inr (inr (passphrase, given, inr (inr (inl failed)))))) = inl (inl (inr (inl failed.0)))
@@ -190,7 +190,7 @@ encrypt_refused asked before after r (inr (admitted, inr (inr (passphrase, given
 -- ---- of `dec`
 
 release_refused : (task : Task) (passphrase : List ℕ) (before after : HostState) (r : ScryptRefusal)
-    → ReleaseRefused r passphrase (take 96 before.input) task.outfile (passphrase_asked task 96 before) after
+    → DecryptRefusedFromOutputOn r passphrase (take 96 before.input) task.outfile (after_passphrase_asked task 96 before) after
     → OutsideOr (Some (by_length (length before.input) (all_released task before passphrase))) r after
 release_refused task passphrase before after r (inl failed) = inl (inr (inl failed.0))
 release_refused task passphrase before after r (inr (inl (inl reading))) = inl (inl reading.0)
@@ -209,29 +209,29 @@ release_refused task passphrase before after r (inr (inr (is, damaged))) =
     (ap Some (length_damaged (length before.input) released short ∙ told_as r refusal.Damaged (Some released) is)) damaged.released)
 
 -- the file is admitted
-to_file : (task : Task) (s : HostState) → limits_refusal_of task s ≡ None → from_inside (decrypt task) s ≡ of_file task s
-to_file task s admitted = front_passed (limits_refusal_of task s) (after_front task.infile s) (of_file task s) admitted
+to_file : (task : Task) (s : HostState) → input_refusal_before_passphrase task s ≡ None → from_inside (decrypt task) s ≡ of_file task s
+to_file task s admitted = front_passed (input_refusal_before_passphrase task s) (after_front task.infile s) (of_file task s) admitted
 
 -- and it is under the passphrase
-to_length : (task : Task) (s : HostState) (passphrase : List ℕ) → HasPassphrase (first_line_at task.source s) passphrase
+to_length : (task : Task) (s : HostState) (passphrase : List ℕ) → HasPassphrase (first_line_of_source task.source s) passphrase
     → front_refusal_of task s passphrase ≡ None
     → from_inside (decrypt task) s ≡ Some (by_length (length s.input) (all_released task s passphrase))
 to_length task s passphrase given passes =
-    let at = passphrase_asked task 96 s in
+    let at = after_passphrase_asked task 96 s in
     to_file task s (limits_pass s.input (allowance_of task) passphrase _ refl passes)
-    ∙ line_passed (first_line_at task.source s) at (under_passphrase task s) passphrase given
+    ∙ line_passed (first_line_of_source task.source s) at (under_passphrase task s) passphrase given
     ∙ front_passed (front_refusal_of task s passphrase) at (Some (by_length (length s.input) (all_released task s passphrase))) passes
 
 decrypt_refused : (task : Task) (before after : HostState) (r : ScryptRefusal) → DecryptRefused r task before after
     → OutsideOr (from_inside (decrypt task) before) r after
-decrypt_refused task before after r (inl front) = front_refused (limits_refusal_of task before) task.infile before after r (of_file task before) front
+decrypt_refused task before after r (inl front) = front_refused (input_refusal_before_passphrase task before) task.infile before after r (of_file task before) front
 decrypt_refused task before after r (inr (checked, inl refused)) =
     later r after _ (of_file task before) (to_file task before checked)
-    (passphrase_refused (first_line_at task.source before) (passphrase_asked task 96 before) after r (under_passphrase task before) refused.1 refused.0)
+    (passphrase_refused (first_line_of_source task.source before) (after_passphrase_asked task 96 before) after r (under_passphrase task before) refused.1 refused.0)
 decrypt_refused task before after r (inr (checked, inr (passphrase, given, inl lacks))) = inl (inr (inr (inr lacks.0)))
 decrypt_refused task before after r (inr (checked, inr (passphrase, given, inr (inl told)))) =
-    let at = passphrase_asked task 96 before in
-    let passed = line_passed (first_line_at task.source before) at (under_passphrase task before) passphrase given in
+    let at = after_passphrase_asked task 96 before in
+    let passed = line_passed (first_line_of_source task.source before) at (under_passphrase task before) passphrase given in
     later r after _ (under_passphrase task before passphrase) (to_file task before checked ∙ passed)
     (inr (due_at _ r at after (front_told (front_refusal_of task before passphrase) at _ r told.0) told.1))
 decrypt_refused task before after r (inr (checked, inr (passphrase, given, inr (inr ends)))) =
@@ -247,8 +247,8 @@ inspect_refused infile before after r (inr ends) = inl (line_from_outside r _ _ 
 
 -- ---- of a request
 
-decided : (request : Request) (before after : HostState) (r : ScryptRefusal) → RequestRefused r request before after
-    → IsRefusedFromOutside request r ⊎ IsDue (from_inside request before) r after
+decided : (request : Request) (before after : HostState) (r : ScryptRefusal) → ScryptRequestRefused r request before after
+    → IsRefusedFromOutside request r ⊎ IsRefusedBeforeMemory (from_inside request before) r after
 decided (encrypt asked) before after r refused = encrypt_refused asked before after r refused
 decided (decrypt task) before after r refused = decrypt_refused task before after r refused
 decided (inspect infile) before after r refused = inspect_refused infile before after r refused
@@ -260,7 +260,7 @@ same_state one other after ended None b same ends h1 h2 = inr h1
 same_state one other after ended (Some a) None same ends h1 h2 = inr (same ∙ h2)
 same_state one other after ended (Some a) (Some b) same ends h1 h2 = inl (h1 ∙ same_Some a b ends ∙ sym h2)
 
-one_end : (due : Option Inside) (one other : ScryptRefusal) (after ended : HostState) → IsDue due one after → IsDue due other ended
+one_end : (due : Option Inside) (one other : ScryptRefusal) (after ended : HostState) → IsRefusedBeforeMemory due one after → IsRefusedBeforeMemory due other ended
     → AreOneEnd one other after ended
 one_end due one other after ended h1 h2 =
     let same : inside one h1.end ≡ inside other h2.end = same_Some (inside one h1.end) (inside other h2.end) (sym h1.is ∙ h2.is) in
@@ -270,13 +270,13 @@ one_end due one other after ended h1 h2 =
     }
 
 end_or_outside : (Outside : ScryptRefusal → Type 0) (due : Option Inside) (one other : ScryptRefusal) (after ended : HostState)
-    → Outside one ⊎ IsDue due one after → Outside other ⊎ IsDue due other ended → AreOneEnd one other after ended ⊎ Outside one ⊎ Outside other
+    → Outside one ⊎ IsRefusedBeforeMemory due one after → Outside other ⊎ IsRefusedBeforeMemory due other ended → AreOneEnd one other after ended ⊎ Outside one ⊎ Outside other
 end_or_outside Outside due one other after ended (inl outside) h2 = inr (inl outside)
 end_or_outside Outside due one other after ended (inr h1) (inl outside) = inr (inr outside)
 end_or_outside Outside due one other after ended (inr h1) (inr h2) = inl (one_end due one other after ended h1 h2)
 
-pub one_refusal : (request : Request) (before after ended : HostState) (one other : ScryptRefusal) → RequestRefused one request before after
-    → RequestRefused other request before ended
+pub one_refusal : (request : Request) (before after ended : HostState) (one other : ScryptRefusal) → ScryptRequestRefused one request before after
+    → ScryptRequestRefused other request before ended
     → AreOneEnd one other after ended ⊎ IsRefusedFromOutside request one ⊎ IsRefusedFromOutside request other
 one_refusal request before after ended one other h1 h2 =
     end_or_outside (IsRefusedFromOutside request) (from_inside request before) one other after ended (decided request before after one h1)

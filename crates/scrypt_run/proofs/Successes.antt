@@ -4,14 +4,14 @@ use Rattle.std.proofs.lemmas.Grind.{common_steps}
 use Rattle.encfile.specs.EncryptedFile.{encrypted_file}
 use Rattle.encfile.specs.Front.{format_refusal}
 use Rattle.host.specs.HostState.{HostState, Text, after_open_output}
-use Rattle.scrypt_run.specs.Decrypting.{DecryptSucceeds, text_after}
-use Rattle.scrypt_run.specs.Encrypting.{EncryptRefused, EncryptSucceeds, costs_refusal_of, salt_asked, salt_used}
+use Rattle.scrypt_run.specs.Decrypting.{DecryptSucceeds, released_text_of_header_and_rest}
+use Rattle.scrypt_run.specs.Encrypting.{EncryptRefused, EncryptSucceeds, costs_refusal_of, after_salt_asked, salt_used}
 use Rattle.scrypt_run.specs.Inspecting.{InspectRefused, InspectSucceeds}
 use Rattle.scrypt_run.specs.Laws.{IsFromOutside, IsRefusedFromOutside, WroteAnEncryption}
 use Rattle.scrypt_request.specs.Request.{Encryption, Request, Task, decrypt, encrypt, inspect}
-use Rattle.scrypt_run.specs.Run.{RequestRefused, RequestSucceeds}
-use Rattle.scrypt_run.specs.Steps.{after_pull_and_push, passphrase_asked}
-use Rattle.scrypt_run.specs.Text.{EndsTextEarly}
+use Rattle.scrypt_run.specs.Run.{ScryptRequestRefused, ScryptRequestSucceeds}
+use Rattle.scrypt_run.specs.Steps.{after_pull_and_push, after_passphrase_asked}
+use Rattle.scrypt_run.specs.Text.{RefusesDuringText}
 use Rattle.scrypt_request.specs.declared.refusal.ScryptRefusal.{ScryptRefusal}
 use Rattle.scrypt_request.specs.declared.refusal.ScryptRefusal.TheVariants as refusal
 use Rattle.scrypt_run.proofs.Openings.{decrypt_from_outside, front_from_outside, none_refuses, one_passphrase, genuine_by_success, passphrase_from_outside}
@@ -20,7 +20,7 @@ use Rattle.scrypt_run.proofs.Openings.{decrypt_from_outside, front_from_outside,
 
 one_encryption : (asked : Encryption) (before a b : HostState) → EncryptSucceeds asked before a → EncryptSucceeds asked before b → a ≡ b
 one_encryption asked before a b ha hb =
-    let opened = salt_asked asked before in
+    let opened = after_salt_asked asked before in
     ha.encrypted.written
     ∙ ap (λ p. after_pull_and_push (encrypted_file p (salt_used asked.salt before) asked.costs) (length opened.input) (after_open_output asked.task.outfile opened))
     (one_passphrase _ ha.passphrase hb.passphrase ha.given hb.given)
@@ -28,13 +28,13 @@ one_encryption asked before a b ha hb =
 
 one_decryption : (task : Task) (before a b : HostState) → DecryptSucceeds task before a → DecryptSucceeds task before b → a ≡ b
 one_decryption task before a b ha hb =
-    let pulled = passphrase_asked task 96 before in
+    let pulled = after_passphrase_asked task 96 before in
     ha.decrypted.released
-    ∙ ap (λ p. after_pull_and_push (text_after p (take 96 before.input)) (length pulled.input) (after_open_output task.outfile pulled))
+    ∙ ap (λ p. after_pull_and_push (released_text_of_header_and_rest p (take 96 before.input)) (length pulled.input) (after_open_output task.outfile pulled))
     (one_passphrase _ ha.passphrase hb.passphrase ha.given hb.given)
     ∙ sym hb.decrypted.released
 
-pub one_success : (request : Request) (before a b : HostState) → RequestSucceeds request before a → RequestSucceeds request before b → a ≡ b
+pub one_success : (request : Request) (before a b : HostState) → ScryptRequestSucceeds request before a → ScryptRequestSucceeds request before b → a ≡ b
 one_success (encrypt asked) before a b ha hb = one_encryption asked before a b ha hb
 one_success (decrypt task) before a b ha hb = one_decryption task before a b ha hb
 one_success (inspect infile) before a b ha hb = ha.written ∙ sym hb.written
@@ -58,7 +58,7 @@ wrote_an_encryption asked before after done =
 -- ---- no refusal of the product's own
 
 text_from_outside : (r : ScryptRefusal) (gives decides : List ℕ → List ℕ) (before ended : HostState) → length before.input < 2 ^ 60
-    → EndsTextEarly r (2 ^ 60) 4128 gives decides before ended → IsFromOutside r
+    → RefusesDuringText r (2 ^ 60) 4128 gives decides before ended → IsFromOutside r
 text_from_outside r gives decides before ended short (inl reading) = inl reading.0
 text_from_outside r gives decides before ended short (inr (inl writing)) = inr (inl writing.0)
 text_from_outside r gives decides before ended short (inr (inr (is, long))) =
@@ -87,8 +87,8 @@ inspect_from_outside : (infile : Option Text) (before after ended : HostState) (
 inspect_from_outside infile before after ended r done (inl front) = front_from_outside (format_refusal before.input) infile before ended r done.valid front
 inspect_from_outside infile before after ended r done (inr ends) = line_from_outside r _ _ _ ends.1
 
-pub refused_from_outside : (request : Request) (before after ended : HostState) (r : ScryptRefusal) → RequestSucceeds request before after
-    → RequestRefused r request before ended → IsRefusedFromOutside request r
+pub refused_from_outside : (request : Request) (before after ended : HostState) (r : ScryptRefusal) → ScryptRequestSucceeds request before after
+    → ScryptRequestRefused r request before ended → IsRefusedFromOutside request r
 refused_from_outside (encrypt asked) before after ended r done refused = encrypt_from_outside asked before after ended r done refused
 refused_from_outside (decrypt task) before after ended r done refused =
     decrypt_from_outside task before ended done.passphrase r (genuine_by_success task before after done) refused

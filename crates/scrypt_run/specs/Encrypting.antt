@@ -2,13 +2,13 @@
 use Rattle.std.specs.Prelude.{◌≡◌, ◌^◌, ◌⊎◌, ◌==◌, ◌||◌, is_none, ℕ, List, Option, Some, None, option_map, unwrap_or, length, if◌then◌else◌}
 use Rattle.romix.specs.Costs.{Parameters}
 use Rattle.encfile.specs.EncryptedFile.{IsEncryptionOf, body, encrypted_file}
-use Rattle.encfile.specs.Front.{FrontRefusal, costs_refusal}
+use Rattle.encfile.specs.Front.{FrontRefusal, allowance_refusal}
 use Rattle.host.specs.HostState.{HostState, Text, after_ask_output, after_open_output}
-use Rattle.scrypt_run.specs.Passphrase.{HasPassphrase, PassphraseRefused, first_line_at}
+use Rattle.scrypt_run.specs.Passphrase.{HasPassphrase, PassphraseRefused, first_line_of_source}
 use Rattle.scrypt_run.specs.Refusal.{refusal_of}
 use Rattle.scrypt_request.specs.Request.{Encryption, allowance_of}
-use Rattle.scrypt_run.specs.Steps.{after_pull_and_push, passphrase_asked}
-use Rattle.scrypt_run.specs.Text.{EndsTextEarly}
+use Rattle.scrypt_run.specs.Steps.{after_pull_and_push, after_passphrase_asked}
+use Rattle.scrypt_run.specs.Text.{RefusesDuringText}
 use Rattle.scrypt_request.specs.declared.refusal.ScryptRefusal.{ScryptRefusal}
 use Rattle.scrypt_request.specs.declared.refusal.ScryptRefusal.TheVariants as refusal
 
@@ -22,7 +22,7 @@ after_salting salt s = record s { salted = is_none salt || s.salted }
 
 -- why the costs of the new file are not allowed, if they aren't: by the S and the limits of its task
 abbrev pub costs_refusal_of : Encryption → Option FrontRefusal
-costs_refusal_of asked = costs_refusal asked.costs (allowance_of asked.task)
+costs_refusal_of asked = allowance_refusal asked.costs (allowance_of asked.task)
 
 -- what the bytes that were pulled so far of a text of `size` bytes decide of its file: bytes 0 to 95 of the file and
 -- the encryption of these bytes; and, where they are the whole text, the final code too, which makes the whole file
@@ -41,15 +41,15 @@ pub record IsEncrypted (passphrase salt : List ℕ) (costs : Parameters) (outfil
 
 -- the host after the input was opened, the passphrase's source asked, and a salt asked for where the request gives
 -- none
-abbrev pub salt_asked : Encryption → HostState → HostState
-salt_asked asked before = after_salting asked.salt (passphrase_asked asked.task 0 before)
+abbrev pub after_salt_asked : Encryption → HostState → HostState
+after_salt_asked asked before = after_salting asked.salt (after_passphrase_asked asked.task 0 before)
 
 -- `enc` ends with status 0: the costs are allowed, the passphrase was given, and the file of the input was written
 pub record EncryptSucceeds (asked : Encryption) (before after : HostState) : Type 0 where
   pub admitted : costs_refusal_of asked ≡ None
   pub passphrase : List ℕ
-  pub given : HasPassphrase (first_line_at asked.task.source before) passphrase
-  pub encrypted : IsEncrypted passphrase (salt_used asked.salt before) asked.costs asked.task.outfile (salt_asked asked before) after
+  pub given : HasPassphrase (first_line_of_source asked.task.source before) passphrase
+  pub encrypted : IsEncrypted passphrase (salt_used asked.salt before) asked.costs asked.task.outfile (after_salt_asked asked before) after
 
 -- `enc` ends with this refusal, by one of these rows: the costs are refused; the input could not be opened; no
 -- passphrase; no salt; no memory; no output; the passing of the text ended early, with no more than 4,128 bytes of
@@ -60,11 +60,11 @@ EncryptRefused r asked before after =
     ((option_map refusal_of (costs_refusal_of asked) ≡ Some r) × (after ≡ before))
     ⊎ ((costs_refusal_of asked ≡ None) × (
     ((r ≡ refusal.InputFault) × (after ≡ before))
-    ⊎ (PassphraseRefused r (first_line_at asked.task.source before) × (after ≡ passphrase_asked asked.task 0 before))
-    ⊎ ((passphrase : List ℕ) × HasPassphrase (first_line_at asked.task.source before) passphrase × (
-    ((r ≡ refusal.SaltFault) × (asked.salt ≡ None) × (after ≡ salt_asked asked before))
-    ⊎ ((r ≡ refusal.OutOfMemory) × (after ≡ salt_asked asked before))
-    ⊎ ((r ≡ refusal.OutputFault) × (after ≡ after_ask_output asked.task.outfile (salt_asked asked before)))
-    ⊎ EndsTextEarly r (2 ^ 60) 4128 (body passphrase (salt_used asked.salt before) asked.costs)
+    ⊎ (PassphraseRefused r (first_line_of_source asked.task.source before) × (after ≡ after_passphrase_asked asked.task 0 before))
+    ⊎ ((passphrase : List ℕ) × HasPassphrase (first_line_of_source asked.task.source before) passphrase × (
+    ((r ≡ refusal.SaltFault) × (asked.salt ≡ None) × (after ≡ after_salt_asked asked before))
+    ⊎ ((r ≡ refusal.OutOfMemory) × (after ≡ after_salt_asked asked before))
+    ⊎ ((r ≡ refusal.OutputFault) × (after ≡ after_ask_output asked.task.outfile (after_salt_asked asked before)))
+    ⊎ RefusesDuringText r (2 ^ 60) 4128 (body passphrase (salt_used asked.salt before) asked.costs)
     (decided passphrase (salt_used asked.salt before) asked.costs (length before.input))
-    (after_open_output asked.task.outfile (salt_asked asked before)) after))))
+    (after_open_output asked.task.outfile (after_salt_asked asked before)) after))))

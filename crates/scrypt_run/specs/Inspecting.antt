@@ -4,7 +4,7 @@ use Rattle.std.specs.Fmt.{decimal}
 use Rattle.romix.specs.Costs.{Parameters, cores, table_bytes}
 use Rattle.encfile.specs.Front.{format_refusal}
 use Rattle.encfile.specs.Header.{costs_of}
-use Rattle.host.specs.Output.{IsCutShort, after_writing}
+use Rattle.host.specs.Output.{IsOutputCutShort, after_writing}
 use Rattle.host.specs.HostState.{HostState, Text, after_ask_output}
 use Rattle.scrypt_run.specs.Front.{FrontRefused, after_front}
 use Rattle.scrypt_request.specs.declared.refusal.ScryptRefusal.{ScryptRefusal}
@@ -22,13 +22,13 @@ costs_line c =
     ++ codes "\n"
 
 -- the line that shows the costs of the input, which its bytes 7 to 15 say
-abbrev pub line_due : HostState → Text
-line_due before = costs_line (costs_of before.input)
+abbrev pub costs_line_of_input : HostState → Text
+costs_line_of_input before = costs_line (costs_of before.input)
 
 -- `info` ends with status 0: the input has a valid header, and standard output got the line of its costs
 pub record InspectSucceeds (infile : Option Text) (before after : HostState) : Type 0 where
   pub valid : format_refusal before.input ≡ None
-  pub written : after ≡ after_writing None (line_due before) (after_front infile before)
+  pub written : after ≡ after_writing None (costs_line_of_input before) (after_front infile before)
 
 -- `info` ends with this refusal, by one of these rows: the first 96 bytes were not read, or their header is refused;
 -- no memory for the line; the output could not be opened; the output failed before it had taken the whole line. What
@@ -39,4 +39,4 @@ InspectRefused r infile before after =
     ⊎ ((format_refusal before.input ≡ None) × (
     ((r ≡ refusal.OutOfMemory) × (after ≡ after_front infile before))
     ⊎ ((r ≡ refusal.OutputFault) × (after ≡ after_ask_output None (after_front infile before)))
-    ⊎ ((r ≡ refusal.OutputFault) × IsCutShort None (line_due before) (after_front infile before) after)))
+    ⊎ ((r ≡ refusal.OutputFault) × IsOutputCutShort None (costs_line_of_input before) (after_front infile before) after)))

@@ -1,7 +1,7 @@
 -- The passphrase of a run: the first line of its source.
 use Rattle.std.specs.Prelude.{◌≡◌, ◌<◌, ◌≤◌, ◌==◌, ◌||◌, ◌⊎◌, ℕ, Bool, List, [], ◌∷◌, Option, Some, option_map, length, if◌then◌else◌}
 use Rattle.host.specs.HostState.{SecretSource, HostState}
-use Rattle.host.specs.Secret.{secret_at}
+use Rattle.host.specs.Secret.{secret_bytes_in_host}
 use Rattle.scrypt_request.specs.declared.refusal.ScryptRefusal.{ScryptRefusal}
 use Rattle.scrypt_request.specs.declared.refusal.ScryptRefusal.TheVariants as refusal
 
@@ -15,8 +15,8 @@ first_line [] = []
 first_line (b ∷ bytes) = if is_line_end b then [] else b ∷ first_line bytes
 
 -- the first line of a source, if the host has it
-abbrev pub first_line_at : SecretSource → HostState → Option (List ℕ)
-first_line_at source s = option_map first_line (secret_at source s)
+abbrev pub first_line_of_source : SecretSource → HostState → Option (List ℕ)
+first_line_of_source source s = option_map first_line (secret_bytes_in_host source s)
 
 -- the source is there, and its first line, of at most 2,048 bytes, is the passphrase
 pub record HasPassphrase (line : Option (List ℕ)) (passphrase : List ℕ) : Type 0 where

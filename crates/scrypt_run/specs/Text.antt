@@ -39,8 +39,8 @@ pub record IsTooLong (limit : ℕ) (gives : List ℕ → List ℕ) (before after
 
 -- the passing of a text ended before all that is due was written: the input failed; or the output failed, and no more
 -- than `most` bytes of what was decided are missing; or the input reaches the limit
-abbrev pub EndsTextEarly : ScryptRefusal → ℕ → ℕ → (List ℕ → List ℕ) → (List ℕ → List ℕ) → HostState → HostState → Type 0
-EndsTextEarly r limit most gives decides before after =
+abbrev pub RefusesDuringText : ScryptRefusal → ℕ → ℕ → (List ℕ → List ℕ) → (List ℕ → List ℕ) → HostState → HostState → Type 0
+RefusesDuringText r limit most gives decides before after =
     ((r ≡ refusal.InputFault) × FailsReading limit gives before after)
     ⊎ ((r ≡ refusal.OutputFault) × FailsWriting limit most decides before after)
     ⊎ ((r ≡ refusal.TooLong) × IsTooLong limit gives before after)

@@ -4,8 +4,8 @@ use Rattle.host.specs.HostState.{env}
 use Rattle.scrypt_request.specs.Request.{Encryption, Task}
 
 -- with these limits and this S
-abbrev pub task_shown : ℕ → ℕ → ℕ → Task
-task_shown keep max_bytes max_ops = record {
+abbrev pub sample_task : ℕ → ℕ → ℕ → Task
+sample_task keep max_bytes max_ops = record {
   limits = record { max_bytes = max_bytes; max_ops = max_ops };
   keep = keep;
   source = env (codes "PW");
@@ -14,9 +14,9 @@ task_shown keep max_bytes max_ops = record {
 }
 
 -- a file with log2 N 4, r 1 and p 1, and this salt, if one is given
-abbrev pub encryption_shown : Option (List ℕ) → Task → Encryption
-encryption_shown salt task = record { costs = record { log_n = 4; r = 1; p = 1 }; salt = salt; task = task }
+abbrev pub sample_encryption : Option (List ℕ) → Task → Encryption
+sample_encryption salt task = record { costs = record { log_n = 4; r = 1; p = 1 }; salt = salt; task = task }
 
 -- bytes 0 to 15 of a header with log2 N 5, r 1 and p 2; its text is left out
-abbrev pub costs_shown : List ℕ
-costs_shown = replicate 7 0 ++ (5 ∷ 0 ∷ 0 ∷ 0 ∷ 1 ∷ 0 ∷ 0 ∷ 0 ∷ 2 ∷ [])
+abbrev pub sample_header_costs : List ℕ
+sample_header_costs = replicate 7 0 ++ (5 ∷ 0 ∷ 0 ∷ 0 ∷ 1 ∷ 0 ∷ 0 ∷ 0 ∷ 2 ∷ [])

@@ -1,14 +1,14 @@
 //! The first 96 bytes of a file, and the checks that need no passphrase.
 ghost use Rattle.std.specs.Prelude.{◌≡◌, ◌<◌, ◌≤◌, ◌^◌, ℕ, Some, None, take, length, option_map, IfOk, IfErr, OnOk, OnErr, IsTrue};
-ghost use Rattle.encfile.specs.Front.{format_refusal, limits_refusal};
+ghost use Rattle.encfile.specs.Front.{format_refusal, file_refusal_before_passphrase};
 ghost use Rattle.encfile.specs.Header.{IsHeaderOf, costs_of, salt_of};
-ghost use Rattle.host.specs.Faults.{AreBelow, input_failed, CountsFailure, CountsNoFailure};
+ghost use Rattle.host.specs.Faults.{AreBelow, with_input_failure_counted, CountsFailure, CountsNoFailure};
 ghost use Rattle.host.specs.HostState.{after_pull, FitsWithin};
 ghost use Rattle.scrypt_request.specs.Refusal.{CountsFault};
-ghost use Rattle.scrypt_run.specs.Inside.Steps.{HasFront, IsNotOutOfMemory, MayPrecedeWork, OpensInput, ReadsFront, RefusesFront};
+ghost use Rattle.scrypt_run.specs.Inside.Steps.{IsFrontOf, IsNotOutOfMemory, MayPrecedeWork, OpensInput, ReadsFront};
 ghost use Rattle.scrypt_run.specs.Refusal.{refusal_of};
-ghost use Rattle.scrypt_request.specs.Request.{HasAllowedLimits, allowance_of, task_seen, text_of};
-ghost use Rattle.scrypt_run.specs.Admission.{IsAdmitted};
+ghost use Rattle.scrypt_request.specs.Request.{HasAllowedLimits, allowance_of, task_view, text_of};
+ghost use Rattle.scrypt_run.specs.Admission.{AreCostsWithinLimits};
 
 use crate::admission::admit;
 use crate::refusal::header_refusal;
@@ -18,13 +18,13 @@ use romix::Sparse;
 use scrypt_request::{ScryptRefusal, Task};
 
 // Pulls 96 bytes, or all where there are fewer, and says how many.
-fn pull_front<H: Host>(host: &mut H, front: &mut [u8; 96]) -> Result<usize, HostFault>
+fn pull_first_96_bytes<H: Host>(host: &mut H, front: &mut [u8; 96]) -> Result<usize, HostFault>
     requires room { AreBelow (2 ^ 63) (H.faults host.old) }
     requires readable { IsTrue (H.grants host.old).readable }
     ensures bound { IfOk result (λ n. n ≤ 96) }
     ensures granted { IfOk result (λ n. 96 ≤ n → H.grants host.new ≡ H.grants host.old) }
     ensures counts { CountsNoFailure result (H.faults host.old) (H.faults host.new) }
-    ensures counted { CountsFailure input_failed result (H.faults host.old) (H.faults host.new) }
+    ensures counted { CountsFailure with_input_failure_counted result (H.faults host.old) (H.faults host.new) }
     ensures bytes { IsTrue H.tells →
         IfOk result (λ n. take n front.new ≡ take n (H.seen host.old).input) }
     ensures within { IsTrue H.tells → FitsWithin result (H.seen host.old).input }
@@ -53,12 +53,8 @@ fn read_front<H: Host>(host: &mut H, infile: Option<&str>) -> Result<[u8; 96], S
     requires unopened { IsTrue (H.grants host.old).input }
     ensures counts { CountsFault result (H.faults host.old) (H.faults host.new) }
     ensures granted { OpensInput result (H.grants host.old) (H.grants host.new) }
-    ensures long { IsTrue H.tells → OnOk result (HasFront (H.seen host.old).input) }
-    ensures front { IsTrue H.tells →
-        IfOk result (λ front. front ≡ take 96 (H.seen host.old).input) }
-    ensures reads { IsTrue H.tells →
-        ReadsFront result (text_of infile.entry) (H.seen host.old) (H.seen host.new) }
-    ensures refused { IsTrue H.tells → RefusesFront result (format_refusal (H.seen host.old).input)
+    ensures front { IsTrue H.tells → IfOk result (IsFrontOf (H.seen host.old).input) }
+    ensures reads { IsTrue H.tells → ReadsFront result (format_refusal (H.seen host.old).input)
         (text_of infile.entry) (H.seen host.old) (H.seen host.new) }
     ensures early { IfErr result MayPrecedeWork }
     ensures not_out_of_memory { IfErr result IsNotOutOfMemory }
@@ -67,7 +63,7 @@ fn read_front<H: Host>(host: &mut H, infile: Option<&str>) -> Result<[u8; 96], S
         return Err(ScryptRefusal::InputFault);
     };
     let mut front = [0u8; 96];
-    match pull_front(host, &mut front) {
+    match pull_first_96_bytes(host, &mut front) {
         Ok(96) => Ok(front),
         Ok(_) => Err(ScryptRefusal::NotScryptData),
         Err(HostFault) => Err(ScryptRefusal::InputFault),
@@ -89,16 +85,20 @@ fn read_header(front: &[u8; 96]) -> Result<Header, ScryptRefusal>
 }
 
 // Holds the costs of a header against the limits.
-fn test_limits(front: &[u8; 96], header: &Header, task: &Task<'_>) -> Result<Sparse, ScryptRefusal>
+fn check_costs_within_limits(
+    front: &[u8; 96],
+    header: &Header,
+    task: &Task<'_>,
+) -> Result<Sparse, ScryptRefusal>
     requires valid { format_refusal front.now ≡ None }
     requires costs { header.now.costs ≡ costs_of front.now }
-    requires allowed { HasAllowedLimits (task_seen task.now) }
-    ensures passes { OnOk result (limits_refusal front.now (allowance_of (task_seen task.now)) ≡ None) }
+    requires allowed { HasAllowedLimits (task_view task.now) }
+    ensures passes { OnOk result (file_refusal_before_passphrase front.now (allowance_of (task_view task.now)) ≡ None) }
     ensures costs { IfOk result (λ sparse. sparse.costs ≡ header.now.costs) }
     ensures keep { IfOk result (λ sparse. sparse.keep ≡ task.now.keep) }
-    ensures admitted { IfOk result (λ sparse. IsAdmitted sparse task.now.limits) }
+    ensures admitted { IfOk result (λ sparse. AreCostsWithinLimits sparse task.now.limits) }
     ensures refused { IfErr result (λ r. option_map refusal_of
-        (limits_refusal front.now (allowance_of (task_seen task.now))) ≡ Some r) }
+        (file_refusal_before_passphrase front.now (allowance_of (task_view task.now))) ≡ Some r) }
     ensures early { IfErr result MayPrecedeWork }
     ensures not_out_of_memory { IfErr result IsNotOutOfMemory }
 {
@@ -106,7 +106,7 @@ fn test_limits(front: &[u8; 96], header: &Header, task: &Task<'_>) -> Result<Spa
 }
 
 /// Opens the input, reads its first 96 bytes, and reads the header in them.
-pub(crate) fn open_front<H: Host>(
+pub(crate) fn open_input_and_read_header<H: Host>(
     host: &mut H,
     infile: Option<&str>,
 ) -> Result<([u8; 96], Header), ScryptRefusal>
@@ -114,9 +114,7 @@ pub(crate) fn open_front<H: Host>(
     requires unopened { IsTrue (H.grants host.old).input }
     ensures counts { CountsFault result (H.faults host.old) (H.faults host.new) }
     ensures granted { OpensInput result (H.grants host.old) (H.grants host.new) }
-    ensures long { IsTrue H.tells → OnOk result (HasFront (H.seen host.old).input) }
-    ensures front { IsTrue H.tells →
-        IfOk result (λ read. read.0 ≡ take 96 (H.seen host.old).input) }
+    ensures front { IsTrue H.tells → IfOk result (λ read. IsFrontOf (H.seen host.old).input read.0) }
     ensures header { IfOk result (λ read. IsHeaderOf (take 64 read.0) read.1) }
     ensures costs { IfOk result (λ read. read.1.costs ≡ costs_of read.0) }
     ensures same_costs { IsTrue H.tells →
@@ -126,9 +124,7 @@ pub(crate) fn open_front<H: Host>(
     ensures valid { IfOk result (λ read. format_refusal read.0 ≡ None) }
     ensures valid_input { IsTrue H.tells →
         OnOk result (format_refusal (H.seen host.old).input ≡ None) }
-    ensures reads { IsTrue H.tells →
-        ReadsFront result (text_of infile.entry) (H.seen host.old) (H.seen host.new) }
-    ensures refused { IsTrue H.tells → RefusesFront result (format_refusal (H.seen host.old).input)
+    ensures reads { IsTrue H.tells → ReadsFront result (format_refusal (H.seen host.old).input)
         (text_of infile.entry) (H.seen host.old) (H.seen host.new) }
     ensures early { IfErr result MayPrecedeWork }
     ensures not_out_of_memory { IfErr result IsNotOutOfMemory }
@@ -140,18 +136,16 @@ pub(crate) fn open_front<H: Host>(
 
 /// Opens the input, reads its first 96 bytes and the header in them, and holds its costs against
 /// the limits.
-pub(crate) fn open_admitted_front<H: Host>(
+pub(crate) fn open_input_and_test_limits<H: Host>(
     host: &mut H,
     task: &Task<'_>,
 ) -> Result<([u8; 96], Header, Sparse), ScryptRefusal>
     requires room { AreBelow (2 ^ 63) (H.faults host.old) }
     requires unopened { IsTrue (H.grants host.old).input }
-    requires allowed { HasAllowedLimits (task_seen task.now) }
+    requires allowed { HasAllowedLimits (task_view task.now) }
     ensures counts { CountsFault result (H.faults host.old) (H.faults host.new) }
     ensures granted { OpensInput result (H.grants host.old) (H.grants host.new) }
-    ensures long { IsTrue H.tells → OnOk result (HasFront (H.seen host.old).input) }
-    ensures front { IsTrue H.tells →
-        IfOk result (λ read. read.0 ≡ take 96 (H.seen host.old).input) }
+    ensures front { IsTrue H.tells → IfOk result (λ read. IsFrontOf (H.seen host.old).input read.0) }
     ensures header { IfOk result (λ read. IsHeaderOf (take 64 read.0) read.1) }
     ensures same_costs { IsTrue H.tells →
         IfOk result (λ read. read.1.costs ≡ costs_of (H.seen host.old).input) }
@@ -159,18 +153,16 @@ pub(crate) fn open_admitted_front<H: Host>(
         IfOk result (λ read. read.1.salt ≡ salt_of (H.seen host.old).input) }
     ensures costs { IfOk result (λ read. read.2.costs ≡ read.1.costs) }
     ensures keep { IfOk result (λ read. read.2.keep ≡ task.now.keep) }
-    ensures admitted { IfOk result (λ read. IsAdmitted read.2 task.now.limits) }
+    ensures admitted { IfOk result (λ read. AreCostsWithinLimits read.2 task.now.limits) }
     ensures checked { IsTrue H.tells → OnOk result
-        (limits_refusal (H.seen host.old).input (allowance_of (task_seen task.now)) ≡ None) }
-    ensures reads { IsTrue H.tells →
-        ReadsFront result (text_of task.now.infile) (H.seen host.old) (H.seen host.new) }
-    ensures refused { IsTrue H.tells → RefusesFront result
-        (limits_refusal (H.seen host.old).input (allowance_of (task_seen task.now)))
+        (file_refusal_before_passphrase (H.seen host.old).input (allowance_of (task_view task.now)) ≡ None) }
+    ensures reads { IsTrue H.tells → ReadsFront result
+        (file_refusal_before_passphrase (H.seen host.old).input (allowance_of (task_view task.now)))
         (text_of task.now.infile) (H.seen host.old) (H.seen host.new) }
     ensures early { IfErr result MayPrecedeWork }
     ensures not_out_of_memory { IfErr result IsNotOutOfMemory }
 {
-    let (front, header) = open_front(host, task.infile)?;
-    let sparse = test_limits(&front, &header, task)?;
+    let (front, header) = open_input_and_read_header(host, task.infile)?;
+    let sparse = check_costs_within_limits(&front, &header, task)?;
     Ok((front, header, sparse))
 }

@@ -3,8 +3,8 @@
 //! | file | what |
 //! |---|---|
 //! | `admission` | the costs held against S and the limits |
-//! | `encrypt` | `enc`, in the order of its refusals |
-//! | `decrypt` | `dec`, likewise, from the first 96 bytes on |
+//! | `encrypt` | the steps of `enc`, in the order of its refusals |
+//! | `decrypt` | those of `dec` after the first 96 bytes, likewise |
 //! | `front` | the first 96 bytes of a file, for `dec` and `info` |
 //! | `inspect` | `info` |
 //! | `run_memory` | the requests for memory of a run |

@@ -1,11 +1,11 @@
 //! The passphrase of a run: the first line of its source.
 ghost use Rattle.std.specs.Prelude.{◌≡◌, ◌<◌, ◌≤◌, ◌^◌, ℕ, List, take, length, IfOk, IfErr, IsTrue};
 ghost use Rattle.host.specs.Faults.{AreBelow};
-ghost use Rattle.host.specs.GrantedCalls.{with_secret_asked};
+ghost use Rattle.host.specs.CallsGrantedByHost.{with_secret_asked};
 ghost use Rattle.host.specs.Secret.{source_of};
-ghost use Rattle.host.specs.HostState.{after_ask};
+ghost use Rattle.host.specs.HostState.{after_ask_secret};
 ghost use Rattle.scrypt_run.specs.Inside.Steps.{IsNotOutOfMemory, MayPrecedeWork};
-ghost use Rattle.scrypt_run.specs.Passphrase.{HasPassphrase, PassphraseRefused, first_line, first_line_at, is_line_end};
+ghost use Rattle.scrypt_run.specs.Passphrase.{HasPassphrase, PassphraseRefused, first_line, first_line_of_source, is_line_end};
 ghost use Rattle.scrypt_request.specs.Refusal.{CountsFault};
 
 use host::{Host, Source};
@@ -65,11 +65,11 @@ pub(crate) fn read_passphrase<H: Host>(
     ensures counts { CountsFault result (H.faults host.old) (H.faults host.new) }
     ensures granted { H.grants host.new ≡ with_secret_asked (H.grants host.old) }
     ensures asks { IsTrue H.tells →
-        H.seen host.new ≡ after_ask (source_of source.entry) (H.seen host.old) }
+        H.seen host.new ≡ after_ask_secret (source_of source.entry) (H.seen host.old) }
     ensures read { IsTrue H.tells → IfOk result
-        (HasPassphrase (first_line_at (source_of source.entry) (H.seen host.old))) }
+        (HasPassphrase (first_line_of_source (source_of source.entry) (H.seen host.old))) }
     ensures refused { IsTrue H.tells → IfErr result (λ r.
-        PassphraseRefused r (first_line_at (source_of source.entry) (H.seen host.old))) }
+        PassphraseRefused r (first_line_of_source (source_of source.entry) (H.seen host.old))) }
     ensures early { IfErr result MayPrecedeWork }
     ensures not_out_of_memory { IfErr result IsNotOutOfMemory }
 {

@@ -1,8 +1,8 @@
 //! Where the memory of a run comes from: the heap, or what a test puts in its place to refuse it.
 ghost use Rattle.std.specs.Prelude.{◌≡◌, ◌≤◌, ◌^◌, Bool, IfOk, is_ok};
 ghost use Rattle.romix.specs.Costs.{Parameters};
-ghost use Rattle.romix.specs.SparseCosts.{SparseParameters, cores_bound};
-ghost use Rattle.scrypt_run.specs.Admission.{IsAdmitted};
+ghost use Rattle.romix.specs.SparseCosts.{CostsAndKeep, cores_bound};
+ghost use Rattle.scrypt_run.specs.Admission.{AreCostsWithinLimits};
 ghost use Rattle.scrypt_run.specs.Inspecting.{costs_line};
 
 use crate::line::Line;
@@ -13,7 +13,7 @@ use std::alloc::{AllocError, Global};
 /// what, and which of them are granted. What is given cannot grow, and hands on no heap.
 pub trait RunMemory {
     // What a request for the memory of a derivation leaves of the source, granted or refused.
-    ghost after_workspace: { Self → SparseParameters → Bool → Self };
+    ghost after_workspace: { Self → CostsAndKeep → Bool → Self };
 
     // The same of a line of costs.
     ghost after_line: { Self → Parameters → Bool → Self };
@@ -22,7 +22,7 @@ pub trait RunMemory {
     /// the limits were tested.
     fn workspace(&mut self, sparse: &Sparse, limits: &Limits) -> Result<Workspace, AllocError>
         requires allowed { limits.now.max_bytes ≤ 2 ^ 40 }
-        requires admitted { IsAdmitted sparse.now limits.now }
+        requires admitted { AreCostsWithinLimits sparse.now limits.now }
         ensures same { IfOk result (λ w. w.sparse ≡ sparse.now) }
         ensures work { IfOk result (λ w. cores_bound w.sparse ≤ limits.now.max_ops) }
         ensures asked { self.new ≡ after_workspace self.old sparse.now (is_ok result) };

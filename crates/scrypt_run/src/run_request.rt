@@ -1,18 +1,18 @@
 //! A run for a request.
 ghost use Rattle.std.specs.Prelude.{◌≡◌, ◌+◌, ◌^◌, IfErr, OnOk, IsTrue};
 ghost use Rattle.host.specs.Faults.{AreBelow};
-ghost use Rattle.host.specs.GrantedCalls.{GrantsAll};
+ghost use Rattle.host.specs.CallsGrantedByHost.{GrantsAllHostCalls};
 ghost use Rattle.host.specs.HostState.{IsUnasked};
-ghost use Rattle.scrypt_run.specs.Asking.{RequestAsked, RequestGranted};
+ghost use Rattle.scrypt_run.specs.Asking.{RequestsRunMemoryBeforeRefusal, RequestGranted};
 ghost use Rattle.scrypt_request.specs.Refusal.{CountsFault, CountsNoEarlyWork};
-ghost use Rattle.scrypt_request.specs.Request.{IsAllowed, request_seen};
-ghost use Rattle.scrypt_run.specs.Run.{KeepsAll, RequestRefused, RequestSucceeds, cores_asked, most_cores};
-ghost use Rattle.scrypt_run.specs.Work.{EndsAfterWork, RequestWorks, CountsNoOtherWork, WorksWithin};
+ghost use Rattle.scrypt_request.specs.Request.{IsAllowed, scrypt_request_view};
+ghost use Rattle.scrypt_run.specs.Run.{StoresWholeTable, ScryptRequestRefused, ScryptRequestSucceeds, salsa20_cores_of_request, most_salsa20_cores};
+ghost use Rattle.scrypt_run.specs.Work.{EndsAfterWork, CountsRequestWork, CountsNoWorkIfRefusedEarly, CountsWorkWithin};
 
-use crate::decrypt::decrypt;
-use crate::encrypt::encrypt;
+use crate::front::open_input_and_test_limits;
 use crate::inspect::inspect;
 use crate::run_memory::RunMemory;
+use crate::{decrypt, encrypt};
 use host::Host;
 use romix::Ticks;
 use scrypt_request::{Request, ScryptRefusal};
@@ -23,6 +23,11 @@ use scrypt_request::{Request, ScryptRefusal};
 /// The faults are S4a, S4b, S5b, S6 to S15 and S16b, in the order of the subcommand. Whatever was written
 /// before a fault stays written, and no output is asked for before every check up to the header's
 /// code has passed; `OutOfMemory` is never told after an output was asked for.
+///
+/// `enc` tells the first that holds, in this order: `KeepAboveN`, `MemoryLimit`, `WorkLimit`, `InputFault` where the
+/// input can't be opened, `PassphraseFault`, `LongPassphrase`, `SaltFault`, `OutOfMemory`, and `OutputFault` where the
+/// output can't be opened; then, as the file is written, `InputFault`, `OutputFault` and `TooLong` (2^60 bytes). What
+/// `dec` writes can be trusted only after `Ok`, since the final code is tested when all of it is written.
 ///
 /// All memory comes from `memory`, which is asked once, or not at all where a refusal comes before: by
 /// `enc` and `dec` for that of one derivation with the request's S, once the limits admit it, and by
@@ -40,30 +45,38 @@ pub fn run<R: RunMemory, H: Host>(
 ) -> Result<(), ScryptRefusal>
     requires room { AreBelow (2 ^ 63) (H.faults host.old) }
     requires fresh { IsTrue H.tells → IsUnasked (H.seen host.old) }
-    requires granted { GrantsAll (H.grants host.old) }
-    requires allowed { IsAllowed (request_seen request.now) }
+    requires granted { GrantsAllHostCalls (H.grants host.old) }
+    requires allowed { IsAllowed (scrypt_request_view request.now) }
     ensures counts { CountsFault result (H.faults host.old) (H.faults host.new) }
-    ensures succeeds { IsTrue H.tells → OnOk result (RequestSucceeds (request_seen request.now)
+    ensures succeeds { IsTrue H.tells → OnOk result (ScryptRequestSucceeds (scrypt_request_view request.now)
         (H.seen host.old) (H.seen host.new)) }
-    ensures refused { IsTrue H.tells → IfErr result (λ r. RequestRefused r
-        (request_seen request.now) (H.seen host.old) (H.seen host.new)) }
-    ensures count { IsTrue H.tells → OnOk result (RequestWorks (request_seen request.now)
+    ensures refused { IsTrue H.tells → IfErr result (λ r. ScryptRequestRefused r
+        (scrypt_request_view request.now) (H.seen host.old) (H.seen host.new)) }
+    ensures count { IsTrue H.tells → OnOk result (CountsRequestWork (scrypt_request_view request.now)
         (H.seen host.old) ticks.old ticks.new) }
     ensures worked { IsTrue H.tells → IfErr result (λ r. EndsAfterWork r (H.seen host.new)
-        → RequestWorks (request_seen request.now) (H.seen host.old) ticks.old ticks.new) }
-    ensures unworked { IsTrue H.tells → CountsNoOtherWork result (H.seen host.new) ticks.old ticks.new }
-    ensures work { IsTrue H.tells → KeepsAll (request_seen request.now) → OnOk result (ticks.new
-        ≡ ticks.old + cores_asked (request_seen request.now) (H.seen host.old)) }
-    ensures work_bound { WorksWithin (most_cores (request_seen request.now)) ticks.old ticks.new }
+        → CountsRequestWork (scrypt_request_view request.now) (H.seen host.old) ticks.old ticks.new) }
+    ensures unworked { IsTrue H.tells → CountsNoWorkIfRefusedEarly result (H.seen host.new) ticks.old ticks.new }
+    ensures work { IsTrue H.tells → StoresWholeTable (scrypt_request_view request.now) → OnOk result (ticks.new
+        ≡ ticks.old + salsa20_cores_of_request (scrypt_request_view request.now) (H.seen host.old)) }
+    ensures work_bound { CountsWorkWithin (most_salsa20_cores (scrypt_request_view request.now)) ticks.old ticks.new }
     ensures no_work { CountsNoEarlyWork result ticks.old ticks.new }
     ensures memory_granted { OnOk result (RequestGranted R.after_workspace R.after_line H.tells
-        (H.seen host.old).input (request_seen request.now) memory.old memory.new) }
-    ensures memory_asked { IfErr result (λ r. RequestAsked R.after_workspace R.after_line H.tells
-        (H.seen host.old).input (request_seen request.now) r memory.old memory.new) }
+        (H.seen host.old).input (scrypt_request_view request.now) memory.old memory.new) }
+    ensures memory_asked { IfErr result (λ r. RequestsRunMemoryBeforeRefusal R.after_workspace R.after_line H.tells
+        (H.seen host.old).input (scrypt_request_view request.now) r memory.old memory.new) }
 {
     match request {
-        Request::Encrypt(asked) => encrypt(memory, host, asked, ticks),
-        Request::Decrypt(task) => decrypt(memory, host, task, ticks),
+        Request::Encrypt(asked) => {
+            let sparse = encrypt::check_costs_and_open_input(host, asked)?;
+            let enc = encrypt::start(memory, host, asked, &sparse, ticks)?;
+            encrypt::write_encrypted_file(host, asked, enc)
+        }
+        Request::Decrypt(task) => {
+            let (front, header, sparse) = open_input_and_test_limits(host, task)?;
+            let dec = decrypt::open(memory, host, task, &front, header, &sparse, ticks)?;
+            decrypt::finish(host, task.outfile, dec)
+        }
         Request::Inspect(infile) => inspect(memory, host, *infile),
     }
 }

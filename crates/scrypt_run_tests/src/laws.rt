@@ -4,9 +4,9 @@ ghost use Rattle.romix.specs.Costs.{Parameters};
 ghost use Rattle.host.specs.HostState.{HostState};
 ghost use Rattle.scrypt_run.specs.Decrypting.{DecryptRefused, DecryptSucceeds};
 ghost use Rattle.scrypt_run.specs.Encrypting.{EncryptSucceeds};
-ghost use Rattle.scrypt_run.specs.Laws.{AdmitsCosts, AreOneEnd, AsksNoOther, CanBeOpened, IsFromOutside, IsRefusedFromOutside, WroteAnEncryption, WroteWhatWasEncrypted, with_keep};
+ghost use Rattle.scrypt_run.specs.Laws.{AdmitsCosts, AreOneEnd, AsksNoOtherSecretSource, CanBeOpened, IsFromOutside, IsRefusedFromOutside, WroteAnEncryption, WroteWhatWasEncrypted, request_with_keep};
 ghost use Rattle.scrypt_request.specs.Request.{Encryption, Request, Task};
-ghost use Rattle.scrypt_run.specs.Run.{RequestRefused, RequestSucceeds};
+ghost use Rattle.scrypt_run.specs.Run.{ScryptRequestRefused, ScryptRequestSucceeds};
 ghost use Rattle.scrypt_request.specs.declared.refusal.ScryptRefusal.{ScryptRefusal};
 
 // An encrypted file is opened under its passphrase, unless the host fails or memory is refused; and
@@ -35,14 +35,14 @@ fn what_enc_wrote_is_an_encryption()
 
 // A request comes to one success: the same names are opened, and the same is read and written.
 fn one_success()
-    ensures same { (request : Request) (before a b : HostState) → RequestSucceeds request before a
-        → RequestSucceeds request before b → a ≡ b }
+    ensures same { (request : Request) (before a b : HostState) → ScryptRequestSucceeds request before a
+        → ScryptRequestSucceeds request before b → a ≡ b }
 {}
 
 // What can succeed is refused from outside alone.
 fn success_is_refused_from_outside_alone()
     ensures outside { (request : Request) (before after ended : HostState) (refusal : ScryptRefusal)
-        → RequestSucceeds request before after → RequestRefused refusal request before ended
+        → ScryptRequestSucceeds request before after → ScryptRequestRefused refusal request before ended
         → IsRefusedFromOutside request refusal }
 {}
 
@@ -50,7 +50,7 @@ fn success_is_refused_from_outside_alone()
 // what it leaves, is decided by the request and the host.
 fn one_refusal_from_inside()
     ensures same { (request : Request) (before after ended : HostState) (one other : ScryptRefusal)
-        → RequestRefused one request before after → RequestRefused other request before ended
+        → ScryptRequestRefused one request before after → ScryptRequestRefused other request before ended
         → AreOneEnd one other after ended
         ⊎ IsRefusedFromOutside request one ⊎ IsRefusedFromOutside request other }
 {}
@@ -58,31 +58,31 @@ fn one_refusal_from_inside()
 // A run asks no secret source but the request's.
 fn no_other_source_is_asked()
     ensures succeeds { (request : Request) (before after : HostState)
-        → RequestSucceeds request before after → AsksNoOther request before after }
+        → ScryptRequestSucceeds request before after → AsksNoOtherSecretSource request before after }
     ensures refused { (request : Request) (before after : HostState) (refusal : ScryptRefusal)
-        → RequestRefused refusal request before after → AsksNoOther request before after }
+        → ScryptRequestRefused refusal request before after → AsksNoOtherSecretSource request before after }
 {}
 
 // Where the costs are admitted with one S and with another, or a file's header is refused, the runs
 // with the one and the other come to the same ends: the same file, text, bytes and refusals.
 fn ends_do_not_depend_on_keep()
     ensures succeeds { (request : Request) (keep : ℕ) (before after : HostState)
-        → AdmitsCosts request before → AdmitsCosts (with_keep keep request) before
-        → RequestSucceeds request before after
-        → RequestSucceeds (with_keep keep request) before after }
+        → AdmitsCosts request before → AdmitsCosts (request_with_keep keep request) before
+        → ScryptRequestSucceeds request before after
+        → ScryptRequestSucceeds (request_with_keep keep request) before after }
     ensures refused { (request : Request) (keep : ℕ) (before after : HostState)
         (refusal : ScryptRefusal)
-        → AdmitsCosts request before → AdmitsCosts (with_keep keep request) before
-        → RequestRefused refusal request before after
-        → RequestRefused refusal (with_keep keep request) before after }
+        → AdmitsCosts request before → AdmitsCosts (request_with_keep keep request) before
+        → ScryptRequestRefused refusal request before after
+        → ScryptRequestRefused refusal (request_with_keep keep request) before after }
 {}
 
 // A run whose refusal is that of memory asked for no output.
 fn want_of_memory_opens_no_output()
     ensures unopened { (request : Request) (before after : HostState)
-        → RequestRefused ScryptRefusal.OutOfMemory request before after
+        → ScryptRequestRefused ScryptRefusal.OutOfMemory request before after
         → after.output_opened ≡ before.output_opened }
     ensures unasked { (request : Request) (before after : HostState)
-        → RequestRefused ScryptRefusal.OutOfMemory request before after
+        → ScryptRequestRefused ScryptRefusal.OutOfMemory request before after
         → after.output_asked ≡ before.output_asked }
 {}

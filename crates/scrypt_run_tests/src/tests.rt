@@ -1,9 +1,9 @@
 //! The example at the head of `scrypt_run`.
 ghost use Rattle.std.specs.Prelude.{◌^◌};
 ghost use Rattle.host.specs.Faults.{AreBelow};
-ghost use Rattle.memory_host.specs.Memory.{memory_faults, memory_seen};
+ghost use Rattle.memory_host.specs.Memory.{memory_host_failure_counts, memory_host_state};
 ghost use Rattle.host.specs.HostState.{IsUnasked};
-ghost use Rattle.scrypt_request.specs.Request.{IsAllowed, request_seen};
+ghost use Rattle.scrypt_request.specs.Request.{IsAllowed, scrypt_request_view};
 
 mod hello;
 
@@ -34,17 +34,17 @@ fn list(alloc: Global, bytes: &[u8]) -> Vec<u8> {
 // A new host with this input, this standard input and this salt. Who makes one lets it go by
 // `drop`: the end of a scope would let go of its parts one by one, in each proof anew.
 fn new_host(alloc: Global, input: &[u8], stdin: &[u8], salt: [u8; 32]) -> MemoryHost
-    ensures room { AreBelow (2 ^ 63) (memory_faults result) }
-    ensures fresh { IsUnasked (memory_seen result) }
+    ensures room { AreBelow (2 ^ 63) (memory_host_failure_counts result) }
+    ensures fresh { IsUnasked (memory_host_state result) }
 {
     MemoryHost::new(alloc, list(alloc, input), list(alloc, stdin), salt)
 }
 
 // Whether a run with memory from the heap ends well.
 fn is_run(alloc: Global, host: &mut MemoryHost, request: &Request<'_>) -> bool
-    requires room { AreBelow (2 ^ 63) (memory_faults host.old) }
-    requires fresh { IsUnasked (memory_seen host.old) }
-    requires allowed { IsAllowed (request_seen request.now) }
+    requires room { AreBelow (2 ^ 63) (memory_host_failure_counts host.old) }
+    requires fresh { IsUnasked (memory_host_state host.old) }
+    requires allowed { IsAllowed (scrypt_request_view request.now) }
 {
     let (mut memory, mut ticks) = (alloc, Ticks::new(alloc));
     run(&mut memory, host, request, &mut ticks).is_ok()
@@ -52,7 +52,7 @@ fn is_run(alloc: Global, host: &mut MemoryHost, request: &Request<'_>) -> bool
 
 // What a run over a host with this input writes; nothing where it is refused.
 fn written(alloc: Global, input: &[u8], request: &Request<'_>) -> Vec<u8>
-    requires allowed { IsAllowed (request_seen request.now) }
+    requires allowed { IsAllowed (scrypt_request_view request.now) }
 {
     let mut host = new_host(alloc, input, b"pw", [7; 32]);
     let is_run = is_run(alloc, &mut host, request);

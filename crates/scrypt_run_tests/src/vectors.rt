@@ -2,18 +2,18 @@
 ghost use Rattle.std.specs.Prelude.{◌≡◌, ◌++◌, [], ◌∷◌, Some, None, codes, false, replicate, true};
 ghost use Rattle.encfile.specs.Front.FrontRefusal.{KeepAboveN, NotScryptData, TooMuchMemory, TooMuchWork, UnsupportedVersion, WrongPassphrase};
 ghost use Rattle.host.specs.HostState.{env, file, stdin_once};
-ghost use Rattle.host.specs.Vectors.{host_shown};
-ghost use Rattle.scrypt_run.specs.Asking.{asks_workspace};
-ghost use Rattle.scrypt_run.specs.Decrypting.{limits_refusal_of};
-ghost use Rattle.scrypt_run.specs.Encrypting.{after_salting, costs_refusal_of, salt_asked, salt_used};
+ghost use Rattle.host.specs.Vectors.{sample_host};
+ghost use Rattle.scrypt_run.specs.Asking.{source_after_workspace_request};
+ghost use Rattle.scrypt_run.specs.Decrypting.{input_refusal_before_passphrase};
+ghost use Rattle.scrypt_run.specs.Encrypting.{after_salting, costs_refusal_of, after_salt_asked, salt_used};
 ghost use Rattle.scrypt_run.specs.Front.{after_front};
-ghost use Rattle.scrypt_run.specs.Inspecting.{costs_line, line_due};
-ghost use Rattle.scrypt_run.specs.Passphrase.{first_line, first_line_at};
+ghost use Rattle.scrypt_run.specs.Inspecting.{costs_line, costs_line_of_input};
+ghost use Rattle.scrypt_run.specs.Passphrase.{first_line, first_line_of_source};
 ghost use Rattle.scrypt_run.specs.Refusal.{refusal_of};
 ghost use Rattle.scrypt_request.specs.Request.{allowance_of, decrypt, encrypt, inspect};
-ghost use Rattle.scrypt_run.specs.Run.{cores_asked, most_cores};
-ghost use Rattle.scrypt_run.specs.Steps.{after_pull_and_push, after_reading, passphrase_asked};
-ghost use Rattle.scrypt_run.specs.Vectors.{costs_shown, encryption_shown, task_shown};
+ghost use Rattle.scrypt_run.specs.Run.{salsa20_cores_of_request, most_salsa20_cores};
+ghost use Rattle.scrypt_run.specs.Steps.{after_pull_and_push, after_reading_first_bytes, after_passphrase_asked};
+ghost use Rattle.scrypt_run.specs.Vectors.{sample_header_costs, sample_encryption, sample_task};
 ghost use Rattle.scrypt_request.specs.declared.refusal.ScryptRefusal.{ScryptRefusal};
 
 // 128 * N * r bytes and 4 * N * r * p cores, also where the costs are those of a header.
@@ -22,7 +22,7 @@ fn costs_lines()
         ≡ codes "N = 16; r = 1; p = 1; memory = 2048; cores = 64\n" }
     ensures of_large_costs { costs_line (record { log_n = 14; r = 8; p = 2 })
         ≡ codes "N = 16384; r = 8; p = 2; memory = 16777216; cores = 1048576\n" }
-    ensures of_an_input { line_due (record host_shown { input = costs_shown }) ≡ codes "N = 32; r = 1; p = 2; memory = 4096; cores = 256\n" }
+    ensures of_an_input { costs_line_of_input (record sample_host { input = sample_header_costs }) ≡ codes "N = 32; r = 1; p = 2; memory = 4096; cores = 256\n" }
 {}
 
 // The passphrase ends before the first LF or CR; a file may have neither, or nothing before it.
@@ -36,8 +36,8 @@ fn first_lines()
 
 // The memory of a derivation is that of the costs, with the S of the task.
 fn memory_of_a_derivation()
-    ensures keep { asks_workspace (λ before sparse granted. sparse.keep) 0 (task_shown 4 3 2) (record { log_n = 5; r = 6; p = 7 }) true ≡ 4 }
-    ensures costs { asks_workspace (λ before sparse granted. sparse.costs.r) 0 (task_shown 4 3 2) (record { log_n = 5; r = 6; p = 7 }) true ≡ 6 }
+    ensures keep { source_after_workspace_request (λ before sparse granted. sparse.keep) 0 (sample_task 4 3 2) (record { log_n = 5; r = 6; p = 7 }) true ≡ 4 }
+    ensures costs { source_after_workspace_request (λ before sparse granted. sparse.costs.r) 0 (sample_task 4 3 2) (record { log_n = 5; r = 6; p = 7 }) true ≡ 6 }
 {}
 
 // S6 to S10 and S16b are told of a file.
@@ -52,57 +52,57 @@ fn refusals_of_files()
 
 // Of a new file S16b, S8 and S9 are tested by its costs: 2,048 bytes and 64 cores.
 fn refusals_before_the_input()
-    ensures keep { costs_refusal_of (encryption_shown None (task_shown 32 1 1)) ≡ Some KeepAboveN }
-    ensures memory { costs_refusal_of (encryption_shown None (task_shown 1 2047 63)) ≡ Some TooMuchMemory }
-    ensures work { costs_refusal_of (encryption_shown None (task_shown 1 2048 63)) ≡ Some TooMuchWork }
-    ensures none { costs_refusal_of (encryption_shown None (task_shown 1 2048 64)) ≡ None }
-    ensures allowed_keep { (allowance_of (task_shown 4 3 2)).keep ≡ 4 }
-    ensures allowed_bytes { (allowance_of (task_shown 4 3 2)).limits.max_bytes ≡ 3 }
-    ensures allowed_cores { (allowance_of (task_shown 4 3 2)).limits.max_ops ≡ 2 }
+    ensures keep { costs_refusal_of (sample_encryption None (sample_task 32 1 1)) ≡ Some KeepAboveN }
+    ensures memory { costs_refusal_of (sample_encryption None (sample_task 1 2047 63)) ≡ Some TooMuchMemory }
+    ensures work { costs_refusal_of (sample_encryption None (sample_task 1 2048 63)) ≡ Some TooMuchWork }
+    ensures none { costs_refusal_of (sample_encryption None (sample_task 1 2048 64)) ≡ None }
+    ensures allowed_keep { (allowance_of (sample_task 4 3 2)).keep ≡ 4 }
+    ensures allowed_bytes { (allowance_of (sample_task 4 3 2)).limits.max_bytes ≡ 3 }
+    ensures allowed_cores { (allowance_of (sample_task 4 3 2)).limits.max_ops ≡ 2 }
 {}
 
 // A salt that is given is used, and the host is asked for one where none is.
 fn salts_of_files()
-    ensures given { salt_used (Some (codes "given")) host_shown ≡ codes "given" }
-    ensures not_given { salt_used None host_shown ≡ codes "salt" }
-    ensures not_asked { (after_salting (Some (codes "given")) host_shown).salted ≡ false }
-    ensures asked { (after_salting None host_shown).salted ≡ true }
-    ensures asked_last { (salt_asked (encryption_shown None (task_shown 1 1 1)) host_shown).salted ≡ true }
-    ensures passphrase_asked_first { (salt_asked (encryption_shown None (task_shown 1 1 1)) host_shown).asked ≡ Some (env (codes "PW")) }
-    ensures nothing_pulled { (salt_asked (encryption_shown None (task_shown 1 1 1)) host_shown).input ≡ codes "abcd" }
+    ensures given { salt_used (Some (codes "given")) sample_host ≡ codes "given" }
+    ensures not_given { salt_used None sample_host ≡ codes "salt" }
+    ensures not_asked { (after_salting (Some (codes "given")) sample_host).salted ≡ false }
+    ensures asked { (after_salting None sample_host).salted ≡ true }
+    ensures asked_last { (after_salt_asked (sample_encryption None (sample_task 1 1 1)) sample_host).salted ≡ true }
+    ensures passphrase_asked_first { (after_salt_asked (sample_encryption None (sample_task 1 1 1)) sample_host).asked ≡ Some (env (codes "PW")) }
+    ensures nothing_pulled { (after_salt_asked (sample_encryption None (sample_task 1 1 1)) sample_host).input ≡ codes "abcd" }
 {}
 
 // The input is opened under its name; so many bytes of it are pulled; the passphrase's source is asked; what the bytes give is
 // written.
 fn steps_of_a_run()
-    ensures opened { (after_reading (Some (codes "in")) 1 host_shown).input_opened ≡ Some (Some (codes "in")) }
-    ensures pulled { (after_reading (Some (codes "in")) 1 host_shown).input ≡ codes "bcd" }
-    ensures asked { (passphrase_asked (task_shown 1 1 1) 3 host_shown).asked ≡ Some (env (codes "PW")) }
-    ensures input_before { (passphrase_asked (task_shown 1 1 1) 3 host_shown).input ≡ codes "d" }
-    ensures front { (after_front None (record host_shown { input = replicate 97 7 })).input ≡ 7 ∷ [] }
-    ensures front_opened { (after_front None host_shown).input_opened ≡ Some None }
-    ensures passed { (after_pull_and_push (λ bytes. bytes ++ codes "!") 3 host_shown).output ≡ codes "oabc!" }
-    ensures rest { (after_pull_and_push (λ bytes. bytes ++ codes "!") 3 host_shown).input ≡ codes "d" }
+    ensures opened { (after_reading_first_bytes (Some (codes "in")) 1 sample_host).input_opened ≡ Some (Some (codes "in")) }
+    ensures pulled { (after_reading_first_bytes (Some (codes "in")) 1 sample_host).input ≡ codes "bcd" }
+    ensures asked { (after_passphrase_asked (sample_task 1 1 1) 3 sample_host).asked ≡ Some (env (codes "PW")) }
+    ensures input_before { (after_passphrase_asked (sample_task 1 1 1) 3 sample_host).input ≡ codes "d" }
+    ensures front { (after_front None (record sample_host { input = replicate 97 7 })).input ≡ 7 ∷ [] }
+    ensures front_opened { (after_front None sample_host).input_opened ≡ Some None }
+    ensures passed { (after_pull_and_push (λ bytes. bytes ++ codes "!") 3 sample_host).output ≡ codes "oabc!" }
+    ensures rest { (after_pull_and_push (λ bytes. bytes ++ codes "!") 3 sample_host).input ≡ codes "d" }
 {}
 
 // The first line of what the source gives, if it gives anything.
 fn first_lines_of_sources()
-    ensures stdin { first_line_at stdin_once host_shown ≡ Some (codes "typed") }
-    ensures variable { first_line_at (env (codes "PW")) host_shown ≡ Some (codes "set") }
-    ensures no_file { first_line_at (file (codes "PW")) host_shown ≡ None }
+    ensures stdin { first_line_of_source stdin_once sample_host ≡ Some (codes "typed") }
+    ensures variable { first_line_of_source (env (codes "PW")) sample_host ≡ Some (codes "set") }
+    ensures no_file { first_line_of_source (file (codes "PW")) sample_host ≡ None }
 {}
 
 // A file that is read is tested by its own bytes.
 fn refusal_of_a_short_input()
-    ensures short { limits_refusal_of (task_shown 1 2048 64) host_shown ≡ Some NotScryptData }
+    ensures short { input_refusal_before_passphrase (sample_task 1 2048 64) sample_host ≡ Some NotScryptData }
 {}
 
 // The cores of a file are those of its header, a new file's those that are asked for, and `info` has none.
 fn costs_of_runs()
-    ensures of_file { cores_asked (decrypt (task_shown 1 3 2)) (record host_shown { input = costs_shown }) ≡ 256 }
-    ensures of_new_file { cores_asked (encrypt (encryption_shown None (task_shown 1 3 2))) host_shown ≡ 64 }
-    ensures of_info { cores_asked (inspect None) host_shown ≡ 0 }
-    ensures most_of_file { most_cores (decrypt (task_shown 1 3 2)) ≡ 2 }
-    ensures most_of_new_file { most_cores (encrypt (encryption_shown None (task_shown 1 3 2))) ≡ 2 }
-    ensures most_of_info { most_cores (inspect None) ≡ 0 }
+    ensures of_file { salsa20_cores_of_request (decrypt (sample_task 1 3 2)) (record sample_host { input = sample_header_costs }) ≡ 256 }
+    ensures of_new_file { salsa20_cores_of_request (encrypt (sample_encryption None (sample_task 1 3 2))) sample_host ≡ 64 }
+    ensures of_info { salsa20_cores_of_request (inspect None) sample_host ≡ 0 }
+    ensures most_of_file { most_salsa20_cores (decrypt (sample_task 1 3 2)) ≡ 2 }
+    ensures most_of_new_file { most_salsa20_cores (encrypt (sample_encryption None (sample_task 1 3 2))) ≡ 2 }
+    ensures most_of_info { most_salsa20_cores (inspect None) ≡ 0 }
 {}

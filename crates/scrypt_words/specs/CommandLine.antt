@@ -19,34 +19,34 @@ abbrev pub stdin_flag : Rule
 stdin_flag = record (new_rule (codes "P")) { short = Some 80; action = Some SetTrue }
 
 -- the arguments that enc and dec both take; the last two are files
-abbrev pub common_rules : List Rule
-common_rules =
+abbrev pub enc_and_dec_arguments : List Rule
+enc_and_dec_arguments =
     short_option (codes "M") 77 ∷ long_option (codes "maxops") ∷ long_option (codes "keep") ∷ stdin_flag
     ∷ long_option (codes "passphrase") ∷ new_rule (codes "infile") ∷ new_rule (codes "outfile") ∷ []
 
 -- the subcommand enc, which takes costs and a salt besides what dec takes
-abbrev pub enc_app : App
-enc_app = fold with_rule (new_app (codes "enc")) (
+abbrev pub app_of_enc_subcommand : App
+app_of_enc_subcommand = fold with_rule (new_app (codes "enc")) (
     long_option (codes "logN") ∷ short_option (codes "r") 114 ∷ short_option (codes "p") 112 ∷ long_option (codes "salt")
-    ∷ common_rules)
+    ∷ enc_and_dec_arguments)
 
 -- the subcommand dec
-abbrev pub dec_app : App
-dec_app = fold with_rule (new_app (codes "dec")) common_rules
+abbrev pub app_of_dec_subcommand : App
+app_of_dec_subcommand = fold with_rule (new_app (codes "dec")) enc_and_dec_arguments
 
 -- the subcommand info, which takes a file alone
-abbrev pub info_app : App
-info_app = with_rule (new_app (codes "info")) (new_rule (codes "infile"))
+abbrev pub app_of_info_subcommand : App
+app_of_info_subcommand = with_rule (new_app (codes "info")) (new_rule (codes "infile"))
 
 -- the command scrypt with its three subcommands
-abbrev pub named_app : App
-named_app = with_subcommand (with_subcommand (with_subcommand (new_app (codes "scrypt")) enc_app.top) dec_app.top) info_app.top
+abbrev pub app_with_subcommands : App
+app_with_subcommands = with_subcommand (with_subcommand (with_subcommand (new_app (codes "scrypt")) app_of_enc_subcommand.top) app_of_dec_subcommand.top) app_of_info_subcommand.top
 
 -- the command scrypt, whose words come without the program's name
 abbrev pub scrypt_app : App
-scrypt_app = record named_app { top = record (named_app.top) { no_binary_name = true } }
+scrypt_app = record app_with_subcommands { top = record (app_with_subcommands.top) { no_binary_name = true } }
 
 -- clap reads the command as `app`, and no argument of it is global
-pub record IsCommand (app : App) (c : Command) : Type 0 where
+pub record IsCommandForApp (app : App) (c : Command) : Type 0 where
   pub shape : app_of c ≡ app
   pub local : (fields_of c).has_globals ≡ false

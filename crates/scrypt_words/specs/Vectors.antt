@@ -15,8 +15,8 @@ typed [] = [] ∷ []
 typed (byte ∷ bytes) = if byte == 32 then [] ∷ typed bytes else with_byte byte (typed bytes)
 
 -- the limits and S where no word gives them
-abbrev pub plain_task : SecretSource → Option Text → Option Text → Task
-plain_task source infile outfile = record {
+abbrev pub task_with_default_limits : SecretSource → Option Text → Option Text → Task
+task_with_default_limits source infile outfile = record {
   limits = record { max_bytes = 2 ^ 32; max_ops = 2 ^ 33 };
   keep = 1;
   source = source;
@@ -28,11 +28,11 @@ abbrev pub costs : ℕ → ℕ → ℕ → Parameters
 costs log_n r p = record { log_n = log_n; r = r; p = p }
 
 -- the host's salt
-abbrev pub plain_encryption : Parameters → Task → Encryption
-plain_encryption c task = record { costs = c; salt = None; task = task }
+abbrev pub encryption_without_salt : Parameters → Task → Encryption
+encryption_without_salt c task = record { costs = c; salt = None; task = task }
 
 -- the bytes 0 to 31
-abbrev pub counted_salt : List ℕ
-counted_salt =
+abbrev pub salt_of_bytes_0_to_31 : List ℕ
+salt_of_bytes_0_to_31 =
     0 ∷ 1 ∷ 2 ∷ 3 ∷ 4 ∷ 5 ∷ 6 ∷ 7 ∷ 8 ∷ 9 ∷ 10 ∷ 11 ∷ 12 ∷ 13 ∷ 14 ∷ 15
     ∷ 16 ∷ 17 ∷ 18 ∷ 19 ∷ 20 ∷ 21 ∷ 22 ∷ 23 ∷ 24 ∷ 25 ∷ 26 ∷ 27 ∷ 28 ∷ 29 ∷ 30 ∷ 31 ∷ []

@@ -2,8 +2,8 @@
 //! mean is what `clap` defines for a simple command. A command under way is handed on as a `Result`: what adds
 //! to it alone looks at whether there was memory so far.
 ghost use Rattle.std.specs.Prelude.{◌≡◌, IfOk, false, fold};
-ghost use Rattle.clap.specs.Words.{App, new_rule, rule_of, with_rule, with_subcommand};
-ghost use Rattle.scrypt_words.specs.CommandLine.{IsCommand, common_rules, dec_app, enc_app, info_app, long_option, named_app, scrypt_app, short_option, stdin_flag};
+ghost use Rattle.clap.specs.Words.{App, rule_of, with_rule, with_subcommand};
+ghost use Rattle.scrypt_words.specs.CommandLine.{IsCommandForApp, enc_and_dec_arguments, app_of_dec_subcommand, app_of_enc_subcommand, app_of_info_subcommand, long_option, app_with_subcommands, scrypt_app, short_option, stdin_flag};
 
 use clap::{Arg, ArgAction, Command};
 use std::alloc::{AllocError, Global};
@@ -14,110 +14,98 @@ fn with_argument<'a>(
     argument: Arg<'a>,
 ) -> Result<Command<'a>, AllocError>
     requires local { argument.global ≡ false }
-    ensures command { (app : App) → IfOk command.entry (IsCommand app)
-        → IfOk result (IsCommand (with_rule app (rule_of argument.entry))) }
+    ensures command { (app : App) → IfOk command.entry (IsCommandForApp app)
+        → IfOk result (IsCommandForApp (with_rule app (rule_of argument.entry))) }
 {
     let command = command?;
     command.arg(argument)
 }
 
 // `--name VALUE`
-fn with_long<'a>(
+fn add_long_option<'a>(
     alloc: Global,
     command: Result<Command<'a>, AllocError>,
     name: &'a str,
 ) -> Result<Command<'a>, AllocError>
-    ensures command { (app : App) → IfOk command.entry (IsCommand app)
-        → IfOk result (IsCommand (with_rule app (long_option name.entry.now))) }
+    ensures command { (app : App) → IfOk command.entry (IsCommandForApp app)
+        → IfOk result (IsCommandForApp (with_rule app (long_option name.entry.now))) }
 {
     with_argument(command, Arg::new(alloc, name).long(name))
 }
 
 // `-c VALUE`, under a name.
-fn with_short<'a>(
+fn add_short_option<'a>(
     alloc: Global,
     command: Result<Command<'a>, AllocError>,
     name: &'a str,
     short: char,
 ) -> Result<Command<'a>, AllocError>
-    ensures command { (app : App) → IfOk command.entry (IsCommand app)
-        → IfOk result (IsCommand (with_rule app (short_option name.entry.now short))) }
+    ensures command { (app : App) → IfOk command.entry (IsCommandForApp app)
+        → IfOk result (IsCommandForApp (with_rule app (short_option name.entry.now short))) }
 {
     with_argument(command, Arg::new(alloc, name).short(short))
 }
 
 // `-P`
-fn with_stdin_flag<'a>(
+fn add_stdin_flag<'a>(
     alloc: Global,
     command: Result<Command<'a>, AllocError>,
 ) -> Result<Command<'a>, AllocError>
-    ensures command { (app : App) → IfOk command.entry (IsCommand app)
-        → IfOk result (IsCommand (with_rule app stdin_flag)) }
+    ensures command { (app : App) → IfOk command.entry (IsCommandForApp app)
+        → IfOk result (IsCommandForApp (with_rule app stdin_flag)) }
 {
     let flag = Arg::new(alloc, "P").short('P').action(ArgAction::SetTrue);
     with_argument(command, flag)
 }
 
-// A file.
-fn with_file<'a>(
-    alloc: Global,
-    command: Result<Command<'a>, AllocError>,
-    name: &'a str,
-) -> Result<Command<'a>, AllocError>
-    ensures command { (app : App) → IfOk command.entry (IsCommand app)
-        → IfOk result (IsCommand (with_rule app (new_rule name.entry.now))) }
-{
-    with_argument(command, Arg::new(alloc, name))
-}
-
 // What `enc` and `dec` both take.
-fn with_common_words<'a>(
+fn add_enc_and_dec_arguments<'a>(
     alloc: Global,
     command: Result<Command<'a>, AllocError>,
 ) -> Result<Command<'a>, AllocError>
-    ensures command { (app : App) → IfOk command.entry (IsCommand app)
-        → IfOk result (IsCommand (fold with_rule app common_rules)) }
+    ensures command { (app : App) → IfOk command.entry (IsCommandForApp app)
+        → IfOk result (IsCommandForApp (fold with_rule app enc_and_dec_arguments)) }
 {
-    let command = with_short(alloc, command, "M", 'M');
-    let command = with_long(alloc, command, "maxops");
-    let command = with_long(alloc, command, "keep");
-    let command = with_stdin_flag(alloc, command);
-    let command = with_long(alloc, command, "passphrase");
-    let command = with_file(alloc, command, "infile");
-    with_file(alloc, command, "outfile")
+    let command = add_short_option(alloc, command, "M", 'M');
+    let command = add_long_option(alloc, command, "maxops");
+    let command = add_long_option(alloc, command, "keep");
+    let command = add_stdin_flag(alloc, command);
+    let command = add_long_option(alloc, command, "passphrase");
+    let command = with_argument(command, Arg::new(alloc, "infile"));
+    with_argument(command, Arg::new(alloc, "outfile"))
 }
 
-fn enc_command<'a>(alloc: Global) -> Result<Command<'a>, AllocError>
-    ensures command { IfOk result (IsCommand enc_app) }
+fn build_enc_command<'a>(alloc: Global) -> Result<Command<'a>, AllocError>
+    ensures command { IfOk result (IsCommandForApp app_of_enc_subcommand) }
 {
-    let command = with_long(alloc, Ok(Command::new(alloc, "enc")), "logN");
-    let command = with_short(alloc, command, "r", 'r');
-    let command = with_short(alloc, command, "p", 'p');
-    let command = with_long(alloc, command, "salt");
-    with_common_words(alloc, command)
+    let command = add_long_option(alloc, Ok(Command::new(alloc, "enc")), "logN");
+    let command = add_short_option(alloc, command, "r", 'r');
+    let command = add_short_option(alloc, command, "p", 'p');
+    let command = add_long_option(alloc, command, "salt");
+    add_enc_and_dec_arguments(alloc, command)
 }
 
-fn dec_command<'a>(alloc: Global) -> Result<Command<'a>, AllocError>
-    ensures command { IfOk result (IsCommand dec_app) }
+fn build_dec_command<'a>(alloc: Global) -> Result<Command<'a>, AllocError>
+    ensures command { IfOk result (IsCommandForApp app_of_dec_subcommand) }
 {
-    with_common_words(alloc, Ok(Command::new(alloc, "dec")))
+    add_enc_and_dec_arguments(alloc, Ok(Command::new(alloc, "dec")))
 }
 
-fn info_command<'a>(alloc: Global) -> Result<Command<'a>, AllocError>
-    ensures command { IfOk result (IsCommand info_app) }
+fn build_info_command<'a>(alloc: Global) -> Result<Command<'a>, AllocError>
+    ensures command { IfOk result (IsCommandForApp app_of_info_subcommand) }
 {
-    with_file(alloc, Ok(Command::new(alloc, "info")), "infile")
+    with_argument(Ok(Command::new(alloc, "info")), Arg::new(alloc, "infile"))
 }
 
 // A subcommand more, if there was memory for both. What is not used is let go of by name: the end of the scope would do
 // so part by part.
-fn with_command<'a>(
+fn add_subcommand<'a>(
     command: Result<Command<'a>, AllocError>,
     subcommand: Result<Command<'a>, AllocError>,
 ) -> Result<Command<'a>, AllocError>
-    ensures command { (app added : App) → IfOk command.entry (IsCommand app)
-        → IfOk subcommand.entry (IsCommand added)
-        → IfOk result (IsCommand (with_subcommand app added.top)) }
+    ensures command { (app added : App) → IfOk command.entry (IsCommandForApp app)
+        → IfOk subcommand.entry (IsCommandForApp added)
+        → IfOk result (IsCommandForApp (with_subcommand app added.top)) }
 {
     match command {
         Ok(command) => match subcommand {
@@ -135,17 +123,17 @@ fn with_command<'a>(
 }
 
 // The three subcommands.
-fn named_command<'a>(alloc: Global) -> Result<Command<'a>, AllocError>
-    ensures command { IfOk result (IsCommand named_app) }
+fn build_command_with_subcommands<'a>(alloc: Global) -> Result<Command<'a>, AllocError>
+    ensures command { IfOk result (IsCommandForApp app_with_subcommands) }
 {
-    let command = with_command(Ok(Command::new(alloc, "scrypt")), enc_command(alloc));
-    let command = with_command(command, dec_command(alloc));
-    with_command(command, info_command(alloc))
+    let command = add_subcommand(Ok(Command::new(alloc, "scrypt")), build_enc_command(alloc));
+    let command = add_subcommand(command, build_dec_command(alloc));
+    add_subcommand(command, build_info_command(alloc))
 }
 
 /// The command, for words without the program's name.
-pub fn scrypt_command<'a>(alloc: Global) -> Result<Command<'a>, AllocError>
-    ensures command { IfOk result (IsCommand scrypt_app) }
+pub fn build_scrypt_command<'a>(alloc: Global) -> Result<Command<'a>, AllocError>
+    ensures command { IfOk result (IsCommandForApp scrypt_app) }
 {
-    Ok(named_command(alloc)?.no_binary_name(true))
+    Ok(build_command_with_subcommands(alloc)?.no_binary_name(true))
 }

@@ -3,10 +3,10 @@ ghost use Rattle.std.specs.Prelude.{◌≡◌, None, IfErr, MatchOption, is_some
 ghost use Rattle.command_words.specs.Number.{number_of};
 ghost use Rattle.romix.specs.Faults.{cost_fault};
 ghost use Rattle.scrypt_request.specs.Refusal.{RaisesNoCount};
-ghost use Rattle.scrypt_words.specs.Request.{costs_asked, has_some_costs, number_asked};
-ghost use Rattle.scrypt_words.specs.Words.{rows_in};
+ghost use Rattle.scrypt_words.specs.Request.{costs_from_words, has_some_but_not_all_costs, number_from_words};
+ghost use Rattle.scrypt_words.specs.Words.{rows_of_arg_matches};
 
-use crate::words::value_of;
+use crate::words::argument_value;
 use clap::ArgMatches;
 use command_words::number;
 use romix::Costs;
@@ -21,27 +21,27 @@ struct Numbers {
 }
 
 /// The number that an option gives, or the number without the option.
-pub fn number_given(
+pub fn number_from_words(
     matches: &ArgMatches<'_>,
     name: &str,
     default: u128,
 ) -> Result<u128, ScryptRefusal>
-    ensures number { result ≡ number_asked name.now number_of default (rows_in matches.now) }
+    ensures number { result ≡ number_from_words name.now number_of default (rows_of_arg_matches matches.now) }
     ensures counts { IfErr result RaisesNoCount }
 {
-    match value_of(matches, name) {
+    match argument_value(matches, name) {
         None => Ok(default),
         Some(text) => number(text).ok_or(ScryptRefusal::Usage),
     }
 }
 
 // Whether one or two of the costs are given.
-fn has_some_costs(matches: &ArgMatches<'_>) -> bool
-    ensures has_some { result ≡ has_some_costs (rows_in matches.now) }
+fn has_some_but_not_all_costs(matches: &ArgMatches<'_>) -> bool
+    ensures has_some { result ≡ has_some_but_not_all_costs (rows_of_arg_matches matches.now) }
 {
-    let log_n = value_of(matches, "logN").is_some();
-    let r = value_of(matches, "r").is_some();
-    let p = value_of(matches, "p").is_some();
+    let log_n = argument_value(matches, "logN").is_some();
+    let r = argument_value(matches, "r").is_some();
+    let p = argument_value(matches, "p").is_some();
     (log_n || r || p) && !(log_n && r && p)
 }
 
@@ -59,16 +59,16 @@ fn costs_of(numbers: Numbers) -> Option<Costs>
 }
 
 /// The costs that the words of `enc` give, or 17, 8 and 1 where they give none.
-pub fn costs_given(matches: &ArgMatches<'_>) -> Result<Costs, ScryptRefusal>
-    ensures costs { result ≡ costs_asked (rows_in matches.now) }
+pub fn costs_from_words(matches: &ArgMatches<'_>) -> Result<Costs, ScryptRefusal>
+    ensures costs { result ≡ costs_from_words (rows_of_arg_matches matches.now) }
     ensures counts { IfErr result RaisesNoCount }
 {
     let numbers = Numbers {
-        log_n: number_given(matches, "logN", 17)?,
-        r: number_given(matches, "r", 8)?,
-        p: number_given(matches, "p", 1)?,
+        log_n: number_from_words(matches, "logN", 17)?,
+        r: number_from_words(matches, "r", 8)?,
+        p: number_from_words(matches, "p", 1)?,
     };
-    if has_some_costs(matches) {
+    if has_some_but_not_all_costs(matches) {
         return Err(ScryptRefusal::SomeCosts);
     }
     costs_of(numbers).ok_or(ScryptRefusal::CostsOutOfRange)

@@ -1,28 +1,28 @@
 //! The words of `scrypt`, read by `clap`.
 ghost use Rattle.std.specs.Prelude.{◌≡◌, ◌≢◌, ◌⊎◌, None, IfErr, IfOk, map, string_bytes};
-ghost use Rattle.clap.specs.Words.{first_of as value_of, kind_of, subcommand_rows_of};
+ghost use Rattle.clap.specs.Words.{first_of as argument_value, kind_of, subcommand_rows_of};
 ghost use Rattle.scrypt_request.specs.Refusal.{RaisesNoCount};
 ghost use Rattle.scrypt_request.specs.Request.{text_of};
-ghost use Rattle.scrypt_words.specs.Words.{is_set, rows_in, scrypt_words};
+ghost use Rattle.scrypt_words.specs.Words.{is_set, rows_of_arg_matches, scrypt_words};
 
-use crate::command_line::scrypt_command;
+use crate::command_line::build_scrypt_command;
 use clap::error::ErrorKind;
 use clap::{ArgMatches, Error};
 use scrypt_request::ScryptRefusal;
 use std::alloc::Global;
 
 /// The value of an argument, if it has one.
-pub fn value_of<'a>(matches: &ArgMatches<'a>, name: &str) -> Option<&'a str>
-    ensures value { text_of result ≡ value_of name.now (rows_in matches.now) }
+pub fn argument_value<'a>(matches: &ArgMatches<'a>, name: &str) -> Option<&'a str>
+    ensures value { text_of result ≡ argument_value name.now (rows_of_arg_matches matches.now) }
 {
     matches.get_str(name)
 }
 
 /// Whether a flag is set.
 pub fn is_set(matches: &ArgMatches<'_>, name: &str) -> bool
-    ensures set { result ≡ is_set name.now (rows_in matches.now) }
+    ensures set { result ≡ is_set name.now (rows_of_arg_matches matches.now) }
 {
-    match value_of(matches, name) {
+    match argument_value(matches, name) {
         Some(value) => value == "true",
         None => false,
     }
@@ -44,14 +44,17 @@ fn refusal_for(error: &Error) -> ScryptRefusal
 
 /// Reads the words after the program's name. `OutOfMemory` is answered where `clap` is refused a
 /// growth of memory.
-pub fn read_words<'a>(alloc: Global, words: &'a [String]) -> Result<ArgMatches<'a>, ScryptRefusal>
+pub fn arg_matches_from_words<'a>(
+    alloc: Global,
+    words: &'a [String],
+) -> Result<ArgMatches<'a>, ScryptRefusal>
     ensures words { IfOk result (λ matches.
         scrypt_words (map string_bytes words.entry.now) ≡ subcommand_rows_of matches) }
     ensures refused { IfErr result (λ refusal. (refusal ≡ ScryptRefusal.OutOfMemory)
         ⊎ ((refusal ≡ ScryptRefusal.Usage) × (scrypt_words (map string_bytes words.entry.now) ≡ None))) }
     ensures counts { IfErr result RaisesNoCount }
 {
-    let Ok(command) = scrypt_command(alloc) else {
+    let Ok(command) = build_scrypt_command(alloc) else {
         return Err(ScryptRefusal::OutOfMemory);
     };
     match command.try_get_matches_from(words) {

@@ -3,32 +3,32 @@
 ghost use Rattle.std.specs.Prelude.{◌≡◌, ◌-◌, ◌^◌, [], Ok, Err, Some, None, codes};
 ghost use Rattle.scrypt_request.specs.Request.{decrypt, encrypt, inspect};
 ghost use Rattle.scrypt_words.specs.Request.{scrypt_request};
-ghost use Rattle.scrypt_words.specs.Vectors.{costs, counted_salt, plain_encryption, plain_task, typed};
+ghost use Rattle.scrypt_words.specs.Vectors.{costs, salt_of_bytes_0_to_31, encryption_without_salt, task_with_default_limits, typed};
 ghost use Rattle.host.specs.HostState.{env, file, stdin_once};
 ghost use Rattle.scrypt_request.specs.declared.refusal.ScryptRefusal.TheVariants.{CostsOutOfRange, KeepOutOfRange, PassphraseSource, SaltDigits, SameName, SomeCosts, StandardInputTwice, Usage};
 
 // The costs and the salt of a new file, and its digits in upper case.
 #[tactic(auto, unfolding(clap::proofs::OnLiterals::clap_on_literals, hex::proofs::OnLiterals::hex_on_literals))]
-fn costs_and_salt()
+fn first_48_header_bytes()
     ensures lower_case { scrypt_request (typed (codes "enc --logN 4 -r 1 -p 1 --salt 000102030405060708090a0b0c0d0e0f101112131415161718191a1b1c1d1e1f --passphrase file:pw - out")) ≡
-        Ok (encrypt (record (plain_encryption (costs 4 1 1) (plain_task (file (codes "pw")) None (Some (codes "out")))) { salt = Some counted_salt })) }
+        Ok (encrypt (record (encryption_without_salt (costs 4 1 1) (task_with_default_limits (file (codes "pw")) None (Some (codes "out")))) { salt = Some salt_of_bytes_0_to_31 })) }
     ensures upper_case { scrypt_request (typed (codes "enc --logN 4 -r 1 -p 1 --salt 000102030405060708090A0B0C0D0E0F101112131415161718191A1B1C1D1E1F --passphrase file:pw - out")) ≡
-        Ok (encrypt (record (plain_encryption (costs 4 1 1) (plain_task (file (codes "pw")) None (Some (codes "out")))) { salt = Some counted_salt })) }
+        Ok (encrypt (record (encryption_without_salt (costs 4 1 1) (task_with_default_limits (file (codes "pw")) None (Some (codes "out")))) { salt = Some salt_of_bytes_0_to_31 })) }
 {}
 
 // Limits, and the ends of their ranges.
 #[tactic(auto, unfolding(clap::proofs::OnLiterals::clap_on_literals))]
 fn limits()
     ensures both { scrypt_request (typed (codes "dec -M 2048 --maxops 64 --passphrase file:pw F5")) ≡
-        Ok (decrypt (record (plain_task (file (codes "pw")) (Some (codes "F5")) None) { limits = record { max_bytes = 2048; max_ops = 64 } })) }
+        Ok (decrypt (record (task_with_default_limits (file (codes "pw")) (Some (codes "F5")) None) { limits = record { max_bytes = 2048; max_ops = 64 } })) }
     ensures bytes { scrypt_request (typed (codes "dec -M 2047 --passphrase file:pw F5")) ≡
-        Ok (decrypt (record (plain_task (file (codes "pw")) (Some (codes "F5")) None) { limits = record { max_bytes = 2047; max_ops = 2 ^ 33 } })) }
+        Ok (decrypt (record (task_with_default_limits (file (codes "pw")) (Some (codes "F5")) None) { limits = record { max_bytes = 2047; max_ops = 2 ^ 33 } })) }
     ensures cores { scrypt_request (typed (codes "dec --maxops 63 --passphrase file:pw F5")) ≡
-        Ok (decrypt (record (plain_task (file (codes "pw")) (Some (codes "F5")) None) { limits = record { max_bytes = 2 ^ 32; max_ops = 63 } })) }
+        Ok (decrypt (record (task_with_default_limits (file (codes "pw")) (Some (codes "F5")) None) { limits = record { max_bytes = 2 ^ 32; max_ops = 63 } })) }
     ensures greatest { scrypt_request (typed (codes "dec -M 1099511627776 --maxops 9223372036854775807 -P F5")) ≡
-        Ok (decrypt (record (plain_task stdin_once (Some (codes "F5")) None) { limits = record { max_bytes = 2 ^ 40; max_ops = 2 ^ 63 - 1 } })) }
+        Ok (decrypt (record (task_with_default_limits stdin_once (Some (codes "F5")) None) { limits = record { max_bytes = 2 ^ 40; max_ops = 2 ^ 63 - 1 } })) }
     ensures leading_zeros { scrypt_request (typed (codes "dec -M 00000000000000002048 -P F5")) ≡
-        Ok (decrypt (record (plain_task stdin_once (Some (codes "F5")) None) { limits = record { max_bytes = 2048; max_ops = 2 ^ 33 } })) }
+        Ok (decrypt (record (task_with_default_limits stdin_once (Some (codes "F5")) None) { limits = record { max_bytes = 2048; max_ops = 2 ^ 33 } })) }
     ensures no_bytes { scrypt_request (typed (codes "dec -M 0 -P F5")) ≡ Err Usage }
     ensures no_cores { scrypt_request (typed (codes "dec --maxops 0 -P F5")) ≡ Err Usage }
     ensures bytes_above { scrypt_request (typed (codes "dec -M 1099511627777 -P F5")) ≡ Err Usage }
@@ -44,9 +44,9 @@ fn limits()
 #[tactic(auto, unfolding(clap::proofs::OnLiterals::clap_on_literals, hex::proofs::OnLiterals::hex_on_literals))]
 fn keeps()
     ensures given { scrypt_request (typed (codes "dec --keep 4 -M 512 --maxops 160 -P F5")) ≡
-        Ok (decrypt (record (plain_task stdin_once (Some (codes "F5")) None) { limits = record { max_bytes = 512; max_ops = 160 }; keep = 4 })) }
+        Ok (decrypt (record (task_with_default_limits stdin_once (Some (codes "F5")) None) { limits = record { max_bytes = 512; max_ops = 160 }; keep = 4 })) }
     ensures greatest { scrypt_request (typed (codes "enc --keep 1024 -P a")) ≡
-        Ok (encrypt (plain_encryption (costs 17 8 1) (record (plain_task stdin_once (Some (codes "a")) None) { keep = 1024 }))) }
+        Ok (encrypt (encryption_without_salt (costs 17 8 1) (record (task_with_default_limits stdin_once (Some (codes "a")) None) { keep = 1024 }))) }
     ensures zero { scrypt_request (typed (codes "dec --keep 0 -P F5")) ≡ Err KeepOutOfRange }
     ensures three { scrypt_request (typed (codes "dec --keep 3 -P F5")) ≡ Err KeepOutOfRange }
     ensures above { scrypt_request (typed (codes "dec --keep 2048 -P F5")) ≡ Err KeepOutOfRange }
@@ -65,9 +65,9 @@ fn keeps()
 #[tactic(auto, unfolding(clap::proofs::OnLiterals::clap_on_literals))]
 fn costs_in_range()
     ensures least { scrypt_request (typed (codes "enc --logN 1 -r 1 -p 1 -P a")) ≡
-        Ok (encrypt (plain_encryption (costs 1 1 1) (plain_task stdin_once (Some (codes "a")) None))) }
+        Ok (encrypt (encryption_without_salt (costs 1 1 1) (task_with_default_limits stdin_once (Some (codes "a")) None))) }
     ensures greatest { scrypt_request (typed (codes "enc --logN 63 -r 1073741823 -p 1 -P a")) ≡
-        Ok (encrypt (plain_encryption (costs 63 1073741823 1) (plain_task stdin_once (Some (codes "a")) None))) }
+        Ok (encrypt (encryption_without_salt (costs 63 1073741823 1) (task_with_default_limits stdin_once (Some (codes "a")) None))) }
     ensures no_log_n { scrypt_request (typed (codes "enc --logN 0 -r 1 -p 1 -P a")) ≡
         Err CostsOutOfRange }
     ensures log_n_above { scrypt_request (typed (codes "enc --logN 64 -r 1 -p 1 -P a")) ≡
@@ -135,23 +135,23 @@ fn first_refusal()
 #[tactic(auto, unfolding(clap::proofs::OnLiterals::clap_on_literals))]
 fn taken()
     ensures bundle { scrypt_request (typed (codes "enc -Pr8 --logN=4 -p 1 a")) ≡
-        Ok (encrypt (plain_encryption (costs 4 8 1) (plain_task stdin_once (Some (codes "a")) None))) }
+        Ok (encrypt (encryption_without_salt (costs 4 8 1) (task_with_default_limits stdin_once (Some (codes "a")) None))) }
     ensures equals { scrypt_request (typed (codes "enc -r=8 -p=1 --logN=4 -P a")) ≡
-        Ok (encrypt (plain_encryption (costs 4 8 1) (plain_task stdin_once (Some (codes "a")) None))) }
+        Ok (encrypt (encryption_without_salt (costs 4 8 1) (task_with_default_limits stdin_once (Some (codes "a")) None))) }
     ensures no_costs { scrypt_request (typed (codes "enc -P a")) ≡
-        Ok (encrypt (plain_encryption (costs 17 8 1) (plain_task stdin_once (Some (codes "a")) None))) }
+        Ok (encrypt (encryption_without_salt (costs 17 8 1) (task_with_default_limits stdin_once (Some (codes "a")) None))) }
     ensures options_last { scrypt_request (typed (codes "dec a b -P")) ≡
-        Ok (decrypt (plain_task stdin_once (Some (codes "a")) (Some (codes "b")))) }
+        Ok (decrypt (task_with_default_limits stdin_once (Some (codes "a")) (Some (codes "b")))) }
     ensures after_dashes { scrypt_request (typed (codes "dec -P -- -x")) ≡
-        Ok (decrypt (plain_task stdin_once (Some (codes "-x")) None)) }
+        Ok (decrypt (task_with_default_limits stdin_once (Some (codes "-x")) None)) }
     ensures outfile_dash { scrypt_request (typed (codes "dec -P a -")) ≡
-        Ok (decrypt (plain_task stdin_once (Some (codes "a")) (Some (codes "-")))) }
+        Ok (decrypt (task_with_default_limits stdin_once (Some (codes "a")) (Some (codes "-")))) }
     ensures outfile_after_dashes { scrypt_request (typed (codes "dec -P a -- -P")) ≡
-        Ok (decrypt (plain_task stdin_once (Some (codes "a")) (Some (codes "-P")))) }
+        Ok (decrypt (task_with_default_limits stdin_once (Some (codes "a")) (Some (codes "-P")))) }
     ensures name_of_a_command { scrypt_request (typed (codes "dec -P help enc")) ≡
-        Ok (decrypt (plain_task stdin_once (Some (codes "help")) (Some (codes "enc")))) }
+        Ok (decrypt (task_with_default_limits stdin_once (Some (codes "help")) (Some (codes "enc")))) }
     ensures variable { scrypt_request (typed (codes "dec --passphrase=env:PW -")) ≡
-        Ok (decrypt (plain_task (env (codes "PW")) None None)) }
+        Ok (decrypt (task_with_default_limits (env (codes "PW")) None None)) }
     ensures info { scrypt_request (typed (codes "info F5")) ≡ Ok (inspect (Some (codes "F5"))) }
     ensures info_dash { scrypt_request (typed (codes "info -")) ≡ Ok (inspect None) }
     ensures empty_name { scrypt_request (typed (codes "info ")) ≡ Ok (inspect (Some [])) }

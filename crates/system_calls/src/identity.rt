@@ -12,7 +12,10 @@ use tools::FileIdentity;
 
 /// What the system tells of a standard stream, under the name of its descriptor, as `/proc/self/fd/0`; where
 /// nothing stands there, nothing is known. Any other answer is a fault: the stream may be a file that is read.
-pub fn told_of_stream(rt: HostRuntime, descriptor: &str) -> Result<Option<Metadata>, HostFault> {
+pub fn standard_stream_metadata(
+    rt: HostRuntime,
+    descriptor: &str,
+) -> Result<Option<Metadata>, HostFault> {
     match fs::metadata(&rt, descriptor) {
         Ok(metadata) => Ok(Some(metadata)),
         Err(e) if e.kind() == ErrorKind::NotFound => Ok(None),
@@ -21,7 +24,7 @@ pub fn told_of_stream(rt: HostRuntime, descriptor: &str) -> Result<Option<Metada
 }
 
 /// What the system tells of an opened file.
-pub fn told_of_file(file: &File) -> Result<Metadata, HostFault> {
+pub fn file_metadata(file: &File) -> Result<Metadata, HostFault> {
     file.metadata().map_err(|_| HostFault)
 }
 

@@ -2,8 +2,8 @@
 //! in this crate: it and one line of each `main` are all that is trusted of the programs' sources, beside the definitions.
 #![tactic(auto)]
 
+mod closed_stream_placeholders;
 mod identity;
 mod real;
-mod stream_placeholders;
 
 pub use real::Real;

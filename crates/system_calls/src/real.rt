@@ -1,17 +1,17 @@
 //! The system itself.
 ghost use Rattle.std.specs.Prelude.{false, [], IsNone, IsSome, IfOk};
-ghost use Rattle.system_calls.specs.Inside.Opened.{IsNamed, IsStandard};
-ghost use Rattle.tools.specs.World.{no_files, no_world};
+ghost use Rattle.system_calls.specs.Inside.Opened.{IsOpenedByName, IsStandard};
+ghost use Rattle.tools.specs.SystemState.{placeholder_files, placeholder_state};
 
-use crate::identity::{identity, told_of_file, told_of_stream};
-use crate::stream_placeholders::{StreamPlaceholders, beside_standard_streams};
+use crate::closed_stream_placeholders::{ClosedStreamPlaceholders, refuse_standard_descriptor};
+use crate::identity::{file_metadata, identity, standard_stream_metadata};
 use host::HostFault;
 use std::env::{Env, FillError};
 use std::fs::{File, Metadata, OpenOptions};
 use std::io;
 use std::io::{ErrorKind, Read, Write};
 use std::path::Path;
-use tools::{FileIdentity, Reading, Stream, System, WordFault};
+use tools::{FileIdentity, Reading, StreamRole, System, WordFault};
 
 /// What stands for a stream.
 #[derive(Drop)]
@@ -34,7 +34,7 @@ pub enum Opened {
 #[derive(Drop)]
 pub struct Real {
     rt: HostRuntime,
-    placeholders: StreamPlaceholders,
+    placeholders: ClosedStreamPlaceholders,
     input: Opened,
     secret: Opened,
     random: Opened,
@@ -47,7 +47,7 @@ impl Real {
     pub fn new(rt: HostRuntime) -> Real {
         Real {
             rt,
-            placeholders: StreamPlaceholders::new(rt),
+            placeholders: ClosedStreamPlaceholders::new(rt),
             input: Opened::Nothing,
             secret: Opened::Nothing,
             random: Opened::Nothing,
@@ -69,11 +69,11 @@ impl Real {
 // where that is closed.
 fn open_to_read(rt: HostRuntime, name: Option<&str>) -> Result<Opened, HostFault>
     ensures standard { IsNone name.entry → IfOk result IsStandard }
-    ensures named { IsSome name.entry → IfOk result IsNamed }
+    ensures named { IsSome name.entry → IfOk result IsOpenedByName }
 {
     let opened = match name {
         None => Opened::Standard,
-        Some(path) => Opened::Named(beside_standard_streams(File::open(&rt, path))?),
+        Some(path) => Opened::Named(refuse_standard_descriptor(File::open(&rt, path))?),
     };
     match opened.told(rt, "/proc/self/fd/0")? {
         Some(metadata) if metadata.is_dir() => Err(HostFault),
@@ -84,13 +84,13 @@ fn open_to_read(rt: HostRuntime, name: Option<&str>) -> Result<Opened, HostFault
 // A file to be written, which is made where it is not there, or standard output.
 fn open_to_write(rt: HostRuntime, name: Option<&str>) -> Result<Opened, HostFault>
     ensures standard { IsNone name.entry → IfOk result IsStandard }
-    ensures named { IsSome name.entry → IfOk result IsNamed }
+    ensures named { IsSome name.entry → IfOk result IsOpenedByName }
 {
     let Some(path) = name else {
         return Ok(Opened::Standard);
     };
     let made = OpenOptions::new().write(true).create(true).open(&rt, path);
-    Ok(Opened::Named(beside_standard_streams(made)?))
+    Ok(Opened::Named(refuse_standard_descriptor(made)?))
 }
 
 // The folder in which a file of this name stands; of a link, that of the link. `None` stands for a folder that may
@@ -123,8 +123,8 @@ impl Opened {
     fn told(&self, rt: HostRuntime, descriptor: &str) -> Result<Option<Metadata>, HostFault> {
         match self {
             Opened::Nothing => Ok(None),
-            Opened::Standard => told_of_stream(rt, descriptor),
-            Opened::Named(file) => Ok(Some(told_of_file(file)?)),
+            Opened::Standard => standard_stream_metadata(rt, descriptor),
+            Opened::Named(file) => Ok(Some(file_metadata(file)?)),
         }
     }
 }
@@ -132,9 +132,9 @@ impl Opened {
 impl System for Real {
     ghost tells = { false };
 
-    ghost world = { λ _. no_world };
+    ghost state = { λ _. placeholder_state };
 
-    ghost files = { λ _. no_files };
+    ghost files = { λ _. placeholder_files };
 
     ghost tries = { λ _. 0 };
 
@@ -175,19 +175,19 @@ impl System for Real {
         self.output = open_to_write(self.rt, name)?;
         // The folder is opened before anything is written, so a fault of that comes before the file is emptied.
         if let (Opened::Named(file), Some(path)) = (&self.output, name) {
-            if told_of_file(file)?.is_file() {
+            if file_metadata(file)?.is_file() {
                 self.folder = open_folder(self.rt, path)?;
             }
         }
         Ok(())
     }
 
-    fn file(&self, stream: Stream) -> Result<Option<FileIdentity>, HostFault> {
+    fn file(&self, stream: StreamRole) -> Result<Option<FileIdentity>, HostFault> {
         let told = match stream {
-            Stream::Input => self.input.told(self.rt, "/proc/self/fd/0")?,
-            Stream::Secret => self.secret.told(self.rt, "/proc/self/fd/0")?,
-            Stream::Output => self.output.told(self.rt, "/proc/self/fd/1")?,
-            Stream::Error => told_of_stream(self.rt, "/proc/self/fd/2")?,
+            StreamRole::Input => self.input.told(self.rt, "/proc/self/fd/0")?,
+            StreamRole::Secret => self.secret.told(self.rt, "/proc/self/fd/0")?,
+            StreamRole::Output => self.output.told(self.rt, "/proc/self/fd/1")?,
+            StreamRole::Error => standard_stream_metadata(self.rt, "/proc/self/fd/2")?,
         };
         match told {
             Some(metadata) => Ok(identity(&metadata)),

@@ -4,7 +4,7 @@ use Rattle.std.proofs.lemmas.Slice.{take-put_mid_below}
 use Rattle.std.proofs.lemmas.Grind.{common_steps}
 use Rattle.std.proofs.Math.Seq.{take-add}
 use Rattle.host.specs.Secret.{IsBeginning}
-use Rattle.tools.specs.World.{Files, Reads, TakesFrom, World, after_read, source_at, with_source}
+use Rattle.tools.specs.SystemState.{Files, Reads, TakesFrom, SystemState, after_read, state_of_read_stream, with_read_stream_state}
 use Rattle.tools.specs.declared.system.Reading.{Reading}
 use Rattle.tools.specs.declared.system.Reading.TheVariants as reading
 use borrow.Rule.Slice.PartMut.{put_mid, post_of}
@@ -33,56 +33,56 @@ drop-drop_more m n xs = grind (arith, common_steps)
 -- ---- streams
 
 -- so many bytes were read, and then the end was found or not
-abbrev pub read_on : Reading → ℕ → Bool → World → World
-read_on r at is_ended w = with_source r (let s = source_at r w in record s { left = drop at s.left; is_ended = is_ended }) w
+abbrev pub read_on : Reading → ℕ → Bool → SystemState → SystemState
+read_on r at is_ended w = with_read_stream_state r (let s = state_of_read_stream r w in record s { left = drop at s.left; is_ended = is_ended }) w
 
 -- no byte was read yet
-pub read_on-none : (r : Reading) (w : World) → (source_at r w).is_ended ≡ false → w ≡ read_on r 0 false w
-read_on-none reading.Input w going = ap (λ e. let t : World = record w { input = record w.input { is_ended = e } } in t) going
-read_on-none reading.Secret w going = ap (λ e. let t : World = record w { secret = record w.secret { is_ended = e } } in t) going
-read_on-none reading.Random w going = ap (λ e. let t : World = record w { random = record w.random { is_ended = e } } in t) going
+pub read_on-none : (r : Reading) (w : SystemState) → (state_of_read_stream r w).is_ended ≡ false → w ≡ read_on r 0 false w
+read_on-none reading.Input w going = ap (λ e. let t : SystemState = record w { input = record w.input { is_ended = e } } in t) going
+read_on-none reading.Secret w going = ap (λ e. let t : SystemState = record w { secret = record w.secret { is_ended = e } } in t) going
+read_on-none reading.Random w going = ap (λ e. let t : SystemState = record w { random = record w.random { is_ended = e } } in t) going
 
 -- n bytes more were read
-pub read_on-more : (r : Reading) (at n : ℕ) (w : World) → after_read r n (read_on r at false w) ≡ read_on r (at + n) (n == 0) w
+pub read_on-more : (r : Reading) (at n : ℕ) (w : SystemState) → after_read r n (read_on r at false w) ≡ read_on r (at + n) (n == 0) w
 read_on-more reading.Input at n w =
-    ap (λ xs. let t : World = record w { input = record w.input { left = xs; is_ended = n == 0 } } in t) (drop-drop_more at n w.input.left)
+    ap (λ xs. let t : SystemState = record w { input = record w.input { left = xs; is_ended = n == 0 } } in t) (drop-drop_more at n w.input.left)
 read_on-more reading.Secret at n w =
-    ap (λ xs. let t : World = record w { secret = record w.secret { left = xs; is_ended = n == 0 } } in t) (drop-drop_more at n w.secret.left)
+    ap (λ xs. let t : SystemState = record w { secret = record w.secret { left = xs; is_ended = n == 0 } } in t) (drop-drop_more at n w.secret.left)
 read_on-more reading.Random at n w =
-    ap (λ xs. let t : World = record w { random = record w.random { left = xs; is_ended = n == 0 } } in t) (drop-drop_more at n w.random.left)
+    ap (λ xs. let t : SystemState = record w { random = record w.random { left = xs; is_ended = n == 0 } } in t) (drop-drop_more at n w.random.left)
 
 -- what is left, and whether the end was found
-source-read_on : (r : Reading) (at : ℕ) (e : Bool) (w : World) → (source_at r (read_on r at e w)).left ≡ drop at (source_at r w).left
+source-read_on : (r : Reading) (at : ℕ) (e : Bool) (w : SystemState) → (state_of_read_stream r (read_on r at e w)).left ≡ drop at (state_of_read_stream r w).left
 source-read_on reading.Input at e w = refl
 source-read_on reading.Secret at e w = refl
 source-read_on reading.Random at e w = refl
 
-ended-read_on : (r : Reading) (at : ℕ) (e : Bool) (w : World) → (source_at r (read_on r at e w)).is_ended ≡ e
+ended-read_on : (r : Reading) (at : ℕ) (e : Bool) (w : SystemState) → (state_of_read_stream r (read_on r at e w)).is_ended ≡ e
 ended-read_on reading.Input at e w = refl
 ended-read_on reading.Secret at e w = refl
 ended-read_on reading.Random at e w = refl
 
 -- some bytes of a stream were read
-pub takes-read_on : (r : Reading) (at : ℕ) (e : Bool) (before now : World) → now ≡ read_on r at e before → TakesFrom r before now
-takes-read_on r at e before now read = record { left = drop at (source_at r before).left; is_ended = e; same = read }
+pub takes-read_on : (r : Reading) (at : ℕ) (e : Bool) (before now : SystemState) → now ≡ read_on r at e before → TakesFrom r before now
+takes-read_on r at e before now read = record { left = drop at (state_of_read_stream r before).left; is_ended = e; same = read }
 
 -- ---- what was read stands in the front of the buffer
-pub record IsRead (r : Reading) (at : ℕ) (buf : List ℕ) (before now : World) : Type 0 where
+pub record IsRead (r : Reading) (at : ℕ) (buf : List ℕ) (before now : SystemState) : Type 0 where
   pub taken : now ≡ read_on r at false before
-  pub fits : at ≤ length (source_at r before).left
-  pub bytes : take at buf ≡ take at (source_at r before).left
+  pub fits : at ≤ length (state_of_read_stream r before).left
+  pub bytes : take at buf ≡ take at (state_of_read_stream r before).left
 
-pub is_read-none : (r : Reading) (buf : List ℕ) (w : World) → (source_at r w).is_ended ≡ false → IsRead r 0 buf w w
+pub is_read-none : (r : Reading) (buf : List ℕ) (w : SystemState) → (state_of_read_stream r w).is_ended ≡ false → IsRead r 0 buf w w
 is_read-none r buf w going = record { taken = read_on-none r w going; fits = omega arith; bytes = refl }
 
 -- no end was found yet
-pub is_read-going : (r : Reading) (at : ℕ) (buf : List ℕ) (before now : World) → IsRead r at buf before now → (source_at r now).is_ended ≡ false
-is_read-going r at buf before now h = ap (λ (w : World). (source_at r w).is_ended) h.taken ∙ ended-read_on r at false before
+pub is_read-going : (r : Reading) (at : ℕ) (buf : List ℕ) (before now : SystemState) → IsRead r at buf before now → (state_of_read_stream r now).is_ended ≡ false
+is_read-going r at buf before now h = ap (λ (w : SystemState). (state_of_read_stream r w).is_ended) h.taken ∙ ended-read_on r at false before
 
 -- what is left of a stream of which at bytes were read
-left_now : (r : Reading) (at : ℕ) (buf : List ℕ) (before now : World) → IsRead r at buf before now
-    → (source_at r now).left ≡ drop at (source_at r before).left
-left_now r at buf before now h = ap (λ (w : World). (source_at r w).left) h.taken ∙ source-read_on r at false before
+left_now : (r : Reading) (at : ℕ) (buf : List ℕ) (before now : SystemState) → IsRead r at buf before now
+    → (state_of_read_stream r now).left ≡ drop at (state_of_read_stream r before).left
+left_now r at buf before now h = ap (λ (w : SystemState). (state_of_read_stream r w).left) h.taken ∙ source-read_on r at false before
 
 fits_more : (at n : ℕ) (xs : List ℕ) → at ≤ length xs → n ≤ length (drop at xs) → at + n ≤ length xs
 fits_more at n xs within fits = grind (arith, common_steps)
@@ -91,27 +91,27 @@ not_zero : (n : ℕ) → (n ≡ 0 → ⊥) → (n == 0) ≡ false
 not_zero n some = grind (arith, common_steps)
 
 -- the stream after one read more
-read_after : (r : Reading) (at n : ℕ) (buf part : List ℕ) (before now after : World) → IsRead r at buf before now → Reads r n part now after
+read_after : (r : Reading) (at n : ℕ) (buf part : List ℕ) (before now after : SystemState) → IsRead r at buf before now → Reads r n part now after
     → after ≡ read_on r (at + n) (n == 0) before
 read_after r at n buf part before now after h next = next.taken ∙ ap (after_read r n) h.taken ∙ read_on-more r at n before
 
 -- one read more
-pub is_read-more : (r : Reading) (at room n : ℕ) (buf part : List ℕ) (before now after : World) → at ≤ length buf → n ≤ length part
+pub is_read-more : (r : Reading) (at room n : ℕ) (buf part : List ℕ) (before now after : SystemState) → at ≤ length buf → n ≤ length part
     → (n ≡ 0 → ⊥) → IsRead r at buf before now → Reads r n part now after → IsRead r (at + n) (put_mid at room buf part) before after
 is_read-more r at room n buf part before now after within fits some h next = record {
   taken = read_after r at n buf part before now after h next ∙ ap (λ e. read_on r (at + n) e before) (not_zero n some);
-  fits = fits_more at n (source_at r before).left h.fits (subst (λ xs. n ≤ length xs) (left_now r at buf before now h) next.within);
+  fits = fits_more at n (state_of_read_stream r before).left h.fits (subst (λ xs. n ≤ length xs) (left_now r at buf before now h) next.within);
   bytes = take-put_mid_part at room n buf part within fits ∙ ap (λ l. l ++ take n part) h.bytes
-      ∙ ap (λ l. take at (source_at r before).left ++ l) (next.bytes ∙ ap (take n) (left_now r at buf before now h))
-      ∙ sym (take-add at n (source_at r before).left);
+      ∙ ap (λ l. take at (state_of_read_stream r before).left ++ l) (next.bytes ∙ ap (take n) (left_now r at buf before now h))
+      ∙ sym (take-add at n (state_of_read_stream r before).left);
 }
 
 -- what was taken by then
-pub is_read-takes : (r : Reading) (at : ℕ) (buf : List ℕ) (before now : World) → IsRead r at buf before now → TakesFrom r before now
+pub is_read-takes : (r : Reading) (at : ℕ) (buf : List ℕ) (before now : SystemState) → IsRead r at buf before now → TakesFrom r before now
 is_read-takes r at buf before now h = takes-read_on r at false before now h.taken
 
 -- and by a read more
-pub is_read-takes_more : (r : Reading) (at n : ℕ) (buf part : List ℕ) (before now after : World) → IsRead r at buf before now
+pub is_read-takes_more : (r : Reading) (at n : ℕ) (buf part : List ℕ) (before now after : SystemState) → IsRead r at buf before now
     → Reads r n part now after → TakesFrom r before after
 is_read-takes_more r at n buf part before now after h next =
     takes-read_on r (at + n) (n == 0) before after (read_after r at n buf part before now after h next)
@@ -131,30 +131,30 @@ full : (at room k : ℕ) → at ≤ k → at ≡ room → at ≡ min k room
 full at room k within none = grind (arith, common_steps)
 
 -- the stream is at its end
-pub beginning_at_end : (r : Reading) (at : ℕ) (buf : List ℕ) (before now : World) → at ≤ length buf → IsRead r at buf before now
-    → (source_at r now).left ≡ [] → IsBeginning (Some (source_at r before).left) at buf
+pub beginning_at_end : (r : Reading) (at : ℕ) (buf : List ℕ) (before now : SystemState) → at ≤ length buf → IsRead r at buf before now
+    → (state_of_read_stream r now).left ≡ [] → IsBeginning (Some (state_of_read_stream r before).left) at buf
 beginning_at_end r at buf before now within h end =
-    (no_more at (length buf) (source_at r before).left h.fits within (sym (left_now r at buf before now h) ∙ end), h.bytes)
+    (no_more at (length buf) (state_of_read_stream r before).left h.fits within (sym (left_now r at buf before now h) ∙ end), h.bytes)
 
 -- the stream is at its end, and the rest of the buffer was given a part
-pub beginning_at_put : (r : Reading) (at room : ℕ) (buf part : List ℕ) (before now : World) → at ≤ length buf → IsRead r at buf before now
-    → (source_at r now).left ≡ [] → length (put_mid at room buf part) ≡ length buf
-    → IsBeginning (Some (source_at r before).left) at (put_mid at room buf part)
+pub beginning_at_put : (r : Reading) (at room : ℕ) (buf part : List ℕ) (before now : SystemState) → at ≤ length buf → IsRead r at buf before now
+    → (state_of_read_stream r now).left ≡ [] → length (put_mid at room buf part) ≡ length buf
+    → IsBeginning (Some (state_of_read_stream r before).left) at (put_mid at room buf part)
 beginning_at_put r at room buf part before now within h end same =
     let whole = beginning_at_end r at buf before now within h end in (
-      whole.0 ∙ ap (min (length (source_at r before).left)) (sym same),
+      whole.0 ∙ ap (min (length (state_of_read_stream r before).left)) (sym same),
       take-put_mid_below at room buf part at (le_refl at) within ∙ whole.1,
     )
 
 -- the buffer is full
-pub beginning_when_full : (r : Reading) (at : ℕ) (buf : List ℕ) (before now : World) → at ≡ length buf → IsRead r at buf before now
-    → IsBeginning (Some (source_at r before).left) at buf
-beginning_when_full r at buf before now all h = (full at (length buf) (length (source_at r before).left) h.fits all, h.bytes)
+pub beginning_when_full : (r : Reading) (at : ℕ) (buf : List ℕ) (before now : SystemState) → at ≡ length buf → IsRead r at buf before now
+    → IsBeginning (Some (state_of_read_stream r before).left) at buf
+beginning_when_full r at buf before now all h = (full at (length buf) (length (state_of_read_stream r before).left) h.fits all, h.bytes)
 
 -- ---- a read or a write that was interrupted so often
 
 -- nothing has changed, and it was asked for so many times
-pub record IsInterrupted (times : ℕ) (before now : World) (files_before files_now : Files) (tries_before tries_now : ℕ)
+pub record IsInterrupted (times : ℕ) (before now : SystemState) (files_before files_now : Files) (tries_before tries_now : ℕ)
     : Type 0 where
   pub same : now ≡ before
   pub same_files : files_now ≡ files_before

@@ -2,7 +2,7 @@
 use Rattle.std.specs.Prelude.{◌≡◌, ◌⊎◌, Bool, true, false, Option, None, Some}
 use Rattle.tools.specs.declared.identity.FileIdentity.{FileIdentity}
 use Rattle.tools.specs.declared.identity.FileIdentity.TheVariants as identity
-use Rattle.tools.specs.declared.identity.FilesRead.{FilesRead}
+use Rattle.tools.specs.declared.identity.IdentitiesOfFilesRead.{IdentitiesOfFilesRead}
 
 -- whether it is a regular file
 abbrev pub is_regular : FileIdentity → Bool
@@ -10,6 +10,6 @@ is_regular (identity.Regular device inode) = true
 is_regular (identity.Block device) = false
 
 -- the file is a regular file or a block device, and one of those that are read
-abbrev pub Includes : FilesRead → Option FileIdentity → Type 0
-Includes read None = ⊥
-Includes read (Some identity) = (read.input ≡ Some identity) ⊎ (read.secret ≡ Some identity)
+abbrev pub IsAmongFilesRead : IdentitiesOfFilesRead → Option FileIdentity → Type 0
+IsAmongFilesRead read None = ⊥
+IsAmongFilesRead read (Some identity) = (read.input ≡ Some identity) ⊎ (read.secret ≡ Some identity)

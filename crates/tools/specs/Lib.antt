@@ -1,5 +1,5 @@
 -- What contracts see of a system, and of the host that is made of it.
 pub mod Identity
 pub mod Words
-pub mod World
+pub mod SystemState
 pub mod RunState

@@ -1,11 +1,11 @@
 -- What contracts see of a system's host: the host that is made of a system and of how far a run has come.
 use Rattle.std.specs.Prelude.{◌≡◌, Bool, true, false, not, ℕ, List, [], codes, drop, take, Option, None, Some, IsTrue, is_none, if◌then◌else◌}
 use Rattle.host.specs.Faults.{Faults}
-use Rattle.host.specs.GrantedCalls.{GrantedCalls, nothing_asked}
+use Rattle.host.specs.CallsGrantedByHost.{CallsGrantedByHost, nothing_asked}
 use Rattle.host.specs.Lines.{SaysOneLine}
 use Rattle.host.specs.Entries.{lookup}
 use Rattle.host.specs.HostState.{SecretSource, HostState, Text, env, file, stdin_once}
-use Rattle.tools.specs.World.{Files, IsApart, IsOutputSynced, IsOutputUnsynced, OpensNoOther, World}
+use Rattle.tools.specs.SystemState.{Files, IsOutputSeparate, IsOutputSynced, IsOutputUnsynced, OpensNoOther, SystemState}
 use Rattle.tools.specs.declared.run.InputStage.{InputStage}
 use Rattle.tools.specs.declared.run.InputStage.TheVariants as input
 use Rattle.tools.specs.declared.run.OutputStage.{OutputStage}
@@ -14,40 +14,40 @@ use Rattle.tools.specs.declared.run.OutputStage.TheVariants as output
 -- what contracts see of the host over a system: the system; the calls that are granted; the secret source that was
 -- asked, and whether a salt was asked for, whatever came of it
 pub record RunState : Type 0 where
-  pub world : World
-  pub grants : GrantedCalls
+  pub state : SystemState
+  pub grants : CallsGrantedByHost
   pub asked : Option SecretSource
   pub salted : Bool
 
 -- whether the input is not opened yet
-abbrev pub is_unopened : InputStage → Bool
-is_unopened input.Unopened = true
-is_unopened input.Opened = false
-is_unopened input.Ended = false
+abbrev pub is_input_unopened : InputStage → Bool
+is_input_unopened input.Unopened = true
+is_input_unopened input.Opened = false
+is_input_unopened input.Ended = false
 
 -- whether the input is opened, and its end was not found
-abbrev pub is_going : InputStage → Bool
-is_going input.Unopened = false
-is_going input.Opened = true
-is_going input.Ended = false
+abbrev pub is_input_open : InputStage → Bool
+is_input_open input.Unopened = false
+is_input_open input.Opened = true
+is_input_open input.Ended = false
 
 -- whether no output was asked for
-abbrev pub is_unasked : OutputStage → Bool
-is_unasked output.Unasked = true
-is_unasked output.Refused = false
-is_unasked output.Opened = false
-is_unasked output.Kept = false
-is_unasked output.Synced = false
-is_unasked output.Unsynced = false
+abbrev pub is_output_unasked : OutputStage → Bool
+is_output_unasked output.Unasked = true
+is_output_unasked output.Refused = false
+is_output_unasked output.Opened = false
+is_output_unasked output.Kept = false
+is_output_unasked output.Synced = false
+is_output_unasked output.Unsynced = false
 
 -- whether the output is in use
-abbrev pub is_in_use : OutputStage → Bool
-is_in_use output.Unasked = false
-is_in_use output.Refused = false
-is_in_use output.Opened = true
-is_in_use output.Kept = true
-is_in_use output.Synced = true
-is_in_use output.Unsynced = true
+abbrev pub is_output_opened : OutputStage → Bool
+is_output_opened output.Unasked = false
+is_output_opened output.Refused = false
+is_output_opened output.Opened = true
+is_output_opened output.Kept = true
+is_output_opened output.Synced = true
+is_output_opened output.Unsynced = true
 
 -- whether the output was not asked to be brought to the disk
 abbrev pub is_before_sync : OutputStage → Bool
@@ -59,20 +59,20 @@ is_before_sync output.Synced = false
 is_before_sync output.Unsynced = false
 
 -- the calls that are granted once a run has come so far
-abbrev pub grants_at : InputStage → OutputStage → Option SecretSource → Bool → GrantedCalls
-grants_at input_stage output_stage asked salted = record {
-  input = is_unopened input_stage;
-  readable = is_going input_stage;
-  output = is_unasked output_stage;
-  writable = is_in_use output_stage;
+abbrev pub granted_calls_at_stage : InputStage → OutputStage → Option SecretSource → Bool → CallsGrantedByHost
+granted_calls_at_stage input_stage output_stage asked salted = record {
+  input = is_input_unopened input_stage;
+  readable = is_input_open input_stage;
+  output = is_output_unasked output_stage;
+  writable = is_output_opened output_stage;
   secret = is_none asked;
   salt = not salted;
 }
 
 -- the bytes of what stands under a name, or none where it isn't there
-abbrev pub bytes_in : Option (List ℕ) → List ℕ
-bytes_in None = []
-bytes_in (Some bytes) = bytes
+abbrev pub bytes_or_empty : Option (List ℕ) → List ℕ
+bytes_or_empty None = []
+bytes_or_empty (Some bytes) = bytes
 
 -- the first 32 bytes of a file, or none where it isn't there
 abbrev pub salt_in : Option (List ℕ) → List ℕ
@@ -80,86 +80,86 @@ salt_in None = []
 salt_in (Some bytes) = take 32 bytes
 
 -- the salt of the host over a system: its first 32 random bytes
-abbrev pub salt_of : World → List ℕ
+abbrev pub salt_of : SystemState → List ℕ
 salt_of w = salt_in (lookup w.files (codes "/dev/urandom"))
 
 -- the bytes of a secret source of a system, if it is there
-abbrev pub secret_in : World → SecretSource → Option (List ℕ)
-secret_in w stdin_once = w.stdin
-secret_in w (env name) = lookup w.variables name
-secret_in w (file name) = lookup w.files name
+abbrev pub secret_bytes_in_system : SystemState → SecretSource → Option (List ℕ)
+secret_bytes_in_system w stdin_once = w.stdin
+secret_bytes_in_system w (env name) = lookup w.variables name
+secret_bytes_in_system w (file name) = lookup w.files name
 
 -- the name under which a secret source is opened, if it is a stream
-abbrev pub opened_for : Option SecretSource → Option (Option Text)
-opened_for None = None
-opened_for (Some stdin_once) = Some None
-opened_for (Some (env name)) = None
-opened_for (Some (file name)) = Some (Some name)
+abbrev pub name_opened_for_secret : Option SecretSource → Option (Option Text)
+name_opened_for_secret None = None
+name_opened_for_secret (Some stdin_once) = Some None
+name_opened_for_secret (Some (env name)) = None
+name_opened_for_secret (Some (file name)) = Some (Some name)
 
 -- the name under which random bytes are opened for a salt, if one was asked for
-abbrev pub opened_for_salt : Bool → Option (Option Text)
-opened_for_salt false = None
-opened_for_salt true = Some (Some (codes "/dev/urandom"))
+abbrev pub name_opened_for_salt : Bool → Option (Option Text)
+name_opened_for_salt false = None
+name_opened_for_salt true = Some (Some (codes "/dev/urandom"))
 
 -- what is left of the secret's stream once n bytes of a source were taken; a variable is no stream
-abbrev pub secret_left : SecretSource → ℕ → World → List ℕ
-secret_left stdin_once n w = drop n (bytes_in w.stdin)
-secret_left (env name) n w = w.secret.left
-secret_left (file name) n w = drop n (bytes_in (lookup w.files name))
+abbrev pub rest_of_secret_stream : SecretSource → ℕ → SystemState → List ℕ
+rest_of_secret_stream stdin_once n w = drop n (bytes_or_empty w.stdin)
+rest_of_secret_stream (env name) n w = w.secret.left
+rest_of_secret_stream (file name) n w = drop n (bytes_or_empty (lookup w.files name))
 
 -- what is seen of the host that is made of a system and of how far a run has come
 abbrev pub host_seen : RunState → HostState
 host_seen h = record {
-  input = h.world.input.left;
-  output = h.world.output;
-  input_opened = h.world.input.opened;
-  output_opened = if h.grants.writable then h.world.output_asked else None;
-  output_asked = h.world.output_asked;
+  input = h.state.input.left;
+  output = h.state.output;
+  input_opened = h.state.input.opened;
+  output_opened = if h.grants.writable then h.state.output_asked else None;
+  output_asked = h.state.output_asked;
   asked = h.asked;
   salted = h.salted;
-  said = h.world.said;
-  stdin = h.world.stdin;
-  variables = lookup h.world.variables;
-  files = lookup h.world.files;
-  salt = salt_of h.world;
+  said = h.state.said;
+  stdin = h.state.stdin;
+  variables = lookup h.state.variables;
+  files = lookup h.state.files;
+  salt = salt_of h.state;
 }
 
 -- what is seen of the host over a system that was not used yet
-abbrev pub host_over : World → HostState
-host_over w = host_seen (record { world = w; grants = nothing_asked; asked = None; salted = false })
+abbrev pub host_over : SystemState → HostState
+host_over w = host_seen (record { state = w; grants = nothing_asked; asked = None; salted = false })
 
 -- what a run leaves of a system: it stands as a host over it is seen at the end of the run. As a secret's stream it
 -- opened at most the source that the host was asked for, and random bytes at most for a salt; and it emptied nothing
 -- but an output that it opened
-pub record Leaves (after : World) (seen : HostState) : Type 0 where
+pub record Leaves (after : SystemState) (seen : HostState) : Type 0 where
   pub held : RunState
-  pub over : held.world ≡ after
+  pub over : held.state ≡ after
   pub same : host_seen held ≡ seen
-  pub secret : OpensNoOther (opened_for seen.asked) after.secret
-  pub random : OpensNoOther (opened_for_salt seen.salted) after.random
+  pub secret : OpensNoOther (name_opened_for_secret seen.asked) after.secret
+  pub random : OpensNoOther (name_opened_for_salt seen.salted) after.random
   pub unemptied : seen.output_opened ≡ None → after.is_emptied ≡ false
 
 -- of a run with these failures, whose host is seen like this, a line was said, or could not be said; and so the system
 -- is left
-pub record EndsWithLine (tells : Bool) (line : Text) (before : HostState) (faults_before : Faults) (after : World) (faults_after : Faults) : Type 0 where
+pub record EndsWithLine (tells : Bool) (line : Text) (before : HostState) (faults_before : Faults) (after : SystemState) (faults_after : Faults) : Type 0 where
   pub seen : HostState
   pub leaves : IsTrue tells → Leaves after seen
   pub says : SaysOneLine tells line before seen faults_before faults_after
 
 -- a run has come as far as its stages say; `told` is whether it tried to say a line
-pub record IsAt (input_stage : InputStage) (output_stage : OutputStage) (asked : Option SecretSource) (salted told : Bool) (grants : GrantedCalls) (w : World) (f : Files) : Type 0 where
+pub record IsAt (input_stage : InputStage) (output_stage : OutputStage) (asked : Option SecretSource) (salted told : Bool) (grants : CallsGrantedByHost) (w : SystemState) (f : Files) : Type 0 where
   pub unopened : grants.input ≡ true → w.input.opened ≡ None
   pub going : input_stage ≡ input.Opened → w.input.is_ended ≡ false
   pub ended : input_stage ≡ input.Ended → w.input.left ≡ []
   pub unasked : grants.secret ≡ true → w.secret.opened ≡ None
   pub unsalted : grants.salt ≡ true → w.random.opened ≡ None
   pub early : grants.output ≡ true → w.output_asked ≡ None
-  pub new : is_in_use output_stage ≡ true → w.is_new ≡ true
-  pub apart : is_in_use output_stage ≡ true → IsApart f
-  pub secret : OpensNoOther (opened_for asked) w.secret
-  pub random : OpensNoOther (opened_for_salt salted) w.random
-  pub named : is_in_use output_stage ≡ true → is_none w.output_asked ≡ false
-  pub unemptied : is_in_use output_stage ≡ false → w.is_emptied ≡ false
+  pub new : is_output_opened output_stage ≡ true → w.is_new ≡ true
+  pub apart : is_output_opened output_stage ≡ true → IsOutputSeparate f
+  pub secret : OpensNoOther (name_opened_for_secret asked) w.secret
+  pub random : OpensNoOther (name_opened_for_salt salted) w.random
+  pub named : is_output_opened output_stage ≡ true → is_none w.output_asked ≡ false
+  pub unemptied : is_output_opened output_stage ≡ false → w.is_emptied ≡ false
   pub streamed : output_stage ≡ output.Opened → w.is_kept ≡ false
   pub kept : output_stage ≡ output.Kept → w.is_kept ≡ true
   pub before_sync : is_before_sync output_stage ≡ true → w.sync_asked ≡ false

@@ -16,21 +16,21 @@ abbrev pub word_at : List Text → ℕ → Option Text
 word_at words place = first_word (drop place words)
 
 -- what a system gives of a word: all its bytes; or it says that the buffer is too short, or that there is no such word
-abbrev pub GivesWord : Option Text → Result ℕ WordFault → List ℕ → Type 0
-GivesWord None (Ok n) buf = ⊥
-GivesWord (Some word) (Ok n) buf = (n ≡ length word) × (take n buf ≡ word)
-GivesWord None (Err fault.Missing) buf = ⊤
-GivesWord (Some word) (Err fault.Missing) buf = ⊥
-GivesWord None (Err fault.TooLong) buf = ⊥
-GivesWord (Some word) (Err fault.TooLong) buf = length buf < length word
+abbrev pub GivesCommandLineWord : Option Text → Result ℕ WordFault → List ℕ → Type 0
+GivesCommandLineWord None (Ok n) buf = ⊥
+GivesCommandLineWord (Some word) (Ok n) buf = (n ≡ length word) × (take n buf ≡ word)
+GivesCommandLineWord None (Err fault.Missing) buf = ⊤
+GivesCommandLineWord (Some word) (Err fault.Missing) buf = ⊥
+GivesCommandLineWord None (Err fault.TooLong) buf = ⊥
+GivesCommandLineWord (Some word) (Err fault.TooLong) buf = length buf < length word
 
 -- where the fault says that this word is no text, the word is there and is not UTF-8
-abbrev pub IsNoText : WordsFault → Option Text → Type 0
-IsNoText words_fault.OutOfMemory word = ⊤
-IsNoText words_fault.NotText None = ⊥
-IsNoText words_fault.NotText (Some word) = IsUtf8 word → ⊥
+abbrev pub IsNonUtf8WordIfNotText : WordsFault → Option Text → Type 0
+IsNonUtf8WordIfNotText words_fault.OutOfMemory word = ⊤
+IsNonUtf8WordIfNotText words_fault.NotText None = ⊥
+IsNonUtf8WordIfNotText words_fault.NotText (Some word) = IsUtf8 word → ⊥
 
 -- where a word is said to be no text, one of the words after the name of the process is not UTF-8
-abbrev pub LacksText : WordsFault → List Text → Type 0
-LacksText words_fault.OutOfMemory words = ⊤
-LacksText words_fault.NotText words = (place : ℕ) × (0 < place) × IsNoText words_fault.NotText (word_at words place)
+abbrev pub HasNonUtf8WordIfNotText : WordsFault → List Text → Type 0
+HasNonUtf8WordIfNotText words_fault.OutOfMemory words = ⊤
+HasNonUtf8WordIfNotText words_fault.NotText words = (place : ℕ) × (0 < place) × IsNonUtf8WordIfNotText words_fault.NotText (word_at words place)

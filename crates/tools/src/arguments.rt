@@ -1,6 +1,6 @@
 //! The words after a program's name.
 ghost use Rattle.std.specs.Prelude.{◌≡◌, ◌++◌, ◌∷◌, [], drop, map, option_map, string_bytes, IfOk, IfErr, IsTrue, Some};
-ghost use Rattle.tools.specs.Words.{IsNoText, LacksText, word_at};
+ghost use Rattle.tools.specs.Words.{IsNonUtf8WordIfNotText, HasNonUtf8WordIfNotText, word_at};
 
 use crate::system::{System, WordFault};
 use std::alloc::{AllocError, Global};
@@ -22,14 +22,14 @@ const FIRST_ROOM: usize = 256;
 pub fn words<S: System>(system: &S, alloc: Global) -> Result<Vec<String>, WordsFault>
     ensures words { IsTrue S.tells → IfOk result (λ words.
         map string_bytes words.items ≡ drop 1 (S.words system.now)) }
-    ensures refused { IsTrue S.tells → IfErr result (λ fault. LacksText fault (S.words system.now)) }
+    ensures refused { IsTrue S.tells → IfErr result (λ fault. HasNonUtf8WordIfNotText fault (S.words system.now)) }
 {
     let mut words = Vec::new(alloc);
     for place in 1..usize::MAX {
         match word(system, alloc, place) {
             Err(fault) => return Err(fault),
             Ok(None) => return Ok(words),
-            Ok(Some(word)) => match with_word(words, word) {
+            Ok(Some(word)) => match append_word(words, word) {
                 Ok(more) => words = more,
                 Err(_) => return Err(WordsFault::OutOfMemory),
             },
@@ -39,7 +39,7 @@ pub fn words<S: System>(system: &S, alloc: Global) -> Result<Vec<String>, WordsF
 }
 
 // Words, and one more.
-fn with_word(mut words: Vec<String>, word: String) -> Result<Vec<String>, AllocError>
+fn append_word(mut words: Vec<String>, word: String) -> Result<Vec<String>, AllocError>
     ensures words { IfOk result (λ more.
         map string_bytes more.items ≡ map string_bytes words.items ++ (string_bytes word ∷ [])) }
 {
@@ -54,7 +54,7 @@ fn word<S: System>(system: &S, alloc: Global, place: usize) -> Result<Option<Str
     ensures word { IsTrue S.tells → IfOk result (λ word.
         option_map string_bytes word ≡ word_at (S.words system.now) place) }
     ensures refused { IsTrue S.tells → IfErr result (λ fault.
-        IsNoText fault (word_at (S.words system.now) place)) }
+        IsNonUtf8WordIfNotText fault (word_at (S.words system.now) place)) }
 {
     let mut room = FIRST_ROOM;
     loop {
@@ -79,7 +79,7 @@ fn word<S: System>(system: &S, alloc: Global, place: usize) -> Result<Option<Str
 // Bytes as a text.
 fn text_of(bytes: Vec<u8>) -> Result<Option<String>, WordsFault>
     ensures text { IfOk result (λ text. option_map string_bytes text ≡ Some bytes.items) }
-    ensures refused { IfErr result (λ fault. IsNoText fault (Some bytes.items)) }
+    ensures refused { IfErr result (λ fault. IsNonUtf8WordIfNotText fault (Some bytes.items)) }
 {
     match String::from_utf8(bytes) {
         Ok(text) => Ok(Some(text)),

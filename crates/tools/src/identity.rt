@@ -1,6 +1,6 @@
 //! Which file of the system a file is, whatever its names.
 ghost use Rattle.std.specs.Prelude.{◌≡◌, ◌↔◌, IsTrue};
-ghost use Rattle.tools.specs.Identity.{Includes, is_regular};
+ghost use Rattle.tools.specs.Identity.{IsAmongFilesRead, is_regular};
 
 /// A file that keeps what is written to it: it is the same under each of its names, and no other as long as it is there.
 #[derive(Clone, Copy, Debug, PartialEq, Eq)]
@@ -22,15 +22,15 @@ impl FileIdentity {
 
 /// The files that a run reads, where they are regular files or block devices.
 #[derive(Clone, Copy)]
-pub struct FilesRead {
+pub struct IdentitiesOfFilesRead {
     pub input: Option<FileIdentity>,
     pub secret: Option<FileIdentity>,
 }
 
-impl FilesRead {
+impl IdentitiesOfFilesRead {
     /// Whether this is one of them.
     pub fn includes(&self, file: Option<FileIdentity>) -> bool
-        ensures exact { IsTrue result ↔ Includes self.now file }
+        ensures exact { IsTrue result ↔ IsAmongFilesRead self.now file }
     {
         match file {
             None => false,

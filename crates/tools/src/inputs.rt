@@ -1,9 +1,9 @@
 //! What is read from its beginning: secrets and salts.
-ghost use Rattle.std.specs.Prelude.{◌≡◌, ℕ, List, None, drop, option_map, IfOk, OnOk, IsTrue, Some, codes};
+ghost use Rattle.std.specs.Prelude.{◌≡◌, ℕ, List, IfOk, OnOk, IsTrue, Some, codes};
 ghost use Rattle.host.specs.Secret.{IsBeginning, source_of};
 ghost use Rattle.host.specs.HostState.{env, FitsWithin};
-ghost use Rattle.tools.specs.RunState.{bytes_in, opened_for, salt_of, secret_in, secret_left};
-ghost use Rattle.tools.specs.World.{LeavesAllBut, OpensNoOther, stands_at, IsBeforeOutput, IsUnopened};
+ghost use Rattle.tools.specs.RunState.{name_opened_for_secret, salt_of, secret_bytes_in_system, rest_of_secret_stream};
+ghost use Rattle.tools.specs.SystemState.{LeavesAllBut, OpensNoOther, IsBeforeOutput, IsNotYetOpened};
 ghost use Rattle.tools.specs.declared.system.Reading.TheVariants as reading;
 
 use crate::streams::read_full;
@@ -21,47 +21,31 @@ pub fn read_secret<S: System>(
     source: Source<'_>,
     buf: &mut [u8],
 ) -> Result<usize, HostFault>
-    requires once { IsTrue S.tells → IsUnopened reading.Secret (S.world system.old) }
-    requires early { IsTrue S.tells → IsBeforeOutput (S.world system.old) }
+    requires once { IsTrue S.tells → IsNotYetOpened reading.Secret (S.state system.old) }
+    requires early { IsTrue S.tells → IsBeforeOutput (S.state system.old) }
     ensures bound { FitsWithin result buf.old }
     ensures kept { IsTrue S.tells →
-        LeavesAllBut reading.Secret (S.world system.old) (S.world system.new) }
+        LeavesAllBut reading.Secret (S.state system.old) (S.state system.new) }
     ensures bytes { IsTrue S.tells → IfOk result (λ n.
-        IsBeginning (secret_in (S.world system.old) (source_of source.entry)) n buf.new) }
-    ensures left { IsTrue S.tells → IfOk result (λ n. (S.world system.new).secret.left
-        ≡ secret_left (source_of source.entry) n (S.world system.old)) }
+        IsBeginning (secret_bytes_in_system (S.state system.old) (source_of source.entry)) n buf.new) }
+    ensures left { IsTrue S.tells → IfOk result (λ n. (S.state system.new).secret.left
+        ≡ rest_of_secret_stream (source_of source.entry) n (S.state system.old)) }
     ensures no_other { IsTrue S.tells →
-        OpensNoOther (opened_for (Some (source_of source.entry))) (S.world system.new).secret }
+        OpensNoOther (name_opened_for_secret (Some (source_of source.entry))) (S.state system.new).secret }
     ensures variable { (name : List ℕ) → source_of source.entry ≡ env name → IsTrue S.tells →
-        S.world system.new ≡ S.world system.old }
+        S.state system.new ≡ S.state system.old }
 {
     match source {
-        Source::StdinOnce => read_opened(system, None, buf),
+        Source::StdinOnce => {
+            system.open(Reading::Secret, None)?;
+            read_full(system, Reading::Secret, buf)
+        }
         Source::Env(name) => system.variable(name, buf),
-        Source::File(name) => read_opened(system, Some(name), buf),
+        Source::File(name) => {
+            system.open(Reading::Secret, Some(name))?;
+            read_full(system, Reading::Secret, buf)
+        }
     }
-}
-
-// The first bytes of what has this name.
-fn read_opened<S: System>(
-    system: &mut S,
-    name: Option<&str>,
-    buf: &mut [u8],
-) -> Result<usize, HostFault>
-    requires once { IsTrue S.tells → IsUnopened reading.Secret (S.world system.old) }
-    requires early { IsTrue S.tells → IsBeforeOutput (S.world system.old) }
-    ensures bound { FitsWithin result buf.old }
-    ensures kept { IsTrue S.tells →
-        LeavesAllBut reading.Secret (S.world system.old) (S.world system.new) }
-    ensures bytes { IsTrue S.tells → IfOk result (λ n. IsBeginning
-        (stands_at (option_map (λ n. n.now) name.entry) (S.world system.old)) n buf.new) }
-    ensures left { IsTrue S.tells → IfOk result (λ n. (S.world system.new).secret.left
-        ≡ drop n (bytes_in (stands_at (option_map (λ n. n.now) name.entry) (S.world system.old)))) }
-    ensures no_other { IsTrue S.tells →
-        OpensNoOther (Some (option_map (λ n. n.now) name.entry)) (S.world system.new).secret }
-{
-    system.open(Reading::Secret, name)?;
-    read_full(system, Reading::Secret, buf)
 }
 
 /// A salt of random bytes: the first 32 of `/dev/urandom`. A source that cannot be opened, that fails at a
@@ -69,13 +53,13 @@ fn read_opened<S: System>(
 ///
 /// This is how a host over a system takes its salt: once, and before an output is asked for.
 pub fn read_salt<S: System>(system: &mut S, out: &mut [u8; 32]) -> Result<(), HostFault>
-    requires once { IsTrue S.tells → IsUnopened reading.Random (S.world system.old) }
-    requires early { IsTrue S.tells → IsBeforeOutput (S.world system.old) }
+    requires once { IsTrue S.tells → IsNotYetOpened reading.Random (S.state system.old) }
+    requires early { IsTrue S.tells → IsBeforeOutput (S.state system.old) }
     ensures kept { IsTrue S.tells →
-        LeavesAllBut reading.Random (S.world system.old) (S.world system.new) }
-    ensures random { IsTrue S.tells → OnOk result (out.new ≡ salt_of (S.world system.old)) }
+        LeavesAllBut reading.Random (S.state system.old) (S.state system.new) }
+    ensures random { IsTrue S.tells → OnOk result (out.new ≡ salt_of (S.state system.old)) }
     ensures no_other { IsTrue S.tells →
-        OpensNoOther (Some (Some (codes "/dev/urandom"))) (S.world system.new).random }
+        OpensNoOther (Some (Some (codes "/dev/urandom"))) (S.state system.new).random }
 {
     system.open(Reading::Random, Some("/dev/urandom"))?;
     if read_full(system, Reading::Random, out)? == out.len() {

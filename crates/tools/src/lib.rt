@@ -3,7 +3,7 @@
 #![tactic(auto)]
 
 mod arguments;
-mod failure_counts;
+mod failed_call_counts;
 mod identity;
 mod inputs;
 mod lines;
@@ -14,12 +14,12 @@ mod system;
 mod system_host;
 
 pub use arguments::{WordsFault, words};
-pub use failure_counts::FailureCounts;
+pub use failed_call_counts::RunFailureCounts;
 pub use identity::FileIdentity;
 pub use inputs::{read_salt, read_secret};
-pub use lines::say_apart;
+pub use lines::say_if_stderr_is_separate;
 pub use outputs::open_apart;
 pub use run::Run;
 pub use streams::{read_full, read_some, write_some};
-pub use system::{Reading, Stream, System, WordFault};
+pub use system::{Reading, StreamRole, System, WordFault};
 pub use system_host::SystemHost;

@@ -1,10 +1,10 @@
 //! What is written: an output that is no file that is read.
 ghost use Rattle.std.specs.Prelude.{◌≡◌, false, true, option_map, IfOk, OnOk, IsTrue};
 ghost use Rattle.host.specs.HostState.{KeepsOnErr};
-ghost use Rattle.tools.specs.World.{AsksOutput, IsApart, IsBeforeOutput, IsBeforeSync};
+ghost use Rattle.tools.specs.SystemState.{AsksOutput, IsOutputSeparate, IsBeforeOutput, IsBeforeSync};
 
-use crate::identity::FilesRead;
-use crate::system::{Stream, System};
+use crate::identity::IdentitiesOfFilesRead;
+use crate::system::{StreamRole, System};
 use host::HostFault;
 
 /// Opens an output, and says whether it is kept: a regular file, which is emptied, or a block device, that was
@@ -14,23 +14,23 @@ use host::HostFault;
 ///
 /// This is how a host over a system opens its output: once.
 pub fn open_apart<S: System>(system: &mut S, name: Option<&str>) -> Result<bool, HostFault>
-    requires once { IsTrue S.tells → IsBeforeOutput (S.world system.old) }
-    requires unsynced { IsTrue S.tells → IsBeforeSync (S.world system.old) }
+    requires once { IsTrue S.tells → IsBeforeOutput (S.state system.old) }
+    requires unsynced { IsTrue S.tells → IsBeforeSync (S.state system.old) }
     ensures asks { IsTrue S.tells → AsksOutput (option_map (λ n. n.now) name.entry)
-        (S.world system.old) (S.world system.new) }
+        (S.state system.old) (S.state system.new) }
     ensures untouched { IsTrue S.tells →
-        KeepsOnErr result (S.world system.old).is_emptied (S.world system.new).is_emptied }
-    ensures new { IsTrue S.tells → OnOk result ((S.world system.new).is_new ≡ true) }
-    ensures apart { IsTrue S.tells → OnOk result (IsApart (S.files system.new)) }
-    ensures kept { IsTrue S.tells → IfOk result (λ is_kept. (S.world system.new).is_kept ≡ is_kept) }
+        KeepsOnErr result (S.state system.old).is_emptied (S.state system.new).is_emptied }
+    ensures new { IsTrue S.tells → OnOk result ((S.state system.new).is_new ≡ true) }
+    ensures apart { IsTrue S.tells → OnOk result (IsOutputSeparate (S.files system.new)) }
+    ensures kept { IsTrue S.tells → IfOk result (λ is_kept. (S.state system.new).is_kept ≡ is_kept) }
 {
     system.open_output(name)?;
-    let Some(output) = system.file(Stream::Output)? else {
+    let Some(output) = system.file(StreamRole::Output)? else {
         return Ok(false);
     };
-    let read = FilesRead {
-        input: system.file(Stream::Input)?,
-        secret: system.file(Stream::Secret)?,
+    let read = IdentitiesOfFilesRead {
+        input: system.file(StreamRole::Input)?,
+        secret: system.file(StreamRole::Secret)?,
     };
     if read.includes(Some(output)) {
         return Err(HostFault);

@@ -1,14 +1,14 @@
 //! A run over a system: the system, and how far the run has come.
 ghost use Rattle.std.specs.Prelude.{◌≡◌, ◌<◌, ℕ, List, None, [], length, option_map, take, IfOk, OnOk, OnErr, IsTrue, true, false};
 ghost use Rattle.host.specs.AskedSource.{asked_source};
-ghost use Rattle.host.specs.GrantedCalls.{nothing_asked, with_input_opened, with_output_asked, with_output_opened, with_salt_asked, with_secret_asked};
-ghost use Rattle.host.specs.Secret.{IsBeginning, secret_of, source_of};
-ghost use Rattle.host.specs.HostState.{after_ask, after_ask_output, after_open_input, after_open_output, after_pull, after_push, after_salt, after_say, env, FitsWithin, KeepsOnErr, KeepsOnOk, TakesSome};
-ghost use Rattle.tools.specs.RunState.{Leaves, host_seen, secret_left};
-ghost use Rattle.tools.specs.World.{IsOutputSynced, IsOutputUnsynced, IsUnused, after_line};
+ghost use Rattle.host.specs.CallsGrantedByHost.{nothing_asked, with_input_opened, with_output_asked, with_output_opened, with_salt_asked, with_secret_asked};
+ghost use Rattle.host.specs.Secret.{IsBeginning, secret_of_source, source_of};
+ghost use Rattle.host.specs.HostState.{after_ask_secret, after_ask_output, after_open_input, after_open_output, after_pull, after_push, after_salt, after_say, env, FitsWithin, KeepsOnErr, KeepsOnOk, TakesSome};
+ghost use Rattle.tools.specs.RunState.{Leaves, host_seen, rest_of_secret_stream};
+ghost use Rattle.tools.specs.SystemState.{IsOutputSynced, IsOutputUnsynced, IsUnused, after_line};
 
 use crate::inputs::{read_salt, read_secret};
-use crate::lines::say_apart;
+use crate::lines::say_if_stderr_is_separate;
 use crate::outputs::open_apart;
 use crate::streams::{read_some, write_some};
 use crate::system::{Reading, System};
@@ -66,28 +66,28 @@ pub struct Run<S: System> {
 impl<S: System> Model for Run<S> {
     ghost use Rattle.std.specs.Prelude.{option_map, IsTrue};
     ghost use Rattle.host.specs.AskedSource.{asked_source};
-    ghost use Rattle.tools.specs.RunState.{RunState, IsAt, grants_at};
+    ghost use Rattle.tools.specs.RunState.{RunState, IsAt, granted_calls_at_stage};
 
     ghost Value = { RunState };
 
     ghost view = { λ r. record {
-      world = S.world r.system;
-      grants = grants_at r.input r.output (option_map asked_source r.asked) r.salted;
+      state = S.state r.system;
+      grants = granted_calls_at_stage r.input r.output (option_map asked_source r.asked) r.salted;
       asked = option_map asked_source r.asked;
       salted = r.salted;
     } };
 
     ghost invariant = { λ r. IsTrue S.tells →
         IsAt r.input r.output (option_map asked_source r.asked) r.salted r.told
-        (grants_at r.input r.output (option_map asked_source r.asked) r.salted)
-        (S.world r.system) (S.files r.system) };
+        (granted_calls_at_stage r.input r.output (option_map asked_source r.asked) r.salted)
+        (S.state r.system) (S.files r.system) };
 }
 
 impl<S: System> Run<S> {
     /// A run that is to begin, over a system of which nothing was used.
     pub fn new(system: S) -> Run<S>
-        requires unused { IsTrue S.tells → IsUnused (S.world system) }
-        ensures seen { result ≡ record { world = S.world system; grants = nothing_asked; asked = None; salted = false } }
+        requires unused { IsTrue S.tells → IsUnused (S.state system) }
+        ensures seen { result ≡ record { state = S.state system; grants = nothing_asked; asked = None; salted = false } }
     {
         Run {
             system,
@@ -101,15 +101,15 @@ impl<S: System> Run<S> {
 
     /// The system.
     pub fn system(&self) -> &S
-        ensures same { S.world result.now ≡ self.now.world }
+        ensures same { S.state result.now ≡ self.now.state }
     {
         &self.system
     }
 
     /// The system, as the run left it, at the end of the run.
     pub fn into_system(self) -> S
-        ensures same { S.world result ≡ self.world }
-        ensures leaves { IsTrue S.tells → Leaves (S.world result) (host_seen self) }
+        ensures same { S.state result ≡ self.state }
+        ensures leaves { IsTrue S.tells → Leaves (S.state result) (host_seen self) }
     {
         let Run {
             system,
@@ -177,7 +177,7 @@ impl<S: System> Run<S> {
         ensures opened { IsTrue S.tells → OnOk result (host_seen self.new
             ≡ after_open_output (option_map (λ n. n.now) name.entry) (host_seen self.old)) }
         ensures untouched { IsTrue S.tells →
-            KeepsOnErr result self.old.world.is_emptied self.new.world.is_emptied }
+            KeepsOnErr result self.old.state.is_emptied self.new.state.is_emptied }
         ensures granted { OnOk result (self.new.grants ≡ with_output_opened self.old.grants) }
         ensures granted_no_other { OnErr result (self.new.grants ≡ with_output_asked self.old.grants) }
     {
@@ -195,13 +195,13 @@ impl<S: System> Run<S> {
     pub fn pull(&mut self, buf: &mut [u8]) -> Result<usize, HostFault>
         ensures bound { FitsWithin result buf.old }
         ensures kept { IsTrue S.tells → KeepsOnErr result (host_seen self.old) (host_seen self.new) }
-        ensures within { IsTrue S.tells → FitsWithin result self.old.world.input.left }
+        ensures within { IsTrue S.tells → FitsWithin result self.old.state.input.left }
         ensures bytes { IsTrue S.tells →
-            IfOk result (λ n. take n buf.new ≡ take n self.old.world.input.left) }
+            IfOk result (λ n. take n buf.new ≡ take n self.old.state.input.left) }
         ensures taken { IsTrue S.tells →
             IfOk result (λ n. host_seen self.new ≡ after_pull n (host_seen self.old)) }
         ensures progress { IsTrue S.tells → IfOk result (λ n.
-            0 < length buf.old → n ≡ 0 → self.old.world.input.left ≡ []) }
+            0 < length buf.old → n ≡ 0 → self.old.state.input.left ≡ []) }
         ensures granted { IfOk result (λ n. 0 < n → self.new.grants ≡ self.old.grants) }
         ensures still_writable { KeepsOnOk result self.old.grants.writable self.new.grants.writable }
     {
@@ -237,9 +237,9 @@ impl<S: System> Run<S> {
     /// there once, and not written afterwards. Where no output was opened, that is a fault.
     pub fn sync(&mut self) -> Result<(), HostFault>
         ensures seen { IsTrue S.tells → host_seen self.new ≡ host_seen self.old }
-        ensures output_synced { IsTrue S.tells → OnOk result (IsOutputSynced self.new.world) }
+        ensures output_synced { IsTrue S.tells → OnOk result (IsOutputSynced self.new.state) }
         ensures output_unsynced { IsTrue S.tells → self.old.grants.writable ≡ true →
-            OnErr result (IsOutputUnsynced self.new.world) }
+            OnErr result (IsOutputUnsynced self.new.state) }
         ensures granted { self.new.grants ≡ self.old.grants }
     {
         match self.output {
@@ -261,13 +261,13 @@ impl<S: System> Run<S> {
         ensures early { OnOk result (self.old.grants.output ≡ true) }
         ensures bound { FitsWithin result buf.old }
         ensures asks { IsTrue S.tells →
-            host_seen self.new ≡ after_ask (source_of source.entry) (host_seen self.old) }
+            host_seen self.new ≡ after_ask_secret (source_of source.entry) (host_seen self.old) }
         ensures bytes { IsTrue S.tells → IfOk result (λ n.
-            IsBeginning (secret_of source.entry (host_seen self.old)) n buf.new) }
-        ensures left { IsTrue S.tells → IfOk result (λ n. self.new.world.secret.left
-            ≡ secret_left (source_of source.entry) n self.old.world) }
+            IsBeginning (secret_of_source source.entry (host_seen self.old)) n buf.new) }
+        ensures left { IsTrue S.tells → IfOk result (λ n. self.new.state.secret.left
+            ≡ rest_of_secret_stream (source_of source.entry) n self.old.state) }
         ensures variable { (name : List ℕ) → source_of source.entry ≡ env name → IsTrue S.tells →
-            self.new.world ≡ self.old.world }
+            self.new.state ≡ self.old.state }
         ensures granted { self.new.grants ≡ with_secret_asked self.old.grants }
     {
         self.asked = Some(AskedSource::of(&source));
@@ -297,15 +297,15 @@ impl<S: System> Run<S> {
         ensures kept { IsTrue S.tells → KeepsOnErr result (host_seen self.old) (host_seen self.new) }
         ensures said { IsTrue S.tells →
             OnOk result (host_seen self.new ≡ after_say line.now (host_seen self.old)) }
-        ensures kept_system { IsTrue S.tells → KeepsOnErr result self.old.world self.new.world }
+        ensures kept_system { IsTrue S.tells → KeepsOnErr result self.old.state self.new.state }
         ensures said_by_system { IsTrue S.tells →
-            OnOk result (self.new.world ≡ after_line line.now self.old.world) }
+            OnOk result (self.new.state ≡ after_line line.now self.old.state) }
         ensures granted { self.new.grants ≡ self.old.grants }
     {
         if self.told {
             return Err(HostFault);
         }
         self.told = true;
-        say_apart(&mut self.system, line)
+        say_if_stderr_is_separate(&mut self.system, line)
     }
 }

@@ -2,14 +2,14 @@
 ghost use Rattle.std.specs.Prelude.{◌≡◌, ◌+◌, ◌<◌, ◌≤◌, ℕ, Some, true, drop, take, length, IfOk, IsTrue};
 ghost use Rattle.host.specs.Secret.{IsBeginning};
 ghost use Rattle.host.specs.HostState.{FitsWithin, KeepsOnErr, TakesSome};
-ghost use Rattle.tools.specs.World.{IsApart, Reads, TakesFrom, after_write, source_at, IsBeforeSync, IsGoing};
+ghost use Rattle.tools.specs.SystemState.{IsOutputSeparate, Reads, TakesFrom, after_write, state_of_read_stream, IsBeforeSync, ReadStreamHasNotEnded};
 
 use crate::system::{Reading, System};
 use host::HostFault;
 use std::io::ErrorKind;
 
 // How often an interrupted read or write is asked again.
-const TRIES: usize = 16;
+const INTERRUPT_RETRIES: usize = 16;
 
 /// One read, asked again where a signal interrupts it, at most 16 times. It says how many bytes came: 0
 /// only at the end. A read that fails otherwise, or is interrupted once more, is a fault, after which
@@ -22,15 +22,15 @@ pub fn read_some<S: System>(
     buf: &mut [u8],
 ) -> Result<usize, HostFault>
     requires not_empty { 0 < length buf.old }
-    requires going { IsTrue S.tells → IsGoing reading (S.world system.old) }
+    requires going { IsTrue S.tells → ReadStreamHasNotEnded reading (S.state system.old) }
     ensures bound { FitsWithin result buf.old }
-    ensures kept { IsTrue S.tells → KeepsOnErr result (S.world system.old) (S.world system.new) }
+    ensures kept { IsTrue S.tells → KeepsOnErr result (S.state system.old) (S.state system.new) }
     ensures bytes { IsTrue S.tells → IfOk result (λ n.
-        Reads reading n buf.new (S.world system.old) (S.world system.new)) }
+        Reads reading n buf.new (S.state system.old) (S.state system.new)) }
     ensures same_files { IsTrue S.tells → S.files system.new ≡ S.files system.old }
     ensures tries { IsTrue S.tells → S.tries system.new ≤ S.tries system.old + 17 }
 {
-    for _ in 0..=TRIES {
+    for _ in 0..=INTERRUPT_RETRIES {
         match system.read(reading, buf) {
             Ok(n) => return Ok(n),
             Err(e) if e.kind() == ErrorKind::Interrupted => {}
@@ -49,13 +49,13 @@ pub fn read_full<S: System>(
     reading: Reading,
     buf: &mut [u8],
 ) -> Result<usize, HostFault>
-    requires going { IsTrue S.tells → IsGoing reading (S.world system.old) }
+    requires going { IsTrue S.tells → ReadStreamHasNotEnded reading (S.state system.old) }
     ensures bound { FitsWithin result buf.old }
     ensures whole { IsTrue S.tells → IfOk result (λ n.
-        IsBeginning (Some (source_at reading (S.world system.old)).left) n buf.new) }
-    ensures left { IsTrue S.tells → IfOk result (λ n. (source_at reading (S.world system.new)).left
-        ≡ drop n (source_at reading (S.world system.old)).left) }
-    ensures taken { IsTrue S.tells → TakesFrom reading (S.world system.old) (S.world system.new) }
+        IsBeginning (Some (state_of_read_stream reading (S.state system.old)).left) n buf.new) }
+    ensures left { IsTrue S.tells → IfOk result (λ n. (state_of_read_stream reading (S.state system.new)).left
+        ≡ drop n (state_of_read_stream reading (S.state system.old)).left) }
+    ensures taken { IsTrue S.tells → TakesFrom reading (S.state system.old) (S.state system.new) }
     ensures same_files { IsTrue S.tells → S.files system.new ≡ S.files system.old }
 {
     let mut at = 0;
@@ -76,21 +76,21 @@ pub fn read_full<S: System>(
 ///
 /// This is how a host over a system pushes to its output.
 pub fn write_some<S: System>(system: &mut S, bytes: &[u8]) -> Result<usize, HostFault>
-    requires apart { IsTrue S.tells → IsApart (S.files system.old) }
-    requires new { IsTrue S.tells → (S.world system.old).is_new ≡ true }
-    requires unsynced { IsTrue S.tells → IsBeforeSync (S.world system.old) }
+    requires apart { IsTrue S.tells → IsOutputSeparate (S.files system.old) }
+    requires new { IsTrue S.tells → (S.state system.old).is_new ≡ true }
+    requires unsynced { IsTrue S.tells → IsBeforeSync (S.state system.old) }
     ensures bound { FitsWithin result bytes.now }
     ensures progress { TakesSome result bytes.now }
-    ensures kept { IsTrue S.tells → KeepsOnErr result (S.world system.old) (S.world system.new) }
+    ensures kept { IsTrue S.tells → KeepsOnErr result (S.state system.old) (S.state system.new) }
     ensures put { IsTrue S.tells → IfOk result (λ n.
-        S.world system.new ≡ after_write (take n bytes.now) (S.world system.old)) }
+        S.state system.new ≡ after_write (take n bytes.now) (S.state system.old)) }
     ensures same_files { IsTrue S.tells → S.files system.new ≡ S.files system.old }
     ensures tries { IsTrue S.tells → S.tries system.new ≤ S.tries system.old + 17 }
 {
     if bytes.is_empty() {
         return Ok(0);
     }
-    for _ in 0..=TRIES {
+    for _ in 0..=INTERRUPT_RETRIES {
         match system.write(bytes) {
             Ok(0) => return Err(HostFault),
             Ok(written) => return Ok(written),

@@ -3,8 +3,8 @@ ghost use Rattle.std.specs.Prelude.{◌≡◌, ◌+◌, ◌<◌, Bool, ℕ, List
 ghost use Rattle.host.specs.Entries.{lookup};
 ghost use Rattle.host.specs.Secret.{IsBeginning};
 ghost use Rattle.host.specs.HostState.{Text, FitsWithin, KeepsOnErr};
-ghost use Rattle.tools.specs.Words.{GivesWord, word_at};
-ghost use Rattle.tools.specs.World.{Files, IsApart, Opens, Reads, SaysApart, World, after_ask_output, after_ask_sync, after_empty, after_line, after_open_output, after_sync, after_write, file_of, IsBeforeOutput, IsBeforeSync, IsGoing, IsUnopened};
+ghost use Rattle.tools.specs.Words.{GivesCommandLineWord, word_at};
+ghost use Rattle.tools.specs.SystemState.{Files, IsOutputSeparate, Opens, Reads, HasSeparateErrorStream, SystemState, after_ask_output, after_ask_sync, after_empty, after_line, after_open_output, after_sync, after_write, identity_of_stream, IsBeforeOutput, IsBeforeSync, ReadStreamHasNotEnded, IsNotYetOpened};
 
 use crate::identity::FileIdentity;
 use host::HostFault;
@@ -32,7 +32,7 @@ pub enum Reading {
 
 /// A stream that may be a file which must not be lost: an opened one, or standard error.
 #[derive(Clone, Copy)]
-pub enum Stream {
+pub enum StreamRole {
     /// The input.
     Input,
     /// The source of a secret.
@@ -46,7 +46,7 @@ pub enum Stream {
 /// The system, with a method for each of its calls. It keeps what it opens: one stream of each
 /// [`Reading`], and an output.
 ///
-/// Contracts see whether the system tells its bytes (`tells`); its bytes, names and lines (`world`);
+/// Contracts see whether the system tells its bytes (`tells`); its bytes, names and lines (`state`);
 /// which regular files and block devices its streams are (`files`), which may change when a file is opened,
 /// as where a file system of layers copies a file that is opened to be written; how often a read or a write
 /// was asked for (`tries`); and the words of the process (`words`). Of a system that tells nothing only the
@@ -63,7 +63,7 @@ pub trait System {
     ghost tells: { Bool };
 
     // The bytes, names and lines.
-    ghost world: { Self → World };
+    ghost state: { Self → SystemState };
 
     // Which regular files and block devices the opened streams are.
     ghost files: { Self → Files };
@@ -78,85 +78,85 @@ pub trait System {
     /// is at place 0.
     fn word(&self, place: usize, buf: &mut [u8]) -> Result<usize, WordFault>
         ensures bound { FitsWithin result buf.old }
-        ensures bytes { IsTrue tells → GivesWord (word_at (words self.now) place) result buf.new };
+        ensures bytes { IsTrue tells → GivesCommandLineWord (word_at (words self.now) place) result buf.new };
 
     /// Puts the first bytes of a variable into the buffer, as many as there are and as fit.
     fn variable(&self, name: &str, buf: &mut [u8]) -> Result<usize, HostFault>
         ensures bound { FitsWithin result buf.old }
         ensures bytes { IsTrue tells → IfOk result (λ n.
-            IsBeginning (lookup (world self.now).variables name.now) n buf.new) };
+            IsBeginning (lookup (state self.now).variables name.now) n buf.new) };
 
     /// Opens what has this name, to be read from its beginning; `None` is standard input.
     fn open(&mut self, reading: Reading, name: Option<&str>) -> Result<(), HostFault>
-        requires once { IsTrue tells → IsUnopened reading (world self.old) }
-        requires early { IsTrue tells → IsBeforeOutput (world self.old) }
-        ensures kept { IsTrue tells → KeepsOnErr result (world self.old) (world self.new) }
+        requires once { IsTrue tells → IsNotYetOpened reading (state self.old) }
+        requires early { IsTrue tells → IsBeforeOutput (state self.old) }
+        ensures kept { IsTrue tells → KeepsOnErr result (state self.old) (state self.new) }
         ensures opened { IsTrue tells → OnOk result
-            (Opens reading (option_map (λ n. n.now) name.entry) (world self.old) (world self.new)) };
+            (Opens reading (option_map (λ n. n.now) name.entry) (state self.old) (state self.new)) };
 
     /// Reads the next bytes of an opened stream, and says how many. After an error nothing was read.
     fn read(&mut self, reading: Reading, buf: &mut [u8]) -> io::Result<usize>
         requires not_empty { 0 < length buf.old }
-        requires going { IsTrue tells → IsGoing reading (world self.old) }
+        requires going { IsTrue tells → ReadStreamHasNotEnded reading (state self.old) }
         ensures bound { FitsWithin result buf.old }
-        ensures kept { IsTrue tells → KeepsOnErr result (world self.old) (world self.new) }
+        ensures kept { IsTrue tells → KeepsOnErr result (state self.old) (state self.new) }
         ensures bytes { IsTrue tells → IfOk result (λ n.
-            Reads reading n buf.new (world self.old) (world self.new)) }
+            Reads reading n buf.new (state self.old) (state self.new)) }
         ensures same_files { IsTrue tells → files self.new ≡ files self.old }
         ensures tried { IsTrue tells → tries self.new ≡ tries self.old + 1 };
 
     /// Opens an output, which holds what it held before; `None` is standard output. No output was asked
     /// for before; this one is asked for, whatever the answer.
     fn open_output(&mut self, name: Option<&str>) -> Result<(), HostFault>
-        requires once { IsTrue tells → IsBeforeOutput (world self.old) }
+        requires once { IsTrue tells → IsBeforeOutput (state self.old) }
         ensures asks { IsTrue tells → OnErr result
-            (world self.new ≡ after_ask_output (option_map (λ n. n.now) name.entry) (world self.old)) }
-        ensures opened { IsTrue tells → OnOk result (world self.new ≡ after_open_output
-            (option_map (λ n. n.now) name.entry) (files self.new).output (world self.old)) };
+            (state self.new ≡ after_ask_output (option_map (λ n. n.now) name.entry) (state self.old)) }
+        ensures opened { IsTrue tells → OnOk result (state self.new ≡ after_open_output
+            (option_map (λ n. n.now) name.entry) (files self.new).output (state self.old)) };
 
     /// Which regular file or block device a stream is, if it is one. What is not opened is none.
-    fn file(&self, stream: Stream) -> Result<Option<FileIdentity>, HostFault>
-        ensures found { IsTrue tells → IfOk result (λ file. file ≡ file_of stream (files self.now)) };
+    fn file(&self, stream: StreamRole) -> Result<Option<FileIdentity>, HostFault>
+        ensures found { IsTrue tells → IfOk result (λ file. file ≡ identity_of_stream stream (files self.now)) };
 
     /// Takes away what the output holds: a regular file that was opened by its name, was neither emptied
     /// nor asked to be brought to the disk, and is none that is read.
     fn empty(&mut self) -> Result<(), HostFault>
-        requires due { IsTrue tells → (world self.old).is_new ≡ false }
-        requires apart { IsTrue tells → IsApart (files self.old) }
-        requires unsynced { IsTrue tells → IsBeforeSync (world self.old) }
-        ensures kept { IsTrue tells → KeepsOnErr result (world self.old) (world self.new) }
-        ensures emptied { IsTrue tells → OnOk result (world self.new ≡ after_empty (world self.old)) }
+        requires due { IsTrue tells → (state self.old).is_new ≡ false }
+        requires apart { IsTrue tells → IsOutputSeparate (files self.old) }
+        requires unsynced { IsTrue tells → IsBeforeSync (state self.old) }
+        ensures kept { IsTrue tells → KeepsOnErr result (state self.old) (state self.new) }
+        ensures emptied { IsTrue tells → OnOk result (state self.new ≡ after_empty (state self.old)) }
         ensures same_files { IsTrue tells → files self.new ≡ files self.old };
 
     /// Writes a beginning of the bytes, and says how many. The output is no file that is read, is new, and was
     /// not asked to be brought to the disk. After an error nothing was written.
     fn write(&mut self, bytes: &[u8]) -> io::Result<usize>
         requires not_empty { 0 < length bytes.now }
-        requires apart { IsTrue tells → IsApart (files self.old) }
-        requires new { IsTrue tells → (world self.old).is_new ≡ true }
-        requires unsynced { IsTrue tells → IsBeforeSync (world self.old) }
+        requires apart { IsTrue tells → IsOutputSeparate (files self.old) }
+        requires new { IsTrue tells → (state self.old).is_new ≡ true }
+        requires unsynced { IsTrue tells → IsBeforeSync (state self.old) }
         ensures bound { FitsWithin result bytes.now }
-        ensures kept { IsTrue tells → KeepsOnErr result (world self.old) (world self.new) }
+        ensures kept { IsTrue tells → KeepsOnErr result (state self.old) (state self.new) }
         ensures put { IsTrue tells → IfOk result (λ n.
-            world self.new ≡ after_write (take n bytes.now) (world self.old)) }
+            state self.new ≡ after_write (take n bytes.now) (state self.old)) }
         ensures same_files { IsTrue tells → files self.new ≡ files self.old }
         ensures tried { IsTrue tells → tries self.new ≡ tries self.old + 1 };
 
     /// Brings to the disk what was written, and tells whether that failed: an output that is kept, and was not
     /// asked to be brought there yet.
     fn sync(&mut self) -> Result<(), HostFault>
-        requires kept { IsTrue tells → (world self.old).is_kept ≡ true }
-        requires once { IsTrue tells → IsBeforeSync (world self.old) }
-        ensures asks { IsTrue tells → OnErr result (world self.new ≡ after_ask_sync (world self.old)) }
-        ensures synced { IsTrue tells → OnOk result (world self.new ≡ after_sync (world self.old)) }
+        requires kept { IsTrue tells → (state self.old).is_kept ≡ true }
+        requires once { IsTrue tells → IsBeforeSync (state self.old) }
+        ensures asks { IsTrue tells → OnErr result (state self.new ≡ after_ask_sync (state self.old)) }
+        ensures synced { IsTrue tells → OnOk result (state self.new ≡ after_sync (state self.old)) }
         ensures same_files { IsTrue tells → files self.new ≡ files self.old };
 
     /// Writes a line and its line feed to standard error, which is no file that is read. No line
     /// was said before.
     fn line(&mut self, line: &str) -> Result<(), HostFault>
-        requires once { IsTrue tells → (world self.old).said ≡ [] }
-        requires apart { IsTrue tells → SaysApart (files self.old) }
-        ensures kept { IsTrue tells → KeepsOnErr result (world self.old) (world self.new) }
-        ensures said { IsTrue tells → OnOk result (world self.new ≡ after_line line.now (world self.old)) }
+        requires once { IsTrue tells → (state self.old).said ≡ [] }
+        requires apart { IsTrue tells → HasSeparateErrorStream (files self.old) }
+        ensures kept { IsTrue tells → KeepsOnErr result (state self.old) (state self.new) }
+        ensures said { IsTrue tells → OnOk result (state self.new ≡ after_line line.now (state self.old)) }
         ensures same_files { IsTrue tells → files self.new ≡ files self.old };
 }

@@ -1,11 +1,11 @@
 //! The system as a host.
 ghost use Rattle.std.specs.Prelude.{◌≡◌, ◌-◌, ◌≤◌, ◌^◌, true, IsTrue};
-ghost use Rattle.host.specs.GrantedCalls.{nothing_asked};
-ghost use Rattle.host.specs.Faults.{AreBelow, no_faults, output_failed};
+ghost use Rattle.host.specs.CallsGrantedByHost.{nothing_asked};
+ghost use Rattle.host.specs.Faults.{AreBelow, no_faults, with_output_failure_counted};
 ghost use Rattle.tools.specs.RunState.{EndsWithLine, Leaves, host_over, host_seen};
-ghost use Rattle.tools.specs.World.{IsOutputSynced, IsOutputUnsynced, IsUnused};
+ghost use Rattle.tools.specs.SystemState.{IsOutputSynced, IsOutputUnsynced, IsUnused};
 
-use crate::failure_counts::{FailureCounts, counted};
+use crate::failed_call_counts::{RunFailureCounts, counted};
 use crate::run::Run;
 use crate::system::System;
 use host::{Host, HostFault, Source};
@@ -27,26 +27,26 @@ use host::{Host, HostFault, Source};
 /// has failed, and which calls are granted.
 pub struct SystemHost<S: System> {
     run: Run<S>,
-    counts: FailureCounts<S>,
+    counts: RunFailureCounts<S>,
 }
 
 impl<S: System> SystemHost<S> {
     /// The system, of which nothing was used, and no call has failed.
     pub fn new(system: S) -> SystemHost<S>
-        requires unused { IsTrue S.tells → IsUnused (S.world system) }
+        requires unused { IsTrue S.tells → IsUnused (S.state system) }
         ensures counts { ⟦<SystemHost<S> as Host>⟧.faults result ≡ no_faults }
-        ensures seen { ⟦<SystemHost<S> as Host>⟧.seen result ≡ host_over (S.world system) }
+        ensures seen { ⟦<SystemHost<S> as Host>⟧.seen result ≡ host_over (S.state system) }
         ensures granted { ⟦<SystemHost<S> as Host>⟧.grants result ≡ nothing_asked }
     {
         SystemHost {
             run: Run::new(system),
-            counts: FailureCounts::new(),
+            counts: RunFailureCounts::new(),
         }
     }
 
     /// The system.
     pub fn system(&self) -> &S
-        ensures same { S.world result.now ≡ self.now.run.world }
+        ensures same { S.state result.now ≡ self.now.run.state }
     {
         self.run.system()
     }
@@ -54,18 +54,18 @@ impl<S: System> SystemHost<S> {
     /// The end of a run that did what it was asked for: the output is brought to the disk, where it is kept.
     /// Where that fails, it is a fault of the output, and this line is said. It gives the status, the system as
     /// the run left it, and how often each kind of call has failed.
-    pub fn sync_and_end(self, line: &str) -> (u8, S, FailureCounts<S>)
+    pub fn sync_and_end(self, line: &str) -> (u8, S, RunFailureCounts<S>)
         requires room { AreBelow (2 ^ 64 - 1) (⟦<SystemHost<S> as Host>⟧.faults self) }
         ensures status { result.0 ≤ 1 }
         ensures counts { result.0 ≡ 0 → result.2 ≡ ⟦<SystemHost<S> as Host>⟧.faults self }
         ensures leaves { IsTrue S.tells → result.0 ≡ 0 →
-            Leaves (S.world result.1) (⟦<SystemHost<S> as Host>⟧.seen self) }
-        ensures output_synced { IsTrue S.tells → result.0 ≡ 0 → IsOutputSynced (S.world result.1) }
+            Leaves (S.state result.1) (⟦<SystemHost<S> as Host>⟧.seen self) }
+        ensures output_synced { IsTrue S.tells → result.0 ≡ 0 → IsOutputSynced (S.state result.1) }
         ensures says { result.0 ≡ 1 → EndsWithLine S.tells line.now
             (⟦<SystemHost<S> as Host>⟧.seen self)
-            (output_failed (⟦<SystemHost<S> as Host>⟧.faults self)) (S.world result.1) result.2 }
+            (with_output_failure_counted (⟦<SystemHost<S> as Host>⟧.faults self)) (S.state result.1) result.2 }
         ensures output_unsynced { IsTrue S.tells → (⟦<SystemHost<S> as Host>⟧.grants self).writable ≡ true →
-            result.0 ≡ 1 → IsOutputUnsynced (S.world result.1) }
+            result.0 ≡ 1 → IsOutputUnsynced (S.state result.1) }
     {
         let SystemHost {
             mut run,
@@ -81,11 +81,11 @@ impl<S: System> SystemHost<S> {
 
     /// The end of a run that is refused: this line is said, or passed over where it cannot be said. It gives
     /// the status of a refusal, the system as the run left it, and how often each kind of call has failed.
-    pub fn refuse(self, line: &str) -> (u8, S, FailureCounts<S>)
+    pub fn refuse(self, line: &str) -> (u8, S, RunFailureCounts<S>)
         requires room { AreBelow (2 ^ 64 - 1) (⟦<SystemHost<S> as Host>⟧.faults self) }
         ensures status { result.0 ≡ 1 }
         ensures says { EndsWithLine S.tells line.now (⟦<SystemHost<S> as Host>⟧.seen self)
-            (⟦<SystemHost<S> as Host>⟧.faults self) (S.world result.1) result.2 }
+            (⟦<SystemHost<S> as Host>⟧.faults self) (S.state result.1) result.2 }
     {
         let SystemHost {
             mut run,
@@ -96,11 +96,11 @@ impl<S: System> SystemHost<S> {
     }
 
     /// The end of a run: the system as the run left it, and how often each kind of call has failed.
-    pub fn into_system(self) -> (S, FailureCounts<S>)
+    pub fn into_system(self) -> (S, RunFailureCounts<S>)
         ensures counts { result.1 ≡ ⟦<SystemHost<S> as Host>⟧.faults self }
-        ensures same { S.world result.0 ≡ self.run.world }
+        ensures same { S.state result.0 ≡ self.run.state }
         ensures leaves { IsTrue S.tells →
-            Leaves (S.world result.0) (⟦<SystemHost<S> as Host>⟧.seen self) }
+            Leaves (S.state result.0) (⟦<SystemHost<S> as Host>⟧.seen self) }
     {
         let SystemHost { run, counts } = self;
         (run.into_system(), counts)

@@ -1,6 +1,6 @@
 //! Systems in memory that tests run over. Where memory is refused they lack something, and the tests fail. Who makes
 //! one lets it go by `drop`: the end of a scope would let go of its parts one by one, in each proof anew.
-ghost use Rattle.tools.specs.World.{IsUnused};
+ghost use Rattle.tools.specs.SystemState.{IsUnused};
 
 use memory_system::{Contents, Identities, MemorySystem};
 use std::alloc::Global;
@@ -22,7 +22,7 @@ pub fn with_standard(
     input: Identities,
     output: Identities,
 ) -> MemorySystem
-    ensures unused { IsUnused result.world }
+    ensures unused { IsUnused result.state }
 {
     let mut system = MemorySystem::new(alloc);
     system.set_standard(Contents::new(list(alloc, bytes), input), output);
@@ -37,8 +37,8 @@ pub fn put(
     bytes: &[u8],
     identities: Identities,
 )
-    requires unused { IsUnused system.old.world }
-    ensures unused { IsUnused system.new.world }
+    requires unused { IsUnused system.old.state }
+    ensures unused { IsUnused system.new.state }
 {
     let contents = Contents::new(list(alloc, bytes), identities);
     let _ = system.set_file(text(alloc, name), contents);
@@ -46,8 +46,8 @@ pub fn put(
 
 /// Gives a variable a value.
 pub fn put_variable(alloc: Global, system: &mut MemorySystem, name: &str, bytes: &[u8])
-    requires unused { IsUnused system.old.world }
-    ensures unused { IsUnused system.new.world }
+    requires unused { IsUnused system.old.state }
+    ensures unused { IsUnused system.new.state }
 {
     let _ = system.set_variable(text(alloc, name), list(alloc, bytes));
 }

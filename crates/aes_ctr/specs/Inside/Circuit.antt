@@ -5,8 +5,8 @@
 use Rattle.std.specs.Prelude.{ℕ, List, [], ◌∷◌}
 
 -- the sums of input wires that the rest of the circuit takes: input wire 7, the last, and wires y1 to y21
-unfoldable pub input_sums : {A : Type 0} → (A → A → A) → (ℕ → A) → List A
-input_sums {A} xor input =
+unfoldable pub s_box_input_sums : {A : Type 0} → (A → A → A) → (ℕ → A) → List A
+s_box_input_sums {A} xor input =
     let t0 : A = xor (input 1) (input 2) in
     let y14 : A = xor (input 3) (input 5) in
     let y13 : A = xor (input 0) (input 6) in

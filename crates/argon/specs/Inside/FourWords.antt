@@ -1,55 +1,43 @@
--- Sixteen words in four vectors of four, and four such lists side by side, as the compression function holds them.
+-- Four lists of sixteen words side by side, as the compression function holds them.
 use Rattle.std.specs.Prelude.{ℕ, List, [], ◌∷◌, ◌++◌, ◌+◌, ◌*◌, slice_index}
 use Rattle.blake.specs.Words.{along, words_at, with_words_at}
-use Rattle.four_words.specs.Inside.FourWords.{sixteen_words, words_in_order}
+use Rattle.four_words.specs.Inside.FourWords.{sixteen_words, shuffled_words}
 use Rattle.argon.specs.Compression.{column_places, permutation, row_places}
-use Rattle.argon.specs.declared.four_lists.FourLists.{FourLists}
-use Rattle.argon.specs.declared.four_lists.Sixteen.{Sixteen}
 
--- all words, one vector after another
-abbrev pub words_by_rows : Sixteen → List ℕ
-words_by_rows x = sixteen_words x.a x.b x.c x.d
+-- four vectors of sixteen words
+abbrev pub FourLists : Type 0
+FourLists = List ℕ × List ℕ × List ℕ × List ℕ
 
 -- the words with the same number in each of the four vectors
-abbrev pub words_across : ℕ → FourLists → List ℕ
-words_across number x =
-    slice_index x.a number ∷ slice_index x.b number ∷ slice_index x.c number ∷ slice_index x.d number ∷ []
+abbrev pub word_of_each_vector : ℕ → FourLists → List ℕ
+word_of_each_vector number x =
+    slice_index x.0 number ∷ slice_index x.1 number ∷ slice_index x.2 number ∷ slice_index x.3 number ∷ []
 
 -- the four words of a list in a vector, where lists stand side by side
-abbrev pub words_of_list : ℕ → List ℕ → List ℕ
-words_of_list list vector =
-    words_in_order vector (4 * list) (4 * list + 1) (4 * list + 2) (4 * list + 3)
+abbrev pub list_words_in_vector : ℕ → List ℕ → List ℕ
+list_words_in_vector list vector =
+    shuffled_words vector (4 * list) (4 * list + 1) (4 * list + 2) (4 * list + 3)
 
 -- one of the lists that stand side by side
 abbrev pub list_at : ℕ → FourLists → List ℕ
 list_at list x =
-    sixteen_words (words_of_list list x.a) (words_of_list list x.b) (words_of_list list x.c) (words_of_list list x.d)
+    sixteen_words (list_words_in_vector list x.0) (list_words_in_vector list x.1) (list_words_in_vector list x.2) (list_words_in_vector list x.3)
 
 -- the words of each list in a vector, in the order of four numbers
-abbrev pub each_in_order : List ℕ → ℕ → ℕ → ℕ → ℕ → List ℕ
-each_in_order vector first second third fourth =
-    words_in_order vector first second third fourth
-    ++ (words_in_order vector (4 + first) (4 + second) (4 + third) (4 + fourth)
-    ++ (words_in_order vector (8 + first) (8 + second) (8 + third) (8 + fourth)
-    ++ words_in_order vector (12 + first) (12 + second) (12 + third) (12 + fourth)))
+abbrev pub each_list_reordered : List ℕ → ℕ → ℕ → ℕ → ℕ → List ℕ
+each_list_reordered vector first second third fourth =
+    shuffled_words vector first second third fourth
+    ++ (shuffled_words vector (4 + first) (4 + second) (4 + third) (4 + fourth)
+    ++ (shuffled_words vector (8 + first) (8 + second) (8 + third) (8 + fourth)
+    ++ shuffled_words vector (12 + first) (12 + second) (12 + third) (12 + fourth)))
 
 -- the vectors turned, so that the words of a diagonal of each list stand across them
-abbrev pub by_diagonals : FourLists → FourLists
-by_diagonals x = record {
-  a = x.a;
-  b = each_in_order x.b 1 2 3 0;
-  c = each_in_order x.c 2 3 0 1;
-  d = each_in_order x.d 3 0 1 2;
-}
+abbrev pub turned_to_diagonals : FourLists → FourLists
+turned_to_diagonals x = (x.0, each_list_reordered x.1 1 2 3 0, each_list_reordered x.2 2 3 0 1, each_list_reordered x.3 3 0 1 2)
 
--- the vectors turned back from `by_diagonals`, so that the words of a column of each list stand across them
-abbrev pub by_columns : FourLists → FourLists
-by_columns x = record {
-  a = x.a;
-  b = each_in_order x.b 3 0 1 2;
-  c = each_in_order x.c 2 3 0 1;
-  d = each_in_order x.d 1 2 3 0;
-}
+-- the vectors turned back from `turned_to_diagonals`, so that the words of a column of each list stand across them
+abbrev pub turned_to_columns : FourLists → FourLists
+turned_to_columns x = (x.0, each_list_reordered x.1 3 0 1 2, each_list_reordered x.2 2 3 0 1, each_list_reordered x.3 1 2 3 0)
 
 -- two places that stand together, and the two that stand sixteen places on
 abbrev pub pair_places : ℕ → List ℕ

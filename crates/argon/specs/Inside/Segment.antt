@@ -1,9 +1,10 @@
 -- A segment, against the parameters that it belongs to (RFC 9106, 3.4).
-use Rattle.std.specs.Prelude.{◌≡◌, ℕ, ◌+◌, ◌*◌, ◌<◌, ◌≤◌, ◌^◌, List, length, min, max}
+use Rattle.std.specs.Prelude.{◌≡◌, ℕ, ◌+◌, ◌*◌, ◌/◌, ◌%◌, ◌^◌, ◌<◌, ◌≤◌, ◌&&◌, List, length, min, max, slice_index, nat_eq, if◌then◌else◌}
 use Rattle.argon.specs.Argon2.{is_xored_in}
 use Rattle.argon.specs.Counts.{first_index}
 use Rattle.argon.specs.Parameters.{Parameters, segment_len}
-use Rattle.argon.specs.Reference.{is_independent}
+use Rattle.argon.specs.Reference.{is_independent, reference_set, relative_place}
+use Rattle.argon.specs.declared.places.Place.{Place}
 use Rattle.argon.specs.declared.segment.Segment.{Segment}
 
 -- the bounds that hold of each segment
@@ -14,7 +15,7 @@ pub record IsInMatrix (segment : Segment) : Type 0 where
   pub lane : segment.lane < segment.lanes
 
 -- the segment is one of those parameters
-pub record IsSegmentOf (parameters : Parameters) (segment : Segment) : Type 0 where
+pub record IsSegmentOfParameters (parameters : Parameters) (segment : Segment) : Type 0 where
   pub lanes : parameters.lanes ≡ segment.lanes
   pub len : segment_len parameters ≡ segment.len
   pub independent : is_independent parameters segment.pass segment.slice ≡ segment.is_independent
@@ -29,5 +30,14 @@ abbrev pub column_number : Segment → ℕ → ℕ
 column_number segment index = segment.pass * (4 * segment.len) + (segment.slice * segment.len + index)
 
 -- the index up to which a segment is made after so many parts of 128 columns
-abbrev pub index_after_parts : Segment → ℕ → ℕ
-index_after_parts segment parts = max (first_index segment.pass segment.slice) (min (128 * parts) segment.len)
+abbrev pub index_in_segment_after_parts : Segment → ℕ → ℕ
+index_in_segment_after_parts segment parts = max (first_index segment.pass segment.slice) (min (128 * parts) segment.len)
+
+-- the place that the word J of a column names, by the numbers of the segment (3.4.2)
+abbrev pub place_by_word : Segment → ℕ → ℕ → Place
+place_by_word segment index j =
+    let lane = if nat_eq segment.pass 0 && nat_eq segment.slice 0 then segment.lane else j / 2 ^ 32 % segment.lanes in
+    let columns = reference_set segment.len segment.pass segment.slice index (nat_eq lane segment.lane) in record {
+      lane = lane;
+      column = slice_index columns (relative_place (length columns) (j % 2 ^ 32)) % (4 * segment.len);
+    }

@@ -7,5 +7,5 @@ use Rattle.argon2_command.specs.declared.bytes.Bytes.{Bytes}
 use Rattle.argon2_command.specs.contracts.bytes.Bytes.{the_row}
 
 -- The list ends with the bytes that were last left in what it lent.
-abbrev pub LendsBytes : MutBor Bytes → MutBor (List ℕ) → Fml
-LendsBytes bytes slice = Lends the_row (Array u8 0) bytes slice (λ left. record bytes.now { list = with_items bytes.now.list left })
+abbrev pub LendsMutableBytes : MutBor Bytes → MutBor (List ℕ) → Fml
+LendsMutableBytes bytes slice = Lends the_row (Array u8 0) bytes slice (λ left. record bytes.now { list = with_items bytes.now.list left })

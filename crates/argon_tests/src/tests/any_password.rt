@@ -1,4 +1,4 @@
-//! Passwords of lengths that `Params::with_any_password` takes and `Params::new` does not, and the ends of its ranges.
+//! Passwords of lengths that `Params::with_any_password_length` takes and `Params::new` does not, and the ends of its ranges.
 ghost use Rattle.std.specs.Prelude.{◌<◌, ◌^◌, length};
 
 use super::ranges::RANGES;
@@ -53,7 +53,7 @@ fn has_tag_of_any_password(alloc: Global, inputs: &Inputs<'_>, row: &str) -> boo
     requires associated { length inputs.now.associated.now < 2 ^ 32 }
 {
     let run = run_of(row);
-    match Params::with_any_password(
+    match Params::with_any_password_length(
         run.kind,
         0x13,
         run.passes,
@@ -93,7 +93,7 @@ fn tags_of_any_password(rt: HostRuntime) {
 fn fault_of(costs: [u32; 3], lengths: [usize; 3]) -> Option<ParamFault> {
     let [passes, lanes, memory_kib] = costs;
     let [tag_len, salt_len, password_len] = lengths;
-    Params::with_any_password(
+    Params::with_any_password_length(
         Kind::Id,
         0x13,
         passes,

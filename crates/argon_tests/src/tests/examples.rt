@@ -1,7 +1,7 @@
 //! The examples of the crate's documentation. The tags are those of Debian's `argon2`.
 ghost use Rattle.std.specs.Prelude.{◌≡◌, length};
-ghost use Rattle.argon.specs.Filling.{HasNext};
-ghost use Rattle.argon.specs.Inputs.{AreInputsOf, inputs_of};
+ghost use Rattle.argon.specs.Filling.{HasSliceLeft};
+ghost use Rattle.argon.specs.Inputs.{InputsFitParameters, inputs_of};
 ghost use Rattle.argon.specs.Woven.{with_next_slice};
 
 use super::rows::is_hex_of;
@@ -39,7 +39,7 @@ fn a_hash(rt: HostRuntime) -> Result<(), Fail> {
 fn slice_in_turn(matrix: Matrix, lanes: Lanes, ticks: &mut Ticks) -> (Matrix, Lanes)
     requires lanes { lanes ≡ matrix.parameters }
     requires two { matrix.parameters.lanes ≡ 2 }
-    requires next { HasNext matrix }
+    requires next { HasSliceLeft matrix }
     ensures matrix { result.0 ≡ with_next_slice matrix }
     ensures lanes { result.1 ≡ matrix.parameters }
 {
@@ -62,7 +62,7 @@ fn hash_in_turn(
     requires lanes { reserved_lanes ≡ reserved.parameters }
     requires two { reserved.parameters.lanes ≡ 2 }
     requires one_pass { reserved.parameters.passes ≡ 1 }
-    requires inputs { AreInputsOf reserved.parameters (inputs_of inputs.now) }
+    requires inputs { InputsFitParameters reserved.parameters (inputs_of inputs.now) }
     requires len { length out.old ≡ reserved.parameters.tag_len }
 {
     let mut matrix = reserved;

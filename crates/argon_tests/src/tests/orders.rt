@@ -4,11 +4,11 @@
 ghost use Rattle.std.specs.Prelude.{◌≡◌, ◌≢◌, ℕ, ◌+◌, ◌-◌, ◌/◌, ◌%◌, ◌<◌, ◌^◌, length, slice_index};
 ghost use Rattle.argon.specs.Argon2.{argon2_tag};
 ghost use Rattle.argon.specs.Counts.{slice_work, work};
-ghost use Rattle.argon.specs.Filling.{Filling, HasNext};
-ghost use Rattle.argon.specs.Inputs.{AreInputsOf, inputs_of};
+ghost use Rattle.argon.specs.Filling.{Filling, HasSliceLeft};
+ghost use Rattle.argon.specs.Inputs.{InputsFitParameters, inputs_of};
 ghost use Rattle.argon.specs.Range.{IsInRangeWithAnyPassword};
-ghost use Rattle.argon.specs.Weaving.{work_left};
-ghost use Rattle.argon.specs.Woven.{IsWovenFrom, with_next_slice};
+ghost use Rattle.argon.specs.SliceProgress.{work_left};
+ghost use Rattle.argon.specs.Woven.{IsSliceProgressOf, with_next_slice};
 
 use super::rows::{is_hex_of, run_of};
 use super::{SECRETS, STANDARD};
@@ -19,8 +19,8 @@ use std::alloc::Global;
 fn step_if_left(weave: &mut Weave, lane: u32, ticks: &mut Ticks)
     ensures matrix { weave.new.matrix
         ≡ record weave.old.matrix { blocks = weave.new.matrix.blocks } }
-    ensures woven { (matrix : Filling) → IsWovenFrom matrix weave.old
-        → IsWovenFrom matrix weave.new }
+    ensures woven { (matrix : Filling) → IsSliceProgressOf matrix weave.old
+        → IsSliceProgressOf matrix weave.new }
     ensures share { ticks.new + work_left weave.new ≡ ticks.old + work_left weave.old }
     ensures less { slice_index weave.new.left lane ≡ slice_index weave.old.left lane - 1 }
     ensures others { (other : ℕ) → other ≢ lane
@@ -35,8 +35,8 @@ fn step_if_left(weave: &mut Weave, lane: u32, ticks: &mut Ticks)
 fn finish_lane(weave: &mut Weave, lane: u32, ticks: &mut Ticks)
     ensures matrix { weave.new.matrix
         ≡ record weave.old.matrix { blocks = weave.new.matrix.blocks } }
-    ensures woven { (matrix : Filling) → IsWovenFrom matrix weave.old
-        → IsWovenFrom matrix weave.new }
+    ensures woven { (matrix : Filling) → IsSliceProgressOf matrix weave.old
+        → IsSliceProgressOf matrix weave.new }
     ensures share { ticks.new + work_left weave.new ≡ ticks.old + work_left weave.old }
     ensures none { slice_index weave.new.left lane ≡ 0 }
     ensures others { (other : ℕ) → other ≢ lane
@@ -51,8 +51,8 @@ fn finish_lane(weave: &mut Weave, lane: u32, ticks: &mut Ticks)
 fn take_turns(weave: &mut Weave, order: &[u32], ticks: &mut Ticks)
     ensures matrix { weave.new.matrix
         ≡ record weave.old.matrix { blocks = weave.new.matrix.blocks } }
-    ensures woven { (matrix : Filling) → IsWovenFrom matrix weave.old
-        → IsWovenFrom matrix weave.new }
+    ensures woven { (matrix : Filling) → IsSliceProgressOf matrix weave.old
+        → IsSliceProgressOf matrix weave.new }
     ensures share { ticks.new + work_left weave.new ≡ ticks.old + work_left weave.old }
 {
     for chosen in order {
@@ -64,8 +64,8 @@ fn take_turns(weave: &mut Weave, order: &[u32], ticks: &mut Ticks)
 fn finish_lanes(weave: &mut Weave, lanes: u32, ticks: &mut Ticks)
     ensures matrix { weave.new.matrix
         ≡ record weave.old.matrix { blocks = weave.new.matrix.blocks } }
-    ensures woven { (matrix : Filling) → IsWovenFrom matrix weave.old
-        → IsWovenFrom matrix weave.new }
+    ensures woven { (matrix : Filling) → IsSliceProgressOf matrix weave.old
+        → IsSliceProgressOf matrix weave.new }
     ensures share { ticks.new + work_left weave.new ≡ ticks.old + work_left weave.old }
     ensures none { (lane : ℕ) → lane < lanes → slice_index weave.new.left lane ≡ 0 }
 {
@@ -85,7 +85,7 @@ fn slice_by(
 ) -> (Matrix, Lanes)
     requires parameters { params.now ≡ matrix.parameters }
     requires lanes { lanes ≡ matrix.parameters }
-    requires next { HasNext matrix }
+    requires next { HasSliceLeft matrix }
     ensures matrix { result.0 ≡ with_next_slice matrix }
     ensures lanes { result.1 ≡ matrix.parameters }
     ensures count { ticks.new ≡ ticks.old
@@ -110,7 +110,7 @@ fn hash_by(
     requires parameters { params.now ≡ reserved.parameters }
     requires lanes { reserved_lanes ≡ reserved.parameters }
     requires in_range { IsInRangeWithAnyPassword params.now }
-    requires inputs { AreInputsOf params.now (inputs_of inputs.now) }
+    requires inputs { InputsFitParameters params.now (inputs_of inputs.now) }
     requires len { length out.old ≡ params.now.tag_len }
     ensures tag { out.new ≡ argon2_tag params.now (inputs_of inputs.now) }
     ensures count { ticks.new ≡ ticks.old + work params.now }
@@ -128,7 +128,7 @@ fn hash_by(
 
 // Whether the tag of the inputs, made in that order, is this one in lower hexadecimal.
 fn is_tag_by(alloc: Global, params: &Params, inputs: &Inputs<'_>, order: &[u32], tag: &str) -> bool
-    requires inputs { AreInputsOf params.now (inputs_of inputs.now) }
+    requires inputs { InputsFitParameters params.now (inputs_of inputs.now) }
     requires in_range { IsInRangeWithAnyPassword params.now }
 {
     let Ok(lanes) = Lanes::reserve(alloc, params) else {

@@ -2,7 +2,7 @@
 //! hexadecimal. Tests assert how many rows are right; an `assert_eq!`, which prints it, is dearer to
 //! prove.
 ghost use Rattle.std.specs.Prelude.{◌≡◌, ◌<◌, ◌^◌, length, true};
-ghost use Rattle.argon.specs.Inputs.{AreInputsOf, inputs_of};
+ghost use Rattle.argon.specs.Inputs.{InputsFitParameters, inputs_of};
 ghost use Rattle.argon.specs.Range.{is_version};
 
 use argon::{Inputs, Kind, Matrix, Params, Ticks};
@@ -65,7 +65,7 @@ pub fn is_hex_of(text: &str, bytes: &[u8]) -> bool {
 
 /// Whether the tag of the inputs, in lower hexadecimal, is this one.
 pub fn is_tag(alloc: Global, params: &Params, inputs: &Inputs<'_>, tag: &str) -> bool
-    requires inputs { AreInputsOf params.now (inputs_of inputs.now) }
+    requires inputs { InputsFitParameters params.now (inputs_of inputs.now) }
 {
     let Ok(mut matrix) = Matrix::reserve(alloc, params) else {
         return false;

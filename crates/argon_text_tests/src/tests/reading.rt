@@ -8,7 +8,7 @@ use super::reference_texts::{KNOWN, ROWS, ReferenceText};
 use super::refusing::Refusing;
 use super::version_0x10::SHORT;
 use super::{is_written_as, joined};
-use argon_text::{Encoded, ReadFault, read_from};
+use argon_text::{Encoded, ReadFault, read_encoded_with_memory};
 use std::alloc::Global;
 
 // A fault by its number, and 0 where the text is read.
@@ -440,7 +440,7 @@ fn is_answered_with(alloc: Global, left: u32, text: &[u8], answer: u8, unasked: 
         left,
         unasked: 10,
     };
-    number_of(read_from(&mut source, text)) == answer && source.unasked == unasked
+    number_of(read_encoded_with_memory(&mut source, text)) == answer && source.unasked == unasked
 }
 
 // Salt and tag are the two requests, and after one that is refused there is none. Before them no fault of a field costs

@@ -29,12 +29,12 @@ impl Refusing {
 impl DecodeMemory for Refusing {
     ghost after_decoded = { λ source _ _. record source { left = source.left - 1; unasked = source.unasked - 1 } };
 
-    fn decoded(&mut self, symbols: &[u8]) -> Result<Vec<u8>, DecodeAllocError> {
+    fn decode_base64(&mut self, symbols: &[u8]) -> Result<Vec<u8>, DecodeAllocError> {
         if !self.grants() {
             return Err(DecodeAllocError::OutOfMemory);
         }
         let mut alloc = self.alloc;
-        alloc.decoded(symbols)
+        alloc.decode_base64(symbols)
     }
 }
 

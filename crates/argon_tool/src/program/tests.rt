@@ -1,6 +1,6 @@
 //! Whole runs over a system in memory. Hashes come from the reference program, as `printf password | argon2 ..` with the
 //! words of the row gives them.
-ghost use Rattle.tools.specs.World.{IsUnused};
+ghost use Rattle.tools.specs.SystemState.{IsUnused};
 
 use super::*;
 use memory_system::{Contents, Identities, MemorySystem};
@@ -40,26 +40,26 @@ fn list(alloc: Global, bytes: &[u8]) -> Vec<u8> {
 }
 
 // Adds a word.
-fn add_word(alloc: Global, system: &mut MemorySystem, word: &[u8])
-    requires unused { IsUnused system.old.world }
-    ensures unused { IsUnused system.new.world }
+fn add_command_line_word(alloc: Global, system: &mut MemorySystem, word: &[u8])
+    requires unused { IsUnused system.old.state }
+    ensures unused { IsUnused system.new.state }
 {
-    let _ = system.add_word(list(alloc, word));
+    let _ = system.add_command_line_word(list(alloc, word));
 }
 
 // Adds the words of a line, which spaces part.
 fn add_words(alloc: Global, system: &mut MemorySystem, line: &str)
-    requires unused { IsUnused system.old.world }
-    ensures unused { IsUnused system.new.world }
+    requires unused { IsUnused system.old.state }
+    ensures unused { IsUnused system.new.state }
 {
     for word in line.split_whitespace() {
-        add_word(alloc, system, word.as_bytes());
+        add_command_line_word(alloc, system, word.as_bytes());
     }
 }
 
 // A process with these words, of which the first is its name, over a password in a file, and with this standard output.
 fn process(alloc: Global, line: &str, stdout: Identities) -> MemorySystem
-    ensures unused { IsUnused result.world }
+    ensures unused { IsUnused result.state }
 {
     let mut system = MemorySystem::new(alloc);
     add_words(alloc, &mut system, line);
@@ -69,7 +69,7 @@ fn process(alloc: Global, line: &str, stdout: Identities) -> MemorySystem
 
 // The program, of which nothing is said.
 fn ends(alloc: Global, system: MemorySystem) -> (u8, MemorySystem)
-    requires unused { IsUnused system.world }
+    requires unused { IsUnused system.state }
 {
     let (status, system, _) = run(alloc, system);
     (status, system)
@@ -88,7 +88,7 @@ fn comes_to(status: u8, system: &MemorySystem, end: End<'_>) -> bool {
 // Whether a run over this system comes to this. A system is let go of by `drop`: the end of a scope would
 // let go of their parts one by one, in each proof anew.
 fn ends_so(alloc: Global, system: MemorySystem, end: End<'_>) -> bool
-    requires unused { IsUnused system.world }
+    requires unused { IsUnused system.state }
 {
     let (status, system) = ends(alloc, system);
     let is_so = comes_to(status, &system, end);
@@ -176,8 +176,8 @@ fn the_password_stays_as_it_is(rt: HostRuntime) {
 // Whether a run of a process with this name and this word comes to this.
 fn runs_bytes(alloc: Global, name: &[u8], word: &[u8], end: End<'_>) -> bool {
     let mut system = MemorySystem::new(alloc);
-    add_word(alloc, &mut system, name);
-    add_word(alloc, &mut system, word);
+    add_command_line_word(alloc, &mut system, name);
+    add_command_line_word(alloc, &mut system, word);
     ends_so(alloc, system, end)
 }
 

@@ -4,9 +4,9 @@ use Rattle.encfile.specs.declared.dec.Dec.{Dec}
 use Rattle.encfile.specs.declared.enc.Enc.{Enc}
 
 -- how many bytes of text it has encrypted
-abbrev pub length_encrypted : Enc → ℕ
-length_encrypted enc = enc.ctr.position
+abbrev pub bytes_encrypted_so_far : Enc → ℕ
+bytes_encrypted_so_far enc = enc.ctr.position
 
 -- how many bytes of the file it has read after the first 96
-unfoldable pub length_read : Dec → ℕ
-length_read dec = dec.ctr.position + length dec.held
+unfoldable pub bytes_read_so_far : Dec → ℕ
+bytes_read_so_far dec = dec.ctr.position + length dec.held

@@ -2,13 +2,13 @@
 use Rattle.std.specs.Prelude.{ℕ, List, [], ◌∷◌, slice_index}
 
 -- the words of a vector, in the order of four numbers
-abbrev pub words_in_order : List ℕ → ℕ → ℕ → ℕ → ℕ → List ℕ
-words_in_order vector first second third fourth =
+abbrev pub shuffled_words : List ℕ → ℕ → ℕ → ℕ → ℕ → List ℕ
+shuffled_words vector first second third fourth =
     slice_index vector first ∷ slice_index vector second ∷ slice_index vector third ∷ slice_index vector fourth ∷ []
 
 -- the words of a vector, written out
 abbrev pub four_words : List ℕ → List ℕ
-four_words vector = words_in_order vector 0 1 2 3
+four_words vector = shuffled_words vector 0 1 2 3
 
 -- the words of four vectors, one vector after another, written out
 abbrev pub sixteen_words : List ℕ → List ℕ → List ℕ → List ℕ → List ℕ

@@ -1,7 +1,7 @@
 //! Each growth of a host in memory refused in turn.
 ghost use Rattle.std.specs.Prelude.{◌≡◌, ◌+◌, ◌^◌, None};
 ghost use Rattle.host.specs.Faults.{AreBelow};
-ghost use Rattle.memory_host.specs.Memory.{memory_faults};
+ghost use Rattle.memory_host.specs.Memory.{memory_host_failure_counts};
 
 use crate::fixtures::{is_under, list, new_host, text};
 use host::{Host, Source};
@@ -46,7 +46,7 @@ impl GrowthMemory for Refusing {
         self.alloc.add_line(lines, line)
     }
 
-    fn add_first(
+    fn prepend_entry(
         &mut self,
         entries: &mut Vec<NamedSecret>,
         entry: NamedSecret,
@@ -54,7 +54,7 @@ impl GrowthMemory for Refusing {
         if !self.grants() {
             return Err(AllocError);
         }
-        self.alloc.add_first(entries, entry)
+        self.alloc.prepend_entry(entries, entry)
     }
 }
 
@@ -76,30 +76,30 @@ fn secret(alloc: Global) -> (String, Vec<u8>) {
 
 // Whether a call of a host is done, with this growth.
 fn is_done(host: &mut MemoryHost, growth: &mut Refusing, call: Call) -> bool
-    requires room { AreBelow (2 ^ 63) (memory_faults host.old) }
+    requires room { AreBelow (2 ^ 63) (memory_host_failure_counts host.old) }
     requires unasked { host.old.asked ≡ None }
-    ensures room { AreBelow (2 ^ 63 + 1) (memory_faults host.new) }
+    ensures room { AreBelow (2 ^ 63 + 1) (memory_host_failure_counts host.new) }
     ensures unasked { host.new.asked ≡ None }
 {
     match call {
         Call::SetVariable => {
             let (name, bytes) = secret(growth.alloc);
-            host.set_env_with(growth, name, bytes).is_ok()
+            host.set_env_with_memory(growth, name, bytes).is_ok()
         }
         Call::SetFile => {
             let (name, bytes) = secret(growth.alloc);
-            host.set_file_with(growth, name, bytes).is_ok()
+            host.set_file_with_memory(growth, name, bytes).is_ok()
         }
-        Call::OpenInput => host.open_input_with(growth, Some("in")).is_ok(),
-        Call::OpenOutput => host.open_output_with(growth, Some("out")).is_ok(),
-        Call::Push => host.push_with(growth, b"text").is_ok(),
-        Call::Say => host.say_with(growth, "line").is_ok(),
+        Call::OpenInput => host.open_input_with_memory(growth, Some("in")).is_ok(),
+        Call::OpenOutput => host.open_output_with_memory(growth, Some("out")).is_ok(),
+        Call::Push => host.push_with_memory(growth, b"text").is_ok(),
+        Call::Say => host.say_with_memory(growth, "line").is_ok(),
     }
 }
 
 // Whether a host tells of a call that is done.
 fn is_seen(host: &mut MemoryHost, call: Call) -> bool
-    requires room { AreBelow (2 ^ 63 + 1) (memory_faults host.old) }
+    requires room { AreBelow (2 ^ 63 + 1) (memory_host_failure_counts host.old) }
     requires unasked { host.old.asked ≡ None }
 {
     match call {

@@ -1,57 +1,83 @@
--- The settings of a hash, a derivation or an encryption, and its text, as private functions pass them on.
+-- The settings and the inputs of a hash, a test of a password, a derivation or an encryption, as private functions pass them
+-- on.
 use Rattle.std.specs.Prelude.{ℕ, ◌-◌, ◌≤◌, Bool, List, Option, Some, None, length, take}
 use Rattle.std.specs.Borrow.{Bor}
 use Rattle.argon.specs.Parameters.{Parameters}
+use Rattle.argon.specs.declared.inputs.Inputs.{Inputs}
+use Rattle.argon_text.specs.Value.{Value}
+use Rattle.argon_text.specs.Verifying.{keyed_verify_fault, keyed_tag}
+use Rattle.argon_text.specs.declared.fault.VerifyFault.{VerifyFault}
 use Rattle.romix.specs.Costs.{Parameters as Costs}
-use Rattle.romix.specs.Sparse.{sparse_cores}
-use Rattle.romix.specs.SparseCosts.{SparseParameters}
+use Rattle.romix.specs.Sparse.{sparse_table_core_count}
+use Rattle.romix.specs.SparseCosts.{CostsAndKeep}
+use Rattle.pikhsen_c.specs.declared.argon2.HashLimits.{HashLimits}
 use Rattle.pikhsen_c.specs.declared.argon2.Settings.{Settings}
 use Rattle.pikhsen_c.specs.declared.scrypt.ScryptLimits.{ScryptLimits}
-use Rattle.pikhsen_c.specs.declared.scrypt.ScryptSettings.{ScryptSettings}
-use Rattle.pikhsen_c.specs.Argon2.{parameters_given}
-use Rattle.pikhsen_c.specs.File.{encrypt_status, front_status, opening_status}
-use Rattle.pikhsen_c.specs.Scrypt.{costs_given, limits_status, scrypt_status, sparse_given}
+use Rattle.pikhsen_c.specs.declared.scrypt.ScryptCostsAndLimits.{ScryptCostsAndLimits}
+use Rattle.pikhsen_c.specs.declared.verifying.KeyedPassword.{KeyedPassword}
+use Rattle.pikhsen_c.specs.Argon2.{encoded_keyed_hash, encoded_keyed_status, hash_status, parameters_of_numbers}
+use Rattle.pikhsen_c.specs.File.{encrypt_status, front_status, header_and_limits_status}
+use Rattle.pikhsen_c.specs.Scrypt.{costs_of_numbers, limits_status, scrypt_status, costs_with_keep}
 use Rattle.pikhsen_c.specs.Stream.{decrypt_start_status, encrypt_start_status}
 
--- the parameters of these settings, and of a tag, a salt and a password of these lengths
-abbrev pub parameters_of : Settings → ℕ → ℕ → ℕ → Parameters
-parameters_of s = parameters_given s.kind s.version s.passes s.lanes s.memory_kib
+-- the parameters of these settings, of a tag of this length and of these inputs
+abbrev pub parameters_of : Settings → ℕ → Inputs → Parameters
+parameters_of s tag_len inputs =
+    parameters_of_numbers s.kind s.version s.passes s.lanes s.memory_kib tag_len (length inputs.salt.now) (length inputs.password.now)
+
+-- the encoded text of the hash of these inputs
+abbrev pub encoded_text_of : Parameters → Inputs → List ℕ
+encoded_text_of parameters inputs =
+    encoded_keyed_hash parameters inputs.password.now inputs.salt.now inputs.secret.now inputs.associated.now
 
 -- the costs of these settings
-abbrev pub costs_of_settings : ScryptSettings → Costs
-costs_of_settings s = costs_given s.log_n s.r s.p
+abbrev pub costs_of_settings : ScryptCostsAndLimits → Costs
+costs_of_settings s = costs_of_numbers s.log_n s.r s.p
 
 -- the cores of a derivation from this password and salt
-abbrev pub cores_of_settings : ScryptSettings → List ℕ → List ℕ → ℕ
-cores_of_settings s password salt = sparse_cores password salt (sparse_given (costs_of_settings s) s.limits.keep)
+abbrev pub salsa20_cores_of_settings : ScryptCostsAndLimits → List ℕ → List ℕ → ℕ
+salsa20_cores_of_settings s password salt = sparse_table_core_count password salt (costs_with_keep (costs_of_settings s) s.limits.keep)
 
 -- what a request for the memory of a derivation of these costs leaves of a source, by what `after_workspace` says of it
-abbrev pub asks_workspace : {Source : Type 0} → (Source → SparseParameters → ℕ → ℕ → Bool → Source) → ScryptLimits → Costs
+abbrev pub source_after_workspace_request : {Source : Type 0} → (Source → CostsAndKeep → ℕ → ℕ → Bool → Source) → ScryptLimits → Costs
     → Source → Bool → Source
-asks_workspace after_workspace l costs before = after_workspace before (sparse_given costs l.keep) l.max_bytes l.max_ops
+source_after_workspace_request after_workspace l costs before = after_workspace before (costs_with_keep costs l.keep) l.max_bytes l.max_ops
 
 -- ---- what is refused by them before memory is asked for, by its number; or 0
 
+-- a hash, by the length of its tag and its inputs
+abbrev pub hash_refusal : Settings → ℕ → Inputs → ℕ
+hash_refusal s tag_len inputs =
+    hash_status (parameters_of s tag_len inputs) (length inputs.secret.now) (length inputs.associated.now)
+    s.limits.max_kib s.limits.max_ops
+
+-- an encoded text, by the length of the tag, the inputs and the length of its buffer; that this is too short is told once
+-- the memory of the text is granted
+abbrev pub encoding_refusal : Settings → ℕ → Inputs → ℕ → ℕ
+encoding_refusal s tag_len inputs =
+    encoded_keyed_status (parameters_of s tag_len inputs) inputs.salt.now (length inputs.secret.now)
+    (length inputs.associated.now) s.limits.max_kib s.limits.max_ops
+
 -- costs, by what `keep` and the limits admit
 abbrev pub limits_refusal : ScryptLimits → Costs → ℕ
-limits_refusal l costs = limits_status (sparse_given costs l.keep) l.max_bytes l.max_ops
+limits_refusal l costs = limits_status (costs_with_keep costs l.keep) l.max_bytes l.max_ops
 
 -- the derivation of a key of this length
-abbrev pub derivation_refusal : ScryptSettings → ℕ → ℕ
+abbrev pub derivation_refusal : ScryptCostsAndLimits → ℕ → ℕ
 derivation_refusal s = scrypt_status (costs_of_settings s) s.limits.keep s.limits.max_bytes s.limits.max_ops
 
 -- an encryption, by the lengths of salt, text and file
-abbrev pub encryption_refusal : ScryptSettings → ℕ → ℕ → ℕ → ℕ
+abbrev pub encryption_refusal : ScryptCostsAndLimits → ℕ → ℕ → ℕ → ℕ
 encryption_refusal s = encrypt_status (costs_of_settings s) s.limits.keep s.limits.max_bytes s.limits.max_ops
 
 -- the start of an encryption, by what runs and the lengths of salt and head
-abbrev pub encryption_start_refusal : ℕ → ScryptSettings → ℕ → ℕ → ℕ
+abbrev pub encryption_start_refusal : ℕ → ScryptCostsAndLimits → ℕ → ℕ → ℕ
 encryption_start_refusal runs s =
     encrypt_start_status runs (costs_of_settings s) s.limits.keep s.limits.max_bytes s.limits.max_ops
 
 -- a file of at least 96 bytes
-abbrev pub opening_refusal : ScryptLimits → List ℕ → ℕ
-opening_refusal l file = opening_status file l.keep l.max_bytes l.max_ops
+abbrev pub header_and_limits_status_of_settings : ScryptLimits → List ℕ → ℕ
+header_and_limits_status_of_settings l file = header_and_limits_status file l.keep l.max_bytes l.max_ops
 
 -- a file whose text is to go to so many bytes
 abbrev pub front_refusal : ScryptLimits → List ℕ → ℕ → ℕ
@@ -61,6 +87,17 @@ front_refusal l file = front_status file l.keep l.max_bytes l.max_ops
 abbrev pub decryption_start_refusal : ℕ → ScryptLimits → List ℕ → ℕ
 decryption_start_refusal runs l front = decrypt_start_status runs front l.keep l.max_bytes l.max_ops
 
+-- ---- the test of a password against a value
+
+-- the tag that it gives
+abbrev pub tag_of_keyed : Value → KeyedPassword → List ℕ
+tag_of_keyed v keyed = keyed_tag v keyed.password.now keyed.secret.now keyed.associated.now
+
+-- the first fault for which it is not tested
+abbrev pub fault_of_keyed : Value → KeyedPassword → HashLimits → Option VerifyFault
+fault_of_keyed v keyed l =
+    keyed_verify_fault v keyed.password.now (length keyed.secret.now) (length keyed.associated.now) l.max_kib l.max_ops
+
 -- ---- the text of an encryption: the one that is given, or else all of the file's buffer but its last 128 bytes
 
 abbrev pub text_to_encrypt : Option (Bor (List ℕ)) → List ℕ → List ℕ
@@ -68,9 +105,9 @@ text_to_encrypt None out = take (length out - 128) out
 text_to_encrypt (Some text) out = text.now
 
 -- its length
-abbrev pub length_to_encrypt : Option (Bor (List ℕ)) → ℕ → ℕ
-length_to_encrypt None out_len = out_len - 128
-length_to_encrypt (Some text) out_len = length text.now
+abbrev pub length_of_text_to_encrypt : Option (Bor (List ℕ)) → ℕ → ℕ
+length_of_text_to_encrypt None out_len = out_len - 128
+length_of_text_to_encrypt (Some text) out_len = length text.now
 
 -- the file has the first 96 bytes
 abbrev pub HasFront : List ℕ → Type 0

@@ -16,6 +16,6 @@ is_decryption (running.Dec dec) = true
 is_decryption (running.Over zeros) = false
 
 -- whether what is kept is one of these; nothing is none
-abbrev pub kept_is : (StreamState → Bool) → Option StreamState → Bool
-kept_is is_one None = false
-kept_is is_one (Some run) = is_one run
+abbrev pub kept_state_satisfies : (StreamState → Bool) → Option StreamState → Bool
+kept_state_satisfies is_one None = false
+kept_state_satisfies is_one (Some run) = is_one run

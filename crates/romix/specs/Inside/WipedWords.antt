@@ -7,5 +7,5 @@ use Rattle.romix.specs.declared.wiped_words.WipedWords.{WipedWords}
 use Rattle.romix.specs.contracts.wiped_words.WipedWords.{the_row}
 
 -- The list ends with the words that were last left in what it lent.
-abbrev pub LendsWords : MutBor WipedWords → MutBor (List ℕ) → Fml
-LendsWords held words = Lends the_row (Array u32 0) held words (λ left. record held.now { list = with_items held.now.list left })
+abbrev pub LendsMutableWords : MutBor WipedWords → MutBor (List ℕ) → Fml
+LendsMutableWords held words = Lends the_row (Array u32 0) held words (λ left. record held.now { list = with_items held.now.list left })

@@ -2,7 +2,7 @@
 ghost use Rattle.std.specs.Prelude.{◌≡◌, ◌-◌, ◌≤◌};
 
 use super::{SCRYPT_CASES, gives, has_key, sparse_workspace};
-use romix::{Costs, GrantedWords, Limits, Reservation, Sparse, Ticks, Workspace, reserve_from};
+use romix::{Costs, GrantedWords, Limits, Sparse, Ticks, Workspace, WorkspaceMemory, reserve_from};
 use std::alloc::{AllocError, Global};
 use std::test::Fail;
 
@@ -161,11 +161,11 @@ impl Refusing {
     }
 }
 
-impl Reservation for Refusing {
+impl WorkspaceMemory for Refusing {
     ghost after_words = { λ source len _. record source
         { granted = source.granted - 1; unasked = source.unasked - 1; last = len } };
 
-    fn zero_words(&mut self, len: usize) -> Result<GrantedWords, AllocError> {
+    fn request_words(&mut self, len: usize) -> Result<GrantedWords, AllocError> {
         if !self.grants(len) {
             return Err(AllocError);
         }

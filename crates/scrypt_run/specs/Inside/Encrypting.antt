@@ -7,13 +7,13 @@ use Rattle.scrypt_run.specs.Encrypting.{after_salting, costs_refusal_of, decided
 use Rattle.scrypt_run.specs.Passphrase.{HasPassphrase, PassphraseRefused}
 use Rattle.scrypt_run.specs.Refusal.{refusal_of}
 use Rattle.scrypt_request.specs.Request.{Encryption}
-use Rattle.scrypt_run.specs.Text.{EndsTextEarly}
+use Rattle.scrypt_run.specs.Text.{RefusesDuringText}
 use Rattle.scrypt_request.specs.declared.refusal.ScryptRefusal.{ScryptRefusal}
 use Rattle.scrypt_request.specs.declared.refusal.ScryptRefusal.TheVariants as refusal
 
 -- the costs are refused, or the input could not be opened
-abbrev pub TextNotOpened : ScryptRefusal → Encryption → HostState → HostState → Type 0
-TextNotOpened r asked before after = (after ≡ before)
+abbrev pub CostsOrInputRefused : ScryptRefusal → Encryption → HostState → HostState → Type 0
+CostsOrInputRefused r asked before after = (after ≡ before)
     × ((option_map refusal_of (costs_refusal_of asked) ≡ Some r)
     ⊎ ((costs_refusal_of asked ≡ None) × (r ≡ refusal.InputFault)))
 
@@ -26,7 +26,7 @@ StartRefused r salt line before after =
     ⊎ ((r ≡ refusal.OutOfMemory) × (after ≡ after_salting salt before) × (passphrase : List ℕ) × HasPassphrase line passphrase)
 
 -- the run ended from the output's opening on
-abbrev pub WriteRefused : ScryptRefusal → List ℕ → List ℕ → Parameters → Option Text → HostState → HostState → Type 0
-WriteRefused r passphrase salt costs outfile before after =
+abbrev pub EncryptRefusedFromOutputOn : ScryptRefusal → List ℕ → List ℕ → Parameters → Option Text → HostState → HostState → Type 0
+EncryptRefusedFromOutputOn r passphrase salt costs outfile before after =
     ((r ≡ refusal.OutputFault) × (after ≡ after_ask_output outfile before))
-    ⊎ EndsTextEarly r (2 ^ 60) 4128 (body passphrase salt costs) (decided passphrase salt costs (length before.input)) (after_open_output outfile before) after
+    ⊎ RefusesDuringText r (2 ^ 60) 4128 (body passphrase salt costs) (decided passphrase salt costs (length before.input)) (after_open_output outfile before) after

@@ -1,5 +1,5 @@
 //! A text that is encrypted, whatever the sizes of pulls and pushes.
-ghost use Rattle.scrypt_request.specs.Request.{IsAllowed, request_seen};
+ghost use Rattle.scrypt_request.specs.Request.{IsAllowed, scrypt_request_view};
 
 use super::{TASK, is_run, new_host};
 use romix::Costs;
@@ -37,7 +37,7 @@ static SALTS: [Salts; 2] = [(Some(SALT), [7; 32]), (None, SALT)];
 
 // Whether a request over a host with this salt and these sizes writes the file.
 fn is_written(alloc: Global, request: &Request<'_>, salt: [u8; 32], sizes: (usize, usize)) -> bool
-    requires allowed { IsAllowed (request_seen request.now) }
+    requires allowed { IsAllowed (scrypt_request_view request.now) }
 {
     let (pull, push) = sizes;
     let mut host = new_host(alloc, b"hello", b"pw\r\nmore", salt);

@@ -1,5 +1,5 @@
 //! Whole runs over a system in memory.
-ghost use Rattle.tools.specs.World.{IsUnused};
+ghost use Rattle.tools.specs.SystemState.{IsUnused};
 
 use super::*;
 use crate::tests::{FILE_OF_HELLO, SALT};
@@ -41,27 +41,27 @@ fn list(alloc: Global, bytes: &[u8]) -> Vec<u8> {
 }
 
 // Adds a word.
-fn add_word(alloc: Global, system: &mut MemorySystem, word: &[u8])
-    requires unused { IsUnused system.old.world }
-    ensures unused { IsUnused system.new.world }
+fn add_command_line_word(alloc: Global, system: &mut MemorySystem, word: &[u8])
+    requires unused { IsUnused system.old.state }
+    ensures unused { IsUnused system.new.state }
 {
-    let _ = system.add_word(list(alloc, word));
+    let _ = system.add_command_line_word(list(alloc, word));
 }
 
 // Adds the words of a line, which spaces part.
 fn add_words(alloc: Global, system: &mut MemorySystem, line: &str)
-    requires unused { IsUnused system.old.world }
-    ensures unused { IsUnused system.new.world }
+    requires unused { IsUnused system.old.state }
+    ensures unused { IsUnused system.new.state }
 {
     for word in line.split_whitespace() {
-        add_word(alloc, system, word.as_bytes());
+        add_command_line_word(alloc, system, word.as_bytes());
     }
 }
 
 // Puts a file under a name.
 fn put(alloc: Global, system: &mut MemorySystem, name: &str, bytes: &[u8], identities: Identities)
-    requires unused { IsUnused system.old.world }
-    ensures unused { IsUnused system.new.world }
+    requires unused { IsUnused system.old.state }
+    ensures unused { IsUnused system.new.state }
 {
     let name = String::from_str(alloc, name).unwrap_or(String::new(alloc));
     let _ = system.set_file(name, Contents::new(list(alloc, bytes), identities));
@@ -69,20 +69,20 @@ fn put(alloc: Global, system: &mut MemorySystem, name: &str, bytes: &[u8], ident
 
 // A process with these words, of which the first is its name, over a passphrase and an input with two names.
 fn process(alloc: Global, line: &str, input: &[u8], identities: Identities) -> MemorySystem
-    ensures unused { IsUnused result.world }
+    ensures unused { IsUnused result.state }
 {
     let mut system = MemorySystem::new(alloc);
     add_words(alloc, &mut system, line);
     put(alloc, &mut system, "pw", b"pw\n", Identities::NONE);
     put(alloc, &mut system, "in", input, identities);
     put(alloc, &mut system, "link", input, identities);
-    let _ = system.set_input(Some("in"));
+    let _ = system.set_input_name(Some("in"));
     system
 }
 
 // The program, of which nothing is said.
 fn ends(alloc: Global, system: MemorySystem) -> (u8, MemorySystem)
-    requires unused { IsUnused system.world }
+    requires unused { IsUnused system.state }
 {
     let (status, system, _) = run(alloc, system);
     (status, system)
@@ -100,7 +100,7 @@ fn comes_to(status: u8, system: &MemorySystem, end: End<'_>) -> bool {
 
 // Whether a run over this system comes to this.
 fn ends_so(alloc: Global, system: MemorySystem, end: End<'_>) -> bool
-    requires unused { IsUnused system.world }
+    requires unused { IsUnused system.state }
 {
     let (status, system) = ends(alloc, system);
     let is_so = comes_to(status, &system, end);
@@ -218,8 +218,8 @@ fn a_text_that_does_not_reach_the_disk(rt: HostRuntime) {
 // Whether a run of a process with this name and this word ends with this line.
 fn tells(alloc: Global, name: &[u8], word: &[u8], line: &str) -> bool {
     let mut system = MemorySystem::new(alloc);
-    add_word(alloc, &mut system, name);
-    add_word(alloc, &mut system, word);
+    add_command_line_word(alloc, &mut system, name);
+    add_command_line_word(alloc, &mut system, word);
     ends_so(alloc, system, (1, b"", Some(line), false))
 }
 

@@ -10,7 +10,7 @@ IsStandard opened.Standard = ⊤
 IsStandard (opened.Named _) = ⊥
 
 -- what stands for a stream is a file that was opened by its name
-abbrev pub IsNamed : Opened → Type 0
-IsNamed opened.Nothing = ⊥
-IsNamed opened.Standard = ⊥
-IsNamed (opened.Named _) = ⊤
+abbrev pub IsOpenedByName : Opened → Type 0
+IsOpenedByName opened.Nothing = ⊥
+IsOpenedByName opened.Standard = ⊥
+IsOpenedByName (opened.Named _) = ⊤

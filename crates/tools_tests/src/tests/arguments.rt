@@ -7,7 +7,7 @@ use tools::{WordsFault, words};
 // Adds a word, if there is memory for it.
 fn add(alloc: Global, system: &mut MemorySystem, word: &[u8]) {
     if let Ok(bytes) = word.to_vec(alloc) {
-        let _ = system.add_word(bytes);
+        let _ = system.add_command_line_word(bytes);
     }
 }
 

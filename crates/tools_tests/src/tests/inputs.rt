@@ -1,5 +1,5 @@
 //! Secrets and salts whose bytes come in pieces.
-ghost use Rattle.tools.specs.World.{IsUnused};
+ghost use Rattle.tools.specs.SystemState.{IsUnused};
 
 use crate::fixtures::{put, put_variable, with_standard};
 use host::{HostFault, Source};
@@ -9,7 +9,7 @@ use tools::{read_salt, read_secret};
 
 // A system where each source gives so many sevens, at most 40, two at a time.
 fn sevens(alloc: Global, count: usize) -> MemorySystem
-    ensures unused { IsUnused result.world }
+    ensures unused { IsUnused result.state }
 {
     let bytes = &[7; 40][..count.min(40)];
     let mut system = with_standard(alloc, bytes, Identities::NONE, Identities::NONE);

@@ -1,6 +1,6 @@
 //! Which opened outputs are emptied, and which are faults.
 ghost use Rattle.std.specs.Prelude.{◌≡◌, None, false};
-ghost use Rattle.tools.specs.World.{IsUnused};
+ghost use Rattle.tools.specs.SystemState.{IsUnused};
 
 use crate::fixtures::{put, with_standard};
 use memory_system::{Identities, MemorySystem};
@@ -36,7 +36,7 @@ struct Beside {
 
 // A system with that input, and with the output under two names and as standard output.
 fn files(alloc: Global, beside: Beside) -> MemorySystem
-    ensures unused { IsUnused result.world }
+    ensures unused { IsUnused result.state }
 {
     let input = Identities {
         before: beside.before,
@@ -55,8 +55,8 @@ fn files(alloc: Global, beside: Beside) -> MemorySystem
 // Whether an output of this name is opened, and whether it was emptied. The call that fails is counted from the
 // first after this.
 fn outcome(system: &mut MemorySystem, name: Option<&str>, failing: u64) -> (bool, bool)
-    requires unasked { system.old.world.output_asked ≡ None }
-    requires unsynced { system.old.world.sync_asked ≡ false }
+    requires unasked { system.old.state.output_asked ≡ None }
+    requires unsynced { system.old.state.sync_asked ≡ false }
 {
     system.fail_at(system.calls().saturating_add(failing));
     let is_opened = open_apart(system, name).is_ok();
@@ -69,7 +69,7 @@ type HostState = (bool, bool, bool);
 // What becomes of an output where standard input is opened as the input.
 fn beside_input(alloc: Global, beside: Beside, name: Option<&str>, failing: u64) -> HostState {
     let mut system = files(alloc, beside);
-    let _ = system.set_input(None);
+    let _ = system.set_input_name(None);
     let is_read = system.open(Reading::Input, None).is_ok();
     let (is_opened, is_emptied) = outcome(&mut system, name, failing);
     drop(system);

@@ -22,9 +22,9 @@ fn begun(alloc: Global, failing: u64, interruptions: u64) -> Run<MemorySystem> {
         Identities::NONE,
     );
     put(alloc, &mut system, "disk", b"", Identities::of(DISK));
-    let _ = system.set_input(None);
+    let _ = system.set_input_name(None);
     system.fail_at(failing);
-    system.interrupt(interruptions);
+    system.set_interrupt_count(interruptions);
     Run::new(system)
 }
 
@@ -319,7 +319,7 @@ fn beside_error(
         after: input,
     };
     let mut system = with_standard(alloc, b"hello", input, Identities::NONE);
-    let _ = system.set_input(None);
+    let _ = system.set_input_name(None);
     system.set_standard_error(error);
     Run::new(system)
 }

@@ -24,16 +24,16 @@ fn make(system: &mut MemorySystem, trouble: Trouble)
     ensures same { system.new ≡ system.old }
 {
     system.set_sizes(trouble.size.max(1), trouble.size);
-    system.interrupt(trouble.interruptions);
+    system.set_interrupt_count(trouble.interruptions);
     system.fail_at(system.calls().saturating_add(trouble.failing));
 }
 
 // A system whose standard input is opened, and gives these bytes with this trouble.
 fn to_read(alloc: Global, bytes: &[u8], trouble: Trouble) -> MemorySystem
-    ensures going { result.world.input.is_ended ≡ false }
+    ensures going { result.state.input.is_ended ≡ false }
 {
     let mut system = with_standard(alloc, bytes, Identities::NONE, Identities::NONE);
-    let _ = system.set_input(None);
+    let _ = system.set_input_name(None);
     let _ = system.open(Reading::Input, None);
     make(&mut system, trouble);
     system
@@ -59,8 +59,8 @@ fn full_read(alloc: Global, bytes: &[u8], trouble: Trouble) -> Answer {
 
 // What comes of a write of these bytes to standard output.
 fn write(system: &mut MemorySystem, bytes: &[u8], trouble: Trouble) -> Answer
-    requires unasked { system.old.world.output_asked ≡ None }
-    requires unsynced { system.old.world.sync_asked ≡ false }
+    requires unasked { system.old.state.output_asked ≡ None }
+    requires unsynced { system.old.state.sync_asked ≡ false }
 {
     if open_apart(system, None).is_err() {
         return (FAULT, 0);

@@ -1,13 +1,13 @@
 //! A host over a system in memory.
 ghost use Rattle.std.specs.Prelude.{◌≡◌};
 ghost use Rattle.host.specs.Faults.{no_faults};
-ghost use Rattle.host.specs.GrantedCalls.{nothing_asked};
+ghost use Rattle.host.specs.CallsGrantedByHost.{nothing_asked};
 
 use crate::fixtures::with_standard;
 use host::Host;
 use memory_system::{Identities, MemorySystem};
 use std::alloc::Global;
-use tools::{FailureCounts, SystemHost};
+use tools::{RunFailureCounts, SystemHost};
 
 // A host over a system that gives nothing, and of whose calls this one fails.
 fn failing(alloc: Global, call: u64) -> SystemHost<MemorySystem>
@@ -26,11 +26,11 @@ fn is_said(lines: &[String], said: &str) -> bool {
 
 // The status of a run, how many lines it could not say, and whether this one is said alone.
 fn found(
-    (status, system, counts): (u8, MemorySystem, FailureCounts<MemorySystem>),
+    (status, system, counts): (u8, MemorySystem, RunFailureCounts<MemorySystem>),
 ) -> (u8, u64, bool) {
     let is_said = is_said(system.lines(), "a refusal");
     drop(system);
-    (status, counts.unsaid_lines(), is_said)
+    (status, counts.failed_line_count(), is_said)
 }
 
 // How a run ends that is refused.

@@ -9,7 +9,7 @@ use tools::{Reading, System};
 fn opens(alloc: Global, given: Option<&str>, name: Option<&str>) -> (bool, bool) {
     let mut system = with_standard(alloc, b"", Identities::NONE, Identities::NONE);
     put(alloc, &mut system, "in", b"hello", Identities::NONE);
-    let is_given = system.set_input(given).is_ok();
+    let is_given = system.set_input_name(given).is_ok();
     let is_opened = system.open(Reading::Input, name).is_ok();
     drop(system);
     (is_given, is_opened)

@@ -23,7 +23,7 @@ more-init c =
 pub more-preserved : goal.more-preserved
 more-preserved c = (
   omega (arith, c.more.invariant.0, length-set c.more.words (c.more.n + 8) c.xor_words.result),
-  schedule_words_more _ c.more.words c.more.n _ _ (omega (arith, c.more.invariant.0)) c.more.invariant.1 c.temporary_word-temp.ensures.word c.xor_words.ensures.word,
+  schedule_words_more _ c.more.words c.more.n _ _ (omega (arith, c.more.invariant.0)) c.more.invariant.1 c.key_expansion_temp-temp.ensures.word c.xor_words.ensures.word,
 )
 
 pub returns-clause-schedule : goal.returns-clause-schedule

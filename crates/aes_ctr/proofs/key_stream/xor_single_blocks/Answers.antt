@@ -12,9 +12,9 @@ loop-i-preserved c =
     let width : 16 * i + 16 - 16 * i ≡ 16 = omega arith in
     let same : length c.loop-i.bytes ≡ length text = omega arith in
     let room : 16 * (i + 1) ≤ length text = omega arith in
-    let long : length c.xor_block.new.bytes ≡ 16 = omega arith in
-    rw width (IsXoredTo-put_mid c.args.aes.now c.args.number (16 * (c.args.number + c.loop-i.i)) (16 * i) (16 * (i + 1)) 16 text c.loop-i.bytes c.xor_block.new.bytes
-    (omega arith) room same long (omega arith) c.loop-i.invariant (rw width at c.xor_block.ensures.xored))
+    let long : length c.xor_one_block_with_key_stream.new.bytes ≡ 16 = omega arith in
+    rw width (IsXoredTo-put_mid c.args.aes.now c.args.number (16 * (c.args.number + c.loop-i.i)) (16 * i) (16 * (i + 1)) 16 text c.loop-i.bytes c.xor_one_block_with_key_stream.new.bytes
+    (omega arith) room same long (omega arith) c.loop-i.invariant (rw width at c.xor_one_block_with_key_stream.ensures.xored))
 
 pub returns : goal.returns
 returns c =

@@ -15,13 +15,13 @@ loop-i-preserved c =
     let width : 32 * i + 32 - 32 * i ≡ 32 = omega arith in
     let same : length c.loop-i.bytes ≡ length text = omega arith in
     let room : 32 * (i + 1) ≤ length text = omega (arith, c.requires.sixteen_blocks) in
-    let long : length c.xor_into_pair.new.bytes ≡ 32 = omega arith in
+    let long : length c.xor_into.new.bytes ≡ 32 = omega arith in
     let whole : length (take 32 (drop (32 * i) c.loop-i.bytes)) ≡ 32 =
     length-take-le 32 (drop (32 * i) c.loop-i.bytes) (omega (arith, length-drop (32 * i) c.loop-i.bytes, c.requires.sixteen_blocks)) in
     let block = c.sixteen_blocks-stream.ensures.stream key planes i (omega arith) in
-    rw width (IsXoredTo-put_mid key n (16 * (n + 2 * i)) (32 * i) (32 * (i + 1)) 32 text c.loop-i.bytes c.xor_into_pair.new.bytes
+    rw width (IsXoredTo-put_mid key n (16 * (n + 2 * i)) (32 * i) (32 * (i + 1)) 32 text c.loop-i.bytes c.xor_into.new.bytes
     (omega arith) room same long (omega arith) (c.loop-i.invariant key planes)
-    ((rw (width, block) at c.xor_into_pair.ensures.xored) ∙ zip2-key_stream_blocks key (n + 2 * i) (take 32 (drop (32 * i) c.loop-i.bytes)) whole))
+    ((rw (width, block) at c.xor_into.ensures.xored) ∙ zip2-key_stream_blocks key (n + 2 * i) (take 32 (drop (32 * i) c.loop-i.bytes)) whole))
 
 pub returns : goal.returns
 returns c = record {

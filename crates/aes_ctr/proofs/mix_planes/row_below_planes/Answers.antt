@@ -1,11 +1,8 @@
-use Rattle.aes_ctr.specs.Inside.PlaneSteps.{rows_below}
-use Rattle.aes_ctr.proofs.Held.{IsHeld-moved, bits-rows_below_1}
+use Rattle.aes_ctr.specs.Inside.PlaneSteps.{row_below_in_plane}
+use Rattle.aes_ctr.proofs.Held.{BitPlanesHoldBytes-moved, bits-row_below_in_plane}
 use Rattle.aes_ctr.proofs.mix_planes.row_below_planes.Goals as goal
 
 pub returns : goal.returns
 returns c = record {
-  held =
-      λ b first second. IsHeld-moved (rows_below 1) bits-rows_below_1 b c.args.planes first second
-      c.row_below.ensures.rows c.row_below-2.ensures.rows c.row_below-3.ensures.rows c.row_below-4.ensures.rows
-      c.row_below-5.ensures.rows c.row_below-6.ensures.rows c.row_below-7.ensures.rows c.row_below-8.ensures.rows;
+  held = λ b first second. BitPlanesHoldBytes-moved row_below_in_plane bits-row_below_in_plane b c.args.planes c.each_plane.result first second (λ k h. (c.each_plane.ensures.steps k h).1);
 }

@@ -1,5 +1,5 @@
-use Rattle.aes_ctr.proofs.Held.{IsHeld-xor}
+use Rattle.aes_ctr.proofs.Held.{BitPlanesHoldBytes-xor}
 use Rattle.aes_ctr.proofs.planes.xor_planes.Goals as goal
 
 pub returns : goal.returns
-returns c = record { held = λ b first second. IsHeld-xor b c.args.left c.args.right first second }
+returns c = record { held = λ b first second. BitPlanesHoldBytes-xor b c.args.left c.args.right first second }

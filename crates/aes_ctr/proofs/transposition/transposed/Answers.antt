@@ -4,7 +4,7 @@ use Rattle.aes_ctr.proofs.transposition.transposed.Goals as goal
 pub returns : goal.returns
 returns c = record {
   transposed =
-      transposed c.args.planes c.swapped_by_one.result c.swapped_by_two.result c.swapped_by_four.result
-      c.swapped_by_one.ensures.swapped c.swapped_by_two.ensures.swapped c.swapped_by_four.ensures.swapped;
-  bytes = λ k h. ((c.swapped_by_one.ensures.bytes k h).0, (c.swapped_by_four.ensures.bytes k h).1);
+      transposed c.args.planes c.exchanged.result c.exchanged-2.result c.exchanged-3.result
+      c.exchanged.ensures.exchanged c.exchanged-2.ensures.exchanged c.exchanged-3.ensures.exchanged;
+  bytes = λ k h. ((c.exchanged.ensures.bytes k h).0, (c.exchanged-3.ensures.bytes k h).1);
 }

@@ -1,8 +1,8 @@
 use Rattle.std.proofs.Common.{refl}
-use Rattle.aes_ctr.specs.Aes.{add_round_key, aes256, affine_bits, cipher, inverse, key_words, mix_columns, polynomial_product, product, product_of_squares, remainder, schedule_words, shift_rows, state_after, sub_byte, sub_bytes}
+use Rattle.aes_ctr.specs.Aes.{add_round_key, aes256, affine_bits, cipher, inverse, key_words, mix_columns, polynomial_product, product, product_of_squares, polynomial_remainder, schedule_words, shift_rows, state_after, sub_byte, sub_bytes}
 use Rattle.aes_ctr.specs.CounterMode.{counter_mode_from, key_stream_block}
 use Rattle.aes_ctr_tests.proofs.vectors.byte_of_the_next_block.Goals as goal
 
 pub returns : goal.returns
-unfolding counter_mode_from key_stream_block aes256 cipher state_after add_round_key mix_columns shift_rows sub_bytes schedule_words key_words sub_byte affine_bits inverse product_of_squares product polynomial_product remainder
+unfolding counter_mode_from key_stream_block aes256 cipher state_after add_round_key mix_columns shift_rows sub_bytes schedule_words key_words sub_byte affine_bits inverse product_of_squares product polynomial_product polynomial_remainder
 returns c = record { byte = refl }

@@ -5,7 +5,7 @@ use Rattle.argon.proofs.block.write_xor.Goals as goal
 pub words-preserved : goal.words-preserved
 words-preserved c = (
   omega arith,
-  rw (c.put_four.ensures.value, c.xor.ensures.value, c.four.ensures.value, c.four-in-words.ensures.value)
+  rw (c.put_words.ensures.value, c.xor-new.ensures.value, c.words_from.ensures.value, c.words_from-in-words.ensures.value)
       (write_more c.args.first.now c.args.second.now c.words.out c.words.i (omega arith) (omega arith) (omega arith) (omega arith) c.words.invariant.1),
 )
 

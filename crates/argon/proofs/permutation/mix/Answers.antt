@@ -6,13 +6,13 @@ pub returns : goal.returns
 unfolding mixed_words
 returns c = record {
   value = λ j h. rw (
-    c.xor_rotated-b-2.ensures.value j h,
+    c.rotated_xor-b-2.ensures.value j h,
     c.sum_with_product-c-2.ensures.value j h,
-    c.xor_rotated-d-2.ensures.value j h,
+    c.rotated_xor-d-2.ensures.value j h,
     c.sum_with_product-a-2.ensures.value j h,
-    c.xor_rotated-b.ensures.value j h,
+    c.rotated_xor-b.ensures.value j h,
     c.sum_with_product-c.ensures.value j h,
-    c.xor_rotated-d.ensures.value j h,
+    c.rotated_xor-d.ensures.value j h,
     c.sum_with_product-a.ensures.value j h,
   ) refl;
 }

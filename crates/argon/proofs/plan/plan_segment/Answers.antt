@@ -1,7 +1,7 @@
 use Rattle.std.proofs.Common.{rules, ◌≡◌, ◌<◌, ◌≤◌, Bool, true, sym, ap, arith, ◌∙◌}
 use Rattle.argon.specs.Counts.{address_work, first_index}
 use Rattle.argon.specs.Parameters.{segment_len}
-use Rattle.argon.specs.Inside.Segment.{index_after_parts}
+use Rattle.argon.specs.Inside.Segment.{index_in_segment_after_parts}
 use Rattle.argon.proofs.Independent.{made_as_planned}
 use Rattle.argon.proofs.Planning.{part_more}
 use Rattle.argon.proofs.Progress.{first_index-le}
@@ -17,9 +17,9 @@ loop-part-preserved c =
     let two : address_work c.new-segment.result.is_independent 1 ≡ 2 = ap (λ (b : Bool). address_work b 1) free in (
       search rules,
       omega (arith, two, c.prepare_addresses.ensures.count, c.loop-part.invariant.1),
-      part_more c.args.params.now at c.args.out.now c.loop-part.out c.plan_part.new.out c.loop-part.part c.prepare_addresses.new.addresses
-          c.new-segment.ensures.is_of c.new-segment.ensures.valid.long (omega (arith, c.address_count-part-end.ensures.value))
-          (c.prepare_addresses.ensures.value free) c.plan_part.ensures.planned c.loop-part.invariant.2,
+      part_more c.args.params.now at c.args.out.now c.loop-part.out c.plan_columns_of_address_block.new.out c.loop-part.part c.prepare_addresses.new.addresses
+          c.new-segment.ensures.is_of c.new-segment.ensures.valid.long (omega (arith, c.address_block_count-part-end.ensures.value))
+          (c.prepare_addresses.ensures.value free) c.plan_columns_of_address_block.ensures.planned c.loop-part.invariant.2,
     )
 
 pub returns-clause-planned : goal.returns-clause-planned
@@ -29,7 +29,7 @@ returns-clause-planned c = λ index low high.
     let small : first_index at.pass at.slice ≤ 2 = first_index-le at.pass at.slice in
     let first : first_index at.pass at.slice ≤ index = rw (place.pass, place.slice) low in
     let within : index < at.len = rw (← c.new-segment.ensures.is_of.len) high in
-    let end : index < index_after_parts at c.loop-part.part = omega (arith, c.address_count-part-end.ensures.value) in
+    let end : index < index_in_segment_after_parts at c.loop-part.part = omega (arith, c.address_block_count-part-end.ensures.value) in
     rw (← place.pass, ← place.slice, ← place.lane) (c.loop-part.invariant.2.planned index first end)
 
 pub returns-clause-kept : goal.returns-clause-kept
@@ -41,7 +41,7 @@ returns-clause-kept c = λ index low.
 
 pub returns-clause-count : goal.returns-clause-count
 returns-clause-count c =
-    rw (c.new-segment.ensures.is_of.len) (omega (arith, c.loop-part.invariant.1, c.address_count-part-end.ensures.value))
+    rw (c.new-segment.ensures.is_of.len) (omega (arith, c.loop-part.invariant.1, c.address_block_count-part-end.ensures.value))
 
 pub returns-clause-made : goal.returns-clause-made
 returns-clause-made c = λ h0 index low high.

@@ -1,5 +1,5 @@
 use Rattle.std.proofs.Common.{rules, ◌≡◌, Bool, ap, arith}
-use Rattle.argon.specs.Counts.{address_work, addresses_begun}
+use Rattle.argon.specs.Counts.{address_work, address_blocks_made_at}
 use Rattle.argon.specs.Reference.{is_independent}
 use Rattle.argon.proofs.Progress.{addresses_more}
 use Rattle.argon.proofs.Woven.{column_more}
@@ -10,12 +10,12 @@ loop-index-preserved c =
     let at = c.args.segment.now in
     let d = c.args.params.now in
     let i = c.loop-index.index in
-    let work : address_work (is_independent d at.pass at.slice) (addresses_begun i) ≡ address_work at.is_independent (addresses_begun i) =
-    ap (λ (b : Bool). address_work b (addresses_begun i)) c.requires.is_of.independent in (
+    let work : address_work (is_independent d at.pass at.slice) (address_blocks_made_at i) ≡ address_work at.is_independent (address_blocks_made_at i) =
+    ap (λ (b : Bool). address_work b (address_blocks_made_at i)) c.requires.is_of.independent in (
       search rules,
-      omega (arith, addresses_more at.is_independent i, work, c.fill_next_column.ensures.count),
-      c.fill_next_column.ensures.addresses,
+      omega (arith, addresses_more at.is_independent i, work, c.fill_next_block.ensures.count),
+      c.fill_next_block.ensures.addresses,
       λ matrix left next are whole start.
-          column_more matrix d at left c.loop-index.blocks c.fill_next_column.new.blocks i next c.requires.is_of c.requires.valid are (omega arith) (omega arith)
-          (c.loop-index.invariant.3 matrix left next are whole start) c.fill_next_column.ensures.value,
+          column_more matrix d at left c.loop-index.blocks c.fill_next_block.new.blocks i next c.requires.is_of c.requires.valid are (omega arith) (omega arith)
+          (c.loop-index.invariant.3 matrix left next are whole start) c.fill_next_block.ensures.value,
     )

@@ -1,8 +1,8 @@
 use Rattle.std.proofs.Common.{◌∙◌, ap, rules}
 use Rattle.argon2_command.specs.Output.{tag_line}
-use Rattle.argon2_words.specs.RequestView.{request_of}
+use Rattle.argon2_words.specs.RequestView.{argon2_request_view}
 use Rattle.argon2_command.proofs.output.hash_into.Goals as goal
 
 pub returns-clause-line : goal.returns-clause-line
 returns-clause-line c =
-    c.put_tag.ensures.line c.args.tag.now c.requires.line (search rules) ∙ ap (tag_line (request_of c.args.request.now)) (search rules)
+    c.replace_tag.ensures.line c.args.tag.now c.requires.line (search rules) ∙ ap (tag_line (argon2_request_view c.args.request.now)) (search rules)

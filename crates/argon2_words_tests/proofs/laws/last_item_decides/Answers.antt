@@ -4,9 +4,9 @@ use Rattle.std.specs.Prelude.{◌^◌, option_map, unwrap_or}
 use Rattle.host.specs.HostState.{Text}
 use Rattle.command_words.specs.Answer.{◌>>=◌}
 use Rattle.argon2_words.specs.Items.{Item}
-use Rattle.argon2_words.specs.Laws.{with_last_item}
+use Rattle.argon2_words.specs.Laws.{settings_with_last_item}
 use Rattle.command_words.specs.Number.{number_in}
-use Rattle.argon2_words.specs.Settings.{settings_after, with_item, with_value, count_in, power_in, version_named}
+use Rattle.argon2_words.specs.Settings.{settings_after, with_item, with_value, count_from_word, power_of_two_from_word, version_named}
 use Rattle.argon2_words.specs.declared.items.OptionName.{OptionName}
 use Rattle.argon2_words.specs.declared.items.OptionName.TheVariants as option
 use Rattle.argon2_words.specs.declared.refusal.Argon2Refusal.{Argon2Refusal}
@@ -20,14 +20,14 @@ alone (Err fault) = refl
 
 -- an item before the others
 after : (answer : Result Settings Argon2Refusal) (items : List Item) (item : Item)
-    → ((settings : Settings) → settings_after settings (items ++ item ∷ []) ≡ with_last_item settings items item)
+    → ((settings : Settings) → settings_after settings (items ++ item ∷ []) ≡ settings_with_last_item settings items item)
     → (answer >>= λ next. settings_after next (items ++ item ∷ []))
     ≡ ((answer >>= λ next. settings_after next items) >>= λ before. with_item before item)
 after (Ok settings) items item decides = decides settings
 after (Err fault) items item decides = refl
 
 last : (settings : Settings) (items : List Item) (item : Item)
-    → settings_after settings (items ++ item ∷ []) ≡ with_last_item settings items item
+    → settings_after settings (items ++ item ∷ []) ≡ settings_with_last_item settings items item
 last settings [] item = alone (with_item settings item)
 last settings (first ∷ items) item = after (with_item settings first) items item (λ next. last next items item)
 
@@ -43,15 +43,15 @@ replaced put settings given (Some one) (Some other) same is =
 again : (settings given : Settings) (name : OptionName) (before value : Text) → with_value settings name before ≡ Some given
     → with_value given name value ≡ with_value settings name value
 again s given option.Passes before value is =
-    replaced (λ s n. record s { passes = n }) s given (count_in before) (count_in value) (λ _ _. refl) is
+    replaced (λ s n. record s { passes = n }) s given (count_from_word before) (count_from_word value) (λ _ _. refl) is
 again s given option.LogMemory before value is =
-    replaced (λ s n. record s { memory_kib = n }) s given (power_in before) (power_in value) (λ _ _. refl) is
+    replaced (λ s n. record s { memory_kib = n }) s given (power_of_two_from_word before) (power_of_two_from_word value) (λ _ _. refl) is
 again s given option.Memory before value is =
-    replaced (λ s n. record s { memory_kib = n }) s given (count_in before) (count_in value) (λ _ _. refl) is
+    replaced (λ s n. record s { memory_kib = n }) s given (count_from_word before) (count_from_word value) (λ _ _. refl) is
 again s given option.Lanes before value is =
-    replaced (λ s n. record s { lanes = n }) s given (count_in before) (count_in value) (λ _ _. refl) is
+    replaced (λ s n. record s { lanes = n }) s given (count_from_word before) (count_from_word value) (λ _ _. refl) is
 again s given option.TagLength before value is =
-    replaced (λ s n. record s { tag_length = n }) s given (count_in before) (count_in value) (λ _ _. refl) is
+    replaced (λ s n. record s { tag_length = n }) s given (count_from_word before) (count_from_word value) (λ _ _. refl) is
 again s given option.Version before value is =
     replaced (λ s v. record s { version = v }) s given (version_named before) (version_named value) (λ _ _. refl) is
 again s given option.MaxMemory before value is =

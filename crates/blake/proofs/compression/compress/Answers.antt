@@ -36,4 +36,4 @@ pub returns : goal.returns
 unfolding compress
 returns c =
     let twelve : c.loop-i.i ≡ 12 = omega arith in
-    record { state = c.take_halves.ensures.state ∙ rw (c.loop-i.invariant.1, twelve) refl }
+    record { state = c.xor_halves_into_state.ensures.state ∙ rw (c.loop-i.invariant.1, twelve) refl }

@@ -7,10 +7,10 @@ pub returns-then-short : goal.returns-then-short
 unfolding long_hash
 returns-then-short c =
     let e : nat_le (length c.args.out.now) 64 ≡ true = le-leb (length c.args.out.now) 64 (omega arith) in
-    record { hash = rw e c.write_hash_of_parts.ensures.hash }
+    record { hash = rw e c.write_blake2b_of_parts.ensures.hash }
 
 pub returns-else-short : goal.returns-else-short
 unfolding long_hash
 returns-else-short c =
     let e : nat_le (length c.args.out.now) 64 ≡ false = lt-leb (length c.args.out.now) 64 (omega arith) in
-    record { hash = rw (e, ← c.write_hash_of_parts-else-short.ensures.hash) c.write_links.ensures.links }
+    record { hash = rw (e, ← c.write_blake2b_of_parts-else-short.ensures.hash) c.write_links.ensures.links }

@@ -1,5 +1,5 @@
-use Rattle.encfile.proofs.Files.{GivesBack-is}
+use Rattle.encfile.proofs.Files.{EncryptionRoundTrips-is}
 use Rattle.encfile_tests.proofs.laws.file_gives_its_text_back.Goals as goal
 
 pub returns : goal.returns
-returns c = record { back = GivesBack-is }
+returns c = record { back = EncryptionRoundTrips-is }

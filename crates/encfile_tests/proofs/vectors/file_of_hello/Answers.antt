@@ -6,12 +6,12 @@ use Rattle.sha2.specs.Sha256.{compress, digest_bytes, first_words, hash_after, r
 use Rattle.macs.specs.HmacSha256.{hmac_sha256, key_block}
 use Rattle.macs.specs.Pbkdf2.{joined_blocks, pbkdf2}
 use Rattle.romix.specs.Costs.{Parameters}
-use Rattle.romix.specs.BlockMix.{block_mix, chain_block, every_second_output}
-use Rattle.romix.specs.Romix.{integerify, romix, row_after, table_row}
+use Rattle.romix.specs.BlockMix.{block_mix, block_mix_x_after, every_second_output}
+use Rattle.romix.specs.Romix.{integerify, romix, romix_row_after_turns, row_of_v}
 use Rattle.romix.specs.Salsa20.{double_rounds, quarter_round, quarter_round_at, quarter_rounds, salsa20_8}
-use Rattle.romix.specs.Scrypt.{mixed_parts, scrypt, words_of}
+use Rattle.romix.specs.Scrypt.{parts_after_romix, scrypt, words_of}
 use Rattle.aes_ctr.specs.CounterMode.{counter_mode, counter_mode_from, key_stream_block}
-use Rattle.aes_ctr.specs.Aes.{add_round_key, aes256, affine_bits, cipher, inverse, key_words, mix_columns, polynomial_product, product, product_of_squares, remainder, schedule_words, shift_rows, state_after, sub_byte, sub_bytes}
+use Rattle.aes_ctr.specs.Aes.{add_round_key, aes256, affine_bits, cipher, inverse, key_words, mix_columns, polynomial_product, product, product_of_squares, polynomial_remainder, schedule_words, shift_rows, state_after, sub_byte, sub_bytes}
 use Rattle.encfile.specs.Header.{bytes_at, costs_of, header, salt_of}
 use Rattle.encfile.specs.EncryptedFile.{body, derived_key, encrypted_file, head, released_text}
 use Rattle.encfile.specs.Vectors.{front_of_hello}
@@ -31,12 +31,12 @@ code_bytes =
     0xC5 ∷ 0x9E ∷ 0x20 ∷ 0x63 ∷ 0xDE ∷ 0xC8 ∷ 0x82 ∷ 0x5E ∷ 0x63 ∷ 0x36 ∷ 0x00 ∷ 0x80 ∷ 0x95 ∷ 0x2B ∷ 0xD3 ∷ 0x9C ∷ []
 
 keys_are : derived_key (codes "pw") (range_with_len 0 32) costs ≡ cipher_bytes ++ code_bytes
-unfolding first_words schedule rounds compress hash_after digest_bytes sha256 key_block hmac_sha256 joined_blocks pbkdf2 quarter_round quarter_round_at quarter_rounds double_rounds salsa20_8 chain_block every_second_output block_mix integerify table_row row_after romix words_of mixed_parts scrypt derived_key
+unfolding first_words schedule rounds compress hash_after digest_bytes sha256 key_block hmac_sha256 joined_blocks pbkdf2 quarter_round quarter_round_at quarter_rounds double_rounds salsa20_8 block_mix_x_after every_second_output block_mix integerify row_of_v romix_row_after_turns romix words_of parts_after_romix scrypt derived_key
 keys_are = refl
 
 block_is : key_stream_block cipher_bytes 0 ≡
     0xCB ∷ 0xAF ∷ 0x37 ∷ 0x34 ∷ 0x69 ∷ 0xF3 ∷ 0x82 ∷ 0x55 ∷ 0xE3 ∷ 0xB3 ∷ 0x5C ∷ 0x68 ∷ 0x91 ∷ 0x86 ∷ 0xA5 ∷ 0xE9 ∷ []
-unfolding key_stream_block aes256 cipher state_after add_round_key mix_columns shift_rows sub_bytes schedule_words key_words sub_byte affine_bits inverse product_of_squares product polynomial_product remainder
+unfolding key_stream_block aes256 cipher state_after add_round_key mix_columns shift_rows sub_bytes schedule_words key_words sub_byte affine_bits inverse product_of_squares product polynomial_product polynomial_remainder
 block_is = refl
 
 abbrev header_bytes : List ℕ

@@ -1,11 +1,11 @@
 use Rattle.std.proofs.Common.{refl}
 use Rattle.sha2.specs.Sha256.{compress, digest_bytes, first_words, hash_after, rounds, schedule, sha256}
 use Rattle.encfile.specs.Header.{header}
-use Rattle.encfile.specs.Front.{format_refusal, header_refusal, limits_refusal}
+use Rattle.encfile.specs.Front.{format_refusal, header_refusal, file_refusal_before_passphrase}
 use Rattle.encfile_tests.proofs.vectors.refusals_of_fronts.Goals as goal
 
 pub returns : goal.returns
-unfolding first_words schedule rounds compress hash_after digest_bytes sha256 header header_refusal format_refusal limits_refusal
+unfolding first_words schedule rounds compress hash_after digest_bytes sha256 header header_refusal format_refusal file_refusal_before_passphrase
 returns c = record {
   short = refl;
   magic = refl;

@@ -15,7 +15,7 @@ loop-done-preserved c password salt held =
     let wide : length c.copy_from_slice.new.self ≡ n = omega (arith, c.copy_from_slice.ensures.len, length-take {A = ℕ}, length-drop {A = ℕ}) in
     rw more
     (take-put_mid start _ c.loop-done.out c.copy_from_slice.new.self (start + n) (omega arith) (omega arith)
-    ∙ rw (c.copy_from_slice.ensures.after, c.block_after_salt-block.ensures.block password salt held)
+    ∙ rw (c.copy_from_slice.ensures.after, c.block_from_salted_hmac-block.ensures.block password salt held)
     (blocks_more _ _ _ c.loop-done.done start n refl (rw filled at c.loop-done.invariant password salt held)))
 
 pub returns : goal.returns

@@ -16,7 +16,7 @@ returns-in-Err-clause-first g c =
 
 pub returns-in-Ok-text_of-clause-whole : goal.returns-in-Ok-text_of-clause-whole
 returns-in-Ok-text_of-clause-whole g c = λ told.
-    subst (λ (text : List ℕ). IsEncryptionOf c.args.file.now c.args.passphrase.now text) (sym c.clear_after.ensures.front)
+    subst (λ (text : List ℕ). IsEncryptionOf c.args.file.now c.args.passphrase.now text) (sym c.zero_bytes_after_length.ensures.front)
     (c.in-Ok-text_of.ensures.whole c.args.passphrase.now c.in-Ok.ensures.opened c.in-Ok.ensures.nothing)
 
 pub returns-in-Ok-text_of-clause-first : goal.returns-in-Ok-text_of-clause-first

@@ -1,5 +1,5 @@
 use Rattle.std.proofs.Common.{ap, arith, false, inr, refl, sym, true, ◌∙◌}
-use Rattle.pikhsen_c.specs.Heap.{asked_for_workspace}
+use Rattle.pikhsen_c.specs.Heap.{after_workspace_request}
 use Rattle.pikhsen_c.specs.declared.heap.Heap.{Heap}
 use Rattle.pikhsen_c.proofs.FrontStatus.{start_is}
 use Rattle.pikhsen_c.proofs.streaming.decrypt_start_in.Goals as goal
@@ -19,7 +19,7 @@ returns-in-Ok-start_decryption-clause-first c =
 pub returns-in-Ok-start_decryption-clause-asked : goal.returns-in-Ok-start_decryption-clause-asked
 returns-in-Ok-start_decryption-clause-asked c = record {
   asked = λ _. c.in-Ok-start_decryption.ensures.asked.asked refl
-      ∙ ap (λ (heap : Heap). asked_for_workspace heap true) c.in-Ok.ensures.asked;
+      ∙ ap (λ (heap : Heap). after_workspace_request heap true) c.in-Ok.ensures.asked;
   asked_if_wrong = λ wrong. absurd (omega (arith, wrong));
   refused = λ refused. absurd (omega (arith, refused));
   unasked = λ some _ _. absurd (some refl);
@@ -38,8 +38,8 @@ returns-in-Err-start_decryption-clause-first c =
 
 pub returns-in-Err-start_decryption-clause-asked : goal.returns-in-Err-start_decryption-clause-asked
 returns-in-Err-start_decryption-clause-asked c =
-    let granted = ap (λ (heap : Heap). asked_for_workspace heap true) c.in-Ok.ensures.asked in
-    let refused = ap (λ (heap : Heap). asked_for_workspace heap false) c.in-Ok.ensures.asked in
+    let granted = ap (λ (heap : Heap). after_workspace_request heap true) c.in-Ok.ensures.asked in
+    let refused = ap (λ (heap : Heap). after_workspace_request heap false) c.in-Ok.ensures.asked in
     record {
       asked = λ done. absurd (omega (arith, done, c.in-Err-start_decryption.ensures.at_least_1));
       asked_if_wrong = λ wrong. c.in-Err-start_decryption.ensures.asked.asked_if_late wrong ∙ granted;

@@ -1,9 +1,9 @@
 use Rattle.std.proofs.Common.{◌≡◌, ℕ, Bool, true, false, not, nat_le, nat_lt, List, length, Some, None, if◌then◌else◌}
 use Rattle.argon.specs.Argon2.{block_count}
 use Rattle.argon.specs.Counts.{work}
-use Rattle.argon_text.specs.Verifying.{parameters_with}
+use Rattle.argon_text.specs.Verifying.{parameters_of_value}
 use Rattle.argon_text.specs.declared.fault.VerifyFault.TheVariants.{PasswordLength, InputLength, MemoryLimit, WorkLimit}
-use Rattle.pikhsen_c.specs.Argon2.{HasKeyedFault}
+use Rattle.pikhsen_c.specs.Argon2.{HasKeyedVerifyFault}
 use Rattle.pikhsen_c.proofs.verifying.pikhsen_argon2_verify.Goals as goal
 
 -- three tests, in the order of the faults
@@ -20,13 +20,12 @@ never false memory ops told = cc
 
 -- with no secret and no associated data their lengths are no fault
 no_input_fault : (text password : List ℕ) (max_kib max_ops : ℕ)
-    → HasKeyedFault (Some InputLength) text password 0 0 max_kib max_ops → ⊥
+    → HasKeyedVerifyFault (Some InputLength) text password 0 0 max_kib max_ops → ⊥
 no_input_fault text password max_kib max_ops judged =
-    never (nat_le (length password) 0xFFFFFFFF) (nat_lt max_kib (block_count (parameters_with judged.value password)))
-    (nat_lt max_ops (work (parameters_with judged.value password))) judged.refused
+    never (nat_le (length password) 0xFFFFFFFF) (nat_lt max_kib (block_count (parameters_of_value judged.value password)))
+    (nat_lt max_ops (work (parameters_of_value judged.value password))) judged.refused
 
 pub returns-clause-no_input : goal.returns-clause-no_input
 returns-clause-no_input c =
-    rw (c.wipe_stack.ensures.same)
-    (λ told. no_input_fault c.args.text.now c.args.password.now
-    c.args.max_kib c.args.max_ops (c.verify_in-told.ensures.verdict.input_len told))
+    λ told. no_input_fault c.args.text.now c.args.password.now
+    c.args.max_kib c.args.max_ops (c.pikhsen_argon2_verify_keyed.ensures.verdict.input_len told)

@@ -1,11 +1,11 @@
 use Rattle.std.proofs.Common.{◌≡◌, ℕ, List, ◌+◌, ◌*◌, ◌-◌, ◌/◌, length, take, arith, refl, ap, sym, ◌∙◌}
 use Rattle.std.proofs.lemmas.List.{take_all}
-use Rattle.romix.specs.BlockMix.{block_at, chain_block, every_second_output}
+use Rattle.romix.specs.BlockMix.{block_at, block_mix_x_after, every_second_output}
 use Rattle.romix.proofs.Mixing.{chain_more, every_second_more, mix_is}
 use Rattle.romix.proofs.block_mix_by_rows.block_mix.Goals as goal
 
 pub turns-init : goal.turns-init
-unfolding chain_block every_second_output
+unfolding block_mix_x_after every_second_output
 turns-init c =
     let last : 2 * (length c.args.input.now / 32) - 1 ≡ length c.args.input.now / 16 - 1 = omega arith in
     record {

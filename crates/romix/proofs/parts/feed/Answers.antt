@@ -1,6 +1,6 @@
 use Rattle.std.proofs.Common.{◌≡◌, ℕ, List, ◌+◌, ◌*◌, ◌-◌, ◌++◌, take, drop, arith, refl, ap, subst, ◌∙◌, append-nil}
 use Rattle.std.proofs.lemmas.List.{append_assoc}
-use Rattle.macs.specs.KeyPair.{HoldsSalt}
+use Rattle.macs.specs.KeyPair.{Pbkdf2HasPasswordAndSalt}
 use Rattle.romix.specs.Scrypt.{octets_of}
 use Rattle.romix.proofs.PartBlocks.{octets_more}
 use Rattle.romix.proofs.parts.feed.Goals as goal
@@ -17,7 +17,7 @@ loop-i-preserved c =
     let made = c.write_u32_into.ensures ∙ ap (λ (n : ℕ). octets_of (take n (drop (16 * i) row))) one in
     record {
       fed = λ password salt held.
-          subst (λ (t : List ℕ). HoldsSalt c.update.new.self password t)
+          subst (λ (t : List ℕ). Pbkdf2HasPasswordAndSalt c.update.new.self password t)
           (append_assoc salt front c.write_u32_into.new.dst ∙ ap (λ (t : List ℕ). salt ++ t) (octets_more row c.write_u32_into.new.dst i (omega arith) made))
           (c.update.ensures.appended password _ (c.loop-i.invariant.fed password salt held));
       long = omega arith;

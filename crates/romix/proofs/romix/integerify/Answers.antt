@@ -1,6 +1,6 @@
 use Rattle.std.proofs.Common.{◌-◌, ◌+◌, ◌/◌, length, arith, sym}
-use Rattle.romix.specs.Inside.Diagonals.{natural_row}
-use Rattle.romix.proofs.Naturals.{length-natural_blocks, lowest_words}
+use Rattle.romix.specs.Inside.Diagonals.{row_in_standard_order}
+use Rattle.romix.proofs.Naturals.{length-blocks_in_standard_order, lowest_words}
 use Rattle.romix.proofs.Rows.{integerify_low}
 use Rattle.romix.proofs.romix.integerify.Goals as goal
 
@@ -11,5 +11,5 @@ returns c =
     let fits = rw (sym low.1) at (c.type_inv.row (length w - 16 + 13)).fits in
     record {
       number = rw (c.from.ensures, c.from-2.ensures, ← low.0, ← low.1)
-          (integerify_low (natural_row w) c.args.log_n (omega (arith, length-natural_blocks (length w / 16) w)) c.requires.log_n_high fits);
+          (integerify_low (row_in_standard_order w) c.args.log_n (omega (arith, length-blocks_in_standard_order (length w / 16) w)) c.requires.log_n_high fits);
     }

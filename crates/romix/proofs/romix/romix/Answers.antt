@@ -1,14 +1,14 @@
 use Rattle.std.proofs.Common.{◌≡◌, ℕ, List, ◌+◌, ◌*◌, ◌/◌, ◌^◌, ◌<◌, ◌≤◌, ◌%◌, length, arith, refl, ap, mod-lt, pow_pos, ◌∙◌}
-use Rattle.romix.specs.Inside.Diagonals.{natural_row}
-use Rattle.romix.specs.Romix.{romix, row_after, table_row}
-use Rattle.romix.specs.Sparse.{mixes, steps_to_rows}
+use Rattle.romix.specs.Inside.Diagonals.{row_in_standard_order}
+use Rattle.romix.specs.Romix.{romix, romix_row_after_turns, row_of_v}
+use Rattle.romix.specs.Sparse.{mixes, mix_count_from_kept_rows}
 use Rattle.romix.specs.Inside.Table.{row_at}
 use Rattle.romix.proofs.Rows.{half_is, table_row_more}
 use Rattle.romix.proofs.Kept.{count_more, kept_below, kept_more, row_room, turn_more}
 use Rattle.romix.proofs.romix.romix.Goals as goal
 
 pub fill-init : goal.fill-init
-unfolding table_row
+unfolding row_of_v
 fill-init c = record { row = c.turn_to_diagonals.ensures.words; rows = λ k h. absurd (omega arith); count = omega arith }
 
 pub keep_row-requires-clause-room : goal.keep_row-requires-clause-room
@@ -29,8 +29,8 @@ fill-preserved c =
     let len : ℕ = length c.args.row.now in
     let i : ℕ = c.fill.i in
     let s : ℕ = c.args.keep in
-    let one : natural_row c.block_mix_by_diagonals.new.out ≡ table_row b (2 * i + 1) = table_row_more b _ _ (2 * i) (2 * i + 1) c.fill.invariant.row c.block_mix_by_diagonals.ensures.words refl in
-    let rows : (k : ℕ) → s * k < 2 * i + 1 → natural_row (row_at c.keep_row.new.table len k) ≡ table_row b (s * k) =
+    let one : row_in_standard_order c.block_mix_by_diagonals.new.out ≡ row_of_v b (2 * i + 1) = table_row_more b _ _ (2 * i) (2 * i + 1) c.fill.invariant.row c.block_mix_by_diagonals.ensures.words refl in
+    let rows : (k : ℕ) → s * k < 2 * i + 1 → row_in_standard_order (row_at c.keep_row.new.table len k) ≡ row_of_v b (s * k) =
     kept_more c.fill.table c.keep_row.new.table b c.fill.row len (length c.fill.row) s (2 * i) (2 * i + 1) (omega arith) c.requires.keep refl
     c.fill.invariant.row c.keep_row.ensures.kept c.keep_row.ensures.below c.fill.invariant.rows in
     record {
@@ -41,7 +41,7 @@ fill-preserved c =
     }
 
 pub turns-init : goal.turns-init
-unfolding row_after steps_to_rows
+unfolding romix_row_after_turns mix_count_from_kept_rows
 turns-init c =
     let half = half_is c.args.log_n c.requires.log_n_low c.requires.log_n_high in
     let all : 2 * c.fill.i ≡ 2 ^ c.args.log_n = omega (arith, half) in

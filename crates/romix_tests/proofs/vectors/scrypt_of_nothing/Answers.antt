@@ -4,7 +4,7 @@ use Rattle.sha2.specs.Sha256.{compress, digest_bytes, first_words, hash_after, r
 use Rattle.macs.specs.HmacSha256.{hmac_sha256, key_block}
 use Rattle.macs.specs.Pbkdf2.{joined_blocks, pbkdf2}
 use Rattle.romix.specs.Romix.{romix}
-use Rattle.romix.specs.Scrypt.{mixed_parts, octets_of, part_at, scrypt, words_of}
+use Rattle.romix.specs.Scrypt.{parts_after_romix, octets_of, part_at, scrypt, words_of}
 use Rattle.romix_tests.proofs.vectors.scrypt_of_nothing.Goals as goal
 
 abbrev row : List ℕ
@@ -34,7 +34,7 @@ unfolding first_words schedule rounds compress hash_after digest_bytes sha256 ke
 key_of_mixed = refl
 
 pub returns : goal.returns
-unfolding mixed_parts scrypt
+unfolding parts_after_romix scrypt
 returns c = record {
   key = ap (λ (x : List ℕ). pbkdf2 [] (octets_of (romix x 16)) 64) row_is
       ∙ ap (λ (x : List ℕ). pbkdf2 [] (octets_of x) 64) c.romix_vector.ensures.words ∙ key_of_mixed;

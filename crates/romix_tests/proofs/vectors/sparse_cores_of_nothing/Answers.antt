@@ -5,39 +5,39 @@ use Rattle.sha2.specs.Sha256.{compress, digest_bytes, first_words, hash_after, r
 use Rattle.macs.specs.HmacSha256.{hmac_sha256, key_block}
 use Rattle.macs.specs.Pbkdf2.{joined_blocks, pbkdf2}
 use Rattle.four_words.specs.Words.{xored_words}
-use Rattle.romix.specs.BlockMix.{block_mix, chain_block, every_second_output}
-use Rattle.romix.specs.Romix.{integerify, row_after, table_row}
+use Rattle.romix.specs.BlockMix.{block_mix, block_mix_x_after, every_second_output}
+use Rattle.romix.specs.Romix.{integerify, romix_row_after_turns, row_of_v}
 use Rattle.romix.specs.Salsa20.{double_rounds, quarter_round, quarter_round_at, quarter_rounds, salsa20_8}
 use Rattle.romix.specs.Scrypt.{part_at, words_of}
-use Rattle.romix.specs.Sparse.{mixes, mixes_of_parts, sparse_cores, steps_to_rows}
-use Rattle.romix.specs.SparseCosts.{SparseParameters}
+use Rattle.romix.specs.Sparse.{mixes, block_mix_count_of_parts, sparse_table_core_count, mix_count_from_kept_rows}
+use Rattle.romix.specs.SparseCosts.{CostsAndKeep}
 use Rattle.romix_tests.proofs.vectors.sparse_cores_of_nothing.Goals as goal
 
-abbrev kept : ℕ → SparseParameters
+abbrev kept : ℕ → CostsAndKeep
 kept s = record { costs = record { log_n = 4; r = 1; p = 1 }; keep = s }
 
 -- after i turns the row is x, and so many BlockMixes led from kept rows to those that were read, for each S
 record IsAt (b x : List ℕ) (i by_2 by_4 by_8 by_16 : ℕ) : Type 0 where
-  row : row_after b 16 i ≡ x
-  two : steps_to_rows b 16 2 i ≡ by_2
-  four : steps_to_rows b 16 4 i ≡ by_4
-  eight : steps_to_rows b 16 8 i ≡ by_8
-  sixteen : steps_to_rows b 16 16 i ≡ by_16
+  row : romix_row_after_turns b 16 i ≡ x
+  two : mix_count_from_kept_rows b 16 2 i ≡ by_2
+  four : mix_count_from_kept_rows b 16 4 i ≡ by_4
+  eight : mix_count_from_kept_rows b 16 8 i ≡ by_8
+  sixteen : mix_count_from_kept_rows b 16 16 i ≡ by_16
 
-steps_more : (b x : List ℕ) (i s so_far more : ℕ) → row_after b 16 i ≡ x → steps_to_rows b 16 s i ≡ so_far → integerify x % s ≡ more
-    → steps_to_rows b 16 s (suc i) ≡ so_far + more
-unfolding steps_to_rows
+steps_more : (b x : List ℕ) (i s so_far more : ℕ) → romix_row_after_turns b 16 i ≡ x → mix_count_from_kept_rows b 16 s i ≡ so_far → integerify x % s ≡ more
+    → mix_count_from_kept_rows b 16 s (suc i) ≡ so_far + more
+unfolding mix_count_from_kept_rows
 steps_more b x i s so_far more row steps number = ap₂ (λ (m n : ℕ). m + n) steps (ap (λ (y : List ℕ). integerify y % s) row ∙ number)
 
-row_more : (b x y : List ℕ) (i j : ℕ) → row_after b 16 i ≡ x → integerify x % 16 ≡ j → block_mix (xored_words x (table_row b j)) ≡ y
-    → row_after b 16 (suc i) ≡ y
-unfolding row_after
+row_more : (b x y : List ℕ) (i j : ℕ) → romix_row_after_turns b 16 i ≡ x → integerify x % 16 ≡ j → block_mix (xored_words x (row_of_v b j)) ≡ y
+    → romix_row_after_turns b 16 (suc i) ≡ y
+unfolding romix_row_after_turns
 row_more b x y i j row number mixed =
-    ap (λ (z : List ℕ). block_mix (xored_words z (table_row b (integerify z % 16)))) row
-    ∙ ap (λ (k : ℕ). block_mix (xored_words x (table_row b k))) number ∙ mixed
+    ap (λ (z : List ℕ). block_mix (xored_words z (row_of_v b (integerify z % 16)))) row
+    ∙ ap (λ (k : ℕ). block_mix (xored_words x (row_of_v b k))) number ∙ mixed
 
 -- a turn more, that reads row j
-turn : (b x y : List ℕ) (i by_2 by_4 by_8 by_16 j : ℕ) → IsAt b x i by_2 by_4 by_8 by_16 → integerify x % 16 ≡ j → block_mix (xored_words x (table_row b j)) ≡ y
+turn : (b x y : List ℕ) (i by_2 by_4 by_8 by_16 j : ℕ) → IsAt b x i by_2 by_4 by_8 by_16 → integerify x % 16 ≡ j → block_mix (xored_words x (row_of_v b j)) ≡ y
     → IsAt b y (suc i) (by_2 + j % 2) (by_4 + j % 4) (by_8 + j % 8) (by_16 + j)
 turn b x y i by_2 by_4 by_8 by_16 j at number mixed = record {
   row = row_more b x y i j at.row number mixed;
@@ -176,72 +176,72 @@ b_is : words_of (part_at (pbkdf2 [] [] 128) 1 0) 32 ≡ b
 unfolding first_words schedule rounds compress hash_after digest_bytes sha256 key_block hmac_sha256 joined_blocks pbkdf2 words_of
 b_is = refl
 
-filled : table_row b 16 ≡ x_0
-unfolding quarter_round quarter_round_at quarter_rounds double_rounds salsa20_8 chain_block every_second_output block_mix table_row
+filled : row_of_v b 16 ≡ x_0
+unfolding quarter_round quarter_round_at quarter_rounds double_rounds salsa20_8 block_mix_x_after every_second_output block_mix row_of_v
 filled = refl
 
 at_0 : IsAt b x_0 0 0 0 0 0
-unfolding row_after steps_to_rows
+unfolding romix_row_after_turns mix_count_from_kept_rows
 at_0 = record { row = filled; two = refl; four = refl; eight = refl; sixteen = refl }
 
 at_1 : IsAt b x_1 1 0 0 4 4
-unfolding quarter_round quarter_round_at quarter_rounds double_rounds salsa20_8 chain_block every_second_output block_mix table_row integerify
+unfolding quarter_round quarter_round_at quarter_rounds double_rounds salsa20_8 block_mix_x_after every_second_output block_mix row_of_v integerify
 at_1 = turn b x_0 x_1 0 _ _ _ _ 4 at_0 refl refl
 
 at_2 : IsAt b x_2 2 0 2 6 6
-unfolding quarter_round quarter_round_at quarter_rounds double_rounds salsa20_8 chain_block every_second_output block_mix table_row integerify
+unfolding quarter_round quarter_round_at quarter_rounds double_rounds salsa20_8 block_mix_x_after every_second_output block_mix row_of_v integerify
 at_2 = turn b x_1 x_2 1 _ _ _ _ 2 at_1 refl refl
 
 at_3 : IsAt b x_3 3 1 3 11 11
-unfolding quarter_round quarter_round_at quarter_rounds double_rounds salsa20_8 chain_block every_second_output block_mix table_row integerify
+unfolding quarter_round quarter_round_at quarter_rounds double_rounds salsa20_8 block_mix_x_after every_second_output block_mix row_of_v integerify
 at_3 = turn b x_2 x_3 2 _ _ _ _ 5 at_2 refl refl
 
 at_4 : IsAt b x_4 4 2 6 18 18
-unfolding quarter_round quarter_round_at quarter_rounds double_rounds salsa20_8 chain_block every_second_output block_mix table_row integerify
+unfolding quarter_round quarter_round_at quarter_rounds double_rounds salsa20_8 block_mix_x_after every_second_output block_mix row_of_v integerify
 at_4 = turn b x_3 x_4 3 _ _ _ _ 7 at_3 refl refl
 
 at_5 : IsAt b x_5 5 3 7 19 27
-unfolding quarter_round quarter_round_at quarter_rounds double_rounds salsa20_8 chain_block every_second_output block_mix table_row integerify
+unfolding quarter_round quarter_round_at quarter_rounds double_rounds salsa20_8 block_mix_x_after every_second_output block_mix row_of_v integerify
 at_5 = turn b x_4 x_5 4 _ _ _ _ 9 at_4 refl refl
 
 at_6 : IsAt b x_6 6 4 8 20 28
-unfolding quarter_round quarter_round_at quarter_rounds double_rounds salsa20_8 chain_block every_second_output block_mix table_row integerify
+unfolding quarter_round quarter_round_at quarter_rounds double_rounds salsa20_8 block_mix_x_after every_second_output block_mix row_of_v integerify
 at_6 = turn b x_5 x_6 5 _ _ _ _ 1 at_5 refl refl
 
 at_7 : IsAt b x_7 7 5 11 27 35
-unfolding quarter_round quarter_round_at quarter_rounds double_rounds salsa20_8 chain_block every_second_output block_mix table_row integerify
+unfolding quarter_round quarter_round_at quarter_rounds double_rounds salsa20_8 block_mix_x_after every_second_output block_mix row_of_v integerify
 at_7 = turn b x_6 x_7 6 _ _ _ _ 7 at_6 refl refl
 
 at_8 : IsAt b x_8 8 5 13 29 37
-unfolding quarter_round quarter_round_at quarter_rounds double_rounds salsa20_8 chain_block every_second_output block_mix table_row integerify
+unfolding quarter_round quarter_round_at quarter_rounds double_rounds salsa20_8 block_mix_x_after every_second_output block_mix row_of_v integerify
 at_8 = turn b x_7 x_8 7 _ _ _ _ 2 at_7 refl refl
 
 at_9 : IsAt b x_9 9 6 14 34 50
-unfolding quarter_round quarter_round_at quarter_rounds double_rounds salsa20_8 chain_block every_second_output block_mix table_row integerify
+unfolding quarter_round quarter_round_at quarter_rounds double_rounds salsa20_8 block_mix_x_after every_second_output block_mix row_of_v integerify
 at_9 = turn b x_8 x_9 8 _ _ _ _ 13 at_8 refl refl
 
 at_10 : IsAt b x_10 10 6 16 36 52
-unfolding quarter_round quarter_round_at quarter_rounds double_rounds salsa20_8 chain_block every_second_output block_mix table_row integerify
+unfolding quarter_round quarter_round_at quarter_rounds double_rounds salsa20_8 block_mix_x_after every_second_output block_mix row_of_v integerify
 at_10 = turn b x_9 x_10 9 _ _ _ _ 2 at_9 refl refl
 
 at_11 : IsAt b x_11 11 7 19 39 63
-unfolding quarter_round quarter_round_at quarter_rounds double_rounds salsa20_8 chain_block every_second_output block_mix table_row integerify
+unfolding quarter_round quarter_round_at quarter_rounds double_rounds salsa20_8 block_mix_x_after every_second_output block_mix row_of_v integerify
 at_11 = turn b x_10 x_11 10 _ _ _ _ 11 at_10 refl refl
 
 at_12 : IsAt b x_12 12 7 21 41 73
-unfolding quarter_round quarter_round_at quarter_rounds double_rounds salsa20_8 chain_block every_second_output block_mix table_row integerify
+unfolding quarter_round quarter_round_at quarter_rounds double_rounds salsa20_8 block_mix_x_after every_second_output block_mix row_of_v integerify
 at_12 = turn b x_11 x_12 11 _ _ _ _ 10 at_11 refl refl
 
 at_13 : IsAt b x_13 13 7 23 43 83
-unfolding quarter_round quarter_round_at quarter_rounds double_rounds salsa20_8 chain_block every_second_output block_mix table_row integerify
+unfolding quarter_round quarter_round_at quarter_rounds double_rounds salsa20_8 block_mix_x_after every_second_output block_mix row_of_v integerify
 at_13 = turn b x_12 x_13 12 _ _ _ _ 10 at_12 refl refl
 
 at_14 : IsAt b x_14 14 8 26 50 98
-unfolding quarter_round quarter_round_at quarter_rounds double_rounds salsa20_8 chain_block every_second_output block_mix table_row integerify
+unfolding quarter_round quarter_round_at quarter_rounds double_rounds salsa20_8 block_mix_x_after every_second_output block_mix row_of_v integerify
 at_14 = turn b x_13 x_14 13 _ _ _ _ 15 at_13 refl refl
 
 at_15 : IsAt b x_15 15 9 27 55 111
-unfolding quarter_round quarter_round_at quarter_rounds double_rounds salsa20_8 chain_block every_second_output block_mix table_row integerify
+unfolding quarter_round quarter_round_at quarter_rounds double_rounds salsa20_8 block_mix_x_after every_second_output block_mix row_of_v integerify
 at_15 = turn b x_14 x_15 14 _ _ _ _ 13 at_14 refl refl
 
 -- of the last turn the row that it reads counts alone
@@ -251,9 +251,9 @@ last = refl
 
 -- ---- the count
 
-counted : (s steps : ℕ) → steps_to_rows b 16 s 16 ≡ steps → sparse_cores [] [] (kept s) ≡ 2 * (32 + steps)
-unfolding mixes mixes_of_parts sparse_cores
-counted s steps h = ap (λ (row : List ℕ). 2 * (0 + (32 + steps_to_rows row 16 s 16))) b_is ∙ (let e : 2 * (0 + (32 + steps_to_rows b 16 s 16)) ≡ 2 * (32 + steps) = omega (arith, h) in e)
+counted : (s steps : ℕ) → mix_count_from_kept_rows b 16 s 16 ≡ steps → sparse_table_core_count [] [] (kept s) ≡ 2 * (32 + steps)
+unfolding mixes block_mix_count_of_parts sparse_table_core_count
+counted s steps h = ap (λ (row : List ℕ). 2 * (0 + (32 + mix_count_from_kept_rows row 16 s 16))) b_is ∙ (let e : 2 * (0 + (32 + mix_count_from_kept_rows b 16 s 16)) ≡ 2 * (32 + steps) = omega (arith, h) in e)
 
 pub returns : goal.returns
 returns c = record {

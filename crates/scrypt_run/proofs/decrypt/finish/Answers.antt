@@ -1,12 +1,12 @@
 use Rattle.std.proofs.Common.{◌≡◌, ◌+◌, ◌<◌, ◌++◌, ◌^◌, ap, sym, subst, rules, refl, inl, inr, length, List, ℕ}
-use Rattle.encfile.specs.Decrypting.{HasRead}
+use Rattle.encfile.specs.Decrypting.{DecryptionHasRead}
 use Rattle.encfile.specs.EncryptedFile.{IsEncryptionOf, released_text}
 use Rattle.host.specs.HostState.{HostState}
-use Rattle.scrypt_run.specs.Decrypting.{text_after}
-use Rattle.scrypt_run.specs.Inside.Decrypting.{ReleaseRefused}
+use Rattle.scrypt_run.specs.Decrypting.{released_text_of_header_and_rest}
+use Rattle.scrypt_run.specs.Inside.Decrypting.{DecryptRefusedFromOutputOn}
 use Rattle.scrypt_request.specs.Request.{text_of}
 use Rattle.scrypt_run.specs.Steps.{after_pull_and_push}
-use Rattle.scrypt_run.specs.Text.{EndsTextEarly}
+use Rattle.scrypt_run.specs.Text.{RefusesDuringText}
 use Rattle.scrypt_run.proofs.decrypt.finish.Goals as goal
 
 pub returns-in_err-release-clause-refused : goal.returns-in_err-release-clause-refused
@@ -14,9 +14,9 @@ returns-in_err-release-clause-refused g c = λ t.
     let before = g.H.Host.seen c.args.host.now in
     let after = g.H.Host.seen c.release.new.host in
     let r = c.in_err-release.field-0.0 in
-    let ends : (passphrase front : List ℕ) → HasRead c.args.dec passphrase front
-    → ReleaseRefused r passphrase front (text_of c.args.outfile) before after = λ passphrase front h.
-    inr (inl (subst (λ s. EndsTextEarly r (2 ^ 60 + 32) 4128 (text_after passphrase front) (text_after passphrase front) s after) (c.in-Ok.ensures.opened t)
+    let ends : (passphrase front : List ℕ) → DecryptionHasRead c.args.dec passphrase front
+    → DecryptRefusedFromOutputOn r passphrase front (text_of c.args.outfile) before after = λ passphrase front h.
+    inr (inl (subst (λ s. RefusesDuringText r (2 ^ 60 + 32) 4128 (released_text_of_header_and_rest passphrase front) (released_text_of_header_and_rest passphrase front) s after) (c.in-Ok.ensures.opened t)
     (c.in_err-release.ensures.refused t passphrase front h))) in
     search (rules, ends)
 
@@ -26,7 +26,7 @@ returns-in-Ok-finish-clause-decrypted g c = λ t passphrase front h.
     let after = g.H.Host.seen c.release.new.host in
     let same = ap (λ (w : HostState). w.input) (c.in-Ok.ensures.opened t) in
     record {
-      released = subst (λ w. after ≡ after_pull_and_push (text_after passphrase front) (length w.input) w) (c.in-Ok.ensures.opened t)
+      released = subst (λ w. after ≡ after_pull_and_push (released_text_of_header_and_rest passphrase front) (length w.input) w) (c.in-Ok.ensures.opened t)
           (c.in_ok-release.ensures.released t passphrase front h);
       genuine = subst (λ xs. IsEncryptionOf (front ++ xs) passphrase (released_text (front ++ xs) passphrase)) same
           (c.in-Ok-finish.ensures.whole passphrase (front ++ opened.input) (c.in_ok-release.ensures.read t passphrase front h));
@@ -41,7 +41,7 @@ returns-in-Err-clause-refused g c = λ t passphrase front h.
       refl,
       record {
         below_limit = subst (λ xs. length (front ++ xs) < 2 ^ 60 + 128) same (c.in_ok-release.ensures.read t passphrase front h).below_limit;
-        released = subst (λ w. after ≡ after_pull_and_push (text_after passphrase front) (length w.input) w) (c.in-Ok.ensures.opened t)
+        released = subst (λ w. after ≡ after_pull_and_push (released_text_of_header_and_rest passphrase front) (length w.input) w) (c.in-Ok.ensures.opened t)
             (c.in_ok-release.ensures.released t passphrase front h);
         damaged = λ genuine. c.in-Err.ensures.damaged passphrase (front ++ opened.input) (c.in_ok-release.ensures.read t passphrase front h)
             (subst (λ xs. IsEncryptionOf (front ++ xs) passphrase (released_text (front ++ xs) passphrase)) (sym same) genuine);

@@ -1,14 +1,14 @@
 use Rattle.std.proofs.Common.{rules, ◌∙◌, inr, ◌≡◌, Bool, true, false, List, Option, None, Some, if◌then◌else◌, is_none, refl, sym, subst, ap}
-use Rattle.host.specs.Faults.{Faults, no_faults, output_failed}
+use Rattle.host.specs.Faults.{Faults, no_faults, with_output_failure_counted}
 use Rattle.host.specs.Lines.{SaysOneLine}
 use Rattle.host.specs.HostState.{HostState, Text}
 use Rattle.scrypt_command.specs.Run.{Succeeds}
-use Rattle.scrypt_request.specs.Refusal.{counted_by, line_of}
+use Rattle.scrypt_request.specs.Refusal.{faults_after_refusal, line_of}
 use Rattle.scrypt_request.specs.Request.{Request, encrypt, decrypt, inspect}
-use Rattle.scrypt_run.specs.Run.{RequestSucceeds}
+use Rattle.scrypt_run.specs.Run.{ScryptRequestSucceeds}
 use Rattle.scrypt_tool.specs.Program.{FailsSync}
 use Rattle.tools.specs.RunState.{RunState, host_seen}
-use Rattle.tools.specs.World.{IsOutputUnsynced, World}
+use Rattle.tools.specs.SystemState.{IsOutputUnsynced, SystemState}
 use Rattle.scrypt_request.specs.declared.refusal.ScryptRefusal.TheVariants as refusal
 use Rattle.scrypt_tool.proofs.program.run.Goals as goal
 
@@ -21,7 +21,7 @@ says-line tells line told before unsaid after none counts faults is seen counted
     (subst (λ f. SaysOneLine tells told unsaid after f faults) counted says))
 
 -- a run that did what it was asked for has an output
-opens-by : (r : Request) (before after : HostState) → RequestSucceeds r before after → is_none after.output_opened ≡ false
+opens-by : (r : Request) (before after : HostState) → ScryptRequestSucceeds r before after → is_none after.output_opened ≡ false
 opens-by (encrypt asked) before after s = ap (λ (t : HostState). is_none t.output_opened) s.encrypted.written
 opens-by (decrypt task) before after s = ap (λ (t : HostState). is_none t.output_opened) s.decrypted.released
 opens-by (inspect infile) before after s = ap (λ (t : HostState). is_none t.output_opened) s.written
@@ -36,17 +36,17 @@ used-where true asked some = refl
 used-where false asked some = elim (subst IsTrueThen (sym some) tt) [ ]
 
 writable : (words : List Text) (h : RunState) (before : HostState) → Succeeds words before (host_seen h) → h.grants.writable ≡ true
-writable words h before s = used-where h.grants.writable h.world.output_asked (opens-by s.request before (host_seen h) s.succeeds)
+writable words h before s = used-where h.grants.writable h.state.output_asked (opens-by s.request before (host_seen h) s.succeeds)
 
 -- the output could not be brought to the disk
-fails-sync : (tells : Bool) (words given : List Text) (before host unsaid after : HostState) (left : World) (told : Text) (counts faults : Faults)
-    → SaysOneLine tells told unsaid after (output_failed counts) faults → Succeeds given host unsaid → told ≡ line_of refusal.OutputFault
+fails-sync : (tells : Bool) (words given : List Text) (before host unsaid after : HostState) (left : SystemState) (told : Text) (counts faults : Faults)
+    → SaysOneLine tells told unsaid after (with_output_failure_counted counts) faults → Succeeds given host unsaid → told ≡ line_of refusal.OutputFault
     → counts ≡ no_faults → given ≡ words → host ≡ before → IsOutputUnsynced left → FailsSync tells words before after left faults
 fails-sync tells words given before host unsaid after left told counts faults says succeeds is counted same seen output_unsynced = record {
   unsaid = unsaid;
   succeeds = subst (λ w. Succeeds w before unsaid) same (subst (λ s. Succeeds given s unsaid) seen succeeds);
-  says = says-line tells (line_of refusal.OutputFault) told unsaid unsaid after (counted_by refusal.OutputFault no_faults) (output_failed counts) faults is
-      refl (ap output_failed counted) says;
+  says = says-line tells (line_of refusal.OutputFault) told unsaid unsaid after (faults_after_refusal refusal.OutputFault no_faults) (with_output_failure_counted counts) faults is
+      refl (ap with_output_failure_counted counted) says;
   output_unsynced = output_unsynced;
 }
 

@@ -3,7 +3,7 @@ use Rattle.std.proofs.Common.{◌≡◌, ◌<◌, ℕ, ◌+◌, List, [], ◌∷
 use Rattle.std.proofs.lemmas.Grind.{common_steps}
 use Rattle.std.proofs.lemmas.List.{append_assoc}
 use Rattle.host.specs.HostState.{Text}
-use Rattle.tools.specs.Words.{IsNoText, LacksText, first_word, word_at}
+use Rattle.tools.specs.Words.{IsNonUtf8WordIfNotText, HasNonUtf8WordIfNotText, first_word, word_at}
 use Rattle.tools.specs.declared.arguments.WordsFault.{WordsFault}
 use Rattle.tools.specs.declared.arguments.WordsFault.TheVariants as fault
 use Rattle.tools.proofs.arguments.words.Goals as goal
@@ -34,7 +34,7 @@ next_word kept words all place word whole is =
     ∙ whole
 
 -- a word that is no text
-lacks : (f : WordsFault) (words : List Text) (place : ℕ) → 0 < place → IsNoText f (word_at words place) → LacksText f words
+lacks : (f : WordsFault) (words : List Text) (place : ℕ) → 0 < place → IsNonUtf8WordIfNotText f (word_at words place) → HasNonUtf8WordIfNotText f words
 lacks fault.OutOfMemory words place some none = tt
 lacks fault.NotText words place some none = (place, some, none)
 

@@ -4,6 +4,6 @@ use Rattle.tools.proofs.Parts.{IsInterrupted}
 use Rattle.tools.proofs.streams.write_some.Given as goal
 
 abbrev pub invariant-loop : goal.invariant-loop
-invariant-loop g l = IsTrue g.S.System.tells → IsInterrupted l.counter (g.S.System.world l.initial.system)
-    (g.S.System.world l.system) (g.S.System.files l.initial.system) (g.S.System.files l.system)
+invariant-loop g l = IsTrue g.S.System.tells → IsInterrupted l.counter (g.S.System.state l.initial.system)
+    (g.S.System.state l.system) (g.S.System.files l.initial.system) (g.S.System.files l.system)
     (g.S.System.tries l.initial.system) (g.S.System.tries l.system)

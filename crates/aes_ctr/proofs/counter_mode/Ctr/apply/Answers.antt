@@ -8,7 +8,7 @@ returns-else-bytes-left_of_block-clause-xored c =
     let outer = c.split_at_mut-head.ensures in
     let inner = c.split_at_mut-blocks.ensures in
     let head = c.apply_bytes-else-bytes-left_of_block.ensures in
-    let blocks = c.apply_blocks.ensures in
+    let blocks = c.xor_whole_blocks.ensures in
     let tail = c.apply_bytes-else-bytes-left_of_block-2.ensures in
     append-counter_mode_from key _ _ _ c.args.bytes.now _ _ (omega arith) (omega arith) (rw outer.front at head.xored)
     (append-counter_mode_from key _ _ _ _ _ _ (omega (arith, ap length outer.back)) (omega (arith, ap length outer.back)) (rw (head.key, inner.front, outer.back) at blocks.xored)

@@ -1,19 +1,19 @@
 use Rattle.std.proofs.Common.{◌≡◌, ℕ, ◌+◌, ◌*◌, ◌<◌, List, length, refl, arith, ap, ◌∙◌}
 use Rattle.std.specs.Vec.{with_items}
 use Rattle.std.proofs.lemmas.List.{with_items_is}
-use Rattle.argon.specs.Filling.{HasNext}
-use Rattle.argon.specs.Matrix.{filling_of}
+use Rattle.argon.specs.Filling.{HasSliceLeft}
+use Rattle.argon.specs.Matrix.{filling_state_of_matrix}
 use Rattle.argon.specs.Woven.{with_next_slice}
 use Rattle.argon.proofs.Woven.{slice_is_newest}
 use Rattle.argon.proofs.matrix.Matrix.slice.Goals as goal
 
 pub invariant_of-self : goal.invariant_of-self
 invariant_of-self c =
-    let f = filling_of c.self.inside in
-    let next : HasNext (filling_of c.self.inside) = rw c.self.view_is c.requires.next in
+    let f = filling_state_of_matrix c.self.inside in
+    let next : HasSliceLeft (filling_state_of_matrix c.self.inside) = rw c.self.view_is c.requires.next in
     let kept : length c.fill_slice.new.blocks ≡ c.self.inside.blocks.held.list.len = omega (arith, c.fill_slice.ensures.size, c.blocks_mut.ensures.len) in
     let same = with_items_is c.self.inside.blocks.held.list c.fill_slice.new.blocks kept in
-    let made : c.fill_slice.new.blocks ≡ (with_next_slice (filling_of c.self.inside)).blocks =
+    let made : c.fill_slice.new.blocks ≡ (with_next_slice (filling_state_of_matrix c.self.inside)).blocks =
     c.fill_slice.ensures.made f (record { filling = c.self.invariant; next = next; is_of = refl; pass_is = refl; slice_is = refl }) c.blocks_mut.ensures.value in
     record {
       in_range = c.self.invariant.in_range;
@@ -24,10 +24,10 @@ invariant_of-self c =
 
 pub returns-clause-matrix : goal.returns-clause-matrix
 returns-clause-matrix c =
-    let f = filling_of c.self.inside in
-    let next : HasNext (filling_of c.self.inside) = rw c.self.view_is c.requires.next in
+    let f = filling_state_of_matrix c.self.inside in
+    let next : HasSliceLeft (filling_state_of_matrix c.self.inside) = rw c.self.view_is c.requires.next in
     let kept : length c.fill_slice.new.blocks ≡ c.self.inside.blocks.held.list.len = omega (arith, c.fill_slice.ensures.size, c.blocks_mut.ensures.len) in
-    let made : (with_items c.self.inside.blocks.held.list c.fill_slice.new.blocks).items ≡ (with_next_slice (filling_of c.self.inside)).blocks =
+    let made : (with_items c.self.inside.blocks.held.list c.fill_slice.new.blocks).items ≡ (with_next_slice (filling_state_of_matrix c.self.inside)).blocks =
     with_items_is c.self.inside.blocks.held.list c.fill_slice.new.blocks kept
     ∙ c.fill_slice.ensures.made f (record { filling = c.self.invariant; next = next; is_of = refl; pass_is = refl; slice_is = refl }) c.blocks_mut.ensures.value in
     rw (← c.self.view_is)
@@ -41,9 +41,9 @@ returns-clause-matrix c =
 
 pub returns-clause-newest : goal.returns-clause-newest
 returns-clause-newest c =
-    let f = filling_of c.self.inside in
-    let next : HasNext (filling_of c.self.inside) = rw c.self.view_is c.requires.next in
+    let f = filling_state_of_matrix c.self.inside in
+    let next : HasSliceLeft (filling_state_of_matrix c.self.inside) = rw c.self.view_is c.requires.next in
     let kept : length c.fill_slice.new.blocks ≡ c.self.inside.blocks.held.list.len = omega (arith, c.fill_slice.ensures.size, c.blocks_mut.ensures.len) in
-    let made : c.fill_slice.new.blocks ≡ (with_next_slice (filling_of c.self.inside)).blocks =
+    let made : c.fill_slice.new.blocks ≡ (with_next_slice (filling_state_of_matrix c.self.inside)).blocks =
     c.fill_slice.ensures.made f (record { filling = c.self.invariant; next = next; is_of = refl; pass_is = refl; slice_is = refl }) c.blocks_mut.ensures.value in
     rw (with_items_is c.self.inside.blocks.held.list c.fill_slice.new.blocks kept, made) (slice_is_newest f c.self.invariant next)

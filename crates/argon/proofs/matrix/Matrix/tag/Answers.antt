@@ -1,5 +1,5 @@
 use Rattle.std.proofs.Common.{◌≡◌, ℕ, ◌*◌, ◌≤◌, length, true, sym, arith, ap, ◌∙◌}
-use Rattle.argon.specs.Buffer.{HoldsNewest, number_after_slices}
+use Rattle.argon.specs.Buffer.{HoldsNewestBlocks, column_number_after_slices}
 use Rattle.argon.specs.Filling.{Filling}
 use Rattle.argon.proofs.LastColumn.{tag_is}
 use Rattle.argon.proofs.matrix.Matrix.tag.Goals as goal
@@ -13,7 +13,7 @@ returns c = record {
       let all : c.self.inside.slices_made ≡ 4 * c.self.inside.params.passes = omega (arith, c.requires.done.all) in
       let long : 2 ≤ c.segment_len.result = c.segment_len.ensures.long in
       let newest = c.self.invariant.newest started in
-      let last : HoldsNewest c.self.inside.params c.self.inside.h0 c.self.inside.blocks.held.list.items (λ _. number_after_slices c.self.inside.params (4 * c.self.inside.params.passes)) =
+      let last : HoldsNewestBlocks c.self.inside.params c.self.inside.h0 c.self.inside.blocks.held.list.items (λ _. column_number_after_slices c.self.inside.params (4 * c.self.inside.params.passes)) =
       rw all at newest in
       let len : length c.args.out.now ≡ c.self.inside.params.tag_len = c.requires.len ∙ sym (ap (λ (f : Filling). f.parameters.tag_len) c.self.view_is) in
       rw (← c.self.view_is)

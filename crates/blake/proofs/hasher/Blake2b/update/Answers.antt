@@ -6,8 +6,8 @@ use Rattle.blake.proofs.hasher.Blake2b.update.Goals as goal
 pub loop-start-preserved : goal.loop-start-preserved
 loop-start-preserved c = record {
   in_bytes = omega (arith, c.take_some-start.ensures.within);
-  same_output = c.take_some-start.ensures.output_len ∙ c.loop-start.invariant.same_output;
-  count = omega (arith, c.take_some-start.ensures.message_len, c.loop-start.invariant.count);
+  same_output = c.take_some-start.ensures.hash_len ∙ c.loop-start.invariant.same_output;
+  count = omega (arith, c.take_some-start.ensures.hashed_message_len, c.loop-start.invariant.count);
   holds = λ n m held.
       let now = c.take_some-start.ensures.holds n _ (c.loop-start.invariant.holds n m held) in
       rw (take_two c.args.bytes.now c.loop-start.start c.take_some-start.result, ← append_assoc)

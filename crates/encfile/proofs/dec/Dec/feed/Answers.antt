@@ -3,7 +3,7 @@ use Rattle.std.proofs.lemmas.List.{drop-drop, take_at}
 use Rattle.std.proofs.lemmas.Slice.{drop-append-drop}
 use Rattle.macs.specs.Hmac.{Holds}
 use Rattle.aes_ctr.specs.CounterMode.{KeyStreamPlace}
-use Rattle.encfile.specs.EncryptedFile.{cipher_key, code_key, head, released_text}
+use Rattle.encfile.specs.EncryptedFile.{cipher_key, hmac_key, head, released_text}
 use Rattle.encfile.proofs.Pieces.{place-more}
 use Rattle.encfile.proofs.Reading.{FitsSha256-take, IsSplit-more, length-split, released_text-more}
 use Rattle.encfile.proofs.dec.Dec.feed.Goals as goal
@@ -43,7 +43,7 @@ returns-clause-read c passphrase file h =
       state = record {
         cipher = place-more (cipher_key passphrase h.salt h.costs) h.done moved c.args.self.now.ctr c.apply.new.self h.state.cipher c.apply.ensures.key c.apply.ensures.position;
         held = refl;
-        code = subst (Holds c.update.new.self (code_key passphrase h.salt h.costs)) (append_assoc front h.done moved) code;
+        code = subst (Holds c.update.new.self (hmac_key passphrase h.salt h.costs)) (append_assoc front h.done moved) code;
       };
       split = IsSplit-more file passphrase h.salt h.costs h.done h.held piece moved c.take_in-released.new.self h.split joined count c.take_in-released.ensures.at_most_32;
       below_limit = omega (arith, fits, length-append file piece);

@@ -2,8 +2,8 @@ use Rattle.std.proofs.Common.{rules, ◌≡◌, ℕ, List, [], arith, append-nil
 use Rattle.romix.specs.Costs.{Parameters}
 use Rattle.encfile.specs.Header.{bytes_at}
 use Rattle.encfile.specs.EncryptedFile.{derived_key, head}
-use Rattle.encfile.specs.Decrypting.{Decrypts}
-use Rattle.encfile.proofs.Reading.{head_is, released_text-short, right_header_code-is}
+use Rattle.encfile.specs.Decrypting.{HasDecryptedWithKeys}
+use Rattle.encfile.proofs.Reading.{head_is, released_text-short, right_header_hmac-is}
 use Rattle.encfile.proofs.dec.Dec.open.Goals as goal
 
 pub returns-then-not-are_same-clause-wrong : goal.returns-then-not-are_same-clause-wrong
@@ -14,8 +14,8 @@ returns-then-not-are_same-clause-wrong c right =
     let front : List ℕ = c.args.front.now in
     let keys : c.derived_key-keys.result ≡ derived_key passphrase salt costs =
     c.derived_key-keys.ensures.key ∙ ap₂ (derived_key passphrase) c.salt.ensures.salt c.requires.workspace in
-    let due = right_header_code-is front passphrase salt c.derived_key-keys.result c.header_code.result costs
-    c.requires.header.salt_has_32_bytes c.requires.header.in_range c.requires.header.bytes keys c.header_code.ensures.code in
+    let due = right_header_hmac-is front passphrase salt c.derived_key-keys.result c.header_hmac.result costs
+    c.requires.header.salt_has_32_bytes c.requires.header.in_range c.requires.header.bytes keys c.header_hmac.ensures.code in
     let same = right ∙ sym due in
     search (rules, c.are_same.ensures.same.1 same)
 
@@ -27,9 +27,9 @@ returns-clause-right c =
     let front : List ℕ = c.args.front.now in
     let keys : c.derived_key-keys.result ≡ derived_key passphrase salt costs =
     c.derived_key-keys.ensures.key ∙ ap₂ (derived_key passphrase) c.salt.ensures.salt c.requires.workspace in
-    let due = right_header_code-is front passphrase salt c.derived_key-keys.result c.header_code.result costs
-    c.requires.header.salt_has_32_bytes c.requires.header.in_range c.requires.header.bytes keys c.header_code.ensures.code in
-    let told : bytes_at front 64 32 ≡ c.header_code.result = search rules in
+    let due = right_header_hmac-is front passphrase salt c.derived_key-keys.result c.header_hmac.result costs
+    c.requires.header.salt_has_32_bytes c.requires.header.in_range c.requires.header.bytes keys c.header_hmac.ensures.code in
+    let told : bytes_at front 64 32 ≡ c.header_hmac.result = search rules in
     told ∙ due
 
 pub returns-clause-opened : goal.returns-clause-opened
@@ -46,8 +46,8 @@ returns-clause-opened c =
       costs = costs;
       done = [];
       held = [];
-      state = subst (λ (k : List ℕ). Decrypts c.with_keys.result (head passphrase salt costs) k [] []) keys
-          (subst (λ (f : List ℕ). Decrypts c.with_keys.result f c.derived_key-keys.result [] []) whole c.with_keys.ensures.begun);
+      state = subst (λ (k : List ℕ). HasDecryptedWithKeys c.with_keys.result (head passphrase salt costs) k [] []) keys
+          (subst (λ (f : List ℕ). HasDecryptedWithKeys c.with_keys.result f c.derived_key-keys.result [] []) whole c.with_keys.ensures.begun);
       split = record {
         salt_has_32_bytes = c.requires.header.salt_has_32_bytes;
         in_range = c.requires.header.in_range;

@@ -41,7 +41,7 @@ use Rattle.std_heap.specs.contracts.Global as Heap
 use Rattle.std_heap.proofs.Global.TheLaws as heap
 use Rattle.std_heap.proofs.GlobalAllocator.TheImpl.Met.{passed}
 use Rattle.std_heap.proofs.Handle.{heap_val, heap_Tells}
-use Rattle.pikhsen_c.specs.StreamBox.{kept_owns}
+use Rattle.pikhsen_c.specs.StreamBox.{owns_optional_box}
 use Rattle.pikhsen_c.specs.contracts.stream.StreamBox as kept
 use Rattle.pikhsen_c.specs.contracts.stream.StreamState as running
 use Rattle.pikhsen_c.proofs.stream.StreamBox.TheLaws.{lowers}
@@ -76,7 +76,7 @@ take_spec {M = M} 𝓤 𝓛 𝓜 𝓡 wired =
     enter ! _ _ _ _ _ $ alloc_all ! (λ l. pass_all ! refl ((tt, tt), ((tt, ((tt, tt), tt)), tt)) $
     fsplit3 ! $ move ! (1 ∷ 2 ∷ 4 ∷ []) $ opens ! tt kept.the_row b o (λ us.
     move ! (1 ∷ []) $ peeks ! kept.the_row _ (shows 𝓛 kept.the_row) h us (λ is. fsplit ! $ move ! (1 ∷ []) $
-    rewrite ! 0 (λ (m : Option (E).row.Denot). ‵ (kept_owns running.the_row h.at m)) held-x.same refl $
+    rewrite ! 0 (λ (m : Option (E).row.Denot). ‵ (owns_optional_box running.the_row h.at m)) held-x.same refl $
     in_a_block ! h.at (λ p. box_owns (token (E).al heap') (R E) p x) (fst∗ 𝓤 (never 𝓤) (sem 𝓛 (token (E).al heap' (bare (τ E)) null_ptr))) (λ b' o' e.
     let at-block = lowers.val_is h us is ∙ ap (λ (p : Ptr). lowers.lowered (record h { at = p }) ∷ []) e in
     let Cell = λ (ws : List Val). ‵ (cell_at full_share (kept.the_row).mir ws b o) in

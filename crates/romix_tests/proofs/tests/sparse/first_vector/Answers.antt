@@ -1,10 +1,10 @@
 use Rattle.std.proofs.Common.{ℕ, ◌+◌, ap, ap₂, ◌∙◌}
 use Rattle.romix.specs.Costs.{cores}
-use Rattle.romix.specs.SparseCosts.{SparseParameters}
+use Rattle.romix.specs.SparseCosts.{CostsAndKeep}
 use Rattle.romix_tests.proofs.tests.sparse.first_vector.Goals as goal
 
 pub returns : goal.returns
 returns c = record {
-  count = c.derive.ensures.whole (ap (λ (s : SparseParameters). s.keep) c.requires.costs)
-      ∙ ap₂ (λ (a b : ℕ). a + b) c.new-ticks.ensures.zero (ap (λ (s : SparseParameters). cores s.costs) c.requires.costs);
+  count = c.derive.ensures.whole (ap (λ (s : CostsAndKeep). s.keep) c.requires.costs)
+      ∙ ap₂ (λ (a b : ℕ). a + b) c.new-ticks.ensures.zero (ap (λ (s : CostsAndKeep). cores s.costs) c.requires.costs);
 }

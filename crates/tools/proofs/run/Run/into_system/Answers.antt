@@ -1,8 +1,8 @@
 -- What a run leaves of a system.
 use Rattle.std.proofs.Common.{◌≡◌, Bool, true, false, Option, None, Some, refl, sym, subst, ap, is_none, if◌then◌else◌, option_map}
 use Rattle.host.specs.HostState.{SecretSource, Text}
-use Rattle.tools.specs.RunState.{RunState, IsAt, Leaves, grants_at, host_seen, is_in_use}
-use Rattle.tools.specs.World.{Files, World}
+use Rattle.tools.specs.RunState.{RunState, IsAt, Leaves, granted_calls_at_stage, host_seen, is_output_opened}
+use Rattle.tools.specs.SystemState.{Files, SystemState}
 use Rattle.tools.specs.declared.run.InputStage.{InputStage}
 use Rattle.tools.specs.declared.run.OutputStage.{OutputStage}
 use Rattle.host.specs.AskedSource.{asked_source}
@@ -21,15 +21,15 @@ unemptied-where true None is_emptied named unused none = elim (subst IsFalse (sy
 unemptied-where true (Some name) is_emptied named unused none = elim (subst IsFalse (ap is_none none) tt) [ ]
 
 leaves-at : (h : RunState) (input_stage : InputStage) (output_stage : OutputStage) (asked : Option SecretSource) (salted told : Bool)
-    (w : World) (f : Files) → h ≡ record { world = w; grants = grants_at input_stage output_stage asked salted; asked = asked; salted = salted }
-    → IsAt input_stage output_stage asked salted told (grants_at input_stage output_stage asked salted) w f → Leaves w (host_seen h)
+    (w : SystemState) (f : Files) → h ≡ record { state = w; grants = granted_calls_at_stage input_stage output_stage asked salted; asked = asked; salted = salted }
+    → IsAt input_stage output_stage asked salted told (granted_calls_at_stage input_stage output_stage asked salted) w f → Leaves w (host_seen h)
 leaves-at h input_stage output_stage asked salted told w f is at = subst (λ k. Leaves w (host_seen k)) (sym is) (record {
-  held = record { world = w; grants = grants_at input_stage output_stage asked salted; asked = asked; salted = salted };
+  held = record { state = w; grants = granted_calls_at_stage input_stage output_stage asked salted; asked = asked; salted = salted };
   over = refl;
   same = refl;
   secret = at.secret;
   random = at.random;
-  unemptied = unemptied-where (is_in_use output_stage) w.output_asked w.is_emptied at.named at.unemptied;
+  unemptied = unemptied-where (is_output_opened output_stage) w.output_asked w.is_emptied at.named at.unemptied;
 })
 
 pub returns-clause-leaves : goal.returns-clause-leaves

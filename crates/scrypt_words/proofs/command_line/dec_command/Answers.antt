@@ -1,9 +1,0 @@
-use Rattle.std.specs.Prelude.{codes}
-use Rattle.clap.specs.Words.{new_app}
-use Rattle.scrypt_words.specs.CommandLine.{IsCommand}
-use Rattle.scrypt_words.proofs.command_line.dec_command.Goals as goal
-
-pub returns : goal.returns
-returns c =
-    let name : IsCommand (new_app (codes "dec")) c.new.result = record { shape = c.new.ensures.app; local = c.new.ensures.local } in
-    record { command = c.with_common_words.ensures.command _ name }
