@@ -68,8 +68,8 @@ def changed(edits):
 
 
 def shared(crate, texts, places, folder, kept):
-    """What a check of these functions, or of the crate where there are none, leaves open, as goals() has it. None where it
-    says of no function whether it is proved."""
+    """What a check of these functions leaves open, as goals() has it. None where it says of no function whether it is proved,
+    or can't read what an edit puts."""
     crate, answered = copy.copy(crate), dict(texts)
     shutil.rmtree(folder, ignore_errors=True)
     crate.folder = shutil.copytree(crate.folder, folder, ignore=shutil.ignore_patterns("out"))
@@ -78,7 +78,8 @@ def shared(crate, texts, places, folder, kept):
         answered[file] = text_of(crate.folder, file, answered) + NO_GOAL
     ran = rt.checked(crate, answered, [*ALONE, *(f"--only={place}" for place in places)], kept)
     lines = ran.stdout.rstrip("\n").split("\n")
-    if ran.returncode != 1 or not lines[-1].startswith("only=" if places else "logic=not-proved"):
+    is_unread = any(rt.unread(it, texts) and OF_NO_GOAL not in it for it in lines)
+    if is_unread or ran.returncode != 1 or not lines[-1].startswith("only="):
         return None
     return goals(crate.folder, texts, lines)
 
@@ -107,7 +108,7 @@ def tried(crate, edits, texts, folder, kept):
     if first.types:
         return [by_types(crate, first, kept)]
     found = shared(crate, texts, changed(edits), folder, kept)
-    told = [(None, "its check says of no function whether it is proved")] * len(edits)
+    told = [(None, "it is not read, or its check says of no function whether it is proved")] * len(edits)
     if found is not None:
         told = [verdict(next((found[it] for it in [*sorted(edit.functions), None] if it in found), None)) for edit in edits]
     if len(edits) == 1:

@@ -3,11 +3,11 @@
 
 docs/audit names the commit at which `make audit` tried each edit, the toolchain that it had, and then each edit that it did
 not see refused at its goal. Such an edit is tried, and one whose own lines are not those of that commit, or of which a file
-that its trial is over differs from that commit, be it committed or not. Of the others a tenth is tried, which the hash of the commit that is tested chooses. Every edit is tried
-where that commit is not known (a shallow clone, a copy without git) or is no ancestor, where the toolchain's logic is
-another, or what decides over refusals (RULES) differs; but never more than there is time for (BUDGET): the hash of the
-commit chooses what is left out, and edits whose own lines differ come first. The tenth is of whole files of edits, of which
-the last is cut, since edits of the same functions share what is proved for them.
+that its trial is over differs from that commit, be it committed or not. Of the others a tenth is tried, by the seconds that
+they take: one of ten parts of their list, which the hash of the commit that is tested chooses, so that most share what is
+proved for them. Every edit is tried where the audited commit is not known (a shallow clone, a copy without git) or is no
+ancestor, where the toolchain's logic is another, or what decides over refusals (RULES) differs; but never more than there is
+time for (BUDGET): the hash of the commit chooses what is left out, and edits whose own lines differ come first.
 
     tests/edits/choice.py    prints what docs/audit has after an audit of the tree; fails if the tree is not as committed
 """
@@ -63,20 +63,21 @@ class Choice:
         """Whether an edit is tried whatever its turn, where its trial is over the files at or below these places."""
         return bool(self.every) or edit.name in self.failed or self.differs(places) or self.is_edited(edit)
 
-    def order(self, names, file_of=lambda name: ""):
-        """These names in the order that the commit chooses, those of a file together."""
-        chosen = lambda word: hashlib.sha256(f"{word} {self.head}".encode()).digest()
-        return sorted(names, key=lambda it: (chosen(file_of(it)), chosen(it)))
+    def order(self, names):
+        """These names in the order that the commit chooses."""
+        return sorted(names, key=lambda it: hashlib.sha256(f"{it} {self.head}".encode()).digest())
 
-    def tenth(self, names, file_of):
-        """A tenth of these names, which the commit chooses file by file."""
-        return self.order(names, file_of)[:math.ceil(len(names) / PART)]
+    def tenth(self, names, seconds):
+        """A tenth of these names: one of ten parts that take as long as one another, as they stand side by side."""
+        ends = [*itertools.accumulate(map(seconds, names))]
+        turn = int(hashlib.sha256(self.head.encode()).hexdigest(), 16) % PART
+        return [name for name, end in zip(names, ends) if math.ceil(PART * end / ends[-1]) == turn + 1]
 
-    def choose(self, every, seconds=lambda name: 0):
+    def choose(self, every, seconds=lambda name: 1):
         """The names of the edits that are tried, and what there is to say of them. Each edit comes by its name, with the
-        places that its trial is over; seconds says what one takes, after those before it."""
+        places that its trial is over; seconds says what one takes."""
         new = {name for name, (edit, places) in every.items() if self.is_new(edit, places)}
-        tenth = self.tenth({*every} - new, lambda it: every[it][0].path.relative_to(self.top))
+        tenth = self.tenth([name for name in every if name not in new], seconds)
         names = [*sorted(self.order(new), key=lambda it: not self.is_edited(every[it][0])), *tenth]
         kept = [name for name, spent in zip(names, itertools.accumulate(map(seconds, names))) if spent <= BUDGET]
         left = f"; {len(names) - len(kept)} of them are left out, for want of time: make audit tries all" * (kept != names)

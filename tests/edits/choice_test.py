@@ -62,10 +62,9 @@ def main():
             checks.that(what, new(top), expected)
             (top / path).write_text(TREE[path], encoding="utf-8") if path in TREE else (top / path).unlink()
         choice, names = Choice("logic 1", top), [f"edit {at}" for at in range(95)]
-        files = {name: int(name.split()[1]) // 4 for name in names}
-        tenths = [choice.tenth(names, files.get) for choice.head in map(str, range(200))]
-        checks.that("a tenth, and each in its turn", ({*map(len, tenths)}, {*sum(tenths, [])}), ({10}, {*names}))
-        checks.that("of as few files", {len({*map(files.get, it)}) for it in tenths}, {3})
+        tenths = [choice.tenth(names, lambda name: 1 + (name == "edit 7") * 4) for choice.head in map(str, range(200))]
+        checks.that("a tenth of the seconds, and each in its turn", ({*map(len, tenths)}, {*sum(tenths, [])}), ({7, 8, 10}, {*names}))
+        checks.that("of neighbours", [it for it in tenths if it != names[names.index(it[0]):][:len(it)]], [])
         choice.every, edits = "no audit", dict.fromkeys(names, (Edit(top / BODIES, "a", []), []))
         kept, said = choice.choose(edits, lambda _: BUDGET / 3)
         checks.that("as many as there is time for", kept, choice.order(names)[:3])

@@ -75,6 +75,10 @@ class Crate:
         below = [f"../{it.name}/specs" for it in self.crate.below()]
         return [os.path.normpath(f"crates/{self.name}/{it}") for it in ("specs", "specs/Inside", "proofs", *parts, *below)]
 
+    def seconds_of(self, edit):
+        """The seconds that a trial is likely to take, with its share of the proof of the crate as it is."""
+        return self.of_body + self.of_proof / len(self.bodies) if edit in self.bodies else UNKNOWN[1]
+
     def functions(self):
         """The functions that are proved for a trial of what is tried now."""
         return body_trial.changed(self.now[0])
@@ -88,15 +92,8 @@ class Crate:
 def choose(crates, choice):
     """Leaves of each crate's edits those that are tried in the gate, and says how many are new, in turn, and left out."""
     every = {f"{edit.path.parent.name} {edit.name}": (edit, it) for it in crates for edit in [*it.bodies, *it.definitions]}
-    proved = set()
-
-    def seconds(name):
-        edit, it = every[name]
-        of_proof, of_trial = 0 if it in proved else it.of_proof, it.of_body if edit in it.bodies else UNKNOWN[1]
-        proved.add(it)
-        return of_proof + of_trial
-
-    names, said = choice.choose({name: (edit, it.places(edit)) for name, (edit, it) in every.items()}, seconds)
+    places = {name: (edit, it.places(edit)) for name, (edit, it) in every.items()}
+    names, said = choice.choose(places, lambda name: every[name][1].seconds_of(every[name][0]))
     kept = {every[name][0] for name in names}
     for it in crates:
         it.keep(kept)

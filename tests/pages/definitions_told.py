@@ -47,19 +47,19 @@ Of {wrong} definitions, these or others, a wrong one was refused.
 SEEN = "the value of the code as contracts see it: field by field"
 WHY = {
     ("tools.specs.RunState", ""): "field by field, a host of a system: the statements of `SystemHost` are read against it",
-    ("tools.specs.World", ""): "field by field, a system: the calls of `System` are read against it",
+    ("tools.specs.SystemState", ""): "field by field, a system: the calls of `System` are read against it",
     ("tools.specs.Identity", "is_regular"): "a choice between two forms",
     ("tools.specs.Words", ""): "an item of a list",
-    **{("host.specs.Secret", name): SEEN for name in ("source_of", "secret_of")}, ("argon_text.specs.View", "value_viewed"): SEEN,
-    **{("scrypt_request.specs.Request", f"{name}_seen"): SEEN for name in ("request", "encryption", "task")},
+    **{("host.specs.Secret", name): SEEN for name in ("source_of", "secret_of_source")}, ("argon_text.specs.View", "encoded_value_of_hash_view"): SEEN,
+    **{("scrypt_request.specs.Request", f"{name}_view"): SEEN for name in ("scrypt_request", "encryption", "task")},
     ("pikhsen_c.specs.Heap", "one_more"): "one of two numbers of a record goes up by one",
     **{("pikhsen_c.specs.Heap", name): "`one_more` of one field of a record" for name in (
-        "asked_for_matrix", "asked_for_text", "asked_for_workspace", "asked_for_state", "asked_to_read")},
-    **dict.fromkeys((("pikhsen_c.specs.File", "cores_to_open"), ("pikhsen_c.specs.Scrypt", "cores_given")), "`sparse_cores` of costs"),
+        "after_matrix_request", "after_text_request", "after_workspace_request", "after_state_request", "after_reading_request")},
+    **dict.fromkeys((("pikhsen_c.specs.File", "salsa20_cores_to_open"), ("pikhsen_c.specs.Scrypt", "salsa20_cores_of_numbers")), "`sparse_table_core_count` of costs"),
     ("pikhsen_c.specs.Stream", "Of"): "a type of statements",
     ("scrypt_request.specs.Request", "text_of"): SEEN,
     ("scrypt_run.specs.Encrypting", "decided"): "a choice between `encrypted_file` and `body`",
-    ("scrypt_run.specs.Decrypting", "text_after"): "`released_text` of two parts, one after the other",
+    ("scrypt_run.specs.Decrypting", "released_text_of_header_and_rest"): "`released_text` of two parts, one after the other",
     ("scrypt_run.specs.Decrypting", "front_refusal_of"): "`front_refusal` of a task's limits and a host's input",
 }
 

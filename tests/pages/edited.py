@@ -15,7 +15,7 @@ BY_ANOTHER = {
         "lanes::Lanes::reserve": "lanes::reserve_from", "matrix::Matrix::reserve": "matrix::reserve_from",
         "matrix::Matrix::as_blocks": "wiped_blocks::WipedBlocks::blocks",
     },
-    "argon_text": {"encoded::Encoded::write": "encoded::Encoded::text", "range::range_fault": "range::first_out"},
+    "argon_text": {"encoded::Encoded::write": "encoded::Encoded::text", "range::first_encoded_range_fault": "range::first_field_range_fault"},
     "encfile": {"dec::Dec::finish": "tail::Tail::is"},
     "macs": {"pbkdf2_sha256::pbkdf2": "pbkdf2_sha256::write_key"},
     "romix": {"workspace::Workspace::reserve": "workspace::reserve_from"},

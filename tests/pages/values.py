@@ -33,7 +33,7 @@ EXCLUDING = {"argon2": ["-i -d -id", "-k -m", "-e -r"], "scrypt": ["-P --passphr
 WORD = r"(?<![\w-])--?[A-Za-z]+"
 RANGE = re.compile(r"\b(?:8 times the lanes|\d+) to \d+\b|\bat least \d+\b")
 # What a word of argon2 may be, as its sources test it.
-TAKEN = {"u32_from(0": "0 to 4294967295", "u32_from(1": "1 to 4294967295", "power_in(": "1 to 31",
+TAKEN = {"u32_from_word(0": "0 to 4294967295", "u32_from_word(1": "1 to 4294967295", "power_of_two_from_word(": "1 to 31",
          "number_in(1, 1 << 63": "1 to 9223372036854775807", "version_named(": "13 or 10"}
 # The parameters of argon::Params::new, with their names in docs/FORMATS.md and the options that give them.
 PARAMETERS = {"passes": ("passes", "-t"), "lanes": ("lanes", "-p"), "memory_kib": ("memory in KiB", "-k"),
@@ -51,8 +51,7 @@ NUMBERS = [
 # stands there; of the latter the head of a definition, an option of one letter, or of its number, and what names no option.
 ITEMS = {"src/{}.rt": ("items", "request", r'"([^"]*)"'), "specs/{}.antt": ("Items", "Request", r'codes "([^"]*)"')}
 COMMAND_LINES = {
-    "src/command_line.rt": (r"^(?:pub )?fn (\w+)", r"(?:\"\w+\", )?'(\w)'",
-                            r'with_file\(alloc, (?:command|Ok\(Command::new\(alloc, "\w+"\)\)), "\w+"\)|::new\(alloc, "\w+"\)'),
+    "src/command_line.rt": (r"^(?:pub )?fn (\w+)", r"(?:\"\w+\", )?'(\w)'", r'::new\(alloc, "\w+"\)'),
     "specs/CommandLine.antt": (r"^(?:[a-z]+ )*(\w+) : ", r'(?:\(codes "\w+"\) |Some )(\d+)', r'new_(?:app|rule) \(codes "\w+"\)'),
 }
 
@@ -168,7 +167,7 @@ def scrypt_in_sources():
     """What each option of scrypt may be, and what holds without it; the ranges of costs, passphrases and texts."""
     table = {it.lstrip("-"): option for it, option in options("scrypt").items()}
     texts = "".join(text_of(f"crates/scrypt_words/src/{it}.rt") for it in ("costs", "request", "task"))
-    given = re.findall(r'(?:number|limit)_given\(matches, "(\w+)",(?: (\w+),)? ([^)]*)\)', texts)
+    given = re.findall(r'(?:number|limit)_from_words\(matches, "(\w+)",(?: (\w+),)? ([^)]*)\)', texts)
     that("scrypt: options with a value where they are not given", sorted({it[0] for it in given}),
          sorted(name for name, it in table.items() if it.default))
     for name, end, value in (it for it in given if it[0] in table):
