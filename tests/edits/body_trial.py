@@ -68,8 +68,8 @@ def changed(edits):
 
 
 def shared(crate, texts, places, folder, kept):
-    """What a check of these functions leaves open, as goals() has it. None where it says of no function whether it is proved,
-    or can't read what an edit puts."""
+    """What a check of these functions leaves open, as goals() has it, or of the crate where there are none, as in one of lemmas
+    alone. None where it says of no function whether it is proved, or can't read what an edit puts."""
     crate, answered = copy.copy(crate), dict(texts)
     shutil.rmtree(folder, ignore_errors=True)
     crate.folder = shutil.copytree(crate.folder, folder, ignore=shutil.ignore_patterns("out"))
@@ -79,7 +79,7 @@ def shared(crate, texts, places, folder, kept):
     ran = rt.checked(crate, answered, [*ALONE, *(f"--only={place}" for place in places)], kept)
     lines = ran.stdout.rstrip("\n").split("\n")
     is_unread = any(rt.unread(it, texts) and OF_NO_GOAL not in it for it in lines)
-    if is_unread or ran.returncode != 1 or not lines[-1].startswith("only="):
+    if is_unread or ran.returncode != 1 or not lines[-1].startswith("only=" if places else "logic=not-proved"):
         return None
     return goals(crate.folder, texts, lines)
 
