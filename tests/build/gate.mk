@@ -7,12 +7,12 @@ step = @{ t=$$({ TIMEFORMAT='%0R %0U %0S'; time $(1) >&3 2>&4; } 2>&1); r=$$?; }
 	said="$$1"$$'\t'"$$(($$2 + $$3))"$$'\t'"$(1)"; echo "== $$said"; echo "$$said" >>bin/gate.tsv; exit $$r
 outside := $(foreach it,$(LEVELS),$(if $(filter x86-64-v2,$(it))$(wildcard bin/$(it)/scrypt),outside-$(it)))
 
-gate: c_face lines
+gate: refusals c_face lines
 	@awk -F '\t' -v now=$$(date +%s) 'NR == 1 {begun = $$2} NR > 1 {all += $$2} END {print now - begun "\t" all "\tall"}' \
 		bin/gate.tsv >bin/gate.all && cat bin/gate.all >>bin/gate.tsv && rm bin/gate.all
 	@cat bin/gate.tsv
 
-.PHONY: gate sources documents values told choice first_run scripts proved refusals c_face lines
+.PHONY: gate sources documents values told choice first_run scripts proved archive refusals c_face lines
 sources:   ; $(call step,tests/sources/sources.sh)
 documents: ; $(call step,tests/pages/documents.py)
 values:    ; $(call step,tests/pages/values.py)
@@ -25,8 +25,9 @@ proved: sources documents values told choice first_run scripts
 	@install -D -m 755 crates/argon_tool/out/argon_tool bin/x86-64-v2/argon2
 	@install -D -m 755 crates/scrypt_tool/out/scrypt_tool bin/x86-64-v2/scrypt
 	@test -f bin/level && test "$$(cat bin/level)" != x86-64-v2 || packaging/chosen.sh x86-64-v2
+archive: proved   ; $(call step,tests/library/archive.py)
 refusals: proved  ; $(call step,tests/edits/refusals.py)
 outside-%: proved ; $(call step,tests/programs/outside.sh bin/$*)
-c_face lines: refusals $(outside)
+c_face lines: archive $(outside)
 c_face:           ; $(call step,tests/library/c_face.py)
 lines:            ; $(call step,tests/edits/wrong_lines.py)

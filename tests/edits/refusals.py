@@ -10,9 +10,8 @@ failed, and so has one that is refused at another goal than the one below its li
 
 Of each crate of which a body is tried the functions that these edits change are proved once more as they are, into its
 out/incremental, since rt ci keeps its proofs for itself.
-It stands on the libraries that rt ci left; where there are none, they are built. Without words the library for C is
-always proved as a whole, because that proof also builds it, crates/pikhsen_c/out/libpikhsen_c.a, for tests/library/c_face.py.
-Of a crate of which a definition is tried no code is proved.
+It stands on the libraries that rt ci left; where there are none, they are built. Of a crate of which a definition is tried
+no code is proved.
 """
 import argparse
 import math
@@ -33,7 +32,6 @@ from edits import BODIES, edits_of, in_groups, write_goal
 from toolchain import LOGIC, left_by_ci, rt, told
 from tree import TOP
 
-LEVEL = "x86-64-v2"  # what the gate builds for
 CHECKS = 3  # for each processor, where so few bodies are tried that their checks would not fill all processors
 UNKNOWN = 60, 15  # the seconds of a proof, and of a trial, where docs/crates.tsv has none
 CRATES = "crates.tsv"  # of each crate the seconds of the processor for its proof, and for the trials of its bodies
@@ -56,7 +54,7 @@ class Crate:
     """The edits of a crate, and those of them that are tried now."""
 
     def __init__(self, crate, definitions):
-        self.crate, self.name, self.seconds, self.is_built = crate, crate.name, 0, False
+        self.crate, self.name, self.seconds = crate, crate.name, 0
         self.bodies, self.definitions = edits_of(crate.name, BODIES), wrong_definitions_of(crate.name, definitions)
         _, check, bodies = seconds_of_crates().get(crate.name, ("", "", ""))
         self.of_proof, self.of_body = int(check or UNKNOWN[0]), int(bodies) / len(self.bodies) if bodies else UNKNOWN[1]
@@ -85,8 +83,7 @@ class Crate:
 
     def seconds_of_proof(self):
         """The seconds that this proof is likely to take."""
-        part = 1 if self.is_built else len(self.functions()) / max(1, len(body_trial.changed(self.bodies)))
-        return math.ceil(self.of_proof * part)
+        return math.ceil(self.of_proof * len(self.functions()) / max(1, len(body_trial.changed(self.bodies))))
 
 
 def choose(crates, choice):
@@ -109,7 +106,6 @@ class Run:
         bodies, definitions = (sum(len(it.now[at]) for it in crates) for at in (0, 1))
         self.all = bodies + definitions
         self.most = max(1, min(body_trial.MOST, math.ceil(bodies / (CHECKS * rt.processors()))))
-        self.proofs = sum(it.seconds_of_proof() for it in crates)
 
     def say(self, text, failed=None):
         """Prints a text, and notes what has failed."""
@@ -124,27 +120,14 @@ class Run:
             self.say(f"{crate.name} is not built:\n{said[-2000:]}", crate.name)
         return status == 0
 
-    def check(self, it, jobs):
-        """What a check of the crate as it is answers and prints, or of what is proved of it for its edits, into
-        out/incremental; where it is built, the library for C is made by it."""
-        crate, flags = it.crate, ["--jobs", str(jobs)]
-        archive = f"{crate.folder}/out/lib{crate.name}.a"
-        if not it.is_built:
-            ran = rt.checked(crate, {}, [*flags, *(f"--only={place}" for place in it.functions())], f"{crate.folder}/out/incremental")
-            return ran.returncode, ran.stdout
-        os.makedirs(os.path.dirname(archive), exist_ok=True)
-        pathlib.Path(archive).unlink(missing_ok=True)
-        return told(crate, lambda it: it.build_static([*flags, "--cpu", LEVEL]))
-
     def prove(self, name, jobs):
-        """Whether the crate is proved as it is, or what its edits change, by as many jobs as there are idle processors, or
-        its share of all where that is more."""
+        """Whether what a crate's edits change is proved as it is, into out/incremental."""
         it, begun = self.crates[name], time.monotonic()
-        share = round(rt.processors() * it.seconds_of_proof() / max(self.proofs, 1))
-        status, said = self.check(it, max(jobs, share) if rt.free() > share * rt.need(it.crate) else jobs)
+        flags = ["--jobs", str(jobs), *(f"--only={place}" for place in it.functions())]
+        ran = rt.checked(it.crate, {}, flags, f"{it.crate.folder}/out/incremental")
         is_proved = f"{name}: proved as it is, {time.monotonic() - begun:.0f} s"
-        self.say(f"{name}: {said[-2000:]}" if status else is_proved, name if status else None)
-        return status == 0
+        self.say(f"{name}: {ran.stdout[-2000:]}" if ran.returncode else is_proved, name if ran.returncode else None)
+        return ran.returncode == 0
 
     def is_right(self, name):
         """Whether a shared check of the right bodies of what a crate's edits change leaves nothing open."""
@@ -230,10 +213,8 @@ def main():
         it.keep([edit for edit in [*it.bodies, *it.definitions] if {it.name, edit.name} & {*asked.asked}])
     if not asked.asked and not asked.audit:
         said = choose(crates, Choice(LOGIC))
-    for it in crates:
-        it.is_built = not asked.asked and it.crate.is_static
     with tempfile.TemporaryDirectory(prefix="refusals-") as room:
-        run = Run([it for it in crates if any(it.now) or it.is_built], asked, room)
+        run = Run([it for it in crates if any(it.now)], asked, room)
         run.say(said)
         for edit in (edit for it in crates for edit in it.now[1] if edit.wrong):
             run.judge(edit, None, edit.wrong)

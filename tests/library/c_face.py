@@ -4,7 +4,7 @@ both ways to link, keys that a call leaves in memory and vector registers, what 
 all of tests/library/python_module.py and, of what is installed and packaged, of tests/library/packages.py and
 tests/library/python_wheel.py.
 
-    tests/library/c_face.py              takes crates/pikhsen_c/out/libpikhsen_c.a as tests/edits/refusals.py or make lib left it,
+    tests/library/c_face.py              takes crates/pikhsen_c/out/libpikhsen_c.a as tests/library/archive.py or make lib left it,
                                  and the library for x86-64-v3 as make lib left it in bin/lib, if it is of these sources
     tests/library/c_face.py --header FOLDER      what C and C++ see of the library in this folder, and the pages' logins over it
 """
