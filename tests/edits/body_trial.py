@@ -3,8 +3,8 @@
 Edits of different functions share a check of these functions, in each of which a goal must be left open. An edit that
 leaves none there is tried again without the others, and one that changes more than bodies always is.
 
-Where an answer by hand names what the edit took away, as a step or a goal that now has another name, the proof of the
-function is no longer the author's. There a goal that is left open counts only if values are known at which it is false.
+Where an answer by hand names what the edit took away, as a step or a goal that now has another name, no answer of the
+function counts that fails, and a goal that is left open only if values are known at which it is false.
 
 An edit with a line `types:` is one that the types refuse: a check of the crate must say that error, and no other, of a
 line that the edit puts. So a body that wants a counter or memory that nothing hands it cannot be written at all.
@@ -56,7 +56,8 @@ def goals(folder, texts, lines):
         elif LOST_NAME.search(line):
             continue
         elif at := AT_ITS_ANSWER.match(line):
-            put(at[1].replace("/", "::"), f"{at[2]}, at its answer")
+            if (place := at[1].replace("/", "::")) not in lost:
+                put(place, f"{at[2]}, at its answer")
         elif at := LEMMA.match(line):
             put(None, f"the lemma {at[1]}")
     return found

@@ -68,8 +68,8 @@ class Crate:
         """What the trial of an edit is over: code, definitions and proofs of the crate, and for a wrong definition, where no
         code is proved, its vectors in place of the code; and the public definitions of the crates below. What a call
         below promises is not among it, beyond these definitions."""
-        apart = f"{self.name}_tests"
-        parts = ["src"] if edit in self.bodies else ["src/vectors.rt", f"../{apart}"]
+        apart = [f"../{self.name}_tests/{it}" for it in ("src/vectors.rt", "proofs/vectors")]
+        parts = ["src"] if edit in self.bodies else ["src/vectors.rt", *apart]
         below = [f"../{it.name}/specs" for it in self.crate.below()]
         return [os.path.normpath(f"crates/{self.name}/{it}") for it in ("specs", "specs/Inside", "proofs", *parts, *below)]
 

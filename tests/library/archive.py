@@ -12,7 +12,6 @@ from tree import TOP
 
 CRATE = next(it for it in rt.rtlib.crates_below(f"{TOP}/crates") if it.is_static)
 OUT = pathlib.Path(CRATE.folder, "out")
-
 OUT.mkdir(exist_ok=True)
 with tempfile.TemporaryDirectory(prefix="archive-") as room:
     CRATE.folder = shutil.copytree(CRATE.folder, f"{room}/copy", ignore=shutil.ignore_patterns("incremental", "*.a"))
