@@ -33,7 +33,6 @@ MOST = 4  # processes that share the work of one crate: each loads the libraries
 BESIDE = 10  # how nice a crate is to the one that holds up most others
 SMALL = 99  # seconds of the processor below which a check mostly loads libraries, which each process would do again
 NEAR = 0.8  # the part of the longest chain that begins with a crate, from which on it gets two processes
-FOR_TESTS = " memory_system"  # what a program names in crates.txt for its tests alone
 
 # The seconds of the processor for a check of each crate from nothing, as docs/crates.tsv has them, if it is there. Only the
 # order of the crates rests on them.
@@ -61,7 +60,7 @@ class Step:
         """Starts the run, in a room of its own."""
         if self.makes:
             (CRATES / self.crate / self.makes).unlink(missing_ok=True)
-        furnish(self.room, self.crate, "test" in self.words)
+        furnish(self.room, self.crate)
         with open(self.log, "wb") as log:
             folder = self.room / "crates" / self.crate
             streams = {"stdin": subprocess.DEVNULL, "stdout": log, "stderr": log}
@@ -102,16 +101,15 @@ class Step:
         return "\n".join([f"{self.name} FAILED. The end of {self.log.relative_to(TOP)}:", *last, f"{self.name} FAILED"])
 
 
-def listed(with_tests=True):
-    """The crates of crates.txt, each with its line, or with what of it is not for tests alone."""
-    text = (TOP / "crates.txt").read_text(encoding="utf-8")
-    lines = [it.partition("#")[0].strip() for it in (text if with_tests else text.replace(FOR_TESTS, "")).splitlines()]
+def listed():
+    """The crates of crates.txt, each with its line."""
+    lines = [it.partition("#")[0].strip() for it in (TOP / "crates.txt").read_text(encoding="utf-8").splitlines()]
     return {it.partition(":")[0].split()[0]: it for it in lines if it}
 
 
-def uses_of(with_tests=False):
+def uses_of():
     """The crates, lowest first, each with all crates of this repository that it stands on, lowest first."""
-    lines = listed(with_tests)
+    lines = listed()
 
     def below(name):
         direct = [it for it in lines[name].partition(":")[2].split() if it in lines]
@@ -148,10 +146,10 @@ def linked(source, to):
         shutil.copy2(source, to)
 
 
-def furnish(room, crate, with_tests):
+def furnish(room, crate):
     """Makes a room in which a crate can be proved: a repository of links to it and to what it stands on. What earlier
     proofs of the crate kept moves there."""
-    names, lines = [*uses_of(with_tests)[crate], crate], listed(with_tests)
+    names, lines = [*uses_of()[crate], crate], listed()
     for name in names:
         shutil.copytree(CRATES / name, room / "crates" / name, copy_function=linked, ignore=shutil.ignore_patterns("out"))
         if (CRATES / name / "out/rlib").is_dir():
@@ -230,7 +228,7 @@ def jobs_for(step, others, part=0.0):
 def prove(steps):
     """Runs the steps, each once those that it waits for ended well, until it is told to stop. Gives the names of those
     that did not end well, of those that were left out, and whether it was told to stop."""
-    uses, longest, most = uses_of(with_tests=True), chains(steps), places()
+    uses, longest, most = uses_of(), chains(steps), places()
     left, running, proved, failed, told = sorted(steps, key=lambda it: -longest[it.name]), {}, set(), [], []
 
     def stop(*why):

@@ -22,7 +22,7 @@ APART = "_tests"  # how the crate is called that has a crate's tests, if they st
 
 def steps_for(touched, tested):
     """The steps that prove the crates that are touched, with what they and the tests stand on, and run these tests."""
-    uses = prove.uses_of(with_tests=True)
+    uses = prove.uses_of()
     below = [it for name in tested for it in uses[name]]
     tests = [prove.Step(f"{name}-tests", name, ["test"], [*uses[name], *{name} & {*touched}]) for name in tested]
     return prove.steps_for([*touched, *below]) + tests

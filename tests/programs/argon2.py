@@ -29,7 +29,7 @@ def hashed(text):
 
 
 # name, words, standard input, (status, standard output, standard error). Of words that are refused there is a row for each
-# line; crates/argon2_words_tests/src/vectors.rt has others, and docs/EXAMPLES.md words that are not refused.
+# line; crates/argon2_words/src/vectors.rt has others, and docs/EXAMPLES.md words that are not refused.
 TABLE = [
     ("work at its limit", "somesalt -d -t 1 -k 8 -e --maxops 6", b"password", hashed(FIRST)),
     ("work above its limit", "somesalt -d -t 1 -k 8 -e --maxops 5", b"password", refused("A7b")),

@@ -127,8 +127,7 @@ expect_below crates/scrypt_run 'Dec::open(' "a derivation for a file that is rea
 # a file of a descriptor, which is unsafe. A run has a type parameter in the place of `Real`, and gives the system
 # back, so nothing comes after it.
 ! found=$(cd "$code" && grep -roHE '\b(Host|Libc)Runtime\b|\bfrom_raw_fd\b|\bunsafe\b[^(]' crates | sort -u |
-    grep -vE '^crates/(system_calls/src/\w+|(argon|scrypt)_tool/src/main|(comparison/src/lib|pikhsen_c/src/stream)|\w+_tests/.*)\.rt:' |
-    grep -vxF crates/scrypt_request/src/refusal.rt:HostRuntime) || # which its test takes
+    grep -vE '^crates/(system_calls/src/\w+|(argon|scrypt)_tool/src/main|pikhsen_c/src/stream|\w+_tests/.*)\.rt:') ||
     fail "the system may be called by what is not compared whole: $found"
 
 # A comparison that ends at the first byte that differs tells by its time where that is, and no contract sees time.

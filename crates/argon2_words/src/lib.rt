@@ -3,9 +3,11 @@
 #![tactic(auto)]
 
 mod items;
+mod laws;
 mod refusal;
 mod request;
 mod settings;
+mod vectors;
 
 pub use items::Form;
 pub use refusal::Argon2Refusal;

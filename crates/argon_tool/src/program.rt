@@ -35,6 +35,3 @@ pub fn run<S: System>(alloc: Global, system: S) -> (u8, S, RunFailureCounts<S>)
         Err(WordsFault::OutOfMemory) => host.refuse(Argon2Refusal::OutOfMemory.line()),
     }
 }
-
-#[cfg(test)]
-mod tests;

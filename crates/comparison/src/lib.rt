@@ -20,27 +20,3 @@ pub fn are_same(left: &[u8], right: &[u8]) -> bool
     }
     difference == 0
 }
-
-#[cfg(test)]
-mod tests {
-    use super::*;
-
-    // The example at the head of the crate.
-    #[test]
-    fn example(rt: HostRuntime) {
-        assert!(rt; are_same(b"tag", b"tag"));
-        assert!(rt; !are_same(b"tag", b"tap"));
-    }
-
-    #[test]
-    fn each_byte_counts(rt: HostRuntime) {
-        let text = [7u8; 40];
-        assert!(rt; are_same(&text, &text));
-        assert!(rt; are_same(&[], &[]));
-        for place in 0..text.len() {
-            let mut other = text;
-            other[place] ^= 0x80;
-            assert!(rt; !are_same(&text, &other), "byte {place}");
-        }
-    }
-}

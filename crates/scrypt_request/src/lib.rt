@@ -3,7 +3,6 @@
 
 mod refusal;
 mod request;
-#[cfg(test)]
 mod vectors;
 
 pub use refusal::ScryptRefusal;

@@ -104,24 +104,3 @@ impl ScryptRefusal {
         }
     }
 }
-
-#[cfg(test)]
-mod tests {
-    use super::*;
-
-    // A refusal and its line, of which no clause says that it is the one in the manual.
-    const REFUSAL_LINES: &[(ScryptRefusal, &str)] = &[
-        (
-            ScryptRefusal::Usage,
-            "scrypt: usage: scrypt enc|dec|info [options] infile [outfile]",
-        ),
-        (ScryptRefusal::OutOfMemory, "scrypt: out of memory"),
-    ];
-
-    #[test]
-    fn refusal_lines_match_manual(rt: HostRuntime) {
-        for (refusal, line) in REFUSAL_LINES {
-            assert_eq!(rt; refusal.line(), *line);
-        }
-    }
-}

@@ -9,6 +9,3 @@ use system_calls::Real;
 fn main(rt: HostRuntime) -> ExitCode {
     ExitCode::from(program::run::<Real>(rt.alloc(), Real::new(rt)).0)
 }
-
-#[cfg(test)]
-mod tests;

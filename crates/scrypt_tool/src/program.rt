@@ -38,6 +38,3 @@ pub fn run<S: System>(alloc: Global, system: S) -> (u8, S, RunFailureCounts<S>)
         Err(WordsFault::OutOfMemory) => host.refuse(ScryptRefusal::OutOfMemory.line()),
     }
 }
-
-#[cfg(test)]
-mod tests;

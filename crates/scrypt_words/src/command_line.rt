@@ -8,7 +8,8 @@ ghost use Rattle.scrypt_words.specs.CommandLine.{IsCommandForApp, enc_and_dec_ar
 use clap::{Arg, ArgAction, Command};
 use std::alloc::{AllocError, Global};
 
-// An argument more, if there was memory for the command.
+// An argument more, if there was memory for the command. What is not used is let go of by name, here and below: the end
+// of the scope would do so part by part.
 fn with_argument<'a>(
     command: Result<Command<'a>, AllocError>,
     argument: Arg<'a>,
@@ -17,8 +18,13 @@ fn with_argument<'a>(
     ensures command { (app : App) → IfOk command.entry (IsCommandForApp app)
         → IfOk result (IsCommandForApp (with_rule app (rule_of argument.entry))) }
 {
-    let command = command?;
-    command.arg(argument)
+    match command {
+        Ok(command) => command.arg(argument),
+        Err(fault) => {
+            drop(argument);
+            Err(fault)
+        }
+    }
 }
 
 // `--name VALUE`
@@ -97,8 +103,7 @@ fn build_info_command<'a>(alloc: Global) -> Result<Command<'a>, AllocError>
     with_argument(Ok(Command::new(alloc, "info")), Arg::new(alloc, "infile"))
 }
 
-// A subcommand more, if there was memory for both. What is not used is let go of by name: the end of the scope would do
-// so part by part.
+// A subcommand more, if there was memory for both.
 fn add_subcommand<'a>(
     command: Result<Command<'a>, AllocError>,
     subcommand: Result<Command<'a>, AllocError>,

@@ -7,6 +7,7 @@ mod costs;
 mod request;
 mod salt;
 mod task;
+mod vectors;
 mod words;
 
 pub use request::read_request;

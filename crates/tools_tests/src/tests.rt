@@ -1,4 +1,4 @@
-//! Each step of a host over a system, over systems in memory; whole runs of it; and runs over the system's own files.
+//! Each step of a host over a system, over systems in memory; and whole runs of it.
 mod arguments;
 mod inputs;
 mod outputs;

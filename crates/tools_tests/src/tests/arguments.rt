@@ -29,6 +29,14 @@ fn is_only_word(alloc: Global, word: &[u8]) -> bool {
     }
 }
 
+// Whether a process without a name has no words.
+fn has_none(alloc: Global) -> bool {
+    let system = MemorySystem::new(alloc);
+    let words = words(&system, alloc);
+    drop(system);
+    matches!(words, Ok(words) if words.is_empty())
+}
+
 // Also words that need room twice and three times.
 static WORDS: [&[u8]; 5] = [
     b"",
@@ -40,8 +48,9 @@ static WORDS: [&[u8]; 5] = [
 
 #[test]
 fn words_come_whole(rt: HostRuntime) {
+    assert!(rt; has_none(rt.alloc()));
     for word in &WORDS {
-        assert!(rt; is_only_word(rt.alloc(), word), "{}", word.len());
+        assert!(rt; is_only_word(rt.alloc(), word));
     }
 }
 
@@ -55,22 +64,6 @@ static NO_TEXTS: [&[u8]; 3] = [b"\xff", b"a\xc3", b"\xed\xa0\x80"];
 #[test]
 fn words_that_are_no_text_are_refused(rt: HostRuntime) {
     for word in &NO_TEXTS {
-        assert!(rt; is_no_text(rt.alloc(), word), "{word:?}");
+        assert!(rt; is_no_text(rt.alloc(), word));
     }
-}
-
-// Whether a process without a name has no words.
-fn has_none(alloc: Global) -> bool {
-    let system = MemorySystem::new(alloc);
-    let words = words(&system, alloc);
-    drop(system);
-    match words {
-        Ok(words) => words.is_empty(),
-        Err(_) => false,
-    }
-}
-
-#[test]
-fn no_name_and_no_words(rt: HostRuntime) {
-    assert!(rt; has_none(rt.alloc()));
 }

@@ -39,7 +39,7 @@ static SECRETS: [(usize, usize, u8); 3] = [(0, 0, 0), (5, 5, 0), (9, 8, 7)];
 #[test]
 fn takes_secrets_in_pieces(rt: HostRuntime) {
     for row in &SECRETS {
-        assert!(rt; are_secrets(rt.alloc(), *row), "{}", row.0);
+        assert!(rt; are_secrets(rt.alloc(), *row));
     }
 }
 
@@ -53,9 +53,9 @@ fn is_fault(alloc: Global, source: Source<'_>) -> bool {
 
 #[test]
 fn missing_secrets_are_faults(rt: HostRuntime) {
-    assert!(rt; is_fault(rt.alloc(), Source::StdinOnce));
-    assert!(rt; is_fault(rt.alloc(), Source::File("name")));
-    assert!(rt; is_fault(rt.alloc(), Source::Env("name")));
+    for source in &[Source::StdinOnce, Source::File("name"), Source::Env("name")] {
+        assert!(rt; is_fault(rt.alloc(), *source));
+    }
 }
 
 // Whether a salt is taken where so many sevens are, whole or not at all.
@@ -71,6 +71,6 @@ static SALTS: [(usize, bool); 4] = [(0, false), (31, false), (32, true), (40, tr
 #[test]
 fn takes_whole_salts(rt: HostRuntime) {
     for (count, is_taken) in &SALTS {
-        assert!(rt; is_salt(rt.alloc(), *count) == *is_taken, "{count}");
+        assert!(rt; is_salt(rt.alloc(), *count) == *is_taken);
     }
 }

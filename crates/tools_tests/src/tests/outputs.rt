@@ -47,6 +47,7 @@ fn files(alloc: Global, beside: Beside) -> MemorySystem
         after: beside.output,
     };
     let mut system = with_standard(alloc, b"kept", input, output);
+    let _ = system.set_input_name(None);
     put(alloc, &mut system, "output", b"", output);
     put(alloc, &mut system, "link", b"", output);
     system
@@ -66,21 +67,16 @@ fn outcome(system: &mut MemorySystem, name: Option<&str>, failing: u64) -> (bool
 // Whether standard input is opened, an output then, and whether that was emptied.
 type HostState = (bool, bool, bool);
 
-// What becomes of an output where standard input is opened as the input.
-fn beside_input(alloc: Global, beside: Beside, name: Option<&str>, failing: u64) -> HostState {
+// What becomes of an output where standard input is opened as the input or as a secret.
+fn beside_reading(
+    alloc: Global,
+    reading: Reading,
+    beside: Beside,
+    (name, failing): (Option<&str>, u64),
+) -> HostState {
     let mut system = files(alloc, beside);
-    let _ = system.set_input_name(None);
-    let is_read = system.open(Reading::Input, None).is_ok();
+    let is_read = system.open(reading, None).is_ok();
     let (is_opened, is_emptied) = outcome(&mut system, name, failing);
-    drop(system);
-    (is_read, is_opened, is_emptied)
-}
-
-// The same where it is opened as a secret.
-fn beside_secret(alloc: Global, beside: Beside, name: Option<&str>) -> HostState {
-    let mut system = files(alloc, beside);
-    let is_read = system.open(Reading::Secret, None).is_ok();
-    let (is_opened, is_emptied) = outcome(&mut system, name, 0);
     drop(system);
     (is_read, is_opened, is_emptied)
 }
@@ -93,7 +89,8 @@ const REFUSED: HostState = (true, false, false);
 
 // Whether this becomes of an output of this name beside the input, and beside the secret.
 fn becomes(alloc: Global, beside: Beside, name: Option<&str>, what: HostState) -> bool {
-    beside_input(alloc, beside, name, 0) == what && beside_secret(alloc, beside, name) == what
+    beside_reading(alloc, Reading::Input, beside, (name, 0)) == what
+        && beside_reading(alloc, Reading::Secret, beside, (name, 0)) == what
 }
 
 // What is read before the output is opened and then, the output, and what becomes of it under a name and as standard
@@ -139,7 +136,7 @@ fn is_row(alloc: Global, (before, after, output, named, standard): OutputCase) -
 #[test]
 fn files_that_are_read_stay(rt: HostRuntime) {
     for row in &ROWS {
-        assert!(rt; is_row(rt.alloc(), *row), "{:?} {:?}", row.0, row.1);
+        assert!(rt; is_row(rt.alloc(), *row));
     }
 }
 
@@ -152,8 +149,8 @@ const APART: Beside = Beside {
 
 // Whether this becomes of it under a name and as standard output where this call of the system fails.
 fn becomes_at(alloc: Global, (call, named, standard): (u64, HostState, HostState)) -> bool {
-    beside_input(alloc, APART, Some("output"), call) == named
-        && beside_input(alloc, APART, None, call) == standard
+    beside_reading(alloc, Reading::Input, APART, (Some("output"), call)) == named
+        && beside_reading(alloc, Reading::Input, APART, (None, call)) == standard
 }
 
 // An output is opened by five calls, and by four where it is not emptied.
@@ -169,6 +166,6 @@ static FAILING: [(u64, HostState, HostState); 6] = [
 #[test]
 fn each_call_that_fails_is_a_fault(rt: HostRuntime) {
     for row in &FAILING {
-        assert!(rt; becomes_at(rt.alloc(), *row), "{}", row.0);
+        assert!(rt; becomes_at(rt.alloc(), *row));
     }
 }

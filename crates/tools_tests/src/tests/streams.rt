@@ -109,7 +109,7 @@ fn is_row(alloc: Global, (size, interruptions, failing, some, full, write): Stre
 #[test]
 fn interruptions_faults_and_short_counts(rt: HostRuntime) {
     for row in &ROWS {
-        assert!(rt; is_row(rt.alloc(), *row), "{} {}", row.0, row.1);
+        assert!(rt; is_row(rt.alloc(), *row));
     }
 }
 

@@ -28,9 +28,6 @@ static ROWS: [(Option<&str>, Option<&str>, (bool, bool)); 6] = [
 #[test]
 fn opens_the_input_under_its_name(rt: HostRuntime) {
     for (given, name, found) in &ROWS {
-        assert!(rt;
-            opens(rt.alloc(), *given, *name) == *found,
-            "{given:?} {name:?}"
-        );
+        assert!(rt; opens(rt.alloc(), *given, *name) == *found);
     }
 }

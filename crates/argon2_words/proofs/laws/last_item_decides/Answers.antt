@@ -11,7 +11,7 @@ use Rattle.argon2_words.specs.declared.items.OptionName.{OptionName}
 use Rattle.argon2_words.specs.declared.items.OptionName.TheVariants as option
 use Rattle.argon2_words.specs.declared.refusal.Argon2Refusal.{Argon2Refusal}
 use Rattle.argon2_words.specs.declared.settings.Settings.{Settings}
-use Rattle.argon2_words_tests.proofs.laws.last_item_decides.Goals as goal
+use Rattle.argon2_words.proofs.laws.last_item_decides.Goals as goal
 
 -- one item alone
 alone : (answer : Result Settings Argon2Refusal) → (answer >>= λ next. settings_after next []) ≡ answer
