@@ -50,9 +50,6 @@ const OUTPUT_FAULT: &str = "argon2: output cannot be written";
 // somesalt -t 2 -m 8 -e
 const TWO_PASSES: &str =
     "$argon2i$v=19$m=256,t=2,p=1$c29tZXNhbHQ$iekCn0Y3spW+sCcFanM2xBT63UP2sghkUoHLIUpWRS8";
-// That with its line feed, as it is written.
-const TWO_PASSES_LINE: &[u8] =
-    b"$argon2i$v=19$m=256,t=2,p=1$c29tZXNhbHQ$iekCn0Y3spW+sCcFanM2xBT63UP2sghkUoHLIUpWRS8\n";
 // somesalt -d -t 1 -k 8 -e
 const ONE_PASS: &str =
     "$argon2d$v=19$m=8,t=1,p=1$c29tZXNhbHQ$xRnmA6xgPsGutbcexEpheePzl1sUwMl+ORTHnmNj4Xg";
@@ -217,11 +214,11 @@ fn run_line(alloc: Global, line: &str, host: &mut MemoryHost) -> u8
     argon2(alloc, &words(alloc, line), host)
 }
 
-// Whether one line is all that was said, or none is.
-fn says(host: &MemoryHost, told: Option<&str>) -> bool {
+// Whether this line is all that was said, or none was where there is no text.
+fn says(host: &MemoryHost, told: &str) -> bool {
     match host.lines() {
-        [] => told.is_none(),
-        [line] => told == Some(line.as_str()),
+        [] => told.is_empty(),
+        [line] => !told.is_empty() && told == line.as_str(),
         _ => false,
     }
 }
@@ -232,134 +229,156 @@ fn assert_row(rt: &impl Abort, is_so: bool, line: &str) {
     assert!(rt; is_so, "{line}");
 }
 
-// Whether a text and a line feed went to standard output.
-fn is_written(host: &MemoryHost, text: &str) -> bool {
-    host.output().strip_suffix(b"\n") == Some(text.as_bytes())
-        && matches!(host.output_name(), Some(None))
+// How a run ends: its status, its line, or no text where it says none, what was written, without the line feed that
+// status 0 has, and whether standard output was opened.
+#[derive(Clone, Copy, Drop)]
+struct End<'a> {
+    status: u8,
+    told: &'a str,
+    written: &'a [u8],
+    is_opened: bool,
 }
 
-// Whether nothing was written, and no output opened.
-fn is_unwritten(host: &MemoryHost) -> bool {
-    host.output().len() == 0 && host.output_name().is_none()
+// The end of a run that writes this text and a line feed, or is refused by a line before its output is opened.
+fn end_of<'a>(text: &'a str, told: &'a str) -> End<'a> {
+    End {
+        status: u8::from(!told.is_empty()),
+        told,
+        written: text.as_bytes(),
+        is_opened: told.is_empty(),
+    }
 }
 
-// Whether this is all that comes to the host: a text and a line feed after status 0, or the line of a refusal.
-fn ends(host: &MemoryHost, status: u8, answer: Result<&str, &str>) -> bool {
-    let is_so = match answer {
-        Ok(text) => status == 0 && is_written(host, text),
-        Err(_) => status == 1 && is_unwritten(host),
-    };
-    is_so && says(host, answer.err()) && host.input_name().is_none()
+// What was written, without the line feed that status 0 has.
+fn written(host: &MemoryHost, status: u8) -> Option<&[u8]> {
+    if status == 0 {
+        host.output().strip_suffix(b"\n")
+    } else {
+        Some(host.output())
+    }
 }
 
-// Whether the words end so over a host that gives this standard input.
-fn runs(alloc: Global, line: &str, stdin: &[u8], answer: Result<&str, &str>) -> bool {
+// Whether that is all that came to the host.
+fn ends(host: &MemoryHost, status: u8, end: End<'_>) -> bool {
+    status == end.status
+        && says(host, end.told)
+        && written(host, status) == Some(end.written)
+        && host.output_name() == end.is_opened.then_some(None)
+        && host.input_name().is_none()
+}
+
+// Whether the words end so over a host that gives this standard input, takes so many bytes at a push, and fails at this
+// call, or at none.
+fn runs(
+    alloc: Global,
+    line: &str,
+    stdin: &[u8],
+    (push, failing): (usize, u64),
+    end: End<'_>,
+) -> bool {
     let mut host = host_with(alloc, stdin);
+    host.set_sizes(1, push.max(1));
+    host.fail_at(failing);
     let status = run_line(alloc, line, &mut host);
-    let is_so = ends(&host, status, answer);
+    let is_so = ends(&host, status, end);
     drop(host);
     is_so
+}
+
+// Fails with the words of a row that do not end so.
+fn assert_run(rt: &impl Abort, alloc: Global, line: &str, stdin: &[u8], end: End<'_>) {
+    let is_so = runs(alloc, line, stdin, (usize::MAX, 0), end);
+    assert_row(rt, is_so, line);
 }
 
 #[test]
 fn hashes(rt: HostRuntime) {
     for (line, text) in &HASHES {
-        assert_row(&rt, runs(rt.alloc(), line, b"password", Ok(*text)), line);
+        assert_run(&rt, rt.alloc(), line, b"password", end_of(text, ""));
     }
 }
 
 #[test]
 fn refusals(rt: HostRuntime) {
     for (line, told) in &REFUSALS {
-        assert_row(&rt, runs(rt.alloc(), line, b"password", Err(*told)), line);
+        assert_run(&rt, rt.alloc(), line, b"password", end_of("", told));
     }
 }
 
-// Words, a standard input and how the run ends. The password is all of standard input: 1 to 127 bytes, of which none is
+// Words, a standard input, what is written before a line feed, and the line of a refusal. The password is all of standard input: 1 to 127 bytes, of which none is
 // special.
-static PASSWORDS: [(&str, &[u8], Result<&str, &str>); 6] = [
+static PASSWORDS: [(&str, &[u8], &str, &str); 6] = [
     // head -c 127 /dev/zero | tr '\0' a | argon2 somesalt -t 2 -m 8 -e
     (
         "somesalt -t 2 -m 8 -e",
         &[b'a'; 127],
-        Ok("$argon2i$v=19$m=256,t=2,p=1$c29tZXNhbHQ$3SM658khyO9aPcqqhCED4x7ArKLkDOScE0pcsllZ2a8"),
+        "$argon2i$v=19$m=256,t=2,p=1$c29tZXNhbHQ$3SM658khyO9aPcqqhCED4x7ArKLkDOScE0pcsllZ2a8",
+        "",
     ),
     // printf 'pass\nword\n' | argon2 somesalt -t 1 -k 8 -e
     (
         "somesalt -t 1 -k 8 -e",
         b"pass\nword\n",
-        Ok("$argon2i$v=19$m=8,t=1,p=1$c29tZXNhbHQ$XAmIu7d+PoYy1k99lTH9FPxow2atK+jpBF/mZ8FOh1Y"),
+        "$argon2i$v=19$m=8,t=1,p=1$c29tZXNhbHQ$XAmIu7d+PoYy1k99lTH9FPxow2atK+jpBF/mZ8FOh1Y",
+        "",
     ),
-    ("somesalt -t 2 -m 8 -e", &[b'a'; 128], Err(LONG_PASSWORD)),
-    ("somesalt -d -t 1 -k 8 -e", b"", Err(EMPTY_PASSWORD)),
+    ("somesalt -t 2 -m 8 -e", &[b'a'; 128], "", LONG_PASSWORD),
+    ("somesalt -d -t 1 -k 8 -e", b"", "", EMPTY_PASSWORD),
     // It is read after the words and before the ranges.
-    ("somesalt -t 0 -e", b"", Err(EMPTY_PASSWORD)),
-    ("somesalt -t x -e", b"", Err(BAD_NUMBER)),
+    ("somesalt -t 0 -e", b"", "", EMPTY_PASSWORD),
+    ("somesalt -t x -e", b"", "", BAD_NUMBER),
 ];
 
 #[test]
 fn passwords(rt: HostRuntime) {
-    for (line, stdin, answer) in &PASSWORDS {
-        assert_row(&rt, runs(rt.alloc(), line, stdin, *answer), line);
+    for (line, stdin, text, told) in &PASSWORDS {
+        assert_run(&rt, rt.alloc(), line, stdin, end_of(text, told));
     }
 }
 
-// Whether one line was said, if any, and so many bytes of the output written, which was opened or not.
-fn is_broken_off(host: &MemoryHost, told: Option<&str>, written: usize, is_opened: bool) -> bool {
-    says(host, told)
-        && host.output().len() == written
-        && TWO_PASSES_LINE.starts_with(host.output())
-        && host.output_name().is_some() == is_opened
+// How a run breaks off that takes one byte a push: the calls are one secret, one opening, and a push for each of the 84
+// bytes.
+fn broken_off(call: u64) -> End<'static> {
+    let pushed = call.saturating_sub(3) as usize;
+    End {
+        status: 1,
+        told: if call == 1 {
+            PASSWORD_FAULT
+        } else {
+            OUTPUT_FAULT
+        },
+        written: TWO_PASSES.as_bytes().get(..pushed).unwrap_or(&[]),
+        is_opened: call > 2,
+    }
 }
 
-// Whether a run, one byte a push, ends so with this call of the host's failing, and with status 1 if it says a line.
-fn breaks_off(
-    alloc: Global,
-    call: u64,
-    told: Option<&str>,
-    written: usize,
-    is_opened: bool,
-) -> bool {
-    let mut host = host_with(alloc, b"password");
-    host.set_sizes(1, 1);
-    host.fail_at(call);
-    let status = run_line(alloc, "somesalt -t 2 -m 8 -e", &mut host);
-    let is_so = is_broken_off(&host, told, written, is_opened);
-    drop(host);
-    status == u8::from(told.is_some()) && is_so
+// Whether a run ends so, with this call of the host's failing.
+fn breaks_off(alloc: Global, call: u64, end: End<'_>) -> bool {
+    runs(alloc, "somesalt -t 2 -m 8 -e", b"password", (1, call), end)
 }
 
-// The calls are one secret, one opening, and a push for each of the 84 bytes.
 #[test]
 fn each_host_call_fails(rt: HostRuntime) {
-    let alloc = rt.alloc();
-    assert!(rt; breaks_off(alloc, 1, Some(PASSWORD_FAULT), 0, false));
-    assert!(rt; breaks_off(alloc, 2, Some(OUTPUT_FAULT), 0, false));
-    for written in 0..84usize {
-        let call = written as u64 + 3;
-        assert!(rt;
-            breaks_off(alloc, call, Some(OUTPUT_FAULT), written, true),
-            "{call}"
-        );
+    for call in 1..=86u64 {
+        assert!(rt; breaks_off(rt.alloc(), call, broken_off(call)), "{call}");
     }
-    assert!(rt; breaks_off(alloc, 87, None, 84, true));
+    // there is no further call
+    assert!(rt; breaks_off(rt.alloc(), 87, end_of(TWO_PASSES, "")));
 }
 
-// Whether a run says and writes nothing, with this call of the host's failing.
-fn is_silent(alloc: Global, line: &str, call: u64) -> bool {
-    let mut host = host_with(alloc, b"");
-    host.fail_at(call);
-    let status = run_line(alloc, line, &mut host);
-    let is_so = host.lines().len() == 0 && host.output().len() == 0;
-    drop(host);
-    status == 1 && is_so
-}
+// The end of a run that says and writes nothing, and does not succeed.
+const SILENT: End<'static> = End {
+    status: 1,
+    told: "",
+    written: b"",
+    is_opened: false,
+};
 
 // A line that cannot be said is passed over.
 #[test]
 fn says_nothing(rt: HostRuntime) {
-    assert!(rt; is_silent(rt.alloc(), "", 1));
-    assert!(rt; is_silent(rt.alloc(), "somesalt -e", 2));
+    assert!(rt; runs(rt.alloc(), "", b"", (1, 1), SILENT));
+    assert!(rt; runs(rt.alloc(), "somesalt -e", b"", (1, 2), SILENT));
 }
 
 // Whether the output is that of a tag of 4,096 bytes with these first and last 32 bytes.
@@ -410,10 +429,12 @@ static REQUESTS: [(&str, u32, Option<Argon2Refusal>, Option<Asked>); 10] = [
     ),
 ];
 
-// The refusal of a run to which so many requests are granted, its last request, and whether the output was opened.
-type Answer = (Option<Argon2Refusal>, Option<Asked>, bool);
-
-fn answer(alloc: Global, line: &str, left: u32) -> Answer {
+// Whether a run to which so many requests are granted ends in this refusal, with this as its last request, and with its
+// output opened if there is none.
+fn is_answer(
+    alloc: Global,
+    (line, left, refusal, last): (&str, u32, Option<Argon2Refusal>, Option<Asked>),
+) -> bool {
     let mut memory = Refusing {
         alloc,
         left,
@@ -421,21 +442,17 @@ fn answer(alloc: Global, line: &str, left: u32) -> Answer {
     };
     let mut host = host_with(alloc, b"password");
     let words = words(alloc, line);
-    let refusal = run_without_report(&mut memory, &words, &mut host, &mut Ticks::new(alloc)).err();
+    let told = run_without_report(&mut memory, &words, &mut host, &mut Ticks::new(alloc)).err();
     let is_opened = host.output_name().is_some();
     drop(host);
-    (refusal, memory.last, is_opened)
+    told == refusal && memory.last == last && is_opened == refusal.is_none()
 }
 
 // The tag, the line and the matrix are the requests, in this order and after every other refusal: so the hash, which
 // needs the matrix, comes after them all, and nothing is asked for after it.
 #[test]
 fn each_request_is_refused(rt: HostRuntime) {
-    for (line, left, refusal, last) in &REQUESTS {
-        let expected = (*refusal, *last, refusal.is_none());
-        assert!(rt;
-            answer(rt.alloc(), line, *left) == expected,
-            "{line} {left}"
-        );
+    for row in &REQUESTS {
+        assert_row(&rt, is_answer(rt.alloc(), *row), row.0);
     }
 }

@@ -15,31 +15,6 @@ use self::refusing::RefusingText;
 use argon::Kind;
 use argon_text::{Encoded, replace_tag};
 use std::alloc::{AllocError, Global};
-use verifying::tested;
-
-fn value(
-    alloc: Global,
-    kind: Kind,
-    memory: u32,
-    passes: u32,
-    lanes: u32,
-    salt: &[u8],
-    tag: &[u8],
-) -> Result<Encoded, AllocError>
-    requires in_range { are_in_range 0x13 memory passes lanes (length salt.now) (length tag.now) ≡ true }
-{
-    let salt = salt.to_vec(alloc)?;
-    let tag = tag.to_vec(alloc)?;
-    Ok(Encoded {
-        kind,
-        version: 0x13,
-        memory,
-        passes,
-        lanes,
-        salt,
-        tag,
-    })
-}
 
 // The parts of a text, one after another.
 fn joined(alloc: Global, parts: &[&[u8]]) -> Result<Vec<u8>, AllocError> {
@@ -75,27 +50,42 @@ fn is_text_of(
 ) -> bool
     requires in_range { are_in_range 0x13 memory passes lanes (length salt.now) (length tag.now) ≡ true }
 {
-    match value(alloc, kind, memory, passes, lanes, salt, tag) {
-        Ok(value) => is_written_as(alloc, &value, text),
-        Err(_) => false,
+    match (salt.to_vec(alloc), tag.to_vec(alloc)) {
+        (Ok(salt), Ok(tag)) => {
+            let value = Encoded {
+                kind,
+                version: 0x13,
+                memory,
+                passes,
+                lanes,
+                salt,
+                tag,
+            };
+            is_written_as(alloc, &value, text)
+        }
+        _ => false,
     }
+}
+
+// Whether a value of each type is written as its text.
+fn are_texts(alloc: Global) -> bool {
+    // somesalt -d -t 1 -k 8 -l 4
+    let tag_d = [0x79, 0x3f, 0xf6, 0x94];
+    let text_d = b"$argon2d$v=19$m=8,t=1,p=1$c29tZXNhbHQ$eT/2lA";
+    // saltsalt9 -i -t 2 -k 16 -p 2 -l 5
+    let tag_i = [0xe1, 0xfb, 0x5a, 0xe2, 0xd3];
+    let text_i = b"$argon2i$v=19$m=16,t=2,p=2$c2FsdHNhbHQ5$4fta4tM";
+    // 0123456789 -id -t 3 -k 64 -p 4 -l 6
+    let tag_id = [0xc4, 0xf1, 0x4f, 0x7f, 0x9c, 0xa2];
+    let text_id = b"$argon2id$v=19$m=64,t=3,p=4$MDEyMzQ1Njc4OQ$xPFPf5yi";
+    is_text_of(alloc, Kind::D, 8, 1, 1, b"somesalt", &tag_d, text_d)
+        && is_text_of(alloc, Kind::I, 16, 2, 2, b"saltsalt9", &tag_i, text_i)
+        && is_text_of(alloc, Kind::Id, 64, 3, 4, b"0123456789", &tag_id, text_id)
 }
 
 #[test]
 fn writes_texts(rt: HostRuntime) {
-    let alloc = rt.alloc();
-    // somesalt -d -t 1 -k 8 -l 4
-    let tag = [0x79, 0x3f, 0xf6, 0x94];
-    let text = b"$argon2d$v=19$m=8,t=1,p=1$c29tZXNhbHQ$eT/2lA";
-    assert!(rt; is_text_of(alloc, Kind::D, 8, 1, 1, b"somesalt", &tag, text));
-    // saltsalt9 -i -t 2 -k 16 -p 2 -l 5
-    let tag = [0xe1, 0xfb, 0x5a, 0xe2, 0xd3];
-    let text = b"$argon2i$v=19$m=16,t=2,p=2$c2FsdHNhbHQ5$4fta4tM";
-    assert!(rt; is_text_of(alloc, Kind::I, 16, 2, 2, b"saltsalt9", &tag, text));
-    // 0123456789 -id -t 3 -k 64 -p 4 -l 6
-    let tag = [0xc4, 0xf1, 0x4f, 0x7f, 0x9c, 0xa2];
-    let text = b"$argon2id$v=19$m=64,t=3,p=4$MDEyMzQ1Njc4OQ$xPFPf5yi";
-    assert!(rt; is_text_of(alloc, Kind::Id, 64, 3, 4, b"0123456789", &tag, text));
+    assert!(rt; are_texts(rt.alloc()));
 }
 
 // A text, a tag, and the text with that tag.
@@ -188,10 +178,9 @@ fn is_all_or_nothing(alloc: Global, value: &Encoded) -> bool {
     true
 }
 
-// The same of a text whose salt is somesalt.
+// The same of the value of a text.
 fn is_text_all_or_nothing(alloc: Global) -> bool {
-    let tag = [0x79, 0x3f, 0xf6, 0x94];
-    match value(alloc, Kind::D, 8, 1, 1, b"somesalt", &tag) {
+    match Encoded::read(alloc, b"$argon2d$v=19$m=8,t=1,p=1$c29tZXNhbHQ$eT/2lA") {
         Ok(value) => is_all_or_nothing(alloc, &value),
         Err(_) => false,
     }
@@ -200,24 +189,4 @@ fn is_text_all_or_nothing(alloc: Global) -> bool {
 #[test]
 fn writes_all_or_nothing(rt: HostRuntime) {
     assert!(rt; is_text_all_or_nothing(rt.alloc()));
-}
-
-// The example at the head of `argon_text`: whether a text is read, takes the first password and not the second, and is written again as it
-// was.
-fn is_as_said(alloc: Global, text: &[u8]) -> bool {
-    match Encoded::read(alloc, text) {
-        Ok(encoded) => {
-            tested(alloc, &encoded, b"password", 256, 526) == 1
-                && tested(alloc, &encoded, b"Password", 256, 526) == 0
-                && is_written_as(alloc, &encoded, text)
-        }
-        Err(_) => false,
-    }
-}
-
-#[test]
-fn example(rt: HostRuntime) {
-    let text =
-        b"$argon2i$v=19$m=256,t=2,p=1$c29tZXNhbHQ$iekCn0Y3spW+sCcFanM2xBT63UP2sghkUoHLIUpWRS8";
-    assert!(rt; is_as_said(rt.alloc(), text));
 }

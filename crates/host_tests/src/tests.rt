@@ -1,54 +1,88 @@
 //! A host in memory: the example at the head of `host`, secrets, pieces, and calls that fail.
-ghost use Rattle.std.specs.Prelude.{◌≡◌, ◌+◌, ◌^◌, ◌<◌, true, None};
+ghost use Rattle.std.specs.Prelude.{◌≡◌, ◌^◌, ◌<◌, true, None};
 ghost use Rattle.host.specs.Faults.{AreBelow};
 ghost use Rattle.memory_host.specs.Memory.{memory_host_failure_counts};
 
 mod refusing;
 
-use crate::fixtures::{is_under, list, new_host, text};
+use crate::fixtures::{list, new_host, text};
 use host::{Host, HostFault, Source, write_output};
 use memory_host::MemoryHost;
 use std::alloc::Global;
 
 // The calls of the example at the head of the crate.
-fn copy(host: &mut MemoryHost) -> Result<(), HostFault>
+fn copy(host: &mut MemoryHost, buf: &mut [u8; 5]) -> Result<(), HostFault>
     requires room { AreBelow (2 ^ 63) (memory_host_failure_counts host.old) }
     requires unopened { host.old.input_opened ≡ None }
     requires unasked { host.old.output_asked ≡ None }
 {
     host.open_input(Some("in"))?;
-    let mut buf = [0u8; 5];
-    let n = host.pull(&mut buf)?;
+    let n = host.pull(buf)?;
     write_output(host, &buf[..n])
 }
 
-// The example at the head of the crate.
-#[test]
-fn example(rt: HostRuntime) {
-    let mut host = new_host(rt.alloc(), b"the input", b"");
-    let is_copied = copy(&mut host).is_ok() && host.output() == b"the i".as_slice();
+// The call that fails, or 0, whether the input is copied, what was pulled, what is left of the input, what is written, and
+// whether input and output were opened.
+type CopyCase = (
+    u64,
+    bool,
+    &'static [u8; 5],
+    &'static [u8],
+    &'static [u8],
+    bool,
+    bool,
+);
+
+const UNPULLED: &[u8; 5] = &[0; 5];
+
+// Two bytes a push: the calls are an opening, a pull, an opening and three pushes.
+static COPIES: [CopyCase; 8] = [
+    (0, true, b"the i", b"nput", b"the i", true, true),
+    (1, false, UNPULLED, b"the input", b"", false, false),
+    (2, false, UNPULLED, b"the input", b"", true, false),
+    (3, false, b"the i", b"nput", b"", true, false),
+    (4, false, b"the i", b"nput", b"", true, true),
+    (5, false, b"the i", b"nput", b"th", true, true),
+    (6, false, b"the i", b"nput", b"the ", true, true),
+    (7, true, b"the i", b"nput", b"the i", true, true),
+];
+
+// Whether a host has this left, has this written, and has opened those.
+fn has(host: &MemoryHost, (_, _, _, left, written, has_input, has_output): CopyCase) -> bool {
+    host.remaining_input() == left
+        && host.output() == written
+        && host.input_name() == has_input.then_some(Some("in"))
+        && host.output_name() == has_output.then_some(None)
+}
+
+// Whether the example leaves that.
+fn is_row(alloc: Global, row: CopyCase) -> bool {
+    let mut host = new_host(alloc, b"the input", b"");
+    host.set_sizes(9, 2);
+    host.fail_at(row.0);
+    let mut buf = [0u8; 5];
+    let is_copied = copy(&mut host, &mut buf).is_ok();
+    let is_so = has(&host, row);
     drop(host);
-    assert!(rt; is_copied);
+    is_copied == row.1 && buf == *row.2 && is_so
 }
 
-// Gives the variable PW this value.
-fn set_variable(alloc: Global, host: &mut MemoryHost, value: &[u8])
-    requires room { AreBelow (2 ^ 63) (memory_host_failure_counts host.old) }
-    requires unasked { host.old.asked ≡ None }
-    ensures room { AreBelow (2 ^ 63) (memory_host_failure_counts host.new) }
-    ensures unasked { host.new.asked ≡ None }
-{
-    let _ = host.set_env(text(alloc, "PW"), list(alloc, value));
+// The example at the head of the crate goes as far as the call that fails.
+#[test]
+fn copies_up_to_the_call_that_fails(rt: HostRuntime) {
+    for row in &COPIES {
+        assert!(rt; is_row(rt.alloc(), *row), "{}", row.0);
+    }
 }
 
-// A host that has three secrets.
+// A host that has three secrets. The later value of a variable counts.
 fn with_secrets(alloc: Global) -> MemoryHost
     ensures room { AreBelow (2 ^ 63) (memory_host_failure_counts result) }
     ensures unasked { result.asked ≡ None }
 {
     let mut host = new_host(alloc, b"", b"typed");
-    set_variable(alloc, &mut host, b"first");
-    set_variable(alloc, &mut host, b"second");
+    let _ = host.set_env(text(alloc, "PW"), list(alloc, b"first"));
+    let _ = host.set_env(text(alloc, "PW"), list(alloc, b"second"));
     let _ = host.set_file(text(alloc, "pw"), list(alloc, b"long file"));
     host
 }
@@ -77,7 +111,7 @@ static SECRETS: [(Source<'static>, Option<&[u8]>); 5] = [
 #[test]
 fn gives_secrets(rt: HostRuntime) {
     for (source, text) in &SECRETS {
-        assert!(rt; gives(rt.alloc(), *source, *text), "{source:?}");
+        assert!(rt; gives(rt.alloc(), *source, *text));
     }
 }
 
@@ -140,82 +174,25 @@ fn gives_the_salt(rt: HostRuntime) {
     assert!(rt; salt(rt.alloc(), 1) == (Err(HostFault), [0; 32]));
 }
 
-// Whether a first opening of the input fails, and leaves no name.
-fn is_refused(host: &mut MemoryHost) -> bool
-    requires room { AreBelow (2 ^ 63) (memory_host_failure_counts host.old) }
-    requires unopened { host.old.input_opened ≡ None }
-    ensures room { AreBelow (2 ^ 63 + 1) (memory_host_failure_counts host.new) }
-    ensures unopened { result ≡ true → host.new.input_opened ≡ None }
-{
-    host.fail_at(1);
-    host.open_input(Some("in")).is_err() && host.input_name().is_none()
-}
-
-// Whether an input of two bytes has its name, and is all left after a pull that fails.
-fn is_left_whole(host: &mut MemoryHost) -> bool
-    requires room { AreBelow (2 ^ 63 + 1) (memory_host_failure_counts host.old) }
-    requires readable { host.old.readable ≡ true }
-{
-    let mut buf = [0u8; 4];
-    host.fail_at(3);
-    is_under(host.input_name(), "in")
-        && host.pull(&mut buf) == Err(HostFault)
-        && buf == [0; 4]
-        && host.remaining_input() == b"in".as_slice()
-}
-
-// Whether each call of the input fails so.
-fn is_whole_after_failures(host: &mut MemoryHost) -> bool
-    requires room { AreBelow (2 ^ 63) (memory_host_failure_counts host.old) }
-    requires unopened { host.old.input_opened ≡ None }
-{
-    is_refused(host) && host.open_input(Some("in")).is_ok() && is_left_whole(host)
-}
-
-#[test]
-fn fails_at_each_call_of_the_input(rt: HostRuntime) {
-    let mut host = new_host(rt.alloc(), b"in", b"");
-    let is_so = is_whole_after_failures(&mut host);
-    drop(host);
-    assert!(rt; is_so);
-}
-
-// Whether two bytes are pushed, no more are, and a line is said, where a host's third call fails.
+// Whether a line is not said where a host's first call fails, and the next one is.
 fn goes_on(host: &mut MemoryHost) -> bool
     requires room { AreBelow (2 ^ 63) (memory_host_failure_counts host.old) }
-    requires unasked { host.old.output_asked ≡ None }
 {
-    host.set_sizes(1, 2);
-    host.fail_at(3);
-    if host.open_output(Some("out")).is_err() {
-        return false;
-    }
-    let Ok(2) = host.push(b"abc") else {
-        return false;
-    };
-    let second = host.push(b"c");
-    host.say("told") == Ok(()) && second == Err(HostFault)
+    host.fail_at(1);
+    let first = host.say("untold");
+    host.say("told") == Ok(()) && first == Err(HostFault)
 }
 
-// Whether this line alone was said.
-fn says(host: &MemoryHost, told: &str) -> bool {
-    matches!(host.lines(), [line] if line.as_str() == told)
-}
-
-// Whether a host has what they leave.
-fn is_left(host: &MemoryHost) -> bool {
-    host.output() == b"ab".as_slice()
-        && is_under(host.output_name(), "out")
-        && host.input_name().is_none()
-        && says(host, "told")
+// Whether it is so of a new host, which has the one line then.
+fn says_the_next(alloc: Global) -> bool {
+    let mut host = new_host(alloc, b"", b"");
+    let goes_on = goes_on(&mut host);
+    let is_said = matches!(host.lines(), [line] if line.as_str() == "told");
+    drop(host);
+    goes_on && is_said
 }
 
 #[test]
-fn fails_at_the_call_named(rt: HostRuntime) {
-    let mut host = new_host(rt.alloc(), b"", b"");
-    let goes_on = goes_on(&mut host);
-    let is_left = is_left(&host);
-    drop(host);
-    assert!(rt; goes_on);
-    assert!(rt; is_left);
+fn fails_at_the_call_named_alone(rt: HostRuntime) {
+    assert!(rt; says_the_next(rt.alloc()));
 }

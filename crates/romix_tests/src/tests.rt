@@ -1,17 +1,18 @@
-//! Outside vectors: the standard's own, and values that Python 3's hashlib gave; and both forms of
-//! the kernels beside one another; and the example at the head of the crate. The files below have the
-//! limits of costs, sparse tables, and each growth refused in turn.
+//! Outside vectors: the standard's own, and values that Python 3 gave; and the example at the head of the
+//! crate. The files below have the limits of costs and sparse tables, and each growth refused in turn.
 
-ghost use Rattle.std.specs.Prelude.{◌≡◌, IfSome};
+ghost use Rattle.std.specs.Prelude.{◌≡◌, ◌≤◌, ◌-◌, ◌*◌, ◌^◌, length, IfSome};
+ghost use Rattle.romix.specs.Costs.{cores};
+ghost use Rattle.romix.specs.SparseCosts.{SparseFitsMemory, cores_bound};
 
 mod costs;
+mod growth;
 mod plain;
-mod sparse;
 
+use costs::has_answer;
 use romix::romix::romix;
-use romix::{Costs, Limits, Sparse, Ticks, Workspace, block_mix, salsa8};
+use romix::{CostFault, Costs, Limits, Sparse, Ticks, Workspace, block_mix, salsa8};
 use std::alloc::Global;
-use std::test::Fail;
 
 // RFC 7914, section 8, as words.
 const CORE_INPUT: [u32; 16] = [
@@ -46,82 +47,109 @@ const ROW_ROMIXED: [u32; 32] = [
     0x44fd12ae, 0xa003f238, 0x7ec4e1e4, 0x1f8614c3, 0xcb87904e, 0x686a3933, 0xd2f9e873, 0x8e4b9a53,
 ];
 
+// A password and its salt, the costs, and the key of at most 100 bytes.
 struct ScryptCase {
-    password: &'static str,
-    salt: &'static str,
+    password: &'static [u8],
+    salt: &'static [u8],
     log_n: u8,
     r: u32,
     p: u32,
-    key: [u8; 64],
+    key: &'static [u8],
+    // It is derived with one of so many rows kept, with each of these.
+    keeps: &'static [u64],
+    // One workspace gives the beginnings of the key of these lengths in turn.
+    lengths: &'static [usize],
 }
 
-// RFC 7914, section 12, the first three.
-static SCRYPT_CASES: [ScryptCase; 3] = [
+// The first three are RFC 7914, section 12; the others and the first key's end are
+// Python's hashlib.scrypt(password, salt=salt, n=n, r=r, p=p, dklen=len(key)).
+static SCRYPT_CASES: [ScryptCase; 5] = [
     ScryptCase {
-        password: "",
-        salt: "",
+        password: b"",
+        salt: b"",
         log_n: 4,
         r: 1,
         p: 1,
-        key: [
+        key: &[
             0x77, 0xd6, 0x57, 0x62, 0x38, 0x65, 0x7b, 0x20, 0x3b, 0x19, 0xca, 0x42, 0xc1, 0x8a,
             0x04, 0x97, 0xf1, 0x6b, 0x48, 0x44, 0xe3, 0x07, 0x4a, 0xe8, 0xdf, 0xdf, 0xfa, 0x3f,
             0xed, 0xe2, 0x14, 0x42, 0xfc, 0xd0, 0x06, 0x9d, 0xed, 0x09, 0x48, 0xf8, 0x32, 0x6a,
             0x75, 0x3a, 0x0f, 0xc8, 0x1f, 0x17, 0xe8, 0xd3, 0xe0, 0xfb, 0x2e, 0x0d, 0x36, 0x28,
-            0xcf, 0x35, 0xe2, 0x0c, 0x38, 0xd1, 0x89, 0x06,
+            0xcf, 0x35, 0xe2, 0x0c, 0x38, 0xd1, 0x89, 0x06, 0xce, 0x73, 0x20, 0x66, 0x56, 0xcf,
+            0x8c, 0x1e, 0xad, 0x7f, 0x4f, 0x66, 0x30, 0xd0, 0xad, 0xae, 0x1f, 0xd8, 0x87, 0x8b,
+            0x77, 0xc3, 0xb4, 0x69, 0xdb, 0x91, 0x9f, 0x01, 0x59, 0x7f, 0x61, 0x3a, 0xc2, 0xf7,
+            0x8a, 0xec,
         ],
+        keeps: &[1, 2, 16],
+        lengths: &[64, 100],
     },
     ScryptCase {
-        password: "password",
-        salt: "NaCl",
+        password: b"password",
+        salt: b"NaCl",
         log_n: 10,
         r: 8,
         p: 16,
-        key: [
+        key: &[
             0xfd, 0xba, 0xbe, 0x1c, 0x9d, 0x34, 0x72, 0x00, 0x78, 0x56, 0xe7, 0x19, 0x0d, 0x01,
             0xe9, 0xfe, 0x7c, 0x6a, 0xd7, 0xcb, 0xc8, 0x23, 0x78, 0x30, 0xe7, 0x73, 0x76, 0x63,
             0x4b, 0x37, 0x31, 0x62, 0x2e, 0xaf, 0x30, 0xd9, 0x2e, 0x22, 0xa3, 0x88, 0x6f, 0xf1,
             0x09, 0x27, 0x9d, 0x98, 0x30, 0xda, 0xc7, 0x27, 0xaf, 0xb9, 0x4a, 0x83, 0xee, 0x6d,
             0x83, 0x60, 0xcb, 0xdf, 0xa2, 0xcc, 0x06, 0x40,
         ],
+        keeps: &[1, 4],
+        lengths: &[64],
     },
     ScryptCase {
-        password: "pleaseletmein",
-        salt: "SodiumChloride",
+        password: b"pleaseletmein",
+        salt: b"SodiumChloride",
         log_n: 14,
         r: 8,
         p: 1,
-        key: [
+        key: &[
             0x70, 0x23, 0xbd, 0xcb, 0x3a, 0xfd, 0x73, 0x48, 0x46, 0x1c, 0x06, 0xcd, 0x81, 0xfd,
             0x38, 0xeb, 0xfd, 0xa8, 0xfb, 0xba, 0x90, 0x4f, 0x8e, 0x3e, 0xa9, 0xb5, 0x43, 0xf6,
             0x54, 0x5d, 0xa1, 0xf2, 0xd5, 0x43, 0x29, 0x55, 0x61, 0x3f, 0x0f, 0xcf, 0x62, 0xd4,
             0x97, 0x05, 0x24, 0x2a, 0x9a, 0xf9, 0xe6, 0x1e, 0x85, 0xdc, 0x0d, 0x65, 0x1e, 0x40,
             0xdf, 0xcf, 0x01, 0x7b, 0x45, 0x57, 0x58, 0x87,
         ],
+        keeps: &[1, 16, 1024],
+        lengths: &[64],
     },
-];
-
-// Python, hashlib.scrypt(b"pleaseletmein", salt=b"SodiumChloride", n=16, r=1, p=1, dklen=100).
-const LONG_KEY: [u8; 100] = [
-    0xbb, 0x4d, 0x0d, 0xfa, 0x7f, 0xf5, 0xb1, 0x63, 0x33, 0xa1, 0x17, 0xe9, 0x47, 0x81, 0x8f, 0xd2,
-    0x3b, 0xdd, 0xd6, 0x5a, 0x45, 0xb1, 0xc9, 0x09, 0x5c, 0x4b, 0xf0, 0xa9, 0x5c, 0x19, 0xdc, 0x16,
-    0x1e, 0xb1, 0x3f, 0x0c, 0xca, 0x59, 0x9e, 0xfe, 0x56, 0x55, 0x9a, 0x59, 0xce, 0xc4, 0x55, 0xde,
-    0xe7, 0xb5, 0x93, 0x68, 0x38, 0xf5, 0x7d, 0xba, 0xc4, 0xc2, 0x73, 0x30, 0x7b, 0xc3, 0xcd, 0xcd,
-    0x6e, 0x4e, 0xcd, 0x51, 0xc8, 0x02, 0xd3, 0x57, 0xb4, 0x9d, 0x77, 0x56, 0x07, 0x4a, 0x96, 0xcc,
-    0xbb, 0x5b, 0x9b, 0x2a, 0x40, 0x02, 0xc3, 0x4e, 0xb3, 0x74, 0xa9, 0xa1, 0x4d, 0x87, 0x01, 0x14,
-    0x8d, 0x55, 0x81, 0xcd,
-];
-
-// Python, hashlib.scrypt(b"", salt=b"", n=16, r=1, p=1, dklen=100): the first 64 bytes are those of RFC
-// 7914, section 12.
-const KEY_OF_NOTHING: [u8; 100] = [
-    0x77, 0xd6, 0x57, 0x62, 0x38, 0x65, 0x7b, 0x20, 0x3b, 0x19, 0xca, 0x42, 0xc1, 0x8a, 0x04, 0x97,
-    0xf1, 0x6b, 0x48, 0x44, 0xe3, 0x07, 0x4a, 0xe8, 0xdf, 0xdf, 0xfa, 0x3f, 0xed, 0xe2, 0x14, 0x42,
-    0xfc, 0xd0, 0x06, 0x9d, 0xed, 0x09, 0x48, 0xf8, 0x32, 0x6a, 0x75, 0x3a, 0x0f, 0xc8, 0x1f, 0x17,
-    0xe8, 0xd3, 0xe0, 0xfb, 0x2e, 0x0d, 0x36, 0x28, 0xcf, 0x35, 0xe2, 0x0c, 0x38, 0xd1, 0x89, 0x06,
-    0xce, 0x73, 0x20, 0x66, 0x56, 0xcf, 0x8c, 0x1e, 0xad, 0x7f, 0x4f, 0x66, 0x30, 0xd0, 0xad, 0xae,
-    0x1f, 0xd8, 0x87, 0x8b, 0x77, 0xc3, 0xb4, 0x69, 0xdb, 0x91, 0x9f, 0x01, 0x59, 0x7f, 0x61, 0x3a,
-    0xc2, 0xf7, 0x8a, 0xec,
+    ScryptCase {
+        password: b"pleaseletmein",
+        salt: b"SodiumChloride",
+        log_n: 4,
+        r: 1,
+        p: 1,
+        key: &[
+            0xbb, 0x4d, 0x0d, 0xfa, 0x7f, 0xf5, 0xb1, 0x63, 0x33, 0xa1, 0x17, 0xe9, 0x47, 0x81,
+            0x8f, 0xd2, 0x3b, 0xdd, 0xd6, 0x5a, 0x45, 0xb1, 0xc9, 0x09, 0x5c, 0x4b, 0xf0, 0xa9,
+            0x5c, 0x19, 0xdc, 0x16, 0x1e, 0xb1, 0x3f, 0x0c, 0xca, 0x59, 0x9e, 0xfe, 0x56, 0x55,
+            0x9a, 0x59, 0xce, 0xc4, 0x55, 0xde, 0xe7, 0xb5, 0x93, 0x68, 0x38, 0xf5, 0x7d, 0xba,
+            0xc4, 0xc2, 0x73, 0x30, 0x7b, 0xc3, 0xcd, 0xcd, 0x6e, 0x4e, 0xcd, 0x51, 0xc8, 0x02,
+            0xd3, 0x57, 0xb4, 0x9d, 0x77, 0x56, 0x07, 0x4a, 0x96, 0xcc, 0xbb, 0x5b, 0x9b, 0x2a,
+            0x40, 0x02, 0xc3, 0x4e, 0xb3, 0x74, 0xa9, 0xa1, 0x4d, 0x87, 0x01, 0x14, 0x8d, 0x55,
+            0x81, 0xcd,
+        ],
+        keeps: &[1],
+        lengths: &[0, 1, 31, 32, 33, 64, 100],
+    },
+    ScryptCase {
+        password: b"pleaseletmein",
+        salt: b"SodiumChloride",
+        log_n: 11,
+        r: 1,
+        p: 2,
+        key: &[
+            0xf4, 0x38, 0x40, 0x33, 0x66, 0xf5, 0xad, 0xd2, 0x85, 0x6e, 0x2d, 0x4a, 0x65, 0x7a,
+            0xbb, 0x3b, 0xe3, 0x12, 0x5b, 0x60, 0xff, 0x8a, 0x5e, 0x8c, 0xe4, 0xa0, 0x9e, 0x13,
+            0x42, 0x26, 0xb7, 0x81, 0x3e, 0x2e, 0xcb, 0xb5, 0x98, 0x4b, 0x43, 0xc0, 0x7e, 0x43,
+            0xf4, 0x64, 0xcd, 0x09, 0x78, 0x96, 0x91, 0x96, 0xad, 0x39, 0x18, 0x8e, 0xba, 0x3c,
+            0xd1, 0x33, 0xa9, 0xe7, 0x1c, 0xe7, 0x79, 0xa6,
+        ],
+        keeps: &[1, 2, 4, 8, 16, 32, 64, 128, 256, 512, 1024],
+        lengths: &[64, 64],
+    },
 ];
 
 // Python, hashlib.scrypt(b"pleaseletmein", salt=b"SodiumChloride", n=8, r=r, p=p, dklen=16), by r
@@ -156,162 +184,119 @@ static SMALL_COSTS: [(u32, u32, u128); 27] = [
     (9, 3, 0x013fc02c6ac4ea617733bcbca5d16c3a),
 ];
 
-fn workspace(alloc: Global, log_n: u8, r: u32, p: u32) -> Option<Workspace> {
-    sparse_workspace(alloc, log_n, r, p, 1)
-}
-
-fn sparse_workspace(alloc: Global, log_n: u8, r: u32, p: u32, keep: u64) -> Option<Workspace>
-    ensures sparse { IfSome result (λ workspace. workspace.sparse
-        ≡ record { costs = record { log_n = log_n; r = r; p = p }; keep = keep }) }
+// Costs with one of so many rows kept, which take at most 2^30 bytes and cores.
+fn admitted(log_n: u8, r: u32, p: u32, keep: u64) -> Option<Sparse>
+    ensures memory { IfSome result (λ sparse. SparseFitsMemory sparse (2 ^ 40)) }
 {
-    let costs = Costs::new(log_n, r, p).ok()?;
-    let sparse = Sparse::new(&costs, keep).ok()?;
     let limits = Limits {
         max_bytes: 1 << 30,
         max_ops: 1 << 30,
     };
-    if sparse.admitted(&limits).is_err() {
-        return None;
-    }
-    Workspace::reserve(alloc, &sparse).ok()
-}
-
-#[test]
-fn core_vector(rt: HostRuntime) {
-    let mut words = CORE_INPUT;
-    salsa8(&mut words, &mut Ticks::new(rt.alloc()));
-    assert_eq!(rt; words, CORE_OUTPUT);
-}
-
-#[test]
-fn block_mix_vector(rt: HostRuntime) {
-    let mut out = [0u32; 32];
-    block_mix(&ROW, &mut out, &mut Ticks::new(rt.alloc()));
-    assert_eq!(rt; out, ROW_BLOCK_MIXED);
-}
-
-#[test]
-fn romix_vector(rt: HostRuntime) {
-    let mut row = ROW;
-    let mut other = [0u32; 32];
-    let mut table = [0u32; 512];
-    let mut spare = [0u32; 0];
-    romix(
-        &mut row,
-        &mut other,
-        &mut spare,
-        &mut table,
-        4,
-        1,
-        &mut Ticks::new(rt.alloc()),
-    );
-    assert_eq!(rt; row, ROW_ROMIXED);
-}
-
-#[test]
-fn both_forms_of_the_core_agree_on_1000_blocks(rt: HostRuntime) {
-    let mut words = CORE_INPUT;
-    let mut expected = CORE_INPUT;
-    let mut ticks = Ticks::new(rt.alloc());
-    for _ in 0..1000u32 {
-        salsa8(&mut words, &mut ticks);
-        plain::salsa8(&mut expected);
-        assert_eq!(rt; words, expected);
+    let costs = Costs::new(log_n, r, p).ok()?;
+    let sparse = Sparse::new(&costs, keep).ok()?;
+    match sparse.admitted(&limits) {
+        Ok(()) => Some(sparse),
+        Err(_) => None,
     }
 }
 
-#[test]
-fn both_forms_of_block_mix_agree_on_1008_blocks(rt: HostRuntime) {
-    let mut row = [0u32; plain::ROW_LEN];
-    row[..16].copy_from_slice(&CORE_INPUT);
-    let mut out = [0u32; plain::ROW_LEN];
-    let mut expected = [0u32; plain::ROW_LEN];
-    let mut ticks = Ticks::new(rt.alloc());
-    for _ in 0..63u32 {
-        block_mix(&row, &mut out, &mut ticks);
-        plain::block_mix(&row, &mut expected);
-        assert_eq!(rt; out, expected);
-        row = out;
+fn workspace(alloc: Global, log_n: u8, r: u32, p: u32, keep: u64) -> Option<Workspace> {
+    match admitted(log_n, r, p, keep) {
+        Some(sparse) => Workspace::reserve(alloc, &sparse).ok(),
+        None => None,
     }
 }
+
+// A derivation; what it counts is proved of it.
+fn derive_counted(
+    alloc: Global,
+    workspace: &mut Workspace,
+    password: &[u8],
+    salt: &[u8],
+    key: &mut [u8],
+) -> Ticks
+    requires fits { length key.old ≤ 32 * (2 ^ 32 - 1) }
+    ensures whole { workspace.old.sparse.keep ≡ 1 → result ≡ cores workspace.old.sparse.costs }
+    ensures bound { result ≤ cores_bound workspace.old.sparse }
+{
+    let mut ticks = Ticks::new(alloc);
+    workspace.derive(password, salt, key, &mut ticks);
+    ticks
+}
+
+// These are the counts of the vectors of RFC 7914, section 12, and of the third with one row in 16 kept.
+fn counts_of_the_vectors()
+    ensures first { cores (record { log_n = 4; r = 1; p = 1 }) ≡ 64 }
+    ensures second { cores (record { log_n = 10; r = 8; p = 16 }) ≡ 524288 }
+    ensures third { cores (record { log_n = 14; r = 8; p = 1 }) ≡ 524288 }
+    ensures third_with_16 { cores_bound (record { costs = record { log_n = 14; r = 8; p = 1 }; keep = 16 }) ≡ 4456448 }
+{}
 
 // Whether a workspace gives this key of at most 100 bytes.
-fn gives(alloc: Global, workspace: &mut Workspace, password: &str, salt: &str, key: &[u8]) -> bool {
+fn gives(
+    alloc: Global,
+    workspace: &mut Workspace,
+    password: &[u8],
+    salt: &[u8],
+    key: &[u8],
+) -> bool {
     let mut bytes = [0u8; 100];
-    let Some(found) = bytes.get_mut(..key.len()) else {
-        return false;
-    };
-    workspace.derive(
-        password.as_bytes(),
-        salt.as_bytes(),
-        found,
-        &mut Ticks::new(alloc),
-    );
-    &*found == key
+    let len = key.len().min(100);
+    let _ticks = derive_counted(alloc, workspace, password, salt, &mut bytes[..len]);
+    bytes.starts_with(key)
+}
+
+// Whether it gives the beginnings of a case's key.
+fn gives_beginnings(alloc: Global, workspace: &mut Workspace, case: &ScryptCase) -> bool {
+    for len in case.lengths {
+        match case.key.get(..*len) {
+            Some(key) if gives(alloc, workspace, case.password, case.salt, key) => {}
+            _ => return false,
+        }
+    }
+    true
 }
 
 // Whether a case has its key where one of so many rows is kept.
 fn has_key(alloc: Global, case: &ScryptCase, keep: u64) -> bool {
-    match sparse_workspace(alloc, case.log_n, case.r, case.p, keep) {
-        Some(mut workspace) => gives(alloc, &mut workspace, case.password, case.salt, &case.key),
+    match workspace(alloc, case.log_n, case.r, case.p, keep) {
+        Some(mut workspace) => gives_beginnings(alloc, &mut workspace, case),
         None => false,
     }
 }
 
-#[test]
-fn scrypt_cases(rt: HostRuntime) {
-    assert!(rt; has_key(rt.alloc(), &SCRYPT_CASES[0], 1));
-    assert!(rt; has_key(rt.alloc(), &SCRYPT_CASES[1], 1));
-    assert!(rt; has_key(rt.alloc(), &SCRYPT_CASES[2], 1));
-}
-
-// The first of these lengths at which one workspace with N = 16 does not give the start of a key.
-fn wrong_length(
-    alloc: Global,
-    (password, salt): (&str, &str),
-    key: &[u8],
-    lengths: &[usize],
-) -> Option<usize> {
-    let Some(mut workspace) = workspace(alloc, 4, 1, 1) else {
-        return lengths.first().copied();
-    };
-    for len in lengths {
-        match key.get(..*len) {
-            Some(start) if gives(alloc, &mut workspace, password, salt, start) => {}
-            _ => return Some(*len),
+// The first number of rows of which one is kept where it has not.
+fn wrong_keep(alloc: Global, case: &ScryptCase) -> Option<u64> {
+    for keep in case.keeps {
+        if !has_key(alloc, case, *keep) {
+            return Some(*keep);
         }
     }
     None
 }
 
-// A longer key begins with the shorter one.
 #[test]
-fn key_of_100_bytes(rt: HostRuntime) {
-    assert_eq!(rt;
-        wrong_length(rt.alloc(), ("", ""), &KEY_OF_NOTHING, &[100]),
-        None
-    );
-    assert!(rt; KEY_OF_NOTHING.starts_with(&SCRYPT_CASES[0].key));
+fn scrypt_cases(rt: HostRuntime) {
+    for case in &SCRYPT_CASES {
+        assert_eq!(rt; wrong_keep(rt.alloc(), case), None);
+    }
 }
 
 #[test]
-fn lengths(rt: HostRuntime) {
-    let words = ("pleaseletmein", "SodiumChloride");
-    let lengths = &[0, 1, 31, 32, 33, 64, 100];
-    assert_eq!(rt; wrong_length(rt.alloc(), words, &LONG_KEY, lengths), None);
+fn vectors_whose_counts_are_proved(rt: HostRuntime) {
+    counts_of_the_vectors();
+    let alloc = rt.alloc();
+    assert!(rt; has_key(alloc, &SCRYPT_CASES[0], 1));
+    assert!(rt; has_key(alloc, &SCRYPT_CASES[1], 1));
+    assert!(rt; has_key(alloc, &SCRYPT_CASES[2], 1));
+    assert!(rt; has_key(alloc, &SCRYPT_CASES[2], 16));
 }
 
 // Whether small costs give this key.
 fn has_small_key(alloc: Global, r: u32, p: u32, key: u128) -> bool {
-    let key = key.to_be_bytes();
-    match workspace(alloc, 3, r, p) {
-        Some(mut workspace) => gives(
-            alloc,
-            &mut workspace,
-            "pleaseletmein",
-            "SodiumChloride",
-            &key,
-        ),
+    let (password, salt) = (b"pleaseletmein", b"SodiumChloride");
+    match workspace(alloc, 3, r, p, 1) {
+        Some(mut workspace) => gives(alloc, &mut workspace, password, salt, &key.to_be_bytes()),
         None => false,
     }
 }
@@ -332,31 +317,77 @@ fn small_costs(rt: HostRuntime) {
     assert_eq!(rt; wrong_small_costs(rt.alloc()), None);
 }
 
-// The example at the head of the crate: whether these limits refuse the whole table; and the key.
-fn refusal_and_key(alloc: Global) -> Result<(bool, [u8; 64]), Fail> {
-    let costs = Costs::new(14, 8, 1)?;
+#[test]
+fn core_vector(rt: HostRuntime) {
+    let mut words = CORE_INPUT;
+    salsa8(&mut words, &mut Ticks::new(rt.alloc()));
+    assert!(rt; words == CORE_OUTPUT);
+}
+
+// On how many of 1,000 inputs of the core, from the first on, lanes and words agree.
+fn agreeing_cores(alloc: Global) -> u32 {
+    let mut words = CORE_INPUT;
+    let mut expected = CORE_INPUT;
+    let mut ticks = Ticks::new(alloc);
+    for count in 0..1000u32 {
+        salsa8(&mut words, &mut ticks);
+        plain::salsa8(&mut expected);
+        if words != expected {
+            return count;
+        }
+    }
+    1000
+}
+
+#[test]
+fn both_forms_of_the_core_agree_on_1000_blocks(rt: HostRuntime) {
+    assert!(rt; agreeing_cores(rt.alloc()) == 1000);
+}
+
+// On how many of 63 rows of sixteen blocks, from the first on, lanes and words agree.
+fn agreeing_rows(alloc: Global) -> u32 {
+    let mut row = [0u32; plain::ROW_LEN];
+    row[..16].copy_from_slice(&CORE_INPUT);
+    let mut out = [0u32; plain::ROW_LEN];
+    let mut expected = [0u32; plain::ROW_LEN];
+    let mut ticks = Ticks::new(alloc);
+    for count in 0..63u32 {
+        block_mix(&row, &mut out, &mut ticks);
+        plain::block_mix(&row, &mut expected);
+        if out != expected {
+            return count;
+        }
+        row = out;
+    }
+    63
+}
+
+#[test]
+fn both_forms_of_block_mix_agree_on_1008_blocks(rt: HostRuntime) {
+    assert!(rt; agreeing_rows(rt.alloc()) == 63);
+}
+
+#[test]
+fn vectors_of_a_row(rt: HostRuntime) {
+    let mut ticks = Ticks::new(rt.alloc());
+    let mut other = [0u32; 32];
+    block_mix(&ROW, &mut other, &mut ticks);
+    assert!(rt; other == ROW_BLOCK_MIXED);
+    let (mut row, mut spare, mut table) = (ROW, [0u32; 0], [0u32; 512]);
+    romix(
+        &mut row, &mut other, &mut spare, &mut table, 4, 1, &mut ticks,
+    );
+    assert!(rt; row == ROW_ROMIXED);
+}
+
+// The example at the head of the crate.
+#[test]
+fn example(rt: HostRuntime) {
     let limits = Limits {
         max_bytes: 1 << 20,
         max_ops: 1 << 23,
     };
-    let is_refused = costs.admitted(&limits).is_err();
-    let sparse = Sparse::new(&costs, 16)?;
-    sparse.admitted(&limits)?;
-    let mut workspace = Workspace::reserve(alloc, &sparse)?;
-    let mut key = [0u8; 64];
-    workspace.derive(
-        b"pleaseletmein",
-        b"SodiumChloride",
-        &mut key,
-        &mut Ticks::new(alloc),
-    );
-    Ok((is_refused, key))
-}
-
-#[test]
-fn example(rt: HostRuntime) -> Result<(), Fail> {
-    let (is_refused, key) = refusal_and_key(rt.alloc())?;
-    assert!(rt; is_refused);
-    assert!(rt; key.starts_with(&[0x70, 0x23, 0xbd, 0xcb]));
-    Ok(())
+    assert!(rt; has_answer(14, 8, 1, 1, &limits, Some(CostFault::Memory)));
+    assert!(rt; has_answer(14, 8, 1, 16, &limits, None));
+    assert!(rt; has_key(rt.alloc(), &SCRYPT_CASES[2], 16));
 }

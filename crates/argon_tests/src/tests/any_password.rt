@@ -1,14 +1,10 @@
-//! Passwords of lengths that `Params::with_any_password_length` takes and `Params::new` does not, and the ends of its ranges.
-ghost use Rattle.std.specs.Prelude.{◌<◌, ◌^◌, length};
-
-use super::ranges::RANGES;
-use super::rows::{is_tag, run_of};
-use argon::{Inputs, Kind, ParamFault, Params};
+//! Passwords of lengths that `Params::with_any_password_length` takes and `Params::new` does not.
+use super::rows::right_rows;
 use std::alloc::Global;
 
 // The length of a password whose bytes are all `p`, and a row of its tag with the salt `somesalt`,
 // in one pass over 8 KiB in one lane, by Debian's libargon2 (0~20171227) and by the `cryptography` module of Python (48.0.0).
-const TAGS: [(usize, &str); 9] = [
+static TAGS: [(usize, &str); 9] = [
     (
         0,
         "id 1 8 1 65eeedf51f4006be43eb26d1214182a97d5087767e3487bfbc849dd328145651",
@@ -47,111 +43,24 @@ const TAGS: [(usize, &str); 9] = [
     ),
 ];
 
-// Whether the tag of the inputs is that of the row.
-fn has_tag_of_any_password(alloc: Global, inputs: &Inputs<'_>, row: &str) -> bool
-    requires secret { length inputs.now.secret.now < 2 ^ 32 }
-    requires associated { length inputs.now.associated.now < 2 ^ 32 }
-{
-    let run = run_of(row);
-    match Params::with_any_password_length(
-        run.kind,
-        0x13,
-        run.passes,
-        run.lanes,
-        run.memory_kib,
-        run.tag.len() / 2,
-        inputs.salt.len(),
-        inputs.password.len(),
-    ) {
-        Ok(params) => is_tag(alloc, &params, inputs, run.tag),
-        Err(_) => false,
+// How many rows have the tag of a password of so many bytes, and 0 where memory is refused.
+fn right_rows_of_length(alloc: Global, len: usize, rows: &str) -> u32 {
+    match vec![in alloc; b'p'; len] {
+        Ok(password) => right_rows(alloc, 0x13, &password, b"somesalt", rows),
+        Err(_) => 0,
     }
 }
 
-// Whether the row has the tag of a password of so many bytes.
-fn has_tag_of_length(alloc: Global, len: usize, row: &str) -> bool {
-    let Ok(password) = vec![in alloc; b'p'; len] else {
-        return false;
-    };
-    let inputs = Inputs {
-        password: &password,
-        salt: b"somesalt",
-        secret: &[],
-        associated: &[],
-    };
-    has_tag_of_any_password(alloc, &inputs, row)
+// How many rows of the table have their tag.
+fn right_lengths(alloc: Global) -> u32 {
+    let mut right = 0u32;
+    for (len, row) in &TAGS {
+        right = right.wrapping_add(right_rows_of_length(alloc, *len, row));
+    }
+    right
 }
 
 #[test]
 fn tags_of_any_password(rt: HostRuntime) {
-    for (len, row) in &TAGS {
-        assert!(rt; has_tag_of_length(rt.alloc(), *len, row));
-    }
-}
-
-// The fault of parameters with any password, if they have one.
-fn fault_of(costs: [u32; 3], lengths: [usize; 3]) -> Option<ParamFault> {
-    let [passes, lanes, memory_kib] = costs;
-    let [tag_len, salt_len, password_len] = lengths;
-    Params::with_any_password_length(
-        Kind::Id,
-        0x13,
-        passes,
-        lanes,
-        memory_kib,
-        tag_len,
-        salt_len,
-        password_len,
-    )
-    .err()
-}
-
-// How many rows, from the first on, have their fault. All that `Params::new` refuses for its password
-// alone is taken.
-fn right_ranges() -> u32 {
-    let mut right = 0u32;
-    for (costs, lengths, fault) in &RANGES {
-        let expected = match fault {
-            Some(ParamFault::PasswordLength) => None,
-            other => *other,
-        };
-        if fault_of(*costs, *lengths) != expected {
-            return right;
-        }
-        right = right.wrapping_add(1);
-    }
-    right
-}
-
-#[test]
-fn ends_of_the_other_ranges(rt: HostRuntime) {
-    assert!(rt; right_ranges() == 34);
-}
-
-// The lengths of salt and password, and the fault.
-const LENGTHS: [(usize, usize, Option<ParamFault>); 7] = [
-    (8, 0, None),
-    (8, 129, None),
-    (8, 0xFFFF_FFFE, None),
-    (8, 0xFFFF_FFFF, None),
-    (8, 0x1_0000_0000, Some(ParamFault::PasswordLength)),
-    (8, usize::MAX, Some(ParamFault::PasswordLength)),
-    (7, usize::MAX, Some(ParamFault::SaltLength)),
-];
-
-// How many rows, from the first on, have their fault.
-fn right_lengths() -> u32 {
-    let mut right = 0u32;
-    for (salt_len, password_len, fault) in &LENGTHS {
-        if fault_of([1, 1, 8], [4, *salt_len, *password_len]) != *fault {
-            return right;
-        }
-        right = right.wrapping_add(1);
-    }
-    right
-}
-
-#[test]
-fn ends_of_any_password(rt: HostRuntime) {
-    assert!(rt; right_lengths() == 7);
+    assert!(rt; right_lengths(rt.alloc()) == 9);
 }

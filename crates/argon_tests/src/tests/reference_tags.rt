@@ -72,8 +72,17 @@ pub const LONGER_RUNS: &str = "\
     id 2 1542 1 4ba7e97505c8e20dbd9a87411d508e6a020b8d7e9b8f4dadb4e6d18d587f7a44\n\
 ";
 
+/// The runs of the reference program's own tests (phc-winner-argon2, src/test.c): `password`, `somesalt`, two
+/// passes, 256 KiB.
+pub const KNOWN: &str = "\
+    i 2 256 1 89e9029f4637b295beb027056a7336c414fadd43f6b208645281cb214a56452f\n\
+    i 2 256 2 4ff5ce2769a1d7f4c8a491df09d41a9fbe90e5eb02155a13e4c01e20cd4eab61\n\
+    id 2 256 1 9dfeb910e80bad0311fee20f9c0e2b12c17987b4cac90c2ef54d5b3021c68bfe\n\
+    id 2 256 2 6d093c501fd5999645e0ea3bf620d7b8be7fd2db59c20d9fff9539da2bf57037\n\
+";
+
 /// Other passwords and salts, each with its runs.
-pub const OTHER_RUNS: [(&str, &str, &str); 6] = [
+pub static OTHER_RUNS: [(&str, &str, &str); 6] = [
     (
         "p",
         "saltsalt",
@@ -141,8 +150,11 @@ pub const OTHER_RUNS: [(&str, &str, &str); 6] = [
     ),
 ];
 
-/// The longest tag: -id -t 1 -k 64 -p 1 -l 4096, with `password` and `somesalt`.
-pub const LONGEST: &str = "id 1 64 1 \
+/// Runs in 64 KiB, of which the last has the longest tag: -id -t 1 -k 64 -p 1 -l 4096.
+pub const RUNS_IN_64_KIB: &str = "\
+    id 3 64 1 b9e3bfda58fb95f1e1e479af4e01bfade5a0dba34d400a254f770462674169e6\n\
+    id 1 64 2 7ee97262358926f30e4431533d4ab811ab69977948b628b123dc4cf41e9e6f5d\n\
+    id 1 64 1 \
     7f56fc5ba2e5afee144965692f8d25cfc6068f8a8a1872e5240e76b13f215eb0ddf1925b2880cbb0593813d8f1\
     0881c8fe878458e8871684f2b4d8e6d4f2fffcc88f37ac523581ef8637ebad1d28e4b441ae1a94d78ed20f67b6\
     a18d615a37f3fe2d8676ff72d0ef41c8f264e93df3431f4006c3a376f77abdfc64129aafff87d2589e7aec02e4\

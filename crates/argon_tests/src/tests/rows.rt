@@ -1,13 +1,17 @@
 //! Runs of Argon2 as rows of text: type, passes, memory in KiB, lanes, and the tag in lower
 //! hexadecimal. Tests assert how many rows are right; an `assert_eq!`, which prints it, is dearer to
-//! prove.
-ghost use Rattle.std.specs.Prelude.{◌≡◌, ◌<◌, ◌^◌, length, true};
+//! prove. Each tag is made twice: slice by slice, and block by block with the lanes in some order.
+ghost use Rattle.std.specs.Prelude.{◌≡◌, true};
 ghost use Rattle.argon.specs.Inputs.{InputsFitParameters, inputs_of};
 ghost use Rattle.argon.specs.Range.{is_version};
 
-use argon::{Inputs, Kind, Matrix, Params, Ticks};
+use super::orders::hash_by;
+use argon::{Inputs, Kind, Lanes, Matrix, Params, Ticks};
 use std::alloc::Global;
 use std::str::SplitWhitespace;
+
+/// An order of the lanes in which the second one, where there is one, is made first.
+pub static SECOND_LANE_FIRST: [u32; 140] = [1; 140];
 
 /// One run.
 #[derive(Clone, Copy)]
@@ -20,9 +24,9 @@ pub struct Run<'a> {
 }
 
 fn kind(word: &str) -> Kind {
-    match word {
-        "d" => Kind::D,
-        "i" => Kind::I,
+    match word.as_bytes() {
+        b"d" => Kind::D,
+        b"i" => Kind::I,
         _ => Kind::Id,
     }
 }
@@ -47,7 +51,7 @@ pub fn run_of(row: &str) -> Run<'_> {
     }
 }
 
-/// Whether the text is the bytes in lower hexadecimal.
+// Whether the text is the bytes in lower hexadecimal.
 pub fn is_hex_of(text: &str, bytes: &[u8]) -> bool {
     let digits = b"0123456789abcdef";
     let mut rest = text.as_bytes();
@@ -63,8 +67,8 @@ pub fn is_hex_of(text: &str, bytes: &[u8]) -> bool {
     rest.is_empty()
 }
 
-/// Whether the tag of the inputs, in lower hexadecimal, is this one.
-pub fn is_tag(alloc: Global, params: &Params, inputs: &Inputs<'_>, tag: &str) -> bool
+// Whether the tag of the inputs, made slice by slice, is this one in lower hexadecimal.
+fn is_tag(alloc: Global, params: &Params, inputs: &Inputs<'_>, tag: &str) -> bool
     requires inputs { InputsFitParameters params.now (inputs_of inputs.now) }
 {
     let Ok(mut matrix) = Matrix::reserve(alloc, params) else {
@@ -76,14 +80,38 @@ pub fn is_tag(alloc: Global, params: &Params, inputs: &Inputs<'_>, tag: &str) ->
     is_hex_of(tag, out)
 }
 
-/// Whether the tag of the inputs is that of the row.
-pub fn has_tag(alloc: Global, version: u32, inputs: &Inputs<'_>, row: &str) -> bool
+// The same of the tag that is made with the lanes in that order.
+fn is_tag_by(alloc: Global, params: &Params, inputs: &Inputs<'_>, order: &[u32], tag: &str) -> bool
+    requires inputs { InputsFitParameters params.now (inputs_of inputs.now) }
+{
+    match (
+        Matrix::reserve(alloc, params),
+        Lanes::reserve(alloc, params),
+    ) {
+        (Ok(matrix), Ok(lanes)) => {
+            let mut found = [0; 4096];
+            let out = &mut found[..params.tag_len()];
+            hash_by(
+                matrix,
+                lanes,
+                params,
+                inputs,
+                order,
+                out,
+                &mut Ticks::new(alloc),
+            );
+            is_hex_of(tag, out)
+        }
+        _ => false,
+    }
+}
+
+// Whether the tag of the inputs is that of the row. False where secret or data are long.
+fn has_tag(alloc: Global, version: u32, inputs: &Inputs<'_>, order: &[u32], row: &str) -> bool
     requires version { is_version version ≡ true }
-    requires secret { length inputs.now.secret.now < 2 ^ 32 }
-    requires associated { length inputs.now.associated.now < 2 ^ 32 }
 {
     let run = run_of(row);
-    match Params::new(
+    let params = Params::with_any_password_length(
         run.kind,
         version,
         run.passes,
@@ -92,25 +120,30 @@ pub fn has_tag(alloc: Global, version: u32, inputs: &Inputs<'_>, row: &str) -> b
         run.tag.len() / 2,
         inputs.salt.len(),
         inputs.password.len(),
-    ) {
-        Ok(params) => is_tag(alloc, &params, inputs, run.tag),
-        Err(_) => false,
+    );
+    let are_short = inputs.secret.len() < 1000 && inputs.associated.len() < 1000;
+    match params {
+        Ok(params) if are_short => {
+            is_tag(alloc, &params, inputs, run.tag)
+                && is_tag_by(alloc, &params, inputs, order, run.tag)
+        }
+        _ => false,
     }
 }
 
-/// How many rows, from the first on, have the tag of these texts.
-pub fn right_rows_of(alloc: Global, version: u32, password: &str, salt: &str, rows: &str) -> u32
+/// How many rows, from the first on, have the tag of the inputs, with the lanes in that order too.
+pub fn right_rows_by(
+    alloc: Global,
+    version: u32,
+    inputs: &Inputs<'_>,
+    order: &[u32],
+    rows: &str,
+) -> u32
     requires version { is_version version ≡ true }
 {
-    let inputs = Inputs {
-        password: password.as_bytes(),
-        salt: salt.as_bytes(),
-        secret: &[],
-        associated: &[],
-    };
     let mut right = 0u32;
     for row in rows.lines() {
-        if !has_tag(alloc, version, &inputs, row) {
+        if !has_tag(alloc, version, inputs, order, row) {
             return right;
         }
         right = right.wrapping_add(1);
@@ -118,9 +151,15 @@ pub fn right_rows_of(alloc: Global, version: u32, password: &str, salt: &str, ro
     right
 }
 
-/// The same of the password `password` and the salt `somesalt`.
-pub fn right_rows(alloc: Global, version: u32, rows: &str) -> u32
+/// The same of a password and a salt alone, with the second lane first.
+pub fn right_rows(alloc: Global, version: u32, password: &[u8], salt: &[u8], rows: &str) -> u32
     requires version { is_version version ≡ true }
 {
-    right_rows_of(alloc, version, "password", "somesalt", rows)
+    let inputs = Inputs {
+        password,
+        salt,
+        secret: &[],
+        associated: &[],
+    };
+    right_rows_by(alloc, version, &inputs, &SECOND_LANE_FIRST, rows)
 }

@@ -3,14 +3,14 @@ use super::rows::right_rows;
 
 // The reference program's own tests (phc-winner-argon2, src/test.c): Argon2i, `password`, `somesalt`,
 // two passes, 256 KiB, and so many lanes.
-const KNOWN: &str = "\
+static KNOWN: &str = "\
     i 2 256 1 fd4dd83d762c49bdeaf57c47bdcd0c2f1babf863fdeb490df63ede9975fccf06\n\
     i 2 256 2 b6c11560a6a9d61eac706b79a2f97d68b4463aa3ad87e00c07e2b01e90c564fb\n\
 ";
 
 // Kind, passes, memory, lanes and tag, as Debian's program (argon2 0~20171227) prints it:
 //     printf password | argon2 somesalt -KIND -t PASSES -k MEMORY -p LANES -l 16 -v 10 -r
-const ROWS: &str = "\
+static ROWS: &str = "\
     d 1 74 1 a0855082d65117d051bcf334e9880918\n\
     d 1 128 2 fe5109e6be790b88013ae7ee6e0a0f42\n\
     d 1 37 3 197044595054ba7d5b2b2fd33e79a1ea\n\
@@ -51,10 +51,10 @@ const ROWS: &str = "\
 
 #[test]
 fn tags_of_the_reference_tests_of_version_0x10(rt: HostRuntime) {
-    assert!(rt; right_rows(rt.alloc(), 0x10, KNOWN) == 2);
+    assert!(rt; right_rows(rt.alloc(), 0x10, b"password", b"somesalt", KNOWN) == 2);
 }
 
 #[test]
 fn tags_of_version_0x10(rt: HostRuntime) {
-    assert!(rt; right_rows(rt.alloc(), 0x10, ROWS) == 36);
+    assert!(rt; right_rows(rt.alloc(), 0x10, b"password", b"somesalt", ROWS) == 36);
 }

@@ -6,13 +6,13 @@ use super::near_misses::{
 };
 use super::reference_texts::{KNOWN, ROWS, ReferenceText};
 use super::refusing::Refusing;
-use super::version_0x10::SHORT;
+use super::version_0x10::{LOST, SHORT};
 use super::{is_written_as, joined};
 use argon_text::{Encoded, ReadFault, read_encoded_with_memory};
 use std::alloc::Global;
 
 // A fault by its number, and 0 where the text is read.
-fn number_of(read: Result<Encoded, ReadFault>) -> u8 {
+fn number_of(read: &Result<Encoded, ReadFault>) -> u8 {
     match read {
         Ok(_) => 0,
         Err(ReadFault::NotInGrammar) => 1,
@@ -24,20 +24,14 @@ fn number_of(read: Result<Encoded, ReadFault>) -> u8 {
 // The number of the answer to the parts of a text, one after another.
 fn answer_to(alloc: Global, parts: &[&[u8]]) -> u8 {
     match joined(alloc, parts) {
-        Ok(text) => number_of(Encoded::read(alloc, &text)),
+        Ok(text) => number_of(&Encoded::read(alloc, &text)),
         Err(_) => 3,
     }
 }
 
 // Whether a value is what its row says.
 fn is_value_of(encoded: &Encoded, row: &ReferenceText) -> bool {
-    encoded.kind == row.kind
-        && encoded.version == 0x13
-        && encoded.memory == row.memory
-        && encoded.passes == row.passes
-        && encoded.lanes == row.lanes
-        && encoded.salt.as_slice() == row.salt.as_bytes()
-        && encoded.tag.len() == row.tag_len
+    encoded.settings() == row.settings && encoded.salt.as_slice() == row.salt.as_bytes()
 }
 
 // Whether a text is read as its row says, and written again as it was.
@@ -49,35 +43,32 @@ fn is_read_and_written(alloc: Global, row: &ReferenceText) -> bool {
     }
 }
 
-// The first text of which that is not so.
-fn first_wrong(alloc: Global) -> Option<&'static str> {
+// Of how many texts, from the first on, that is so.
+fn right_texts(alloc: Global) -> u32 {
+    let mut right = 0u32;
     for row in &ROWS {
         if !is_read_and_written(alloc, row) {
-            return Some(row.text);
+            return right;
         }
+        right = right.wrapping_add(1);
     }
-    None
+    right
 }
 
 #[test]
 fn reads_and_writes_texts_of_the_reference_program(rt: HostRuntime) {
-    assert_eq!(rt; first_wrong(rt.alloc()), None);
+    assert!(rt; right_texts(rt.alloc()) == 6);
 }
 
-// The first of these that has another answer between two parts.
-fn first_wrong_between<'a>(
-    alloc: Global,
-    front: &str,
-    back: &str,
-    rows: &[(u8, &'a str)],
-) -> Option<&'a str> {
+// Whether each of these has its answer between two parts.
+fn are_right_between(alloc: Global, front: &str, back: &str, rows: &[(u8, &str)]) -> bool {
     for (expected, text) in rows {
         let found = answer_to(alloc, &[front.as_bytes(), text.as_bytes(), back.as_bytes()]);
         if found != *expected {
-            return Some(text);
+            return false;
         }
     }
-    None
+    true
 }
 
 // Texts near the known text that are not in the grammar (docs/FORMATS.md), one a line; the first
@@ -167,42 +158,37 @@ $argon2i$v=10$m=256,t=2,p=1$c29tZXNhbHQ$iekCn0Y3spW+sCcFanM2xBT63UP2sghkUoHLIUpW
 $argon2i$v=17$m=256,t=2,p=1$c29tZXNhbHQ$/U3YPXYsSb3q9XxHvc0MLxur+GP960kN9j7emXX8zwY\n\
 ";
 
-// The one that is read, as a text without a version.
-const READ: &[u8] =
-    b"$argon2i$m=256,t=2,p=1$c29tZXNhbHQ$iekCn0Y3spW+sCcFanM2xBT63UP2sghkUoHLIUpWRS8";
-
-// The first line of a table that has another answer.
-fn first_wrong_line(alloc: Global, table: &'static str, expected: u8) -> Option<&'static str> {
+// Whether each line of a table has this answer.
+fn are_lines(alloc: Global, table: &str, expected: u8) -> bool {
     for line in table.lines() {
         if answer_to(alloc, &[line.as_bytes()]) != expected {
-            return Some(line);
+            return false;
         }
     }
-    None
+    true
 }
 
-// The first line of these tables that is in the grammar.
-fn first_in_grammar(alloc: Global) -> Option<&'static str> {
+// Whether no line of these tables is in the grammar.
+fn are_not_in_grammar(alloc: Global) -> bool {
     for table in &NOT_IN_GRAMMAR {
-        let line = first_wrong_line(alloc, table, 1);
-        if line.is_some() {
-            return line;
+        if !are_lines(alloc, table, 1) {
+            return false;
         }
     }
-    None
+    true
 }
 
 // Whether a text with a line feed after it is not in the grammar, and the others have their
 // answers.
 fn are_others(alloc: Global) -> bool {
     answer_to(alloc, &[KNOWN, b"\n"]) == 1
-        && answer_to(alloc, &[READ]) == 0
-        && first_wrong_line(alloc, OUT_OF_RANGE, 2).is_none()
+        && answer_to(alloc, &[LOST]) == 0
+        && are_lines(alloc, OUT_OF_RANGE, 2)
 }
 
 #[test]
 fn changed_texts(rt: HostRuntime) {
-    assert!(rt; first_in_grammar(rt.alloc()).is_none() && are_others(rt.alloc()));
+    assert!(rt; are_not_in_grammar(rt.alloc()) && are_others(rt.alloc()));
 }
 
 // What becomes of a text at a place.
@@ -334,7 +320,7 @@ fn answer_to_many(alloc: Global, front: &str, byte: u8, count: usize, back: &str
 // Whether each of these has its answer between two parts, 1000 times the digit 1 is out of range,
 // and 1000 times 0 is not in the grammar.
 fn are_numbers(alloc: Global, front: &str, back: &str, rows: &[(u8, &'static str)]) -> bool {
-    first_wrong_between(alloc, front, back, rows).is_none()
+    are_right_between(alloc, front, back, rows)
         && answer_to_many(alloc, front, b'1', 1000, back) == 2
         && answer_to_many(alloc, front, b'0', 1000, back) == 1
 }
@@ -362,11 +348,6 @@ fn are_all_numbers(alloc: Global) -> bool {
         "$c29tZXNhbHQ$AAAAAA",
         &LANES,
     )
-}
-
-#[test]
-fn numbers_at_their_bounds_and_of_any_length(rt: HostRuntime) {
-    assert!(rt; are_all_numbers(rt.alloc()));
 }
 
 // So many symbols `A` stand for zeros: 10 for 7 bytes, 340 for 255, 5,462 for 4,096.
@@ -411,11 +392,6 @@ fn are_all_counts(alloc: Global) -> bool {
         && are_counts(alloc, "$argon2id$v=19$m=8,t=1,p=1$c29tZXNhbHQ$", "", &TAGS)
 }
 
-#[test]
-fn lengths_of_salt_and_tag_at_their_bounds(rt: HostRuntime) {
-    assert!(rt; are_all_counts(rt.alloc()));
-}
-
 // The answer to a text where both are at their longest.
 fn answer_to_longest(alloc: Global) -> u8 {
     match vec![in alloc; b'A'; 5462] {
@@ -428,8 +404,9 @@ fn answer_to_longest(alloc: Global) -> u8 {
 }
 
 #[test]
-fn longest_text(rt: HostRuntime) {
-    assert!(rt; answer_to_longest(rt.alloc()) == 0);
+fn numbers_and_lengths_at_their_bounds(rt: HostRuntime) {
+    let alloc = rt.alloc();
+    assert!(rt; are_all_numbers(alloc) && are_all_counts(alloc) && answer_to_longest(alloc) == 0);
 }
 
 // Whether a text has this answer where so many requests are granted, and so many of ten are not
@@ -440,7 +417,7 @@ fn is_answered_with(alloc: Global, left: u32, text: &[u8], answer: u8, unasked: 
         left,
         unasked: 10,
     };
-    number_of(read_encoded_with_memory(&mut source, text)) == answer && source.unasked == unasked
+    number_of(&read_encoded_with_memory(&mut source, text)) == answer && source.unasked == unasked
 }
 
 // Salt and tag are the two requests, and after one that is refused there is none. Before them no fault of a field costs

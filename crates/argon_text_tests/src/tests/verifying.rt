@@ -1,4 +1,5 @@
 //! Passwords against texts of the reference program, and the faults in their order.
+use super::is_written_as;
 use super::reference_texts::{KNOWN, ROWS};
 use super::refusing::Refusing;
 use argon::Ticks;
@@ -17,20 +18,33 @@ fn number_of(answer: Result<bool, VerifyFault>) -> u8 {
     }
 }
 
-// What stands for the answer where a text is not read.
+// What stands for the answer where a text is not read, or its value is written otherwise.
 const UNREAD: u8 = 255;
 
-/// The number of what `verify` answers for a value, with the heap and a counter of its own.
-pub fn tested(alloc: Global, value: &Encoded, password: &[u8], max_kib: u32, max_ops: u64) -> u8 {
+// The number of what `verify` answers for a value, with the heap and a counter of its own.
+fn tested(alloc: Global, value: &Encoded, password: &[u8], max_kib: u32, max_ops: u64) -> u8 {
     let (mut source, mut ticks) = (alloc, Ticks::new(alloc));
     let view = HashView::of(value);
     number_of(verify(&mut source, &view, password, max_kib, max_ops, &mut ticks))
 }
 
-// The same for a text.
-fn answered(alloc: Global, text: &[u8], password: &[u8], max_kib: u32, max_ops: u64) -> u8 {
+/// The same for a text whose value is written as `whole`.
+pub fn answered(
+    alloc: Global,
+    text: &[u8],
+    whole: &[u8],
+    password: &[u8],
+    max_kib: u32,
+    max_ops: u64,
+) -> u8 {
     match Encoded::read(alloc, text) {
-        Ok(value) => tested(alloc, &value, password, max_kib, max_ops),
+        Ok(value) => {
+            if is_written_as(alloc, &value, whole) {
+                tested(alloc, &value, password, max_kib, max_ops)
+            } else {
+                UNREAD
+            }
+        }
         Err(_) => UNREAD,
     }
 }
@@ -104,7 +118,7 @@ static ANSWERS: [Attempt; 9] = [
 fn are_answered(alloc: Global) -> bool {
     for row in &ANSWERS {
         let (password, max_kib, max_ops) = (row.password, row.max_kib, row.max_ops);
-        if answered(alloc, KNOWN, password, max_kib, max_ops) != row.expected {
+        if answered(alloc, KNOWN, KNOWN, password, max_kib, max_ops) != row.expected {
             return false;
         }
     }
@@ -116,29 +130,28 @@ fn answers_in_their_order(rt: HostRuntime) {
     assert!(rt; are_answered(rt.alloc()));
 }
 
-/// The number of the answer to a password of a text, by limits that are enough.
-pub fn answer(alloc: Global, text: &[u8], password: &str) -> u8 {
-    answered(alloc, text, password.as_bytes(), 256, 1000)
+/// Whether a text takes a password, and not another one, and its value is written as `whole`.
+pub fn takes(alloc: Global, text: &[u8], whole: &[u8], password: &str) -> bool {
+    answered(alloc, text, whole, password.as_bytes(), 256, 1000) == 1
+        && answered(alloc, text, whole, b"Password", 256, 1000) == 0
 }
 
-/// Whether a text takes a password, and not another one.
-pub fn takes(alloc: Global, text: &[u8], password: &str, another: &str) -> bool {
-    answer(alloc, text, password) == 1 && answer(alloc, text, another) == 0
-}
-
-// The first text that does not take its password alone.
-fn first_wrong_text(alloc: Global) -> Option<&'static str> {
+// How many texts, from the first on, take their password alone.
+fn right_texts(alloc: Global) -> u32 {
+    let mut right = 0u32;
     for row in &ROWS {
-        if !takes(alloc, row.text.as_bytes(), row.password, "another") {
-            return Some(row.text);
+        let text = row.text.as_bytes();
+        if !takes(alloc, text, text, row.password) {
+            return right;
         }
+        right = right.wrapping_add(1);
     }
-    None
+    right
 }
 
 #[test]
 fn passwords_of_the_reference_program(rt: HostRuntime) {
-    assert_eq!(rt; first_wrong_text(rt.alloc()), None);
+    assert!(rt; right_texts(rt.alloc()) == 6);
 }
 
 // The inputs of `verify_keyed` beside a text, and its limits.
@@ -238,7 +251,7 @@ fn is_answered(alloc: Global, row: &Secret) -> bool {
         secret: row.secret,
         associated: row.associated,
         max_kib: row.max_kib,
-        max_ops: 1 << 10,
+        max_ops: 1024,
     };
     answered_keyed(alloc, KEYED, &inputs) == row.expected
 }
@@ -292,8 +305,8 @@ static LENGTHS: [OfLength; 6] = [
     },
 ];
 
-// The numbers of what `verify_keyed` and `verify` answer to a password of a text.
-fn answered_by_both(alloc: Global, text: &str, password: &[u8]) -> (u8, u8) {
+// Whether `verify_keyed` and `verify` have these answers to a password of a text.
+fn are_answers(alloc: Global, text: &str, password: &[u8], keyed: u8, unkeyed: u8) -> bool {
     let inputs = Keyed {
         password,
         secret: &[],
@@ -302,17 +315,17 @@ fn answered_by_both(alloc: Global, text: &str, password: &[u8]) -> (u8, u8) {
         max_ops: 10,
     };
     let text = text.as_bytes();
-    (
-        answered_keyed(alloc, text, &inputs),
-        answered(alloc, text, password, 8, 10),
-    )
+    answered_keyed(alloc, text, &inputs) == keyed
+        && answered(alloc, text, text, password, 8, 10) == unkeyed
 }
 
-// Whether a password has these answers to its own text and to another's.
+// Whether a password fits its own text and not another's. `verify` refuses an empty and a long one.
 fn is_of_length(alloc: Global, password: &[u8], own: &str, other: &str) -> bool {
-    let is_short = 1 <= password.len() && password.len() <= 127;
-    answered_by_both(alloc, own, password) == (1, if is_short { 1 } else { 6 })
-        && answered_by_both(alloc, other, password) == (0, if is_short { 0 } else { 6 })
+    let (same, another) = match password.len() {
+        1..=127 => (1, 0),
+        _ => (6, 6),
+    };
+    are_answers(alloc, own, password, 1, same) && are_answers(alloc, other, password, 0, another)
 }
 
 // Whether the password of a length has them.
@@ -346,7 +359,7 @@ fn answer_to_changed(alloc: Global, place: usize) -> u8 {
     if let Some(byte) = text.get_mut(place) {
         *byte = b'A';
     }
-    answer(alloc, &text, "password")
+    answered(alloc, &text, &text, b"password", 256, 526)
 }
 
 // A tag with one byte changed is another tag, whichever byte it is.
@@ -486,18 +499,20 @@ static LOGINS: [Login; 10] = [
     },
 ];
 
-// The first stored text for which a password has another answer.
-fn first_wrong_login(alloc: Global) -> Option<&'static str> {
+// For how many stored texts, from the first on, the password has its answer.
+fn right_logins(alloc: Global) -> u32 {
+    let mut right = 0u32;
     for row in &LOGINS {
         let found = may_enter(alloc, row.stored.as_bytes(), row.password.as_bytes());
         if number_of(found) != row.expected {
-            return Some(row.stored);
+            return right;
         }
+        right = right.wrapping_add(1);
     }
-    None
+    right
 }
 
 #[test]
 fn a_login(rt: HostRuntime) {
-    assert_eq!(rt; first_wrong_login(rt.alloc()), None);
+    assert!(rt; right_logins(rt.alloc()) == 10);
 }

@@ -1,10 +1,6 @@
 //! Texts of version 0x10, with the version and without it.
-use super::other_programs::is_read_as;
-use super::reference_texts::KNOWN;
-use super::verifying::{answer, takes};
-use super::{is_written_as, joined};
-use argon::Kind;
-use argon_text::Encoded;
+use super::joined;
+use super::verifying::{answered, takes};
 use std::alloc::Global;
 
 /// What `printf password | argon2 somesalt -t 2 -m 8 -v 10 -e` of the reference program writes, as it
@@ -12,112 +8,93 @@ use std::alloc::Global;
 pub const SHORT: &[u8] =
     b"$argon2i$m=256,t=2,p=1$c29tZXNhbHQ$/U3YPXYsSb3q9XxHvc0MLxur+GP960kN9j7emXX8zwY";
 
-// Texts of the reference program, as Debian packs it (argon2 0~20171227), their passwords being
-// `password`. Each stands in two parts, between which the version may stand; the words are beside.
-struct VersionlessText {
-    kind: Kind,
-    name: &'static str,
-    rest: &'static str,
+/// A text of version 0x10 in two parts, between which the version may stand, and its password.
+pub struct VersionlessText {
+    pub name: &'static str,
+    pub rest: &'static str,
+    pub password: &'static str,
 }
 
+// Texts of the reference program, as Debian packs it (argon2 0~20171227); the words are beside.
 static ROWS: [VersionlessText; 6] = [
     // somesalt -t 2 -m 8 -v 10 -e
     VersionlessText {
-        kind: Kind::I,
         name: "$argon2i",
         rest: "$m=256,t=2,p=1$c29tZXNhbHQ$/U3YPXYsSb3q9XxHvc0MLxur+GP960kN9j7emXX8zwY",
+        password: "password",
     },
     // somesalt -d -t 1 -k 8 -l 4 -v 10 -e
     VersionlessText {
-        kind: Kind::D,
         name: "$argon2d",
         rest: "$m=8,t=1,p=1$c29tZXNhbHQ$lnZLpg",
+        password: "password",
     },
     // saltsalt9 -i -t 2 -k 16 -p 2 -l 5 -v 10 -e
     VersionlessText {
-        kind: Kind::I,
         name: "$argon2i",
         rest: "$m=16,t=2,p=2$c2FsdHNhbHQ5$ScXHvOA",
+        password: "password",
     },
     // 0123456789 -id -t 3 -k 64 -p 4 -l 6 -v 10 -e
     VersionlessText {
-        kind: Kind::Id,
         name: "$argon2id",
         rest: "$m=64,t=3,p=4$MDEyMzQ1Njc4OQ$l0s3pn7A",
+        password: "password",
     },
     // somesalt -i -t 3 -k 37 -p 3 -l 16 -v 10 -e
     VersionlessText {
-        kind: Kind::I,
         name: "$argon2i",
         rest: "$m=37,t=3,p=3$c29tZXNhbHQ$3YWS19VWaem1d5Y3iB7IJA",
+        password: "password",
     },
     // somesalt -d -t 2 -k 40 -v 10 -e
     VersionlessText {
-        kind: Kind::D,
         name: "$argon2d",
         rest: "$m=40,t=2,p=1$c29tZXNhbHQ$/pFMcWoVk6sy4PzdA9MUM8XoaRr5a93xkqdxMenijTY",
+        password: "password",
     },
 ];
 
-// Whether a text is read as version 0x10 of its type, and written as this one.
-fn is_read_and_written(alloc: Global, text: &[u8], kind: Kind, whole: &[u8]) -> bool {
-    match Encoded::read(alloc, text) {
-        Ok(value) => {
-            value.kind == kind && value.version == 0x10 && is_written_as(alloc, &value, whole)
-        }
-        Err(_) => false,
-    }
-}
-
-// Whether that is so, and it fits its password alone.
-fn is_text_of(alloc: Global, text: &[u8], kind: Kind, whole: &[u8]) -> bool {
-    is_read_and_written(alloc, text, kind, whole) && takes(alloc, text, "password", "Password")
-}
-
-// Whether the text without a version is one of the same value.
-fn is_short_of(alloc: Global, row: &VersionlessText, whole: &[u8]) -> bool {
-    match joined(alloc, &[row.name.as_bytes(), row.rest.as_bytes()]) {
-        Ok(short) => is_text_of(alloc, &short, row.kind, whole),
-        Err(_) => false,
-    }
-}
-
-// Whether both texts of a row are read as one value, which is written with its version.
+// Whether both texts of a row are read as one value, which is written with its version and fits its password alone.
 fn are_one(alloc: Global, row: &VersionlessText) -> bool {
-    match joined(alloc, &[row.name.as_bytes(), b"$v=16", row.rest.as_bytes()]) {
-        Ok(whole) => {
-            is_text_of(alloc, &whole, row.kind, &whole) && is_short_of(alloc, row, &whole)
+    let (name, rest) = (row.name.as_bytes(), row.rest.as_bytes());
+    let short = joined(alloc, &[name, rest]);
+    let whole = joined(alloc, &[name, b"$v=16", rest]);
+    match (short, whole) {
+        (Ok(short), Ok(whole)) => {
+            takes(alloc, &short, &whole, row.password) && takes(alloc, &whole, &whole, row.password)
         }
-        Err(_) => false,
+        _ => false,
     }
 }
 
-// The rest of the first row of which that is not so.
-fn first_wrong(alloc: Global) -> Option<&'static str> {
-    for row in &ROWS {
+/// Of how many rows, from the first on, that is so.
+pub fn right_pairs(alloc: Global, rows: &[VersionlessText]) -> u32 {
+    let mut right = 0u32;
+    for row in rows {
         if !are_one(alloc, row) {
-            return Some(row.rest);
+            return right;
         }
+        right = right.wrapping_add(1);
     }
-    None
+    right
 }
 
 #[test]
 fn reads_both_texts_and_writes_one(rt: HostRuntime) {
-    assert_eq!(rt; first_wrong(rt.alloc()), None);
+    assert!(rt; right_pairs(rt.alloc(), &ROWS) == 6);
 }
 
-// A text of version 0x13 that lost its version is a text of version 0x10, and its tag is another.
-fn is_lost(alloc: Global) -> bool {
-    match joined(alloc, &[&KNOWN[..8], &KNOWN[13..]]) {
-        Ok(text) => {
-            is_read_as(alloc, &text, Kind::I, 0x10) && answer(alloc, &text, "password") == 0
-        }
-        Err(_) => false,
-    }
-}
+/// The known text, which lost its version.
+pub const LOST: &[u8] =
+    b"$argon2i$m=256,t=2,p=1$c29tZXNhbHQ$iekCn0Y3spW+sCcFanM2xBT63UP2sghkUoHLIUpWRS8";
 
+// What its value is written as.
+const LOST_WRITTEN: &[u8] =
+    b"$argon2i$v=16$m=256,t=2,p=1$c29tZXNhbHQ$iekCn0Y3spW+sCcFanM2xBT63UP2sghkUoHLIUpWRS8";
+
+// It is a text of version 0x10, and its tag is another.
 #[test]
 fn text_that_lost_its_version(rt: HostRuntime) {
-    assert!(rt; is_lost(rt.alloc()));
+    assert!(rt; answered(rt.alloc(), LOST, LOST_WRITTEN, b"password", 256, 526) == 0);
 }

@@ -1,28 +1,39 @@
 //! The file of `hello` in each damaged form, in pieces of 1 byte, of 31, and whole: cut to each length,
 //! with each bit changed, and with zero bytes added.
-use super::{HELLO_FILE, Outcome, comes_to, outcome_of};
+use super::{HELLO_FILE, Outcome, outcome_of};
 use encfile::HeaderFault;
-use std::alloc::{AllocError, Global};
+use std::alloc::Global;
 
 // Sizes of pieces; the last is more than any file here has.
 const PIECES: &[usize] = &[1, 31, 300];
 
-const HELLO: &[u8] = b"hello";
+// What is released of the file with 100 zero bytes more, by Python's `hashlib.scrypt` and `openssl enc -d
+// -aes-256-ctr`: it begins with `hello`.
+const TEXT_OF_LONGER: &[u8; 105] = &[
+    0x68, 0x65, 0x6c, 0x6c, 0x6f, 0x09, 0x74, 0xc4, 0x76, 0xa1, 0xca, 0xc1, 0x03, 0xd8, 0xd0, 0xa4,
+    0x42, 0xf6, 0xb5, 0x46, 0x3f, 0x97, 0x08, 0xb7, 0x07, 0x59, 0x32, 0x09, 0xc5, 0xbc, 0x55, 0xe9,
+    0x0f, 0xd9, 0xf6, 0xf3, 0x00, 0x2c, 0xb7, 0xfd, 0xe6, 0x9f, 0x92, 0x98, 0x98, 0x9b, 0x99, 0xa1,
+    0xbc, 0x6e, 0xf3, 0xed, 0xcb, 0xe6, 0xb1, 0x0d, 0x0a, 0x23, 0x56, 0xf4, 0x36, 0x45, 0x77, 0x48,
+    0xb2, 0x2e, 0xfa, 0x39, 0x7a, 0x19, 0x7f, 0x45, 0x8c, 0xfd, 0xab, 0x35, 0xea, 0xdd, 0x1c, 0xa6,
+    0x80, 0xdc, 0x6c, 0x8f, 0x6e, 0xa6, 0xe5, 0x14, 0xa9, 0x0e, 0x4a, 0xc0, 0x73, 0xb4, 0x6a, 0x77,
+    0x5c, 0x4c, 0x3f, 0xee, 0x25, 0x93, 0xd6, 0x2a, 0x98,
+];
 
-// How many bytes of `hello` come out of a file that is cut, and the outcome.
-fn of_length(len: usize) -> (&'static [u8], Outcome) {
+// The outcome of a file that is cut.
+fn of_length(len: usize) -> Outcome {
     match len {
-        0..=95 => (b"", Outcome::NoFront),
-        96..=127 => (b"", Outcome::Damaged),
-        128..=132 => (&HELLO[..len - 128], Outcome::Damaged),
-        _ => (HELLO, Outcome::Whole),
+        0..=95 => Outcome::NoFront,
+        96..=132 => Outcome::Damaged,
+        _ => Outcome::Whole,
     }
 }
 
-// The first length to which it is cut and does not come to that, in pieces of this size.
+// The first length to which it is cut and has not that outcome, or does not release all but the last 32 bytes of its
+// text, in pieces of this size.
 fn first_wrong_length(alloc: Global, size: usize) -> Option<usize> {
     for len in 0..=HELLO_FILE.len() {
-        if !comes_to(alloc, &HELLO_FILE[..len], b"pw", size, 1, of_length(len)) {
+        let text = &TEXT_OF_LONGER[..len.saturating_sub(128)];
+        if outcome_of(alloc, &HELLO_FILE[..len], b"pw", size, 1, text) != of_length(len) {
             return Some(len);
         }
     }
@@ -47,37 +58,16 @@ fn of_changed(place: usize) -> Outcome {
     }
 }
 
-// A text with the bits of a byte changed, if it has that byte.
-fn changed(alloc: Global, text: &[u8], place: usize, bits: u8) -> Result<Vec<u8>, AllocError> {
-    let mut text = text.to_vec(alloc)?;
-    if let Some(byte) = text.get_mut(place) {
+// Whether a file with these bits of a byte changed has that outcome, and releases the text with the same bits changed.
+fn is_damage(alloc: Global, place: usize, bits: u8, size: usize) -> bool {
+    let (mut file, mut text) = (*HELLO_FILE, *b"hello");
+    if let Some(byte) = file.get_mut(place) {
         *byte ^= bits;
     }
-    Ok(text)
-}
-
-// The text that is released where a byte of the file is changed: the same bits are changed.
-fn released(alloc: Global, place: usize, bits: u8) -> Result<Vec<u8>, AllocError> {
-    match place {
-        0..=95 => Ok(Vec::new(alloc)),
-        _ => changed(alloc, HELLO, place - 96, bits),
+    if let Some(byte) = text.get_mut(place.wrapping_sub(96)) {
+        *byte ^= bits;
     }
-}
-
-// Whether this comes of a file with these bits of a byte changed.
-fn is_noticed(alloc: Global, place: usize, bits: u8, size: usize, text: &[u8]) -> bool {
-    match changed(alloc, HELLO_FILE, place, bits) {
-        Ok(file) => comes_to(alloc, &file, b"pw", size, 1, (text, of_changed(place))),
-        Err(_) => false,
-    }
-}
-
-// Whether a file with these bits of a byte changed has its outcome.
-fn is_damage(alloc: Global, place: usize, bits: u8, size: usize) -> bool {
-    match released(alloc, place, bits) {
-        Ok(text) => is_noticed(alloc, place, bits, size, &text),
-        Err(_) => false,
-    }
+    outcome_of(alloc, &file, b"pw", size, 1, &text) == of_changed(place)
 }
 
 // The first byte and its bit of which that is not so, in pieces of this size.
@@ -99,29 +89,15 @@ fn file_with_each_bit_changed(rt: HostRuntime) {
     }
 }
 
-// A file with this many zero bytes more.
-fn longer(alloc: Global, added: usize) -> Result<Vec<u8>, AllocError> {
-    let mut file = HELLO_FILE.to_vec(alloc)?;
-    for _ in 0..added {
-        file.push(0)?;
-    }
-    Ok(file)
-}
-
-// Whether a file with this many bytes more releases `hello` and as many bytes more.
-fn is_longer(alloc: Global, file: &[u8], added: usize, size: usize) -> bool {
-    let mut text = Vec::new(alloc);
-    outcome_of(alloc, file, b"pw", size, 1, &mut text) == Outcome::Damaged
-        && text.len().checked_sub(5) == Some(added)
-        && text.starts_with(HELLO)
-}
-
-// The first count of zero bytes of which that is not so, in pieces of this size.
+// The first count of zero bytes with which a file does not release `hello` and as many bytes more, in pieces of this
+// size.
 fn first_wrong_count(alloc: Global, size: usize) -> Option<usize> {
+    let mut file = [0u8; 233];
+    file[..133].copy_from_slice(HELLO_FILE);
     for added in 1..=100usize {
-        match longer(alloc, added) {
-            Ok(file) if is_longer(alloc, &file, added, size) => {}
-            _ => return Some(added),
+        let text = &TEXT_OF_LONGER[..5 + added];
+        if outcome_of(alloc, &file[..133 + added], b"pw", size, 1, text) != Outcome::Damaged {
+            return Some(added);
         }
     }
     None

@@ -59,7 +59,7 @@ impl GrowthMemory for Refusing {
 }
 
 // A call for which a host in memory grows.
-#[derive(Clone, Copy, Debug, PartialEq, Eq)]
+#[derive(Clone, Copy)]
 enum Call {
     SetVariable,
     SetFile,
@@ -67,11 +67,6 @@ enum Call {
     OpenOutput,
     Push,
     Say,
-}
-
-// The name `pw`, and the bytes of a secret.
-fn secret(alloc: Global) -> (String, Vec<u8>) {
-    (text(alloc, "pw"), list(alloc, b"secret"))
 }
 
 // Whether a call of a host is done, with this growth.
@@ -83,11 +78,11 @@ fn is_done(host: &mut MemoryHost, growth: &mut Refusing, call: Call) -> bool
 {
     match call {
         Call::SetVariable => {
-            let (name, bytes) = secret(growth.alloc);
+            let (name, bytes) = (text(growth.alloc, "pw"), list(growth.alloc, b"secret"));
             host.set_env_with_memory(growth, name, bytes).is_ok()
         }
         Call::SetFile => {
-            let (name, bytes) = secret(growth.alloc);
+            let (name, bytes) = (text(growth.alloc, "pw"), list(growth.alloc, b"secret"));
             host.set_file_with_memory(growth, name, bytes).is_ok()
         }
         Call::OpenInput => host.open_input_with_memory(growth, Some("in")).is_ok(),
@@ -112,15 +107,8 @@ fn is_seen(host: &mut MemoryHost, call: Call) -> bool
     }
 }
 
-// What a new host tells of the call after it, whether it answered, and how often it asked.
-#[derive(Clone, Copy, PartialEq, Eq)]
-struct Told {
-    is_done: bool,
-    is_seen: bool,
-    asked: u32,
-}
-
-fn told_of(alloc: Global, call: Call, refused: u32) -> Told {
+// Whether a new host does a call where this growth is refused, tells of it so, and asks so often.
+fn does(alloc: Global, call: Call, refused: u32, is_granted: bool, asked: u32) -> bool {
     let mut growth = Refusing {
         alloc,
         asked: 0,
@@ -130,43 +118,31 @@ fn told_of(alloc: Global, call: Call, refused: u32) -> Told {
     let is_done = is_done(&mut host, &mut growth, call);
     let is_seen = is_seen(&mut host, call);
     drop(host);
-    Told {
-        is_done,
-        is_seen,
-        asked: growth.asked,
-    }
+    is_done == is_granted && is_seen == is_granted && growth.asked == asked
 }
 
-// The calls, and how many growths each takes.
-static CALLS: [(Call, u32); 6] = [
-    (Call::SetVariable, 1),
-    (Call::SetFile, 1),
-    (Call::OpenInput, 1),
-    (Call::OpenOutput, 1),
-    (Call::Push, 1),
-    (Call::Say, 2),
+// The calls, which growth of each is refused, whether it is done, and how many growths it asked for: a line takes two, any
+// other call one.
+static ROWS: [(Call, u32, bool, u32); 13] = [
+    (Call::SetVariable, 1, false, 1),
+    (Call::SetVariable, 2, true, 1),
+    (Call::SetFile, 1, false, 1),
+    (Call::SetFile, 2, true, 1),
+    (Call::OpenInput, 1, false, 1),
+    (Call::OpenInput, 2, true, 1),
+    (Call::OpenOutput, 1, false, 1),
+    (Call::OpenOutput, 2, true, 1),
+    (Call::Push, 1, false, 1),
+    (Call::Push, 2, true, 1),
+    (Call::Say, 1, false, 1),
+    (Call::Say, 2, false, 2),
+    (Call::Say, 3, true, 2),
 ];
 
-// Whether this call is refused so where this growth is.
-fn is_refused(alloc: Global, call: Call, growths: u32, refused: u32) -> bool {
-    let is_granted = refused > growths;
-    let expected = Told {
-        is_done: is_granted,
-        is_seen: is_granted,
-        asked: refused.min(growths),
-    };
-    told_of(alloc, call, refused) == expected
-}
-
-// A call whose growth is refused tells so and changes nothing: a line takes two, any other call one.
+// A call whose growth is refused tells so and changes nothing.
 #[test]
 fn each_growth_is_refused(rt: HostRuntime) {
-    for (call, growths) in &CALLS {
-        for refused in 1..=growths.saturating_add(1) {
-            assert!(rt;
-                is_refused(rt.alloc(), *call, *growths, refused),
-                "{call:?}, {refused}"
-            );
-        }
+    for (call, refused, is_granted, asked) in &ROWS {
+        assert!(rt; does(rt.alloc(), *call, *refused, *is_granted, *asked));
     }
 }
