@@ -3,6 +3,9 @@
 # seconds by the clock and of the processors, which bin/gate.tsv keeps. After one has failed, none begins.
 SHELL := /bin/bash
 LEVELS := x86-64-v2
+# Where processors are idle, rt shares a check among processes, and each of them loads the libraries: a fifth of all time. So
+# each check gets one, and as many run side by side as processors and memory allow.
+export RT_JOBS := $(shell cd packaging && python3 -B -c 'import prove; print(prove.places())')
 step = @{ t=$$({ TIMEFORMAT='%0R %0U %0S'; time $(1) >&3 2>&4; } 2>&1); r=$$?; } 3>&1 4>&2; set -- $$t; \
 	said="$$1"$$'\t'"$$(($$2 + $$3))"$$'\t'"$(1)"; echo "== $$said"; echo "$$said" >>bin/gate.tsv; exit $$r
 outside := $(foreach it,$(LEVELS),$(if $(filter x86-64-v2,$(it))$(wildcard bin/$(it)/scrypt),outside-$(it)))
