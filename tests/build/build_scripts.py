@@ -25,6 +25,8 @@ from first_run import LEVEL, PROGRAMS, STAND_IN, TOP, Tree
 from library_texts import HEADER, prototypes, ran
 
 OTHER = "x86-64-v3"
+# The programs and the library, over a crate each.
+CRATES = "host:\nblake:\nargon_tool: host\nscrypt_tool: host\npikhsen_c staticlib: blake\n"
 OTHERS = [f"bin/{OTHER}/argon2", f"bin/{OTHER}/scrypt"]
 HIGHER = f"glibc-hwcaps/{OTHER}/libpikhsen.so.0"
 LIBRARIES = ["bin/lib/libpikhsen.a", "bin/lib/libpikhsen.so.0", f"bin/lib/{HIGHER}"]
@@ -63,7 +65,7 @@ class Room(Tree):
     """A copy of the tree in which rt lies in a kit, as lib.sh looks for it, with both static libraries in C."""
 
     def __init__(self, folder):
-        super().__init__(folder)
+        super().__init__(folder, CRATES)
         self.kit, self.folder = pathlib.Path(folder, "kit"), pathlib.Path(folder)
         (self.kit / "bin").mkdir(parents=True)
         shutil.move(f"{folder}/rt", self.kit / "bin/rt")
@@ -116,7 +118,7 @@ class Room(Tree):
 def programs_are_built(checks, room, level):
     """The programs are those that rt built for the level, and all can run them; a change during the proof is newer."""
     before, here = time.time(), room.there(["bin/level"]) and room.texts(*PROGRAMS[:2])
-    room.write("tools", f"for {level}\n")
+    room.write("host", f"for {level}\n")
     status, _ = room.run("packaging/build.sh", level, umask=0o077)
     built = [f"bin/{level}/argon2", f"bin/{level}/scrypt"]
     checks.that(f"build.sh {level}", (status, room.modes(built)), (0, ["0o755", "0o755"]))

@@ -79,15 +79,16 @@ sys.exit(words[0] == "run")
 
 
 class Tree:
-    """A copy of the tree with one line of text in each crate."""
+    """A copy of the tree with one line of text in each of these crates."""
 
-    def __init__(self, folder):
+    def __init__(self, folder, crates):
         self.top, self.journal = pathlib.Path(folder, "tree"), pathlib.Path(folder, "journal")
         self.top.mkdir()
-        for name in ("Makefile", "crates.txt", "VERSION"):
+        for name in ("Makefile", "VERSION"):
             shutil.copy(TOP / name, self.top)
+        (self.top / "crates.txt").write_text(crates, encoding="utf-8")
         shutil.copytree(TOP / "packaging", self.top / "packaging", ignore=shutil.ignore_patterns("__pycache__"))
-        for name in prove.listed():
+        for name in re.findall(r"^\w+", crates, re.MULTILINE):
             (self.top / "crates" / name / "src").mkdir(parents=True)
             self.write(name, "as it was\n")
         (self.top / "crates/argon_tool/args").write_text("somesalt\n-e\n")
@@ -272,7 +273,7 @@ def checks_what_changed(checks, tree):
 
 def main(checks, folder):
     shares(checks)
-    tree = Tree(folder)
+    tree = Tree(folder, (TOP / "crates.txt").read_text(encoding="utf-8"))
     for test in (succeeds, fails, is_stopped, checks_what_changed):
         test(checks, tree)
 
