@@ -3,10 +3,10 @@
 
     tests/build/changed.py [COMMIT]
 
-What differs from the commit (HEAD), files that are not committed too, names the crates that changed. Each of them is
-proved and tested, also where its tests stand apart, in CRATE_tests, and each crate that stands on one of them is proved,
-side by side, as packaging/prove.py does it. No wrong body or definition is tried; that the text which each replaces
-stands in its file once is checked.
+What differs from the commit (HEAD), files that are not committed too, names the crates that changed. They are proved, with
+each crate that stands on one of them, and their own tests, in CRATE_tests, are proved and run: side by side, as
+packaging/prove.py does it. No wrong body or definition is tried; that the text which each replaces stands in its file
+once is checked.
 """
 import pathlib
 import subprocess
@@ -17,14 +17,14 @@ sys.path.insert(0, str(TOP / "packaging"))
 sys.dont_write_bytecode = True
 import prove  # noqa: E402
 
-APART = "_tests"  # how the crate is called that has a crate's tests, if they stand apart
+TESTS = "_tests"  # how the name of the crate ends that has a crate's tests
 
 
 def steps_for(touched, tested):
     """The steps that prove the crates that are touched, with what they and the tests stand on, and run these tests."""
     uses = prove.uses_of()
     below = [it for name in tested for it in uses[name]]
-    tests = [prove.Step(f"{name}-tests", name, ["test"], [*uses[name], *{name} & {*touched}]) for name in tested]
+    tests = [prove.Step(f"{name}-tests", name, ["test"], uses[name]) for name in tested]
     return prove.steps_for([*touched, *below]) + tests
 
 
@@ -36,10 +36,9 @@ def main():
     inside = [parts for parts in paths if parts[0] == "crates" and len(parts) > 2]
     named = {name for _, name, part, *_ in inside if part not in ("wrong-bodies", "wrong-definitions")}
     uses = prove.uses_of()
-    changed = [name for name in uses if name in named]
-    touched = [name for name in uses if named & {name, *uses[name]} and not name.endswith(APART)]
-    tested = list(dict.fromkeys(name + APART if name + APART in uses else name for name in changed))
-    if changed:
+    touched = [name for name in uses if named & {name, *uses[name]} and not name.endswith(TESTS)]
+    tested = [name for name in uses if name.endswith(TESTS) and named & {name, name.removesuffix(TESTS)}]
+    if touched or tested:
         steps = steps_for(touched, tested)
         prove.say(f"{len(touched)} crates to prove, changed since {base} or above one that is: {', '.join(touched)}.")
         prove.say(f"{len(tested)} to test: {', '.join(tested)}. With what all of these stand on, {len(steps)} steps:")

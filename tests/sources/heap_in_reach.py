@@ -8,8 +8,8 @@ of a list, has its row in tests/sources/heap_in_reach.tsv with a sum of its body
 on, once, and does nothing else with it. White space and comments do not count, and these words stand nowhere else,
 except in `use` lines. A list keeps its allocator, and can grow: so where a password is tested, in argon_text, each
 function with a list (a `Vec`, a `String`, an `Encoded`) in its head has its row there, too. A file that is compared
-whole, as each of system_calls, has one row for all that is in it. Left out are tests, and the host and the system in
-memory, which no program uses.
+whole, as each of system_calls, has one row for all that is in it. Left out are the crates of tests, and the host and
+the system in memory, which no program uses.
 
     tests/sources/heap_in_reach.py          fails if a sum differs, a row is missing, or the heap is named elsewhere
     tests/sources/heap_in_reach.py --told   prints the rows as they are now: read what they are of before you copy them
@@ -26,9 +26,7 @@ from uncommented import without_comments
 
 # Files that have no part in a program.
 OTHERS = {"memory_host/src/growth_memory.rt", "memory_host/src/memory.rt", "memory_system/src/system.rt"}
-TEST_MODULE = re.compile(r"(?:pub(?:\([^)]*\))? )?mod (?:tests|fixtures|refusing)\b")
-TEST_MODULE_ANYWHERE = re.compile(r"\bmod\s+(?:tests|fixtures|refusing)\b")
-TESTS = re.compile(r"(^|/)(tests|fixtures|refusing)(/|\.rt$)")
+TESTS = re.compile(r"crates/\w+_tests/")
 HEAP = re.compile(r"\b(Global|Allocator|AllocGlobal|allocator)\b")
 LIST = re.compile(r"\b(Vec|String|Encoded)\b")
 READ = TOP / "tests/sources/heap_in_reach.tsv"
@@ -40,12 +38,7 @@ def functions_of(path):
     crate = path.relative_to(TOP / "crates").parts[0]
     file = str(path.relative_to(TOP / "crates" / crate))
     lines, found = without_comments(path.read_text(encoding="utf-8")), {}
-    tests = [at for at, line in enumerate(lines) if TEST_MODULE.match(line) and lines[at - 1] == "#[cfg(test)]"]
-    for at in reversed(tests):
-        del lines[at:lines.index("}", at) + 1 if lines[at].endswith("{") else at + 1]
     others = [line for line in lines if HEAP.search(line) and not re.fullmatch(r"use [^;]*;?", line)]
-    # this script and tests/sources/sources.sh would not look at what is in such a module, or behind such a head
-    others += TEST_MODULE_ANYWHERE.findall("\n".join(lines))
     others += [line for line in lines if re.search(r"\bfn +\w|\bfn$", line) and not FUNCTION.match(line)]
     for start, head in enumerate(map(FUNCTION.match, lines)):
         if not head:
@@ -87,7 +80,7 @@ def read_all(whole):
     sums, others = {it: sum_of_file(it) for it in whole}, []
     for path in sorted((TOP / "crates").glob("*/src/**/*.rt")):
         name = str(path.relative_to(TOP))
-        if name not in whole and name.removeprefix("crates/") not in OTHERS and not TESTS.search(name):
+        if name not in whole and name.removeprefix("crates/") not in OTHERS and not TESTS.match(name):
             functions, lines = functions_of(path)
             sums.update({it: sum_of(body) for it, body in functions.items()})
             others += [f"{name}: {line.strip()}" for line in lines]

@@ -23,7 +23,7 @@ code=$(mktemp -d)
 trap 'rm -rf "$code"' EXIT
 one_form='s/  +/ /g; s/ ?([^A-Za-z0-9_ ]) ?/\1/g; s/,([])}])/\1/g
     :types; s/::<([^<>()]|<[^<>()]*>)*>//; ttypes; :paths; s/<([A-Za-z0-9_:]+)>::/\1::/; tpaths'
-files=$(find crates -name out -prune -o -name tests -prune -o -name '*.rt' ! -name tests.rt -print)
+files=$(find crates -name out -prune -o -regex 'crates/\w+_tests/src/tests\(\.rt\)?' -prune -o -name '*.rt' -print)
 strings=$(tests/sources/uncommented.py "$code" $files) || fail "$strings"
 find "$code" -name '*.rt' -exec sed -s -i -E "$one_form" {} +
 # The files of this code below a folder that have this text, each as often as it has it.
@@ -38,11 +38,10 @@ refuse macro_rules "a macro may make code of what the searches take for text"
 refuse '#\[path|\binclude(_str|_bytes)?!' "a file is read under a name that is not its own"
 refuse '\br#[A-Za-z_]' "a raw name is not found by its name"
 # What reads sources and definitions by their lines, for pages, edits and the searches below, sees what the prover sees:
-# no comment goes over lines, and a module is a file, but for tests. (tests/pages/definitions_told.py --check looks at specs/ by lines.)
+# no comment goes over lines, and a module is a file. (tests/pages/definitions_told.py --check looks at specs/ by lines.)
 found=$(find crates -name out -prune -o \( -name '*.rt' -o -name '*.antt' \) -exec grep -nE '/\*|\{-' /dev/null {} + || :)
 test -z "$found" || fail "a comment may hide lines, or show some that are none: $found"
-! found=$(cd "$code" && grep -roHE '(#\[cfg\(test\)\])?[a-z()]*\s?\bmod \w+\{' crates | grep -vF ':#[cfg(test)]mod tests{') ||
-    fail "a module stands inside a file: $found"
+refuse '[a-z()]*\s?\bmod \w+\{' "a module stands inside a file"
 refuse '\b(Matrix|Hash|Run|Decode|Text|Call)Memory::[a-z_]+\(|\bMatrix::(start|hash)\(' "a call by its path is not counted"
 begins='(^|[];{}])(pub |pub\([^)]*\))?'
 refuse "${begins}use [^;]* as _*[A-Za-z0-9]" "a name stands for a different one: calls by it are not counted"
