@@ -39,6 +39,7 @@ def functions_of(path):
     file = str(path.relative_to(TOP / "crates" / crate))
     lines, found = without_comments(path.read_text(encoding="utf-8")), {}
     others = [line for line in lines if HEAP.search(line) and not re.fullmatch(r"use [^;]*;?", line)]
+    # what stands after such a head would not be looked at
     others += [line for line in lines if re.search(r"\bfn +\w|\bfn$", line) and not FUNCTION.match(line)]
     for start, head in enumerate(map(FUNCTION.match, lines)):
         if not head:
