@@ -27,6 +27,7 @@ from uncommented import without_comments
 # Files that have no part in a program.
 OTHERS = {"memory_host/src/growth_memory.rt", "memory_host/src/memory.rt", "memory_system/src/system.rt"}
 TESTS = re.compile(r"crates/\w+_tests/")
+TEST_MODULE = re.compile(r"\bmod\s+(?:tests|testing|fixtures|refusing)\b")
 HEAP = re.compile(r"\b(Global|Allocator|AllocGlobal|allocator)\b")
 LIST = re.compile(r"\b(Vec|String|Encoded)\b")
 READ = TOP / "tests/sources/heap_in_reach.tsv"
@@ -39,6 +40,8 @@ def functions_of(path):
     file = str(path.relative_to(TOP / "crates" / crate))
     lines, found = without_comments(path.read_text(encoding="utf-8")), {}
     others = [line for line in lines if HEAP.search(line) and not re.fullmatch(r"use [^;]*;?", line)]
+    # pages do not read a file of such a name: tests stand in crates of their own
+    others += TEST_MODULE.findall("\n".join(lines))
     # what stands after such a head would not be looked at
     others += [line for line in lines if re.search(r"\bfn +\w|\bfn$", line) and not FUNCTION.match(line)]
     for start, head in enumerate(map(FUNCTION.match, lines)):
