@@ -13,7 +13,6 @@ import sys
 import prove
 
 TOP = prove.TOP
-TESTS = {"tests", "tests.rt", "vectors.rt", "testing.rt", "fixtures.rt", "memory_tests.rt"}
 ITEM = re.compile(r'( {4})?(pub )?(?:const )?(?:extern "C" )?(fn|struct|enum|trait|const|static) (\w+)')
 BLOCK = re.compile(r"(?:pub )?(impl|trait)\b(?:<[^>]*>)? ?(.*?)(\w+)(?:<[^{]*>)? *(?:where.*)?\{?$")
 CLAUSE = re.compile(r"\s+(requires|ensures)\*? (\w+) \{")
@@ -26,8 +25,7 @@ Item = collections.namedtuple("Item", "name comment signature clauses")
 
 
 def sources(crate):
-    base = TOP / "crates" / crate / "src"
-    return [it for it in sorted(base.rglob("*.rt")) if not TESTS & {*it.relative_to(base).parts}]
+    return sorted((TOP / "crates" / crate / "src").rglob("*.rt"))
 
 
 def root_of(crate):

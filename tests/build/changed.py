@@ -4,9 +4,8 @@
     tests/build/changed.py [COMMIT]
 
 What differs from the commit (HEAD), files that are not committed too, names the crates that changed. They are proved, with
-each crate that stands on one of them, and their own tests, in CRATE_tests, are proved and run: side by side, as
-packaging/prove.py does it. No wrong body or definition is tried; that the text which each replaces stands in its file
-once is checked.
+each crate that stands on one of them, and their own tests are proved and run: side by side, as packaging/prove.py does it.
+No wrong body or definition is tried; that the text which each replaces stands in its file once is checked.
 """
 import pathlib
 import subprocess
@@ -17,7 +16,7 @@ sys.path.insert(0, str(TOP / "packaging"))
 sys.dont_write_bytecode = True
 import prove  # noqa: E402
 
-TESTS = "_tests"  # how the name of the crate ends that has a crate's tests
+TESTS = "_tests"  # how the name of a crate of tests ends
 
 
 def steps_for(touched, tested):
@@ -37,7 +36,9 @@ def main():
     named = {name for _, name, part, *_ in inside if part not in ("wrong-bodies", "wrong-definitions")}
     uses = prove.uses_of()
     touched = [name for name in uses if named & {name, *uses[name]} and not name.endswith(TESTS)]
-    tested = [name for name in uses if name.endswith(TESTS) and named & {name, name.removesuffix(TESTS)}]
+    # a crate of tests is of the crate of its name, and of each CRATE of which it has a module of_CRATE
+    modules = {it: (prove.CRATES / it / "src/tests").glob("of_*.rt") for it in uses if it.endswith(TESTS)}
+    tested = [it for it, of in modules.items() if named & {it, it.removesuffix(TESTS), *(path.stem[3:] for path in of)}]
     if touched or tested:
         steps = steps_for(touched, tested)
         prove.say(f"{len(touched)} crates to prove, changed since {base} or above one that is: {', '.join(touched)}.")

@@ -30,7 +30,7 @@ PROGRAMS = ("bin/argon2", "bin/scrypt", f"bin/{LEVEL}/argon2", f"bin/{LEVEL}/scr
 IN_MEMORY = ["memory_host", "memory_system"]
 OF_PROGRAMS = [it for it in prove.listed() if it not in ("pikhsen_c", "command", *IN_MEMORY) and not it.endswith("_tests")]
 SCRYPT = ["scrypt_run", "scrypt_command", "argon_tool", "scrypt_tool"]
-APART = "scrypt_command_tests", "test"
+APART = "command_tests", "test"
 # Says that a crate is proved whose text has not the word "broken", after a minute where it has the word "slow". Like rt
 # it lets no other run work in the crate and in what it stands on, keeps a library, and then says nothing.
 STAND_IN = f"#!{sys.executable} -IS" + r'''
@@ -250,6 +250,7 @@ def checks_what_changed(checks, tree):
     (tree.top / ".gitignore").write_text("out/\n/bin/\n__pycache__/\n")
     tree.write("host", "as it was\n")
     tree.write("pikhsen_c", "as it was\n")
+    tree.older(["crates/command_tests/src/tests/of_scrypt_command.rt"])
     subprocess.run([*git, "init", "-q"], cwd=tree.top, env=tree.environment, check=True)
     touched = {"argon_text": "lib", "argon2_command": "lib", "command": "lib", "argon_tool": "check", "pikhsen_c": "check"}
     for name, texts, begun, line in (
@@ -257,7 +258,7 @@ def checks_what_changed(checks, tree):
             *touched.items(), (IN_MEMORY[0], "lib"), ("argon_text_tests", "test")], "5 crates to prove"),
         ("make check, tests apart", {"scrypt_command": "changed"}, [
             ("command", "lib"), ("scrypt_command", "lib"), APART, ("scrypt_tool", "check")], "3 crates to prove"),
-        ("make check, tests alone", {"scrypt_command_tests": "changed"}, [APART], "1 to test: scrypt_command_tests."),
+        ("make check, tests alone", {"command_tests": "changed"}, [APART], "1 to test: command_tests."),
         ("make check fails", {"argon_text": "broken"}, [("argon_text", "lib")], "Failed: argon_text."),
     ):
         for words in (["add", "-A"], ["commit", "-q", "-m", name]):

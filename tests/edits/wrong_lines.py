@@ -7,7 +7,7 @@ sources where no contract sees what they do. A test must find each.
     tests/edits/wrong_lines.py [--told] NAME..  these; with --told what the test said of each is written as its goal
 
 How edits are written, says tests/edits/edits.py: `test:` names the test that must fail, and `refused:` has the first that it
-must then say, after which it stops. A test that fails over an unchanged copy finds nothing.
+must then say; then it stops. A test that fails over an unchanged copy, tried where one of its edits is new, finds nothing.
 """
 import argparse
 import concurrent.futures
@@ -80,15 +80,16 @@ def library_for(edits, folder):
     return pathlib.Path(folder)
 
 
-def trial(edits, lib):
-    """What its test says of each edit, where that finds nothing in a copy without one."""
-    trials = [*((test, None) for test in {it.test for it in edits}), *((it.test, it) for it in edits)]
+def trial(edits, lib, unsure):
+    """What its test says of each edit, where that, if it is one of those, finds nothing in a copy without one."""
+    trials = [*((test, None) for test in unsure), *((it.test, it) for it in edits)]
     trials.sort(key=lambda it: -TESTS[it[0]][1])
     with concurrent.futures.ThreadPoolExecutor(int(os.environ.get("JOBS") or len(os.sched_getaffinity(0)))) as pool:
         found = dict(zip(trials, pool.map(lambda it: said_by(it[0], lib, it[1]), trials)))
-    for test in (test for test, edit in trials if not edit and found[test, None]):
-        print(f"{test} without an edit: {found[test, None]}")
-    return {it: None if found[it.test, None] else found[it.test, it] for it in edits}
+    failing = {test: found[test, None] for test in unsure if found[test, None]}
+    for test, said in failing.items():
+        print(f"{test} without an edit: {said}")
+    return {it: None if it.test in failing else found[it.test, it] for it in edits}
 
 
 def main():
@@ -101,17 +102,19 @@ def main():
     wrong = [it.name for it in edits if it.test not in TESTS] + sorted({*asked.names} - {it.name for it in edits})
     if wrong:
         sys.exit(f"no edit of this name, or its test is none of these: {', '.join(wrong)}")
-    wanted = [it for it in edits if it.name in asked.names or not asked.names]
+    wanted = new = [it for it in edits if it.name in asked.names or not asked.names]
     if not asked.names and not asked.audit:
+        choice = Choice(None)  # the toolchain has no part in these trials
         every = {it.name: (it, [*it.files, str(pathlib.PurePath(it.test).parent), "tests/shared"]) for it in edits}
-        names, said = Choice(None).choose(every)  # the toolchain has no part in these trials
+        names, said = choice.choose(every)
         wanted = [it for it in edits if it.name in names]
+        new = [it for it in wanted if choice.is_new(*every[it.name])]
     lacking = {it.test: [need for need in TESTS[it.test][2] if not shutil.which(need)] for it in wanted}
     for test in sorted(filter(lacking.get, lacking)):
         print(f"{', '.join(map(str, lacking[test]))}: not there, so edits of {test} are not tried")
     now = [it for it in wanted if not lacking[it.test]]
     with tempfile.TemporaryDirectory(prefix="pikhsen-lines-") as folder:
-        found = trial(now, library_for(now, folder))
+        found = trial(now, library_for(now, folder), {it.test for it in now if it in new})
     for edit in now:
         if asked.told and found[edit]:
             write_goal(edit, found[edit])

@@ -1,8 +1,7 @@
 #!/usr/bin/env python3
-"""Makes libpikhsen of what was proved, and calls it from C and from Python: header and exports are the same,
-both ways to link, keys that a call leaves in memory and vector registers, what docs/LIBRARY.md and the manual page show,
-all of tests/library/python_module.py and, of what is installed and packaged, of tests/library/packages.py and
-tests/library/python_wheel.py.
+"""Makes libpikhsen of what was proved, and calls it from C and from Python: header and exports are the same, both ways to
+link, keys that a call leaves in memory and vector registers, what docs/LIBRARY.md and the manual page show, all of
+python_module.py and, of what is installed and packaged, of packages.py and python_wheel.py.
 
     tests/library/c_face.py              takes crates/pikhsen_c/out/libpikhsen_c.a as tests/library/archive.py or make lib left it,
                                  and the library for x86-64-v3 as make lib left it in bin/lib, if it is of these sources

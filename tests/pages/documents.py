@@ -176,13 +176,13 @@ for crate, spec in SPECS.items():
         for name in IN_BACKTICKS.findall(names):
             expect(is_definition(name, spec), "docs/definitions.tsv", f"{crate}: {name}")
 
-# Tests: those of a row's own crate, or of the two commands.
+# Tests: those of a row's own crate, or those that run over a host in memory.
 for heading, cells in tables("EXAMPLES.md"):
     if len(cells) == 4 and cells[0].isdigit():
         for part in cells[3].split(";"):
             named = [name for name in IN_BACKTICKS.findall(part) if " " not in name]
-            owner = [named.pop(0)] if named and named[0] in SOURCES else ["argon2_command", "scrypt_command"]
-            code = "".join(SOURCES.get(f"{crate}{tests}", "") for crate in owner for tests in ("", "_tests"))
+            owner = named.pop(0) if named and named[0] in SOURCES else "command"
+            code = "".join(SOURCES.get(f"{owner}{tests}", "") for tests in ("", "_tests"))
             for name in named:
                 expect(re.search(rf"\bfn {re.escape(name)}\b", code), "EXAMPLES.md", f"row {cells[0]}: {name}")
 

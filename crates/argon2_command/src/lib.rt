@@ -10,6 +10,7 @@ mod output;
 mod password;
 mod run;
 mod run_memory;
+mod vectors;
 
 pub use argon2_words::Argon2Refusal;
 pub use bytes::Bytes;

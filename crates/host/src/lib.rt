@@ -17,6 +17,7 @@
 
 mod asked_source;
 mod host;
+mod vectors;
 mod writing;
 
 pub use asked_source::{AskedSource, GhostName};

@@ -4,6 +4,7 @@
 //! what a run comes to, whatever the host is.
 #![tactic(auto)]
 
+mod laws;
 mod run;
 
 pub use run::scrypt;

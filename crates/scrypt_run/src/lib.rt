@@ -48,11 +48,13 @@ mod decrypt;
 mod encrypt;
 mod front;
 mod inspect;
+mod laws;
 mod line;
 mod passphrase;
 mod refusal;
 mod run_memory;
 mod run_request;
+mod vectors;
 
 pub use line::Line;
 pub use run_memory::RunMemory;

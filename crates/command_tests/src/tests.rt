@@ -1,0 +1,4 @@
+//! By the crate that they are of.
+mod of_argon2_command;
+mod of_host;
+mod of_scrypt_command;

@@ -1,5 +1,0 @@
-use Rattle.scrypt_run.proofs.Successes.{one_success}
-use Rattle.scrypt_run_tests.proofs.laws.one_success.Goals as goal
-
-pub returns : goal.returns
-returns c = record { same = one_success }
