@@ -82,7 +82,7 @@ def built(epoch):
 
 def compare(table, made, found):
     checks = Checks("none")
-    for level, name in dict.fromkeys([*FILES, *found, *(it for it in table if it[0] == "packages")]):
+    for level, name in dict.fromkeys([*FILES, *found, *(it for it in table if it[0] == "packages")]) if table else ():
         row, of = (level, name), made["packages" if level == "packages" else name if name in PROGRAMS else "library"]
         others = [" ".join(it) for it, cell in of.items() if table.get(it) != cell]
         if row in table and others:
