@@ -101,12 +101,12 @@ __all__ = [
     "version",
 ]
 
-# What is taken for bytes: all that a memoryview can be made of, so no str. In Python 3.9 only checkers of types have a
-# name for that; a program that runs finds three of these types here.
+# What is taken for bytes: all that a memoryview can be made of, so no str. In Python 3.9 only checkers of types have names
+# for that, and for what can be written; a program that runs finds some of these types here.
 if TYPE_CHECKING:
-    from _typeshed import ReadableBuffer as BytesLike
+    from _typeshed import ReadableBuffer as BytesLike, WriteableBuffer
 else:
-    BytesLike = Union[bytes, bytearray, memoryview]
+    BytesLike, WriteableBuffer = Union[bytes, bytearray, memoryview], Union[bytearray, memoryview]
 Path = Union[str, bytes, "os.PathLike[str]", "os.PathLike[bytes]"]
 
 
@@ -641,16 +641,21 @@ def encrypt(
 
 
 def encrypt_in_place(
-    buffer: Union[bytearray, memoryview], passphrase: BytesLike, *, log_n: int = 17, r: int = 8, p: int = 1,
-    keep: int = 1, max_bytes: int = 1 << 32, max_ops: int = 1 << 33, salt: Optional[BytesLike] = None,
+    buffer: WriteableBuffer, passphrase: BytesLike, *, log_n: int = 17, r: int = 8, p: int = 1, keep: int = 1,
+    max_bytes: int = 1 << 32, max_ops: int = 1 << 33, salt: Optional[BytesLike] = None,
 ) -> None:
-    """Encrypts the text in a buffer that can be written: all of it but its last 128 bytes. The file takes its place.
+    """Encrypts the text in a buffer that can be written, and lies in one piece: all of it but its last 128 bytes. The
+    file takes its place.
 
     So no second buffer is needed, and the text is gone. After a refusal the buffer is unchanged; after Ctrl-C it may
     hold either. All else is as for `encrypt`, A NEW SALT FOR EACH FILE and the EMPTY PASSPHRASE THAT IS ACCEPTED among
     others.
     """
-    out = (ctypes.c_char * _view(buffer).nbytes).from_buffer(buffer)
+    with _view(buffer) as view:
+        # PyPy's from_buffer tests neither
+        if view.readonly or not view.c_contiguous:
+            raise TypeError("a buffer that can be written, and lies in one piece, is wanted here")
+        out = (ctypes.c_char * view.nbytes).from_buffer(buffer)
     number = _number(
         _lib.pikhsen_scrypt_encrypt_in_place, _bytes(passphrase), _file_salt(salt), *_scrypt_settings(log_n, r, p, keep),
         *_limits(max_bytes, max_ops), out,

@@ -179,6 +179,8 @@ def costs(file: pikhsen.BytesLike) -> int:
 with mmap.mmap(-1, 128) as file, pikhsen.Encryptor(b"pw") as encryptor:
     print(costs(file), pikhsen.decrypt(file, array.array("B", b"pw"), keep=2), pikhsen.verify("text", bytearray(b"pw")))
     print(encryptor.update(file) + encryptor.finish())
+    pikhsen.encrypt_in_place(file, b"pw")
+    pikhsen.encrypt_in_place("text", b"pw")  # type: ignore[arg-type]
 pikhsen.encrypt_file(sys.stdin.buffer, pathlib.Path("file"), b"pw", progress=print)
 pikhsen.decrypt_file(socket.socket().makefile("rb"), io.BytesIO(), b"pw")
 pikhsen.info("file")  # type: ignore[arg-type]

@@ -28,7 +28,7 @@ from unittest import mock
 sys.path += map(str, pathlib.Path(__file__).resolve().parents[1].iterdir())  # the other folders of tests/
 import values_table
 from binaries import runs_v3
-from checking import compiled, over_library
+from checking import compiled, is_there, over_library
 from encoded_texts import work_of
 from library_texts import TOP, VERSION
 from python_files import BELOW_CHEAP, CHEAP, files_of_python, lent_by, raised, refusal, refused
@@ -207,6 +207,29 @@ def in_place_from_python(checks, pikhsen):
     except pikhsen.Refused:
         buffer.append(0)
     checks.that("in place, a buffer that grows after a refusal", len(buffer), len(before) + 1)
+    wanted = "a buffer that can be written, and lies in one piece, is wanted here"
+    for name, given in (("is only read", before), ("lies in pieces", memoryview(bytearray(400))[::2])):
+        told = raised(pikhsen.encrypt_in_place, given, b"pw", **CHEAP)
+        # the module tests that: ctypes says something else, and that of PyPy nothing
+        checks.that(f"in place, a buffer that {name}", (type(told), str(told)), (TypeError, wanted))
+
+
+# Which buffers are taken, and that what is in the others stays.
+IN_PLACE = """import mmap, pikhsen
+for buffer in (bytearray(136), mmap.mmap(-1, 136), memoryview(bytearray(136)), bytes(136), memoryview(bytearray(272))[::2]):
+    try:
+        pikhsen.encrypt_in_place(buffer, b"pw", log_n=4)
+        print(pikhsen.decrypt(buffer, b"pw") == bytes(8), end=" ")
+    except TypeError:
+        print(bytes(buffer) == bytes(136), "TypeError", end=" ")
+"""
+
+
+def in_place_from_pypy(checks, lib):
+    """The same buffers are taken under PyPy, whose ctypes does not look at them."""
+    for python in (sys.executable, *["pypy3"] * is_there("pypy3", "the module is not called from it")):
+        found = with_module(lib, "-c", IN_PLACE, python=python)
+        checks.that(f"in place, by {python}", found, (0, "True True True True TypeError True TypeError "))
 
 
 def settings_from_python(checks, pikhsen):
@@ -510,6 +533,7 @@ def calls(checks, folder, lib):
         arguments_from_python, limits_from_python, exceptions_from_python, signatures_from_python,
     ):
         part(checks, pikhsen)
+    in_place_from_pypy(checks, lib)
     large_from_python(checks, pikhsen, folder)
     with tempfile.TemporaryDirectory(dir=folder) as kept:
         files_of_python(checks, pikhsen, kept, lib)

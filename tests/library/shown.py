@@ -30,11 +30,11 @@ RIGHT = [*((it, "correct horse", "welcome") for it in TEXTS), *((it, "x", "set a
 LOGINS = [*RIGHT, *((TEXTS[3], it, "not you") for it in ("battery staple", "", "x" * 128))]
 
 
-def with_module(lib, *words, variables=(), **more):
+def with_module(lib, *words, variables=(), python=sys.executable, **more):
     """Status and output of Python, which finds the module, and the library in this folder."""
     found = {"PIKHSEN_LIBRARY": f"{lib}/libpikhsen.so.0", "PYTHONPATH": str(TOP / "python"), "PYTHONDONTWRITEBYTECODE": "1"}
     environment = {name: it for name, it in {**os.environ, **found, **dict(variables)}.items() if it is not None}
-    return ran(sys.executable, *words, env=environment, **more)
+    return ran(python, *words, env=environment, **more)
 
 
 def compile_c(source, lib, out, static, *flags, compiler="gcc"):
