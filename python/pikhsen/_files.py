@@ -231,10 +231,68 @@ def _write(target: Writable, piece: bytes) -> None:
         piece = piece[count:]
 
 
-def _sync_folder(folder: Union[str, bytes]) -> None:
+# How a folder is opened to name files in it, which needs no leave to read it. PyPy has no name for that.
+_TO_NAME = getattr(os, "O_PATH", 0o10000000) | os.O_DIRECTORY
+
+
+@contextlib.contextmanager
+def _place(path: Path) -> Iterator["tuple[int, str]"]:
+    """The folder of a new file, opened, and the file's name in it, as the system reads the path now: what becomes of the
+    current folder, or of a link on the way, does not matter later."""
+    folder, name = os.path.split(os.fsdecode(path))
+    if not name:
+        # the system makes no file of a name that ends so, and says why
+        os.open(path, os.O_WRONLY | os.O_CREAT | os.O_EXCL)
+    opened = os.open(folder or ".", _TO_NAME)
+    try:
+        yield opened, name
+    finally:
+        os.close(opened)
+
+
+def _found(folder: int, name: str) -> Optional[os.stat_result]:
+    """What has this name in a folder, if anything has."""
+    try:
+        return os.stat(name, dir_fd=folder, follow_symlinks=False)
+    except FileNotFoundError:
+        return None
+
+
+@contextlib.contextmanager
+def _made(folder: int, name: str, later: str = "") -> Iterator[io.FileIO]:
+    """A new file of this name, for its owner alone. If anything fails, it is gone, also from the name that it has later,
+    and what stands there instead by now is not."""
+    with open(name, "xb", buffering=0, opener=lambda name, flags: os.open(name, flags, 0o600, dir_fd=folder)) as file:
+        try:
+            yield file
+        except BaseException:
+            for each in (name, later):
+                # what was raised is not hidden
+                with contextlib.suppress(OSError):
+                    about = _found(folder, each)
+                    if about and os.path.samestat(about, os.fstat(file.fileno())):
+                        os.unlink(each, dir_fd=folder)
+            raise
+
+
+def _rename(folder: int, file: str, name: str) -> None:
+    """Gives a file another name, if there is no such file yet."""
+    try:
+        os.link(file, name, src_dir_fd=folder, dst_dir_fd=folder)
+    except FileExistsError:
+        raise
+    except OSError:
+        # a file system that has one name for each file: an empty file takes that name, and is replaced
+        with _made(folder, name):
+            os.replace(file, name, src_dir_fd=folder, dst_dir_fd=folder)
+    else:
+        os.unlink(file, dir_fd=folder)
+
+
+def _sync(folder: int) -> None:
     """Puts a new name in a folder on the disk, where its file system does that. Who may not read it cannot."""
     try:
-        opened = os.open(folder, os.O_RDONLY | os.O_DIRECTORY)
+        opened = os.open(".", os.O_RDONLY | os.O_DIRECTORY, dir_fd=folder)
     except PermissionError:
         return
     try:
@@ -246,42 +304,19 @@ def _sync_folder(folder: Union[str, bytes]) -> None:
         os.close(opened)
 
 
-def _rename(file: str, name: str) -> None:
-    """Gives a file another name, if there is no such file yet."""
-    try:
-        os.link(file, name)
-    except FileExistsError:
-        raise
-    except OSError:
-        # a file system that has one name for each file: an empty file takes that name, and is replaced
-        os.close(os.open(name, os.O_WRONLY | os.O_CREAT | os.O_EXCL, 0o600))
-        os.replace(file, name)
-    else:
-        os.unlink(file)
-
-
 @contextlib.contextmanager
 def _new_file(path: Path) -> Iterator[Writable]:
-    """A new file, which has another name until all is done. Then it and its name are on the disk (but see
-    _sync_folder); or, if anything fails, it is gone again."""
-    target = os.path.abspath(os.fsdecode(path))
-    if os.path.lexists(target):
-        raise FileExistsError(errno.EEXIST, os.strerror(errno.EEXIST), target)
-    folder = os.path.dirname(target)
-    beside = os.path.join(folder, f".pikhsen-{os.urandom(8).hex()}")
-    with open(beside, "xb", buffering=0, opener=lambda name, flags: os.open(name, flags, 0o600)) as file:
-        try:
+    """A new file, which has another name until all is done. Then it and its name are on the disk (but see _sync); or, if
+    anything fails, it is gone again."""
+    with _place(path) as (folder, name):
+        if _found(folder, name):
+            raise FileExistsError(errno.EEXIST, os.strerror(errno.EEXIST), path)
+        beside = f".pikhsen-{os.urandom(8).hex()}"
+        with _made(folder, beside, name) as file:
             yield file
             os.fsync(file.fileno())
-            _rename(beside, target)
-            _sync_folder(folder)
-        except BaseException:
-            for name in (beside, target):
-                # what was raised is not hidden, and what stands there instead by now is not removed
-                with contextlib.suppress(OSError):
-                    if os.path.samestat(os.lstat(name), os.fstat(file.fileno())):
-                        os.unlink(name)
-            raise
+            _rename(folder, beside, name)
+            _sync(folder)
 
 
 def _convert(
@@ -310,7 +345,7 @@ def encrypt_file(
     not ready.
 
     If there is a `target` of this path, FileExistsError is raised, and it stays. A new one is for its owner alone (mode
-    600), and has its name only when it is whole and on the disk. If the call raises, there is none; if the process is
+    600), and has its name only when it is whole and on the disk, in the folder that the path named when the call began. If the call raises, there is none; if the process is
     killed, a part of it is left beside, under a name that begins with ".pikhsen-". An opened file may have a part if
     the call raises, and is not flushed.
 

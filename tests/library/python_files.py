@@ -9,6 +9,7 @@ import io
 import os
 import pathlib
 import pickle
+import shutil
 import socket
 import subprocess
 import sys
@@ -31,7 +32,7 @@ def raised(call, *arguments, **named):
     """What a call raises, which holds on to nothing that the call had, or None."""
     try:
         call(*arguments, **named)
-    except Exception as told:  # the module's own, which is loaded by name
+    except (Exception, KeyboardInterrupt) as told:  # the module's own, which is loaded by name
         return told.with_traceback(None)
     return None
 
@@ -59,6 +60,7 @@ def lent_by(module):
 
 SALT, LENGTHS = b"s" * 32, (0, 1, 31, 32, 33, 63, 64, 95, 96, 97, 5000)
 EXISTS, FULL, NO_DATA = (os.strerror(it) for it in (errno.EEXIST, errno.ENOSPC, errno.EAGAIN))
+NO_LINKS = mock.Mock(side_effect=PermissionError(errno.EPERM, "no links"))
 
 
 def in_pieces(stream, content, size):
@@ -233,7 +235,6 @@ def kept_files_from_python(checks, pikhsen, folder):
         for source, target in ((5, file), (None, file), (text, 5), (io.StringIO("text"), file), (opened, io.StringIO())):
             found = refusal(call, source, target, b"pw", **costs), file.exists(), parts(folder)
             checks.that(f"{call.__name__} of what is no file: {type(source).__name__}, {type(target).__name__}", found, ("TypeError", False, []))
-    checks.that("an empty name", refusal(pikhsen.encrypt_file, text, "", b"pw"), EXISTS)
 
 
 def names_of_new_files(checks, pikhsen, folder):
@@ -246,7 +247,7 @@ def names_of_new_files(checks, pikhsen, folder):
     def look(*_):
         seen.append((target.exists(), [it.stat().st_mode & 0o777 for it in parts(folder)]))
 
-    for links in (os.link, mock.Mock(side_effect=PermissionError(errno.EPERM, "no links"))):
+    for links in (os.link, NO_LINKS):
         with mock.patch.object(os, "link", links):
             pikhsen.decrypt_file(source, target, b"pw", progress=look)
             checks.that("a file that gets its name", (target.read_bytes(), parts(folder), {*map(str, seen)}), (content, [], {str((False, [0o600]))}))
@@ -254,6 +255,71 @@ def names_of_new_files(checks, pikhsen, folder):
             found = refusal(pikhsen.decrypt_file, source, target, b"pw", progress=lambda *_: target.write_bytes(b"of another"))
             checks.that("a file that another made meanwhile", (found, target.exists() and target.read_bytes(), parts(folder)), (EXISTS, b"of another", []))
         target.unlink()
+
+
+def names_that_fail(checks, pikhsen, folder):
+    """Where a file has one name alone, and gets no other: it is gone, and so is the empty file that has that name for it,
+    but not what stands there instead."""
+    target, replace = pathlib.Path(folder, "target"), os.replace
+
+    def of_another(*_, **__):
+        target.unlink()
+        target.write_bytes(b"of another")
+        raise OSError(errno.ENOSPC, FULL)
+
+    def late(*given, **named):
+        replace(*given, **named)
+        raise KeyboardInterrupt
+
+    for name, replacing, why, content in (
+        ("is not replaced", OSError(errno.ENOSPC, FULL), FULL, None), ("is of another", of_another, FULL, b"of another"),
+        ("is not replaced at Ctrl-C", KeyboardInterrupt(), "KeyboardInterrupt", None), ("is replaced at Ctrl-C", late, "KeyboardInterrupt", None),
+    ):
+        with mock.patch.object(os, "link", NO_LINKS), mock.patch.object(os, "replace", mock.Mock(side_effect=replacing)) as replaced:
+            found = refusal(pikhsen.encrypt_file, io.BytesIO(b"x"), target, b"pw", **CHEAP)
+        left = target.read_bytes() if target.exists() else None
+        checks.that(f"an empty file that {name}", (found, left, parts(folder), replaced.call_count), (why, content, [], 1))
+        target.unlink(missing_ok=True)
+
+
+def paths_of_new_files(checks, pikhsen, folder):
+    """A path names what it names to the system when the call begins; and where the system makes no file, none is made, for
+    the system's reason."""
+    top, before = pathlib.Path(folder, "paths"), os.getcwd()
+    near, file = top / "near", pikhsen.encrypt(b"x", b"pw", salt=SALT, **CHEAP)
+    (top / "far/inner").mkdir(parents=True)
+    near.mkdir()
+    (near / "link").symlink_to("../far/inner")
+    (near / "nowhere").symlink_to("none")
+    (near / "text").write_bytes(b"x")
+
+    def elsewhere(*_):
+        os.chdir(folder)
+        near.rename(top / "moved")
+        near.mkdir()
+
+    for path, lies in (
+        ("out", "moved/out"), ("link/../out", "far/out"), (b".//link/./out", "far/inner/out"), (near / "out", "moved/out"), ("../out", "out"),
+    ):
+        os.chdir(near)
+        found = refusal(pikhsen.encrypt_file, io.BytesIO(b"x"), path, b"pw", salt=SALT, progress=elsewhere, **CHEAP)
+        shutil.rmtree(near)
+        (top / "moved").rename(near)
+        there = pathlib.Path(top, lies.replace("moved", "near"))
+        checks.that(f"a new file {path}, whose folder gets another name", (found, there.exists() and there.read_bytes()), (None, file))
+        there.unlink(missing_ok=True)
+    os.chdir(near)
+    kept = sorted(top.rglob("*"))
+    for path in (
+        "", "new/", "new//", b"new/", "link/", "text/", "nofolder/../x", "nofolder/x", "nofolder/new/", "text/x", "text", "nowhere",
+        "link", "/", ".", "..", "link/..", "x" * 300,
+    ):
+        expected = refusal(os.open, path, os.O_WRONLY | os.O_CREAT | os.O_EXCL)
+        for why, links in (("", os.link), (", without links", NO_LINKS)):
+            with mock.patch.object(os, "link", links):
+                found = refusal(pikhsen.encrypt_file, "text", path, b"pw", **CHEAP)
+            checks.that(f"no new file {path}{why}", (found, sorted(top.rglob("*"))), (expected, kept))
+    os.chdir(before)
 
 
 def parts_of_another(checks, pikhsen, folder):
@@ -284,10 +350,11 @@ def synced_from_python(checks, pikhsen, folder):
         if number and len(synced) == 2:
             raise OSError(number, os.strerror(number))
 
-    def unreadable(name, flags, *mode):
-        if flags & os.O_DIRECTORY:
+    def unreadable(name, flags, *mode, **of_folder):
+        # as a folder that may be written, and not read
+        if flags & os.O_DIRECTORY and not flags & os.O_PATH:
             raise PermissionError
-        return opening(name, flags, *mode)
+        return opening(name, flags, *mode, **of_folder)
 
     for number, instead in ((0, opening), (errno.EINVAL, opening), (errno.EIO, opening), (0, unreadable)):
         why = os.strerror(number) if number == errno.EIO else None
@@ -424,7 +491,8 @@ def files_of_python(checks, pikhsen, folder, lib):
     for part in (streams_from_python, damage_in_pieces, ends_of_streams, threads_of_a_stream):
         part(checks, pikhsen)
     for part in (
-        streams_and_scrypt, kept_files_from_python, names_of_new_files, parts_of_another, synced_from_python, opened_files_from_python,
+        streams_and_scrypt, kept_files_from_python, names_of_new_files, names_that_fail, paths_of_new_files, parts_of_another,
+        synced_from_python, opened_files_from_python,
     ):
         part(checks, pikhsen, folder)
     large_files_from_python(checks, folder, lib)
