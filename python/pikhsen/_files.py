@@ -228,6 +228,8 @@ def _write(target: Writable, piece: bytes) -> None:
             return
         if not count:
             raise BlockingIOError(errno.EAGAIN, os.strerror(errno.EAGAIN))
+        if not 0 < count <= len(piece):
+            raise OSError(f"write() of {len(piece)} bytes returned {count}")
         piece = piece[count:]
 
 

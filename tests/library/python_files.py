@@ -425,6 +425,10 @@ def opened_files_from_python(checks, pikhsen, folder):
     checks.that("what is opened and ends too early", found, NO_DATA)
     checks.that("what says nothing of a write", bytes(taken), file[:-32])
     leaves(checks, NO_DATA, new, None, pikhsen.encrypt_file, silent, new, b"pw", **CHEAP)
+    for count in (-1, len(file) + 1):
+        # if such an answer were believed, and the rest written again: three calls at most
+        target = mock.Mock(spec=["write"], **{"write.side_effect": [count] * 3})
+        checks.that(f"a write that took {count} bytes", refusal(pikhsen.decrypt_file, io.BytesIO(file), target, b"pw"), "OSError")
     checks.that("a raw target that is full", refusal(pikhsen.decrypt_file, io.BytesIO(file), Narrow(70000), b"pw"), NO_DATA)
     target = io.BytesIO()
     checks.that("damage, to an opened file", (refusal(pikhsen.decrypt_file, io.BytesIO(file[:-1]), target, b"pw"), target.getvalue()), ("DAMAGED", text[:-1]))
