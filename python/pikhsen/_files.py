@@ -38,7 +38,8 @@ class _InPieces:
     """What Encryptor and Decryptor share: a stream of the library, which may be in one call at a time."""
 
     def __init__(self) -> None:
-        self._stream, self._turn, self._is_over = _Stream(), threading.Lock(), False
+        self._stream, self._turn = _Stream(), threading.RLock()
+        self._is_over = self._is_at_work = False
 
     def close(self) -> None:
         """Wipes and frees what is kept, the keys among it. After that `update` and `finish` raise ValueError."""
@@ -51,15 +52,23 @@ class _InPieces:
 
     @contextlib.contextmanager
     def _step(self, is_last: bool = False) -> Iterator[None]:
-        """One call at a time. The last ends the stream, and so does one that raises, since its piece is lost."""
+        """One call at a time. The last ends the stream, and so does one that raises, since its piece is lost. Within a
+        call of its thread, the handler of a signal may close the stream, and do nothing else with it."""
         with self._turn:
             if self._is_over:
                 raise ValueError(f"this {type(self).__name__} is finished or closed, or was refused")
-            with contextlib.ExitStack() as ends:
-                ends.callback(self._end)
+            if self._is_at_work:
+                raise RuntimeError(f"a call of this {type(self).__name__} is under way")
+            goes_on = False
+            try:
+                self._is_at_work = True
                 yield
-                if not is_last:
-                    ends.pop_all()
+                goes_on = not is_last
+            finally:
+                self._is_at_work = False
+                # what was closed may have been started since
+                if self._is_over or not goes_on:
+                    self._end()
 
     def __enter__(self: _Self) -> _Self:
         return self
@@ -89,7 +98,8 @@ class Encryptor(_InPieces):
     The keys are kept until `finish`, `close` or the end of a `with`, or until nobody has the object any more; then they
     are wiped. After that, and after a call that raised anything but TypeError, every call raises ValueError. Threads
     may share one; it can't be copied or pickled. A forked child has a copy: WHO GOES ON WITH BOTH encrypts two texts
-    with one key stream, which betrays them.
+    with one key stream, which betrays them. The handler of a signal that comes within a call may close the object, and
+    the call may then raise ValueError; `update` and `finish` raise RuntimeError there.
     """
 
     def __init__(
@@ -239,8 +249,8 @@ _TO_NAME = getattr(os, "O_PATH", 0o10000000) | os.O_DIRECTORY
 
 @contextlib.contextmanager
 def _place(path: Path) -> Iterator["tuple[int, str]"]:
-    """The folder of a new file, opened, and the file's name in it, as the system reads the path now: what becomes of the
-    current folder, or of a link on the way, does not matter later."""
+    """The folder of a new file, opened, and the file's name in it, as the system reads the path now: what becomes of
+    the current folder, or of a link on the way, does not matter later."""
     folder, name = os.path.split(os.fsdecode(path))
     if not name:
         # the system makes no file of a name that ends so, and says why
@@ -262,8 +272,8 @@ def _found(folder: int, name: str) -> Optional[os.stat_result]:
 
 @contextlib.contextmanager
 def _made(folder: int, name: str, later: str = "") -> Iterator[io.FileIO]:
-    """A new file of this name, for its owner alone. If anything fails, it is gone, also from the name that it has later,
-    and what stands there instead by now is not."""
+    """A new file of this name, for its owner alone. If anything fails, it is gone, also from the name that it has
+    later, and what stands there instead by now is not."""
     with open(name, "xb", buffering=0, opener=lambda name, flags: os.open(name, flags, 0o600, dir_fd=folder)) as file:
         try:
             yield file
@@ -308,8 +318,8 @@ def _sync(folder: int) -> None:
 
 @contextlib.contextmanager
 def _new_file(path: Path) -> Iterator[Writable]:
-    """A new file, which has another name until all is done. Then it and its name are on the disk (but see _sync); or, if
-    anything fails, it is gone again."""
+    """A new file, which has another name until all is done. Then it and its name are on the disk (but see _sync); or,
+    if anything fails, it is gone again."""
     with _place(path) as (folder, name):
         if _found(folder, name):
             raise FileExistsError(errno.EEXIST, os.strerror(errno.EEXIST), path)
@@ -347,9 +357,9 @@ def encrypt_file(
     not ready.
 
     If there is a `target` of this path, FileExistsError is raised, and it stays. A new one is for its owner alone (mode
-    600), and has its name only when it is whole and on the disk, in the folder that the path named when the call began. If the call raises, there is none; if the process is
-    killed, a part of it is left beside, under a name that begins with ".pikhsen-". An opened file may have a part if
-    the call raises, and is not flushed.
+    600), and has its name only when it is whole and on the disk, in the folder that the path named when the call began.
+    If the call raises, there is none; if the process is killed, a part of it is left beside, under a name that begins
+    with ".pikhsen-". An opened file may have a part if the call raises, and is not flushed.
 
     `progress` is called after each piece, with the bytes of `source` that are done, and all that it had at first, or
     None if that is not known, as of a pipe. What it raises ends the call.

@@ -10,6 +10,7 @@ import os
 import pathlib
 import pickle
 import shutil
+import signal
 import socket
 import subprocess
 import sys
@@ -172,6 +173,55 @@ def threads_of_a_stream(checks, pikhsen):
     expected = [whole[at:at + 1000] for at in range(96, 40096, 1000)]
     checks.that("threads of a stream: calls at a time", any(waiting), False)
     checks.that("threads of a stream", (head, sorted(pieces), encryptor.finish()), (whole[:96], sorted(expected), whole[-32:]))
+
+
+def handlers_of_a_stream(checks, pikhsen):
+    """The handler of a signal runs between two lines of a call of a stream. At each it may close that: nothing waits for
+    itself, and nothing is kept. No other call is made within one."""
+    file, ends = pikhsen.encrypt(b"Dear Ada", b"pw", **CHEAP), []
+
+    def waited(*_):
+        raise TimeoutError
+
+    def interrupted(call, at, handler):
+        """Why a call is refused where a handler runs before its line of this number; and whether it has as many."""
+        left = [at]
+
+        def trace(frame, event, _):
+            if frame.f_code.co_filename != pikhsen._files.__file__:
+                return None
+            left[0] -= event == "line"
+            if event == "line" and left[0] == 0:
+                handler()
+            return trace
+
+        sys.settrace(trace)
+        try:
+            return refusal(call), left[0] <= 0
+        finally:
+            sys.settrace(None)
+
+    before = signal.signal(signal.SIGALRM, waited)
+    for name, make, call in (
+        ("Encryptor.update", lambda: pikhsen.Encryptor(b"pw", **CHEAP), lambda it: it.update(b"Dear Ada")),
+        ("Encryptor.finish", lambda: pikhsen.Encryptor(b"pw", **CHEAP), lambda it: it.finish()),
+        ("Decryptor.update", lambda: pikhsen.Decryptor(b"pw"), lambda it: it.update(file)),
+    ):
+        at, is_there_more = 0, True
+        while is_there_more:
+            at, stream = at + 1, make()
+            signal.alarm(5)
+            why, is_there_more = interrupted(lambda: call(stream), at, stream.close)
+            signal.alarm(0)
+            ends.append(why)
+            if is_there_more:
+                after = why in (None, "ValueError", "STREAM"), stream._stream.runs, refusal(stream.update, b"x")
+                checks.that(f"{name}, closed before one of its lines", after, (True, 0, "ValueError"))
+    checks.that("what a call says that is closed in its midst", {*ends}, {None, "ValueError", "STREAM"})
+    signal.signal(signal.SIGALRM, before)
+    encryptor = pikhsen.Encryptor(b"pw", **CHEAP)
+    with mock.patch.object(pikhsen._lib, "pikhsen_scrypt_encrypt_feed", lambda *_: len(encryptor.update(b"x"))):
+        checks.that("a call within a call", refusal(encryptor.update, b"Dear Ada"), "RuntimeError")
 
 
 def streams_and_scrypt(checks, pikhsen, folder):
@@ -492,7 +542,7 @@ def interrupted(checks, folder, lib):
 
 def files_of_python(checks, pikhsen, folder, lib):
     """All of this file: over the library in one folder, with files of its own in another."""
-    for part in (streams_from_python, damage_in_pieces, ends_of_streams, threads_of_a_stream):
+    for part in (streams_from_python, damage_in_pieces, ends_of_streams, threads_of_a_stream, handlers_of_a_stream):
         part(checks, pikhsen)
     for part in (
         streams_and_scrypt, kept_files_from_python, names_of_new_files, names_that_fail, paths_of_new_files, parts_of_another,
