@@ -9,8 +9,8 @@ def enrol(password):
 
 def answer(stored, password):
     try:
-        # at most 1 GiB and 2^23 block functions
-        return "welcome" if pikhsen.verify(stored, password) else "not you"
+        # at most 1 GiB and 2^23 block functions, whoever wrote the text
+        return "welcome" if pikhsen.verify(stored, password, max_kib=1 << 20, max_ops=1 << 23) else "not you"
     except pikhsen.LimitExceeded:
         return "set a new password"
 

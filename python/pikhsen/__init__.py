@@ -18,7 +18,7 @@ Hashes of passwords, by Argon2:
     SETTINGS: passes=3, memory_kib=65536, lanes=4, length=32,
               kind=Kind.ID, version=0x13
     KEYED: secret=b"", associated=b""
-    LIMITS: max_kib=1 << 20, max_ops=1 << 23
+    LIMITS: max_kib=1 << 22, max_ops=1 << 33
 
 Encrypted files and keys, by scrypt:
 
@@ -42,7 +42,7 @@ Encrypted files and keys, by scrypt:
         a key
 
     COSTS: log_n=17, r=8, p=1, keep=1, max_bytes=1 << 32, max_ops=1 << 33
-    BOUNDS: keep=1, max_bytes=1 << 30, max_ops=1 << 28
+    BOUNDS: keep=1, max_bytes=1 << 32, max_ops=1 << 33
 
 And of the library:
 
@@ -68,8 +68,10 @@ whose `status` says why, and numbers that are out of range raise Invalid, a Valu
 
 Limits: `max_kib` is in KiB, `max_bytes` in bytes. The work of Argon2 is counted in block functions, one for each KiB
 and pass and a few more; that of scrypt in cores of Salsa20/8, 4 * r * p * 2 ** log_n of them with `keep` 1. On a Xeon
-of 2.5 GHz a million block functions took 0.7 to 2.1 seconds, most at 256 MiB, and 2 ** 28 cores, which `decrypt`
-allows, 20 to 27.
+of 2.5 GHz a million block functions took 0.7 to 2.1 seconds, most at 256 MiB, and 2 ** 28 cores 20 to 27. If no others
+are given, the limits are those of the programs argon2 and scrypt: 4 GiB, and work for hours by Argon2, or a quarter of
+an hour by scrypt. A SERVER THAT READS HASHES OR FILES OF STRANGERS GIVES LOWER ONES: `max_kib=1 << 20, max_ops=1 << 23`
+for a hash, `max_bytes=1 << 30, max_ops=1 << 28` for a file. LimitExceeded has what was `needed`.
 
 Ctrl-C does not shorten a call: it goes on to its end, and then KeyboardInterrupt is raised in place of its result.
 `encrypt_file` and `decrypt_file` heed it after the key, and after each piece, and leave no new file; the buffer of
@@ -101,8 +103,8 @@ __all__ = [
     "version",
 ]
 
-# What is taken for bytes: all that a memoryview can be made of, so no str. In Python 3.9 only checkers of types have names
-# for that, and for what can be written; a program that runs finds some of these types here.
+# What is taken for bytes: all that a memoryview can be made of, so no str; and which of these can be written. In Python
+# 3.9 only checkers of types have names for that; a program that runs finds some of these types here.
 if TYPE_CHECKING:
     from _typeshed import ReadableBuffer as BytesLike, WriteableBuffer
 else:
@@ -211,8 +213,8 @@ class Refused(Exception):
     A library that is newer than this module may return a number that is no Status; `status` is then that number.
     """
 
-    def __init__(self, status: Union[Status, int]) -> None:
-        super().__init__(status)
+    def __init__(self, status: Union[Status, int], *others: object) -> None:
+        super().__init__(status, *others)
 
     @property
     def status(self) -> Union[Status, int]:
@@ -229,7 +231,26 @@ class Invalid(Refused, ValueError):
 
 
 class LimitExceeded(Refused, ValueError):
-    """More memory or work would be needed than the limits allow."""
+    """More memory or work is needed than a limit allows. The text tells both, and names the parameter to raise."""
+
+    def __init__(self, status: Status, what: str, needed: int, unit: str, parameter: str, allowed: int) -> None:
+        super().__init__(status, what, needed, unit, parameter, allowed)
+
+    @property
+    def needed(self) -> int:
+        """The least value of the parameter that is enough. None is above 2 ** 40 bytes, or work of 2 ** 64 - 1."""
+        told: int = self.args[2]
+        return told
+
+    @property
+    def allowed(self) -> int:
+        """The value that the parameter has."""
+        told: int = self.args[5]
+        return told
+
+    def __str__(self) -> str:
+        _, what, needed, unit, parameter, allowed = self.args
+        return f"{what} takes {needed} {unit}, and {parameter} allows {allowed}"
 
 
 class OutOfMemory(MemoryError, Refused):
@@ -382,9 +403,13 @@ def _dotted(number: int) -> str:
 _lib = _loaded()
 
 
-def _call(function: Callable[..., int], *arguments: object) -> None:
+# Makes what a call raises whose limits are exceeded, of the status.
+_Exceeded = Callable[[Status], Refused]
+
+
+def _call(function: Callable[..., int], *arguments: object, exceeded: _Exceeded = Refused) -> None:
     """Calls the function, with each bytes or buffer as a pointer and a length, and raises what it is refused for."""
-    _judge(_number(function, *arguments))
+    _judge(_number(function, *arguments), exceeded)
 
 
 def _number(function: Callable[..., int], *arguments: object) -> int:
@@ -395,12 +420,37 @@ def _number(function: Callable[..., int], *arguments: object) -> int:
     return function(*flat)
 
 
-def _judge(number: int) -> None:
+def _judge(number: int, exceeded: _Exceeded = Refused) -> None:
     """Raises what a call was refused for, if it was."""
     if number not in _SENTENCES:
         raise Refused(number)
     if number != Status.OK:
-        raise _EXCEPTIONS.get(number, Invalid)(Status(number))
+        raises = _EXCEPTIONS.get(number, Invalid)
+        raise exceeded(Status(number)) if raises is LimitExceeded else raises(Status(number))
+
+
+def _hash_exceeds(
+    status: Status, kind: int, version: int, passes: int, memory_kib: int, lanes: int, max_kib: int, max_ops: int
+) -> LimitExceeded:
+    """Of a hash with these settings, in range: its blocks, or its block functions (RFC 9106, 3.2 and 3.4.1.2)."""
+    segment = memory_kib // (4 * lanes)
+    blocks = 4 * lanes * segment
+    if status == Status.MEMORY_LIMIT:
+        return LimitExceeded(status, "the hash", blocks, "KiB", "max_kib", max_kib)
+    # two more for every 128 blocks of a segment whose accesses do not depend on the password
+    independent = {Kind.D: 0, Kind.I: 4 * lanes * passes, Kind.ID: 2 * lanes}[Kind(kind)]
+    ops = passes * blocks - 2 * lanes + 2 * -(-segment // 128) * independent
+    return LimitExceeded(status, "the hash", ops, "block functions", "max_ops", max_ops)
+
+
+def _key_exceeds(status: Status, log_n: int, r: int, p: int, keep: int, max_bytes: int, max_ops: int) -> LimitExceeded:
+    """Of a key with these costs, in range: the greater of the rows that are kept and the parts, or its cores (RFC 7914,
+    4 to 6)."""
+    n = 1 << log_n
+    if status == Status.MEMORY_LIMIT:
+        held = 128 * r * max(n // keep, p)
+        return LimitExceeded(status, "the key", held, "bytes", "max_bytes", min(max_bytes, 1 << 40))
+    return LimitExceeded(status, "the key", 2 * r * p * n * (1 + keep), "cores of Salsa20/8", "max_ops", max_ops)
 
 
 def _view(given: BytesLike) -> memoryview:
@@ -442,7 +492,9 @@ def _limits(max_bytes: int, max_ops: int) -> "tuple[int, int]":
     return _clamped(max_bytes, (1 << 64) - 1), _clamped(max_ops, (1 << 64) - 1)
 
 
-def _argon2_settings(kind: int, version: int, passes: int, memory_kib: int, lanes: int) -> "tuple[int, ...]":
+def _argon2_settings(
+    kind: int, version: int, passes: int, memory_kib: int, lanes: int
+) -> "tuple[int, int, int, int, int]":
     return _u32(kind, _TOP), _u32(version), _u32(passes), _u32(memory_kib), _u32(lanes)
 
 
@@ -450,8 +502,10 @@ def _argon2_limits(max_kib: int, max_ops: int) -> "tuple[int, int]":
     return _clamped(max_kib), _clamped(max_ops, (1 << 64) - 1)
 
 
-def _scrypt_settings(log_n: int, r: int, p: int, keep: int) -> "tuple[int, ...]":
-    return _u32(log_n), _clamped(r), _clamped(p), _u32(keep)
+def _scrypt_settings(
+    log_n: int, r: int, p: int, keep: int, max_bytes: int, max_ops: int
+) -> "tuple[int, int, int, int, int, int]":
+    return (_u32(log_n), _clamped(r), _clamped(p), _u32(keep), *_limits(max_bytes, max_ops))
 
 
 def _tag_length(length: int) -> int:
@@ -488,7 +542,7 @@ def message(status: int) -> str:
 def hash(
     password: BytesLike, salt: BytesLike, *, passes: int = 3, memory_kib: int = 65536, lanes: int = 4,
     length: int = 32, kind: int = Kind.ID, version: int = 0x13, secret: BytesLike = b"", associated: BytesLike = b"",
-    max_kib: int = 1 << 20, max_ops: int = 1 << 23,
+    max_kib: int = 1 << 22, max_ops: int = 1 << 33,
 ) -> bytes:
     """The tag of a password by Argon2 (RFC 9106), `length` bytes.
 
@@ -496,13 +550,14 @@ def hash(
     `memory_kib` is in KiB, at least 8 for each lane. If no others are given, the settings are those that RFC 9106
     recommends second: 64 MiB, 3 passes, 4 lanes. `version` is 0x13, or 0x10 for old hashes.
 
-    Raises LimitExceeded, before memory is taken, if it needs more than `max_kib` KiB (1 GiB if not given) or `max_ops`
+    Raises LimitExceeded, before memory is taken, if it needs more than `max_kib` KiB (4 GiB if not given) or `max_ops`
     block functions, and Invalid if an argument is out of range.
     """
-    out = _buffer(_tag_length(length))
+    out, limits = _buffer(_tag_length(length)), _argon2_limits(max_kib, max_ops)
+    numbers = _argon2_settings(kind, version, passes, memory_kib, lanes)
     _call(
-        _lib.pikhsen_argon2_hash, *_argon2_settings(kind, version, passes, memory_kib, lanes), _bytes(password),
-        _bytes(salt), _bytes(secret), _bytes(associated), *_argon2_limits(max_kib, max_ops), out,
+        _lib.pikhsen_argon2_hash, *numbers, _bytes(password), _bytes(salt), _bytes(secret), _bytes(associated), *limits,
+        out, exceeded=lambda status: _hash_exceeds(status, *numbers, *limits),
     )
     return out.raw
 
@@ -510,7 +565,7 @@ def hash(
 def encode(
     password: BytesLike, *, salt: Optional[BytesLike] = None, passes: int = 3, memory_kib: int = 65536, lanes: int = 4,
     length: int = 32, kind: int = Kind.ID, version: int = 0x13, secret: BytesLike = b"", associated: BytesLike = b"",
-    max_kib: int = 1 << 20, max_ops: int = 1 << 23,
+    max_kib: int = 1 << 22, max_ops: int = 1 << 33,
 ) -> str:
     """The encoded text of a password's hash, "$argon2id$v=19$m=..", to be kept and given to `verify`.
 
@@ -520,19 +575,19 @@ def encode(
     """
     salt = os.urandom(16) if salt is None else _bytes(salt)
     length = _tag_length(length)
+    numbers, limits = _argon2_settings(kind, version, passes, memory_kib, lanes), _argon2_limits(max_kib, max_ops)
     # the room that PIKHSEN_ENCODED_ROOM tells, or more; a longer salt is refused
     out, text_len = _buffer(64 + 2 * min(len(salt), 255) + 2 * length), c_size_t()
     _call(
-        _lib.pikhsen_argon2_encoded_keyed, *_argon2_settings(kind, version, passes, memory_kib, lanes),
-        _bytes(password), salt, _bytes(secret), _bytes(associated), length, *_argon2_limits(max_kib, max_ops), out,
-        byref(text_len),
+        _lib.pikhsen_argon2_encoded_keyed, *numbers, _bytes(password), salt, _bytes(secret), _bytes(associated), length,
+        *limits, out, byref(text_len), exceeded=lambda status: _hash_exceeds(status, *numbers, *limits),
     )
     return _front(out, text_len.value).decode()
 
 
 def verify(
     text: Union[str, BytesLike], password: BytesLike, *, secret: BytesLike = b"", associated: BytesLike = b"",
-    max_kib: int = 1 << 20, max_ops: int = 1 << 23,
+    max_kib: int = 1 << 22, max_ops: int = 1 << 33,
 ) -> bool:
     """Whether the password is that of an encoded text, a str or bytes, with nothing after it, not even a line end.
 
@@ -540,15 +595,16 @@ def verify(
     the right password is False.
 
     The text may come from a stranger and ask for 4 TiB and days, so LimitExceeded is raised, before memory for the hash
-    is taken, if it needs more than `max_kib` KiB (1 GiB if not given) or `max_ops` block functions, about passes *
-    memory. Invalid is raised if it is no encoded text. No limit counts the bytes of the password, 0 to 2^32-1, and all
-    of them are read once, so the time of a call grows with their number: a service bounds the length of what a stranger
-    sends before it calls.
+    is taken, if it needs more than `max_kib` KiB (4 GiB if not given) or `max_ops` block functions, about passes *
+    memory. A SERVER GIVES LOWER ONES, as `max_kib=1 << 20, max_ops=1 << 23`. Invalid is raised if it is no encoded
+    text. No limit counts the bytes of the password, 0 to 2^32-1, and all of them are read once, so the time of a call
+    grows with their number: a service bounds the length of what a stranger sends before it calls.
     """
+    limits = _argon2_limits(max_kib, max_ops)
     try:
         _call(
             _lib.pikhsen_argon2_verify_keyed, _ascii(text), _bytes(password), _bytes(secret), _bytes(associated),
-            *_argon2_limits(max_kib, max_ops),
+            *limits, exceeded=lambda status: _hash_exceeds(status, *settings(text)[:5], *limits),
         )
     except Refused as refused:
         if refused.status is not Status.MISMATCH:
@@ -603,10 +659,10 @@ def scrypt(
     length = operator.index(length)
     if not 0 <= length <= 32 * _TOP:
         raise Invalid(Status.BUFFER)
-    out = _buffer(length)
+    out, costs = _buffer(length), _scrypt_settings(log_n, r, p, keep, max_bytes, max_ops)
     _call(
-        _lib.pikhsen_scrypt, _bytes(password), _bytes(salt), *_scrypt_settings(log_n, r, p, keep),
-        *_limits(max_bytes, max_ops), out,
+        _lib.pikhsen_scrypt, _bytes(password), _bytes(salt), *costs, out,
+        exceeded=lambda status: _key_exceeds(status, *costs),
     )
     return out.raw
 
@@ -628,14 +684,13 @@ def encrypt(
     file or a pipe.
 
     The salt is new, 32 bytes, if none is given. Two files with one passphrase, salt and costs betray their texts.
-    Costs and limits are those of `scrypt`. The defaults of `decrypt` allow less: what log_n 21 and r 8 make, it opens
-    with `max_bytes=1 << 31`.
+    Costs and limits are those of `scrypt`.
     """
-    text, salt = _bytes(text), _file_salt(salt)
+    text, costs = _bytes(text), _scrypt_settings(log_n, r, p, keep, max_bytes, max_ops)
     out = _buffer(len(text) + 128)
     _call(
-        _lib.pikhsen_scrypt_encrypt, _bytes(passphrase), salt, *_scrypt_settings(log_n, r, p, keep),
-        *_limits(max_bytes, max_ops), text, out,
+        _lib.pikhsen_scrypt_encrypt, _bytes(passphrase), _file_salt(salt), *costs, text, out,
+        exceeded=lambda status: _key_exceeds(status, *costs),
     )
     return out.raw
 
@@ -656,17 +711,15 @@ def encrypt_in_place(
         if view.readonly or not view.c_contiguous:
             raise TypeError("a buffer that can be written, and lies in one piece, is wanted here")
         out = (ctypes.c_char * view.nbytes).from_buffer(buffer)
-    number = _number(
-        _lib.pikhsen_scrypt_encrypt_in_place, _bytes(passphrase), _file_salt(salt), *_scrypt_settings(log_n, r, p, keep),
-        *_limits(max_bytes, max_ops), out,
-    )
+    costs = _scrypt_settings(log_n, r, p, keep, max_bytes, max_ops)
+    number = _number(_lib.pikhsen_scrypt_encrypt_in_place, _bytes(passphrase), _file_salt(salt), *costs, out)
     # else what is raised would hold on to the buffer, and who catches it could not change its length
     del out
-    _judge(number)
+    _judge(number, lambda status: _key_exceeds(status, *costs))
 
 
 def decrypt(
-    file: BytesLike, passphrase: BytesLike, *, keep: int = 1, max_bytes: int = 1 << 30, max_ops: int = 1 << 28
+    file: BytesLike, passphrase: BytesLike, *, keep: int = 1, max_bytes: int = 1 << 32, max_ops: int = 1 << 33
 ) -> bytes:
     """The text of an encrypted file, if the whole file is right under the passphrase, its final code included.
 
@@ -675,20 +728,24 @@ def decrypt(
 
     The file may come from a stranger and ask for any costs. What opening it may take is limited by `max_bytes`, in
     bytes, and `max_ops`, in cores of Salsa20/8, as `scrypt` counts them: up to four times `max_bytes` is taken if r is
-    great and N / `keep` small. If nothing else is said these are 1 GiB, enough for log_n 20 and r 8, and 2 ** 28, for
-    which a Xeon of 2.5 GHz took 20 to 27 seconds; log_n 21 needs `max_bytes=1 << 31`. Copies of file and text, up to
-    three times the file's length, come beside that; a long input that does not begin as a file is refused before it is
-    copied. Ctrl-C waits for the end of the call.
+    great and N / `keep` small. If nothing else is said these are 4 GiB, enough for log_n 22 and r 8, and 2 ** 33. A
+    SERVER GIVES LOWER ONES: `max_bytes=1 << 30, max_ops=1 << 28` are enough for log_n 20 and r 8, and bound the time to
+    20 to 27 seconds on a Xeon of 2.5 GHz. Copies of file and text, up to three times the file's length, come beside
+    that; a long input that does not begin as a file is refused before it is copied. Ctrl-C waits for the end of the
+    call.
     """
     front = _beginning(file, 96)
-    given = (_bytes(passphrase), _u32(keep), *_limits(max_bytes, max_ops))
+    passphrase, allowance = _bytes(passphrase), (_u32(keep), *_limits(max_bytes, max_ops))
     # the library tests the length first, then the header, then all else
     if len(front) == 96:
         info(front)
     file = _bytes(file)
     out, text_len = _buffer(len(file)), c_size_t()
     try:
-        _call(_lib.pikhsen_scrypt_decrypt, *given, file, out, byref(text_len))
+        _call(
+            _lib.pikhsen_scrypt_decrypt, passphrase, *allowance, file, out, byref(text_len),
+            exceeded=lambda status: _key_exceeds(status, *info(front), *allowance),
+        )
         return _front(out, text_len.value)
     finally:
         ctypes.memset(out, 0, len(out))

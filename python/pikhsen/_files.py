@@ -7,11 +7,11 @@ import os
 import stat
 import threading
 from ctypes import byref, c_size_t
-from typing import Any, Callable, Iterator, NoReturn, Optional, Protocol, Tuple, TypeVar, Union, runtime_checkable
+from typing import Any, Callable, Iterator, NoReturn, Optional, Protocol, TypeVar, Union, runtime_checkable
 
 from . import (
-    BytesLike, NotAFile, Path, Status, _buffer, _bytes, _call, _file_salt, _front, _lib, _limits, _scrypt_settings,
-    _Stream, _u32,
+    BytesLike, NotAFile, Path, Status, _buffer, _bytes, _call, _file_salt, _front, _key_exceeds, _lib, _limits,
+    _scrypt_settings, _Stream, _u32, info,
 )
 
 
@@ -107,10 +107,10 @@ class Encryptor(_InPieces):
         max_bytes: int = 1 << 32, max_ops: int = 1 << 33, salt: Optional[BytesLike] = None,
     ) -> None:
         super().__init__()
-        head = _buffer(96)
+        head, costs = _buffer(96), _scrypt_settings(log_n, r, p, keep, max_bytes, max_ops)
         _call(
-            _lib.pikhsen_scrypt_encrypt_start, _bytes(passphrase), _file_salt(salt),
-            *_scrypt_settings(log_n, r, p, keep), *_limits(max_bytes, max_ops), byref(self._stream), head,
+            _lib.pikhsen_scrypt_encrypt_start, _bytes(passphrase), _file_salt(salt), *costs, byref(self._stream), head,
+            exceeded=lambda status: _key_exceeds(status, *costs),
         )
         self._head = head.raw
 
@@ -151,10 +151,10 @@ class Decryptor(_InPieces):
     """
 
     def __init__(
-        self, passphrase: BytesLike, *, keep: int = 1, max_bytes: int = 1 << 30, max_ops: int = 1 << 28
+        self, passphrase: BytesLike, *, keep: int = 1, max_bytes: int = 1 << 32, max_ops: int = 1 << 33
     ) -> None:
         super().__init__()
-        self._given: Tuple[object, ...] = (_bytes(passphrase), _u32(keep), *_limits(max_bytes, max_ops))
+        self._passphrase, self._allowance = _bytes(passphrase), (_u32(keep), *_limits(max_bytes, max_ops))
         self._front = b""
 
     def update(self, data: BytesLike) -> bytes:
@@ -167,8 +167,11 @@ class Decryptor(_InPieces):
                 self._front, piece = self._front + piece[:missing], piece[missing:]
                 if len(self._front) < 96:
                     return b""
-                given, self._given = self._given, ()
-                _call(_lib.pikhsen_scrypt_decrypt_start, *given, self._front, byref(self._stream))
+                passphrase, self._passphrase = self._passphrase, b""
+                _call(
+                    _lib.pikhsen_scrypt_decrypt_start, passphrase, *self._allowance, self._front, byref(self._stream),
+                    exceeded=lambda status: _key_exceeds(status, *info(self._front), *self._allowance),
+                )
             return self._released(piece)
 
     def _released(self, piece: bytes) -> bytes:
@@ -375,7 +378,7 @@ def encrypt_file(
 
 def decrypt_file(
     source: Union[Path, Readable], target: Union[Path, Writable], passphrase: BytesLike, *, keep: int = 1,
-    max_bytes: int = 1 << 30, max_ops: int = 1 << 28, progress: Optional[Progress] = None,
+    max_bytes: int = 1 << 32, max_ops: int = 1 << 33, progress: Optional[Progress] = None,
 ) -> None:
     """Decrypts the encrypted file `source` into the new file `target`, if the whole file is right under the passphrase,
     its final code included. Both, and `progress`, are as for `encrypt_file`, and so is what is left if it raises.

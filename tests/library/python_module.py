@@ -383,6 +383,59 @@ def limits_from_python(checks, pikhsen):
             most, blocks = work_of(kind, kib, passes, lanes), kib // (4 * lanes) * 4 * lanes
             rows = (None, {}), ("WORK_LIMIT", {"max_ops": most - 1}), ("MEMORY_LIMIT", {"max_kib": blocks - 1})
             refused(checks, rows, pikhsen.hash, b"x", b"saltsalt", max_ops=most, max_kib=blocks, **settings)
+            text = pikhsen.encode(b"x", **settings)
+            needs = [("the hash", "KiB", "max_kib", blocks), ("the hash", "block functions", "max_ops", most)]
+            exact(checks, pikhsen, needs, pikhsen.hash, b"x", b"saltsalt", **settings)
+            exact(checks, pikhsen, needs, pikhsen.encode, b"x", **settings)
+            exact(checks, pikhsen, needs, pikhsen.verify, text, b"x")
+    # RFC 7914, 4 to 6; the rows that are kept are less than the parts where N is small
+    for log_n, r, p, keep in ((4, 1, 1, 1), (4, 3, 2, 4), (2, 2, 9, 1), (3, 1, 5, 8), (7, 8, 1, 64)):
+        costs = {"log_n": log_n, "r": r, "p": p, "keep": keep}
+        held, cores = max(128 * r * 2**log_n // keep, 128 * r * p), 2 * r * p * 2**log_n * (1 + keep)
+        needs = [("the key", "bytes", "max_bytes", held), ("the key", "cores of Salsa20/8", "max_ops", cores)]
+        file = pikhsen.encrypt(b"Dear Ada", b"pw", **costs)
+        for call, *given in (
+            (pikhsen.scrypt, b"pw", b"salt"), (pikhsen.encrypt, b"Dear Ada", b"pw"), (pikhsen.Encryptor, b"pw"),
+            (pikhsen.encrypt_in_place, bytearray(200), b"pw"),
+        ):
+            exact(checks, pikhsen, needs, call, *given, **costs)
+        exact(checks, pikhsen, needs, pikhsen.decrypt, file, b"pw", keep=keep)
+        exact(checks, pikhsen, needs, decrypted_in_pieces, pikhsen, file, keep=keep)
+    great_limits_from_python(checks, pikhsen)
+
+
+def decrypted_in_pieces(pikhsen, file, **named):
+    return pikhsen.Decryptor(b"pw", **named).update(file)
+
+
+def exact(checks, pikhsen, needs, call, *given, **named):
+    """Of each limit of a call: what the text says that is needed is enough, and one less is not."""
+    enough = {parameter: needed for _, _, parameter, needed in needs}
+    checks.that(f"{call.__name__}: just enough", refusal(call, *given, **named, **enough), None)
+    for what, unit, parameter, needed in needs:
+        for allowed in (needed - 1, 0):
+            told = raised(call, *given, **named, **{**enough, parameter: allowed})
+            found = type(told), str(told), getattr(told, "needed", None), getattr(told, "allowed", None)
+            says = f"{what} takes {needed} {unit}, and {parameter} allows {allowed}"
+            checks.that(f"{call.__name__}: {parameter} {allowed}", found, (pikhsen.LimitExceeded, says, needed, allowed))
+
+
+def great_limits_from_python(checks, pikhsen):
+    """Costs that nobody pays: memory is told before work, and with enough of the one the other is told. No limit is above
+    2^40 bytes, or 2^64-1 cores."""
+    salt, great = b"saltsalt", 2**32 - 1
+    for call, given, named, parameter, needed, allowed in (
+        (pikhsen.hash, (b"", salt), {"memory_kib": great, "passes": great}, "max_kib", 2**32 - 16, None),
+        (pikhsen.scrypt, (b"", b""), {"log_n": 33, "r": 1}, "max_bytes", 2**40, None),
+        (pikhsen.scrypt, (b"", b""), {"log_n": 33, "r": 2}, "max_bytes", 2**41, 2**40),
+        (pikhsen.decrypt, (of_costs(63, 8, 2**26, b"s" * 32) + bytes(32), b""), {}, "max_bytes", 2**73, 2**40),
+    ):
+        told = raised(call, *given, **named, **{parameter: needed - 1, "max_ops": 0})
+        checks.that(f"{call.__name__}, {named}: {parameter}", (told.needed, told.allowed), (needed, allowed or needed - 1))
+        told = raised(call, *given, **named, **{parameter: needed, "max_ops": 0})
+        checks.that(f"{call.__name__}, {named}: enough of {parameter}", told.status.name, "MEMORY_LIMIT" if allowed else "WORK_LIMIT")
+    told = raised(pikhsen.scrypt, b"", b"", log_n=32, r=1, p=2**30 - 1, keep=1024, max_bytes=2**40, max_ops=1 << 70)
+    checks.that("more work than any limit allows", (told.needed, told.allowed), (2 * (2**30 - 1) * 2**32 * 1025, 2**64 - 1))
 
 
 def signatures_from_python(checks, pikhsen):
@@ -441,9 +494,10 @@ def exceptions_from_python(checks, pikhsen):
     """Each is itself when it is copied, and of its families; and the library has its sentence, in just its room."""
     sentences = {name: says for _, name, _, says, *_ in values_table.rows("status")}
     for status in pikhsen.Status:
-        made, says = pikhsen._EXCEPTIONS.get(status, pikhsen.Invalid)(status), sentences[status.name]
+        raises, says = pikhsen._EXCEPTIONS.get(status, pikhsen.Invalid), sentences[status.name]
+        made = raises(status, *(("the hash", 2, "KiB", "max_kib", 1) if raises is pikhsen.LimitExceeded else ()))
         for again in (pickle.loads(pickle.dumps(made)), copy.copy(made), copy.deepcopy(made)):
-            checks.that(f"{made!r} again", (type(again), again.status, str(again)), (type(made), status, str(made)))
+            checks.that(f"{made!r} again", (type(again), again.args, again.status, str(again)), (type(made), made.args, status, str(made)))
         families = isinstance(made, ValueError), isinstance(made, MemoryError)
         is_value = status is not pikhsen.Status.OUT_OF_MEMORY
         checks.that(f"families of {made!r}", families, (is_value, not is_value))

@@ -23,8 +23,11 @@ STORED = (
     "$argon2id$v=19$m=262144,t=3,p=1$m9cS6zEhXRH8oGtIwCDtWQ$TtQ75LOfGKCejJKLeZHyXrHZ3Dqsy40i/iUEpegrV9Q",
 )
 TEXTS = [it.removeprefix("argon2") for it in STORED]
-# More than 1 GiB, and more than 2^23 block functions.
-GREAT = [f"$argon2id$v=19$m={kib},t={passes},p=1$c29tZXNhbHQ$AAAAAA" for kib, passes in ((1048580, 1), (1048576, 8))]
+# More than 1 GiB, more than 2^23 block functions; more than 4 GiB, more than 2^33.
+GREAT, GREATEST = (
+    [f"$argon2id$v=19$m={kib},t={passes},p=1$c29tZXNhbHQ$AAAAAA" for kib, passes in ((most + 4, 1), (most, great))]
+    for most, great in ((1 << 20, 8), (1 << 22, 1 << 11))
+)
 # What is asked of a login of a page, as a text and a password after another, and what it says.
 RIGHT = [*((it, "correct horse", "welcome") for it in TEXTS), *((it, "x", "set a new password") for it in GREAT)]
 LOGINS = [*RIGHT, *((TEXTS[3], it, "not you") for it in ("battery staple", "", "x" * 128))]
@@ -155,8 +158,10 @@ def logins_run(checks, folder, lib):
     status, found = with_module(lib, "-c", shown("python")[0] + OF_PYTHON, *words)
     checks.that("LIBRARY's login.py: its answers", (status, found[-len(expected):]), (0, expected))
     of_readme = re.search(r"^```python\n(import pikhsen\n.*?)^```", README, re.MULTILINE | re.DOTALL)[1]
-    says = ["True"] * len(TEXTS) + [f"more {it} is needed than the limit allows" for it in ("memory", "work")]
-    for text, said in zip([*TEXTS, *GREAT], says):
+    # Argon2id: passes * blocks - 2 * lanes, and 2 for every 128 blocks of half of the first pass
+    ops = (1 << 33) - 2 + (1 << 15)
+    exceeds = "4194308 KiB, and max_kib allows 4194304", f"{ops} block functions, and max_ops allows {1 << 33}"
+    for text, said in zip([*TEXTS, *GREATEST], [*["True"] * len(TEXTS), *(f"the hash takes {it}" for it in exceeds)]):
         pathlib.Path(folder, "stored").write_text(text + "\n", encoding="utf-8")
         checks.that(f"README's check, of {text[:34]}", with_module(lib, "-c", of_readme, cwd=folder), (0, f"{said}\n"))
     enrol, check = (it.replace("\n", "\n    ") for it in examples_of_page()[:2])

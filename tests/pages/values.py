@@ -435,6 +435,10 @@ def module():
             made += [[name, it.arg, repr(number(ast.unparse(default), Kind=kinds)) if default else "-"]
                      for it, default in zip(node.args.kwonlyargs, node.args.kw_defaults)]
     that("defaults of the module", sorted(made), sorted([name, it, value or "-"] for name, it, value in rows("default")))
+    # what a program makes under its own limits, the module reads under its own
+    limits = {("max_kib", options("argon2")["--maxmem"].default), ("max_bytes", options("scrypt")["-M"].default),
+              *(("max_ops", options(it)["--maxops"].default) for it in PROGRAMS)}
+    that("limits of the module and of the programs", {(it, value) for _, it, value in rows("default") if it.startswith("max_")}, limits)
     major = text_of("VERSION").split(".")[0]
     that("the version that the module is for", found(r"^_MAJOR = (\d+)$", library_texts.MODULE), major)
     for phrase, times, files in rows("phrase"):
