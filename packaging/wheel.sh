@@ -4,7 +4,7 @@
 #     packaging/wheel.sh                     with the library in bin/lib, in bin/
 #     packaging/wheel.sh LIBRARY FOLDER      with the library in LIBRARY, in FOLDER
 #
-# setuptools makes it by python/pyproject.toml, of the first Python that can: python3, or that of the system. It is the
+# setuptools makes it by python/pyproject.toml and setup.py, of the first Python that can: python3, or that of the system. It is the
 # same bytes each time, with the time of the last commit (without git: of now), or SOURCE_DATE_EPOCH where it is set.
 set -eu
 umask 022
@@ -29,7 +29,7 @@ if test -z "$python"; then
     exit 2
 fi
 
-install -D -m 644 -t "$work/wheel" python/pyproject.toml VERSION
+install -D -m 644 -t "$work/wheel" python/pyproject.toml python/setup.py VERSION
 install -D -m 644 -t "$work/wheel/pikhsen" python/pikhsen/__init__.py python/pikhsen/_files.py
 install -m 644 -T /dev/null "$work/wheel/pikhsen/py.typed"
 install -m 644 -t "$work/wheel/pikhsen" "$library/libpikhsen.so.0"

@@ -30,7 +30,7 @@ CRATES = "host:\nblake:\nargon_tool: host\nscrypt_tool: host\npikhsen_c staticli
 OTHERS = [f"bin/{OTHER}/argon2", f"bin/{OTHER}/scrypt"]
 HIGHER = f"glibc-hwcaps/{OTHER}/libpikhsen.so.0"
 LIBRARIES = ["bin/lib/libpikhsen.a", "bin/lib/libpikhsen.so.0", f"bin/lib/{HIGHER}"]
-PACKAGE, WHEEL = "bin/pikhsen_0.0.1_amd64.deb", "bin/pikhsen-0.0.1-py3-none-linux_x86_64.whl"
+PACKAGE, WHEEL = "bin/pikhsen_0.0.1_amd64.deb", "bin/pikhsen-0.0.1-py3-none-any.whl"
 # The library in C: the names of the header, and one of the kit's heap, which is not to be seen outside.
 HEAP = """#include <stdlib.h>
 void *taken_by_the_kit(size_t size);

@@ -1,6 +1,6 @@
 #!/usr/bin/env python3
-"""The wheel: the same bytes each time and under each umask, its files and what it says of itself; and how pip installs it
-in a new environment of Python, without a network. There the page's login runs, over the library inside that is for the
+"""The wheel: the same bytes each time and under each umask, its files and what it says of itself, and that its libraries
+are for all systems of its tag; and how pip installs it in a new environment of Python, without a network. There the page's login runs, over the library inside that is for the
 processor's level.
 
     tests/library/python_wheel.py FOLDER      the folder in which libpikhsen.so.0 lies
@@ -9,18 +9,22 @@ import email
 import importlib.util
 import os
 import pathlib
+import re
 import subprocess
 import sys
 import zipfile
 
 sys.path += map(str, pathlib.Path(__file__).resolve().parents[1].iterdir())  # the other folders of tests/
 from binaries import runs_v3
-from checking import over_library
+from checking import over_library, said
 from library_texts import TOP, VERSION, ran
 from packages import EPOCH, HIGHER, newest_libc
 from shown import shown
 
-NAME = f"pikhsen-{VERSION}-py3-none-linux_x86_64.whl"
+# The version of glibc that the wheel asks for; manylinux_2_17 is the oldest tag of PEP 600 that its libraries meet.
+GLIBC = (2, 17)
+TAG = f"py3-none-manylinux_{GLIBC[0]}_{GLIBC[1]}_x86_64"
+NAME = f"pikhsen-{VERSION}-{TAG}.whl"
 ABOUT = f"pikhsen-{VERSION}.dist-info"
 LOADED = """import importlib.metadata, pikhsen
 with open("/proc/self/maps") as maps:
@@ -31,7 +35,7 @@ with open("/proc/self/maps") as maps:
 def made(lib, out, umask):
     """Status and output of packaging/wheel.sh, which makes the wheel in a folder that is made for it."""
     os.mkdir(out)
-    pathlib.Path(out, "pikhsen-0.0.1-py3-none-linux_x86_64.whl").touch()
+    pathlib.Path(out, f"pikhsen-0.0.1-{TAG}.whl").touch()
     return ran(TOP / "packaging/wheel.sh", lib, out, env={**os.environ, "SOURCE_DATE_EPOCH": f"{EPOCH}"}, umask=umask)
 
 
@@ -49,12 +53,23 @@ def contents(checks, wheel, lib):
     other = [it for it, source in sources.items() if read.get(it) != source.read_bytes()]
     checks.that("wheel: files that are others", other, [])
     about, tags = (email.message_from_bytes(read[f"{ABOUT}/{it}"]) for it in ("METADATA", "WHEEL"))
-    checks.that("wheel: its tag", tags.get_all("Tag"), ["py3-none-linux_x86_64"])
+    checks.that("wheel: its tag", [tags.get_all(it) for it in ("Tag", "Root-Is-Purelib")], [[TAG], ["false"]])
+    for_all_systems(checks, libraries.values())
     fields = [about[it] for it in ("Name", "Version", "Requires-Python", "License", "Requires-Dist")]
     checks.that("wheel: its fields", fields, ["pikhsen", VERSION, ">=3.9", None, None])
     text = " ".join(about.get_payload().split())
-    for phrase in ("No licence has been chosen yet", f"glibc {newest_libc(libraries.values())} or later", "level x86-64-v2 and above"):
+    for phrase in ("No licence has been chosen yet", f"glibc {GLIBC[0]}.{GLIBC[1]} or later", "level x86-64-v2 and above"):
         checks.that(f"wheel: what is said of it: {phrase}", phrase in text, True)
+
+
+def for_all_systems(checks, libraries):
+    """What auditwheel asks of a library under a tag of glibc: no other library than that, no newer version of it, and no
+    note that asks for more than every x86-64 processor has."""
+    for library in libraries:
+        asked, notes = (said("readelf", it, str(library)) for it in ("-dVW", "-nW"))
+        newest = tuple(map(int, newest_libc([library]).split(".")))
+        found = re.findall(r"\(NEEDED\).*\[(.*)\]", asked), {*re.findall(r"Name: ([A-Z]+)_\d\S*  Flags", asked)}, newest <= GLIBC, "ISA" in notes
+        checks.that(f"wheel: what {library.parent.name}/{library.name} asks for", found, (["libc.so.6"], {"GLIBC"}, True, False))
 
 
 def installed(checks, folder, wheel, lib):
