@@ -7,7 +7,7 @@ import os
 import stat
 import threading
 from ctypes import byref, c_size_t
-from typing import Any, Callable, Iterator, NoReturn, Optional, Protocol, TypeVar, Union, runtime_checkable
+from typing import Any, Callable, Iterator, NoReturn, Optional, Protocol, TypeVar, Union
 
 from . import (
     BytesLike, NotAFile, Path, Status, _buffer, _bytes, _call, _file_salt, _front, _key_exceeds, _lib, _limits,
@@ -15,14 +15,12 @@ from . import (
 )
 
 
-@runtime_checkable
 class Readable(Protocol):
     """A file that is opened for reading bytes."""
 
     def read(self, size: int, /) -> Optional[BytesLike]: ...
 
 
-@runtime_checkable
 class Writable(Protocol):
     """A file that is opened for writing bytes."""
 
@@ -199,21 +197,25 @@ _PIECE = 1 << 16
 @contextlib.contextmanager
 def _readable(source: Union[Path, Readable]) -> Iterator[Readable]:
     """A file that is opened already, and stays so, or that of a path, which is closed at the end."""
-    if isinstance(source, (str, bytes, os.PathLike)) or not isinstance(source, Readable):
-        with open(os.fspath(source), "rb", buffering=0) as file:
+    if isinstance(source, (str, bytes, os.PathLike)):
+        with open(source, "rb", buffering=0) as file:
             yield file
-    else:
+    elif hasattr(source, "read"):
         yield source
+    else:
+        raise TypeError(f"a path or an opened file is wanted here, and not {type(source).__name__}")
 
 
 @contextlib.contextmanager
 def _writable(target: Union[Path, Writable]) -> Iterator[Writable]:
     """A file that is opened already, and stays so, or a new one of a path, which is there when all of it is."""
-    if isinstance(target, (str, bytes, os.PathLike)) or not isinstance(target, Writable):
+    if isinstance(target, (str, bytes, os.PathLike)):
         with _new_file(target) as file:
             yield file
-    else:
+    elif hasattr(target, "write"):
         yield target
+    else:
+        raise TypeError(f"a path or an opened file is wanted here, and not {type(target).__name__}")
 
 
 def _length(source: Any) -> Optional[int]:

@@ -14,6 +14,7 @@ import signal
 import socket
 import subprocess
 import sys
+import tempfile
 import threading
 import time
 import types
@@ -468,6 +469,12 @@ def opened_files_from_python(checks, pikhsen, folder):
             checks.that("a raw target", bytes(target.taken), file)
             whole = [(min(it, len(text)), len(text)) for it in range(65536, len(text) + 65536, 65536)]
             checks.that("progress", told, whole)
+    with tempfile.NamedTemporaryFile() as source, tempfile.NamedTemporaryFile() as target:
+        # its class has neither `read` nor `write`
+        pathlib.Path(source.name).write_bytes(text)
+        found = refusal(pikhsen.encrypt_file, source, target, b"pw", salt=SALT, **CHEAP)
+        target.flush()
+        checks.that("files that wrap others", (found, pathlib.Path(target.name).read_bytes()), (None, file))
     # it brings all at once, and then nothing for now; and it takes all that it is given, and says nothing
     taken, new = bytearray(), path.with_suffix(".new")
     silent = types.SimpleNamespace(read=mock.Mock(side_effect=[memoryview(text), None, None]), write=taken.extend)
