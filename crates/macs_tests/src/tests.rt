@@ -169,6 +169,19 @@ fn hmac_cases(rt: HostRuntime) {
     }
 }
 
+// Python, hashlib.sha256(65 * b'k').digest(): of the key of the seventh row.
+static DIGEST_OF_LONG_KEY: [u8; 32] = [
+    0xf3, 0x9c, 0xdc, 0x25, 0x84, 0x75, 0x8c, 0x99, 0xcf, 0x81, 0xc1, 0xf4, 0x1d, 0x25, 0x72, 0xf5,
+    0x4e, 0x17, 0x06, 0x6a, 0xff, 0xfc, 0x9d, 0x18, 0x7a, 0xea, 0xfe, 0x5f, 0x7c, 0xbe, 0x21, 0x22,
+];
+
+// A key of more than 64 bytes has the codes of its digest (RFC 2104, 2).
+#[test]
+fn a_long_key_stands_for_its_digest(rt: HostRuntime) {
+    let case = &HMAC_CASES[6];
+    assert!(rt; hmac_in_pieces(&DIGEST_OF_LONG_KEY, case.message, 200) == case.code);
+}
+
 // A copy goes on to another message than the first.
 fn code_of_copy(mut mac: Hmac, mut copy: Hmac) -> [u8; 32] {
     mac.update(b"from me?");
