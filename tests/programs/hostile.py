@@ -87,7 +87,13 @@ def password(*rows):
 # Standard streams, which are pipes here: so what is read is not looked at before they are written.
 LOOKED = ("look at /proc/self/fd/1", "S13", 0)
 WRITTEN = [("look at /proc/self/fd/1", "A9", 0), ("write standard output", "A9", 0)]
-LINE = [("look at /proc/self/fd/2", "no line"), ("write standard error", "no line")]
+
+
+def line(*read):
+    """A line: what is open to be read is looked at, and standard error only where that is a file; standard input is a pipe here."""
+    named = [name for name in read if name != STDIN]
+    return [(call, "no line") for call in [*(f"look at {name}" for name in read), *["look at /proc/self/fd/2"] * bool(named),
+                                           "write standard error"]]
 
 
 def opened_out(*read):
@@ -125,9 +131,10 @@ RUNS = [
     hash_of("somesalt -t 2 -m 8 -e", b"$argon2i$v=19$m=256,t=2,p=1$c29tZXNhbHQ$iekCn0Y3spW+sCcFanM2xBT63UP2sghkUoHLIUpWRS8\n"),
     hash_of("somesalt -t 2 -m 8 -id -p 2 -r", b"6d093c501fd5999645e0ea3bf620d7b8be7fd2db59c20d9fff9539da2bf57037\n"),
     hash_of("somesalt -t 2 -m 8 -v 10 -r", b"fd4dd83d762c49bdeaf57c47bdcd0c2f1babf863fdeb490df63ede9975fccf06\n"),
-    Run("argon2", "seven77 -e", b"password", b"", password(*LINE), "A6.5"),
-    Run("argon2", "somesalt -e", b"", b"", calls(*opened("standard input", "A8a"), ("read standard input", "A8a"), *LINE), "A8b"),
-    Run("argon2", "somesalt -t x -q", b"password", b"", calls(*LINE), "A4"),
+    Run("argon2", "seven77 -e", b"password", b"", password(*line(STDIN)), "A6.5"),
+    Run("argon2", "somesalt -e", b"", b"", calls(*opened("standard input", "A8a"), ("read standard input", "A8a"), *line(STDIN)),
+        "A8b"),
+    Run("argon2", "somesalt -t x -q", b"password", b"", calls(*line()), "A4"),
     file_of(f"enc {FIXED} {FROM_PW} -", b"", F0, *opened("standard input", "S12"), *PW, LOOKED, (*OUT, 0), (*INPUT, 96), (*OUT, 96)),
     *(file_of(f"enc {FIXED} {keep}{FROM_PW} hello out", b"", F5, *ENC_HELLO_OUT, to_file=True)
       for keep in ("", "--keep 2 ", "--keep 4 ")),
@@ -141,10 +148,10 @@ RUNS = [
     file_of("dec --passphrase env:PW -", F5, b"hello", *opened("standard input", "S12"), INPUT, LOOKED, (*INPUT, 0), (*OUT, 0),
             (*INPUT, 5)),
     file_of("info F5", b"", b"N = 16; r = 1; p = 1; memory = 2048; cores = 64\n", *OPEN_F5, LOOKED, (*OUT, 0)),
-    file_of("dec --passphrase file:other-pw F5 out", b"", b"", *OPEN_F5, *opened("other-pw", "S4a"), *read_twice("other-pw", "S4a"), *LINE,
-            refusal="S10", to_file=True),
+    file_of("dec --passphrase file:other-pw F5 out", b"", b"", *OPEN_F5, *opened("other-pw", "S4a"), *read_twice("other-pw", "S4a"),
+            *line("F5", "other-pw"), refusal="S10", to_file=True),
     file_of(f"dec {FROM_PW} F5-cut-127 out", b"", b"", *opened("F5-cut-127", "S12"), ("read F5-cut-127", "S12"), *PW,
-            *opened_out("F5-cut-127", "pw"), *[("read F5-cut-127", "S12", 0)] * 2, *((*it, 0) for it in LINE),
+            *opened_out("F5-cut-127", "pw"), *[("read F5-cut-127", "S12", 0)] * 2, *((*it, 0) for it in line("F5-cut-127", "pw")),
             refusal="S11", to_file=True),
 ]
 
@@ -219,11 +226,11 @@ LARGE_REQUESTS = [
     (hash_of("somesalt -d -t 1 -k 1024 -r", b"2e2e5e05fe57ac2cf472ecd045ef687e562a980fd50339b389c870e1962bbc45\n"), 1 << 20),
     (hash_of("somesalt -id -t 2 -k 1024 -p 2 -e",
              b"$argon2id$v=19$m=1024,t=2,p=2$c29tZXNhbHQ$kEfNQbPvk6Q7hokW6Jrvn1Mjb9kdT/I7OXVDKsviazk\n"), 1 << 20),
-    *((file_of(f"{words} {keep} {FROM_PW} -", given, made, *LINE), table)
+    *((file_of(f"{words} {keep} {FROM_PW} -", given, made, *line()), table)
       for words, given, made in ((f"enc --logN 13 -r 1 -p 1 --salt {SALT}", b"", F_MIB), ("dec", F_MIB, b""))
       for keep, table in (("", 1 << 20), ("--keep 4", 1 << 18))),
 ]
-INFO = file_of("info -", F_MIB, b"N = 8192; r = 1; p = 1; memory = 1048576; cores = 32768\n", *LINE)
+INFO = file_of("info -", F_MIB, b"N = 8192; r = 1; p = 1; memory = 1048576; cores = 32768\n", *line())
 
 
 def largest_requests(checks, system):
@@ -242,7 +249,7 @@ def largest_requests(checks, system):
 
 
 # A file is refused for its passphrase, once its table of 1 MiB was filled.
-WRONG_PASSPHRASE = (file_of("dec --passphrase file:other-pw -", F_MIB, b"", *LINE, refusal="S10"), 1 << 20)
+WRONG_PASSPHRASE = (file_of("dec --passphrase file:other-pw -", F_MIB, b"", *line(), refusal="S10"), 1 << 20)
 
 
 def freed_blocks(checks, system):
@@ -310,6 +317,28 @@ def failing_calls(system, run):
     return wrong
 
 
+# Refused before anything is opened, or as it is.
+UNOPENED = [
+    Run("argon2", "", b"", b"", calls(*line()), "A1"),
+    file_of("", b"", b"", *line(), refusal="S1"),
+    file_of("dec F5", b"", b"", *line(), refusal="S3"),
+    file_of(f"dec {FROM_PW} missing", b"", b"", ("open missing", "S12"), *line(), refusal="S12"),
+]
+
+
+def refused_looks(system, run, only, error):
+    """What a run does if all looks are refused, as by a filter of calls that does not know them, or those below /proc, and what it
+    should: it ends at the first, with its line, unless it reads a file and so has to know which one standard error is."""
+    found = system.run(run, {"HOSTILE_ONLY": only, "HOSTILE_CALLS": f"1-{1 << 40}", "HOSTILE_WAY": str(error)})
+    at = next((at for at, (call, _, _) in enumerate(run.calls) if call.startswith(only)), len(run.calls))
+    is_read = only != "look at" and any(call == f"open {name}" for call, _, _ in run.calls[:at] for name in FILES)
+    if at == len(run.calls):
+        return found, run.plain()
+    _, refusal, written = run.calls[at]
+    status, out, said, content = run.plain() if refusal == "no line" else run.after(refusal, written)
+    return found, (status, out, b"" if is_read else said, content)
+
+
 def salts(checks, system):
     """The random bytes of a salt cannot be had, come in pieces, or end too soon."""
     run = Run("scrypt", f"enc {COSTS} {FROM_PW} hello", b"", b"", calls())
@@ -361,6 +390,9 @@ def main(checks, folder, argon2, scrypt):
             for run, called, requested in tables:
                 checks.that(f"a call refused: {run.name()}", called.result(), [])
                 checks.that(f"memory refused: {run.name()}", requested.result(), (True, []))
+            for run in [*RUNS, *UNOPENED]:
+                for only, error in (("look at", errno.EPERM), ("look at /proc", errno.EACCES)):
+                    checks.that(f"each {only} refused: {run.name()}", *refused_looks(system, run, only, error))
             for part in (largest_requests, freed_blocks, salts):
                 part(checks, system)
         for run, limited in [(run, threads.submit(limits, system, run)) for run in RUNS]:

@@ -3,6 +3,7 @@
        HOSTILE_MEMORY=FIRST-LAST    the requests for memory with these numbers, from 1, are refused
        HOSTILE_LARGEST=BYTES        each request for more bytes is refused
        HOSTILE_CALLS=FIRST-LAST     the calls with these numbers, from 1,
+       HOSTILE_ONLY=TEXT            of those alone whose line in the log begins so,
        HOSTILE_WAY=NUMBER           fail with this error,
        HOSTILE_WAY=short            or read or write one byte, where they read or write
        HOSTILE_LOG=DESCRIPTOR       a line for each call and the count of requests for memory go there
@@ -31,6 +32,8 @@ void __libc_free(void *);
 static struct range { long first, last; } refused_requests, bad_calls;
 static int error; /* 0: short */
 static long requests, calls;
+static int is_bad; /* the last call */
+static const char *only = "";
 static size_t largest_request = SIZE_MAX, told_when_freed = SIZE_MAX;
 static int log_descriptor = -1;
 static char names[16][64] = {"standard input", "standard output", "standard error"};
@@ -51,6 +54,7 @@ static size_t number_of(const char *variable, size_t otherwise) {
 __attribute__((constructor)) static void begin(void) {
     refused_requests = range_of("HOSTILE_MEMORY");
     bad_calls = range_of("HOSTILE_CALLS");
+    only = getenv("HOSTILE_ONLY") ? getenv("HOSTILE_ONLY") : "";
     error = (int)number_of("HOSTILE_WAY", EIO);
     largest_request = number_of("HOSTILE_LARGEST", SIZE_MAX);
     told_when_freed = number_of("HOSTILE_FREED", SIZE_MAX);
@@ -69,11 +73,13 @@ void *calloc(size_t count, size_t size) {
 
 void *realloc(void *old, size_t size) { return is_refused(size) ? NULL : __libc_realloc(old, size); }
 
-static void tell(const char *call, const char *name) {
+/* Whether the line of this call in the log begins as HOSTILE_ONLY says. */
+static int tell(const char *call, const char *name) {
     char line[128];
     int length = snprintf(line, sizeof line, "%s %s\n", call, name);
     if (log_descriptor >= 0)
         syscall(SYS_write, log_descriptor, line, length);
+    return strncmp(line, only, strlen(only)) == 0;
 }
 
 void free(void *block) {
@@ -88,8 +94,8 @@ void free(void *block) {
 
 /* Whether this call is made: if not, errno says why. */
 static int goes_on(const char *call, const char *name) {
-    tell(call, name);
-    if (!is_within(bad_calls, ++calls) || !error)
+    is_bad = tell(call, name) && is_within(bad_calls, ++calls);
+    if (!is_bad || !error)
         return 1;
     errno = error;
     return 0;
@@ -97,7 +103,7 @@ static int goes_on(const char *call, const char *name) {
 
 static const char *name_of(int descriptor) { return descriptor < 0 || descriptor >= 16 ? "a file" : names[descriptor]; }
 
-static size_t cut(size_t size) { return !error && is_within(bad_calls, calls) && size > 1 ? 1 : size; }
+static size_t cut(size_t size) { return !error && is_bad && size > 1 ? 1 : size; }
 
 int open(const char *path, int flags, ...) {
     va_list rest;

@@ -1,5 +1,5 @@
 -- What contracts see of a system in memory.
-use Rattle.std.specs.Prelude.{ℕ, List, [], ◌∷◌, ◌++◌, Option, None, Some, false}
+use Rattle.std.specs.Prelude.{◌≡◌, ℕ, List, [], ◌∷◌, ◌++◌, Option, None, Some, false}
 use Rattle.host.specs.HostState.{Text}
 use Rattle.tools.specs.declared.identity.FileIdentity.{FileIdentity}
 use Rattle.tools.specs.SystemState.{Files, Source, SystemState, placeholder_files, placeholder_state}
@@ -20,9 +20,13 @@ new_system_in_memory = record { state = placeholder_state; files = placeholder_f
 abbrev pub source_not_yet_opened : List ℕ → Source
 source_not_yet_opened bytes = record { opened = None; left = bytes; is_ended = false }
 
+-- what was not opened is no file, before an output is opened and then
+abbrev pub IsNoFileUntilOpened : Source → Option FileIdentity → Option FileIdentity → Type 0
+IsNoFileUntilOpened s before after = s.opened ≡ None → (before ≡ None) × (after ≡ None)
+
 -- the system with this input, which is not opened yet
 abbrev pub with_input_bytes : List ℕ → Memory → Memory
-with_input_bytes bytes m = record m { state = record m.state { input = source_not_yet_opened bytes } }
+with_input_bytes bytes m = record m { state = record m.state { input = source_not_yet_opened bytes }; files = record m.files { input = None } }
 
 -- the system with this standard input
 abbrev pub with_stdin_bytes : List ℕ → Memory → Memory

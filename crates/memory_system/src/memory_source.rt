@@ -1,5 +1,5 @@
 //! A stream of a system in memory that is read.
-ghost use Rattle.std.specs.Prelude.{◌≡◌, ◌<◌, ◌≤◌, [], None, length, min, option_map, take, IfOk, OnErr};
+ghost use Rattle.std.specs.Prelude.{◌≡◌, ◌↔◌, ◌<◌, ◌≤◌, [], None, length, min, option_map, take, IfOk, IsTrue, OnErr};
 ghost use Rattle.host.specs.AskedSource.{name_bytes};
 ghost use Rattle.memory_system.specs.Memory.{source_not_yet_opened};
 ghost use Rattle.tools.specs.SystemState.{after_reading, opened_source};
@@ -54,6 +54,13 @@ impl InMemoryStream {
     {
         self.opened = Some(to_ghost_name(name));
         self.is_ended = false;
+    }
+
+    /// Whether it is not opened.
+    pub fn is_unopened(&self) -> bool
+        ensures exact { IsTrue result ↔ self.now.opened ≡ None }
+    {
+        self.opened.is_none()
     }
 
     /// Reads the next bytes, at most so many. A stream that is not opened is a fault.

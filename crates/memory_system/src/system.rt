@@ -1,7 +1,7 @@
 //! A system in memory.
-ghost use Rattle.std.specs.Prelude.{◌≡◌, ◌+◌, ◌-◌, ◌<◌, ◌^◌, true, map, min, option_map, Some, IfOk, OnOk, OnErr, string_bytes};
+ghost use Rattle.std.specs.Prelude.{◌≡◌, ◌↔◌, ◌+◌, ◌-◌, ◌<◌, ◌^◌, None, true, map, min, option_map, Some, IfOk, OnOk, OnErr, IsTrue, string_bytes};
 ghost use Rattle.memory_system.specs.Memory.{new_system_in_memory, source_not_yet_opened, with_standard_error_file, with_file, with_input_bytes, with_stdin_bytes, with_environment_variable, append_word};
-ghost use Rattle.tools.specs.SystemState.{Opens, stands_at};
+ghost use Rattle.tools.specs.SystemState.{IsReadStreamUnopened, Opens, identity_of_stream, stands_at};
 ghost use Rattle.tools.specs.declared.system.Reading.TheVariants as reading;
 
 use crate::contents::{Contents, Identities, Named, find};
@@ -65,6 +65,7 @@ pub struct MemorySystem {
     is_kept: bool,
     sync_asked: bool,
     is_synced: bool,
+    line_asked: bool,
     lines: Vec<String>,
     opened: IdentitiesOfOpenedFiles,
     opened_then: IdentitiesOfOpenedFiles,
@@ -78,9 +79,9 @@ pub struct MemorySystem {
 }
 
 impl Model for MemorySystem {
-    ghost use Rattle.std.specs.Prelude.{◌<◌, map, option_map, string_bytes};
+    ghost use Rattle.std.specs.Prelude.{◌≡◌, ◌<◌, None, map, option_map, string_bytes};
     ghost use Rattle.host.specs.AskedSource.{name_bytes};
-    ghost use Rattle.memory_system.specs.Memory.{Memory};
+    ghost use Rattle.memory_system.specs.Memory.{Memory, IsNoFileUntilOpened};
 
     ghost Value = { Memory };
 
@@ -96,6 +97,7 @@ impl Model for MemorySystem {
         is_kept = m.is_kept;
         sync_asked = m.sync_asked;
         is_synced = m.is_synced;
+        line_asked = m.line_asked;
         said = map string_bytes m.lines.items;
         stdin = m.stdin;
         files = m.files.items;
@@ -106,7 +108,9 @@ impl Model for MemorySystem {
       words = m.words.items;
     } };
 
-    ghost invariant = { λ m. 0 < m.read_size };
+    ghost invariant = { λ m. (0 < m.read_size)
+        × IsNoFileUntilOpened m.input m.opened.input m.opened_then.input
+        × IsNoFileUntilOpened m.secret m.opened.secret m.opened_then.secret };
 }
 
 impl MemorySystem {
@@ -134,6 +138,7 @@ impl MemorySystem {
             is_kept: false,
             sync_asked: false,
             is_synced: false,
+            line_asked: false,
             lines: Vec::new(alloc),
             opened: NO_FILES,
             opened_then: NO_FILES,
@@ -206,6 +211,8 @@ impl MemorySystem {
         };
         let (input, identities) = self.source_of(name)?;
         self.input = input;
+        self.opened.input = None;
+        self.opened_then.input = None;
         self.input_file = identities;
         self.input_name = Some(kept);
         Ok(())
@@ -228,8 +235,8 @@ impl MemorySystem {
         self.interruptions = times;
     }
 
-    /// Names the call of the system that is to fail, counted from 1 over all its calls but `word`, which
-    /// never fails so; 0 is none. The counter stays at 2^64-1 once it is there.
+    /// Names the call of the system that is to fail, counted from 1 over all its calls but `word`, and `file`
+    /// of what is to be read and is not opened, which never fail so; 0 is none. The counter stays at 2^64-1 once it is there.
     pub fn fail_at(&mut self, call: u64)
         ensures same { self.new ≡ self.old }
     {
@@ -271,7 +278,7 @@ impl MemorySystem {
         self.tries.shown()
     }
 
-    /// How many calls but `word` the system was asked for, or 2^64-1 where it was more.
+    /// How many calls the system was asked for that can fail so, or 2^64-1 where it was more.
     pub fn calls(&self) -> u64 {
         self.calls.get()
     }
@@ -296,6 +303,18 @@ impl MemorySystem {
         }
         self.interrupted = 0;
         Ok(())
+    }
+
+    // Whether this stream is the input or the secret's source, and was not opened.
+    fn is_unopened(&self, stream: StreamRole) -> bool
+        ensures exact { IsTrue result ↔ IsReadStreamUnopened stream self.now.state }
+        ensures no_file { IsTrue result → identity_of_stream stream self.now.files ≡ None }
+    {
+        match stream {
+            StreamRole::Input => self.input.is_unopened(),
+            StreamRole::Secret => self.secret.is_unopened(),
+            StreamRole::Output | StreamRole::Error => false,
+        }
     }
 
     // What stands under this name.
@@ -435,6 +454,9 @@ impl System for MemorySystem {
     }
 
     fn file(&self, stream: StreamRole) -> Result<Option<FileIdentity>, HostFault> {
+        if self.is_unopened(stream) {
+            return Ok(None);
+        }
         if self.next_call_fails() {
             return Err(HostFault);
         }
@@ -474,6 +496,7 @@ impl System for MemorySystem {
     }
 
     fn line(&mut self, line: &str) -> Result<(), HostFault> {
+        self.line_asked = true;
         if self.next_call_fails() {
             return Err(HostFault);
         }

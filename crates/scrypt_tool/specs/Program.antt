@@ -1,5 +1,5 @@
 -- The program scrypt over a system: what stands at its end.
-use Rattle.std.specs.Prelude.{◌⊎◌, Bool, List, drop}
+use Rattle.std.specs.Prelude.{◌⊎◌, ◌<◌, Bool, List, drop}
 use Rattle.host.specs.Faults.{Faults, no_faults}
 use Rattle.host.specs.Lines.{SaysOneLine}
 use Rattle.host.specs.HostState.{HostState, Text}
@@ -8,7 +8,7 @@ use Rattle.scrypt_request.specs.Refusal.{faults_after_refusal, line_of}
 use Rattle.scrypt_request.specs.declared.refusal.ScryptRefusal.TheVariants as refusal
 use Rattle.tools.specs.RunState.{Leaves, host_over}
 use Rattle.tools.specs.Words.{HasNonUtf8WordIfNotText}
-use Rattle.tools.specs.SystemState.{IsOutputSynced, IsOutputUnsynced, SystemState}
+use Rattle.tools.specs.SystemState.{IsLineAskedUnlessReading, IsOutputSynced, IsOutputUnsynced, SystemState}
 use Rattle.tools.specs.declared.arguments.WordsFault.TheVariants as words_fault
 
 -- the program ended with status 0: the run did what the words after its name ask for, and so the system is left; an
@@ -31,8 +31,8 @@ pub record FailsSync (tells : Bool) (words : List Text) (before after : HostStat
 
 -- the program ended with status 1: with the refusal of a run with the words after its name; or one of these is no text;
 -- or memory for them was refused, which may come of any words; or the output could not be brought to the disk. In each
--- case its line was said, or could not be said and `lines` rose; and so the system is left. `faults` are the failed
--- calls of the run
+-- case its line was said, or could not be said and `lines` rose, though the system was asked for it unless the input or
+-- the passphrase's source was opened; and so the system is left. `faults` are the failed calls of the run
 pub record ProgramRefuses (tells : Bool) (words : List Text) (before after : SystemState) (faults : Faults) : Type 0 where
   pub seen : HostState
   pub leaves : Leaves after seen
@@ -40,3 +40,4 @@ pub record ProgramRefuses (tells : Bool) (words : List Text) (before after : Sys
       ⊎ (HasNonUtf8WordIfNotText words_fault.NotText words × SaysOneLine tells (line_of refusal.Usage) (host_over before) seen no_faults faults)
       ⊎ SaysOneLine tells (line_of refusal.OutOfMemory) (host_over before) seen no_faults faults
       ⊎ FailsSync tells (drop 1 words) (host_over before) seen after faults
+  pub asks : 0 < faults.lines → IsLineAskedUnlessReading after

@@ -5,19 +5,20 @@ use Rattle.host.specs.CallsGrantedByHost.{CallsGrantedByHost, nothing_asked}
 use Rattle.host.specs.Lines.{SaysOneLine}
 use Rattle.host.specs.Entries.{lookup}
 use Rattle.host.specs.HostState.{SecretSource, HostState, Text, env, file, stdin_once}
-use Rattle.tools.specs.SystemState.{Files, IsOutputSeparate, IsOutputSynced, IsOutputUnsynced, OpensNoOther, SystemState}
+use Rattle.tools.specs.SystemState.{Files, IsLineAskedUnlessReading, IsOutputSeparate, IsOutputSynced, IsOutputUnsynced, OpensNoOther, SystemState}
 use Rattle.tools.specs.declared.run.InputStage.{InputStage}
 use Rattle.tools.specs.declared.run.InputStage.TheVariants as input
 use Rattle.tools.specs.declared.run.OutputStage.{OutputStage}
 use Rattle.tools.specs.declared.run.OutputStage.TheVariants as output
 
 -- what contracts see of the host over a system: the system; the calls that are granted; the secret source that was
--- asked, and whether a salt was asked for, whatever came of it
+-- asked, and whether a salt was asked for, whatever came of it; and whether it tried to say a line
 pub record RunState : Type 0 where
   pub state : SystemState
   pub grants : CallsGrantedByHost
   pub asked : Option SecretSource
   pub salted : Bool
+  pub told : Bool
 
 -- whether the input is not opened yet
 abbrev pub is_input_unopened : InputStage → Bool
@@ -126,7 +127,7 @@ host_seen h = record {
 
 -- what is seen of the host over a system that was not used yet
 abbrev pub host_over : SystemState → HostState
-host_over w = host_seen (record { state = w; grants = nothing_asked; asked = None; salted = false })
+host_over w = host_seen (record { state = w; grants = nothing_asked; asked = None; salted = false; told = false })
 
 -- what a run leaves of a system: it stands as a host over it is seen at the end of the run. As a secret's stream it
 -- opened at most the source that the host was asked for, and random bytes at most for a salt; and it emptied nothing
@@ -139,12 +140,13 @@ pub record Leaves (after : SystemState) (seen : HostState) : Type 0 where
   pub random : OpensNoOther (name_opened_for_salt seen.salted) after.random
   pub unemptied : seen.output_opened ≡ None → after.is_emptied ≡ false
 
--- of a run with these failures, whose host is seen like this, a line was said, or could not be said; and so the system
--- is left
+-- of a run with these failures, whose host is seen like this, a line was said, or could not be said, though it was
+-- asked for unless something was opened to be read; and so the system is left
 pub record EndsWithLine (tells : Bool) (line : Text) (before : HostState) (faults_before : Faults) (after : SystemState) (faults_after : Faults) : Type 0 where
   pub seen : HostState
   pub leaves : IsTrue tells → Leaves after seen
   pub says : SaysOneLine tells line before seen faults_before faults_after
+  pub asks : IsTrue tells → IsLineAskedUnlessReading after
 
 -- a run has come as far as its stages say; `told` is whether it tried to say a line
 pub record IsAt (input_stage : InputStage) (output_stage : OutputStage) (asked : Option SecretSource) (salted told : Bool) (grants : CallsGrantedByHost) (w : SystemState) (f : Files) : Type 0 where
@@ -167,3 +169,4 @@ pub record IsAt (input_stage : InputStage) (output_stage : OutputStage) (asked :
   pub synced : output_stage ≡ output.Synced → IsOutputSynced w
   pub unsynced : output_stage ≡ output.Unsynced → IsOutputUnsynced w
   pub unsaid : told ≡ false → w.said ≡ []
+  pub line : told ≡ true → IsLineAskedUnlessReading w

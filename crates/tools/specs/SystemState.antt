@@ -19,9 +19,9 @@ pub record Source : Type 0 where
 -- the input, a secret's source and the random bytes; what was written; the name under which an output was asked for,
 -- whatever came of it (None: none was; Some None: standard output); whether nothing that the output held is to be taken
 -- away any more, and whether it was emptied; whether it is kept: a regular file or a block device that was opened by its
--- name; whether it was asked to be brought to the disk, whatever came of it, and whether it was brought there; the
--- lines said so far; what standard input gives from its beginning, if it is there, and what each file does, other than
--- as the input; and the variables
+-- name; whether it was asked to be brought to the disk, whatever came of it, and whether it was brought there; whether
+-- a line was asked for, whatever came of it, and the lines said so far; what standard input gives from its beginning, if
+-- it is there, and what each file does, other than as the input; and the variables
 pub record SystemState : Type 0 where
   pub input : Source
   pub secret : Source
@@ -33,6 +33,7 @@ pub record SystemState : Type 0 where
   pub is_kept : Bool
   pub sync_asked : Bool
   pub is_synced : Bool
+  pub line_asked : Bool
   pub said : List Text
   pub stdin : Option (List ℕ)
   pub files : List Entry
@@ -51,6 +52,13 @@ identity_of_stream stream.Input f = f.input
 identity_of_stream stream.Secret f = f.secret
 identity_of_stream stream.Output f = f.output
 identity_of_stream stream.Error f = f.error
+
+-- this stream is the input or the secret's source, and was not opened
+abbrev pub IsReadStreamUnopened : StreamRole → SystemState → Type 0
+IsReadStreamUnopened stream.Input w = w.input.opened ≡ None
+IsReadStreamUnopened stream.Secret w = w.secret.opened ≡ None
+IsReadStreamUnopened stream.Output w = ⊥
+IsReadStreamUnopened stream.Error w = ⊥
 
 -- the output is neither the input nor the secret's source
 pub record IsOutputSeparate (f : Files) : Type 0 where
@@ -210,7 +218,7 @@ pub record IsOutputUnsynced (w : SystemState) : Type 0 where
 
 -- ---- the rest
 
--- no stream was opened yet, no output was asked for, emptied or brought to the disk, and no line was said
+-- no stream was opened yet, no output was asked for, emptied or brought to the disk, and no line was asked for or said
 pub record IsUnused (w : SystemState) : Type 0 where
   pub input : w.input.opened ≡ None
   pub secret : w.secret.opened ≡ None
@@ -220,11 +228,24 @@ pub record IsUnused (w : SystemState) : Type 0 where
   pub unemptied : w.is_emptied ≡ false
   pub unasked : w.sync_asked ≡ false
   pub unsynced : w.is_synced ≡ false
+  pub line_unasked : w.line_asked ≡ false
   pub unsaid : w.said ≡ []
 
 -- the system after a line more was said
 abbrev pub after_line : Text → SystemState → SystemState
-after_line line w = record w { said = w.said ++ (line ∷ []) }
+after_line line w = record w { line_asked = true; said = w.said ++ (line ∷ []) }
+
+-- the system after a line was asked for, and could not be said
+abbrev pub after_ask_line : SystemState → SystemState
+after_ask_line w = record w { line_asked = true }
+
+-- a line may have been asked for; nothing else has changed
+abbrev pub MayAskForLine : SystemState → SystemState → Type 0
+MayAskForLine before after = after ≡ (let w : SystemState = record before { line_asked = after.line_asked } in w)
+
+-- a line was asked for, unless the input or the secret's source was opened
+abbrev pub IsLineAskedUnlessReading : SystemState → Type 0
+IsLineAskedUnlessReading w = w.input.opened ≡ None → w.secret.opened ≡ None → w.line_asked ≡ true
 
 -- a stream that stands where a system does not tell its bytes
 abbrev pub placeholder_stream : Source
@@ -243,6 +264,7 @@ placeholder_state = record {
   is_kept = false;
   sync_asked = false;
   is_synced = false;
+  line_asked = false;
   said = [];
   stdin = None;
   files = [];

@@ -5,7 +5,7 @@ ghost use Rattle.host.specs.CallsGrantedByHost.{nothing_asked, with_input_opened
 ghost use Rattle.host.specs.Secret.{IsBeginning, secret_of_source, source_of};
 ghost use Rattle.host.specs.HostState.{after_ask_secret, after_ask_output, after_open_input, after_open_output, after_pull, after_push, after_salt, after_say, env, FitsWithin, KeepsOnErr, KeepsOnOk, TakesSome};
 ghost use Rattle.tools.specs.RunState.{Leaves, host_seen, rest_of_secret_stream};
-ghost use Rattle.tools.specs.SystemState.{IsOutputSynced, IsOutputUnsynced, IsUnused, after_line};
+ghost use Rattle.tools.specs.SystemState.{IsLineAskedUnlessReading, IsOutputSynced, IsOutputUnsynced, IsUnused, MayAskForLine, after_line};
 
 use crate::inputs::{read_salt, read_secret};
 use crate::lines::say_if_stderr_is_separate;
@@ -75,6 +75,7 @@ impl<S: System> Model for Run<S> {
       grants = granted_calls_at_stage r.input r.output (option_map asked_source r.asked) r.salted;
       asked = option_map asked_source r.asked;
       salted = r.salted;
+      told = r.told;
     } };
 
     ghost invariant = { λ r. IsTrue S.tells →
@@ -87,7 +88,7 @@ impl<S: System> Run<S> {
     /// A run that is to begin, over a system of which nothing was used.
     pub fn new(system: S) -> Run<S>
         requires unused { IsTrue S.tells → IsUnused (S.state system) }
-        ensures seen { result ≡ record { state = S.state system; grants = nothing_asked; asked = None; salted = false } }
+        ensures seen { result ≡ record { state = S.state system; grants = nothing_asked; asked = None; salted = false; told = false } }
     {
         Run {
             system,
@@ -110,6 +111,7 @@ impl<S: System> Run<S> {
     pub fn into_system(self) -> S
         ensures same { S.state result ≡ self.state }
         ensures leaves { IsTrue S.tells → Leaves (S.state result) (host_seen self) }
+        ensures asks { IsTrue S.tells → self.told ≡ true → IsLineAskedUnlessReading (S.state result) }
     {
         let Run {
             system,
@@ -159,6 +161,7 @@ impl<S: System> Run<S> {
             ≡ after_open_input (option_map (λ n. n.now) name.entry) (host_seen self.old)) }
         ensures granted { OnOk result (self.new.grants ≡ with_input_opened self.old.grants) }
         ensures granted_as_before { KeepsOnErr result self.old.grants self.new.grants }
+        ensures told { self.new.told ≡ self.old.told }
     {
         if self.output != OutputStage::Unasked {
             return Err(HostFault);
@@ -180,6 +183,7 @@ impl<S: System> Run<S> {
             KeepsOnErr result self.old.state.is_emptied self.new.state.is_emptied }
         ensures granted { OnOk result (self.new.grants ≡ with_output_opened self.old.grants) }
         ensures granted_no_other { OnErr result (self.new.grants ≡ with_output_asked self.old.grants) }
+        ensures told { self.new.told ≡ self.old.told }
     {
         self.output = OutputStage::Refused;
         let is_kept = open_apart(&mut self.system, name)?;
@@ -204,6 +208,7 @@ impl<S: System> Run<S> {
             0 < length buf.old → n ≡ 0 → self.old.state.input.left ≡ []) }
         ensures granted { IfOk result (λ n. 0 < n → self.new.grants ≡ self.old.grants) }
         ensures still_writable { KeepsOnOk result self.old.grants.writable self.new.grants.writable }
+        ensures told { self.new.told ≡ self.old.told }
     {
         if self.input == InputStage::Unopened {
             return Err(HostFault);
@@ -226,6 +231,7 @@ impl<S: System> Run<S> {
         ensures put { IsTrue S.tells → IfOk result (λ n.
             host_seen self.new ≡ after_push (take n bytes.now) (host_seen self.old)) }
         ensures granted { self.new.grants ≡ self.old.grants }
+        ensures told { self.new.told ≡ self.old.told }
     {
         match self.output {
             OutputStage::Opened | OutputStage::Kept => write_some(&mut self.system, bytes),
@@ -241,6 +247,7 @@ impl<S: System> Run<S> {
         ensures output_unsynced { IsTrue S.tells → self.old.grants.writable ≡ true →
             OnErr result (IsOutputUnsynced self.new.state) }
         ensures granted { self.new.grants ≡ self.old.grants }
+        ensures told { self.new.told ≡ self.old.told }
     {
         match self.output {
             OutputStage::Opened | OutputStage::Synced => Ok(()),
@@ -269,6 +276,7 @@ impl<S: System> Run<S> {
         ensures variable { (name : List ℕ) → source_of source.entry ≡ env name → IsTrue S.tells →
             self.new.state ≡ self.old.state }
         ensures granted { self.new.grants ≡ with_secret_asked self.old.grants }
+        ensures told { self.new.told ≡ self.old.told }
     {
         self.asked = Some(AskedSource::of(&source));
         if self.output != OutputStage::Unasked {
@@ -284,6 +292,7 @@ impl<S: System> Run<S> {
         ensures salts { IsTrue S.tells → host_seen self.new ≡ after_salt (host_seen self.old) }
         ensures bytes { IsTrue S.tells → OnOk result (out.new ≡ (host_seen self.old).salt) }
         ensures granted { self.new.grants ≡ with_salt_asked self.old.grants }
+        ensures told { self.new.told ≡ self.old.told }
     {
         self.salted = true;
         if self.output != OutputStage::Unasked {
@@ -297,10 +306,11 @@ impl<S: System> Run<S> {
         ensures kept { IsTrue S.tells → KeepsOnErr result (host_seen self.old) (host_seen self.new) }
         ensures said { IsTrue S.tells →
             OnOk result (host_seen self.new ≡ after_say line.now (host_seen self.old)) }
-        ensures kept_system { IsTrue S.tells → KeepsOnErr result self.old.state self.new.state }
+        ensures kept_system { IsTrue S.tells → OnErr result (MayAskForLine self.old.state self.new.state) }
         ensures said_by_system { IsTrue S.tells →
             OnOk result (self.new.state ≡ after_line line.now self.old.state) }
         ensures granted { self.new.grants ≡ self.old.grants }
+        ensures told { self.new.told ≡ true }
     {
         if self.told {
             return Err(HostFault);

@@ -1,10 +1,10 @@
 //! The calls of the system that the programs make.
-ghost use Rattle.std.specs.Prelude.{◌≡◌, ◌+◌, ◌<◌, Bool, ℕ, List, [], true, false, length, option_map, take, IfOk, OnOk, OnErr, IsTrue};
+ghost use Rattle.std.specs.Prelude.{◌≡◌, ◌+◌, ◌<◌, Bool, ℕ, List, [], None, Ok, true, false, length, option_map, take, IfOk, OnOk, OnErr, IsTrue};
 ghost use Rattle.host.specs.Entries.{lookup};
 ghost use Rattle.host.specs.Secret.{IsBeginning};
 ghost use Rattle.host.specs.HostState.{Text, FitsWithin, KeepsOnErr};
 ghost use Rattle.tools.specs.Words.{GivesCommandLineWord, word_at};
-ghost use Rattle.tools.specs.SystemState.{Files, IsOutputSeparate, Opens, Reads, HasSeparateErrorStream, SystemState, after_ask_output, after_ask_sync, after_empty, after_line, after_open_output, after_sync, after_write, identity_of_stream, IsBeforeOutput, IsBeforeSync, ReadStreamHasNotEnded, IsNotYetOpened};
+ghost use Rattle.tools.specs.SystemState.{Files, IsOutputSeparate, Opens, Reads, HasSeparateErrorStream, SystemState, after_ask_line, after_ask_output, after_ask_sync, after_empty, after_line, after_open_output, after_sync, after_write, identity_of_stream, IsBeforeOutput, IsBeforeSync, IsReadStreamUnopened, ReadStreamHasNotEnded, IsNotYetOpened};
 
 use crate::identity::FileIdentity;
 use host::HostFault;
@@ -114,9 +114,11 @@ pub trait System {
         ensures opened { IsTrue tells → OnOk result (state self.new ≡ after_open_output
             (option_map (λ n. n.now) name.entry) (files self.new).output (state self.old)) };
 
-    /// Which regular file or block device a stream is, if it is one. What is not opened is none.
+    /// Which regular file or block device a stream is, if it is one. What is not opened is none; of the input
+    /// and of the secret's source that is known, so it is no fault.
     fn file(&self, stream: StreamRole) -> Result<Option<FileIdentity>, HostFault>
-        ensures found { IsTrue tells → IfOk result (λ file. file ≡ identity_of_stream stream (files self.now)) };
+        ensures found { IsTrue tells → IfOk result (λ file. file ≡ identity_of_stream stream (files self.now)) }
+        ensures unopened { IsTrue tells → IsReadStreamUnopened stream (state self.now) → result ≡ Ok None };
 
     /// Takes away what the output holds: a regular file that was opened by its name, was neither emptied
     /// nor asked to be brought to the disk, and is none that is read.
@@ -152,11 +154,11 @@ pub trait System {
         ensures same_files { IsTrue tells → files self.new ≡ files self.old };
 
     /// Writes a line and its line feed to standard error, which is no file that is read. No line
-    /// was said before.
+    /// was said before; this one is asked for, whatever the answer.
     fn line(&mut self, line: &str) -> Result<(), HostFault>
         requires once { IsTrue tells → (state self.old).said ≡ [] }
         requires apart { IsTrue tells → HasSeparateErrorStream (files self.old) }
-        ensures kept { IsTrue tells → KeepsOnErr result (state self.old) (state self.new) }
+        ensures asks { IsTrue tells → OnErr result (state self.new ≡ after_ask_line (state self.old)) }
         ensures said { IsTrue tells → OnOk result (state self.new ≡ after_line line.now (state self.old)) }
         ensures same_files { IsTrue tells → files self.new ≡ files self.old };
 }

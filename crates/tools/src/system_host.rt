@@ -1,9 +1,9 @@
 //! The system as a host.
-ghost use Rattle.std.specs.Prelude.{◌≡◌, ◌-◌, ◌≤◌, ◌^◌, true, IsTrue};
+ghost use Rattle.std.specs.Prelude.{◌≡◌, ◌-◌, ◌<◌, ◌≤◌, ◌^◌, true, IsTrue};
 ghost use Rattle.host.specs.CallsGrantedByHost.{nothing_asked};
 ghost use Rattle.host.specs.Faults.{AreBelow, no_faults, with_output_failure_counted};
 ghost use Rattle.tools.specs.RunState.{EndsWithLine, Leaves, host_over, host_seen};
-ghost use Rattle.tools.specs.SystemState.{IsOutputSynced, IsOutputUnsynced, IsUnused};
+ghost use Rattle.tools.specs.SystemState.{IsLineAskedUnlessReading, IsOutputSynced, IsOutputUnsynced, IsUnused};
 
 use crate::failed_call_counts::{RunFailureCounts, counted};
 use crate::run::Run;
@@ -28,6 +28,7 @@ use host::{Host, HostFault, Source};
 pub struct SystemHost<S: System> {
     run: Run<S>,
     counts: RunFailureCounts<S>,
+    ghost told: { 0 < counts.lines → run.told ≡ true },
 }
 
 impl<S: System> SystemHost<S> {
@@ -101,6 +102,7 @@ impl<S: System> SystemHost<S> {
         ensures same { S.state result.0 ≡ self.run.state }
         ensures leaves { IsTrue S.tells →
             Leaves (S.state result.0) (⟦<SystemHost<S> as Host>⟧.seen self) }
+        ensures asks { IsTrue S.tells → 0 < result.1.lines → IsLineAskedUnlessReading (S.state result.0) }
     {
         let SystemHost { run, counts } = self;
         (run.into_system(), counts)

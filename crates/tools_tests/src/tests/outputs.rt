@@ -153,14 +153,13 @@ fn becomes_at(alloc: Global, (call, named, standard): (u64, HostState, HostState
         && beside_reading(alloc, Reading::Input, APART, (None, call)) == standard
 }
 
-// An output is opened by five calls, and by four where it is not emptied.
-static FAILING: [(u64, HostState, HostState); 6] = [
+// An output is opened by four calls, and by three where it is not emptied.
+static FAILING: [(u64, HostState, HostState); 5] = [
     (1, REFUSED, REFUSED),
     (2, REFUSED, REFUSED),
     (3, REFUSED, REFUSED),
-    (4, REFUSED, REFUSED),
-    (5, REFUSED, AS_IT_IS),
-    (6, EMPTIED, AS_IT_IS),
+    (4, REFUSED, AS_IT_IS),
+    (5, EMPTIED, AS_IT_IS),
 ];
 
 #[test]

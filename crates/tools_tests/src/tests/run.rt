@@ -185,7 +185,7 @@ const ALL: &[Call] = &[
 
 // Nothing else is lost but what rests on the call that fails: the pulls where the input is not opened, and the push where the output
 // is not.
-static FAILING: [FailingCase; 19] = [
+static FAILING: [FailingCase; 20] = [
     (0, b".4104..4..", true, true, 1),
     // opened
     (1, b"FFFF4..4..", true, true, 1),
@@ -208,10 +208,11 @@ static FAILING: [FailingCase; 19] = [
     // written, and brought to the disk
     (14, b".4104..F..", true, true, 1),
     (15, b".4104..4F.", true, false, 1),
-    // standard error found to be no regular file, and a line said
+    // what is read found to be no regular file, and a line said
     (16, b".4104..4.F", true, true, 0),
     (17, b".4104..4.F", true, true, 0),
-    (18, b".4104..4..", true, true, 1),
+    (18, b".4104..4.F", true, true, 0),
+    (19, b".4104..4..", true, true, 1),
 ];
 
 #[test]
@@ -274,7 +275,7 @@ fn opens_nothing_once_an_output_was_asked_for(rt: HostRuntime) {
 // that opens the output, among those around the moment when it is brought to the disk.
 static BROUGHT: [(Call, FailingCase); 4] = [
     (OpenOut, (0, b"F.4.F..F", true, true, 1)),
-    (OpenOut, (7, b"F.4FFF.F", true, false, 1)),
+    (OpenOut, (5, b"F.4FFF.F", true, false, 1)),
     (OpenDisk, (0, b"F.4.F..F", false, true, 1)),
     (OpenStandardOutput, (0, b"F.4.4..F", false, false, 1)),
 ];
@@ -297,11 +298,12 @@ const ANOTHER: Option<FileIdentity> = Some(FileIdentity::Regular {
     inode: 3,
 });
 
-// A run over standard input, which is this file, as is standard error.
+// A run over standard input, which is this file, as is standard error. This call of its system fails.
 fn beside_error(
     alloc: Global,
     input: Option<FileIdentity>,
     error: Option<FileIdentity>,
+    failing: u64,
 ) -> Run<MemorySystem> {
     let input = Identities {
         before: input,
@@ -310,6 +312,7 @@ fn beside_error(
     let mut system = with_standard(alloc, b"hello", input, Identities::NONE);
     let _ = system.set_input_name(None);
     system.set_standard_error(error);
+    system.fail_at(failing);
     Run::new(system)
 }
 
@@ -321,7 +324,7 @@ fn is_said_beside(
     error: Option<FileIdentity>,
     lines: usize,
 ) -> bool {
-    let mut run = beside_error(alloc, input, error);
+    let mut run = beside_error(alloc, input, error, 0);
     let are_answered = answers(&mut run, calls, marks);
     let system = run.into_system();
     let said = system.lines().len();
@@ -368,5 +371,45 @@ fn no_line_goes_into_a_file_that_is_read(rt: HostRuntime) {
                 *lines
             )
         );
+    }
+}
+
+// What a line needs: what standard input is, beside a file that is standard error, the call of the system that fails, the
+// calls of the run and their answers, how often the system is called, and how many lines are said.
+type LineCase = (
+    Option<FileIdentity>,
+    u64,
+    &'static [Call],
+    &'static [u8],
+    u64,
+    usize,
+);
+
+// Where nothing is opened, or could be, the system is asked for the line alone; beside a pipe also what that is; and beside
+// a file also what standard error is, without which there is no line.
+static LINES: [LineCase; 7] = [
+    (THIS, 0, &[Say], b".", 1, 1),
+    (THIS, 1, &[OpenInput, Say], b"F.", 2, 1),
+    (THIS, 1, &[Secret, Say], b"F.", 2, 1),
+    (None, 0, &[OpenInput, Say], b"..", 3, 1),
+    (None, 2, &[OpenInput, Say], b".F", 2, 0),
+    (THIS, 0, &[OpenInput, Say], b"..", 4, 1),
+    (THIS, 3, &[OpenInput, Say], b".F", 3, 0),
+];
+
+// Whether that comes of a line.
+fn is_line(alloc: Global, (input, failing, calls, marks, times, lines): LineCase) -> bool {
+    let mut run = beside_error(alloc, input, ANOTHER, failing);
+    let are_answered = answers(&mut run, calls, marks);
+    let system = run.into_system();
+    let found = (system.calls(), system.lines().len());
+    drop(system);
+    are_answered && found == (times, lines)
+}
+
+#[test]
+fn standard_error_is_looked_at_beside_a_file_alone(rt: HostRuntime) {
+    for row in &LINES {
+        assert!(rt; is_line(rt.alloc(), *row));
     }
 }

@@ -49,14 +49,14 @@ fn synced(alloc: Global, name: Option<&str>, call: u64) -> (u8, u64, bool) {
 fn refusals_are_said(rt: HostRuntime) {
     assert!(rt; refused(rt.alloc(), 0) == (1, 0, true));
     assert!(rt; refused(rt.alloc(), 1) == (1, 1, false));
-    assert!(rt; refused(rt.alloc(), 2) == (1, 1, false));
+    assert!(rt; refused(rt.alloc(), 2) == (1, 0, true));
 }
 
-// The file is opened by five calls, and brought to the disk by the sixth.
+// The file is opened by three calls, and brought to the disk by the fourth.
 #[test]
 fn outputs_are_settled(rt: HostRuntime) {
     assert!(rt; synced(rt.alloc(), Some("out"), 0) == (0, 0, false));
-    assert!(rt; synced(rt.alloc(), Some("out"), 5) == (1, 0, true));
-    assert!(rt; synced(rt.alloc(), Some("out"), 6) == (1, 0, true));
+    assert!(rt; synced(rt.alloc(), Some("out"), 3) == (1, 0, true));
+    assert!(rt; synced(rt.alloc(), Some("out"), 4) == (1, 0, true));
     assert!(rt; synced(rt.alloc(), None, 0) == (0, 0, false));
 }

@@ -60,4 +60,5 @@ returns-then-status-eq0-clause-refuses g c = λ t failed.
       refuses = inr (inr (inr (fails-sync _ _ _ _ _ _ _ _ _ _ _ ends.says succeeds c.line.ensures.line
           (c.scrypt-status.ensures.counts c.if-status-eq0.true ∙ c.new-host.ensures.counts) (search rules) c.new-host.ensures.seen
           (c.sync_and_end.ensures.output_unsynced t (writable _ c.scrypt-status.new.host.run _ succeeds) failed))));
+      asks = λ _. ends.asks t;
     }

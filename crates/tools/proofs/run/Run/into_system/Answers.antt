@@ -21,10 +21,10 @@ unemptied-where true None is_emptied named unused none = elim (subst IsFalse (sy
 unemptied-where true (Some name) is_emptied named unused none = elim (subst IsFalse (ap is_none none) tt) [ ]
 
 leaves-at : (h : RunState) (input_stage : InputStage) (output_stage : OutputStage) (asked : Option SecretSource) (salted told : Bool)
-    (w : SystemState) (f : Files) → h ≡ record { state = w; grants = granted_calls_at_stage input_stage output_stage asked salted; asked = asked; salted = salted }
+    (w : SystemState) (f : Files) → h ≡ record { state = w; grants = granted_calls_at_stage input_stage output_stage asked salted; asked = asked; salted = salted; told = told }
     → IsAt input_stage output_stage asked salted told (granted_calls_at_stage input_stage output_stage asked salted) w f → Leaves w (host_seen h)
 leaves-at h input_stage output_stage asked salted told w f is at = subst (λ k. Leaves w (host_seen k)) (sym is) (record {
-  held = record { state = w; grants = granted_calls_at_stage input_stage output_stage asked salted; asked = asked; salted = salted };
+  held = record { state = w; grants = granted_calls_at_stage input_stage output_stage asked salted; asked = asked; salted = salted; told = told };
   over = refl;
   same = refl;
   secret = at.secret;
