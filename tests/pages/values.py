@@ -7,6 +7,7 @@ completions of zsh, and of bash as bash itself completes, include/pikhsen.h, pyt
                                       put into the table where a page was written anew
 """
 import ast
+import functools
 import hashlib
 import pathlib
 import re
@@ -374,21 +375,24 @@ def option_of_zsh(name, option, equals, _, called, offered):
 
 
 def asking():
-    """scrypt-ask takes the options of scrypt but the source of the passphrase, and its lines and the costs that it chooses are
-    those of its page; zsh and README have these costs, too."""
+    """scrypt-ask takes the options of scrypt but the source of the passphrase, and a command in its place; its lines and the
+    costs that it chooses are those of its page; its help, zsh and README have these costs, too."""
     script, page, table = text_of("packaging/scrypt-ask"), plain(text_of("man/scrypt-ask.1")), options("scrypt-ask")
-    of_scrypt = sorted({*options("scrypt")} - {"-P", "--passphrase"})
-    taken = [word for line in script.splitlines() if "takes=value" in line for word in re.findall(r"option:(-[\w-]+)", line)]
+    of_scrypt = sorted({*options("scrypt"), "--passcommand"} - {"-P", "--passphrase"})
+    taken = [word for line in script.splitlines() if re.search("takes='?(value|command)", line) for word in re.findall(r"option:(-[\w-]+)", line)]
     that("packaging/scrypt-ask: options with a value", (sorted(taken), sorted(table)), (of_scrypt, of_scrypt))
     lines = sorted(it.line for it in messages("scrypt-ask"))
-    said = {f"scrypt-ask: {one or other}" for one, other in re.findall(r"fail (?:'([^']*)'|\"([^\"]*)\")", script)}
-    that("packaging/scrypt-ask: its lines", sorted(it.replace("$name", "FOLDER") for it in said), lines)
+    said = {f"scrypt-ask: {one or other}" for one, other in re.findall(r"(?:fail|say) (?:'([^']*)'|\"(\w(?:[^\"]|\"\$\w+\")*)\")", script)}
+    named = (("$name", "FOLDER"), ('$(stat -c %a "$file")', "MODE"))
+    that("packaging/scrypt-ask: its lines", sorted(functools.reduce(lambda it, pair: it.replace(*pair), named, each) for each in said), lines)
     shown = re.findall(r"^scrypt-ask: .*$", page.partition("\n.SH DIAGNOSTICS\n")[2], re.MULTILINE)
     that("man/scrypt-ask.1: its lines", sorted(shown), lines)
     costs = " ".join(f"{it} {table[it].default}" for it in ("--logN", "-r", "-p"))
     told = found(r"set -- (--logN .*) \"\$@\"$", script), found(r"no costs, they are\n(.*):$", page)
     remembered = found(r"passphrase that you remember\*\*: `(.*?)`", text_of("README.md"))
     that("costs for a typed passphrase", (*told, remembered), (costs,) * 3)
+    in_help = found(r"costs of a new file: (.*) is 1 GiB$", script), found(r"^This is Pikhsen (.*)\. The manual page", script)
+    that("packaging/scrypt-ask: costs and version in its help", in_help, (costs, text_of("VERSION").strip()))
     given = found(r"\(@\)costs/(default .*)\}", text_of("completions/zsh/_scrypt"))
     that("zsh: costs of scrypt-ask", given, f"default {options('scrypt')['--logN'].default}/default {table['--logN'].default}")
 

@@ -1,12 +1,17 @@
 #!/usr/bin/env python3
 """Runs scrypt-ask at terminals, in each shell that may be /bin/sh: what is typed and shown, what scrypt gets, signals and
-stops while it asks and while scrypt works, the file that is made, and what is refused before a passphrase is asked for.
+stops while it asks and while scrypt works, processes that are killed, what is told of a long run, commands that print the
+passphrase, the file that is made, and what is refused before a passphrase is asked for.
 
     tests/programs/scrypt_ask.py FOLDER [SHELL ..]    the folder in which scrypt lies; the shells, as dash, or all of them
 """
+import itertools
 import os
 import pathlib
 import pty
+import random
+import re
+import resource
 import select
 import shlex
 import shutil
@@ -46,11 +51,35 @@ ls /dev/fd/8 /dev/fd/9 2>/dev/null
 env | grep -c 'a secret'
 exit 7
 """
+# Derives a key in 2 MB of memory, gives it back, writes 5,000 bytes, and ends or fails, each once a line in `go` says so.
+SLOW = """#!/bin/sh
+case "$*" in *'--passphrase file: '*) echo 'scrypt: one passphrase source is needed: ..' >&2; exit 1 ;; esac
+if [ "$1" != again ]; then
+    for last; do :; done
+    case $last in *scrypt-ask.??????) exec >"$last" ;; esac
+    table=0000000000
+    while [ ${#table} -lt 2000000 ]; do table=$table$table; done
+    read -r it <go
+    exec "$0" again
+fi
+printf '%05000d' 0
+read -r it <go
+[ "$it" = ends ] || { echo 'scrypt: fails' >&2; exit 1; }
+"""
+# A program that refuses, and a sleep whose seconds are short.
+REFUSING, SLEEP = "#!/bin/sh\nexit 1\n", '#!/bin/sh\n[ "$1" = 1 ] && exec /bin/sleep 0.05\n'
+# What is told is erased first, stands on the line below, and leaves the cursor where it was.
+ERASED, BELOW, BACK = "\x1b[J", "\x1b[J\r\n", "\x1b[A\r"
 
 
 def said(number):
     """The line of this refusal, as a terminal shows it."""
     return LINES[number].decode().replace("\n", "\r\n")
+
+
+def unnamed(shown):
+    """What is shown, without the names of files in the questions."""
+    return re.sub(r"Passphrase for [^\r\n]+: ", ASKED, shown)
 
 
 class Terminal:
@@ -91,9 +120,10 @@ class Terminal:
             os.tcsetpgrp(0, os.getpgrp())
             os.write(1, b"\0")
             os.write(telling, b"stopped\n" if stopped else b"%d\n" % os.waitstatus_to_exitcode(status))
-            if not os.read(told, 1):
+            order = os.read(told, 1)
+            if not order:
                 break
-            os.tcsetpgrp(0, run)
+            os.tcsetpgrp(0, run if order == b"+" else os.getpgrp())  # or in the background
             os.killpg(run, signal.SIGCONT)
         os._exit(0)
 
@@ -118,7 +148,7 @@ class Terminal:
 
     def sees(self, text):
         """Waits for a text at the end of what is shown, and says whether the terminal shows what is typed then."""
-        self.until(lambda: self.shown.endswith(text), repr(text))
+        self.until(lambda: unnamed(self.shown).endswith(text), repr(text))
         return bool(termios.tcgetattr(self.screen)[3] & termios.ECHO)
 
     def types(self, text):
@@ -127,7 +157,7 @@ class Terminal:
     def answers(self, *typed, at=0):
         """Types this at each question, and says whether the terminal shows what is typed at one of them."""
         is_shown = False
-        for prompt, text in zip((ASKED, AGAIN)[at:], typed):
+        for prompt, text in zip(itertools.islice(itertools.cycle((ASKED, AGAIN)), at, None), typed):
             is_shown |= self.sees(prompt)
             self.types(text)
         return is_shown
@@ -138,8 +168,8 @@ class Terminal:
         time.sleep(0.02)
         return self.note(lambda: self.types(typed) if typed else os.kill(self.number, number)), self.sees("\0")
 
-    def goes_on(self):
-        os.write(self.orders, b"+")
+    def goes_on(self, order=b"+"):
+        os.write(self.orders, order)
 
     def ends(self, note=None):
         """The status, what was shown, and whether the terminal shows what is typed then."""
@@ -148,7 +178,7 @@ class Terminal:
         os.waitpid(self.leader, 0)
         os.close(self.screen)
         os.close(self.notes)
-        return int(status), self.shown.replace("\0", ""), echo
+        return int(status), unnamed(self.shown.replace("\0", "")), echo
 
 
 class Room:
@@ -156,12 +186,14 @@ class Room:
 
     def __init__(self, checks, shell, program, folder):
         self.checks, self.shell, self.top = checks, shell, pathlib.Path(folder)
-        for name in ("bin", "other"):
+        for name in ("bin", "other", "slow", "refusing", "sleeping"):
             (self.top / name).mkdir()
             shutil.copy(SCRIPT, self.top / name)
         shutil.copy(program, self.top / "bin/scrypt")
-        (self.top / "other/scrypt").write_text(STAND_IN, encoding="utf-8")
-        (self.top / "other/scrypt").chmod(0o755)
+        for name, text in (("other/scrypt", STAND_IN), ("slow/scrypt", SLOW), ("sleeping/sleep", SLEEP),
+                           *((f"refusing/{it}", REFUSING) for it in ("chmod", "cp"))):
+            (self.top / name).write_text(text, encoding="utf-8")
+            (self.top / name).chmod(0o755)
         self.folder = self.top / "room"
         self.folder.mkdir()
         os.chown(self.folder, NOBODY if os.getuid() == 0 else -1, -1)
@@ -171,12 +203,21 @@ class Room:
     def that(self, name, found, expected):
         self.checks.that(f"{self.shell}: {name}", found, expected)
 
-    def line(self, words, script="bin/scrypt-ask", before=""):
-        return f"{before}{SHELLS[self.shell]} {shlex.quote(str(self.top / script))} {words}"
+    def line(self, words, script="bin/scrypt-ask", before="", options=""):
+        return f"{before}{SHELLS[self.shell]} {options} {shlex.quote(str(self.top / script))} {words}"
 
-    def begin(self, words, script="bin/scrypt-ask", before="", user=None, **variables):
+    def begin(self, words, script="bin/scrypt-ask", before="", options="", user=None, **variables):
         environment = {"PATH": os.environ["PATH"], "LC_ALL": "C.UTF-8", **variables}
-        return Terminal(self.line(words, script, before), self.folder, environment, os.getuid() if user is None else user)
+        return Terminal(self.line(words, script, before, options), self.folder, environment, os.getuid() if user is None else user)
+
+    def before(self, name):
+        """PATH with this folder before all others."""
+        return f"{self.top / name}:{os.environ['PATH']}"
+
+    def without_terminal(self, words):
+        """Status, standard output and standard error where no terminal is there."""
+        ran = subprocess.run(["sh", "-c", self.line(words)], cwd=self.folder, capture_output=True, start_new_session=True)
+        return ran.returncode, ran.stdout, ran.stderr.decode()
 
     def run(self, words, *typed, **how):
         """Status and what is shown, where this is typed at each question; and whether the terminal is as it was."""
@@ -232,17 +273,22 @@ def typed_and_opened(room):
 
 
 def refused_as_typed(room):
-    """What is typed wrongly makes no file, and costs none."""
+    """What is typed wrongly makes no file, and costs none. Two that differ are asked for again, twice."""
+    differ, empty, none = "the two differ: nothing is encrypted", "an empty passphrase keeps nobody out: nothing is encrypted", \
+        "no passphrase was typed"
+    asked = "".join(f"{before}{ASKED}\r\n{AGAIN}\r\n" for before in ("", "The two differ. ", "The two differ again. "))
     for command, typed, line in (
-        ("enc", ["a\n", "b\n"], "the two differ: nothing is encrypted"), ("enc", ["a\n", "a \n"], "the two differ: nothing is encrypted"),
-        ("enc", ["a\n", "\n"], "the two differ: nothing is encrypted"),
-        ("enc", ["\n"], "an empty passphrase keeps nobody out: nothing is encrypted"),
-        *((*it, "no passphrase was typed") for it in (("enc", ["\4"]), ("enc", ["a\n", "\4"]), ("dec", ["\4"]))),
+        ("enc", ["a\n", "b\n", "a\n", "a \n", "a\n", "\n"], differ), ("enc", ["\n"], empty), ("enc", ["a\n", "b\n", "\n"], empty),
+        ("enc", ["\4"], none), ("enc", ["a\n", "\4"], none), ("enc", ["a\n", "b\n", "a\n", "\4"], none), ("dec", ["\4"], none),
     ):
         room.clear(letters=b"Dear Ada", out=b"older")
         found = room.run(f"{command} {CHEAP if command == 'enc' else ''} letters out", *typed)
-        room.that(f"{command}, {typed}", found, (1, f"{[ONCE, TWICE][len(typed) - 1]}scrypt-ask: {line}\r\n", True))
+        shown = "".join(asked.splitlines(keepends=True)[: len(typed)])
+        room.that(f"{command}, {typed}", found, (1, f"{shown}scrypt-ask: {line}\r\n", True))
         room.that(f"{command}, {typed}: files", (room.names(), room.held("out")), (["letters", "out"], b"older"))
+    room.put("words", b"words")
+    room.that("enc, the third time", room.run(f"enc {CHEAP} letters out", *(f"{it}\n" for it in (*"abac", "words", "words")))[:2], (0, asked))
+    room.that("enc, the third time: the file", room.opened("out"), (0, b"Dear Ada", b""))
 
 
 def signals_while_it_asks(room):
@@ -265,7 +311,7 @@ def signals_while_it_asks(room):
             room.that(f"stopped at {at}, {turn}", found, ("stopped", True))
             terminal.goes_on()
             room.that(f"asked again at {at}, {turn}", terminal.sees(f"\0{asked}"), False)
-        terminal.answers("words\n", "words\n", at=at)
+        terminal.answers(*["words\n"] * (2 - at), at=at)
         room.that(f"stopped twice at {at}, and gone on", terminal.ends()[::2], (0, True))
         room.that(f"stopped twice at {at}: the file", room.opened("out"), (0, b"Dear Ada", b""))
     terminal = room.begin("dec out text")
@@ -311,6 +357,147 @@ def signals_while_scrypt_works(room):
     room.that("a file that grows too large: files", (room.names(), room.held("out")), (["large", "out"], b"older"))
 
 
+def what_it_tells(room):
+    """How far a long run is, at a terminal that can erase lines, but not in the background; it is erased at the end, also
+    after a message or a signal. Nothing of a short run, without such a terminal, or where standard error is a file."""
+    room.clear(letters=bytes(10128))
+    os.mkfifo(room.folder / "go")
+    key, half = (f"({re.escape(BELOW)}{line}{re.escape(BACK)})+"
+                 for line in (r"deriving the key: [1-9]\d? MiB, \d+ s", r"(0|49|50) %, 0 MiB, 0 MiB/s, \d+ s left"))
+    known, end = {"TERM": "xterm", "PATH": room.before("sleeping")}, re.escape(ERASED)
+    for words, last, variables, expected in (
+        ("letters out", "ends", {}, (0, key + half + end)), ("- out <letters", "ends", {}, (0, key + half + end)),
+        ("letters >/dev/null", "ends", {}, (0, key + half + end)),
+        ("letters out", "fails", {}, (1, f"{key}{half}scrypt: fails\r\n({half})?{end}")),
+        ("letters out 2>said", "ends", {}, (0, "")), ("letters out", "ends", {"TERM": "dumb"}, (0, "")),
+    ):
+        terminal = room.begin(f"enc {words}", script="slow/scrypt-ask", **{**known, **variables})
+        terminal.answers("a\n", "a\n")
+        with open(os.open(room.folder / "go", os.O_RDWR), "w", encoding="utf-8") as go:
+            for order, told in (("goes", "MiB, "), (last, "(49|50) %")):
+                if expected[1]:
+                    terminal.until(lambda: re.search(f"{told}[^\n]*{re.escape(BACK)}$", terminal.shown), told)
+                else:
+                    time.sleep(0.12)
+                print(order, file=go, flush=True)
+            status, shown, echo = terminal.ends()
+        shown = shown.removeprefix(TWICE)
+        found = status, bool(re.fullmatch(expected[1], shown)) or shown, echo
+        room.that(f"told of {words}, {variables}, {last}", found, (expected[0], True, True))
+    room.that("told to a file", room.held("said"), b"")
+    for number in (signal.SIGINT, signal.SIGTERM, signal.SIGTSTP):
+        terminal = room.begin("enc letters out", script="slow/scrypt-ask", **known)
+        terminal.answers("a\n", "a\n")
+        with open(os.open(room.folder / "go", os.O_RDWR), "w", encoding="utf-8") as go:
+            terminal.sees(BACK)
+            found = terminal.signals(number, "\32" if number == signal.SIGTSTP else None)
+            if number == signal.SIGTSTP:
+                shown = len(terminal.shown)
+                terminal.goes_on(b"-")
+                time.sleep(0.2)
+                print("goes\nends", file=go, flush=True)
+                status, told = terminal.note(), terminal.shown[shown:].replace("\0", "")  # what was begun before the stop
+                if room.shell.startswith("zsh") and int(status) > 128:  # its wait may end at a stop
+                    continue
+                room.that("told in the background", (status, bool(re.fullmatch(f"{key[:-1]}?{end}", told)) or told), ("0", True))
+            else:
+                status, shown, echo = found = terminal.ends(found)
+                room.that(f"told until {number.name}", (room.is_ended_by(number, found), shown.endswith(ERASED)), (True, True))
+    _, shown, _ = room.run("enc --logN 15 -r 8 -p 3 letters out", "a\n", "a\n", **known)
+    room.that("told of scrypt", "deriving the key: 32 MiB, 1 s" in shown or shown, True)
+    room.that("told of a short run", room.run(f"enc {CHEAP} letters out", "a\n", "a\n", TERM="xterm"), (0, TWICE, True))
+
+
+def processes_are_killed(room):
+    """Whichever process is killed, whenever: no file opens under another passphrase than was typed, status 0 is that of a
+    whole file, and nothing half made stays."""
+    enc, made = f"enc {CHEAP} letters out", (0, b"Dear Ada", b"")
+    room.clear(letters=made[1], out=b"older", words=b"words")
+    text = SCRIPT.read_text(encoding="utf-8")
+    text = text.replace("printf '%.2049s\\n' \"$typed\"", "kill -KILL $(exec sh -c 'echo $PPID')")
+    (room.top / "bin/changed").write_text(text, encoding="utf-8")
+    line = "scrypt-ask: scrypt was killed, as where memory is short: --keep 16 takes a sixteenth\r\n"
+    found = room.run(enc, "words\n", "words\n", script="bin/changed")
+    room.that("what writes the passphrase is killed", (found, room.held("out")), ((137, TWICE + line, True), b"older"))
+    for turn in range(21):
+        room.put("out", b"older")
+        terminal = room.begin(enc, TERM="xterm")
+        terminal.answers("words\n", *["words\n"] * (turn % 3 > 0))
+        number, until = terminal.number, time.monotonic() + random.random() * 0.03
+        if turn % 3:
+            kids = []
+            try:
+                while time.monotonic() < until or not kids:
+                    kids = pathlib.Path(f"/proc/{number}/task/{number}/children").read_text(encoding="ascii").split() or kids
+            except OSError:  # it has ended
+                pass
+            number = int(random.choice(kids or [number]))
+        else:
+            time.sleep(until - time.monotonic())
+        try:
+            os.kill(number, signal.SIGKILL if turn % 3 else signal.SIGTERM)
+        except ProcessLookupError:
+            pass
+        if turn % 3 == 0 and not select.select([terminal.notes], [], [], 0.2)[0]:
+            terminal.answers("words\n", at=1)  # it was ignored, between two waits
+        status = terminal.ends()[0]
+        room.that(f"killed: {number}, {status}: files", room.names(), ["letters", "out", "words"])
+        is_whole = room.opened("out") == made
+        expected = (True, True) if status == 0 else (is_whole, is_whole or b"older")
+        room.that(f"killed: status {status}", (is_whole, is_whole or room.held("out")), expected)
+    # a signal while the new file is made; that file, and then the place of the older one, taken away while scrypt works
+    (room.top / "sleeping/mktemp").write_text('#!/bin/sh\n/bin/mktemp "$@"\nkill -TERM "$PPID"\n', encoding="utf-8")
+    (room.top / "sleeping/mktemp").chmod(0o755)
+    terminal = room.begin(enc, PATH=room.before("sleeping"))
+    asks = lambda: unnamed(terminal.shown).endswith(ASKED)
+    terminal.until(lambda: asks() or select.select([terminal.notes], [], [], 0)[0], "a question, or the end")
+    terminal.answers(*["words\n"] * (2 if asks() else 0))
+    terminal.ends()
+    room.that("a signal while the new file is made: files", room.names(), ["letters", "out", "words"])
+    for name in ("the new file", "the older one"):
+        room.clear(out=b"older")
+        os.mkfifo(room.folder / "given")
+        terminal, giving = begun_to_write(room)
+        next(room.folder.glob("scrypt-ask.??????")).unlink() if name == "the new file" else (room.folder / "out").unlink()
+        if name == "the older one":
+            (room.folder / "out").mkdir()
+        giving.close()
+        found = terminal.ends()
+        room.that(f"{name} is taken away", (found[0], found[1].endswith("scrypt-ask: outfile cannot be replaced\r\n")), (1, True))
+        room.that(f"{name} is taken away: files", room.names(), ["given", "out"])
+
+
+def printed_by_a_command(room):
+    """The first line that a command prints, with no terminal; a command that fails, prints nothing or is ended makes no file."""
+    room.clear(letters=b"Dear Ada", words=b" a\\b ", long=b"x" * 70000, more=b" a\\b \r" + b"\ny" * 70000)
+    for words in ("--passcommand 'cat words; echo; echo z' letters out", "letters --passcommand='cat words' out",
+                  "--passcommand 'cat more' - out <letters", "--passcommand 'cat words' -- letters >out"):
+        room.that(words, room.without_terminal(f"enc {CHEAP} {words}"), (0, b"", ""))
+        room.that(f"{words}: the file", room.opened("out"), (0, b"Dear Ada", b""))
+        room.that(f"{words}: opened", room.without_terminal("dec --passcommand 'cat more' out"), (0, b"Dear Ada", ""))
+        (room.folder / "out").unlink()
+    room.put("out", b"older")
+    empty = "the command of --passcommand printed no passphrase"
+    for words, line in (("--passcommand 'cat words; false'", "the command of --passcommand failed"), ("--passcommand=", empty),
+                        ("--passcommand 'echo; cat words'", empty), ("--passcommand \"printf '\\r\\n'\"", empty)):
+        command = f"enc {CHEAP}" if "printf" in words else "dec"
+        room.that(f"{command} {words}", room.without_terminal(f"{command} letters out {words}"), (1, b"", f"scrypt-ask: {line}\n"))
+    found = room.without_terminal("enc --passcommand 'cat long' letters out")
+    room.that("a long line", found, (1, b"", "scrypt: passphrase is longer than 2048 bytes\n"))
+    for number in (signal.SIGINT, signal.SIGTERM):
+        terminal = room.begin(f"enc {CHEAP} --passcommand 'echo $$ >number; exec sleep 60' letters out")
+        terminal.until(lambda: room.held("number"), "a number")
+        found = terminal.ends(terminal.signals(number, "\3" if number == signal.SIGINT else None))
+        room.that(f"{number.name} while a command works", (room.is_ended_by(number, found), "Passphrase" in found[1]), (True, False))
+        words = pathlib.Path(f"/proc/{int(room.held('number'))}/cmdline")  # none of one that has ended
+        until = time.monotonic() + 2
+        while (left := words.exists() and words.read_text()) and time.monotonic() < until:
+            time.sleep(0.01)
+        room.that(f"{number.name} while a command works: who is left", left or "", "")
+        room.put("number", None)
+    room.that("what is there after it", (room.names(), room.held("out")), (["letters", "long", "more", "out", "words"], b"older"))
+
+
 def begun_to_write(room):
     """A run that waits for more to encrypt, after scrypt has begun the new file."""
     terminal = room.begin(f"enc {CHEAP} - out <given")
@@ -335,12 +522,38 @@ def what_scrypt_gets(room):
     ):
         room.clear(**{"in": b"input"})
         typed = ["a secret\n"] * (2 if words.startswith("enc") else 1)
-        status, shown, echo = room.run(f"{words} <in", *typed, script="other/scrypt-ask", typed="exported", first="exported")
+        status, shown, echo = room.run(f"{words} <in >got", *typed, script="other/scrypt-ask", typed="exported", first="exported")
         got = f"<{words[:3]}><--passphrase><file:/dev/fd/7>" + "".join(f"<{it}>" for it in passed.split())
-        shown = shown.replace(TWICE, "").replace(ONCE, "")
-        room.that(f"{words}: what scrypt gets", (status, shown, echo), (7, f"{got}\r\na secret\r\ninput0\r\n", True))
+        shown = shown.replace(TWICE, "").replace(ONCE, "") + room.held("got").decode()
+        room.that(f"{words}: what scrypt gets", (status, shown, echo), (7, f"{got}\na secret\ninput0\n", True))
     _, shown, _ = room.run("dec in <in", "a secret\n", script="other/scrypt-ask", before="env SHELLOPTS=allexport ")
     room.that("where all variables are exported", shown.endswith("0\r\n"), True)
+    limit = resource.getrlimit(resource.RLIMIT_CORE)[1]
+    for options in ("-x", "-v", "-e"):
+        before = f"/bin/sh -c 'ulimit -S -c {'unlimited' if limit < 0 else limit}; exec \"$@\"' sh "
+        terminal = room.begin("dec in <in", script="other/scrypt-ask", before=before, options=options)
+        terminal.sees(ASKED)
+        room.that(f"{options}: bytes that a core file may have", resource.prlimit(terminal.number, resource.RLIMIT_CORE)[0], 0)
+        terminal.types("a secret\n")
+        status, shown, _ = terminal.ends()
+        room.that(f"{options}: how often the passphrase is shown, beside what scrypt shows", (status, shown.count("a secret")), (7, 1))
+
+
+def names_of_files(room):
+    """The encrypted file is named where its name can be shown, and no character of another name gets to the terminal."""
+    for words, named in (("enc letters out", " for out"), ("dec out text", " for out"), ("dec ./out", " for ./out"),
+                         ("enc letters >two", ""), ("dec - <out", ""), ("enc letters 'two words'", " for two words")):
+        room.clear(letters=b"Dear Ada", out=b"older")
+        terminal = room.begin(words)
+        terminal.until(lambda: terminal.shown.endswith(": "), "a question")
+        terminal.types("\4")
+        terminal.ends()
+        room.that(f"{words}: the question", terminal.shown.splitlines()[0], f"Passphrase{named}: ")
+    for name in ("\x1b[2J", "a\rb", "two\nlines", "\x7f", "\u009b2J"):
+        terminal = room.begin(f"enc letters {shlex.quote(name)}")
+        terminal.until(lambda: terminal.shown.endswith(": "), "a question")
+        terminal.types("\4")
+        room.that(f"the name {name!r}: the question", terminal.ends()[1].splitlines()[0], "Passphrase: ")
 
 
 def files(room):
@@ -388,6 +601,20 @@ def files(room):
         room.that(f"enc {words}: files", room.names(), ["letters", "out", "stream", "words"])
     room.that("standard input that is closed", room.run(f"{enc} - out <&-", *typed), (1, TWICE + said("S12"), True))
     room.that("standard output that is closed", room.run(f"{enc} letters >&-", *typed), (1, TWICE + said("S13"), True))
+    for of in ("new", "kept"):
+        room.clear(letters=b"Dear Ada", words=b"words", **({"out": b"older"} if of == "kept" else {}))
+        found = room.run(f"{enc} letters out", *typed, PATH=room.before("refusing"))
+        line = "scrypt-ask: outfile has the permissions 600: its own could not be set\r\n"
+        room.that(f"permissions of a {of} file are refused", found, (0, TWICE + line, True))
+        room.that(f"permissions of a {of} file that are left", oct(room.mode("out")), "0o600")
+        room.that(f"permissions of a {of} file are refused: files", (room.names(), room.opened("out")), (["letters", "out", "words"], made))
+    for number in (5, 9, 10):
+        room.put("out", b"older")
+        few = f"/bin/sh -c 'ulimit -n {number}; exec \"$@\"' sh "
+        ran = subprocess.run(["sh", "-c", room.line(f"{enc} --passcommand 'cat words' letters out", before=few)], cwd=room.folder, capture_output=True)
+        is_whole = room.opened("out") == made
+        room.that(f"{number} descriptors", (ran.returncode == 0, is_whole or room.held("out")), (is_whole, is_whole or b"older"))
+        room.that(f"{number} descriptors: files", room.names(), ["letters", "out", "words"])
     room.that("both closed", room.run(f"{enc} letters out <&- >&-", *typed)[0], 0)
     room.that("both closed: the file", room.opened("out"), made)
 
@@ -405,8 +632,13 @@ def refused_before_it_asks(room):
     ours = {
         "enc -P letters out": "leave", "dec --passphrase env:X letters out": "leave", "enc -Pr8 letters out": "leave",
         "dec --passphrase=file:words letters": "leave",
-        "enc folder": "tar -cf - folder | scrypt-ask enc - folder.tar.scrypt\r\n", "enc folder/ out": "tar -cf - folder | scrypt-ask enc",
-        "enc - out <folder": "tar -cf - FOLDER | scrypt-ask enc - FOLDER.tar.scrypt\r\n", "enc .": "tar -cf - FOLDER |",
+        "enc folder": "set -o pipefail; tar -cf - folder | scrypt-ask enc - new && mv new folder.tar.scrypt\r\n",
+        "enc folder/ out": "tar -cf - folder | scrypt-ask enc", "enc .": "tar -cf - FOLDER |",
+        "enc - out <folder": "set -o pipefail; tar -cf - FOLDER | scrypt-ask enc - new && mv new FOLDER.tar.scrypt\r\n",
+        "enc letters": "name an outfile", "enc - - <letters": "name an outfile",
+        **{f"enc {it}": "descriptors 6 to 9 are in use here" for it in ("letters /dev/fd/6", "/dev/fd/7 out", "-- /proc/self/fd/8 out",
+                                                                       "letters /dev/fd/9 9</dev/null")},
+        "enc letters out --passcommand": "--passcommand needs a command",
         "enc letters folder": "outfile is a folder", "dec letters ./": "outfile is a folder",
         "enc nothing out": "infile is not found", "dec nothing": "infile is not found", "dec folder": "infile cannot be read",
         "enc letters ./letters": "infile and outfile are one file", "enc letters hard": "infile and outfile are one file",
@@ -418,7 +650,11 @@ def refused_before_it_asks(room):
         status, shown, echo = room.run(words)
         found = status, shown.startswith("scrypt-ask: "), line in shown, shown.count("\n"), echo
         room.that(words, found, (1, True, True, 1, True))
-    for words, number in (("", "S1"), ("enc", "S1"), ("--help", "S1"), ("dec letters out more", "S1"), ("enc --logn 4 letters", "S1"),
+    for words in ("--help", "-h", "--version"):
+        status, shown, _ = room.run(words)
+        wide = max(map(len, shown.splitlines()))
+        room.that(words, (status, shown.count("\n") < 24, wide <= 80, "man scrypt-ask" in shown, "--passcommand" in shown), (0, *[True] * 4))
+    for words, number in (("", "S1"), ("enc", "S1"), ("--helm", "S1"), ("dec letters out more", "S1"), ("enc --logn 4 letters", "S1"),
                           ("enc --logN 4 letters out", "S2a"), ("enc --logN 0 -r 1 -p 1 letters", "S2b"), ("dec letters letters", "S2d"),
                           ("dec --logN 4 letters", "S1"), ("info letters", "S6"), ("dec letters out --keep", "S1")):
         room.that(words, room.run(words), (1, said(number), True))
@@ -434,9 +670,8 @@ def refused_before_it_asks(room):
         room.that(f"{name}, mode {mode:o}, as somebody else", (status, line in shown, shown.count("\n")), (1, True, 1))
     (room.folder / "closed").chmod(0o755)
     # no terminal; no /dev/fd; a printf that is a program
-    found = subprocess.run(["sh", "-c", room.line("enc letters out")], cwd=room.folder, capture_output=True, start_new_session=True)
-    line = b"scrypt-ask: there is no terminal to type a passphrase at: use scrypt --passphrase\n"
-    room.that("without a terminal", (found.returncode, found.stdout, found.stderr), (1, b"", line))
+    line = "scrypt-ask: there is no terminal to type a passphrase at: use --passcommand\n"
+    room.that("without a terminal", room.without_terminal("enc letters out"), (1, b"", line))
     for old, new, line in (("/dev/fd", "/nowhere", "there is no /nowhere"), ("command -v", "which", "printf is a program here")):
         (room.top / "bin/changed").write_text(SCRIPT.read_text(encoding="utf-8").replace(old, new), encoding="utf-8")
         status, shown, _ = room.run("enc letters out", script="bin/changed")
@@ -448,8 +683,8 @@ def main():
     if len(sys.argv) < 2:
         raise SystemExit(__doc__)
     checks = Checks(os.path.join(sys.argv[1], "scrypt"))
-    parts = (typed_and_opened, refused_as_typed, signals_while_it_asks, signals_while_scrypt_works, what_scrypt_gets, files,
-             refused_before_it_asks)
+    parts = (typed_and_opened, refused_as_typed, signals_while_it_asks, signals_while_scrypt_works, what_it_tells,
+             processes_are_killed, printed_by_a_command, what_scrypt_gets, names_of_files, files, refused_before_it_asks)
     for shell in sys.argv[2:] or SHELLS:
         if is_there(SHELLS[shell].split()[0], f"scrypt-ask is not run in {shell}"):
             with tempfile.TemporaryDirectory() as folder:
