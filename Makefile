@@ -3,7 +3,8 @@
 PREFIX ?= /usr/local
 # Where make bench puts its table and its picture, without .tsv and .svg.
 BENCH ?= docs/benchmarks
-SOURCES := crates.txt $(shell find crates -name out -prune -o -type f \( -name '*.rt' -o -name '*.antt' \) -print)
+SOURCES := crates.txt packaging/heap.c packaging/heap.sh \
+	$(shell find crates -name out -prune -o -type f \( -name '*.rt' -o -name '*.antt' \) -print)
 # The levels that this machine's processor has, of the two that can be built for, and the one that is built for.
 V3 := avx2 bmi1 bmi2 f16c fma movbe abm
 LEVELS := x86-64-v2 $(if $(filter-out $(shell sed -n 's/^flags.*: //p' /proc/cpuinfo | head -n 1),$(V3)),,x86-64-v3)
@@ -22,7 +23,7 @@ run: bin/$(CPU)/argon2 bin/$(CPU)/scrypt ## proves and builds bin/argon2 and bin
 	@printf password | bin/argon2 somesalt -d -t 1 -k 8 -e
 
 # There is no unproved build. A rule with several targets runs once for all of them.
-bin/%/argon2 bin/%/scrypt: $(SOURCES)
+bin/%/argon2 bin/%/scrypt: $(SOURCES) packaging/link.sh
 	@packaging/build.sh $*
 
 lib: bin/lib/libpikhsen.so.0 ## proves and builds the library for C, in bin/lib/

@@ -18,7 +18,6 @@ rm -f "bin/$level/argon2" "bin/$level/scrypt"
 test ! -f bin/level || test "$(cat bin/level)" != "$level" || rm -f bin/argon2 bin/scrypt bin/level
 : >"bin/$level/began"
 packaging/prove.py --cpu "$level" argon_tool scrypt_tool
-install -m 755 crates/argon_tool/out/argon_tool "bin/$level/argon2"
-install -m 755 crates/scrypt_tool/out/scrypt_tool "bin/$level/scrypt"
+packaging/link.sh "$level"
 # What was edited meanwhile is newer than these.
 touch -r "bin/$level/began" "bin/$level/argon2" "bin/$level/scrypt"

@@ -1,6 +1,6 @@
 #!/bin/sh
 # Makes libpikhsen.a and libpikhsen.so.0 in a folder, from the static library that rt leaves in crates/pikhsen_c/out and
-# the heap of Rattle's kit. They need the C library alone, export pikhsen_* alone, and are the same bytes each time.
+# the heap of heap.c. They need the C library alone, export pikhsen_* alone, and are the same bytes each time.
 #
 #     packaging/lib.sh FOLDER              of the static library as it is
 #     packaging/lib.sh FOLDER LEVEL..      proves and builds it before, for each level
@@ -22,13 +22,12 @@ trap 'status=$?; rm -rf "$work"; test $status = 0 || { taken_away; rm -f bin/*.d
 trap 'exit 130' INT
 trap 'exit 143' HUP TERM
 taken_away # while it proves none is there
-kit=$(dirname "$(dirname "$(readlink -f "$(command -v rt)")")")
 
 # linked FOLDER: makes the shared library there, of one object file, whose other names are local: so two libraries of
 # Rattle's can be in one program.
 linked() {
     mkdir -p "$1"
-    ld -r -o "$work/pikhsen.o" --whole-archive "$archive" "$kit/c/liblibc_c.a"
+    ld -r -o "$work/pikhsen.o" --whole-archive "$archive" "$work/heap.o"
     objcopy --wildcard --keep-global-symbol='pikhsen_*' --remove-section=.comment "$work/pikhsen.o"
     # --build-id=none and no start files: nothing of the machine at hand is in it. A function of it that calls another of
     # it reaches no other's of that name.
@@ -37,6 +36,7 @@ linked() {
         "$work/pikhsen.o"
 }
 
+packaging/heap.sh "$work/heap.o"
 for level in "${@:-}"; do
     test -z "$level" || packaging/prove.py --cpu "$level" pikhsen_c
     case $level in

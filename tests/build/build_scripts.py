@@ -1,12 +1,12 @@
 #!/usr/bin/env python3
-"""Runs packaging/build.sh, chosen.sh, lib.sh, deb.sh and install.sh in a copy of the tree, over a stand-in for rt that
-proves nothing, and for the library over one in C.
+"""Runs packaging/build.sh, link.sh, chosen.sh, lib.sh, deb.sh and install.sh in a copy of the tree, over a stand-in for rt
+that proves nothing, and for the library over one in C.
 
     tests/build/build_scripts.py
 
-What they make is what rt left, with its permissions under each umask; a proof that fails, a program that is not there,
-a linker that fails or a signal leaves no older program, library or package. What `make install` put below a prefix,
-and nothing else, `make uninstall` takes away.
+What they make is what rt left, with the heap of packaging/, and with its permissions under each umask; a proof that
+fails, a program that is not there, a linker that fails or a signal leaves no older program, library or package. What
+`make install` put below a prefix, and nothing else, `make uninstall` takes away.
 """
 import hashlib
 import os
@@ -21,7 +21,7 @@ import time
 sys.path += map(str, pathlib.Path(__file__).resolve().parents[1].iterdir())  # the other folders of tests/
 import binaries
 from checking import is_there, over_programs
-from first_run import LEVEL, PROGRAMS, STAND_IN, TOP, Tree
+from first_run import KIT, LEVEL, PROGRAMS, STAND_IN, TOP, Tree
 from library_texts import HEADER, prototypes, ran
 
 OTHER = "x86-64-v3"
@@ -31,12 +31,9 @@ OTHERS = [f"bin/{OTHER}/argon2", f"bin/{OTHER}/scrypt"]
 HIGHER = f"glibc-hwcaps/{OTHER}/libpikhsen.so.0"
 LIBRARIES = ["bin/lib/libpikhsen.a", "bin/lib/libpikhsen.so.0", f"bin/lib/{HIGHER}"]
 PACKAGE, WHEEL = "bin/pikhsen_0.0.1_amd64.deb", "bin/pikhsen-0.0.1-py3-none-any.whl"
-# The library in C: the names of the header, and one of the kit's heap, which is not to be seen outside.
-HEAP = """#include <stdlib.h>
-void *taken_by_the_kit(size_t size);
-void *taken_by_the_kit(size_t size) { return malloc(size); }
-"""
-BODY = "unsigned int {}(void) {{ return taken_by_the_kit(1) != 0; }}\n"
+# The library in C: the names of the header, over the heap, whose names are not to be seen outside.
+HEAP = "struct tried { _Bool ok; void *block; } rattle_alloc(unsigned long, unsigned long);\n"
+BODY = "unsigned int {}(void) {{ return rattle_alloc(1, 1).ok; }}\n"
 # What is installed from where, beside docs/.
 INSTALLED = {
     **{it: it for it in PROGRAMS[:2]}, **{it.removeprefix("bin/"): it for it in LIBRARIES}, "include/pikhsen.h": "include/pikhsen.h",
@@ -62,15 +59,13 @@ LIST, SUM_OF_ANOTHERS = "share/doc/pikhsen/installed.sha256", hashlib.sha256(b"a
 
 
 class Room(Tree):
-    """A copy of the tree in which rt lies in a kit, as lib.sh looks for it, with both static libraries in C."""
+    """A copy of the tree with the static library in C, and with what is installed beside what is built."""
 
     def __init__(self, folder):
         super().__init__(folder, CRATES)
-        self.kit, self.folder = pathlib.Path(folder, "kit"), pathlib.Path(folder)
-        (self.kit / "bin").mkdir(parents=True)
-        shutil.move(f"{folder}/rt", self.kit / "bin/rt")
+        self.folder = pathlib.Path(folder)
         (self.folder / "tmp").mkdir()
-        self.environment.update(PATH=f"{self.kit}/bin:{os.environ['PATH']}", ARCHIVE=f"{folder}/functions.a", TMPDIR=f"{folder}/tmp")
+        self.environment.update(ARCHIVE=f"{folder}/functions.a", TMPDIR=f"{folder}/tmp")
         self.journal.write_text("")
         for name in ("completions", "docs", "include", "man", "python"):
             shutil.copytree(TOP / name, self.top / name, ignore=shutil.ignore_patterns("__pycache__"))
@@ -78,14 +73,12 @@ class Room(Tree):
             shutil.copy(TOP / name, self.top)
 
     def compile_library(self):
-        """Makes the static libraries, as rt and the kit have them: with names of their own, and for any place."""
-        (self.kit / "c").mkdir()
-        functions = "void *taken_by_the_kit(unsigned long);\nint own(void);\nint own(void) { return 1; }\n"
-        functions += "".join(BODY.format(name) for name in sorted(prototypes(HEADER)))
-        for text, out in ((HEAP, self.kit / "c/liblibc_c.a"), (functions, self.folder / "functions.a")):
-            (self.folder / "text.c").write_text(text, encoding="utf-8")
-            for words in (["gcc", "-fPIC", "-O1", "-c", "text.c", "-o", "text.o"], ["ar", "rcs", out, "text.o"]):
-                subprocess.run(words, cwd=self.folder, check=True)
+        """Makes the static library, as rt has it: with a name of its own, and for any place. gcc is the kit's compiler."""
+        functions = [HEAP, "int own(void);\nint own(void) { return 1; }\n", *(BODY.format(it) for it in sorted(prototypes(HEADER)))]
+        (self.folder / "text.c").write_text("".join(functions), encoding="utf-8")
+        for words in (["gcc", "-fPIC", "-O1", "-c", "text.c", "-o", "text.o"], ["ar", "rcs", "functions.a", "text.o"]):
+            subprocess.run(words, cwd=self.folder, check=True)
+        (self.kit / "toolchain/bin/clang").write_text('#!/bin/sh\nexec gcc "$@"\n')
 
     def stand_in(self, name, text):
         """Puts a program of this name before those of the system; none where there is no text."""
@@ -123,6 +116,7 @@ def programs_are_built(checks, room, level):
     built = [f"bin/{level}/argon2", f"bin/{level}/scrypt"]
     checks.that(f"build.sh {level}", (status, room.modes(built)), (0, ["0o755", "0o755"]))
     outs = room.texts("crates/argon_tool/out/argon_tool", "crates/scrypt_tool/out/scrypt_tool")
+    outs = [it.replace("the heap of the kit", "the heap") for it in outs if it]
     checks.that(f"build.sh {level}: the programs", room.texts(*built), outs)
     checks.that(f"build.sh {level}: those in bin/ stay", here, room.there(["bin/level"]) and room.texts(*PROGRAMS[:2]))
     begun = {(room.top / it).stat().st_mtime for it in [*built, f"bin/{level}/began"]}
@@ -174,6 +168,20 @@ def proofs_fail(checks, room):
     checks.that("mended", room.there(there), [*PROGRAMS[2:]])
 
 
+def links_fail(checks, room):
+    """Where the heap is not compiled, a program is not linked, or is another than rt's with the kit's heap, there is none."""
+    there = [*PROGRAMS, *OTHERS, "bin/level", PACKAGE]
+    fails = "#!/bin/sh\nexit 1\n"
+    for name, text in (("toolchain/bin/clang", fails), ("bin/rattle-link", fails), ("bin/rattle-link", KIT["bin/rattle-link"] + 'echo >>"$to"\n')):
+        for script, none in (("build.sh", there), ("link.sh", there[2:4])):
+            room.older(there)
+            (room.kit / name).write_text(text, encoding="utf-8")
+            room.leaves(checks, f"{script}, {name} {'fails' if text == fails else 'links otherwise'}", none, f"packaging/{script}", LEVEL)
+            (room.kit / name).write_text(KIT[name], encoding="utf-8")
+    left = [it.name for it in pathlib.Path(room.environment["TMPDIR"]).iterdir()]
+    checks.that("link.sh: folders that it leaves", left, [])
+
+
 def is_stopped(checks, room):
     """A signal to a script and all that it began leaves no program and no library. Older ones go before the proof, from
     bin/, too, where they are of the level that is proved."""
@@ -196,6 +204,7 @@ def is_stopped(checks, room):
 
 def library_is_made(checks, room):
     """The library has the names of the header alone, is bound and protected as it should be, the same each time."""
+    room.compile_library()
     made = []
     for folder, umask in (("bin/lib", 0o077), ("bin/another folder", 0o022)):
         status, said = room.run("packaging/lib.sh", folder, *([OTHER, LEVEL] if not made else []), umask=umask)
@@ -392,9 +401,8 @@ def prefixes_are_refused(checks, room):
 
 def main(checks, folder):
     room = Room(folder)
-    parts = [both_levels_are_built, proofs_fail]
+    parts = [both_levels_are_built, proofs_fail, links_fail]
     if is_there("gcc", "packaging/lib.sh is not looked at"):
-        room.compile_library()
         parts += [library_is_made, libraries_fail, is_stopped]
     parts += [packages_fail, is_installed, is_taken_away, another_is_installed_over_it, a_list_leads_out]
     for part in [*parts, prefixes_are_refused]:

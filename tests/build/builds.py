@@ -55,9 +55,10 @@ def shown(words):
 def made_of():
     """What decides over the bytes of each program, of the library and of packages: rows of the table, by their words."""
     kit = {("kit",): shown("rt version")}
-    made = {name: {**kit, ("sources", name): sum_of(sources(crate))} for name, crate in PROGRAMS.items()}
+    heap = ["packaging/heap.c", "packaging/heap.sh"]
+    made = {name: {**kit, ("sources", name): sum_of([*sources(crate), *heap, "packaging/link.sh"])} for name, crate in PROGRAMS.items()}
     linked, packed = ({("tool", it): shown(f"{it} --version") for it in tools} for tools in (("ld", "cc", "objcopy"), ("dpkg-deb", "gzip")))
-    library = sum_of([*sources("pikhsen_c"), "packaging/lib.sh", "packaging/pikhsen.map"])
+    library = sum_of([*sources("pikhsen_c"), *heap, "packaging/lib.sh", "packaging/pikhsen.map"])
     made["library"] = {**kit, **linked, ("sources", "library"): library}
     made["packages"] = {**made["library"], **packed, ("sources", "packages"): sum_of(PACKED)}
     return made

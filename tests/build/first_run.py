@@ -71,11 +71,19 @@ if words[0] == "lib":
 if words[0] == "lib" and not is_library and os.environ.get("ARCHIVE"):
     os.replace(shutil.copy(os.environ["ARCHIVE"], f"out/lib{name}.a.new"), f"out/lib{name}.a")
 if words[0] == "run":
-    write(f"out/{name}", f"#!/bin/sh\necho {name} {len(text)}\n")
+    write(f"out/{name}.o", f"#!/bin/sh\necho {name} {len(text)}\nexit\n")
+    parts = [f"out/{name}.o", *(f"{os.path.dirname(__file__)}/../c/{it}" for it in ("libos_c.a", "liblibc_c.a"))]
+    write(f"out/{name}", "".join(map(text_of, parts)))
     os.chmod(f"out/{name}", 0o755)
 note("end")
 sys.exit(words[0] == "run")
 '''
+# Links files by putting their texts one after the other, and compiles the heap to a text; and what the kit links beside it.
+KIT = {
+    "bin/rattle-link": '#!/bin/sh\nwhile test "$1" != -o; do shift; done\nto=$2\nshift 2\ncat "$@" >"$to" && chmod 755 "$to"\n',
+    "toolchain/bin/clang": '#!/bin/sh\nwhile test "$1" != -o; do shift; done\necho "the heap" >"$2"\n',
+    "c/libos_c.a": "calls of the system\n", "c/liblibc_c.a": "the heap of the kit\n",
+}
 
 
 class Tree:
@@ -96,11 +104,14 @@ class Tree:
         for name in ("build", "pages", "sources"):
             (self.top / "tests" / name).mkdir(parents=True)
         shutil.copy(TOP / "tests/build/changed.py", self.top / "tests/build")
-        stand_ins = [pathlib.Path(folder, "rt"), self.top / "tests/sources/sources.sh", self.top / "tests/pages/documents.py"]
-        for path, text in zip(stand_ins, [STAND_IN, "#!/bin/sh\n", "#!/bin/sh\n"]):
+        self.kit = pathlib.Path(folder, "kit")
+        stand_ins = {self.kit / it: text for it, text in {"bin/rt": STAND_IN, **KIT}.items()}
+        stand_ins.update({self.top / it: "#!/bin/sh\n" for it in ("tests/sources/sources.sh", "tests/pages/documents.py")})
+        for path, text in stand_ins.items():
+            path.parent.mkdir(parents=True, exist_ok=True)
             path.write_text(text, encoding="utf-8")
             path.chmod(0o755)
-        self.environment = {"PATH": f"{folder}:{os.environ['PATH']}", "JOURNAL": str(self.journal), "HOME": str(folder)}
+        self.environment = {"PATH": f"{self.kit}/bin:{os.environ['PATH']}", "JOURNAL": str(self.journal), "HOME": str(folder)}
 
     def write(self, crate, text):
         is_program = (TOP / "crates" / crate / "src/main.rt").is_file()

@@ -15,7 +15,7 @@ gate: refusals c_face lines
 		bin/gate.tsv >bin/gate.all && cat bin/gate.all >>bin/gate.tsv && rm bin/gate.all
 	@cat bin/gate.tsv
 
-.PHONY: gate sources documents values told choice first_run scripts proved archive refusals c_face lines
+.PHONY: gate sources documents values told choice first_run scripts heap proved archive refusals c_face lines
 sources:   ; $(call step,tests/sources/sources.sh)
 documents: ; $(call step,tests/pages/documents.py)
 values:    ; $(call step,tests/pages/values.py)
@@ -23,10 +23,10 @@ told:      ; $(call step,tests/pages/definitions_told.py --check)
 choice:    ; $(call step,tests/edits/choice_test.py)
 first_run: ; $(call step,tests/build/first_run.py)
 scripts:   ; $(call step,tests/build/build_scripts.py)
-proved: sources documents values told choice first_run scripts
+heap:      ; $(call step,tests/library/heap.py)
+proved: sources documents values told choice first_run scripts heap
 	+$(call step,rt ci)
-	@install -D -m 755 crates/argon_tool/out/argon_tool bin/x86-64-v2/argon2
-	@install -D -m 755 crates/scrypt_tool/out/scrypt_tool bin/x86-64-v2/scrypt
+	@packaging/link.sh x86-64-v2
 	@test -f bin/level && test "$$(cat bin/level)" != x86-64-v2 || packaging/chosen.sh x86-64-v2
 archive: proved   ; $(call step,tests/library/archive.py)
 refusals: proved  ; $(call step,tests/edits/refusals.py)

@@ -39,7 +39,7 @@ TESTS = {
     "tests/library/python_wheel.py": (["LIB"], 25, ["gcc", "/usr/bin/pip3"]),
     "tests/library/packages.py": (["LIB"], 9, ["gcc", "dpkg-deb", SCRYPT]), "tests/library/c_face.py": (["--header", "LIB"], 6, ["gcc", "g++"]),
     "tests/sources/sources.sh": ([], 2, []), "tests/programs/story.py": (["--recipes", PROGRAMS], 25, ["bash", "dash", SCRYPT]),
-    "tests/pages/definitions_told.py": (["--check"], 8, []), "tests/programs/scrypt_ask.py": ([PROGRAMS, "dash"], 8, ["dash", SCRYPT]),
+    "tests/pages/definitions_told.py": (["--check"], 8, []), "tests/library/heap.py": ([], 7, ["gcc", "rt"]), "tests/programs/scrypt_ask.py": ([PROGRAMS, "dash"], 8, ["dash", SCRYPT]),
 }
 # What a test says of what it finds: a comparison that fails, a name that is not there, or how it ended.
 SAID = re.compile(r"^(?:FAILED|not there:) (.*)$|^(\w*(?:Error|Exception)\b.*)$", re.MULTILINE)

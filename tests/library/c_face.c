@@ -25,6 +25,7 @@ static size_t asked = 0;  /* how many bytes were asked for since it was 0 last; 
 #ifdef REFUSE
 extern void *__libc_malloc(size_t);
 extern void *__libc_realloc(void *, size_t);
+extern void *__libc_memalign(size_t, size_t);
 extern void __libc_free(void *);
 
 /* Counts a request; whether it is refused. */
@@ -47,6 +48,11 @@ static void *counted(void *block)
 void *malloc(size_t size)
 {
 	return refuses(size) ? NULL : counted(__libc_malloc(size));
+}
+
+void *aligned_alloc(size_t alignment, size_t size)
+{
+	return refuses(size) ? NULL : counted(__libc_memalign(alignment, size));
 }
 
 void *realloc(void *at, size_t size)

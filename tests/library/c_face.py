@@ -33,7 +33,7 @@ STRICT = ["-std=c89", "-pedantic", "-Wall", "-Wextra", "-Werror", "-D_POSIX_C_SO
 CPP = ["-Wall", "-Wextra", "-pedantic", "-Werror", "-Wold-style-cast", "-Wconversion", "-Wsign-conversion"]
 # -z now: to bind a name at its first call would store vector registers, and a piece of a key may be in these
 STREAMS = ("to-pieces", "of-pieces", "pieces-freed")
-WRAPPED = ["-Wl,-z,now", "-Wl,--wrap=malloc,--wrap=realloc,--wrap=free"]
+WRAPPED = ["-Wl,-z,now", "-Wl,--wrap=malloc,--wrap=realloc,--wrap=aligned_alloc,--wrap=free"]
 
 
 def is_of_sources(archive):

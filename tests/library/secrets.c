@@ -100,36 +100,54 @@ CALLS(FUNCTION)
 /* How many bytes were freed in blocks of this size and more, and how many of these bytes were not 0. */
 static size_t least = 1, freed, not_zero;
 
-/* Its size stands 16 bytes before a block, so that the block stands as malloc's do. */
-enum { BEFORE = 16 };
+/* What stands in the 16 bytes before a block, which stands as the C library's do: its size, and where it was taken from. */
+struct before {
+	size_t size;
+	void *start;
+};
 
 void *__real_malloc(size_t size);
+void *__real_aligned_alloc(size_t alignment, size_t size);
 void __real_free(void *block);
 
-void *__wrap_malloc(size_t size)
+/* The block of this size that begins so far behind a start; null where that is null. */
+static void *block_behind(void *start, size_t distance, size_t size)
 {
-	unsigned char *start = __real_malloc(BEFORE + size);
+	struct before *before;
 
 	if (start == NULL)
 		return NULL;
-	memcpy(start, &size, sizeof size);
-	return start + BEFORE;
+	before = (void *)((unsigned char *)start + distance - sizeof *before);
+	before->size = size;
+	before->start = start;
+	return before + 1;
+}
+
+void *__wrap_malloc(size_t size)
+{
+	return block_behind(__real_malloc(sizeof(struct before) + size), sizeof(struct before), size);
+}
+
+void *__wrap_aligned_alloc(size_t alignment, size_t size)
+{
+	return block_behind(__real_aligned_alloc(alignment, alignment + size), alignment, size);
 }
 
 void __wrap_free(void *block)
 {
 	const unsigned char *bytes = block;
-	size_t size, at;
+	const struct before *before = block;
+	size_t at;
 
 	if (block == NULL)
 		return;
-	memcpy(&size, bytes - BEFORE, sizeof size);
-	if (size >= least) {
-		freed += size;
-		for (at = 0; at < size; ++at)
+	--before;
+	if (before->size >= least) {
+		freed += before->size;
+		for (at = 0; at < before->size; ++at)
 			not_zero += bytes[at] != 0;
 	}
-	__real_free((unsigned char *)block - BEFORE);
+	__real_free(before->start);
 }
 
 void *__wrap_realloc(void *block, size_t size)
@@ -138,7 +156,7 @@ void *__wrap_realloc(void *block, size_t size)
 	size_t before = 0;
 
 	if (block != NULL && moved != NULL) {
-		memcpy(&before, (unsigned char *)block - BEFORE, sizeof before);
+		before = ((struct before *)block)[-1].size;
 		memcpy(moved, block, before < size ? before : size);
 		__wrap_free(block);
 	}

@@ -218,14 +218,21 @@ def file_of_no_text(log_n):
     return head + hmac.digest(keys[32:], head, "sha256")
 
 
-# Words, what is given and written, and the bytes of the matrix or of the table: 128 N, or 128 N / S.
-F_MIB = file_of_no_text(13)
+# Words, what is given and written, and the bytes of the matrix or of the table: 128 N, or 128 N / S. From 2 MiB on they
+# begin at a huge page.
+F_MIB, F_4_MIB = file_of_no_text(13), file_of_no_text(15)
 LARGE_REQUESTS = [
     (hash_of("somesalt -d -t 1 -k 1024 -e",
              b"$argon2d$v=19$m=1024,t=1,p=1$c29tZXNhbHQ$Li5eBf5XrCz0cuzQRe9oflYqmA/VAzmzichw4ZYrvEU\n"), 1 << 20),
     (hash_of("somesalt -d -t 1 -k 1024 -r", b"2e2e5e05fe57ac2cf472ecd045ef687e562a980fd50339b389c870e1962bbc45\n"), 1 << 20),
     (hash_of("somesalt -id -t 2 -k 1024 -p 2 -e",
              b"$argon2id$v=19$m=1024,t=2,p=2$c29tZXNhbHQ$kEfNQbPvk6Q7hokW6Jrvn1Mjb9kdT/I7OXVDKsviazk\n"), 1 << 20),
+    (hash_of("somesalt -d -t 1 -k 4096 -e",
+             b"$argon2d$v=19$m=4096,t=1,p=1$c29tZXNhbHQ$7ihYKDQmx1c4J4Y2qvRnMEArWN1gWQxGzVROHZ+9G/Q\n"), 1 << 22),
+    (hash_of("somesalt -id -t 2 -k 4096 -p 2 -r", b"77212eb8fa2fd319a927e794b272e9dcb02859ef05ef5515f31494b4dfd389a1\n"), 1 << 22),
+    *((file_of(f"{words} {keep} {FROM_PW} -", given, made, *line()), table)
+      for words, given, made in ((f"enc --logN 15 -r 1 -p 1 --salt {SALT}", b"", F_4_MIB), ("dec", F_4_MIB, b""))
+      for keep, table in (("", 1 << 22), ("--keep 2", 1 << 21))),
     *((file_of(f"{words} {keep} {FROM_PW} -", given, made, *line()), table)
       for words, given, made in ((f"enc --logN 13 -r 1 -p 1 --salt {SALT}", b"", F_MIB), ("dec", F_MIB, b""))
       for keep, table in (("", 1 << 20), ("--keep 4", 1 << 18))),

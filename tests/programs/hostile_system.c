@@ -27,6 +27,7 @@
 void *__libc_malloc(size_t);
 void *__libc_calloc(size_t, size_t);
 void *__libc_realloc(void *, size_t);
+void *__libc_memalign(size_t, size_t);
 void __libc_free(void *);
 
 static struct range { long first, last; } refused_requests, bad_calls;
@@ -72,6 +73,8 @@ void *calloc(size_t count, size_t size) {
 }
 
 void *realloc(void *old, size_t size) { return is_refused(size) ? NULL : __libc_realloc(old, size); }
+
+void *aligned_alloc(size_t alignment, size_t size) { return is_refused(size) ? NULL : __libc_memalign(alignment, size); }
 
 /* Whether the line of this call in the log begins as HOSTILE_ONLY says. */
 static int tell(const char *call, const char *name) {

@@ -1,0 +1,5 @@
+#!/bin/sh
+# Compiles heap.c, the heap of programs and library, by the toolchain's compiler:  packaging/heap.sh FILE
+set -eu
+kit=$(dirname "$(dirname "$(readlink -f "$(command -v rt)")")")
+exec "$kit/toolchain/bin/clang" -O2 -fPIC -c -o "$1" "$(dirname "$0")/heap.c"
