@@ -81,8 +81,9 @@ wheel: bin/lib/libpikhsen.so.0 ## makes a wheel for pip in bin/: the module with
 	@packaging/wheel.sh bin/lib bin
 	@echo 'made:' bin/pikhsen-*.whl >&2
 
-bench: $(LEVELS:%=bin/%/argon2) $(LEVELS:%=bin/%/scrypt) ## times the programs beside those that are installed
+bench: $(LEVELS:%=bin/%/argon2) $(LEVELS:%=bin/%/scrypt) bin/lib/libpikhsen.so.0 ## times the programs beside those that are installed
 	bench/table.py $(LEVELS:%=bin/%) --out $(BENCH)
+	bench/c_face.py
 	bench/logins.py
 
 clean: ## removes bin/ and all kept proofs

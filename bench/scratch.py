@@ -68,6 +68,12 @@ class Least(dict):
         self[name] = min(value, self.get(name, value))
 
 
+def huge_pages():
+    """For what Linux gives huge pages here: always, madvise (where a program asks for them) or never."""
+    setting = pathlib.Path("/sys/kernel/mm/transparent_hugepage/enabled")
+    return setting.read_text(encoding="ascii").partition("[")[2].partition("]")[0] if setting.is_file() else "never"
+
+
 def rounds():
     """How often each does its work: the first word, or 7."""
     return int(sys.argv[1]) if len(sys.argv) > 1 else 7

@@ -26,7 +26,7 @@ import subprocess
 import tempfile
 
 import ratios
-from scratch import Least, used, with_peak
+from scratch import Least, huge_pages, used, with_peak
 
 TIMES = "ours theirs ratio ours_elapsed theirs_elapsed ratio_elapsed".split()
 COLUMNS = ["work", "size", "level", *TIMES, "ours_MiB", "theirs_MiB", "rounds", "load"]
@@ -39,7 +39,7 @@ Row = collections.namedtuple("Row", "work size program words given status librar
 
 
 def argon2_rows():
-    for log_memory, kind, passes, lanes in itertools.product((3, 12, 16, 18), ("d", "i", "id"), (1, 3), (1, 4)):
+    for log_memory, kind, passes, lanes in itertools.product((3, 12, 14, 16, 18), ("d", "i", "id"), (1, 3), (1, 4)):
         memory = ["-k", str(8 * lanes)] if log_memory == 3 else ["-m", str(log_memory)]
         words = ["somesalt", f"-{kind}", "-t", str(passes), "-p", str(lanes), *memory, "-r"]
         yield Row(f"argon2 -{kind} -t {passes} -p {lanes} -m", log_memory, "argon2", words, b"password")
@@ -138,9 +138,11 @@ def main():
     given = asked.parse_args()
     rows = [row for row in (*argon2_rows(), *scrypt_rows(), *library_rows()) if given.only in f"{row.work} {row.size}"]
     levels = {os.path.basename(os.path.abspath(folder)): os.path.abspath(folder) for folder in given.folders}
-    model = re.search(r"(?m)^model name\s*: (.*)", pathlib.Path("/proc/cpuinfo").read_text(encoding="utf-8"))
-    title = f"{model[1] if model else 'unknown'}, {os.cpu_count()} processors; load {os.getloadavg()[0]:.1f} at the start; " \
-            f"{datetime.date.today()}; least of {given.rounds} rounds"
+    processor = pathlib.Path("/proc/cpuinfo").read_text(encoding="utf-8")
+    model = re.search(r"(?m)^model name\s*: (.*)", processor)
+    has_sha = "with" if re.search(r"\bsha_ni\b", processor) else "without"
+    title = f"{model[1] if model else 'unknown'}, {os.cpu_count()} processors; {has_sha} instructions for SHA; huge pages: " \
+            f"{huge_pages()}; load {os.getloadavg()[0]:.1f} at the start; {datetime.date.today()}; least of {given.rounds} rounds"
     print(title)
     print("seconds of processor time and elapsed, MiB of memory; a ratio is ours to that of the other program or library")
     print(shown(COLUMNS), flush=True)
