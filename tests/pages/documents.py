@@ -170,6 +170,11 @@ for name, sentences in SENTENCES.items():
     for sentence in sentences:
         expect(sentence in " ".join(TEXTS[TOP / name].split()), name, f"'{sentence}', as docs/benchmarks.tsv has it")
 
+# The heap is trusted: pages name it with its lines.
+LINES_OF_HEAP = len((TOP / "packaging/heap.c").read_text(encoding="utf-8").splitlines())
+for name in ("README.md", "docs/GATE.md"):
+    expect(f"`packaging/heap.c`, {LINES_OF_HEAP} lines" in TEXTS[TOP / name], name, f"the {LINES_OF_HEAP} lines of packaging/heap.c")
+
 # Definitions: a row names none that specs/ lacks. The files of those that it has are made beside them.
 for crate, spec in SPECS.items():
     for names, *_ in pages.rows("definitions.tsv", crate):
