@@ -5,6 +5,7 @@
 
 Expected hashes are those of Debian's argon2 (package argon2, version 0~20171227) and of RFC 9106's reference values.
 """
+import base64
 import re
 import shutil
 import sys
@@ -17,7 +18,10 @@ from scrypt_files import LINES
 
 FIRST = b"$argon2d$v=19$m=8,t=1,p=1$c29tZXNhbHQ$xRnmA6xgPsGutbcexEpheePzl1sUwMl+ORTHnmNj4Xg\n"
 I_256 = b"$argon2i$v=19$m=256,t=2,p=1$c29tZXNhbHQ$iekCn0Y3spW+sCcFanM2xBT63UP2sghkUoHLIUpWRS8\n"
-
+# nothing given but a form of output, and salts of s alone, of type id, one pass and 8 KiB, by their lengths; by Debian's argon2
+PLAIN = b"$argon2i$v=19$m=4096,t=3,p=1$c29tZXNhbHQ$iWh06vD8Fy27wf9npn6FXWiCX4K6pW6Ue1Bnzz07Z8A\n"
+SALTS = {16: "T9G7F4ntvjOCgttwF4CMKEmjm52g0bFKQltH+leQhf8", 17: "cNrRQY3sLbHe38u+cfPZ8lRrKB9qhrEoELxcr/UZxGk",
+         254: "M1Y/xPAYtlm+iCGxd13+wHo7+WEkKtY9WCLfsviUeCg", 255: "4pUw72Sr9mwLVDS/SAA6Pgh1LDwJc0ra6eTcp0ku8xE"}
 
 
 def refused(number):
@@ -35,6 +39,10 @@ TABLE = [
     ("work above its limit", "somesalt -d -t 1 -k 8 -e --maxops 5", b"password", refused("A7b")),
     ("memory at its limit", "somesalt -t 2 -m 8 -e --maxmem 256", b"password", hashed(I_256)),
     ("memory above its limit", "somesalt -t 2 -m 8 -e --maxmem 255", b"password", refused("A7a")),
+    ("nothing given but a form", "somesalt -e", b"password", hashed(PLAIN)),
+    ("memory above its limit where none is asked for", "somesalt -e --maxmem 4095", b"password", refused("A7a")),
+    ("the memory limit where none is given", "somesalt -k 4194308 -e", b"password", refused("A7a")),
+    ("the work limit where none is given", "somesalt -t 4294967295 -k 16 -e", b"password", refused("A7b")),
     ("no words", "", b"password", refused("A1")),
     ("an unknown word", "somesalt -e -q", b"password", refused("A2")),
     ("a missing value", "somesalt -e -t", b"password", refused("A3")),
@@ -89,6 +97,13 @@ def standard_streams(checks):
         ("a closed standard error", "somesalt 2>&-", nothing), ("all streams closed", f"{words} <&- >&- 2>&-", nothing),
     ):
         checks.that(name, checks.shell(f'"$0" {line}', b"password"), expected)
+    # words are refused before the password is read, of which no more is read than tells that it is too long
+    for name, words_there, given, left, number in (
+        ("no words", "", b"password", b"password", "A1"), ("an unknown word", "somesalt -e -q", b"password", b"password", "A2"),
+        ("a long password", words, b"p" * 128 + b"left", b"left", "A8c"),
+    ):
+        found = checks.shell(f'"$0" {words_there}; cat', given)
+        checks.that(f"what is left of standard input: {name}", found, (0, left, LINES[number]))
     # nobody reads the output any more: a fault like any other, and no signal
     checks.that("a pipe that nobody reads", checks.unread_pipe(words.split(), b"password"), (1, unwritten[2]))
     checks.that("a password in pieces", checks.slowly(words.split(), b"password", 0.01), hashed(FIRST))
@@ -103,6 +118,10 @@ def other_words(checks):
     status, output, line = checks.run("somesalt -d -t 1 -k 8 -l 4096 -r".split(), b"password")
     checks.that("the longest tag", (status, len(output), output[:64], output[-65:], line), (0, 8193, *LONGEST_TAG, b""))
     checks.that("a long salt", checks.run(["s" * 256, "-e"], b"password"), refused("A6.5"))
+    for length, tag in SALTS.items():
+        found = checks.run(["s" * length, *"-id -t 1 -k 8 -e".split()], b"password")
+        salt = base64.b64encode(b"s" * length).decode().rstrip("=")
+        checks.that(f"a salt of {length} bytes", found, hashed(f"$argon2id$v=19$m=8,t=1,p=1${salt}${tag}\n".encode()))
 
 
 def standard_streams_that_are_read(checks):

@@ -18,7 +18,7 @@ import pathlib
 sys.path += map(str, pathlib.Path(__file__).resolve().parents[1].iterdir())  # the other folders of tests/
 from checking import is_there, over_programs
 from scrypt_ask import Terminal
-from scrypt_files import COSTS, ENVIRONMENT, F0, F5, FILES, FIXED, FROM_PW, LINES, PASSPHRASE_OF_BYTES
+from scrypt_files import COSTS, ENVIRONMENT, F0, F5, FILES, FIXED, FROM_PW, LINES, PASSPHRASE_OF_BYTES, SALT
 
 
 def done(out=b""):
@@ -60,6 +60,7 @@ TABLE = [
     ("the memory limit where none is given", f"dec {FROM_PW} 4-gib-and-more", b"", refused("S8")),
     ("the work limit where none is given", f"dec {FROM_PW} much-work", b"", refused("S9")),
     ("the costs of a new file are limited", f"enc {FIXED} -M 2047 {FROM_PW} hello", b"", refused("S8")),
+    ("and its work", f"enc {FIXED} --maxops 63 {FROM_PW} hello", b"", refused("S9")),
     # a part of the table
     ("a quarter of the table, its limits met", f"dec --keep 4 -M 512 --maxops 160 {FROM_PW} F5", b"", done(b"hello")),
     ("one row, its limits met", f"dec --keep 16 -M 128 --maxops 544 {FROM_PW} F5", b"", done(b"hello")),
@@ -67,6 +68,7 @@ TABLE = [
     ("no row", f"dec --keep 0 {FROM_PW} F5", b"", refused("S16a")),
     ("an empty file over half of the table", f"enc {FIXED} --keep 2 {FROM_PW} empty", b"", done(F0)),
     ("five bytes over half of the table", f"enc {FIXED} --keep 2 {FROM_PW} hello", b"", done(F5)),
+    ("five bytes over a quarter, its limits met", f"enc {FIXED} --keep 4 -M 512 --maxops 160 {FROM_PW} hello", b"", done(F5)),
     ("the costs where none are given", f"enc -M 134217727 {FROM_PW} hello", b"", refused("S8")),
     ("memory past 64 bits for a new file", f"enc --logN 63 -r 8 -p 1 {FROM_PW} hello", b"", refused("S8")),
     ("more memory than there is", f"enc --logN 50 -r 8 -p 1 {FROM_PW} hello", b"", refused("S8")),
@@ -133,6 +135,10 @@ IN_A_SHELL = [
     ("enc leaves standard input", f'printf left | {{ "$0" enc {FIXED} {FROM_PW} hello out; cat; }}', done(b"left")),
     ("dec leaves standard input", f'printf left | {{ "$0" dec {FROM_PW} F5 out; cat; rm out; }}', done(b"left")),
     ("info leaves standard input", 'printf left | { "$0" info F5; cat; }', done(INFO + b"left")),
+    # info reads a header and no more, and so does a run that its costs end
+    ("info leaves the rest of a file", '{ "$0" info -; cat; } <F5', done(INFO + F5[96:])),
+    ("info leaves the rest of a pipe", 'cat F5 | { "$0" info -; cat; }', done(INFO + F5[96:])),
+    ("dec leaves the rest after costs above a limit", f'{{ "$0" dec -M 2047 {FROM_PW} -; cat; }} <F5', (0, F5[96:], LINES["S8"])),
     # outputs that are no regular files
     ("a device", f'"$0" enc {FIXED} {FROM_PW} /dev/null /dev/stdout', done(F0)),
     ("the same device", f'"$0" enc {FIXED} {FROM_PW} /dev/null /dev/../dev/null', done()),
@@ -408,13 +414,21 @@ def words_of_bytes(checks):
     checks.that("bytes of standard input", checks.run("dec -P made".split(), PASSPHRASE_OF_BYTES), done(b"hello"))
 
 
+# The costs where none are given (README.md, "Which costs").
+DEFAULT = "--logN 17 -r 8 -p 1"
 LENGTHS = (1, 31, 32, 33, 63, 64, 65, 4063, 4064, 4095, 4096, 4097, 8191, 8192, 8193, 100000)
 
 
-def comes_back(checks, name, costs, text):
-    """What enc makes of a text, and dec gives back."""
-    status, made, said = checks.run(f"enc {costs} {FROM_PW} -".split(), text)
-    checks.that(f"{name}, encrypted", (status, len(made), said), (0, 128 + len(text), b""))
+def costs_of(file):
+    """The costs that a file has in its header, as words."""
+    r, p = (int.from_bytes(file[at:at + 4], "big") for at in (8, 12))
+    return f"--logN {file[7]} -r {r} -p {p}" if len(file) >= 16 else "no header"
+
+
+def comes_back(checks, name, costs, text, *more):
+    """What enc makes of a text with these costs, and dec gives back."""
+    status, made, said = checks.run([*f"enc {costs} {FROM_PW}".split(), *more, "-"], text)
+    checks.that(f"{name}, encrypted", (status, len(made), said, costs_of(made)), (0, 128 + len(text), b"", costs or DEFAULT))
     checks.that(f"{name}, decrypted", checks.run(f"dec {FROM_PW} -".split(), made), done(text))
     return made
 
@@ -423,8 +437,9 @@ def from_enc_and_back(checks):
     """Texts about the length of a piece; costs with a block past r of 32, and a table above 64 MiB; and two salts."""
     for length in LENGTHS:
         comes_back(checks, f"{length} bytes", COSTS, LARGE[:length])
-    for costs in ("--logN 10 -r 33 -p 1", "--logN 10 -r 128 -p 2", "--logN 16 -r 9 -p 1", "--logN 15 -r 24 -p 1"):
-        comes_back(checks, costs, costs, b"hello")
+    for costs in ("", "--logN 10 -r 33 -p 1", "--logN 10 -r 128 -p 2", "--logN 16 -r 9 -p 1", "--logN 15 -r 24 -p 1"):
+        made = comes_back(checks, costs or "the costs where none are given", costs, b"hello", "--salt", SALT)
+        checks.that(f"the salt that is given, {costs or DEFAULT}", made[16:48].hex(), SALT)
     first, second = (comes_back(checks, "a salt of its own", COSTS, b"hello")[16:48] for _ in range(2))
     checks.that("a salt of its own for each file", [first[:16] != second[:16], first[16:] != second[16:]], [True, True])
 
@@ -438,9 +453,10 @@ def beside_the_installed(checks):
     cases += [("--logN 10 -r 1 -p 2", 1 << power, b"hello") for power in range(11)]
     for costs, keep, text in cases:
         name = f"of {len(text)} bytes, {costs}, one row in {keep}"
-        checks.put("ours", checks.run(f"enc {costs} --keep {keep} {FROM_PW} -".split(), text)[1])
+        ours = checks.run(f"enc {costs} --keep {keep} {FROM_PW} -".split(), text)[1]
+        checks.put("ours", ours)
         found = checks.run(f"dec {FROM_PW} ours".split(), program=other)
-        checks.that(f"{other} opens ours {name}", found[:2], (0, text))
+        checks.that(f"{other} opens ours {name}", (*found[:2], costs_of(ours)), (0, text, costs))
         if costs != COSTS:  # its own costs begin at 2^10, but it opens files with less
             made = checks.run(f"enc {costs} {FROM_PW} - theirs".split(), text, program=other)
             found = checks.run(f"dec --keep {keep} {FROM_PW} theirs".split())

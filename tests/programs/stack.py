@@ -5,7 +5,7 @@ be proved.
 
     tests/programs/stack.py FOLDER      in which the programs lie
 
-The runs go over every length of a password, of a passphrase and of a salt, texts about the length of a piece, other
+The runs go over every length of a password, of a passphrase (also to open a file) and of a salt, texts about the length of a piece, other
 tags and costs, 0 to 40 words, and words and variables of up to 100,000 bytes, which count in the limit and are added
 to it.
 """
@@ -28,6 +28,8 @@ SMALL, LARGE = 64, 8192
 # In bytes. The largest is that of a run of scrypt, into which the compiler puts what it calls.
 LARGEST_FRAME = 32768
 CHEAP = "--logN 1 -r 1 -p 1"
+# Two passphrases of them are too long.
+LENGTHS = range(2051)
 PIECES = (*range(301), 4095, 4096, 4097, 8191, 8192, 8193)
 CUTS = (*range(0, 140, 3), 4224, 8320)
 
@@ -69,7 +71,7 @@ def runs_of_argon2():
 
 def runs_of_scrypt():
     new = f"enc {CHEAP} --salt {SALT}"
-    for length in range(2051):
+    for length in LENGTHS:
         yield Run(f"a passphrase of {length} bytes", "scrypt", f"{new} --passphrase file:p-{length} /dev/null")
     for length in (*range(0, 2051, 50), 2047, 2048, 2049):
         yield Run(f"{length} bytes on standard input", "scrypt", f"{new} -P /dev/null", f"p-{length}")
@@ -103,6 +105,8 @@ def runs_over_files():
     for length in PIECES:
         yield Run(f"a file of a text of {length} bytes", "scrypt", f"dec {FROM_PW} file-{length}")
         yield Run(f"such a file of {length} bytes from a pipe", "scrypt", f"dec {FROM_PW} -", f"file-{length}")
+    for length in LENGTHS:
+        yield Run(f"a file under a passphrase of {length} bytes", "scrypt", f"dec --passphrase file:p-{length} under-{length}")
     for length in CUTS:
         yield Run(f"a file cut to {length} bytes", "scrypt", f"dec {FROM_PW} cut-{length}")
         yield Run(f"info of a file cut to {length} bytes", "scrypt", f"info cut-{length}")
@@ -185,7 +189,7 @@ def largest_frame(program):
 
 def main(checks, folder, argon2, scrypt):
     programs = {"argon2": argon2, "scrypt": scrypt}
-    for length in {*range(2051), *PIECES}:
+    for length in {*LENGTHS, *PIECES}:
         checks.put(f"p-{length}", b"p" * length)
     checks.put("pw", b"pw\n")
     checks.put("hello", b"hello")
@@ -195,14 +199,19 @@ def main(checks, folder, argon2, scrypt):
     made = {run.name: out for run, (_, out) in zip(runs, ended)}
     for length in PIECES:
         checks.put(f"file-{length}", made[f"a text of {length} bytes"])
+    for length in LENGTHS:
+        checks.put(f"under-{length}", made[f"a passphrase of {length} bytes"] if length < 2049 else made["a text of 5 bytes"])
     for length in CUTS:
         checks.put(f"cut-{length}", made["a text of 8193 bytes"][:length])
     checks.put("file", made["a text of 5 bytes"])
     over_files = [*runs_over_files()]
-    wrong += compare(over_files, folder, programs)[0]
+    more, opened = compare(over_files, folder, programs)
+    wrong += more
+    opens = [run.name for run, (status, _) in zip(over_files, opened) if status == 0 and " under " in run.name]
+    checks.that("passphrases under which files are opened", opens, [f"a file under a passphrase of {it} bytes" for it in range(2049)])
     checks.passed += len(runs) + len(over_files) - len(wrong)
     for name, small, large in wrong:
-        checks.that(f"with a stack of {SMALL} KiB: {name}", small, large)
+        checks.that(f"with a stack of {SMALL} KiB: {name}", small, large if large and large[0] in (0, 1) else "no signal")
     statuses = [it[0] for it in ended if it]
     checks.that("some runs end well, and some do not", (0 in statuses, 1 in statuses), (True, True))
     finds_what_is_deep(checks, folder)
