@@ -37,7 +37,7 @@ check: ## proves and tests what differs from the last commit
 
 # What was built for another level is tested, too, and built anew before, if the sources changed.
 test: $(filter bin/x86-64-v3/%,$(wildcard $(LEVELS:%=bin/%/scrypt))) ## the gate: proofs, tests, wrong bodies, the built programs
-	@rm -rf bin/rooms && mkdir -p bin && printf '# begun:\t%s\n' $$(date +%s) >bin/gate.tsv
+	@rm -rf bin/rooms bin/left_out && mkdir -p bin && printf '# begun:\t%s\n' $$(date +%s) >bin/gate.tsv
 	@$(MAKE) --no-print-directory -f tests/build/gate.mk -j -O gate LEVELS='$(LEVELS)'
 
 # A wrong line may need the programs or the library to be found. docs/audit gets the commit, and each edit that was not

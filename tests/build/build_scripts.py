@@ -293,7 +293,7 @@ def is_installed(checks, room):
     listed = [it.split("  ")[1] for it in found[LIST].decode().splitlines() if not it.startswith("# folder  ")]
     checks.that("what is listed", sorted(listed), sorted(wanted))
     checks.that("sums that are listed", ran("sha256sum", "--strict", "--quiet", "-c", LIST, cwd=to), (0, ""))
-    if is_there("pkg-config", "what it says of the library is not looked at"):
+    if is_there("pkg-config", "what it says of the library is not looked at", 2):
         environment = {"PATH": os.environ["PATH"], "PKG_CONFIG_PATH": f"{to}/lib/pkgconfig"}
         for word, flags in (("--cflags", [f"-I{to}/include"]), ("--libs", [f"-L{to}/lib", "-lpikhsen"])):
             checks.that(f"pkg-config {word}", shlex.split(ran("pkg-config", word, "pikhsen", env=environment)[1]), flags)

@@ -6,6 +6,8 @@ LEVELS := x86-64-v2
 # Where processors are idle, rt shares a check among processes, and each of them loads the libraries: a fifth of all time. So
 # each check gets one, and as many run side by side as processors and memory allow.
 export RT_JOBS := $(shell cd packaging && python3 -B -c 'import prove; print(prove.places())')
+# What tests leave out, which the last lines say again. Of programs that are not installed, that fails with PIKHSEN_ALL=1.
+export PIKHSEN_LEFT_OUT := $(CURDIR)/bin/left_out
 step = @{ t=$$({ TIMEFORMAT='%0R %0U %0S'; time $(1) >&3 2>&4; } 2>&1); r=$$?; } 3>&1 4>&2; set -- $$t; \
 	said="$$1"$$'\t'"$$(($$2 + $$3))"$$'\t'"$(1)"; echo "== $$said"; echo "$$said" >>bin/gate.tsv; exit $$r
 outside := $(foreach it,$(LEVELS),$(if $(filter x86-64-v2,$(it))$(wildcard bin/$(it)/scrypt),outside-$(it)))
@@ -14,6 +16,8 @@ gate: refusals c_face lines
 	@awk -F '\t' -v now=$$(date +%s) 'NR == 1 {begun = $$2} NR > 1 {all += $$2} END {print now - begun "\t" all "\tall"}' \
 		bin/gate.tsv >bin/gate.all && cat bin/gate.all >>bin/gate.tsv && rm bin/gate.all
 	@cat bin/gate.tsv
+	@touch $(PIKHSEN_LEFT_OUT) && sort -u $(PIKHSEN_LEFT_OUT)
+	@! test "$$PIKHSEN_ALL" = 1 || ! grep -q 'is not installed' $(PIKHSEN_LEFT_OUT)
 
 .PHONY: gate sources documents values told choice first_run scripts heap proved archive refusals c_face lines
 sources:   ; $(call step,tests/sources/sources.sh)

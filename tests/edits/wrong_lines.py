@@ -21,6 +21,7 @@ import time
 from subprocess import PIPE, STDOUT, run
 
 sys.path += map(str, pathlib.Path(__file__).resolve().parents[1].iterdir())  # the other folders of tests/
+from checking import ended, left_out
 from choice import MADE, Choice
 from edits import LINES, edits_in, write_goal
 from tree import TOP
@@ -59,7 +60,7 @@ def said_by(test, lib, edit=None):
         for file, text in made[0].items() if made else ():
             (top / file).write_text(text, encoding="utf-8")
         words = [str(lib) if it == "LIB" else it for it in TESTS[test][0]]
-        environment = {**os.environ, "PYTHONDONTWRITEBYTECODE": "1", "STOP_AT_FIRST": "1"}
+        environment = {**os.environ, "PYTHONDONTWRITEBYTECODE": "1", "STOP_AT_FIRST": "1", "PIKHSEN_LEFT_OUT": "/dev/null"}
         ran = run([top / test, *words], cwd=top, env=environment, stdout=PIPE, stderr=STDOUT, text=True)
         if ran.returncode == 0 or not made:
             return None
@@ -111,7 +112,7 @@ def main():
         new = [it for it in wanted if choice.is_new(*every[it.name])]
     lacking = {it.test: [need for need in TESTS[it.test][2] if not shutil.which(need)] for it in wanted}
     for test in sorted(filter(lacking.get, lacking)):
-        print(f"{', '.join(map(str, lacking[test]))}: not there, so edits of {test} are not tried")
+        left_out(f"{', '.join(map(str, lacking[test]))} is not installed", f"wrong lines of {test}", [it.test for it in wanted].count(test))
     now = [it for it in wanted if not lacking[it.test]]
     with tempfile.TemporaryDirectory(prefix="pikhsen-lines-") as folder:
         found = trial(now, library_for(now, folder), {it.test for it in now if it in new})
@@ -120,12 +121,12 @@ def main():
             write_goal(edit, found[edit])
         if asked.told or found[edit] != edit.goal:
             print(f"{edit.name}: {found[edit] or 'not found, or what it replaces does not stand there once'}")
-    lost, left_out = [it.name for it in now if found[it] != it.goal], len(wanted) - len(now)
-    print(said, f"{len(now)} of {len(edits)} tried, {left_out} left out, in {time.monotonic() - begun:.0f} s")
-    print("".join(f"FAILED: {name}\n" for name in lost) + f"{len(now) - len(lost)} passed, {len(lost)} failed")
+    lost, untried = [it.name for it in now if found[it] != it.goal], len(wanted) - len(now)
+    print(said, f"{len(now)} of {len(edits)} tried, {untried} left out, in {time.monotonic() - begun:.0f} s")
+    print("".join(f"FAILED: {name}\n" for name in lost) + ended(len(now) - len(lost), len(lost)))
     if asked.audit:
         MADE.open("a").writelines(f"{name}\n" for name in lost)
-    sys.exit(bool(left_out if asked.audit else lost))
+    sys.exit(bool(untried if asked.audit else lost))
 
 
 if __name__ == "__main__":

@@ -153,9 +153,9 @@ def compare_texts(checks):
     asks, title, *_ = PAGE.split("\n")
     checks.that("the manual page asks for tbl", asks, "'\\\" t")
     checks.that("version of the manual page", f'"Pikhsen {VERSION}"' in title, True)
-    if is_there("mandoc", "the manual page is not looked at"):
+    if is_there("mandoc", "the manual page is not looked at", 1):
         checks.that("manual page", said("mandoc", "-T", "lint", str(TOP / "man/pikhsen.3"), check=False), "")
-    if is_there("mypy", "types of the Python module are not looked at"):
+    if is_there("mypy", "types of the Python module are not looked at", 1):
         checks.that("types of the Python module and of its callers", types(MYPYPATH=str(TOP / "python")), (0, ""))
     number = sum(int(it) * power for it, power in zip(VERSION.split("."), (10000, 100, 1)))
     checks.that("version of the header", re.findall(r"PIKHSEN_VERSION (\d+)u", HEADER), [str(number)])

@@ -16,7 +16,7 @@ import sys
 
 sys.path += map(str, pathlib.Path(__file__).resolve().parents[1].iterdir())  # the other folders of tests/
 import binaries
-from checking import is_there, over_library, said
+from checking import is_there, left_out, over_library, said
 from library_texts import HEADER, TOP, VERSION, prototypes, ran, types
 from shown import library_runs
 
@@ -84,7 +84,7 @@ with open("/proc/self/maps") as maps:
 def which_is_loaded(checks, lib):
     """The loader takes the library for the highest level that the processor has, of those that are there."""
     if not (lib / HIGHER).is_file():
-        print("the library is not built for x86-64-v3: which one the loader takes is not looked at")
+        left_out("the library is not built for x86-64-v3", "which one the loader takes is not looked at", 3)
         return
     lower, loader = "libpikhsen.so.0", ["/lib64/ld-linux-x86-64.so.2", "--glibc-hwcaps-mask"]
     highest = HIGHER if binaries.runs_v3() else lower
@@ -100,7 +100,7 @@ def module_installed(checks, folder, modules):
     found = ran(*words, env={"PYTHONPATH": str(modules)}, cwd=folder)
     checks.that("the installed module", found, (0, f"{modules}/pikhsen/__init__.py\n"))
     checks.that("its bytecode", any(modules.rglob("*.pyc")), True)
-    if is_there("mypy", "types of the installed module are not looked at"):
+    if is_there("mypy", "types of the installed module are not looked at", 1):
         # a Python of its own, since mypy asks for py.typed only where Python finds a module by itself
         subprocess.run([sys.executable, "-m", "venv", "--without-pip", f"{folder}/venv"], check=True)
         site = next(pathlib.Path(folder, "venv").glob("lib/python*/site-packages"))
@@ -198,7 +198,7 @@ def programs_built(checks, root, level):
 
 def lint(checks, files):
     """What lintian says but for what the owner has to choose."""
-    if not is_there("lintian", "it does not look at the packages"):
+    if not is_there("lintian", "it does not look at the packages", 2):
         return
     status, found = ran("lintian", "--allow-root", "--no-cfg", "--display-info", *files)
     lines = [it for it in found.splitlines() if re.match(r"[EWI]: ", it)]
@@ -209,12 +209,13 @@ def lint(checks, files):
 
 def packages(checks, folder, lib):
     """The packages for Debian."""
-    if not is_there("dpkg-deb", "packages are not made"):
-        return
-    if not (PROGRAMS / "scrypt").exists():
-        print("the programs are not built for x86-64-v2: packages are not made")
+    if not all(is_there(it, "packages are not made") for it in ("dpkg-deb", PROGRAMS / "scrypt")):
         return
     made = []
+    # of other bytes than the library in bin/lib, which deb.sh takes where none is named
+    lib = shutil.copytree(lib, f"{folder}/library")
+    with open(f"{lib}/libpikhsen.so.0", "ab") as shared:
+        shared.write(bytes(1))
     for out, umask in ((f"{folder}/packages", 0o077), (f"{folder}/same", 0o002)):
         os.mkdir(out)
         pathlib.Path(out, f"pikhsen_{VERSION}+v9_amd64.deb").write_text("older", encoding="utf-8")

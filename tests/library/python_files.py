@@ -227,7 +227,7 @@ def handlers_of_a_stream(checks, pikhsen):
 
 def streams_and_scrypt(checks, pikhsen, folder):
     """What is made in pieces, the program scrypt opens; and what that makes is opened in pieces."""
-    if not is_there("scrypt", "no other program opens what is made in pieces"):
+    if not is_there("scrypt", "no other program opens what is made in pieces", 6):
         return
     ours, theirs = (f"{folder}/{it}.scrypt" for it in ("ours", "theirs"))
     key = {"env": {**os.environ, "KEY": "a passphrase"}, "check": True, "stdout": subprocess.PIPE}

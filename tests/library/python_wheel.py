@@ -16,7 +16,7 @@ import zipfile
 
 sys.path += map(str, pathlib.Path(__file__).resolve().parents[1].iterdir())  # the other folders of tests/
 from binaries import runs_v3
-from checking import over_library, said
+from checking import left_out, over_library, said
 from library_texts import TOP, VERSION, ran
 from packages import EPOCH, HIGHER, newest_libc
 from shown import shown
@@ -76,7 +76,7 @@ def installed(checks, folder, wheel, lib):
     """What pip installs runs by itself, finds the library inside, or that which is named, and goes again."""
     lacks = [it for it in ("venv", "ensurepip") if not importlib.util.find_spec(it)]
     if lacks:
-        print(f"{', '.join(lacks)}: not there, so the wheel is not installed")
+        left_out(f"{', '.join(lacks)} is not installed", "the wheel is not installed")
         return
     there = pathlib.Path(folder, "environment")
     subprocess.run([sys.executable, "-m", "venv", there], check=True)
@@ -99,7 +99,7 @@ def all_of(checks, folder, lib):
     both = [pathlib.Path(folder, it) for it in ("wheel", "same wheel")]
     status, said = made(lib, both[0], 0o077)
     if "no Python has" in said:
-        print(f"{said.rstrip()}: the wheel is not made")
+        left_out(f"{said.rstrip()}: what makes wheels is not installed", "the wheel is not made")
         return
     checks.that("wheel.sh", [(status, said), made(lib, both[1], 0o002)], [(0, "")] * 2)
     checks.that("wheels", [[it.name for it in each.iterdir()] for each in both], [[NAME]] * 2)

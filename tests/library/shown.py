@@ -125,7 +125,7 @@ def pieces_run(checks, folder, lib):
         checks.that(f"the manual page's program, {length} bytes", (status, len(file), said), (0, length + 128, ""))
         checks.that(f"the manual page's program opens {length} bytes", run("dec", file), (0, text, ""))
     checks.that("the manual page's program, at lower costs", file[:16], b"scrypt\0\x0a\0\0\0\x08\0\0\0\x01")
-    if is_there("scrypt", "no other program opens what the manual page's program made"):
+    if is_there("scrypt", "no other program opens what the manual page's program made", 1):
         found = subprocess.run(["scrypt", "dec", "--passphrase", "env:PASSPHRASE", "-"], input=file, stdout=subprocess.PIPE,
                                env={**os.environ, "PASSPHRASE": "pw"})
         checks.that("scrypt opens what the manual page's program made", (found.returncode, found.stdout), (0, text))

@@ -8,7 +8,6 @@ where there is one.
 """
 import pathlib
 import re
-import shutil
 import subprocess
 import sys
 
@@ -19,6 +18,7 @@ import edited
 import pages
 import promises
 import ratios
+import checking
 from definitions import Definitions, wrong_definitions_of
 from edits import BODIES, LINES, edits_in, edits_of
 from pages import is_definition
@@ -245,7 +245,7 @@ for crate in doc.libraries():
 
 # The type of the manual pages.
 for manual in MANUALS:
-    if shutil.which("mandoc"):
+    if checking.is_there("mandoc", f"{manual.name} is not looked at", 1):
         lint = subprocess.run(["mandoc", "-T", "lint", manual], stdout=subprocess.PIPE, text=True).stdout
         missing.extend(lint.splitlines())
 

@@ -11,7 +11,6 @@ import functools
 import hashlib
 import pathlib
 import re
-import shutil
 import subprocess
 import sys
 import types
@@ -19,7 +18,7 @@ import types
 sys.path += map(str, pathlib.Path(__file__).resolve().parents[1].iterdir())  # the other folders of tests/
 import library_texts
 import values_table
-from checking import Checks
+from checking import Checks, is_there
 from values_table import TOP, messages, options, rows
 
 CHECKS = Checks("none")
@@ -309,8 +308,7 @@ def completed(program, *words):
 
 
 def completions_of_bash():
-    if not shutil.which("bash"):
-        print("bash is not installed: its completions are not looked at")
+    if not is_there("bash", "its completions are not looked at"):
         return
     for program, subcommand in (*COMMANDS, *ASKING):
         table, words = options(program, subcommand), [subcommand or "salt"]

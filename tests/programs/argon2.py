@@ -138,7 +138,7 @@ def standard_streams_that_are_read(checks):
 
 
 def beside_the_installed(checks):
-    if not is_there("argon2", "it is not compared with"):
+    if not is_there("argon2", "it is not compared with", len(COMPARED)):
         return
     for words, password in COMPARED:
         _, printed, _ = checks.run(words.split(), password, program=shutil.which("argon2"))

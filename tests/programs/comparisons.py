@@ -57,7 +57,7 @@ def changed(text, place):
 
 def tags_of_texts(checks, library, folder):
     """The tags of texts of hashes, by the library in this folder."""
-    if not is_there(*UNCOUNTED):
+    if not is_there(*UNCOUNTED, 4):
         return
     source, program = pathlib.Path(folder, "verifies.c"), os.path.join(folder, "verifies")
     source.write_text(VERIFIES, encoding="utf-8")
@@ -72,7 +72,7 @@ def tags_of_texts(checks, library, folder):
 
 
 def main(checks, folder, program):
-    if not is_there(*UNCOUNTED):
+    if not is_there(*UNCOUNTED, 5):
         return
     checks.put("pw", b"pw\n")
     for name, begin, line in (("header", 64, "S10"), ("file", len(F5) - 32, "S11")):

@@ -370,7 +370,7 @@ NEVER = """unlink unlinkat rename renameat renameat2 truncate fallocate chmod fc
 
 def no_other_calls(checks, system):
     """The calls that hostile_system.c sees are all that the system sees of their kinds, once the program began."""
-    if not is_there("strace", "the calls that the system sees are not looked at"):
+    if not is_there("strace", "the calls that the system sees are not looked at", len(RUNS) + 1):
         return
     strace, log = shutil.which("strace"), pathlib.Path(system.folder(), "trace")
     for run in RUNS:

@@ -16,7 +16,7 @@ import tempfile
 import pathlib
 
 sys.path += map(str, pathlib.Path(__file__).resolve().parents[1].iterdir())  # the other folders of tests/
-from checking import is_there, over_programs
+from checking import is_there, left_out, over_programs
 from scrypt_ask import Terminal
 from scrypt_files import COSTS, ENVIRONMENT, F0, F5, FILES, FIXED, FROM_PW, LINES, PASSPHRASE_OF_BYTES, SALT
 
@@ -217,7 +217,7 @@ def closed_streams_and_files(checks):
 def without_the_root_folder(checks):
     """Nor does one where the root folder, which else stands in the stream's place, may not be opened."""
     if os.geteuid() != 0 or shutil.which("ldd") is None:
-        print("skipped: a root folder that may not be opened, which root alone can make")
+        left_out("root alone can make it", "a root folder that may not be opened", 4)
         return
     with tempfile.TemporaryDirectory() as root:
         linked = checks.run([checks.program], program="ldd")[1].decode()
@@ -294,7 +294,7 @@ def standard_streams_that_are_read(checks):
 
 def block_devices(checks):
     """Nor is a block device written that is read, whatever its names. Another one is written from its beginning, and keeps the rest."""
-    if not is_there("losetup", "a block device is not made of a file"):
+    if not is_there("losetup", "a block device is not made of a file", 7):
         return
     content = LARGE[:65536]
     checks.put("disk", content)
@@ -302,7 +302,7 @@ def block_devices(checks):
     device = made.stdout.strip()
     other = f"{device}-{os.getpid()}"
     if made.returncode != 0:
-        print("skipped: a block device, which root alone can make of a file")
+        left_out("root alone can make one of a file", "a block device", 7)
         return
     try:
         os.mknod(other, 0o600 | stat.S_IFBLK, os.stat(device).st_rdev)
@@ -324,7 +324,7 @@ def block_devices(checks):
 
 def folders_that_are_kept(checks):
     """The folder of a file is brought to the disk, too; of a link, that of the link."""
-    if not is_there("strace", "which folders are brought to the disk is not looked at"):
+    if not is_there("strace", "which folders are brought to the disk is not looked at", 6):
         return
     os.makedirs(os.path.join(checks.folder, "folder/below"))
     os.symlink("below/out", os.path.join(checks.folder, "folder/link"))
@@ -342,7 +342,7 @@ def output_by_a_bind_mount(checks):
     checks.put("kept", b"kept")
     checks.put("mounted", b"")
     if checks.shell("unshare -m sh -c 'mount --bind kept mounted'")[0] != 0:
-        print("skipped: a bind mount, which root alone can make")
+        left_out("root alone can make one", "a bind mount", 1)
         return
     text = f'mount --bind kept mounted; "$0" enc {COSTS} {FROM_PW} kept mounted'
     found = checks.shell(f"unshare -m sh -c '{text}' \"$0\"")
@@ -366,7 +366,7 @@ def outputs_over_layers(checks):
     """The same on overlayfs: there a file that is opened to be written is copied, and each descriptor of it, also one that was opened
     before, tells from then on the numbers of the copy."""
     if over_layers(checks, b"kept", "true") != (done(), b"kept"):
-        print("skipped: a file system of layers, which root alone can mount, and not over each other one")
+        left_out("root alone can mount one, and not over each other one", "a file system of layers", 19)
         return
     from_secret = "--passphrase file:kept"
     for content, words in (
@@ -445,19 +445,20 @@ def from_enc_and_back(checks):
 
 
 def beside_the_installed(checks):
-    if not is_there("scrypt", "it is not compared with"):
-        return
-    other = shutil.which("scrypt")
     small, larger = "--logN 10 -r 1 -p 1", "--logN 11 -r 3 -p 2"
     cases = [(costs, 1, text) for costs in (COSTS, small, larger) for text in (b"", b"hello", LARGE)]
     cases += [("--logN 10 -r 1 -p 2", 1 << power, b"hello") for power in range(11)]
+    beginning = [it for it in cases if it[0] != COSTS]  # its own costs begin at 2^10, but it opens files with less
+    if not is_there("scrypt", "it is not compared with", len(cases) + len(beginning)):
+        return
+    other = shutil.which("scrypt")
     for costs, keep, text in cases:
         name = f"of {len(text)} bytes, {costs}, one row in {keep}"
         ours = checks.run(f"enc {costs} --keep {keep} {FROM_PW} -".split(), text)[1]
         checks.put("ours", ours)
         found = checks.run(f"dec {FROM_PW} ours".split(), program=other)
         checks.that(f"{other} opens ours {name}", (*found[:2], costs_of(ours)), (0, text, costs))
-        if costs != COSTS:  # its own costs begin at 2^10, but it opens files with less
+        if (costs, keep, text) in beginning:
             made = checks.run(f"enc {costs} {FROM_PW} - theirs".split(), text, program=other)
             found = checks.run(f"dec --keep {keep} {FROM_PW} theirs".split())
             checks.that(f"ours opens {other}'s {name}", (made[0], found), (0, done(text)))

@@ -5,9 +5,9 @@ be proved.
 
     tests/programs/stack.py FOLDER      in which the programs lie
 
-The runs go over every length of a password, of a passphrase (also to open a file) and of a salt, texts about the length of a piece, other
-tags and costs, 0 to 40 words, and words and variables of up to 100,000 bytes, which count in the limit and are added
-to it.
+The runs go over every length of a password, of a passphrase (also to open a file) and of a salt, texts about the length
+of a piece, other tags and costs, 0 to 40 words, and words and variables of up to 100,000 bytes, which count in the
+limit and are added to it.
 """
 import collections
 import concurrent.futures
@@ -153,7 +153,7 @@ int main(void) { char room[256]; return read(0, room, sizeof room) == 77 ? deep(
 
 def finds_what_is_deep(checks, folder):
     """A program that is as wrong as this can find: so the comparison is seen to fail."""
-    if not is_there("cc", "no program that takes 64 MiB of stack is looked at"):
+    if not is_there("cc", "no program that takes 64 MiB of stack is looked at", 1):
         return
     program = os.path.join(folder, "deep")
     compiled(DEEP, program, "-O0")
@@ -215,7 +215,7 @@ def main(checks, folder, argon2, scrypt):
     statuses = [it[0] for it in ended if it]
     checks.that("some runs end well, and some do not", (0 in statuses, 1 in statuses), (True, True))
     finds_what_is_deep(checks, folder)
-    for name, program in programs.items() if is_there("objdump", "the largest frames are not looked at") else ():
+    for name, program in programs.items() if is_there("objdump", "the largest frames are not looked at", 2) else ():
         size, function = largest_frame(program)
         print(f"{name}: the largest frame has {size} bytes, in {function}")
         checks.that(f"{name}: no larger frame than {LARGEST_FRAME} bytes", size <= LARGEST_FRAME, True)

@@ -19,7 +19,7 @@ import tempfile
 import textwrap
 
 sys.path += map(str, pathlib.Path(__file__).resolve().parents[1].iterdir())  # the other folders of tests/
-from checking import Checks, is_there
+from checking import Checks, is_there, left_out
 from scrypt_ask import AGAIN, ASKED, CHEAP, Terminal
 
 TOP = pathlib.Path(__file__).resolve().parents[2]
@@ -276,7 +276,7 @@ def parts_of_readme(shell):
         (shell.room / "stored").write_text(text, encoding="utf-8")
         shell.checked_in_python("a stored text in Python", python, b"", "True\n")
     else:
-        print("skipped: a stored text in Python, since bin/lib/libpikhsen.so.0 is not built")
+        left_out("bin/lib/libpikhsen.so.0 is not built", "a stored text in Python", 1)
 
 
 def rust_program():

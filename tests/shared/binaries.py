@@ -26,7 +26,7 @@ def hardened(checks, name, file, is_program):
 
 def level(checks, name, file, has_avx):
     """A program or library for x86-64-v3 has instructions of AVX, which begin with v; one for x86-64-v2 has none."""
-    if is_there("objdump", f"the level of {name} is not looked at"):
+    if is_there("objdump", f"the level of {name} is not looked at", 1):
         found = re.search(r"^ +[0-9a-f]+:\t[^\t]*\tv[a-z]", said("objdump", "-d", str(file)), re.MULTILINE) is not None
         checks.that(f"{name}: instructions of x86-64-v3", found, has_avx)
 

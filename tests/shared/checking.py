@@ -82,7 +82,7 @@ class Checks:
 
     def end(self):
         """Says how many passed and failed, and ends the process."""
-        print(f"{self.passed} passed, {self.failed} failed")
+        print(ended(self.passed, self.failed))
         raise SystemExit(1 if self.failed else 0)
 
 
@@ -111,11 +111,25 @@ def difference(found, expected):
     return ("found", found), ("expected", expected)
 
 
-def is_there(program, without):
+def ended(passed, failed):
+    """How many comparisons passed and failed, where there were any."""
+    return f"{passed} passed, {failed} failed" if passed + failed else "nothing was tried"
+
+
+def left_out(why, without, rows="all"):
+    """Says that so many rows of a test, or all of a part, are left out, and why. The gate names a file, and says it again at its end."""
+    line = f"left out: {why}: {without} (rows: {rows})"
+    print(line)
+    if "PIKHSEN_LEFT_OUT" in os.environ:
+        with open(os.environ["PIKHSEN_LEFT_OUT"], "a", encoding="utf-8") as file:
+            file.write(f"{line}, {os.path.relpath(sys.argv[0])}\n")
+
+
+def is_there(program, without, rows="all"):
     """Whether a program is installed. Where it is not, what is left out is said."""
     found = shutil.which(program) is not None
     if not found:
-        print(f"{program} is not installed: {without}")
+        left_out(f"{program} is not installed", without, rows)
     return found
 
 
