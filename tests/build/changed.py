@@ -44,7 +44,7 @@ def main():
         prove.say(f"{len(touched)} crates to prove, changed since {base} or above one that is: {', '.join(touched)}.")
         prove.say(f"{len(tested)} to test: {', '.join(tested)}. With what all of these stand on, {len(steps)} steps:")
         prove.prove_or_exit(steps)
-    for script in ("tests/sources/sources.sh", "tests/pages/documents.py"):
+    for script in ("tests/sources/sources.sh", "tests/sources/calls.py", "tests/pages/documents.py"):
         if subprocess.run([script], cwd=TOP).returncode != 0:
             sys.exit(f"{script} failed")
     prove.say(f"{len(touched)} crates are proved, the tests of {len(tested)} pass, and sources and pages agree.")

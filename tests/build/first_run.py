@@ -106,7 +106,8 @@ class Tree:
         shutil.copy(TOP / "tests/build/changed.py", self.top / "tests/build")
         self.kit = pathlib.Path(folder, "kit")
         stand_ins = {self.kit / it: text for it, text in {"bin/rt": STAND_IN, **KIT}.items()}
-        stand_ins.update({self.top / it: "#!/bin/sh\n" for it in ("tests/sources/sources.sh", "tests/pages/documents.py")})
+        scripts = ("sources/sources.sh", "sources/calls.py", "pages/documents.py")
+        stand_ins.update({self.top / "tests" / it: "#!/bin/sh\n" for it in scripts})
         for path, text in stand_ins.items():
             path.parent.mkdir(parents=True, exist_ok=True)
             path.write_text(text, encoding="utf-8")

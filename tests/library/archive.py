@@ -1,6 +1,7 @@
 #!/usr/bin/env python3
 """Proves and builds the library for C over the libraries that rt ci left: crates/pikhsen_c/out/libpikhsen_c.a. It does so in a
-copy, since trials of wrong bodies may be at work in the crate's out/."""
+copy, since trials of wrong bodies may be at work in the crate's out/. A static library keeps no compiled code that can be
+read, so over what that proof kept it is built as a library of Rattle's, too: tests/sources/calls.py reads bin/pikhsen_c.rlib."""
 import pathlib
 import shutil
 import sys
@@ -19,4 +20,11 @@ with tempfile.TemporaryDirectory(prefix="archive-") as room:
     print(said[-2000:])
     if status == 0:
         shutil.copy2(f"{room}/copy/out/lib{CRATE.name}.a", OUT)
+        CRATE.is_static, CRATE.rlib = False, f"{room}/copy/out/rlib/{CRATE.name}.rlib"
+        status, said = told(CRATE, lambda it: it.build_rlib(ALONE, anew=False))
+        print(said[-300:])
+    if status == 0:
+        shutil.rmtree(kept := TOP / f"bin/{CRATE.name}.rlib", ignore_errors=True)
+        for part in ("toolchain", "lang/src"):
+            shutil.copytree(f"{CRATE.rlib}/{part}", kept / part, ignore=shutil.ignore_patterns("made.json"))
 sys.exit(status)

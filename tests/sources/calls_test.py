@@ -1,0 +1,176 @@
+#!/usr/bin/env python3
+"""Tests the rules of tests/sources/calls.py: each must find what is put into the compiled code, as no source could be
+proved with it in the time of a test. Most are what a body comes to that was proved, and did harm.
+
+    tests/sources/calls_test.py [FOLDER..]   as calls.py
+"""
+import copy
+import pathlib
+import sys
+import tempfile
+
+import calls
+from compiled import Code
+
+BYTE, WORD = {"Int": 8}, {"Int": 64}
+
+
+def place(local, *steps):
+    return {"local": local, "steps": list(steps)}
+
+
+def copied(local, *steps):
+    return {"Copy": place(local, *steps)}
+
+
+def number(value):
+    return {"Int": {"width": 64, "value": value}}
+
+
+def impl(name, *others):
+    return {"Impl": [name, [], list(others)]}
+
+
+def call(callee, *arguments, by=(), to=0):
+    """A call of a function of this name, by these dictionaries, or of a method of an implementation, as it stands in a body."""
+    words = {"types": [], "dicts": list(by)}
+    return {"Call": [{"Fn": [callee, words]} if isinstance(callee, str) else {"Method": [*callee, words]}, list(arguments), place(to)]}
+
+
+def assign(to, value):
+    return {"Assign": [place(to), value]}
+
+
+def first(*steps, **locals_of):
+    """Puts steps at the beginning of a body, over locals of these types; a number of a new local is below 0."""
+    def put(function):
+        function["locals"] += [{"ty": it, "home": "ValueLocal"} for it in locals_of.get("kinds", ())]
+        for it in reversed(steps):
+            function["body"][:0] = ["Seq", *it] if isinstance(it, list) else ["Seq", it]
+    return put
+
+
+def at_end(step):
+    """Puts a step before the last return of a body."""
+    def put(function):
+        at = len(function["body"]) - 1 - function["body"][::-1].index("Return")
+        function["body"][at:at] = ["Seq", step]
+    return put
+
+
+def branch(on):
+    return ["If", {"If": on}, "Skip", "Skip"]
+
+
+def new(function, kind):
+    """The number of a new local of a function."""
+    function["locals"].append({"ty": kind, "home": "ValueLocal"})
+    return len(function["locals"]) - 1
+
+
+def array(length):
+    """A value of so many bytes on the stack."""
+    return lambda function: new(function, {"Array": [BYTE, {"Lit": length}]})
+
+
+def turns(many):
+    return first(["Block", "Loop", assign(0, {"Opd": number(many)})])
+
+
+def by_words_in_an_array(function):
+    """Two bytes that are put into words, which are compared."""
+    words, answer = new(function, {"Array": [WORD, {"Lit": 2}]}), new(function, "Bool")
+    byte = copied(1, {"Deref": BYTE})
+    first({"Assign": [place(words, {"Index": number(0)}), {"Opd": byte}]},
+          assign(answer, {"Op2": [{"Lt": "Unsigned"}, copied(words, {"Index": number(0)}), number(9)]}), branch(copied(answer)))(function)
+
+
+def time_of_a_byte(function):
+    """A loop over a range to a byte that is loaded."""
+    span = new(function, {"Named": [{"name": "core::ops::Range", "lifetimes": []}, [WORD]]})
+    lent, more = new(function, "Ptr"), new(function, "Bool")
+    first(assign(span, {"Aggregate": [number(0), copied(1, {"Deref": BYTE})]}), assign(lent, {"AddrOf": place(span)}),
+          call("core::slice::slice+T::first", copied(lent), to=more), branch(copied(more)))(function)
+
+
+def want_of_memory(kind):
+    """A refusal for want of memory that nothing asked for."""
+    def put(function):
+        told = new(function, {"Named": [{"name": kind, "lifetimes": []}, []]})
+        first(assign(told, {"Aggregate": [number(calls.wants_of_memory()[kind])]}))(function)
+    return put
+
+
+CLONE = impl("std_alloc::string::methods::StringClone", impl("std_heap::GlobalAllocator"), impl("core::clone::Clone+copy"), impl("argon::Destruct++none"))
+BRANCH, STREAM = first(branch(copied(1, {"Deref": BYTE}))), "pikhsen_c::stream::PikhsenStream::of"
+# A rule, the function, and what is put into it.
+TRIALS = [
+    ("memory", "argon2_words::request::read_request", first(call((CLONE, 0)))),  # a copy of a word
+    ("memory", "argon2_words::request::read_request", first(call("libc::heap::rattle_alloc"))),
+    ("memory", "argon2_command::run_memory::GlobalRunMemory::matrix", first(call((CLONE, 0)), call((CLONE, 0)))),  # a source, twice
+    ("heap", "argon2_command::run::argon2", first(call(
+        "argon2_command::run::run_without_report", by=[impl("argon2_command::run_memory::GlobalRunMemory"), {"Given": 0}]))),
+    ("system", "scrypt_run::encrypt::start", first(call("libc::write"))),
+    ("counter", "argon2_command::output::output", first(call("argon::ticks::Ticks::new"))),
+    ("counter", "argon::segment::fill_next_block", first(call("argon::compression::permute_rows"))),
+    ("counter", "romix::romix::romix", first(call("romix::salsa20::column_round"))),  # a core without its tick
+    ("counter", "romix::salsa20::core_by_diagonals", first(call("romix::ticks::Ticks::tick"))),
+    ("begins", "argon_text::verify_password::write_tag", first(call("argon::matrix::Matrix::start"))),
+    ("begins", "scrypt_run::encrypt::start", first(["Loop", call("encfile::enc::Enc::start")])),
+    ("bytes", "argon_text::verify_password::verify_keyed", BRANCH),  # a comparison that stops at a byte
+    ("bytes", "argon_text::verify_password::verify_keyed", by_words_in_an_array),
+    ("bytes", "tools::run::Run::push", BRANCH),  # a fault that was not
+    ("bytes", "scrypt_run::passphrase::read_passphrase", time_of_a_byte),
+    ("makes", "argon_text::read::read_encoded_with_memory", want_of_memory("argon_text::fault::ReadFault")),
+    ("makes", "scrypt_run::encrypt::start", want_of_memory("scrypt_request::refusal::ScryptRefusal")),
+    ("raw", "encfile::enc::Enc::finish", first(call("core::mem::forget", by=[impl("argon::Destruct++none")]))),
+    ("raw", "pikhsen_c::streaming::decrypt_start_in", first(call(STREAM))),  # a block that nobody frees
+    ("raw", "pikhsen_c::streaming::pikhsen_stream_free", first(call(STREAM))),  # keys that stay in memory
+    ("stack", "argon::matrix::Matrix::start", array(1 << 26)),
+    ("stack", "scrypt_run::decrypt::open", array(1 << 16)),
+    ("stack", "argon::matrix::Matrix::hash", first(call("argon::matrix::Matrix::hash"))),
+    ("turns", "argon::matrix::Matrix::hash", turns(1 << 64)),
+    ("turns", "argon2_command::run::read_and_make_output", turns(10**9)),
+    ("last", "pikhsen_c::scrypt::pikhsen_scrypt", at_end(call("romix::costs::Costs::p"))),
+    ("last", "pikhsen_c::streaming::pikhsen_scrypt_encrypt_finish", at_end(call("pikhsen_c::streaming::finish_encryption"))),
+]
+
+
+def above(rules, name):
+    """A function, and all from which it is reached."""
+    names, before = {name}, set()
+    while names != before:
+        before = {*names}
+        names |= {it for it in rules.names if rules.called(it) & before}
+    return names
+
+
+def trial(code, then, rule, name, put):
+    """Whether a rule finds what is put into a function, of that one or of those above it."""
+    kept = code.ours[name]
+    changed = copy.deepcopy(kept)
+    put(changed)
+    code.change(name, changed)
+    now = calls.Rules(code, above(then, name))
+    now.returning = then.returning
+    now.run()
+    code.change(name, kept)
+    return any(it.startswith(rule) for it in {*now.wrong, *now.rows} - {*then.wrong, *then.rows})
+
+
+def main():
+    code = Code(calls.libraries(sys.argv[1:]))
+    then = calls.Rules(code).run()
+    lost = [f"{rule}: {name} is not built" if name not in code.ours else f"{rule}: {name}" for rule, name, put in TRIALS
+            if name not in code.ours or not trial(code, then, rule, name, put)]
+    with tempfile.TemporaryDirectory() as folder:
+        file = pathlib.Path(folder, "tools.rlib/lang/src/out/mod.rt")  # a module that no reader of sources sees
+        file.parent.mkdir(parents=True)
+        file.touch()
+        lost += [] if calls.unseen_in(file.parents[3]) else ["unseen: a module in a folder out"]
+    print("".join(f"FAILED: {it}\n" for it in lost) + f"{len(TRIALS) + 1 - len(lost)} passed, {len(lost)} failed")
+    return 1 if lost else 0
+
+
+if __name__ == "__main__":
+    sys.exit(main())
