@@ -12,14 +12,14 @@ step = @{ t=$$({ TIMEFORMAT='%0R %0U %0S'; time $(1) >&3 2>&4; } 2>&1); r=$$?; }
 	said="$$1"$$'\t'"$$(($$2 + $$3))"$$'\t'"$(1)"; echo "== $$said"; echo "$$said" >>bin/gate.tsv; exit $$r
 outside := $(foreach it,$(LEVELS),$(if $(filter x86-64-v2,$(it))$(wildcard bin/$(it)/scrypt),outside-$(it)))
 
-gate: refusals c_face lines calls calls_test
+gate: refusals c_face lines calls calls_test as_compiled
 	@awk -F '\t' -v now=$$(date +%s) 'NR == 1 {begun = $$2} NR > 1 {all += $$2} END {print now - begun "\t" all "\tall"}' \
 		bin/gate.tsv >bin/gate.all && cat bin/gate.all >>bin/gate.tsv && rm bin/gate.all
 	@cat bin/gate.tsv
 	@touch $(PIKHSEN_LEFT_OUT) && sort -u $(PIKHSEN_LEFT_OUT)
 	@! test "$$PIKHSEN_ALL" = 1 || ! grep -q 'is not installed' $(PIKHSEN_LEFT_OUT)
 
-.PHONY: gate calls calls_test sources documents values told choice first_run scripts heap proved archive refusals c_face lines
+.PHONY: gate calls calls_test as_compiled sources documents values told choice first_run scripts heap proved archive refusals c_face lines
 sources:   ; $(call step,tests/sources/sources.sh)
 documents: ; $(call step,tests/pages/documents.py)
 values:    ; $(call step,tests/pages/values.py)
@@ -35,6 +35,7 @@ proved: sources documents values told choice first_run scripts heap
 archive: proved   ; $(call step,tests/library/archive.py)
 calls: archive    ; $(call step,tests/sources/calls.py bin/pikhsen_c.rlib)
 calls_test: archive ; $(call step,tests/sources/calls_test.py bin/pikhsen_c.rlib)
+as_compiled: archive ; $(call step,tests/sources/as_compiled.py bin/pikhsen_c.rlib)
 refusals: proved  ; $(call step,tests/edits/refusals.py)
 outside-%: proved ; $(call step,tests/programs/outside.sh bin/$*)
 c_face lines: archive $(outside)

@@ -29,7 +29,9 @@ from tree import TOP
 LEFT_OUT = shutil.ignore_patterns("bin", "out", ".git", "__pycache__", LINES.name)  # of a copy
 PROGRAMS = "bin/x86-64-v2"
 # Tests of the sources, which show lines of them.
-OF_SOURCES = ("tests/sources/sources.sh", "tests/sources/calls.py", "tests/pages/definitions_told.py")
+OF_SOURCES = (
+    "tests/sources/sources.sh", "tests/sources/calls.py", "tests/sources/as_compiled.py", "tests/pages/definitions_told.py",
+)
 # The words after each test that an edit may name (LIB is a folder with a built library), how long it takes, and what it
 # needs beside Python: without that, it finds nothing. What is compiled is read where it was built.
 SCRYPT = TOP / PROGRAMS / "scrypt"
@@ -40,8 +42,9 @@ TESTS = {
     "tests/library/python_wheel.py": (["LIB"], 25, ["gcc", "/usr/bin/pip3"]),
     "tests/library/packages.py": (["LIB"], 9, ["gcc", "dpkg-deb", SCRYPT]), "tests/library/c_face.py": (["--header", "LIB"], 6, ["gcc", "g++"]),
     "tests/sources/sources.sh": ([], 2, []), "tests/programs/story.py": (["--recipes", PROGRAMS], 25, ["bash", "dash", SCRYPT]),
-    "tests/sources/calls.py": ([str(TOP)], 10, []), "tests/pages/definitions_told.py": (["--check"], 8, []),
-    "tests/library/heap.py": ([], 7, ["gcc", "rt"]), "tests/programs/scrypt_ask.py": ([PROGRAMS, "dash"], 8, ["dash", SCRYPT]),
+    "tests/sources/calls.py": ([str(TOP)], 10, []), "tests/sources/as_compiled.py": ([str(TOP)], 2, []),
+    "tests/pages/definitions_told.py": (["--check"], 8, []), "tests/library/heap.py": ([], 7, ["gcc", "rt"]),
+    "tests/programs/scrypt_ask.py": ([PROGRAMS, "dash"], 8, ["dash", SCRYPT]),
 }
 # What a test says of what it finds: a comparison that fails, a name that is not there, or how it ended.
 SAID = re.compile(r"^(?:FAILED|not there:) (.*)$|^(\w*(?:Error|Exception)\b.*)$", re.MULTILINE)

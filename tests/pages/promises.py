@@ -47,7 +47,7 @@ def functions(crate):
                 found.setdefault(name, set())
                 if not function[1]:
                     free.setdefault(function[2], []).append(name)
-            elif name and (clause := re.match(r"\s+(?:ensures|requires) (\w+) \{(.*)", line)):
+            elif name and (clause := re.match(r"\s+(?:ensures|requires)\*? (\w+) \{(.*)", line)):
                 cited = (it for word in re.findall(r"\w+", clause[2]) for it in fields.get(word, ()))
                 found[name].update([clause[1], *(f"{clause[1]}.{it}" for it in cited)])
     for name, (path, *others) in free.items():
