@@ -1,11 +1,15 @@
 -- How a text is taken apart, field by field, before base64 is decoded.
-use Rattle.std.specs.Prelude.{ℕ, ◌+◌, ◌==◌, if◌then◌else◌, List, length, take, drop, codes, Option, Some, None}
+use Rattle.std.specs.Prelude.{◌≡◌, ◌⊎◌, Bool, true, false, ℕ, ◌+◌, ◌==◌, if◌then◌else◌, List, length, take, drop, codes, Option, Some, None, Result, Err}
 use Rattle.std.specs.Str.{bytes_eq}
 use Rattle.std.specs.Option.{option_map}
 use Rattle.std.specs.List.{position}
 use Rattle.argon.specs.declared.kind.Kind.{Kind}
 use Rattle.argon.specs.declared.kind.Kind.TheVariants.{D, I, Id}
+use Rattle.base64.specs.declared.decode.DecodeAllocError.{DecodeAllocError}
+use Rattle.base64.specs.declared.decode.DecodeAllocError.TheVariants as decoding
 use Rattle.argon_text.specs.Grammar.{Fields, is_number}
+use Rattle.argon_text.specs.declared.fault.ReadFault.{ReadFault}
+use Rattle.argon_text.specs.declared.fault.ReadFault.TheVariants.{NotInGrammar, OutOfRange, OutOfMemory}
 
 infixl 10 ◌>>=◌
 -- goes on with what was found
@@ -68,3 +72,22 @@ fields_at s = do
     salt = salt.0;
     tag = salt.1;
   })
+
+-- ---- what is asked of a source of memory. `decoded` is what a request for the bytes of symbols leaves of it, `true`
+-- where memory was granted
+
+-- whether memory was granted to a request with this answer, also one for symbols that are no base64
+abbrev pub is_granted : {A : Type 0} → Result A DecodeAllocError → Bool
+is_granted (Err decoding.OutOfMemory) = false
+is_granted result = true
+
+-- what reading that ends with this fault leaves of the source, by the text's fields: want of memory is told where the
+-- bytes of the salt were refused, or, once these were granted, those of the tag; no other fault where any was refused
+abbrev pub IsLeftAtFault : {Source : Type 0} → (Source → List ℕ → Bool → Source) → Option Fields → ReadFault → Source → Source → Type 0
+IsLeftAtFault decoded None OutOfMemory before after = ⊥
+IsLeftAtFault decoded None fault before after = after ≡ before
+IsLeftAtFault decoded (Some fields) NotInGrammar before after =
+    (after ≡ decoded before fields.salt true) ⊎ (after ≡ decoded (decoded before fields.salt true) fields.tag true)
+IsLeftAtFault decoded (Some fields) OutOfRange before after = after ≡ decoded (decoded before fields.salt true) fields.tag true
+IsLeftAtFault decoded (Some fields) OutOfMemory before after =
+    (after ≡ decoded before fields.salt false) ⊎ (after ≡ decoded (decoded before fields.salt true) fields.tag false)

@@ -1,12 +1,12 @@
 //! How an encoded text is read.
-ghost use Rattle.std.specs.Prelude.{◌≡◌, ◌≤◌, ◌+◌, ◌^◌, ◌⊎◌, true, false, is_ok, length, None, IfSome, IfOk, IfErr, OnOk, OnErr, IsErrOf, MatchOption, MatchResult};
+ghost use Rattle.std.specs.Prelude.{◌≡◌, ◌≤◌, ◌+◌, ◌^◌, true, false, length, None, IfSome, IfOk, IfErr, OnOk, IsErrOf, MatchOption, MatchResult};
 ghost use Rattle.std.specs.Char.{is_ascii_digit};
 ghost use Rattle.base64.specs.GeneralPurpose.{IsBytes};
 ghost use Rattle.argon_text.specs.Answer.{IsResultOfReading};
-ghost use Rattle.argon_text.specs.Inside.Base64Fault.{IsBase64Fault};
+ghost use Rattle.argon_text.specs.Inside.Base64Fault.{IsBase64Fault, had_memory};
 ghost use Rattle.argon_text.specs.EncodedText.{IsEncodedTextOf, base64_text};
 ghost use Rattle.argon_text.specs.Grammar.{AreNumbers, HasWellFormedNumbers, IsEncodedText, IsEncodedTextInRange, is_number, number_value, value_with_salt_and_tag};
-ghost use Rattle.argon_text.specs.Reading.{fields_at};
+ghost use Rattle.argon_text.specs.Reading.{IsLeftAtFault, fields_at};
 ghost use Rattle.argon_text.specs.Value.{IsEncodableValue, Value, are_in_range, is_in_range};
 ghost use Rattle.argon_text.specs.View.{value_of};
 ghost use Rattle.argon_text.specs.Inside.FieldsRead.{fields_of};
@@ -60,14 +60,12 @@ pub fn read_encoded_with_memory<R: DecodeMemory>(
     ensures answer { IsResultOfReading text.now result }
     // Nothing is asked of the source of memory for a text whose fields are not found.
     ensures unasked { fields_at text.now ≡ None → source.new ≡ source.old }
-    // For any other the bytes of the salt are asked for, and then, unless that was refused, those of the tag.
+    // For any other the bytes of the salt are asked for, and then, unless that gave none, those of the tag.
     ensures asked { IfSome (fields_at text.now) (λ fields. OnOk result
         (source.new ≡ R.after_decoded (R.after_decoded source.old fields.salt true) fields.tag true)) }
-    // A fault is that of the salt's bytes, or of the tag's, or a value out of range, for which both were given.
-    ensures refused { IfSome (fields_at text.now) (λ fields. OnErr result
-        ((source.new ≡ R.after_decoded source.old fields.salt false)
-        ⊎ (source.new ≡ R.after_decoded (R.after_decoded source.old fields.salt true) fields.tag false)
-        ⊎ (source.new ≡ R.after_decoded (R.after_decoded source.old fields.salt true) fields.tag true))) }
+    // Want of memory is told only where a request was refused, and no other fault where one was.
+    ensures refused { IfErr result (λ fault.
+        IsLeftAtFault R.after_decoded (fields_at text.now) fault source.old source.new) }
 {
     let Some(fields) = fields_in(text) else {
         return Err(ReadFault::NotInGrammar);
@@ -85,7 +83,7 @@ fn decode_base64<R: DecodeMemory>(source: &mut R, symbols: &[u8]) -> Result<Vec<
     ensures bytes { IfOk result (λ bytes. IsBytes bytes.items) }
     ensures text { IfOk result (λ bytes. symbols.now ≡ base64_text bytes.items) }
     ensures err { IfErr result (IsBase64Fault symbols.now) }
-    ensures asked { source.new ≡ R.after_decoded source.old symbols.now (is_ok result) }
+    ensures asked { source.new ≡ R.after_decoded source.old symbols.now (had_memory result) }
 {
     match source.decode_base64(symbols) {
         Ok(bytes) => Ok(bytes),
