@@ -24,6 +24,7 @@ sys.path += map(str, pathlib.Path(__file__).resolve().parents[1].iterdir())  # t
 from checking import ended, left_out
 from choice import MADE, Choice
 from edits import LINES, edits_in, write_goal
+from toolchain import ALONE, rt, told
 from tree import TOP
 
 LEFT_OUT = shutil.ignore_patterns("bin", "out", ".git", "__pycache__", LINES.name)  # of a copy
@@ -33,7 +34,7 @@ OF_SOURCES = (
     "tests/sources/sources.sh", "tests/sources/calls.py", "tests/sources/as_compiled.py", "tests/pages/definitions_told.py",
 )
 # The words after each test that an edit may name (LIB is a folder with a built library), how long it takes, and what it
-# needs beside Python: without that, it finds nothing. What is compiled is read where it was built.
+# needs beside Python: without that, it finds nothing. What is compiled is read here, but for the crates that an edit changes.
 SCRYPT = TOP / PROGRAMS / "scrypt"
 TESTS = {
     "tests/pages/values.py": ([], 1, ["bash"]), "tests/pages/documents.py": ([], 5, []), "tests/build/first_run.py": ([], 8, []),
@@ -42,7 +43,7 @@ TESTS = {
     "tests/library/python_wheel.py": (["LIB"], 25, ["gcc", "/usr/bin/pip3"]),
     "tests/library/packages.py": (["LIB"], 9, ["gcc", "dpkg-deb", SCRYPT]), "tests/library/c_face.py": (["--header", "LIB"], 6, ["gcc", "g++"]),
     "tests/sources/sources.sh": ([], 2, []), "tests/programs/story.py": (["--recipes", PROGRAMS], 25, ["bash", "dash", SCRYPT]),
-    "tests/sources/calls.py": ([str(TOP)], 10, []), "tests/sources/as_compiled.py": ([str(TOP)], 2, []),
+    "tests/sources/calls.py": ([str(TOP)], 25, ["rt"]), "tests/sources/as_compiled.py": ([str(TOP)], 2, []),
     "tests/pages/definitions_told.py": (["--check"], 8, []), "tests/library/heap.py": ([], 7, ["gcc", "rt"]),
     "tests/programs/scrypt_ask.py": ([PROGRAMS, "dash"], 8, ["dash", SCRYPT]),
 }
@@ -54,6 +55,18 @@ SAID_OF_SOURCES = re.compile(r"^(?!(?:crates/\S+:)?\d+:)(.+)$()", re.MULTILINE)
 VARIES = re.compile(r"[0-9a-f]{16,}|/tmp/\S*/")
 
 
+def compiled(top, edit):
+    """Whether the crates that an edit changes in a copy are proved and built there, over the libraries that stand here."""
+    for crate in rt.rtlib.crates_below(f"{TOP}/crates"):
+        if any(it.startswith(f"crates/{crate.name}/") for it in edit.files):
+            crate.folder, crate.rlib = f"{top}/crates/{crate.name}", f"{top}/crates/{crate.name}/out/rlib/{crate.name}.rlib"
+            status, said = told(crate, lambda it: it.build_rlib(ALONE, anew=False))
+            if status:
+                print(f"{edit.name} is not proved:\n{said[-2000:]}")
+                return False
+    return True
+
+
 def said_by(test, lib, edit=None):
     """The first that a test finds wrong in a copy with an edit, or without one; None where it finds nothing."""
     with tempfile.TemporaryDirectory(prefix="pikhsen-line-") as folder:
@@ -63,6 +76,8 @@ def said_by(test, lib, edit=None):
         made = edit.put({}, top) if edit else ({},)
         for file, text in made[0].items() if made else ():
             (top / file).write_text(text, encoding="utf-8")
+        if edit and test == "tests/sources/calls.py" and not compiled(top, edit):
+            return None
         words = [str(lib) if it == "LIB" else it for it in TESTS[test][0]]
         environment = {**os.environ, "PYTHONDONTWRITEBYTECODE": "1", "STOP_AT_FIRST": "1", "PIKHSEN_LEFT_OUT": "/dev/null"}
         ran = run([top / test, *words], cwd=top, env=environment, stdout=PIPE, stderr=STDOUT, text=True)

@@ -95,9 +95,9 @@ class Code:
         return self.all.get(name)
 
     def is_own(self, name):
-        """Whether someone wrote this function of ours. One that the compiler made, as of `Clone::clone` as a value, or of a
-        drop, has ++ in its path; it is gone through as the toolchain's are."""
-        return name in self.ours and "++" not in name
+        """Whether someone wrote this function of ours. One that the compiler made, as of a drop, or of `Clone::clone` or a
+        closure as a value, has ++ or +Fn in its path; it is gone through as the toolchain's are."""
+        return name in self.ours and "++" not in name and "+Fn" not in name
 
     def keep(self, what, name, of, make):
         """What was made of a function, or of an instance of it, and is made once, until it is changed."""

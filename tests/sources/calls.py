@@ -97,6 +97,11 @@ def by_bytes(function, others):
         at = value["AddrOf"]
         return not at["steps"] and at["local"] in loaded and "Named" in kinds[at["local"]]
 
+    def is_lent(part):
+        """Whether this hands on where a byte stands, as a turn of a loop over bytes has it."""
+        lent = (kinds[it["local"]] for it in operands(part) if not it["steps"])
+        return any("Ref" in it and it["Ref"][2] == {"Int": 8} for it in lent)
+
     while before != len(loaded) + len(stored):
         before = len(loaded) + len(stored)
         for it in nodes(function["body"]):
@@ -105,7 +110,7 @@ def by_bytes(function, others):
                 if counts(value) if "AddrOf" in value else depends(value):
                     loaded.add(to["local"])
                     stored |= {behind(to)} - {None}
-            elif "Call" in it and (depends(it["Call"][1]) or (it["Call"][0].get("Fn") or [None])[0] in others):
+            elif "Call" in it and (depends(it["Call"][1]) or is_lent(it["Call"][1]) or (it["Call"][0].get("Fn") or [None])[0] in others):
                 loaded.add(it["Call"][2]["local"])
     if any(depends(it.get("If") or it["Switch"][0]) for it in nodes(function["body"]) if "If" in it or "Switch" in it):
         yield "branches"
@@ -235,11 +240,12 @@ class Rules:
 
     @functools.cached_property
     def returning(self):
-        """The functions of ours that return what depends on a byte."""
+        """The functions of ours that return a number that depends on a byte."""
+        numbers = {name: it for name, it in self.code.ours.items() if "Int" in it["locals"][0]["ty"] and not name.startswith(SYSTEM)}
         found, before = set(), None
         while before != found:
             before = {*found}
-            found |= {it for it in self.code.ours if not it.startswith(SYSTEM) and "returns" in by_bytes(self.code.ours[it], before)}
+            found |= {name for name, it in numbers.items() if "returns" in by_bytes(it, before)}
         return found
 
     def run(self):
@@ -253,8 +259,8 @@ class Rules:
 
 
 def libraries(others):
-    """The libraries that programs and the library for C are made of, as far as they are built here, and these."""
-    built = [it for folder in [TOP, *map(pathlib.Path, others)] for it in sorted(folder.glob("crates/*/out/rlib/*.rlib"))]
+    """The libraries that programs and the library for C are made of, as far as they are built here, or else there."""
+    built = [it for folder in [*map(pathlib.Path, others), TOP] for it in sorted(folder.glob("crates/*/out/rlib/*.rlib"))]
     built += [pathlib.Path(it) for it in others if it.endswith(".rlib")]
     return [it for it in {it.stem: it for it in built}.values() if not OTHERS.fullmatch(it.stem)]
 
