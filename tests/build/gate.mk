@@ -19,7 +19,7 @@ gate: refusals c_face lines calls calls_test as_compiled
 	@touch $(PIKHSEN_LEFT_OUT) && sort -u $(PIKHSEN_LEFT_OUT)
 	@! test "$$PIKHSEN_ALL" = 1 || ! grep -q 'is not installed' $(PIKHSEN_LEFT_OUT)
 
-.PHONY: gate calls calls_test as_compiled sources documents values told choice first_run scripts heap proved archive refusals c_face lines
+.PHONY: gate calls calls_test as_compiled sources documents values told choice first_run scripts heap proved linked archive refusals c_face lines
 sources:   ; $(call step,tests/sources/sources.sh)
 documents: ; $(call step,tests/pages/documents.py)
 values:    ; $(call step,tests/pages/values.py)
@@ -29,7 +29,10 @@ first_run: ; $(call step,tests/build/first_run.py)
 scripts:   ; $(call step,tests/build/build_scripts.py)
 heap:      ; $(call step,tests/library/heap.py)
 proved: sources documents values told choice first_run scripts heap
+	@rm -f crates/*/out/*_tool.o
 	+$(call step,rt ci)
+linked: proved
+	$(call step,tests/build/objects.py)
 	@packaging/link.sh x86-64-v2
 	@test -f bin/level && test "$$(cat bin/level)" != x86-64-v2 || packaging/chosen.sh x86-64-v2
 archive: proved   ; $(call step,tests/library/archive.py)
@@ -37,7 +40,7 @@ calls: archive    ; $(call step,tests/sources/calls.py bin/pikhsen_c.rlib)
 calls_test: archive ; $(call step,tests/sources/calls_test.py bin/pikhsen_c.rlib)
 as_compiled: archive ; $(call step,tests/sources/as_compiled.py bin/pikhsen_c.rlib)
 refusals: proved  ; $(call step,tests/edits/refusals.py)
-outside-%: proved ; $(call step,tests/programs/outside.sh bin/$*)
+outside-%: linked ; $(call step,tests/programs/outside.sh bin/$*)
 c_face lines: archive $(outside)
 c_face:           ; $(call step,tests/library/c_face.py)
 lines:            ; $(call step,tests/edits/wrong_lines.py)
