@@ -95,9 +95,11 @@ passed_over pikhsen <<'END'
 # These are the bytes that the tests ran.
 unstripped-binary-or-object [usr/bin/argon2]
 unstripped-binary-or-object [usr/bin/scrypt]
-# They have no code in C that a compiler of C could fortify.
+# Of C they have only the heap, in which there is nothing to fortify.
 hardening-no-fortify-functions [usr/bin/argon2]
 hardening-no-fortify-functions [usr/bin/scrypt]
+# POSIX has it since 2024, and the shells that may be /bin/sh had it before.
+bash-term-in-posix-shell 'ulimit' [usr/bin/scrypt-ask:*]
 END
 {
     echo '# These are the bytes that the tests called.'
