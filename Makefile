@@ -1,4 +1,4 @@
-# Pikhsen: proves, builds, tests, installs and packages scrypt and argon2.
+# Pikhsen: proves, builds, tests, installs and packages the programs and the library.
 
 PREFIX ?= /usr/local
 # Where make bench puts its table and its picture, without .tsv and .svg.
@@ -9,21 +9,24 @@ SOURCES := crates.txt packaging/heap.c packaging/heap.sh \
 V3 := avx2 bmi1 bmi2 f16c fma movbe abm
 LEVELS := x86-64-v2 $(if $(filter-out $(shell sed -n 's/^flags.*: //p' /proc/cpuinfo | head -n 1),$(V3)),,x86-64-v3)
 CPU ?= $(lastword $(LEVELS))
+# The programs, and where they are built for these levels.
+PROGRAMS := $(shell cut -d' ' -f1 packaging/programs)
+built = $(foreach level,$(1),$(PROGRAMS:%=bin/$(level)/%))
 
 .DELETE_ON_ERROR:
 .NOTPARALLEL:
-.PHONY: help run lib check test audit map doc reading install prefix uninstall deb wheel bench clean
+.PHONY: help run lib compat check test audit doc reading install prefix uninstall deb wheel builds bench clean
 
 help: ## prints these lines
 	@sed -n 's/^\([a-z]*\):.*## /make \1\t/p' Makefile | expand -t 16
 
-run: bin/$(CPU)/argon2 bin/$(CPU)/scrypt ## proves and builds bin/argon2 and bin/scrypt; then a first run
+run: $(call built,$(CPU)) ## proves and builds the programs, into bin/; then a first run
 	@packaging/chosen.sh $(CPU)
-	@echo 'bin/argon2 and bin/scrypt are proved, and built for processors of the level $(CPU) and above.' >&2
+	@echo '$(PROGRAMS:%=bin/%) are proved, and built for processors of the level $(CPU) and above.' >&2
 	@printf password | bin/argon2 somesalt -d -t 1 -k 8 -e
 
 # There is no unproved build. A rule with several targets runs once for all of them.
-bin/%/argon2 bin/%/scrypt: $(SOURCES) packaging/link.sh
+$(addprefix bin/%/,$(PROGRAMS)): $(SOURCES) packaging/link.sh packaging/programs
 	@packaging/build.sh $*
 
 lib: bin/lib/libpikhsen.so.0 ## proves and builds the library for C, in bin/lib/
@@ -31,6 +34,11 @@ lib: bin/lib/libpikhsen.so.0 ## proves and builds the library for C, in bin/lib/
 
 bin/lib/libpikhsen.so.0: $(SOURCES) packaging/lib.sh packaging/pikhsen.map
 	@packaging/lib.sh bin/lib $(filter-out x86-64-v2,$(LEVELS)) x86-64-v2
+
+compat: bin/lib/pikhsen/compat/libargon2.so.1 ## builds libargon2.so.1 and a provider of OpenSSL's scrypt over the library
+
+bin/lib/pikhsen/compat/libargon2.so.1: bin/lib/libpikhsen.so.0 packaging/compat.sh $(wildcard compat/*/*)
+	@packaging/compat.sh bin/lib bin/lib/pikhsen/compat
 
 check: ## proves and tests what differs from the last commit
 	tests/build/changed.py
@@ -44,26 +52,19 @@ test: $(filter bin/x86-64-v3/%,$(wildcard $(LEVELS:%=bin/%/scrypt))) ## the gate
 # refused at its goal, with which make audit fails.
 audit: bin/x86-64-v2/scrypt bin/lib/libpikhsen.so.0 ## tries each wrong body, definition and line, for docs/audit
 	@tests/edits/choice.py >bin/audit
-	tests/edits/wrong_lines.py --audit
-	tests/edits/refusals.py --audit
+	@$(MAKE) --no-print-directory -f tests/build/gate.mk -j audit
 	@test "$$(tests/edits/choice.py)" = "$$(head -n 1 bin/audit)" && mv bin/audit docs/audit && test $$(wc -l <docs/audit) = 1
 
-map: ## draws docs/proof-map.svg and docs/proof-map-small.svg
-	tests/pages/proof_map.py docs/proof-map.svg docs/proof-map-small.svg
-
-doc: ## writes bin/doc/index.html: the public items of each crate
-	packaging/doc.py
-
-reading: ## makes bin/reading/: what a reader must judge (CALL=CRATE::NAME)
+reading: ## writes bin/reading/index.html: what a reader must judge (CALL=CRATE::NAME: of that), and what each crate exports
 	tests/pages/reading_page.py $(CALL)
-	tests/pages/definitions_told.py
+doc: reading
 
 # By the environment, since a prefix may have any sign in it. The script looks at PREFIX itself before it touches anything,
 # and before programs are built.
 install uninstall: export PREFIX := $(PREFIX)
-install: | prefix bin/argon2 bin/scrypt ## installs programs, pages and completions below PREFIX
+install: | prefix $(PROGRAMS:%=bin/%) ## installs programs, pages and completions below PREFIX
 	@PIKHSEN_SAY=1 packaging/install.sh install "$$DESTDIR$$PREFIX" bin $(patsubst %/libpikhsen.a,%,$(wildcard bin/lib/libpikhsen.a)) >&2
-	@echo "argon2 and scrypt are built for $$(cat bin/level)" >&2
+	@echo "$(PROGRAMS) are built for $$(cat bin/level)" >&2
 
 prefix:
 	@packaging/install.sh check "$$DESTDIR$$PREFIX"
@@ -73,7 +74,7 @@ uninstall: ## removes what make install installed, unless it was changed
 
 # The level for which one more package of the programs is made: CPU, where it is given.
 HIGHER := $(if $(filter file,$(origin CPU)),,$(filter-out x86-64-v2,$(CPU)))
-deb: bin/x86-64-v2/argon2 bin/x86-64-v2/scrypt $(HIGHER:%=bin/%/argon2) $(HIGHER:%=bin/%/scrypt) bin/lib/libpikhsen.so.0 ## makes packages for Debian in bin/ (CPU=x86-64-v3: one more)
+deb: $(call built,x86-64-v2 $(HIGHER)) bin/lib/libpikhsen.so.0 compat ## makes packages for Debian in bin/ (CPU=x86-64-v3: one more)
 	@packaging/deb.sh bin/lib bin $(HIGHER)
 	@echo 'made:' bin/*pikhsen*_$$(cat VERSION)[_+]*.deb >&2
 
@@ -81,13 +82,22 @@ wheel: bin/lib/libpikhsen.so.0 ## makes a wheel for pip in bin/: the module with
 	@packaging/wheel.sh bin/lib bin
 	@echo 'made:' bin/pikhsen-*.whl >&2
 
-bench: $(LEVELS:%=bin/%/argon2) $(LEVELS:%=bin/%/scrypt) bin/lib/libpikhsen.so.0 ## times the programs beside those that are installed
+# Over the sources of a release `git diff` shows then whether the same toolchain and tools made the same bytes. Packages have
+# the time of the last commit of anything else. Needs a processor of the level x86-64-v3.
+builds: export SOURCE_DATE_EPOCH = $(shell git log -1 --format=%ct -- . ':!docs/builds.sha256')
+builds: $(call built,x86-64-v2 x86-64-v3) deb ## writes docs/builds.sha256 at a release: the sums of all that is built
+	@{ echo "# $$(rt version)" && for tool in ld cc objcopy dpkg-deb gzip; do echo "# $$($$tool --version | head -n 1)"; done && \
+		sha256sum $(call built,x86-64-v2 x86-64-v3) bin/lib/libpikhsen.* bin/lib/glibc-hwcaps/x86-64-v3/libpikhsen.so.0 \
+			bin/*pikhsen*_$$(cat VERSION)_*.deb; } >bin/builds
+	@mv bin/builds docs/builds.sha256
+
+bench: $(call built,$(LEVELS)) bin/lib/libpikhsen.so.0 ## times the programs beside those that are installed
 	bench/table.py $(LEVELS:%=bin/%) --out $(BENCH)
+	bench/beside.py $(LEVELS:%=bin/%)
 	bench/c_face.py
-	bench/logins.py
 
 clean: ## removes bin/ and all kept proofs
 	rm -rf bin crates/*/out
 
-bin/argon2 bin/scrypt &:
+$(PROGRAMS:%=bin/%) &:
 	@$(MAKE) --no-print-directory run

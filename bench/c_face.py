@@ -1,11 +1,12 @@
 #!/usr/bin/env python3
-"""Times libpikhsen from Python beside argon2-cffi, libsodium and hashlib: hashes and keys.
+"""Times libpikhsen from Python beside argon2-cffi, libargon2, libsodium and hashlib: hashes, logins and keys.
 
     bench/c_face.py [ROUNDS]      over PIKHSEN_LIBRARY, or what make lib made for the highest level of this machine
 
 Each round (7) does the same work once by each, in turn; what counts is user and system time of the process, least of
-all rounds. argon2-cffi (Debian: python3-argon2) starts a thread for each lane. Where it or libsodium (libsodium23) is
-not there, its rows are left out. Tags and keys are compared.
+all rounds. A login is an encoded hash that is read and checked. argon2-cffi (Debian: python3-argon2) starts a thread for
+each lane. Where it, libargon2 (libargon2-1) or libsodium (libsodium23) is not there, its rows are left out. Tags, answers
+and keys are compared.
 """
 import ctypes
 import ctypes.util
@@ -13,7 +14,7 @@ import hashlib
 import os
 import sys
 
-from scratch import TOP, Least, huge_pages, rounds, spent
+from scratch import TOP, huge_pages, in_turn, spent
 
 LEVELS = [TOP / "bin/lib" / it for it in ("glibc-hwcaps/x86-64-v3/libpikhsen.so.0", "libpikhsen.so.0")]
 os.environ.setdefault("PIKHSEN_LIBRARY", str(next((it for it in LEVELS if it.is_file()), LEVELS[-1])))
@@ -26,7 +27,7 @@ try:
 except ImportError:
     hash_secret_raw = None
 PASSWORD, SALT = b"correct horse", b"sixteen bytes..."
-SODIUM = ctypes.CDLL(ctypes.util.find_library("sodium")) if ctypes.util.find_library("sodium") else None
+SODIUM, ARGON2 = (ctypes.CDLL(it) if it else None for it in map(ctypes.util.find_library, ("sodium", "argon2")))
 
 
 def by_libsodium(passes, kib):
@@ -49,6 +50,10 @@ def rows():
         yield (f"argon2id, {kib} KiB, {passes} passes, {lanes} lanes, beside argon2-cffi",
                lambda: pikhsen.hash(PASSWORD, SALT, passes=passes, memory_kib=kib, lanes=lanes),
                lambda: hash_secret_raw(PASSWORD, SALT, passes, kib, lanes, 32, Type.ID))
+    for kib, passes in ((64, 1), (64, 3), (4096, 3), (19456, 2), (65536, 3)) if ARGON2 else ():
+        text = pikhsen.encode(PASSWORD, salt=SALT, passes=passes, memory_kib=kib, lanes=1)
+        yield (f"login, {kib} KiB, {passes} passes, beside libargon2", lambda: pikhsen.verify(text, PASSWORD),
+               lambda: ARGON2.argon2id_verify(text.encode(), PASSWORD, ctypes.c_size_t(len(PASSWORD))) == 0)
     if SODIUM and SODIUM.sodium_init() >= 0:
         for kib, passes in ((19456, 2), (65536, 1), (65536, 3), (262144, 1)):
             yield (f"argon2id, {kib} KiB, {passes} passes, beside libsodium",
@@ -62,16 +67,11 @@ def rows():
 
 
 def main():
+    rounds = int(sys.argv[1]) if len(sys.argv) > 1 else 7
     print(f"{os.environ['PIKHSEN_LIBRARY']}; huge pages: {huge_pages()}; load {os.getloadavg()[0]:.1f}")
     for name, ours, other in rows():
-        least = Least()
-        for _ in range(rounds()):
-            (mine, _, answer), (theirs, _, expected) = spent(ours), spent(other)
-            if answer != expected:
-                sys.exit(f"{name}: they differ")
-            least.note("ours", mine)
-            least.note("other", theirs)
-        print(f"{name}: {least['ours'] * 1e3:.2f} ms, {least['other'] * 1e3:.2f} ms, {least['ours'] / least['other']:.2f}")
+        (mine, _), (theirs, _) = in_turn(name, {"ours": lambda: spent(ours), "the other": lambda: spent(other)}, rounds).values()
+        print(f"{name}: {mine * 1e3:.2f} ms, {theirs * 1e3:.2f} ms, {mine / theirs:.2f}")
 
 
 main()

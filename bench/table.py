@@ -7,11 +7,10 @@ Each FOLDER, as bin/x86-64-v2, has argon2 and scrypt, built for the level of its
 the row's work once, in turn; the least of all rounds counts, so that what else the machine does hits all alike. Time is
 user and system time of the process, and elapsed time. Memory is the greatest resident set, of a further run under GNU
 time where that is there. A ratio is to the installed program, and below 1 where ours takes less. Hashes and decrypted
-files are compared. Over libsodium and OpenSSL, where they are installed, a program is compiled (bench/libsodium.c,
-bench/openssl.c), and a line says which instructions they use. --out PATH writes the table to PATH.tsv, too, as
-tab-separated values, and draws a whole one as PATH.svg (bench/ratios.py).
+files are compared. Over libsodium and OpenSSL, where they are installed, a program is compiled (bench/library.c), and a
+line says which instructions they use. --out PATH writes the table to PATH.tsv, too, as tab-separated values, and draws
+a whole one as PATH.svg (bench/ratios.py).
 """
-import argparse
 import collections
 import ctypes.util
 import datetime
@@ -26,13 +25,13 @@ import subprocess
 import tempfile
 
 import ratios
-from scratch import Least, huge_pages, used, with_peak
+from scratch import TOP, asked, huge_pages, in_turn, peak, used
 
 TIMES = "ours theirs ratio ours_elapsed theirs_elapsed ratio_elapsed".split()
 COLUMNS = ["work", "size", "level", *TIMES, "ours_MiB", "theirs_MiB", "rounds", "load"]
 COSTS = ["--logN", "14", "-r", "8", "-p", "1"]
-# Libraries that rows are beside: the C source of a program that calls each, and what the linker knows it as.
-LIBRARIES = {"libsodium": ("libsodium.c", "sodium"), "OpenSSL": ("openssl.c", "crypto")}
+# Libraries that rows are beside, and what the linker knows each as.
+LIBRARIES = {"libsodium": "sodium", "OpenSSL": "crypto"}
 # A piece of work: a program with its arguments and its input, the status that is wanted, and the library beside which it
 # stands, if that isn't the installed program.
 Row = collections.namedtuple("Row", "work size program words given status library", defaults=(b"", 0, None))
@@ -73,9 +72,8 @@ def library_rows():
 
 def compiled(name, folder):
     """The program over a library, where that and a compiler are installed. It prints which library that is."""
-    source, known_as = LIBRARIES[name]
-    file, program = ctypes.util.find_library(known_as), os.path.join(folder, name)
-    words = ["cc", "-O2", "-o", program, pathlib.Path(__file__).with_name(source), f"-l:{file}"]
+    file, program = ctypes.util.find_library(LIBRARIES[name]), os.path.join(folder, name)
+    words = ["cc", "-O2", f"-D{LIBRARIES[name]}", "-o", program, TOP / "bench/library.c", f"-l:{file}"]
     if not file or not shutil.which("cc") or subprocess.run(words, stderr=subprocess.DEVNULL).returncode != 0:
         print(f"{name} or a compiler is not installed: its rows are left out")
         return None
@@ -93,17 +91,14 @@ def result(row, folder, printed):
 
 def measure(row, programs, rounds, folder):
     """The least times and the memory of each program, by its name."""
-    cpu, elapsed, found = Least(), Least(), set()
-    for name, program in [*programs.items()] * rounds:
-        ran = used([program, *row.words], row.given, row.status, cwd=folder, stderr=subprocess.DEVNULL)
-        cpu.note(name, ran.cpu)
-        elapsed.note(name, ran.elapsed)
-        found.add(result(row, folder, ran.printed))
-    if len(found) != 1:
-        raise SystemExit(f"{row.work} {row.size}: the programs differ in what they make")
-    peaks = {name: with_peak([it, *row.words], row.given, row.status, cwd=folder, stderr=subprocess.DEVNULL)[1]
-             for name, it in programs.items()}
-    return {name: (cpu[name], elapsed[name], peak) for name, peak in peaks.items()}
+    def ran(program):
+        done = used([program, *row.words], row.given, row.status, cwd=folder, stderr=subprocess.DEVNULL)
+        return done._replace(made=result(row, folder, done.made))
+
+    works = {name: lambda it=it: ran(it) for name, it in programs.items()}
+    least = in_turn(f"{row.work} {row.size}", works, rounds)
+    return {name: (*least[name], peak([it, *row.words], row.given, row.status, cwd=folder, stderr=subprocess.DEVNULL))
+            for name, it in programs.items()}
 
 
 def make_files(rows, scrypt, folder):
@@ -125,19 +120,17 @@ def values(row, level, best, rounds):
         mine, other = ours[place], theirs and theirs[place]
         return [f"{mine:.4f}", *(["", ""] if theirs is None else [f"{other:.4f}", f"{mine / max(other, 1e-6):.2f}"])]
 
-    memory = [f"{found[2] / 1024:.1f}" if found and found[2] else "" for found in (ours, theirs)]
+    memory = [f"{found[2]:.1f}" if found and found[2] else "" for found in (ours, theirs)]
     return [row.work, str(row.size), level, *beside(0), *beside(1), *memory, str(rounds), f"{os.getloadavg()[0]:.1f}"]
 
 
 def main():
-    asked = argparse.ArgumentParser(description=__doc__, formatter_class=argparse.RawDescriptionHelpFormatter)
-    asked.add_argument("folders", nargs="+", metavar="FOLDER")
-    asked.add_argument("--rounds", type=int, default=5)
-    asked.add_argument("--only", default="")
-    asked.add_argument("--out")
-    given = asked.parse_args()
+    reader = asked(__doc__, 5)
+    reader.add_argument("--only", default="")
+    reader.add_argument("--out")
+    given = reader.parse_args()
     rows = [row for row in (*argon2_rows(), *scrypt_rows(), *library_rows()) if given.only in f"{row.work} {row.size}"]
-    levels = {os.path.basename(os.path.abspath(folder)): os.path.abspath(folder) for folder in given.folders}
+    levels = {it.name: it for it in given.folders}
     processor = pathlib.Path("/proc/cpuinfo").read_text(encoding="utf-8")
     model = re.search(r"(?m)^model name\s*: (.*)", processor)
     has_sha = "with" if re.search(r"\bsha_ni\b", processor) else "without"
@@ -145,31 +138,25 @@ def main():
             f"{huge_pages()}; load {os.getloadavg()[0]:.1f} at the start; {datetime.date.today()}; least of {given.rounds} rounds"
     print(title)
     print("seconds of processor time and elapsed, MiB of memory; a ratio is ours to that of the other program or library")
-    print(shown(COLUMNS), flush=True)
+    print(*COLUMNS, sep="\t", flush=True)
     lines = []
     with tempfile.TemporaryDirectory(prefix="pikhsen-bench-") as folder:
         libraries = {name: compiled(name, folder) for name in LIBRARIES if any(row.library == name for row in rows)}
-        make_files(rows, os.path.join(next(iter(levels.values())), "scrypt"), folder)
+        make_files(rows, given.folders[0] / "scrypt", folder)
         for row in rows:
-            programs = {level: os.path.join(place, row.program) for level, place in levels.items()}
+            programs = {level: place / row.program for level, place in levels.items()}
             other = libraries[row.library] if row.library else shutil.which(row.program, path="/usr/bin:/usr/local/bin")
             if row.library and not other:
                 continue
             best = measure(row, {**programs, **({"installed": other} if other else {})}, given.rounds, folder)
             for level in levels:
                 lines.append(values(row, level, best, given.rounds))
-                print(shown(lines[-1]), flush=True)
+                print(*lines[-1], sep="\t", flush=True)
     if given.out:
         text = f"# {title}\n" + "".join("\t".join(line) + "\n" for line in [COLUMNS, *lines])
         pathlib.Path(f"{given.out}.tsv").write_text(text, encoding="utf-8")
         if not given.only:
             pathlib.Path(f"{given.out}.svg").write_text(ratios.drawn(f"{given.out}.tsv"), encoding="utf-8")
-
-
-def shown(cells):
-    """Cells of a line, each as wide as its column."""
-    widths = ({"work": 26, "level": 9}.get(name, max(7, len(name))) for name in COLUMNS)
-    return "  ".join(f"{cell:>{width}}" for cell, width in zip(cells, widths))
 
 
 main()

@@ -303,9 +303,9 @@ unsigned int pikhsen_scrypt_encrypt_finish(pikhsen_stream *stream, void *code, s
  * Decrypts in pieces. start reads the first PIKHSEN_FILE_HEAD bytes of front, and feed, piece by piece, all that comes
  * after them in the file. feed writes the text that it releases to the front of out, and the number of its bytes to
  * *released: at most as many as the piece has, and 0 after any result but PIKHSEN_OK. out has at least
- * PIKHSEN_FILE_CODE bytes more than the piece, else the result is PIKHSEN_BUFFER; what comes after the released bytes,
- * up to so many, is left in no promised state. start refuses what pikhsen_scrypt_decrypt refuses, a wrong passphrase
- * among it; keep and limits as there.
+ * PIKHSEN_FILE_CODE bytes more than the piece, else the result is PIKHSEN_BUFFER; after the released bytes come the last
+ * of the file that were read, which are held back, as they were read, and then what stood there before. start refuses
+ * what pikhsen_scrypt_decrypt refuses, a wrong passphrase among it; keep and limits as there.
  *
  * WHAT feed RELEASES IS NOT YET TESTED: anyone may have changed the file. finish says whether that is so: PIKHSEN_OK
  * only if all that was read is an encryption of all that was released. If the result is not 0, throw all of the text

@@ -5,7 +5,7 @@
 #     packaging/chosen.sh LEVEL      x86-64-v2 or x86-64-v3
 set -eu
 cd "$(dirname "$0")/.."
-test -x "bin/$1/argon2"
-test -x "bin/$1/scrypt"
-install -m 755 "bin/$1/argon2" "bin/$1/scrypt" bin
+files=$(sed "s|^|bin/$1/|; s| .*||" packaging/programs)
+for file in $files; do test -x "$file"; done
+install -m 755 -t bin $files
 echo "$1" >bin/level

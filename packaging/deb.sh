@@ -9,6 +9,10 @@
 #     libpikhsen0        the shared library
 #     libpikhsen-dev     what programs in C are built with: the header, both ways to link, pikhsen.pc, the page
 #     python3-pikhsen    the module for Python
+#     pikhsen-libargon2  libargon2.so.1 over the library, in place of Debian's libargon2-1
+#     pikhsen-openssl    a provider for OpenSSL's scrypt, and the openssl.cnf that loads it
+#
+# The last two are made of what packaging/compat.sh left in pikhsen/compat below LIBRARY.
 #
 # They are the same bytes each time, with the time of the last commit (without git: of now), or SOURCE_DATE_EPOCH where
 # it is set. Programs and library are not stripped: they are the bytes that the tests run.
@@ -83,24 +87,29 @@ build() {
     dpkg-deb -Zxz --root-owner-group --build "$root" "$out/$1_${told}_$2.deb"
 }
 
-contents pikhsen bin share/doc share/man/man1 share/bash-completion share/zsh
+contents pikhsen bin share/doc share/man/man1 share/man/man7 share/bash-completion share/zsh
 # That for x86-64-v3 is beside the other, where the machine at hand could build it.
 hwcaps=$libraries/glibc-hwcaps
 test ! -d "$work/usr/$hwcaps" || contents libpikhsen0 "$hwcaps"
 contents libpikhsen0 "$libraries/libpikhsen.so.0"
+compat=$libraries/pikhsen/compat
+if test -d "$work/usr/$compat"; then
+    mv "$work/usr/$compat/libargon2.so.1" "$work/usr/$libraries"
+    contents pikhsen-libargon2 "$libraries/libargon2.so.1"
+    contents pikhsen-openssl "$libraries/pikhsen"
+fi
 contents libpikhsen-dev include "$libraries" share/man/man3
 contents python3-pikhsen "$modules"
 
-passed_over pikhsen <<'END'
-# These are the bytes that the tests ran.
-unstripped-binary-or-object [usr/bin/argon2]
-unstripped-binary-or-object [usr/bin/scrypt]
-# Of C they have only the heap, in which there is nothing to fortify.
-hardening-no-fortify-functions [usr/bin/argon2]
-hardening-no-fortify-functions [usr/bin/scrypt]
-# POSIX has it since 2024, and the shells that may be /bin/sh had it before.
-bash-term-in-posix-shell 'ulimit' [usr/bin/scrypt-ask:*]
-END
+names=$(cut -d' ' -f1 packaging/programs)
+{
+    echo '# These are the bytes that the tests ran.'
+    printf 'unstripped-binary-or-object [usr/bin/%s]\n' $names
+    echo '# Of C they have only the heap, in which there is nothing to fortify.'
+    printf 'hardening-no-fortify-functions [usr/bin/%s]\n' $names
+    echo '# POSIX has it since 2024, and the shells that may be /bin/sh had it before.'
+    echo "bash-term-in-posix-shell 'ulimit' [usr/bin/scrypt-ask:*]"
+} | passed_over pikhsen
 {
     echo '# These are the bytes that the tests called.'
     (cd "$work/libpikhsen0" && find usr -name libpikhsen.so.0 -printf 'unstripped-binary-or-object [%p]\n' | LC_ALL=C sort)
@@ -110,18 +119,19 @@ END
 programs() {
     build pikhsen amd64 <<END
 Section: utils
-Depends: $(libc "$work"/pikhsen/usr/bin/argon2 "$work"/pikhsen/usr/bin/scrypt)
+Depends: $(cd "$work/pikhsen/usr/bin" && libc $names)
 Conflicts: argon2, scrypt
 Replaces: argon2, scrypt
-Description: scrypt and argon2, proved in Rattle
+Description: scrypt, argon2 and argon2-verify, proved in Rattle
  scrypt keeps files under a passphrase, in the format of Tarsnap's scrypt;
- argon2 hashes passwords (RFC 9106). Their code is proved to compute what the
- standards define; that the system does its part is tested. scrypt-ask, a shell
- script, asks for the passphrase at the terminal.
+ argon2 hashes passwords (RFC 9106), and argon2-verify tells whether a password
+ belongs to a stored hash. Their code is proved to compute what the standards
+ define; that the system does its part is tested. scrypt-ask, a shell script,
+ asks for the passphrase at the terminal.
  .
- The programs have the names of those in Debian's packages scrypt and argon2,
- so that this package conflicts with both. It is built for processors of the
- level $1 and above.
+ Two of the programs have the names of those in Debian's packages scrypt and
+ argon2, so that this package conflicts with both. It is built for processors
+ of the level $1 and above.
 END
 }
 programs x86-64-v2
@@ -167,9 +177,48 @@ Description: Argon2, scrypt and scrypt's encrypted files, from Python
  password, keys, and encrypted files in the format of Tarsnap's scrypt.
 END
 
+# In place of this version of Debian's, that of Debian 12: apt takes either for what other packages depend on.
+if test -d "$work/pikhsen-libargon2"; then
+    echo 'activate-noawait ldconfig' >"$work/pikhsen-libargon2/DEBIAN/triggers"
+    echo 'libargon2 1 libargon2-1' >"$work/pikhsen-libargon2/DEBIAN/shlibs"
+    passed_over pikhsen-libargon2 <<'END'
+# It has the name that programs were linked to, and they are built with Debian's libargon2-dev.
+package-name-doesnt-match-sonames libargon2-1
+no-symbols-control-file *
+END
+    build pikhsen-libargon2 amd64 <<END
+Section: libs
+Multi-Arch: same
+Depends: $(libc "$work/pikhsen-libargon2/usr/$libraries/libargon2.so.1")
+Suggests: pikhsen
+Provides: libargon2-1 (= 0~20171227-0.3+deb12u1)
+Conflicts: libargon2-1
+Replaces: libargon2-1
+Description: libargon2.so.1 over Argon2, proved in Rattle
+ Programs that are linked to libargon2, as PHP and cryptsetup are, hash by the
+ functions of libpikhsen. It takes the place of libargon2-1; who installs that
+ goes back. Between its interface and what is proved stand lines in C that are
+ tested, not proved. It is built for processors of the level x86-64-v2 and
+ above.
+END
+fi
+if test -f "$work/pikhsen-openssl/usr/$compat/pikhsen.so"; then
+    build pikhsen-openssl amd64 <<END
+Section: libs
+Depends: $(libc "$work/pikhsen-openssl/usr/$compat/pikhsen.so"), libssl3
+Suggests: pikhsen
+Description: OpenSSL's scrypt, proved in Rattle
+ A provider of OpenSSL 3: programs that ask OpenSSL for scrypt get that of
+ libpikhsen, where OPENSSL_CONF names the openssl.cnf of this package. Nothing
+ else changes by its installation. Between OpenSSL and what is proved stand
+ lines in C that are tested, not proved. It is built for processors of the level
+ x86-64-v2 and above.
+END
+fi
+
 # That for a higher level is told by its version, which apt takes for a newer one.
 if test -n "$higher"; then
     told=$version+${higher##*-}
-    install -m 755 -t "$work/pikhsen/usr/bin" "bin/$higher/argon2" "bin/$higher/scrypt"
+    for name in $names; do install -m 755 -t "$work/pikhsen/usr/bin" "bin/$higher/$name"; done
     programs "$higher"
 fi

@@ -1,5 +1,5 @@
 /*
- * The heap of both programs and of libpikhsen: the C library's, as the toolchain's own is, but a block of 2 MiB or more
+ * The heap of the programs and of libpikhsen: the C library's, as the toolchain's own is, but a block of 2 MiB or more
  * begins at a huge page, and Linux is asked to use such pages for it. Where it does not, all else is the same.
  *
  * What the proofs take for granted of the three functions (the toolchain's libc/src/heap.rt):

@@ -1,7 +1,7 @@
 #!/bin/sh
 # Puts the programs, their manual pages, completions and documents below a folder, or takes them away from there.
 #
-#     packaging/install.sh install FOLDER PROGRAMS      FOLDER as /usr/local, from the folder with argon2 and scrypt
+#     packaging/install.sh install FOLDER PROGRAMS      FOLDER as /usr/local, from the folder with the programs
 #     packaging/install.sh install FOLDER PROGRAMS LIBRARY      also the library for C, from that with libpikhsen.a
 #     packaging/install.sh uninstall FOLDER
 #     packaging/install.sh check FOLDER      refuses what both would refuse, and does nothing
@@ -101,15 +101,17 @@ page() {
     place 644 "$work/page" "$2" "${1##*/}"
 }
 
-for name in argon2 scrypt; do
+names=$(cut -d' ' -f1 packaging/programs)
+for name in $names; do
     place 755 "$programs/$name" bin
     place 644 "completions/zsh/_$name" "$zsh"
 done
 place 755 packaging/scrypt-ask bin
-for name in argon2 scrypt scrypt-ask; do
+for name in $names scrypt-ask; do
     page "man/$name.1" share/man/man1
     place 644 "completions/bash/$name" share/bash-completion/completions
 done
+page man/pikhsen-compat.7 share/man/man7
 if test -n "$library"; then
     place 644 "$library/libpikhsen.a" "$lib"
     place 644 "$library/libpikhsen.so.0" "$lib"
@@ -128,6 +130,15 @@ if test -n "$library"; then
     sed "s|@PREFIX@|$(escaped "$prefix")|; s|@LIB@|$(escaped "$lib")|; s|@VERSION@|$(cat VERSION)|" \
         packaging/pikhsen.pc.in >"$work/pc"
     place 644 "$work/pc" "$lib/pkgconfig" pikhsen.pc
+    # What stands in place of other libraries, where make compat built it: in a folder where no program looks by itself.
+    compat=pikhsen/compat
+    for file in libargon2.so.1 pikhsen.so; do
+        test ! -f "$library/$compat/$file" || place 644 "$library/$compat/$file" "$lib/$compat"
+    done
+    if test -f "$library/$compat/pikhsen.so"; then
+        sed "s|@FOLDER@|$(escaped "$prefix/$lib/$compat")|" compat/openssl/openssl.cnf >"$work/openssl.cnf"
+        place 644 "$work/openssl.cnf" "$lib/$compat"
+    fi
 fi
 for file in README.md CHANGELOG.md docs/*.md docs/*.svg docs/*.tsv; do
     place 644 "$file" share/doc/pikhsen "$file"
@@ -158,7 +169,7 @@ taken_away "$work/gone"
 install -m 644 -T "$work/list" "$below/$list"
 
 test -n "${PIKHSEN_SAY:-}" || exit 0
-echo "installed below $prefix: argon2, scrypt and scrypt-ask, with manual pages, completions and documents"
+echo "installed below $prefix: $(printf '%s, ' $names)scrypt-ask, with manual pages, completions and documents"
 test -z "$library" || echo "and the library: pikhsen.h, libpikhsen.a and libpikhsen.so.0 in $lib, and the Python module"
 case :$PATH: in *":$prefix/bin:"*) ;; *) echo "add it to PATH:    PATH=\"$prefix/bin:\$PATH\"" ;; esac
 case $prefix in /usr | /usr/local) ;; *)

@@ -15,7 +15,7 @@ archive=crates/pikhsen_c/out/libpikhsen_c.a
 work=$(mktemp -d)
 # taken_away: takes away what an earlier run made, of all levels.
 taken_away() {
-    rm -f "$folder/libpikhsen.a" "$folder/libpikhsen.so.0" "$folder"/glibc-hwcaps/*/libpikhsen.so.0
+    rm -f "$folder/libpikhsen.a" "$folder/libpikhsen.so.0" "$folder"/glibc-hwcaps/*/libpikhsen.so.0 "$folder"/pikhsen/compat/*
 }
 # A run that does not end well leaves no library, and no package or wheel of one: they would be of older sources.
 trap 'status=$?; rm -rf "$work"; test $status = 0 || { taken_away; rm -f bin/*.deb bin/*.whl; }' EXIT

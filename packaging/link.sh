@@ -1,15 +1,15 @@
 #!/bin/sh
 # Links the programs that rt built in crates/*/out into bin/LEVEL/: as rt does, but with heap.c in the place of the
 # toolchain's heap. Linked with that, too, each must be the program that rt linked, byte for byte. A run that does not
-# end well leaves neither program in bin/LEVEL/.
+# end well leaves no program in bin/LEVEL/.
 #
 #     packaging/link.sh LEVEL      x86-64-v2 or x86-64-v3, for which they were built
 set -eu
 cd "$(dirname "$0")/.."
-level=$1
+level=${1:?}
 kit=$(dirname "$(dirname "$(readlink -f "$(command -v rt)")")")
 work=$(mktemp -d)
-trap 'status=$?; rm -rf "$work"; test $status = 0 || rm -f "bin/$level/argon2" "bin/$level/scrypt"' EXIT
+trap 'status=$?; rm -rf "$work"; test $status = 0 || rm -rf "bin/$level"' EXIT
 trap 'exit 130' INT
 trap 'exit 143' HUP TERM
 
@@ -20,10 +20,9 @@ linked() {
 }
 
 packaging/heap.sh "$work/heap.o"
-for name in argon2 scrypt; do
-    crate=${name%2}_tool
+while read -r name crate; do
     linked "$crate" "$kit/c/liblibc_c.a"
     cmp "$work/program" "crates/$crate/out/$crate"
     linked "$crate" "$work/heap.o"
     install -D -m 755 -T "$work/program" "bin/$level/$name"
-done
+done <packaging/programs

@@ -85,14 +85,17 @@ class Step:
         return f"{self.name}, {f'{self.seconds:.0f} s' if self.log.stat().st_size else 'as it was proved before'}"
 
     def sample(self):
-        """What a program that was just built prints over the words and the input that its crate has for it, if any."""
+        """What a program that was just built prints, or else its status, over the words, input and files that its crate has
+        for it, if any."""
         folder = CRATES / self.crate
         if self.words[0] != "run" or not (folder / "args").is_file():
             return None
         words = (folder / "args").read_text(encoding="utf-8").splitlines()
         with open(folder / "stdin", "rb") as given:
-            ran = subprocess.run([folder / self.makes, *words], stdin=given, stdout=subprocess.PIPE, text=True)
-        return f"{' '.join([self.crate, *words])} prints: {ran.stdout.strip()}"
+            there = folder / "data" if (folder / "data").is_dir() else folder
+            ran = subprocess.run([folder / self.makes, *words], stdin=given, stdout=subprocess.PIPE, text=True, cwd=there)
+        came = f"prints: {ran.stdout.strip()}" if ran.stdout else f"ends with status {ran.returncode}"
+        return f"{' '.join([self.crate, *words])} {came}"
 
     def why(self):
         """The last lines of what a run said that did not end well, and where the others are."""

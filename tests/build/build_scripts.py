@@ -20,27 +20,31 @@ import time
 
 sys.path += map(str, pathlib.Path(__file__).resolve().parents[1].iterdir())  # the other folders of tests/
 import binaries
-from checking import is_there, over_programs
-from first_run import KIT, LEVEL, PROGRAMS, STAND_IN, TOP, Tree
-from library_texts import HEADER, prototypes, ran
+from checking import is_there, over_programs, ran
+from first_run import BUILT, CHOSEN, KIT, LEVEL, PROGRAMS, STAND_IN, TOOLS, TOP, Tree
+from library_texts import HEADER, prototypes
+from tree import VERSION
 
 OTHER = "x86-64-v3"
 # The programs and the library, over a crate each.
-CRATES = "host:\nblake:\nargon_tool: host\nscrypt_tool: host\npikhsen_c staticlib: blake\n"
-OTHERS = [f"bin/{OTHER}/argon2", f"bin/{OTHER}/scrypt"]
+CRATES = "".join(["host:\nblake:\n", *(f"{it}: host\n" for it in TOOLS.values()), "pikhsen_c staticlib: blake\n"])
+OTHERS = [f"bin/{OTHER}/{it}" for it in TOOLS]
 HIGHER = f"glibc-hwcaps/{OTHER}/libpikhsen.so.0"
 LIBRARIES = ["bin/lib/libpikhsen.a", "bin/lib/libpikhsen.so.0", f"bin/lib/{HIGHER}"]
+COMPAT = [f"bin/lib/pikhsen/compat/{it}" for it in ("libargon2.so.1", "pikhsen.so")]
+FAILS = "#!/bin/sh\nexit 1\n"
 PACKAGE, WHEEL = "bin/pikhsen_0.0.1_amd64.deb", "bin/pikhsen-0.0.1-py3-none-any.whl"
 # The library in C: the names of the header, over the heap, whose names are not to be seen outside.
 HEAP = "struct tried { _Bool ok; void *block; } rattle_alloc(unsigned long, unsigned long);\n"
 BODY = "unsigned int {}(void) {{ return rattle_alloc(1, 1).ok; }}\n"
 # What is installed from where, beside docs/.
 INSTALLED = {
-    **{it: it for it in PROGRAMS[:2]}, **{it.removeprefix("bin/"): it for it in LIBRARIES}, "include/pikhsen.h": "include/pikhsen.h",
+    **{it: it for it in CHOSEN}, **{it.removeprefix("bin/"): it for it in LIBRARIES + COMPAT}, "include/pikhsen.h": "include/pikhsen.h",
     "bin/scrypt-ask": "packaging/scrypt-ask", "share/man/man3/pikhsen.3": "man/pikhsen.3",
-    **{f"share/man/man1/{it}.1": f"man/{it}.1" for it in ("argon2", "scrypt", "scrypt-ask")},
-    **{f"share/bash-completion/completions/{it}": f"completions/bash/{it}" for it in ("argon2", "scrypt", "scrypt-ask")},
-    **{f"share/zsh/site-functions/_{it}": f"completions/zsh/_{it}" for it in ("argon2", "scrypt")},
+    "share/man/man7/pikhsen-compat.7": "man/pikhsen-compat.7",
+    **{f"share/man/man1/{it}.1": f"man/{it}.1" for it in (*TOOLS, "scrypt-ask")},
+    **{f"share/bash-completion/completions/{it}": f"completions/bash/{it}" for it in (*TOOLS, "scrypt-ask")},
+    **{f"share/zsh/site-functions/_{it}": f"completions/zsh/_{it}" for it in TOOLS},
     **{f"share/doc/pikhsen/{it}": it for it in ("README.md", "CHANGELOG.md")},
     **{f"share/pikhsen/pikhsen/{it}": f"python/pikhsen/{it}" for it in ("__init__.py", "_files.py")},
     "share/pikhsen/pikhsen/py.typed": "/dev/null",
@@ -67,7 +71,7 @@ class Room(Tree):
         (self.folder / "tmp").mkdir()
         self.environment.update(ARCHIVE=f"{folder}/functions.a", TMPDIR=f"{folder}/tmp")
         self.journal.write_text("")
-        for name in ("completions", "docs", "include", "man", "python"):
+        for name in ("compat", "completions", "docs", "include", "man", "python"):
             shutil.copytree(TOP / name, self.top / name, ignore=shutil.ignore_patterns("__pycache__"))
         for name in ("README.md", "CHANGELOG.md"):
             shutil.copy(TOP / name, self.top)
@@ -97,39 +101,47 @@ class Room(Tree):
     def fails(self, checks, name, program, older, there, *words):
         """A script leaves none of these where a program fails that it runs."""
         self.older(older)
-        self.stand_in(program, "#!/bin/sh\nexit 1\n")
+        self.stand_in(program, FAILS)
         self.leaves(checks, f"{name}, {program} fails", there, *words)
         self.stand_in(program, None)
 
     def modes(self, names):
-        return [oct((self.top / it).stat().st_mode & 0o7777) for it in names if (self.top / it).exists()]
+        return [mode(self.top / it) for it in names if (self.top / it).exists()]
+
+    def left(self):
+        """What scripts left where they work."""
+        return [it.name for it in (self.folder / "tmp").iterdir()]
 
     def texts(self, *names):
         return [it.read_text(encoding="utf-8", errors="replace") if it.exists() else None for it in map(self.top.joinpath, names)]
 
 
+def mode(path):
+    return oct(path.stat().st_mode & 0o7777)
+
+
 def programs_are_built(checks, room, level):
     """The programs are those that rt built for the level, and all can run them; a change during the proof is newer."""
-    before, here = time.time(), room.there(["bin/level"]) and room.texts(*PROGRAMS[:2])
+    before, here = time.time(), room.there(["bin/level"]) and room.texts(*CHOSEN)
     room.write("host", f"for {level}\n")
     status, _ = room.run("packaging/build.sh", level, umask=0o077)
-    built = [f"bin/{level}/argon2", f"bin/{level}/scrypt"]
-    checks.that(f"build.sh {level}", (status, room.modes(built)), (0, ["0o755", "0o755"]))
-    outs = room.texts("crates/argon_tool/out/argon_tool", "crates/scrypt_tool/out/scrypt_tool")
+    built = [f"bin/{level}/{it}" for it in TOOLS]
+    checks.that(f"build.sh {level}", (status, room.modes(built)), (0, ["0o755"] * len(built)))
+    outs = room.texts(*(f"crates/{it}/out/{it}" for it in TOOLS.values()))
     outs = [it.replace("the heap of the kit", "the heap") for it in outs if it]
     checks.that(f"build.sh {level}: the programs", room.texts(*built), outs)
-    checks.that(f"build.sh {level}: those in bin/ stay", here, room.there(["bin/level"]) and room.texts(*PROGRAMS[:2]))
+    checks.that(f"build.sh {level}: those in bin/ stay", here, room.there(["bin/level"]) and room.texts(*CHOSEN))
     begun = {(room.top / it).stat().st_mtime for it in [*built, f"bin/{level}/began"]}
     checks.that(f"build.sh {level}: as old as the beginning of the proof", len(begun), 1)
     checks.that(f"build.sh {level}: no older than its beginning", before - 2 <= begun.pop() <= time.time(), True)
     words = {crate: words for _, crate, words in room.noted("begin")}
-    levels = [words[it][words[it].index("--cpu") + 1] for it in ("argon_tool", "scrypt_tool")]
-    checks.that(f"build.sh {level}: the level", levels, [level, level])
+    levels = {words[it][words[it].index("--cpu") + 1] for it in TOOLS.values()}
+    checks.that(f"build.sh {level}: the level", levels, {level})
     status, _ = room.run("packaging/chosen.sh", level, umask=0o077)
-    checks.that(f"chosen.sh {level}", (status, room.modes(PROGRAMS[:2])), (0, ["0o755", "0o755"]))
+    checks.that(f"chosen.sh {level}", (status, room.modes(CHOSEN)), (0, ["0o755"] * len(built)))
     checks.that(f"chosen.sh {level}: the level", room.texts("bin/level"), [f"{level}\n"])
-    checks.that(f"chosen.sh {level}: the programs", room.texts(*PROGRAMS[:2]), outs)
-    checks.that(f"chosen.sh {level}: copies", [it for it in PROGRAMS[:2] if (room.top / it).is_symlink()], [])
+    checks.that(f"chosen.sh {level}: the programs", room.texts(*CHOSEN), outs)
+    checks.that(f"chosen.sh {level}: copies", [it for it in CHOSEN if (room.top / it).is_symlink()], [])
 
 
 def both_levels_are_built(checks, room):
@@ -140,7 +152,7 @@ def both_levels_are_built(checks, room):
     found = room.run("packaging/build.sh", "x86-64-v4")[0], room.there(there)
     checks.that("a level that there is not", found, (2, there))
     # chosen.sh changes nothing where a program of the level is missing
-    there = [*PROGRAMS[:2], "bin/level"]
+    there = [*CHOSEN, "bin/level"]
     for missing in OTHERS:
         room.older([*there, *OTHERS])
         (room.top / missing).unlink()
@@ -151,8 +163,8 @@ def both_levels_are_built(checks, room):
 def proofs_fail(checks, room):
     """A proof that fails, whichever it is, leaves no program of any level, and no package."""
     there = [*PROGRAMS, *OTHERS, "bin/level", PACKAGE]
-    for crate in ("scrypt_tool", "argon_tool"):
-        room.older([*there, "crates/argon_tool/out/argon_tool", "crates/scrypt_tool/out/scrypt_tool"])
+    for crate in reversed(TOOLS.values()):
+        room.older([*there, *(f"crates/{it}/out/{it}" for it in TOOLS.values())])
         room.write(crate, "broken\n")
         said = room.leaves(checks, f"{crate} fails", there, "packaging/build.sh", LEVEL)
         checks.that(f"{crate} fails, and is named", f"{crate} FAILED" in said, True)
@@ -165,21 +177,21 @@ def proofs_fail(checks, room):
     room.stand_in("rt", STAND_IN)
     # programs are there once more, and a whole run goes before this
     room.run("packaging/build.sh", LEVEL)
-    checks.that("mended", room.there(there), [*PROGRAMS[2:]])
+    checks.that("mended", room.there(there), BUILT)
 
 
 def links_fail(checks, room):
     """Where the heap is not compiled, a program is not linked, or is another than rt's with the kit's heap, there is none."""
     there = [*PROGRAMS, *OTHERS, "bin/level", PACKAGE]
-    fails = "#!/bin/sh\nexit 1\n"
-    for name, text in (("toolchain/bin/clang", fails), ("bin/rattle-link", fails), ("bin/rattle-link", KIT["bin/rattle-link"] + 'echo >>"$to"\n')):
-        for script, none in (("build.sh", there), ("link.sh", there[2:4])):
+    otherwise = KIT["bin/rattle-link"] + 'echo >>"$to"\n'
+    for name, text in (("toolchain/bin/clang", FAILS), ("bin/rattle-link", FAILS), ("bin/rattle-link", otherwise)):
+        how = "fails" if text == FAILS else "links otherwise"
+        for script, none in (("build.sh", there), ("link.sh", BUILT)):
             room.older(there)
             (room.kit / name).write_text(text, encoding="utf-8")
-            room.leaves(checks, f"{script}, {name} {'fails' if text == fails else 'links otherwise'}", none, f"packaging/{script}", LEVEL)
+            room.leaves(checks, f"{script}, {name} {how}", none, f"packaging/{script}", LEVEL)
             (room.kit / name).write_text(KIT[name], encoding="utf-8")
-    left = [it.name for it in pathlib.Path(room.environment["TMPDIR"]).iterdir()]
-    checks.that("link.sh: folders that it leaves", left, [])
+    checks.that("link.sh: folders that it leaves", room.left(), [])
 
 
 def is_stopped(checks, room):
@@ -187,7 +199,7 @@ def is_stopped(checks, room):
     bin/, too, where they are of the level that is proved."""
     for script, words, makes, there, crate in (
         ("build.sh", [LEVEL], [*PROGRAMS, "bin/level"], [*PROGRAMS, PACKAGE], "host"),
-        ("lib.sh", ["bin/lib", LEVEL], LIBRARIES, [*LIBRARIES, PACKAGE], "blake"),
+        ("lib.sh", ["bin/lib", LEVEL], LIBRARIES, [*LIBRARIES, *COMPAT, PACKAGE], "blake"),
     ):
         for number in (signal.SIGTERM, signal.SIGINT):
             room.older(there)
@@ -225,13 +237,12 @@ def library_is_made(checks, room):
     checks.that("lib.sh, of the static library as it is", (room.top / "bin/another folder/glibc-hwcaps").exists(), False)
     shared, static = str(room.top / LIBRARIES[1]), str(room.top / LIBRARIES[0])
     binaries.library(checks, shared, static, sorted(prototypes(HEADER)))
-    left = [it.name for it in pathlib.Path(room.environment["TMPDIR"]).iterdir()]
-    checks.that("lib.sh: folders that it leaves", left, [])
+    checks.that("lib.sh: folders that it leaves", room.left(), [])
 
 
 def libraries_fail(checks, room):
     """A proof, a linker or a compiler that fails leaves no library, neither in place of the new one nor beside it."""
-    there, archive = [*LIBRARIES, PACKAGE, WHEEL], "crates/pikhsen_c/out/libpikhsen_c.a"
+    there, archive = [*LIBRARIES, *COMPAT, PACKAGE, WHEEL], "crates/pikhsen_c/out/libpikhsen_c.a"
     room.older([*there, archive, *PROGRAMS])
     room.write("pikhsen_c", "broken\n")
     said = room.leaves(checks, "lib.sh, a proof that fails", [*there, archive], "make", "lib")
@@ -250,11 +261,10 @@ def libraries_fail(checks, room):
 
 def packages_fail(checks, room):
     """Where one of the packages cannot be made, none is left, of older ones neither."""
-    version = (room.top / "VERSION").read_text(encoding="utf-8").strip()
-    names = ("pikhsen_{}_amd64", "libpikhsen0_{}_amd64", "libpikhsen-dev_{}_amd64", "python3-pikhsen_{}_all", "pikhsen_{}+v3_amd64")
-    there = [f"bin/{name.format(version)}.deb" for name in names]
+    names = "pikhsen_{}_amd64 libpikhsen0_{}_amd64 libpikhsen-dev_{}_amd64 python3-pikhsen_{}_all pikhsen_{}+v3_amd64"
+    there = [f"bin/{name.format(VERSION)}.deb" for name in names.split()]
     for program in ("dpkg-deb", "objdump", "gzip"):
-        room.fails(checks, "deb.sh", program, [*there, *PROGRAMS[2:], *LIBRARIES], there, "packaging/deb.sh")
+        room.fails(checks, "deb.sh", program, [*there, *BUILT, *LIBRARIES], there, "packaging/deb.sh")
 
 
 # ---- what is installed, and taken away
@@ -273,7 +283,7 @@ def is_installed(checks, room):
         (to / folder).mkdir(parents=True)
     another.write_text("another's")
     (to / "bin/scrypt").symlink_to(another)
-    room.older([*PROGRAMS[:2], "bin/level", *LIBRARIES])
+    room.older([*CHOSEN, "bin/level", *LIBRARIES, *COMPAT])
     checks.that("make install", room.run("make", "install", f"PREFIX={to}", umask=0o077)[0], 0)
     checks.that("a link in the place of a program", another.read_text(), "another's")
     docs = [f"docs/{it.name}" for it in (room.top / "docs").glob("*.*")]  # docs/audit is for the gate
@@ -282,14 +292,16 @@ def is_installed(checks, room):
     for it in wanted:
         if "/man/" in it:  # manual pages name documents by where they are installed
             wanted[it] = wanted[it].replace(b"/usr/local/share/doc/", f"{to}/share/doc/".encode())
-    flags = FLAGS.format(to, "lib", room.texts("VERSION")[0].strip()).encode()
-    wanted.update({"lib/libpikhsen.so": "libpikhsen.so.0", "lib/pkgconfig/pikhsen.pc": flags})
+    flags = FLAGS.format(to, "lib", VERSION).encode()
+    configuration = room.texts("compat/openssl/openssl.cnf")[0].replace("@FOLDER@", f"{to}/lib/pikhsen/compat").encode()
+    wanted.update({"lib/libpikhsen.so": "libpikhsen.so.0", "lib/pkgconfig/pikhsen.pc": flags,
+                   "lib/pikhsen/compat/openssl.cnf": configuration})
     found = {name: text for name, text in below(to).items() if text is not None}
     checks.that("files, installed", sorted(found), sorted([*wanted, LIST]))
     checks.that("files, installed, and what they hold", [it for it in wanted if found.get(it) != wanted[it]], [])
-    modes = {it: oct((to / it).stat().st_mode & 0o7777) for it in found}
-    checks.that("permissions, installed", {it: mode for it, mode in modes.items() if mode != ("0o755" if "bin/" in it else "0o644")}, {})
-    checks.that("folders, installed", {oct(it.stat().st_mode & 0o7777) for it in to.rglob("*") if it.is_dir()}, {"0o755"})
+    others = {it: mode(to / it) for it in found if mode(to / it) != ("0o755" if "bin/" in it else "0o644")}
+    checks.that("permissions, installed", others, {})
+    checks.that("folders, installed", {mode(it) for it in to.rglob("*") if it.is_dir()}, {"0o755"})
     listed = [it.split("  ")[1] for it in found[LIST].decode().splitlines() if not it.startswith("# folder  ")]
     checks.that("what is listed", sorted(listed), sorted(wanted))
     checks.that("sums that are listed", ran("sha256sum", "--strict", "--quiet", "-c", LIST, cwd=to), (0, ""))
@@ -306,7 +318,7 @@ def is_taken_away(checks, room):
     (to / "include").mkdir(parents=True)
     checks.that("make install, into DESTDIR", room.run("make", "install", *words, PIKHSEN_LIB=lib)[0], 0)
     flags = (to / lib / "pkgconfig/pikhsen.pc").read_text(encoding="utf-8")
-    checks.that("a prefix with signs of sed's", flags, FLAGS.format(prefix, lib, room.texts("VERSION")[0].strip()))
+    checks.that("a prefix with signs of sed's", flags, FLAGS.format(prefix, lib, VERSION))
     why = dict.fromkeys(["bin/scrypt", f"{lib}/libpikhsen.so", "share/doc/pikhsen/README.md"], "was changed since")
     why["share/man/man1/scrypt.1"] = "is not there"
     for name in why:
@@ -384,10 +396,10 @@ def a_list_leads_out(checks, room):
 def prefixes_are_refused(checks, room):
     """A prefix that is empty, does not begin with a slash or has a newline is refused before anything is touched or built."""
     to, tools = room.folder / "nowhere", ("mktemp", "mkdir", "install", "cp", "rm", "rmdir")
-    for name in PROGRAMS[:2]:
+    for name in CHOSEN:
         (room.top / name).unlink(missing_ok=True)
     for name in tools:
-        room.stand_in(name, "#!/bin/sh\nexit 1\n")
+        room.stand_in(name, FAILS)
     for what in ("install", "uninstall"):
         for prefix, why in (("", "begin with /"), ("a/b", "begin with /"), ("/a\nb", "newline")):
             found = room.run("packaging/install.sh", what, prefix, "bin"), room.run("packaging/install.sh", what, to, "bin", PREFIX=prefix)

@@ -17,19 +17,19 @@ import sys
 import time
 
 sys.path += map(str, pathlib.Path(__file__).resolve().parents[1].iterdir())  # the other folders of tests/
-from checking import over_programs
-
-TOP = pathlib.Path(__file__).resolve().parents[2]
-sys.path.insert(0, str(TOP / "packaging"))
 sys.dont_write_bytecode = True
-import prove  # noqa: E402
+from checking import over_programs  # noqa: E402
+from tree import PROGRAMS as TOOLS, TOP, prove  # noqa: E402
 
 LINE = re.compile(r" ?(\d+) of (\d+) ([\w-]+), (\d+ s|as it was proved before)(?:; under way: (.*))?")
 LEVEL = "x86-64-v2"
-PROGRAMS = ("bin/argon2", "bin/scrypt", f"bin/{LEVEL}/argon2", f"bin/{LEVEL}/scrypt")
+# Where the programs are once they are chosen, and where they are built.
+CHOSEN, BUILT = [f"bin/{it}" for it in TOOLS], [f"bin/{LEVEL}/{it}" for it in TOOLS]
+PROGRAMS = [*CHOSEN, *BUILT]
 IN_MEMORY = ["memory_host", "memory_system"]
 OF_PROGRAMS = [it for it in prove.listed() if it not in ("pikhsen_c", "command", *IN_MEMORY) and not it.endswith("_tests")]
-SCRYPT = ["scrypt_run", "scrypt_command", "argon_tool", "scrypt_tool"]
+# What is begun where the run of scrypt changed: programs are begun each time.
+SCRYPT = ["scrypt_run", "scrypt_command", *TOOLS.values()]
 APART = "command_tests", "test"
 # Says that a crate is proved whose text has not the word "broken", after a minute where it has the word "slow". Like rt
 # it lets no other run work in the crate and in what it stands on, keeps a library, and then says nothing.
@@ -71,7 +71,7 @@ if words[0] == "lib":
 if words[0] == "lib" and not is_library and os.environ.get("ARCHIVE"):
     os.replace(shutil.copy(os.environ["ARCHIVE"], f"out/lib{name}.a.new"), f"out/lib{name}.a")
 if words[0] == "run":
-    write(f"out/{name}.o", f"#!/bin/sh\necho {name} {len(text)}\nexit\n")
+    write(f"out/{name}.o", f"#!/bin/sh\necho {name} {len(text)} in ${{PWD##*/}}\nexit\n")
     parts = [f"out/{name}.o", *(f"{os.path.dirname(__file__)}/../c/{it}" for it in ("libos_c.a", "liblibc_c.a"))]
     write(f"out/{name}", "".join(map(text_of, parts)))
     os.chmod(f"out/{name}", 0o755)
@@ -99,8 +99,10 @@ class Tree:
         for name in re.findall(r"^\w+", crates, re.MULTILINE):
             (self.top / "crates" / name / "src").mkdir(parents=True)
             self.write(name, "as it was\n")
-        (self.top / "crates/argon_tool/args").write_text("somesalt\n-e\n")
-        (self.top / "crates/argon_tool/stdin").write_text("password")
+        for crate, words in (("argon_tool", "somesalt\n-e\n"), ("argon2_verify_tool", "hash\n")):
+            (self.top / "crates" / crate / "args").write_text(words)
+            (self.top / "crates" / crate / "stdin").write_text("password")
+        (self.top / "crates/argon2_verify_tool/data").mkdir()
         for name in ("build", "pages", "sources"):
             (self.top / "tests" / name).mkdir(parents=True)
         shutil.copy(TOP / "tests/build/changed.py", self.top / "tests/build")
@@ -200,9 +202,10 @@ def shares(checks):
 
 def succeeds(checks, tree):
     status, said = tree.make("run", f"CPU={LEVEL}", "JOBS=2")
-    checks.that("make run", (status, tree.there(PROGRAMS)), (0, list(PROGRAMS)))
+    checks.that("make run", (status, tree.there(PROGRAMS)), (0, PROGRAMS))
     checks.that("make run: its end", said[-1].split()[0], "argon_tool")
-    checks.that("make run: a sample", sum("argon_tool somesalt -e prints: argon_tool" in it for it in said), 1)
+    for sample, there in (("argon_tool somesalt -e prints: argon_tool", "argon_tool"), ("argon2_verify_tool hash prints: argon2_verify_tool", "data")):
+        checks.that(f"make run: a sample in {there}", sum(it.startswith(sample) and it.endswith(f" in {there}") for it in said), 1)
     look_at_order(checks, "make run", tree, OF_PROGRAMS, 2)
     look_at_lines(checks, "make run", said, len(OF_PROGRAMS))
     words = {crate: words for _, crate, words in tree.noted("begin")}
@@ -226,7 +229,7 @@ def fails(checks, tree):
     tree.write("tools", "other\n")
     status, said = tree.make("run", f"CPU={LEVEL}")
     checks.that("a failure", (status != 0, tree.there([*older, "bin/level"])), (True, []))
-    checks.that("a failure: begun", tree.begun(), ["argon_tool", "scrypt_run", "system_calls", "tools"])
+    checks.that("a failure: begun", tree.begun(), ["argon2_verify_tool", "argon_tool", "scrypt_run", "system_calls", "tools"])
     checks.that("a failure: why", "| scrypt_run::there: no proof" in said and "| line 99" in said, True)
     checks.that("a failure: no more than its end", "| line 10" in said, False)
     checks.that("a failure: the log", "scrypt_run FAILED. The end of bin/logs/scrypt_run:" in said, True)
@@ -236,7 +239,7 @@ def fails(checks, tree):
     checks.that("a failure: nothing is installed", (status != 0, tree.there(["to"])), (True, []))
     tree.write("scrypt_run", "mended\n")
     status, said = tree.make("run", f"CPU={LEVEL}")
-    checks.that("mended", (status, tree.begun(), tree.there(PROGRAMS)), (0, sorted(SCRYPT), list(PROGRAMS)))
+    checks.that("mended", (status, tree.begun(), tree.there(PROGRAMS)), (0, sorted(SCRYPT), PROGRAMS))
 
 
 def is_stopped(checks, tree):
@@ -264,10 +267,11 @@ def checks_what_changed(checks, tree):
     tree.write("pikhsen_c", "as it was\n")
     tree.older(["crates/command_tests/src/tests/of_scrypt_command.rt"])
     subprocess.run([*git, "init", "-q"], cwd=tree.top, env=tree.environment, check=True)
-    touched = {"argon_text": "lib", "argon2_command": "lib", "command": "lib", "argon_tool": "check", "pikhsen_c": "check"}
+    touched = {**dict.fromkeys(["argon_text", "argon2_command", "argon2_verify", "command"], "lib"),
+               **dict.fromkeys(["argon_tool", "argon2_verify_tool", "pikhsen_c"], "check")}
     for name, texts, begun, line in (
         ("make check", {"argon_text": "changed", "argon_tool": "changed"}, [
-            *touched.items(), (IN_MEMORY[0], "lib"), ("argon_text_tests", "test")], "5 crates to prove"),
+            *touched.items(), (IN_MEMORY[0], "lib"), ("argon_text_tests", "test")], "7 crates to prove"),
         ("make check, tests apart", {"scrypt_command": "changed"}, [
             ("command", "lib"), ("scrypt_command", "lib"), APART, ("scrypt_tool", "check")], "3 crates to prove"),
         ("make check, tests alone", {"command_tests": "changed"}, [APART], "1 to test: command_tests."),
@@ -281,7 +285,7 @@ def checks_what_changed(checks, tree):
         checks.that(name, (status != 0, any(it.startswith(line) for it in said)), (name == "make check fails", True))
         checks.that(f"{name}: begun", sorted((it[1], it[2][0]) for it in tree.noted("begin")), sorted(begun))
         if name == "make check":
-            checks.that(f"{name}: the lines", len([it for it in said if LINE.fullmatch(it)]), 25)
+            checks.that(f"{name}: the lines", len([it for it in said if LINE.fullmatch(it)]), 27)
 
 
 def main(checks, folder):

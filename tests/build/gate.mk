@@ -23,7 +23,7 @@ gate: refusals c_face lines calls calls_test as_compiled
 sources:   ; $(call step,tests/sources/sources.sh)
 documents: ; $(call step,tests/pages/documents.py)
 values:    ; $(call step,tests/pages/values.py)
-told:      ; $(call step,tests/pages/definitions_told.py --check)
+told:      ; $(call step,tests/pages/definitions_told.py)
 choice:    ; $(call step,tests/edits/choice_test.py)
 first_run: ; $(call step,tests/build/first_run.py)
 scripts:   ; $(call step,tests/build/build_scripts.py)
@@ -44,3 +44,9 @@ outside-%: linked ; $(call step,tests/programs/outside.sh bin/$*)
 c_face lines: archive $(outside)
 c_face:           ; $(call step,tests/library/c_face.py)
 lines:            ; $(call step,tests/edits/wrong_lines.py)
+
+# Of make audit.
+.PHONY: audit audit-lines audit-refusals
+audit: audit-lines audit-refusals
+audit-lines:    ; tests/edits/wrong_lines.py --audit
+audit-refusals: ; tests/edits/refusals.py --audit

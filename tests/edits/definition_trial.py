@@ -14,9 +14,9 @@ import pathlib
 import re
 import shutil
 
-import reading
 from definitions import VECTORS
 from functions import text_of
+from specs import folder_of_tests, imports
 from toolchain import ALONE, rt
 
 MOST = 8  # edits that share a check
@@ -49,7 +49,7 @@ def turned(edit, name):
 
 def with_names(text):
     """A file of vectors that imports what turned equations cite."""
-    there = reading.imports(text)
+    there = imports(text)
     for module, names in NAMES.items():
         if wanted := [it for it in names if it not in there]:
             line = f"ghost use Rattle.std.specs.{module}.{{{', '.join(wanted)}}};\n"
@@ -69,10 +69,10 @@ def goes_with(edit, other):
     return not (edit.changes & other.reach or other.changes & edit.reach)
 
 
-def tried(crate, edits, texts, folder, kept):
+def tried(crate, edits, texts, folder, kept, _):
     """What refuses each edit of a group, or None, and what else there is to say."""
     texts, names = dict(texts), [f"wrong_{edit.stem.replace('-', '_')}" for edit in edits]
-    tests = reading.folder_of_tests(crate.folder)
+    tests = folder_of_tests(crate.folder)
     texts[VECTORS] = with_names(text_of(tests, VECTORS, {}))
     if tests != pathlib.Path(crate.folder):
         texts[VECTORS] = re.sub(rf"(?m)^use {crate.name}::", "use crate::", texts[VECTORS])
@@ -91,7 +91,7 @@ def tried(crate, edits, texts, folder, kept):
     proved = [f"fn {crate.name}::vectors::{name}: proved" in lines for name in names]
     found = [edit.goal if it else None for edit, it in zip(edits, proved)]
     if len(edits) > 1:
-        return [(row, "") if row else tried(whole, [edit], edit.texts, folder, kept)[0] for row, edit in zip(found, edits)]
+        return [(row, "") if row else tried(whole, [edit], edit.texts, folder, kept, _)[0] for row, edit in zip(found, edits)]
     said = "\n".join(it for it in lines if it and not NO_MATTER.match(it))
     why = "" if proved[0] else f"it is not proved that the sides of {edits[0].goal} differ:\n{said[:2000]}"
     return [(found[0], why)]

@@ -8,9 +8,9 @@ import copy
 import pathlib
 import re
 
-import reading
 from edits import DEFINITIONS, Edit, edits_of
 from functions import text_of
+from specs import File, all_files, folder_of_tests, imports, reached
 from tree import TOP
 
 VECTORS = "src/vectors.rt"
@@ -33,7 +33,7 @@ class Definitions:
     """The definitions of all crates."""
 
     def __init__(self, top=TOP):
-        self.top, self.files = pathlib.Path(top), reading.all_files(pathlib.Path(top) / "crates")
+        self.top, self.files = pathlib.Path(top), all_files(pathlib.Path(top) / "crates")
 
     def with_edit(self, edit):
         """The same with an edit, and the items that it changes."""
@@ -41,14 +41,14 @@ class Definitions:
         made.files = dict(self.files)
         for path, text in edit.texts.items():
             module = ".".join([edit.folder.name, *pathlib.PurePath(path).with_suffix("").parts])
-            before, file = self.files[module], reading.File(text)
+            before, file = self.files[module], File(text)
             made.files[module] = file
             items = {*before.items, *file.items}
             changed |= {(module, it) for it in items if before.items.get(it) != file.items.get(it)}
         return made, changed
 
     def reached(self, text, names):
-        return reading.reached([(text, names)], self.files)
+        return reached([(text, names)], self.files)
 
 
 class WrongDefinition(Edit):
@@ -58,9 +58,9 @@ class WrongDefinition(Edit):
         super().__init__(path, stem, lines)
         self.vector, _, self.clause = self.vector.partition(" ")
         self.goal = f"`{self.vector}`: `{self.clause}`"
-        tests = reading.folder_of_tests(self.folder)
+        tests = folder_of_tests(self.folder)
         text = text_of(tests, VECTORS, {})
-        self.equation, names = clauses(text).get((self.vector, self.clause)), reading.imports(text)
+        self.equation, names = clauses(text).get((self.vector, self.clause)), imports(text)
         answer = text_of(tests, f"proofs/vectors/{self.vector}/Answers.antt", {})
         self.answer = answer if re.search(rf"\b{self.clause} = refl\b", answer) else ""
         self.changes, self.wrong = set(), "it changes what is not a definition"

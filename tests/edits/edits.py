@@ -14,7 +14,7 @@ They stand many to a file, NAME.edits, one file for each source, definition or t
     refused: `returns-else-fault`      its goal, which `--told` writes: what refuses it
 
 `old:` must stand in the file once. A line `and: TEXT` is the next line of the text above it. An edit that names a file
-itself is of that file. `in: FUNCTION` names whose proof must refuse an edit that changes no body, as that of a constant.
+itself is of that file; a line `file:` between blank lines is of the edits below it. `in: FUNCTION` names whose proof must refuse an edit that changes no body, as that of a constant.
 A `test:` at the head is the test that must find each.
 """
 import functools
@@ -100,6 +100,9 @@ def sections(text):
     head, *others = [it.split("\n") for it in text.strip("\n").split("\n\n")]
     of_file, of_test = ([it for it in head if it.startswith(f"{word}:")] for word in ("file", "test"))
     for name, *own in others:
+        if name.startswith("file:") and not own:
+            of_file = [name]
+            continue
         if ":" in name or not own:
             raise ValueError(f"the name of an edit and its lines are expected at {name!r}")
         at = next(at for at, line in enumerate(own) if line.partition(":")[0] not in FIRST)

@@ -42,9 +42,10 @@ TESTS = {
     # Debian's pip comes with what makes wheels
     "tests/library/python_wheel.py": (["LIB"], 25, ["gcc", "/usr/bin/pip3"]),
     "tests/library/packages.py": (["LIB"], 9, ["gcc", "dpkg-deb", SCRYPT]), "tests/library/c_face.py": (["--header", "LIB"], 6, ["gcc", "g++"]),
+    "tests/library/compat.py": (["LIB"], 30, ["gcc", "/usr/include/argon2.h", "/usr/include/openssl/core_dispatch.h"]),
     "tests/sources/sources.sh": ([], 2, []), "tests/programs/story.py": (["--recipes", PROGRAMS], 25, ["bash", "dash", SCRYPT]),
     "tests/sources/calls.py": ([str(TOP)], 25, ["rt"]), "tests/sources/as_compiled.py": ([str(TOP)], 2, []),
-    "tests/pages/definitions_told.py": (["--check"], 8, []), "tests/library/heap.py": ([], 7, ["gcc", "rt"]),
+    "tests/pages/definitions_told.py": ([], 8, []), "tests/library/heap.py": ([], 7, ["gcc", "rt"]),
     "tests/programs/scrypt_ask.py": ([PROGRAMS, "dash"], 8, ["dash", SCRYPT]),
 }
 # What a test says of what it finds: a comparison that fails, a name that is not there, or how it ended.
@@ -124,12 +125,12 @@ def main():
         sys.exit(f"no edit of this name, or its test is none of these: {', '.join(wrong)}")
     wanted = new = [it for it in edits if it.name in asked.names or not asked.names]
     if not asked.names and not asked.audit:
-        choice = Choice(None)  # the toolchain has no part in these trials
+        choice = Choice("tests")  # of any toolchain
         every = {it.name: (it, [*it.files, str(pathlib.PurePath(it.test).parent), "tests/shared"]) for it in edits}
         names, said = choice.choose(every)
         wanted = [it for it in edits if it.name in names]
         new = [it for it in wanted if choice.is_new(*every[it.name])]
-    lacking = {it.test: [need for need in TESTS[it.test][2] if not shutil.which(need)] for it in wanted}
+    lacking = {it.test: [need for need in TESTS[it.test][2] if not (shutil.which(need) or pathlib.Path(need).exists())] for it in wanted}
     for test in sorted(filter(lacking.get, lacking)):
         left_out(f"{', '.join(map(str, lacking[test]))} is not installed", f"wrong lines of {test}", [it.test for it in wanted].count(test))
     now = [it for it in wanted if not lacking[it.test]]

@@ -1,7 +1,7 @@
 #!/usr/bin/env python3
 """Makes libpikhsen of what was proved, and calls it from C and from Python: header and exports are the same, both ways to
 link, keys that a call leaves in memory and vector registers, what docs/LIBRARY.md and the manual page show, all of
-python_module.py and, of what is installed and packaged, of packages.py and python_wheel.py.
+python_module.py and compat.py and, of what is installed and packaged, of packages.py, python_wheel.py and compat_swap.py.
 
     tests/library/c_face.py              takes crates/pikhsen_c/out/libpikhsen_c.a as tests/library/archive.py or make lib left it,
                                  and the library for x86-64-v3 as make lib left it in bin/lib, if it is of these sources
@@ -20,13 +20,15 @@ import time
 sys.path += map(str, pathlib.Path(__file__).resolve().parents[1].iterdir())  # the other folders of tests/
 import binaries
 import comparisons
+import compat
+import compat_swap
 import packages
 import python_module
 import python_wheel
-from checking import Checks, is_there, said
-from library_texts import HEADER, TOP, numbers_of_header, prototypes, ran
-from shown import INCLUDE, compile_c, library_runs, logins_run, pieces_run
-from tree import below
+from checking import Checks, is_there, ran, said
+from library_texts import HEADER, numbers_of_header, prototypes
+from shown import INCLUDE, compile_c, library_runs, logins_run, other_languages_run, pieces_run
+from tree import TOP, below
 
 CRATE = "pikhsen_c"
 STRICT = ["-std=c89", "-pedantic", "-Wall", "-Wextra", "-Werror", "-D_POSIX_C_SOURCE=200112L"]
@@ -273,8 +275,12 @@ def main():
             secrets_from_c(checks, folder, lib)
             comparisons.tags_of_texts(checks, lib, folder)
             library_runs(checks, folder, lib)
+            other_languages_run(checks, folder, lib)
             packages.all_of(checks, folder, lib)
+            for package in pathlib.Path(folder, "packages").glob("pikhsen-libargon2_*.deb"):
+                compat_swap.swapped(checks, folder, package)
             python_wheel.all_of(checks, folder, lib)
+            compat.all_of(checks, folder, lib)
     checks.end()
 
 

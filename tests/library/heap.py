@@ -5,8 +5,8 @@ import pathlib
 import sys
 
 sys.path += map(str, pathlib.Path(__file__).resolve().parents[1].iterdir())  # the other folders of tests/
-from checking import is_there, over_programs
-from library_texts import TOP, ran
+from checking import is_there, over_programs, ran
+from tree import TOP
 
 WARNED = ["-std=c99", "-pedantic", "-Wall", "-Wextra", "-Werror"]
 WRAPPED = "-Wl,--wrap=malloc,--wrap=realloc,--wrap=aligned_alloc,--wrap=free,--wrap=madvise"

@@ -1,23 +1,14 @@
-#!/usr/bin/env python3
-"""Reads what is written of libpikhsen, and compares it: header, sources and manual page have the same functions,
-parameters and versions. Their numbers and sentences, and those of the module for Python, are compared by
-tests/pages/values.py, which calls this.
-
-    tests/library/library_texts.py
+"""Reads what is written of libpikhsen, and compares it, for tests/pages/values.py: header, sources and manual page have
+the same functions, parameters and versions. It compares their numbers and sentences, and those of the module for Python.
 """
 import os
-import pathlib
 import re
-import subprocess
-import sys
 
-sys.path += map(str, pathlib.Path(__file__).resolve().parents[1].iterdir())  # the other folders of tests/
-from checking import Checks, is_there, said
+from checking import is_there, ran, said
+from tree import TOP, VERSION, read
 
-TOP = pathlib.Path(__file__).resolve().parents[2]
-VERSION = (TOP / "VERSION").read_text(encoding="utf-8").strip()
-HEADER, MODULE, PAGE = ((TOP / it).read_text(encoding="utf-8") for it in ("include/pikhsen.h", "python/pikhsen/__init__.py", "man/pikhsen.3"))
-FILES = (TOP / "python/pikhsen/_files.py").read_text(encoding="utf-8")
+HEADER, PAGE = read("include/pikhsen.h"), read("man/pikhsen.3")
+MODULE, FILES = read("python/pikhsen/__init__.py"), read("python/pikhsen/_files.py")
 SOURCES = {it.stem: it.read_text(encoding="utf-8") for it in sorted((TOP / "crates/pikhsen_c/src").glob("*.rt"))}
 # How the parameter NAME of a type of the sources is written in C.
 IN_C = {
@@ -40,12 +31,6 @@ RENAMED = {
     "CostFault::Memory": "MEMORY_LIMIT", "CostFault::Work": "WORK_LIMIT", "HeaderFault::Version": "FORMAT_VERSION",
     "HeaderFault::CostsOutOfRange": "FILE_COSTS", "ReadFault::NotInGrammar": "NOT_ENCODED",
 }
-
-
-def ran(*words, **more):
-    """Status and output of a program."""
-    done = subprocess.run(words, stdout=subprocess.PIPE, stderr=subprocess.STDOUT, text=True, **more)
-    return done.returncode, done.stdout
 
 
 def declared_exports():
@@ -122,44 +107,44 @@ def kinds():
 
 def sentences():
     """What each number says, and what others say: in the definition that the contracts cite."""
-    defined = (TOP / "crates/pikhsen_c/specs/Message.antt").read_text(encoding="utf-8")
+    defined = read("crates/pikhsen_c/specs/Message.antt")
     table = re.findall(r'if status == (\d+) then codes "(.*)"$', defined, re.MULTILINE)
     others = re.findall(r'^    else codes "(.*)"$', defined, re.MULTILINE)
     return {int(number): says.replace('\\"', '"') for number, says in table}, others
 
 
-def compare_texts(checks):
+def compare_texts(that):
     of_header = dict(numbers_of_header().values())
-    checks.that("sentences of the contracts", sentences(), (of_header, ["unknown number"]))
+    that("sentences of the contracts", sentences(), (of_header, ["unknown number"]))
     room = re.search(r"\n#define PIKHSEN_MESSAGE_ROOM (\d+)\n", HEADER)[1]
     short = f"    ensures room {{ {room} ≤ length out.old → result ≡ 0 }}\n"
-    checks.that("room of a sentence, of the header and the contract", short in SOURCES["message"], True)
+    that("room of a sentence, of the header and the contract", short in SOURCES["message"], True)
     found = re.findall(r"^PIKHSEN_MUST_CHECK((?: PIKHSEN_NOT_NULL\(\d+\))*)\nunsigned int (\w+)", HEADER, re.MULTILINE)
     must_check = {name: [int(place) for place in re.findall(r"\d+", attributes)] for attributes, name in found}
-    checks.that("answers that must be looked at", sorted([*must_check, *ALWAYS_DONE]), sorted(exports()))
+    that("answers that must be looked at", sorted([*must_check, *ALWAYS_DONE]), sorted(exports()))
     declared = prototypes(HEADER)
     for name, places in must_check.items():
-        checks.that(f"header: what may not be null of {name}", places, never_null(declared[name][1]))
-    checks.that("names of header and exports", sorted(declared), sorted(exports()))
+        that(f"header: what may not be null of {name}", places, never_null(declared[name][1]))
+    that("names of header and exports", sorted(declared), sorted(exports()))
     for name, form in exports().items():
-        checks.that(f"header: {name}", declared.get(name), form)
+        that(f"header: {name}", declared.get(name), form)
     for name, parameters, result in declared_exports():
         # `wipe_stack` alone makes an `Answer`, of a machine
         expected = (0, "u32") if name in NO_MACHINE else (1, "Answer")
-        checks.that(f"{name}: machines, and what it returns", (parameters.count(": Machine"), result), expected)
-    checks.that("prototypes of the manual page", prototypes(re.sub(r"\n +", " ", PAGE.split("\n.SH ")[2])), declared)
+        that(f"{name}: machines, and what it returns", (parameters.count(": Machine"), result), expected)
+    that("prototypes of the manual page", prototypes(re.sub(r"\n +", " ", PAGE.split("\n.SH ")[2])), declared)
     overheads = (r"\n#define PIKHSEN_FILE_OVERHEAD (\d+)\n", HEADER), (r"PIKHSEN_FILE_OVERHEAD ,\n(\d+), bytes longer", PAGE)
-    checks.that("overhead of a file, of the header and the manual page", [re.findall(*it) for it in overheads], [["128"]] * 2)
+    that("overhead of a file, of the header and the manual page", [re.findall(*it) for it in overheads], [["128"]] * 2)
     asks, title, *_ = PAGE.split("\n")
-    checks.that("the manual page asks for tbl", asks, "'\\\" t")
-    checks.that("version of the manual page", f'"Pikhsen {VERSION}"' in title, True)
+    that("the manual page asks for tbl", asks, "'\\\" t")
+    that("version of the manual page", f'"Pikhsen {VERSION}"' in title, True)
     if is_there("mandoc", "the manual page is not looked at", 1):
-        checks.that("manual page", said("mandoc", "-T", "lint", str(TOP / "man/pikhsen.3"), check=False), "")
+        that("manual page", said("mandoc", "-T", "lint", str(TOP / "man/pikhsen.3"), check=False), "")
     if is_there("mypy", "types of the Python module are not looked at", 1):
-        checks.that("types of the Python module and of its callers", types(MYPYPATH=str(TOP / "python")), (0, ""))
+        that("types of the Python module and of its callers", types(MYPYPATH=str(TOP / "python")), (0, ""))
     number = sum(int(it) * power for it, power in zip(VERSION.split("."), (10000, 100, 1)))
-    checks.that("version of the header", re.findall(r"PIKHSEN_VERSION (\d+)u", HEADER), [str(number)])
-    checks.that("version of the sources", f"\n    {number}\n}}" in SOURCES["version"], True)
+    that("version of the header", re.findall(r"PIKHSEN_VERSION (\d+)u", HEADER), [str(number)])
+    that("version of the sources", f"\n    {number}\n}}" in SOURCES["version"], True)
 
 
 # What passes bytes in some forms, and a text: mypy says so where it need not be told to leave that error out.
@@ -193,9 +178,3 @@ def types(*words, **environment):
     # the oldest Python that docs/LIBRARY.md promises
     strict = ["mypy", "--strict", "--python-version", "3.9", "--no-error-summary", "--cache-dir=/dev/null"]
     return ran(*strict, *words, "-c", CALLER, env={"PATH": os.environ["PATH"], **environment})
-
-
-if __name__ == "__main__":
-    CHECKS = Checks("none")
-    compare_texts(CHECKS)
-    CHECKS.end()

@@ -16,9 +16,10 @@ import sys
 
 sys.path += map(str, pathlib.Path(__file__).resolve().parents[1].iterdir())  # the other folders of tests/
 import binaries
-from checking import is_there, left_out, over_library, said
-from library_texts import HEADER, TOP, VERSION, prototypes, ran, types
+from checking import is_there, left_out, over_library, ran, said
+from library_texts import HEADER, prototypes, types
 from shown import library_runs
+from tree import PROGRAMS as TOOLS, TOP, VERSION
 
 PROGRAMS = TOP / "bin/x86-64-v2"
 # The level for which one more package of the programs is made: the higher one, where they are built for it.
@@ -32,10 +33,10 @@ HIGHER = "glibc-hwcaps/x86-64-v3/libpikhsen.so.0"
 # What stands in each package beside CHANGELOG.md and changelog.gz.
 FILES = {
     "pikhsen": [
-        *(it.format(name) for name in ("argon2", "scrypt") for it in (
+        *(it.format(name) for name in TOOLS for it in (
             "usr/bin/{}", "usr/share/man/man1/{}.1.gz", "usr/share/bash-completion/completions/{}",
             "usr/share/zsh/vendor-completions/_{}")),
-        "usr/bin/scrypt-ask", "usr/share/man/man1/scrypt-ask.1.gz", "usr/share/bash-completion/completions/scrypt-ask",
+        "usr/bin/scrypt-ask", "usr/share/man/man1/scrypt-ask.1.gz", "usr/share/man/man7/pikhsen-compat.7.gz", "usr/share/bash-completion/completions/scrypt-ask",
         "usr/share/doc/pikhsen/README.md", "usr/share/lintian/overrides/pikhsen",
         *(f"usr/share/doc/pikhsen/docs/{it.name}" for it in (TOP / "docs").glob("*.*")),  # docs/audit is for the gate
     ],
@@ -45,9 +46,12 @@ FILES = {
         f"{LIBRARIES}/pkgconfig/pikhsen.pc", "usr/share/man/man3/pikhsen.3.gz",
     ],
     "python3-pikhsen": [f"{MODULES}/{it}" for it in ("__init__.py", "_files.py", "py.typed")],
+    "pikhsen-libargon2": [f"{LIBRARIES}/libargon2.so.1", "usr/share/lintian/overrides/pikhsen-libargon2"],
+    "pikhsen-openssl": [f"{LIBRARIES}/pikhsen/compat/{it}" for it in ("openssl.cnf", "pikhsen.so")],
 }
 # What dpkg reads of each package beside control and md5sums.
-CONTROL = {"pikhsen": [], "libpikhsen0": ["shlibs", "symbols", "triggers"], "libpikhsen-dev": [], "python3-pikhsen": ["postinst", "prerm"]}
+CONTROL = {"pikhsen": [], "libpikhsen0": ["shlibs", "symbols", "triggers"], "libpikhsen-dev": [], "python3-pikhsen": ["postinst", "prerm"],
+           "pikhsen-libargon2": ["shlibs", "triggers"], "pikhsen-openssl": []}
 # What each package says of itself. LIBC is the newest version of the C library that its programs ask for.
 FIELDS = {
     "pikhsen": {"Architecture": "amd64", "Section": "utils", "Depends": "libc6 (>= LIBC)",
@@ -55,6 +59,10 @@ FIELDS = {
     "libpikhsen0": {"Architecture": "amd64", "Section": "libs", "Multi-Arch": "same", "Depends": "libc6 (>= LIBC)"},
     "libpikhsen-dev": {"Architecture": "amd64", "Section": "libdevel", "Multi-Arch": "same", "Depends": f"libpikhsen0 (= {VERSION})"},
     "python3-pikhsen": {"Architecture": "all", "Section": "python", "Depends": f"python3:any (>= 3.9), libpikhsen0 (>= {VERSION})"},
+    "pikhsen-libargon2": {"Architecture": "amd64", "Section": "libs", "Multi-Arch": "same", "Depends": "libc6 (>= LIBC)", "Suggests": "pikhsen",
+                          # apt-cache policy libargon2-1, on Debian 12
+                          "Provides": "libargon2-1 (= 0~20171227-0.3+deb12u1)", "Conflicts": "libargon2-1", "Replaces": "libargon2-1"},
+    "pikhsen-openssl": {"Architecture": "amd64", "Section": "libs", "Depends": "libc6 (>= LIBC), libssl3", "Suggests": "pikhsen"},
 }
 # What lintian says of packages without a licence and an address of who keeps them: the owner of the project chooses.
 OF_THE_OWNER = {"no-copyright-file", "bogus-mail-host", "bogus-mail-host-in-debian-changelog"}
@@ -64,7 +72,7 @@ def installed(checks, folder, lib):
     """The library is found where it is installed, by the loader and by its module for Python, which leaves nothing there."""
     programs, below = pathlib.Path(folder, "programs"), pathlib.Path(folder, "this&that|other")
     programs.mkdir()
-    for name in ("argon2", "scrypt"):
+    for name in TOOLS:
         (programs / name).touch()
     script = TOP / "packaging/install.sh"
     subprocess.run([script, "install", below, programs, lib], env={"PATH": os.environ["PATH"]}, check=True)
@@ -151,7 +159,7 @@ def kib_of(folder):
 def fields(checks, package, root, control, version=VERSION, level="x86-64-v2"):
     """What the package says of itself."""
     found = dict(re.findall(r"^([\w-]+): (.*)$", control, re.MULTILINE))
-    files = [root / it for it in FILES[package] if it in ("usr/bin/argon2", "usr/bin/scrypt") or it.endswith(".so.0")]
+    files = [root / it for it in FILES[package] if it.removeprefix("usr/bin/") in TOOLS or re.search(r"\.so(\.\d)?$", it)]
     wanted = dict(FIELDS[package])
     wanted.update({"Package": package, "Source": "pikhsen", "Version": version, "Priority": "optional",
                    "Installed-Size": f"{kib_of(root / 'usr')}", "Maintainer": "The authors of Pikhsen <pikhsen@localhost>"})
@@ -189,7 +197,7 @@ def scripts(checks, root):
 
 def programs_built(checks, root, level):
     """The programs are those that were built for this level, which tests/programs/ run."""
-    for name in ("argon2", "scrypt"):
+    for name in TOOLS:
         program, of = root / "usr/bin" / name, f"{name} in the package for {level}"
         checks.that(of, program.read_bytes() == (TOP / "bin" / level / name).read_bytes(), True)
         binaries.hardened(checks, of, program, True)
@@ -216,6 +224,10 @@ def packages(checks, folder, lib):
     lib = shutil.copytree(lib, f"{folder}/library")
     with open(f"{lib}/libpikhsen.so.0", "ab") as shared:
         shared.write(bytes(1))
+    subprocess.run([TOP / "packaging/compat.sh", lib, f"{lib}/pikhsen/compat"], check=True)
+    if not pathlib.Path(lib, "pikhsen/compat/pikhsen.so").exists():
+        left_out("libssl-dev is not installed", "pikhsen-openssl is not made")
+        del FILES["pikhsen-openssl"], FIELDS["pikhsen-openssl"]
     for out, umask in ((f"{folder}/packages", 0o077), (f"{folder}/same", 0o002)):
         os.mkdir(out)
         pathlib.Path(out, f"pikhsen_{VERSION}+v9_amd64.deb").write_text("older", encoding="utf-8")

@@ -306,6 +306,16 @@ def names_of_new_files(checks, pikhsen, folder):
             found = refusal(pikhsen.decrypt_file, source, target, b"pw", progress=lambda *_: target.write_bytes(b"of another"))
             checks.that("a file that another made meanwhile", (found, target.exists() and target.read_bytes(), parts(folder)), (EXISTS, b"of another", []))
         target.unlink()
+    beside, found = target.with_suffix(".beside"), []
+    pikhsen.decrypt_file(source, target, b"pw", progress=lambda *_: found.append(refusal(pikhsen.decrypt_file, source, beside, b"pw")))
+    checks.that("two new files at once", (found[0], beside.exists() and beside.read_bytes()), (None, content))
+    target.unlink()
+    beside = pathlib.Path(folder, f".pikhsen-{bytes(8).hex()}")
+    beside.write_bytes(b"of another")
+    with mock.patch.object(os, "urandom", bytes):
+        found = refusal(pikhsen.decrypt_file, source, target, b"pw")
+    checks.that("a file that has another's first name", (found, beside.read_bytes(), target.exists()), (EXISTS, b"of another", False))
+    beside.unlink()
 
 
 def names_that_fail(checks, pikhsen, folder):

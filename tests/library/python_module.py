@@ -27,13 +27,13 @@ from unittest import mock
 
 sys.path += map(str, pathlib.Path(__file__).resolve().parents[1].iterdir())  # the other folders of tests/
 import values_table
-from binaries import runs_v3
+from binaries import V3, runs_v3
 from checking import compiled, is_there, over_library
 from encoded_texts import work_of
-from library_texts import TOP, VERSION
 from python_files import BELOW_CHEAP, CHEAP, files_of_python, lent_by, raised, refusal, refused
 from scrypt_files import of_costs
 from shown import LIBRARY, STORED, with_module
+from tree import TOP, VERSION
 
 # RFC 9106, 5.1 to 5.3
 TAGS = {
@@ -538,7 +538,7 @@ def libraries_of_python(checks, pikhsen, folder, lib):
     names = list(pikhsen._PARAMETERS)
     for out, number, has in ((other, 10203, names), (newer, 199, names), (lacks, 100, names[:-1])):
         stub(out, number, has)
-    installed_for_levels(checks, folder, lib, newer)
+    installed_for_levels(checks, pikhsen, folder, lib, newer)
     module = f"import sys; sys.path.insert(0, {str(TOP / 'python')!r}); import pikhsen; print(pikhsen.version())"
     for name, named, options, expected in (
         ("named", right, [], VERSION), ("of another version", other, [], "version 1.2.3, and this module is for 0.x"),
@@ -556,9 +556,12 @@ def libraries_of_python(checks, pikhsen, folder, lib):
     checks.that("a refusal in a pool of processes", found, "NotAFile(<Status.TOO_SHORT: 26>)\n")
 
 
-def installed_for_levels(checks, folder, lib, other):
+def installed_for_levels(checks, pikhsen, folder, lib, other):
     """An installed module takes the library of its prefix, and one of a wheel that beside it: for x86-64-v3 where the
-    processor has that level, if it is there."""
+    processor has that level, all of its instructions, if it is there."""
+    for lacks in ("", *sorted(V3)):
+        with mock.patch("builtins.open", mock.mock_open(read_data=f"processor: 0\nflags: fpu {' '.join(V3 - {lacks})} sha_ni\n")):
+            checks.that(f"x86-64-v3 without {lacks or 'nothing'}", pikhsen._has_v3(), not lacks)
     for what, modules, libraries in (
         ("an installed module", "a prefix/share/pikhsen", "a prefix/lib"), ("one of a wheel", "site", "site/pikhsen"),
     ):

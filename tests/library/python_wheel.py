@@ -16,10 +16,10 @@ import zipfile
 
 sys.path += map(str, pathlib.Path(__file__).resolve().parents[1].iterdir())  # the other folders of tests/
 from binaries import runs_v3
-from checking import left_out, over_library, said
-from library_texts import TOP, VERSION, ran
+from checking import left_out, over_library, ran, said
 from packages import EPOCH, HIGHER, newest_libc
 from shown import shown
+from tree import TOP, VERSION
 
 # The version of glibc that the wheel asks for; manylinux_2_17 is the oldest tag of PEP 600 that its libraries meet.
 GLIBC = (2, 17)

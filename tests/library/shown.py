@@ -1,15 +1,17 @@
-"""What docs/LIBRARY.md, README.md and the manual page of libpikhsen show, compiled and run as it stands there."""
+"""What docs/LIBRARY.md and the manual page of libpikhsen show, compiled and run as it stands there."""
 import os
 import pathlib
 import re
+import shutil
 import subprocess
 import sys
 
-from checking import is_there
-from library_texts import PAGE, TOP, ran
+import roff
+from checking import is_there, left_out, ran
+from tree import TOP, read
 
 INCLUDE = ["-I", str(TOP / "include")]
-LIBRARY, README = ((TOP / name).read_text(encoding="utf-8") for name in ("docs/LIBRARY.md", "README.md"))
+LIBRARY = read("docs/LIBRARY.md")
 # What other programs store of the password "correct horse"; LIBRARY's table has their settings.
 STORED = (
     # PHP 8.2.36: password_hash("correct horse", PASSWORD_ARGON2ID)
@@ -21,13 +23,12 @@ STORED = (
     # libsodium 1.0.18: crypto_pwhash_str with OPSLIMIT_INTERACTIVE and MEMLIMIT_INTERACTIVE; with those named MODERATE
     "$argon2id$v=19$m=65536,t=2,p=1$+FdfqK4mTY9Hh5BTtvq79g$JjBZkakj0aCCxXQaoqZy+knE64jRzdJKuXlOPGvmvsk",
     "$argon2id$v=19$m=262144,t=3,p=1$m9cS6zEhXRH8oGtIwCDtWQ$TtQ75LOfGKCejJKLeZHyXrHZ3Dqsy40i/iUEpegrV9Q",
+    # python3-passlib 1.7.4: argon2.hash("correct horse")
+    "$argon2id$v=19$m=102400,t=2,p=8$R4jRes9Zy3kPIWTs3bu3Ng$3xrxPpal5jZKLzVmKS+qQg",
 )
 TEXTS = [it.removeprefix("argon2") for it in STORED]
-# More than 1 GiB, more than 2^23 block functions; more than 4 GiB, more than 2^33.
-GREAT, GREATEST = (
-    [f"$argon2id$v=19$m={kib},t={passes},p=1$c29tZXNhbHQ$AAAAAA" for kib, passes in ((most + 4, 1), (most, great))]
-    for most, great in ((1 << 20, 8), (1 << 22, 1 << 11))
-)
+# More than 1 GiB, more than 2^23 block functions.
+GREAT = [f"$argon2id$v=19$m={kib},t={passes},p=1$c29tZXNhbHQ$AAAAAA" for kib, passes in (((1 << 20) + 4, 1), (1 << 20, 8))]
 # What is asked of a login of a page, as a text and a password after another, and what it says.
 RIGHT = [*((it, "correct horse", "welcome") for it in TEXTS), *((it, "x", "set a new password") for it in GREAT)]
 LOGINS = [*RIGHT, *((TEXTS[3], it, "not you") for it in ("battery staple", "", "x" * 128))]
@@ -63,6 +64,42 @@ def library_runs(checks, folder, lib, include=TOP / "include", module=TOP / "pyt
         pathlib.Path(folder, file).write_text(program, encoding="utf-8")
         found = ran("sh", "-ec", typed, cwd=folder, env=environment)
         checks.that(f"LIBRARY's {file}", found, (0, printed))
+
+
+# Django's own hasher checks and reads what that of the page made.
+DJANGO = """import sys
+from django.conf import settings
+settings.configure(%s)
+from django.contrib.auth.hashers import Argon2PasswordHasher, check_password, identify_hasher, make_password
+text, own = make_password("correct horse"), Argon2PasswordHasher()
+ours = identify_hasher(text)
+print([check_password(it, text) for it in ("correct horse", "battery staple")], ours.must_update(text), ours.must_update(text.replace("t=2", "t=3")))
+print(type(ours).__name__, own.verify("correct horse", text), ours.safe_summary(text) == own.safe_summary(text))
+"""
+
+
+def other_languages_run(checks, folder, lib):
+    """Types what LIBRARY's table of other languages has, where they are installed: it prints what the page's login in C does."""
+    table = LIBRARY.partition("\n## Other languages\n")[2].partition("\n## ")[0]
+    rows = {it[0]: it[1:] for it in re.findall(r"^\| (\w+) \| `(.*)` \| (\d+) \|", table, re.MULTILINE)}
+    files = {"Go": ["login.go"], "Rust": ["login.rs"], "PHP": ["login.php"], "Node": ["node.c", "login.js"], "Django": ["hasher.py"]}
+    checks.that("LIBRARY's other languages", list(rows), list(files))
+    lines = {it: str(sum(read(f"docs/programs/{name}").count("\n") for name in files[it])) for it in rows}
+    checks.that("lines of LIBRARY's other languages", {it: row[1] for it, row in rows.items()}, lines)
+    environment = {**os.environ, "LD_LIBRARY_PATH": str(lib), "LIBRARY_PATH": str(lib), "C_INCLUDE_PATH": str(TOP / "include"),
+                   "GOCACHE": f"{folder}/go", "PYTHONPATH": f"{TOP / 'python'}", "PIKHSEN_LIBRARY": f"{lib}/libpikhsen.so.0"}
+    for name, program in (("Go", "go"), ("Rust", "rustc"), ("PHP", "php"), ("Node", "node")):
+        if is_there(program, f"LIBRARY's login in {name} does not run", 1):
+            for file in files[name]:
+                shutil.copy(TOP / "docs/programs" / file, folder)
+            found = ran("sh", "-ec", rows[name][0], cwd=folder, env=environment)
+            checks.that(f"LIBRARY's login in {name}", found, (0, shown("c")[2]))
+    if ran("/usr/bin/python3", "-c", "import argon2, django")[0]:
+        left_out("python3-django, or python3-argon2, is not installed", "LIBRARY's hasher does not run", 1)
+        return
+    shutil.copy(TOP / "docs/programs/hasher.py", folder)
+    found = ran("/usr/bin/python3", "-B", "-c", DJANGO % rows["Django"][0], cwd=folder, env=environment)
+    checks.that("LIBRARY's hasher for Django", found, (0, "[True, False] False True\nPikhsenHasher True True\n"))
 
 
 OF_C = """#define main main_of_page
@@ -101,17 +138,11 @@ int main(int count, char **words) {
 """
 
 
-def examples_of_page():
-    """What the manual page shows, in its order."""
-    section = PAGE.split("\n.SH EXAMPLES\n")[1].replace("\\e", "\\")
-    return re.findall(r"\n\.nf\n(.*?\n)\.fi\n", section, re.DOTALL)
-
-
 def pieces_run(checks, folder, lib):
     """The manual page's program for files in pieces: what it writes, opens and refuses, and when it says that what was
     written is to be deleted."""
     source, program = pathlib.Path(folder, "pieces.c"), f"{folder}/pieces"
-    source.write_text(examples_of_page()[2].replace("17, 8, 1, 1,", "10, 8, 1, 1,"), encoding="utf-8")
+    source.write_text(roff.examples("pikhsen.3")[2].replace("17, 8, 1, 1,", "10, 8, 1, 1,"), encoding="utf-8")
     checks.that("the manual page's program, compiled", compile_c(source, lib, program, True, "-Wall", "-Wextra", "-Werror"), (0, ""))
 
     def run(word, given, passphrase="pw", out=subprocess.PIPE):
@@ -157,14 +188,7 @@ def logins_run(checks, folder, lib):
     checks.that("LIBRARY's login.c: its answers", ran(program, *words), (0, expected))
     status, found = with_module(lib, "-c", shown("python")[0] + OF_PYTHON, *words)
     checks.that("LIBRARY's login.py: its answers", (status, found[-len(expected):]), (0, expected))
-    of_readme = re.search(r"^```python\n(import pikhsen\n.*?)^```", README, re.MULTILINE | re.DOTALL)[1]
-    # Argon2id: passes * blocks - 2 * lanes, and 2 for every 128 blocks of half of the first pass
-    ops = (1 << 33) - 2 + (1 << 15)
-    exceeds = "4194308 KiB, and max_kib allows 4194304", f"{ops} block functions, and max_ops allows {1 << 33}"
-    for text, said in zip([*TEXTS, *GREATEST], [*["True"] * len(TEXTS), *(f"the hash takes {it}" for it in exceeds)]):
-        pathlib.Path(folder, "stored").write_text(text + "\n", encoding="utf-8")
-        checks.that(f"README's check, of {text[:34]}", with_module(lib, "-c", of_readme, cwd=folder), (0, f"{said}\n"))
-    enrol, check = (it.replace("\n", "\n    ") for it in examples_of_page()[:2])
+    enrol, check = (it.replace("\n", "\n    ") for it in roff.examples("pikhsen.3")[:2])
     source.write_text(OF_PAGE.replace("ENROL", enrol).replace("CHECK", check), encoding="utf-8")
     checks.that("the manual page's example, compiled", compile_c(source, lib, program, True, "-Wall", "-Wextra", "-Werror"), (0, ""))
     checks.that("the manual page's example", ran(program), (0, "welcome\n"))

@@ -1,24 +1,18 @@
-"""Whether each exported function has a wrong body: so that no contract that a caller relies on is one that nothing broke.
+"""Whether each exported function has a wrong body, so that no contract that a caller relies on is one that nothing broke.
 
 An edit of the function itself counts, or of the function that does its work, which BY_ANOTHER names. A function without
 a clause promises nothing that a wrong body could break, nor does one of ALONE.
 """
-import doc
+import contracts
 from edits import BODIES, edits_of
-from functions import FUNCTION, IMPL, function_at, path_of, text_of
-from tree import TOP
+from functions import function_at, text_of
 
 # Exported functions that pass on what another one does, which has the wrong body.
 BY_ANOTHER = {
     "aes_ctr": {"block_cipher::Aes256::key_planes": "key_planes::key_planes"},
     "argon": {
         "lanes::Lanes::reserve": "lanes::reserve_from", "matrix::Matrix::reserve": "matrix::reserve_from",
-        "matrix::Matrix::as_blocks": "wiped_blocks::WipedBlocks::blocks",
     },
-    "argon_text": {"encoded::Encoded::write": "encoded::Encoded::text", "range::first_encoded_range_fault": "range::first_field_range_fault"},
-    "encfile": {"dec::Dec::finish": "tail::Tail::is"},
-    "macs": {"pbkdf2_sha256::pbkdf2": "pbkdf2_sha256::write_key"},
-    "romix": {"workspace::Workspace::reserve": "workspace::reserve_from"},
 }
 # Those whose type has no other value, or whose result has no bytes.
 ALONE = {
@@ -30,15 +24,8 @@ ALONE = {
 
 def exported(crate):
     """The exported functions of a crate that have a clause, by the paths that the prover prints."""
-    folder = TOP / "crates" / crate
-    _, names, _ = doc.exported(crate)
-    for path in doc.sources(crate):
-        lines, called = path.read_text(encoding="utf-8").split("\n"), doc.names_in(crate, path, names)
-        for at, found in enumerate(map(FUNCTION.match, lines)):
-            above = [it for it in map(IMPL.match, lines[:at]) if it and found and found[1]]
-            owner = above[-1][2] if above else found and found[2]
-            if found and owner in called and "pub " in found[0] and doc.clauses_of(lines, at)[1]:
-                yield path_of(folder, path.relative_to(folder), above[-1] if above else None, found[2])
+    found = contracts.exported(crate).values()
+    return {it.prover_path(crate) for it in found if it.is_public and it.clauses}
 
 
 def edited(crate):
@@ -55,6 +42,6 @@ def without_edit(crate):
     """The exported functions that have no wrong body and should, and names in the tables that stand for nothing."""
     found, by = edited(crate), BY_ANOTHER.get(crate, {})
     alone = ALONE.get(crate, set())
-    functions = {*exported(crate)}
+    functions = exported(crate)
     yield from sorted(it for it in functions - found - alone if by.get(it) not in found)
     yield from sorted(it for it in {*by, *alone} if it not in functions or it in found)

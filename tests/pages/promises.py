@@ -1,55 +1,54 @@
-"""The promises of docs/PROMISES.md, each with the calls and clauses that carry it, looked for in the sources."""
+#!/usr/bin/env python3
+"""The calls and clauses that carry the promises of docs/PROMISES.md, looked for in the sources.
+
+    tests/pages/promises.py    prints the clauses that are the goal of no wrong body, and that no edit takes from a proof
+"""
 import pathlib
 import re
 import sys
 
-ROOT = pathlib.Path(__file__).resolve().parents[2]
-sys.path.insert(0, str(ROOT / "packaging"))
-import prove  # noqa: E402
+sys.path += map(str, pathlib.Path(__file__).resolve().parents[1].iterdir())  # the other folders of tests/
+import contracts
+import pages
+import prove
+from edited import ALONE
+from edits import BODIES, edits_of
+from functions import function_at, text_of
+from pages import TOP
 
+# Clauses that no body breaks which the types let through: the counts come with the system, and nothing else makes any.
+BY_TYPES = {f"{crate} run fails" for crate in ("scrypt_tool", "argon_tool", "argon2_verify_tool")}
 IN_BACKTICKS = re.compile(r"`([^`]+)`")
-TESTS = {"tests", "tests.rt", "testing.rt"}
-
-
-def read(path):
-    return (ROOT / path).read_text(encoding="utf-8")
-
-
-def code(crate):
-    """The texts of the crate's sources, without tests, by the paths of their modules."""
-    base = ROOT / "crates" / crate / "src"
-    files = [file for file in sorted(base.rglob("*.rt")) if not TESTS & set(file.relative_to(ROOT).parts)]
-    return {"::".join(file.relative_to(base).with_suffix("").parts): file.read_text(encoding="utf-8") for file in files}
+ONLY = "the only one"
+SAID = re.compile(r"(?m)^ +(ensures|requires)\*? (\w+) \{")
 
 
 def records(crate):
     """The names of the fields of each record that a crate defines."""
-    texts = "\n".join(file.read_text(encoding="utf-8") for file in (ROOT / "crates" / crate / "specs").rglob("*.antt"))
+    texts = "\n".join(file.read_text(encoding="utf-8") for file in (TOP / "crates" / crate / "specs").rglob("*.antt"))
     found = re.findall(r"^pub record (\w+)[^=]*? where\n((?:  .*\n)+)", texts + "\n", re.MULTILINE)
     return {name: re.findall(r"^  pub (\w+) :", fields, re.MULTILINE) for name, fields in found}
 
 
 def functions(crate):
     """The clauses of each function of a crate, by its name, after that of its type or trait; and its types. A clause that
-    cites a record has its fields, as `first.memory`. Where functions of several modules have one name, each is told by its
-    path."""
+    cites a record has its fields, as `first.memory`; the only one that a function ensures or requires is there behind that
+    word, too. Where functions of several modules have one name, each is told by its path."""
     found, free, fields = {}, {}, records(crate)
-    for module, text in code(crate).items():
-        owner, name = "", None
-        for line in text.splitlines():
-            if block := re.match(r"(?:pub(?:\(crate\))? )?(?:impl|trait|struct)\b(?:<[^>]*>)? ?(?:.* for )?(\w+)", line):
-                owner = block[1] + "::"
-                found.setdefault(block[1], set())
-            elif line.startswith("}"):
-                owner, name = "", None
-            elif function := re.match(r'(    )?(?:pub(?:\(\w+\))? )?(?:const |extern "C" )?fn (\w+)', line):
-                name = (owner if function[1] else f"{module}::") + function[2]
-                found.setdefault(name, set())
-                if not function[1]:
-                    free.setdefault(function[2], []).append(name)
-            elif name and (clause := re.match(r"\s+(?:ensures|requires)\*? (\w+) \{(.*)", line)):
-                cited = (it for word in re.findall(r"\w+", clause[2]) for it in fields.get(word, ()))
-                found[name].update([clause[1], *(f"{clause[1]}.{it}" for it in cited)])
+    for it in contracts.without_tests(crate):
+        if it.what in ("impl", "trait", "struct"):
+            found.setdefault(it.name, set())
+        elif it.what == "fn":
+            module = "::".join(it.path.relative_to(contracts.CRATES / crate / "src").with_suffix("").parts)
+            name = f"{it.block.name if it.block else module}::{it.name}"
+            named = found.setdefault(name, set())
+            for clause, said in it.clauses:
+                cited = (field for word in re.findall(r"\w+", said) for field in fields.get(word, ()))
+                named.update([clause, *(f"{clause}.{field}" for field in cited)])
+            said = SAID.findall(it.text)
+            named.update(f"{word} {clause}" for word, clause in said if [other for other, _ in said].count(word) == 1)
+            if not it.block:
+                free.setdefault(it.name, []).append(name)
     for name, (path, *others) in free.items():
         if not others:
             found[name] = found.pop(path)
@@ -60,10 +59,9 @@ CRATES = {name: line.partition(":")[2].split() for name, line in prove.listed().
 FUNCTIONS = {crate: functions(crate) for crate in CRATES}
 for each, below in CRATES.items():
     # functions of other crates that it hands on as its own
-    for owner, names in re.findall(r"^pub use (\w+)::\{?([^;}]*)\}?;", "\n".join(code(each).values()), re.MULTILINE):
-        for name in names.split(", "):
-            if name[0].islower() and name in FUNCTIONS.get(owner, {}):
-                FUNCTIONS[each][name] = FUNCTIONS[owner][name]
+    for owner, name in contracts.root_of(each)[2] if each in contracts.libraries() else ():
+        if name[0].islower() and name in FUNCTIONS[owner]:
+            FUNCTIONS[each][name] = FUNCTIONS[owner][name]
     FUNCTIONS[each.removesuffix("_tests")].update(FUNCTIONS[each])
     FUNCTIONS[each].update({trait: set() for owner, trait in (("host", "Host"), ("tools", "System")) if owner in below})
 
@@ -77,52 +75,97 @@ def calls_named(name, crate, owner=""):
     return [] if len([each for each in hits if each[0].islower() and "::" in each]) > 1 else hits
 
 
-def carriers(crate, promise, cell, wrong):
-    """Lines of calls with their clauses, as a row's last cell names them: parts `CALLS: CLAUSES` or `law: LAWS`. Where a part
-    names no call, it means those of the part before, or those that the promise names."""
-    said, owner = {}, ""
-    found = [hit for name in IN_BACKTICKS.findall(promise) for hit in calls_named(name, crate)]
+def parts(crate, promise, cell):
+    """The parts of a row's last cell, `CALLS: CLAUSES` or `law: LAWS`: the calls that are not there, those that are, and the
+    clauses. Where a part names no call, it means those of the part before, or those that the promise names."""
+    owner, found = "", [hit for name in IN_BACKTICKS.findall(promise) for hit in calls_named(name, crate)]
     for part in re.sub(r" \(.*?\)|its clauses, and those of |the clauses of ", "", cell).split("; "):
-        law = re.match("laws?: ", part)
         named, _, clauses = part.rpartition(": ") if ": `" in part else ("", "", part)
-        if law or "::" in clauses:
+        if re.match("laws?: ", part) or "::" in clauses:
             named, clauses = part, ""
-        if calls := IN_BACKTICKS.findall(named):
-            found = []
+        calls, lost = IN_BACKTICKS.findall(named), []
+        found = [] if calls else found
         for name in calls:
             hits = calls_named(name, crate, owner)
             owner = hits[-1].rpartition("::")[0] + "::" if hits and "::" in hits[-1] else owner
             found += hits
-            if not hits:
-                wrong.append(f"PROMISES.md: {crate} has no {name}")
-        clauses = IN_BACKTICKS.findall(clauses)
-        meant = found if calls else [name for name in found if FUNCTIONS[crate][name] & {*clauses}] or found
-        key = ("law " if law else "") + ", ".join(dict.fromkeys(meant))
-        said.setdefault(key, [])
-        for clause in clauses:
-            is_type = clause[0].isupper() and clause in FUNCTIONS[crate]
-            if not is_type and not any(clause in FUNCTIONS[crate][name] for name in meant):
-                wrong.append(f"PROMISES.md: {crate}: {key} has no clause {clause}")
-            said[key].append(f"each clause of {clause}" if is_type else clause)
-    return [calls + (": " + ", ".join(dict.fromkeys(clauses)) if clauses else "") for calls, clauses in said.items()]
+            lost += [] if hits else [name]
+        yield lost, list(dict.fromkeys(found)), IN_BACKTICKS.findall(clauses)
 
 
-def promises():
-    """The promises of each crate, and of all, as pairs of a text and the lines that carry it; and what is wrong with them."""
-    heading, found, wrong = "", {crate: [] for crate in [*CRATES, "all"]}, []
-    for line in read("docs/PROMISES.md").splitlines():
-        heading = line.lstrip("# ") if line.startswith("#") else heading
-        row = [cell.strip() for cell in re.split(r"(?<!\\)\|", line)[1:-1]]
-        if not row or row[0] in ("promise", "crate", "law", "the run") or row[0].startswith("---"):
+def rows():
+    """The crate of each row of docs/PROMISES.md, what it promises, and its last cell."""
+    for heading, cells in pages.tables("PROMISES.md"):
+        if cells[0] in ("promise", "crate", "law", "the run"):
             continue
         if heading == "The headline":
-            for call in ("scrypt", "argon2"):
-                carriers("command", f"`{call}`", row[1], wrong)
-            found["command"].append((row[0], carriers("command", "`scrypt`, `argon2`", row[1], [])))
+            yield from (("command", f"`{call}`", cells[1]) for call in ("scrypt", "argon2"))
         elif heading.startswith("The calls"):
-            crate = row[0].strip("`")
-            found[crate].append((row[1], [row[2]] if crate == "all" else carriers(crate, row[1], row[2], wrong)))
-        elif len(row) == 2:
-            crate = next((each for each in CRATES if row[0].strip("`") in FUNCTIONS[each]), "command")
-            found[crate].append((row[1], carriers(crate, "", f"law: {row[0]}", wrong)))
-    return found, wrong
+            yield from [(cells[0].strip("`"), *cells[1:])] if cells[0] != "all" else ()
+        elif len(cells) == 2:
+            yield next((each for each in CRATES if cells[0].strip("`") in FUNCTIONS[each]), "command"), "", f"law: {cells[0]}"
+
+
+def wrong():
+    """What docs/PROMISES.md names that the sources lack; and the clauses that no edit holds, where the types don't."""
+    lost = {*unheld()}
+    yield from (f"PROMISES.md: a wrong body at {it}, or an edit that takes it from a proof" for it in sorted(lost - BY_TYPES))
+    yield from (f"tests/pages/promises.py: {it} is not held otherwise" for it in sorted(BY_TYPES - lost))
+    for crate, *row in rows():
+        for lost, found, clauses in parts(crate, *row):
+            yield from (f"PROMISES.md: {crate} has no {name}" for name in lost)
+            for clause in clauses:
+                is_type = clause[0].isupper() and clause in FUNCTIONS[crate]
+                if not is_type and not any(clause in FUNCTIONS[crate][name] for name in found):
+                    yield f"PROMISES.md: {crate}: {', '.join(found)} has no clause {clause}"
+
+
+def refused_at():
+    """The clauses at which wrong bodies are refused, or without which another proof fails, by the crate and the end of the path
+    of each function: those of a trait's method by its name, too. A goal names no clause where the function ensures but one. And
+    the conditions, each with the call that it is of."""
+    found, conditions = {}, set()
+    for crate in CRATES:
+        for edit in edits_of(crate, BODIES):
+            goal = edit.goal.split("`")[1] if "`" in edit.goal else ""
+            if at := re.match(r"(\w+).*?-requires(?:-\w+)*?(?:-clause-(\w+))?$", goal):
+                conditions.add(at.groups(ONLY))
+                continue
+            clause = goal.rpartition("-clause-")[2] if "-clause-" in goal else ONLY if goal.startswith("returns") else ""
+            for path, name in [*((it, clause) for it in edit.functions), *taken_away(edit)]:
+                found.setdefault((crate, *f"::{path}".split("::")[-2:]), set()).add(name)
+    return found, conditions
+
+
+def taken_away(edit):
+    """The clauses that an edit changes where another function's proof refuses it, which so relies on them, each behind the path
+    of its function."""
+    for file, old, _ in edit.pairs if edit.within else ():
+        text = text_of(edit.folder, file, {})
+        begin = text.find(old)
+        at = edit.folder, file, text, text.count("\n", 0, begin)
+        path, clauses = function_at(*at), contracts.CLAUSE.findall(text[: begin + len(old)])
+        if path not in (None, edit.within, function_at(*at, body=True)) and clauses:
+            yield path, clauses[-1]
+
+
+def unheld():
+    """The clauses of docs/PROMISES.md that no wrong body or edit holds: they could be lost with nothing that notices."""
+    at, conditions = refused_at()
+    alone = {f"{crate} {name}" for crate, names in ALONE.items() for name in names}
+    for crate, *row in rows():
+        for _, found, clauses in parts(crate, *row):
+            for name in found:
+                *above, last = name.split("::")
+                owner, own = "".join(above[-1:]), FUNCTIONS[crate][name]
+                of_it = [goals for (where, kind, method), goals in at.items() if method == last and (
+                    FUNCTIONS[where].get(name) is own and owner in ("", kind) or owner and kind != owner and kind.endswith(owner))]
+                for clause in {it.split(".")[0] for it in clauses} & own:
+                    ensured, required = ({clause, ONLY} if f"{word} {clause}" in own else {clause} for word in ("ensures", "requires"))
+                    is_held = any(ensured & goals for goals in of_it) or any((last, it) in conditions for it in required)
+                    if not is_held and f"{crate} {name}" not in alone:
+                        yield f"{crate} {name} {clause}"
+
+
+if __name__ == "__main__":
+    print(*dict.fromkeys(unheld()), sep="\n")

@@ -1,10 +1,13 @@
 """docs/values.tsv: the table of values that stand in several places, by the kinds of its rows."""
 import collections
-import pathlib
 
-TOP = pathlib.Path(__file__).resolve().parents[2]
+from tree import TOP
+
 FILE = TOP / "docs" / "values.tsv"
-KINDS = {"option", "message", "order", "status", "kind", "default", "range", "number", "phrase", "figures", "around"}
+KINDS = {"option", "message", "order", "status", "kind", "default", "range", "number", "phrase"}
+PROGRAMS = ("argon2", "argon2-verify", "scrypt")
+# Each command that takes options: a program and a subcommand.
+COMMANDS = [("argon2", ""), ("argon2-verify", ""), ("scrypt", "enc"), ("scrypt", "dec"), ("scrypt", "info")]
 # The cells of an option and of a message, as the table says above them.
 Option = collections.namedtuple("Option", "program subcommands word value takes range default offers")
 Message = collections.namedtuple("Message", "program number name line when")
@@ -24,3 +27,8 @@ def options(program, subcommand=""):
 
 def messages(program):
     return [Message(*row) for row in rows("message") if row[0] == program]
+
+
+def ranges():
+    """By each quantity its range, and the value where none is given."""
+    return {name: (range_, given) for name, range_, given, *_ in rows("range")}

@@ -3,10 +3,12 @@
 place of a wrong byte alone. Each code and each tag is compared over all its bytes, so the counts are the same. No
 contract sees that, and of time nothing is promised.
 
-    tests/programs/comparisons.py FOLDER      the codes of an encrypted file: of its header, and of the whole
+    tests/programs/comparisons.py FOLDER      the codes of an encrypted file: of its header, and of the whole; and all
+                                              bytes of the tag of a hash
 
-The tags of texts of hashes are for tests/library/c_face.py.
+The tags of texts of hashes in C are for tests/library/c_face.py.
 """
+import base64
 import os
 import pathlib
 import re
@@ -35,11 +37,12 @@ int main(int count, char **words) {
 """
 
 
-def counted(words, folder):
+def counted(words, folder, given=subprocess.DEVNULL):
     """Status, standard error and the count of instructions of a run, which sees no variable."""
     log = os.path.join(folder, "log")
     words = ["valgrind", "--tool=callgrind", "--callgrind-out-file=/dev/null", f"--log-file={log}", *words]
-    ran = subprocess.run(words, cwd=folder, env={"PATH": os.environ["PATH"]}, stdout=subprocess.DEVNULL, stderr=subprocess.PIPE)
+    streams = {"stdin": given, "stdout": subprocess.DEVNULL, "stderr": subprocess.PIPE}
+    ran = subprocess.run(words, cwd=folder, env={"PATH": os.environ["PATH"]}, **streams)
     found = re.search(r"Collected : (\d+)", pathlib.Path(log).read_text(encoding="utf-8"))
     return ran.returncode, ran.stderr, int(found[1]) if found else None
 
@@ -71,9 +74,34 @@ def tags_of_texts(checks, library, folder):
     same(checks, "the tag of a text", runs, 16)
 
 
-def main(checks, folder, program):
-    if not is_there(*UNCOUNTED, 5):
+def kind(symbol):
+    """What symbols are read alike."""
+    return next(it for it in (str.islower, str.isupper, str.isdigit, str.isprintable) if it(symbol))
+
+
+def tag_with_another(place):
+    """The tag with another byte at this place, and symbols of the kinds that it had."""
+    tag = base64.b64decode(TAG + "=")
+    made = (base64.b64encode(tag[:place] + bytes([byte]) + tag[place + 1:]).decode().rstrip("=") for byte in range(256))
+    return next(it for it in made if it != TAG and [*map(kind, it)] == [*map(kind, TAG)])
+
+
+def tags_of_files(checks, program, folder):
+    """All bytes of the tag of a hash, by argon2-verify."""
+    checks.put("password", b"password")
+    runs = []
+    for tag in (TAG, *map(tag_with_another, range(32))):
+        checks.put("hash", f"{TEXT}{tag}\n".encode())
+        with open(os.path.join(folder, "password"), "rb") as password:
+            runs.append(counted([program, "hash"], folder, password))
+    checks.that("the right tag", runs[0][:2], (0, b""))
+    same(checks, "the tag of a hash", runs[1:], 1)
+
+
+def main(checks, folder, program, verify):
+    if not is_there(*UNCOUNTED, 8):
         return
+    tags_of_files(checks, verify, folder)
     checks.put("pw", b"pw\n")
     for name, begin, line in (("header", 64, "S10"), ("file", len(F5) - 32, "S11")):
         runs = []
@@ -91,4 +119,4 @@ def main(checks, folder, program):
 
 
 if __name__ == "__main__":
-    over_programs(main, __doc__, "scrypt")
+    over_programs(main, __doc__, "scrypt", "argon2-verify")

@@ -3,7 +3,7 @@
 too large, all memory above a limit, and each call, which fails, is interrupted, or comes short. And looks at the
 memory of a hash or a key when it is freed: it holds zeros.
 
-    tests/programs/hostile.py FOLDER      in which the programs argon2 and scrypt lie
+    tests/programs/hostile.py FOLDER      in which the programs argon2, argon2-verify and scrypt lie
 
 hostile_system.c, which stands between a program and the system, is compiled here. Without a C compiler only the memory
 of the whole process is limited, and its calls are looked at. Expected hashes are those of Debian's argon2
@@ -28,6 +28,10 @@ from checking import compiled, is_there, over_programs
 from scrypt_files import COSTS, ENVIRONMENT, F0, F5, FILES, FIXED, FROM_PW, HEADER, LINES, SALT, header_of
 
 
+# The status of a refusal.
+REFUSED = {"argon2": 1, "argon2-verify": 2, "scrypt": 1}
+
+
 @dataclass
 class Run:
     """A run, what it writes, to standard output or to the file `out`, the refusal in which it ends, if it does, and its calls.
@@ -43,10 +47,11 @@ class Run:
     calls: list
     refusal: str = None
     to_file: bool = False
+    status: int = 0
 
     def after(self, refusal, written):
         """Status, standard output, standard error and the content of `out` where it ends so, with so many bytes written."""
-        status, line = (0, b"") if refusal is None else (1, LINES[refusal])
+        status, line = (self.status, b"") if refusal is None else (REFUSED[self.program], LINES[refusal])
         front = None if written is None else self.output[:written]
         return (status, b"", line, front) if self.to_file else (status, front or b"", line, None)
 
@@ -55,7 +60,7 @@ class Run:
         return self.after(self.refusal, len(self.output) if is_opened else None)
 
     def without_memory(self):
-        return self.after("A10" if self.program == "argon2" else "S15", None)
+        return self.after({"argon2": "A10", "argon2-verify": "V8", "scrypt": "S15"}[self.program], None)
 
     def name(self):
         return f"{self.program} {self.words}"
@@ -115,10 +120,24 @@ def hash_of(words, output):
     return Run("argon2", words, b"password", output, password(*WRITTEN))
 
 
+# Texts of the password `password`: of 256 KiB, of 1 MiB and of 4 MiB.
+HASHES = {
+    "hash-256": b"$argon2i$v=19$m=256,t=2,p=1$c29tZXNhbHQ$iekCn0Y3spW+sCcFanM2xBT63UP2sghkUoHLIUpWRS8\n",
+    "hash-1024": b"$argon2d$v=19$m=1024,t=1,p=1$c29tZXNhbHQ$Li5eBf5XrCz0cuzQRe9oflYqmA/VAzmzichw4ZYrvEU\n",
+    "hash-4096": b"$argon2d$v=19$m=4096,t=1,p=1$c29tZXNhbHQ$7ihYKDQmx1c4J4Y2qvRnMEArWN1gWQxGzVROHZ+9G/Q\n",
+}
+PUT = {**FILES, **HASHES}
+
+
+def check_of(words, given, *called, **more):
+    return Run("argon2-verify", words, given, b"", calls(*opened("hash-256", "V3"), *read_twice("hash-256", "V3"), *called), **more)
+
+
 def file_of(words, given, output, *called, **more):
     return Run("scrypt", words, given, output, calls(*called), **more)
 
 
+CHECKED = [*opened("standard input", "V7a"), *read_twice("standard input", "V7a")]
 PW = [*opened("pw", "S4a"), *read_twice("pw", "S4a")]
 TYPED = [*opened("standard input", "S4a"), *read_twice("standard input", "S4a")]
 OUT = "write standard output", "S13"
@@ -135,6 +154,11 @@ RUNS = [
     Run("argon2", "somesalt -e", b"", b"", calls(*opened("standard input", "A8a"), ("read standard input", "A8a"), *line(STDIN)),
         "A8b"),
     Run("argon2", "somesalt -t x -q", b"password", b"", calls(*line()), "A4"),
+    check_of("hash-256", b"password", *CHECKED),
+    check_of("hash-256", b"Password", *CHECKED, status=1),
+    check_of("hash-256", b"p" * 4097, *CHECKED[:-1], *line("hash-256", STDIN), refusal="V7b"),
+    check_of("--maxmem 255 hash-256", b"password", *line("hash-256"), refusal="V6a"),
+    Run("argon2-verify", "--maxmem 0 hash-256", b"", b"", calls(*line()), "V2"),
     file_of(f"enc {FIXED} {FROM_PW} -", b"", F0, *opened("standard input", "S12"), *PW, LOOKED, (*OUT, 0), (*INPUT, 96), (*OUT, 96)),
     *(file_of(f"enc {FIXED} {keep}{FROM_PW} hello out", b"", F5, *ENC_HELLO_OUT, to_file=True)
       for keep in ("", "--keep 2 ", "--keep 4 ")),
@@ -157,7 +181,7 @@ RUNS = [
 
 
 class System:
-    """Both programs, over a system that may be hostile, each thread in a folder of its own below this one."""
+    """The programs, over a system that may be hostile, each thread in a folder of its own below this one."""
 
     def __init__(self, programs, below, library):
         self.programs = programs
@@ -168,7 +192,7 @@ class System:
     def folder(self):
         if not hasattr(self.threads, "folder"):
             self.threads.folder = tempfile.mkdtemp(dir=self.below)
-            for name, content in FILES.items():
+            for name, content in PUT.items():
                 pathlib.Path(self.threads.folder, name).write_bytes(content)
         return self.threads.folder
 
@@ -179,7 +203,11 @@ class System:
         environment = ENVIRONMENT if hostile is None else {**ENVIRONMENT, "LD_PRELOAD": self.library, **hostile}
         words = [*before, self.programs[run.program], *run.words.split()]
         how = {"cwd": self.folder(), "env": environment, "timeout": 60, **more}
-        ran = subprocess.run(words, input=run.given, capture_output=True, **how)
+        reading, writing = os.pipe()  # it has all that is given before the program begins, so that no read finds less
+        os.write(writing, run.given)
+        os.close(writing)
+        with os.fdopen(reading, "rb") as given:
+            ran = subprocess.run(words, stdin=given, capture_output=True, **how)
         return ran.returncode, ran.stdout, ran.stderr, out.read_bytes() if out.exists() else None
 
     def logged(self, run, **hostile):
@@ -230,6 +258,7 @@ LARGE_REQUESTS = [
     (hash_of("somesalt -d -t 1 -k 4096 -e",
              b"$argon2d$v=19$m=4096,t=1,p=1$c29tZXNhbHQ$7ihYKDQmx1c4J4Y2qvRnMEArWN1gWQxGzVROHZ+9G/Q\n"), 1 << 22),
     (hash_of("somesalt -id -t 2 -k 4096 -p 2 -r", b"77212eb8fa2fd319a927e794b272e9dcb02859ef05ef5515f31494b4dfd389a1\n"), 1 << 22),
+    *((Run("argon2-verify", f"hash-{size}", b"password", b"", calls()), size << 10) for size in (1024, 4096)),
     *((file_of(f"{words} {keep} {FROM_PW} -", given, made, *line()), table)
       for words, given, made in ((f"enc --logN 15 -r 1 -p 1 --salt {SALT}", b"", F_4_MIB), ("dec", F_4_MIB, b""))
       for keep, table in (("", 1 << 22), ("--keep 2", 1 << 21))),
@@ -250,7 +279,7 @@ def largest_requests(checks, system):
         checks.that(f"no larger request: {run.name()}", found, (0, run.output, b"", None))
         found = system.run(run, {"HOSTILE_LARGEST": str(size - 1)})
         checks.that(f"a request as large: {run.name()}", found, run.without_memory())
-        if run.program == "argon2":
+        if run.program != "scrypt":
             counts = [system.logged(run, **refusing)[2] for refusing in ({}, {"HOSTILE_LARGEST": str(size - 1)})]
             checks.that(f"no request after the matrix: {run.name()}", counts[1], counts[0])
 
@@ -327,6 +356,7 @@ def failing_calls(system, run):
 # Refused before anything is opened, or as it is.
 UNOPENED = [
     Run("argon2", "", b"", b"", calls(*line()), "A1"),
+    Run("argon2-verify", "missing", b"password", b"", calls(("open missing", "V3"), *line()), "V3"),
     file_of("", b"", b"", *line(), refusal="S1"),
     file_of("dec F5", b"", b"", *line(), refusal="S3"),
     file_of(f"dec {FROM_PW} missing", b"", b"", ("open missing", "S12"), *line(), refusal="S12"),
@@ -338,7 +368,7 @@ def refused_looks(system, run, only, error):
     should: it ends at the first, with its line, unless it reads a file and so has to know which one standard error is."""
     found = system.run(run, {"HOSTILE_ONLY": only, "HOSTILE_CALLS": f"1-{1 << 40}", "HOSTILE_WAY": str(error)})
     at = next((at for at, (call, _, _) in enumerate(run.calls) if call.startswith(only)), len(run.calls))
-    is_read = only != "look at" and any(call == f"open {name}" for call, _, _ in run.calls[:at] for name in FILES)
+    is_read = only != "look at" and any(call == f"open {name}" for call, _, _ in run.calls[:at] for name in PUT)
     if at == len(run.calls):
         return found, run.plain()
     _, refusal, written = run.calls[at]
@@ -386,10 +416,10 @@ def no_other_calls(checks, system):
     checks.that("a named pipe is not brought to the disk", (ran.returncode, ran.stdout, log.read_bytes()), (0, F5, b""))
 
 
-def main(checks, folder, argon2, scrypt):
+def main(checks, folder, argon2, verify, scrypt):
     with concurrent.futures.ThreadPoolExecutor(os.cpu_count()) as threads:
         library = os.path.join(folder, "hostile_system.so")
-        system = System({"argon2": argon2, "scrypt": scrypt}, folder, library)
+        system = System({"argon2": argon2, "argon2-verify": verify, "scrypt": scrypt}, folder, library)
         if is_there("cc", "requests for memory and calls are not refused one by one"):
             source = pathlib.Path(__file__).with_name("hostile_system.c").read_text(encoding="utf-8")
             compiled(source, library, "-O1", "-shared", "-fPIC")
@@ -407,4 +437,4 @@ def main(checks, folder, argon2, scrypt):
         no_other_calls(checks, system)
 
 
-over_programs(main, __doc__, "argon2", "scrypt")
+over_programs(main, __doc__, "argon2", "argon2-verify", "scrypt")

@@ -25,8 +25,8 @@ import time
 sys.path += map(str, pathlib.Path(__file__).resolve().parents[1].iterdir())  # the other folders of tests/
 from checking import Checks, is_there
 from scrypt_files import F5, LINES
+from tree import TOP
 
-TOP = pathlib.Path(__file__).resolve().parents[2]
 SCRIPT = TOP / "packaging/scrypt-ask"
 SHELLS = {"dash": "dash", "bash": "bash", "bash as sh": "bash --posix", "zsh as sh": "zsh --emulate sh"}
 ASKED, AGAIN = "Passphrase: ", "The same again: "
@@ -35,8 +35,8 @@ CHEAP = "--logN 4 -r 1 -p 1"
 # What shells, read and printf may take for something else, and each byte that a character of UTF-8 may have after its first.
 WORDS = " \\a\\n%s 'x\" $HOME `ls` *  " + "".join(map(chr, range(0x80, 0xC0))) + " \\"
 NOBODY = 65534
-# In seconds: nothing here takes so long.
-LIMIT = 20
+# In seconds: nothing here takes so long, on a busy machine either.
+LIMIT = 120
 KEYS = (signal.SIGINT, "\3"), (signal.SIGQUIT, "\34")
 # What a shell with jobs does not leave to a program as it was left to itself.
 USUAL = (signal.SIGHUP, signal.SIGINT, signal.SIGQUIT, signal.SIGPIPE, signal.SIGTERM, signal.SIGTSTP, signal.SIGTTIN, signal.SIGTTOU,
@@ -66,10 +66,16 @@ printf '%05000d' 0
 read -r it <go
 [ "$it" = ends ] || { echo 'scrypt: fails' >&2; exit 1; }
 """
-# A program that refuses, and a sleep whose seconds are short.
-REFUSING, SLEEP = "#!/bin/sh\nexit 1\n", '#!/bin/sh\n[ "$1" = 1 ] && exec /bin/sleep 0.05\n'
+# A program that refuses, a sleep whose seconds are short, a sync that says what is there, and a mktemp that signals.
+REFUSING, SLEEP, SYNC = "#!/bin/sh\nexit 1\n", '#!/bin/sh\n[ "$1" = 1 ] && exec /bin/sleep 0.05\n', '#!/bin/sh\nls "$@" >../synced\n'
+MKTEMP = '#!/bin/sh\n/bin/mktemp "$@"\nfor it in HUP INT QUIT PIPE TERM TSTP; do kill -s $it "$PPID"; done\n'
 # What is told is erased first, stands on the line below, and leaves the cursor where it was.
 ERASED, BELOW, BACK = "\x1b[J", "\x1b[J\r\n", "\x1b[A\r"
+
+
+def after(command):
+    """What runs a program once a shell has done this."""
+    return "/bin/sh -c " + shlex.quote(f'{command}; exec "$@"') + " sh "
 
 
 def said(number):
@@ -88,7 +94,7 @@ class Terminal:
     def __init__(self, line, folder, environment, user):
         told, self.orders = os.pipe()
         self.notes, telling = os.pipe()
-        self.shown = ""
+        self.shown, self.halts = "", 0
         self.leader, self.screen = pty.fork()
         if self.leader == 0:
             try:
@@ -146,10 +152,21 @@ class Terminal:
         self.until(lambda: select.select([self.notes], [], [], 0)[0], "a note", do)
         return b"".join(iter(lambda: os.read(self.notes, 1), b"\n")).decode()
 
+    def halt(self, do=None):
+        """That the run stopped, or its status, once all is seen that it has shown; what was typed too late for it may stand
+        behind that. And whether the terminal shows what is typed then."""
+        note = self.note(do)
+        self.halts += 1
+        self.until(lambda: self.shown.count("\0") == self.halts, repr("\0"))
+        return note, self.echoes()
+
+    def echoes(self):
+        return bool(termios.tcgetattr(self.screen)[3] & termios.ECHO)
+
     def sees(self, text):
         """Waits for a text at the end of what is shown, and says whether the terminal shows what is typed then."""
         self.until(lambda: unnamed(self.shown).endswith(text), repr(text))
-        return bool(termios.tcgetattr(self.screen)[3] & termios.ECHO)
+        return self.echoes()
 
     def types(self, text):
         os.write(self.screen, text.encode())
@@ -166,14 +183,14 @@ class Terminal:
         """Sends a signal, or types its key, until it is told that the run has stopped or ended: a shell may look for
         signals, and then begin to read. Says so, and whether the terminal shows what is typed then."""
         time.sleep(0.02)
-        return self.note(lambda: self.types(typed) if typed else os.kill(self.number, number)), self.sees("\0")
+        return self.halt(lambda: self.types(typed) if typed else os.kill(self.number, number))
 
     def goes_on(self, order=b"+"):
         os.write(self.orders, order)
 
     def ends(self, note=None):
         """The status, what was shown, and whether the terminal shows what is typed then."""
-        status, echo = note or (self.note(), self.sees("\0"))
+        status, echo = note or self.halt()
         os.close(self.orders)
         os.waitpid(self.leader, 0)
         os.close(self.screen)
@@ -186,11 +203,11 @@ class Room:
 
     def __init__(self, checks, shell, program, folder):
         self.checks, self.shell, self.top = checks, shell, pathlib.Path(folder)
-        for name in ("bin", "other", "slow", "refusing", "sleeping"):
+        for name in ("bin", "other", "slow", "refusing", "sleeping", "signalling"):
             (self.top / name).mkdir()
             shutil.copy(SCRIPT, self.top / name)
         shutil.copy(program, self.top / "bin/scrypt")
-        for name, text in (("other/scrypt", STAND_IN), ("slow/scrypt", SLOW), ("sleeping/sleep", SLEEP),
+        for name, text in (("other/scrypt", STAND_IN), ("slow/scrypt", SLOW), ("sleeping/sleep", SLEEP), ("refusing/sync", SYNC), ("signalling/mktemp", MKTEMP),
                            *((f"refusing/{it}", REFUSING) for it in ("chmod", "cp"))):
             (self.top / name).write_text(text, encoding="utf-8")
             (self.top / name).chmod(0o755)
@@ -261,8 +278,7 @@ def typed_and_opened(room):
     room.that("opened by scrypt", room.opened("out"), (0, room.held("letters"), b""))
     room.that("dec", room.run("dec out text", f"{WORDS}\n"), (0, ONCE, True))
     room.that("what was opened", room.held("text") == room.held("letters"), True)
-    as_edited = "/bin/sh -c 'stty -icanon -icrnl -isig; exec \"$@\"' sh "
-    found = room.run("dec out text", f"{WORDS}\r", before=as_edited)
+    found = room.run("dec out text", f"{WORDS}\r", before=after("stty -icanon -icrnl -isig"))
     room.that("at a terminal that does not read by lines, as where a shell edits them", found, (0, ONCE, True))
     room.put("text", b"older")
     for name, typed in (("less at the end", WORDS[:-1]), ("less at the front", WORDS[1:]), ("a space more", f"{WORDS} "), ("nothing", "")):
@@ -352,7 +368,7 @@ def signals_while_scrypt_works(room):
         room.that("stopped at work, and gone on", (found, made), ((0, True), (0, b"Dear Ada", b"")))
     # scrypt is ended by the system, and says nothing
     room.clear(large=bytes(4096), out=b"older")
-    found = room.run(f"enc {CHEAP} large out", "words\n", "words\n", before="/bin/sh -c 'ulimit -f 1; exec \"$@\"' sh ")
+    found = room.run(f"enc {CHEAP} large out", "words\n", "words\n", before=after("ulimit -f 1"))
     room.that("a file that grows too large", (found[0], found[2]), (128 + signal.SIGXFSZ, True))
     room.that("a file that grows too large: files", (room.names(), room.held("out")), (["large", "out"], b"older"))
 
@@ -364,17 +380,18 @@ def what_it_tells(room):
     os.mkfifo(room.folder / "go")
     key, half = (f"({re.escape(BELOW)}{line}{re.escape(BACK)})+"
                  for line in (r"deriving the key: [1-9]\d? MiB, \d+ s", r"(0|49|50) %, 0 MiB, 0 MiB/s, \d+ s left"))
-    known, end = {"TERM": "xterm", "PATH": room.before("sleeping")}, re.escape(ERASED)
+    # on a machine with much work it may look before the table is there
+    known, end, whole = {"TERM": "xterm", "PATH": room.before("sleeping")}, re.escape(ERASED), f"({half})?{key}{half}"
     for words, last, variables, expected in (
-        ("letters out", "ends", {}, (0, key + half + end)), ("- out <letters", "ends", {}, (0, key + half + end)),
-        ("letters >/dev/null", "ends", {}, (0, key + half + end)),
-        ("letters out", "fails", {}, (1, f"{key}{half}scrypt: fails\r\n({half})?{end}")),
+        ("letters out", "ends", {}, (0, whole + end)), ("- out <letters", "ends", {}, (0, whole + end)),
+        ("letters >/dev/null", "ends", {}, (0, whole + end)),
+        ("letters out", "fails", {}, (1, f"{whole}scrypt: fails\r\n({half})?{end}")),
         ("letters out 2>said", "ends", {}, (0, "")), ("letters out", "ends", {"TERM": "dumb"}, (0, "")),
     ):
         terminal = room.begin(f"enc {words}", script="slow/scrypt-ask", **{**known, **variables})
         terminal.answers("a\n", "a\n")
         with open(os.open(room.folder / "go", os.O_RDWR), "w", encoding="utf-8") as go:
-            for order, told in (("goes", "MiB, "), (last, "(49|50) %")):
+            for order, told in (("goes", "deriving"), (last, "(49|50) %")):
                 if expected[1]:
                     terminal.until(lambda: re.search(f"{told}[^\n]*{re.escape(BACK)}$", terminal.shown), told)
                 else:
@@ -394,11 +411,14 @@ def what_it_tells(room):
             if number == signal.SIGTSTP:
                 shown = len(terminal.shown)
                 terminal.goes_on(b"-")
-                time.sleep(0.2)
+                time.sleep(0.5)  # ten times as long as a second is here
                 print("goes\nends", file=go, flush=True)
-                status, told = terminal.note(), terminal.shown[shown:].replace("\0", "")  # what was begun before the stop
+                status, _ = terminal.halt()
                 if room.shell.startswith("zsh") and int(status) > 128:  # its wait may end at a stop
                     continue
+                seen = lambda: terminal.shown[shown:].replace("\0", "")
+                terminal.until(lambda: seen().endswith(ERASED), "what erases it")  # for which zsh may not wait, either
+                told = seen()  # with what was begun before the stop
                 room.that("told in the background", (status, bool(re.fullmatch(f"{key[:-1]}?{end}", told)) or told), ("0", True))
             else:
                 status, shown, echo = found = terminal.ends(found)
@@ -433,27 +453,24 @@ def processes_are_killed(room):
                 pass
             number = int(random.choice(kids or [number]))
         else:
-            time.sleep(until - time.monotonic())
+            time.sleep(max(0, until - time.monotonic()))
         try:
             os.kill(number, signal.SIGKILL if turn % 3 else signal.SIGTERM)
         except ProcessLookupError:
             pass
-        if turn % 3 == 0 and not select.select([terminal.notes], [], [], 0.2)[0]:
-            terminal.answers("words\n", at=1)  # it was ignored, between two waits
+        if turn % 3 == 0:
+            asked = lambda: unnamed(terminal.shown).endswith(AGAIN)
+            terminal.until(lambda: asked() or select.select([terminal.notes], [], [], 0)[0], "a question, or the end")
+            terminal.types("words\n" * asked())  # it was ignored, between two waits, or comes just now
         status = terminal.ends()[0]
         room.that(f"killed: {number}, {status}: files", room.names(), ["letters", "out", "words"])
         is_whole = room.opened("out") == made
         expected = (True, True) if status == 0 else (is_whole, is_whole or b"older")
         room.that(f"killed: status {status}", (is_whole, is_whole or room.held("out")), expected)
-    # a signal while the new file is made; that file, and then the place of the older one, taken away while scrypt works
-    (room.top / "sleeping/mktemp").write_text('#!/bin/sh\n/bin/mktemp "$@"\nkill -TERM "$PPID"\n', encoding="utf-8")
-    (room.top / "sleeping/mktemp").chmod(0o755)
-    terminal = room.begin(enc, PATH=room.before("sleeping"))
-    asks = lambda: unnamed(terminal.shown).endswith(ASKED)
-    terminal.until(lambda: asks() or select.select([terminal.notes], [], [], 0)[0], "a question, or the end")
-    terminal.answers(*["words\n"] * (2 if asks() else 0))
-    terminal.ends()
-    room.that("a signal while the new file is made: files", room.names(), ["letters", "out", "words"])
+    # signals while the new file is made, which are ignored; that file, and then the place of the older one, taken away while
+    # scrypt works
+    found = room.run(enc, "words\n", "words\n", PATH=room.before("signalling"))
+    room.that("signals while the new file is made", (found, room.names()), ((0, TWICE, True), ["letters", "out", "words"]))
     for name in ("the new file", "the older one"):
         room.clear(out=b"older")
         os.mkfifo(room.folder / "given")
@@ -484,10 +501,10 @@ def printed_by_a_command(room):
         room.that(f"{command} {words}", room.without_terminal(f"{command} letters out {words}"), (1, b"", f"scrypt-ask: {line}\n"))
     found = room.without_terminal("enc --passcommand 'cat long' letters out")
     room.that("a long line", found, (1, b"", "scrypt: passphrase is longer than 2048 bytes\n"))
-    for number in (signal.SIGINT, signal.SIGTERM):
+    for number, typed in (*KEYS, (signal.SIGTERM, "")):
         terminal = room.begin(f"enc {CHEAP} --passcommand 'echo $$ >number; exec sleep 60' letters out")
         terminal.until(lambda: room.held("number"), "a number")
-        found = terminal.ends(terminal.signals(number, "\3" if number == signal.SIGINT else None))
+        found = terminal.ends(terminal.signals(number, typed))
         room.that(f"{number.name} while a command works", (room.is_ended_by(number, found), "Passphrase" in found[1]), (True, False))
         words = pathlib.Path(f"/proc/{int(room.held('number'))}/cmdline")  # none of one that has ended
         until = time.monotonic() + 2
@@ -530,9 +547,9 @@ def what_scrypt_gets(room):
     room.that("where all variables are exported", shown.endswith("0\r\n"), True)
     limit = resource.getrlimit(resource.RLIMIT_CORE)[1]
     for options in ("-x", "-v", "-e"):
-        before = f"/bin/sh -c 'ulimit -S -c {'unlimited' if limit < 0 else limit}; exec \"$@\"' sh "
+        before = after(f"ulimit -S -c {'unlimited' if limit < 0 else limit}")
         terminal = room.begin("dec in <in", script="other/scrypt-ask", before=before, options=options)
-        terminal.sees(ASKED)
+        terminal.until(lambda: ASKED in unnamed(terminal.shown), repr(ASKED))  # also if the shell shows what it does
         room.that(f"{options}: bytes that a core file may have", resource.prlimit(terminal.number, resource.RLIMIT_CORE)[0], 0)
         terminal.types("a secret\n")
         status, shown, _ = terminal.ends()
@@ -564,7 +581,7 @@ def files(room):
     made = (0, b"Dear Ada", b"")
     for umask, mode in ((0o022, 0o644), (0o027, 0o640), (0o077, 0o600)):
         (room.folder / "out").unlink(missing_ok=True)
-        found = room.run(f"{enc} letters out", *typed, before=f"/bin/sh -c 'umask {umask:o}; exec \"$@\"' sh ")
+        found = room.run(f"{enc} letters out", *typed, before=after(f"umask {umask:o}"))
         room.that(f"a new file, umask {umask:o}", (found[0], oct(room.mode("out"))), (0, oct(mode)))
     (room.folder / "older").chmod(0o604)
     if os.getuid() == 0:
@@ -603,15 +620,17 @@ def files(room):
     room.that("standard output that is closed", room.run(f"{enc} letters >&-", *typed), (1, TWICE + said("S13"), True))
     for of in ("new", "kept"):
         room.clear(letters=b"Dear Ada", words=b"words", **({"out": b"older"} if of == "kept" else {}))
+        (room.top / "synced").write_text("")
         found = room.run(f"{enc} letters out", *typed, PATH=room.before("refusing"))
         line = "scrypt-ask: outfile has the permissions 600: its own could not be set\r\n"
         room.that(f"permissions of a {of} file are refused", found, (0, TWICE + line, True))
         room.that(f"permissions of a {of} file that are left", oct(room.mode("out")), "0o600")
         room.that(f"permissions of a {of} file are refused: files", (room.names(), room.opened("out")), (["letters", "out", "words"], made))
+        room.that(f"the folder of a {of} file, as it is brought to the disk", (room.top / "synced").read_text().split(), room.names())
     for number in (5, 9, 10):
         room.put("out", b"older")
-        few = f"/bin/sh -c 'ulimit -n {number}; exec \"$@\"' sh "
-        ran = subprocess.run(["sh", "-c", room.line(f"{enc} --passcommand 'cat words' letters out", before=few)], cwd=room.folder, capture_output=True)
+        line = room.line(f"{enc} --passcommand 'cat words' letters out", before=after(f"ulimit -n {number}"))
+        ran = subprocess.run(["sh", "-c", line], cwd=room.folder, capture_output=True)
         is_whole = room.opened("out") == made
         room.that(f"{number} descriptors", (ran.returncode == 0, is_whole or room.held("out")), (is_whole, is_whole or b"older"))
         room.that(f"{number} descriptors: files", room.names(), ["letters", "out", "words"])

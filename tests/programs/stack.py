@@ -1,5 +1,5 @@
 #!/usr/bin/env python3
-"""Runs the built programs with a stack of 64 KiB and with one of 8 MiB: status, output and line are the same, and no
+"""Runs the built programs with a stack of 64 KiB, argon2-verify of 48, and with one of 8 MiB: status, output and line are the same, and no
 run ends by a signal. No contract sees the stack, so a body that takes 64 MiB of it at one length of the password would
 be proved.
 
@@ -24,7 +24,7 @@ from scrypt_files import FROM_PW, SALT
 
 # In KiB. The limit counts what lies above the stack, too, and the up to 8 KiB by which Linux moves its beginning.
 # docs/DECISIONS.md says what the programs take of it.
-SMALL, LARGE = 64, 8192
+SMALL, LARGE = {"argon2": 64, "argon2-verify": 48, "scrypt": 64}, 8192
 # In bytes. The largest is that of a run of scrypt, into which the compiler puts what it calls.
 LARGEST_FRAME = 32768
 CHEAP = "--logN 1 -r 1 -p 1"
@@ -34,16 +34,32 @@ PIECES = (*range(301), 4095, 4096, 4097, 8191, 8192, 8193)
 CUTS = (*range(0, 140, 3), 4224, 8320)
 
 
+# Texts of hashes: of each type, of one pass, of several lanes, and of the longest salt and tag; by their tags no password is right.
+HASHES = {
+    "hash": "$argon2d$v=19$m=8,t=1,p=1$c29tZXNhbHQ$" + "A" * 43,
+    **{f"hash-{kind}-{lanes}": f"$argon2{kind}$v=19$m={8 * lanes},t=2,p={lanes}$c29tZXNhbHQ$" + "A" * 43
+       for kind in ("d", "i", "id") for lanes in (1, 3, 16)},
+    "hash-of-1-mib": "$argon2id$v=19$m=1024,t=1,p=4$c29tZXNhbHQ$" + "A" * 43,
+    "hash-longest": "$argon2id$v=19$m=8,t=1,p=1$" + "A" * 340 + "$" + "A" * 5462,
+    "hash-too-long": "$argon2id$v=19$m=8,t=1,p=1$" + "A" * 4096 + "$" + "A" * 4090,
+}
+
+
 # What is run: a program, its words as a shell reads them, the file on its standard input, variables before it, and how
 # many bytes these have beyond some hundred.
 Run = collections.namedtuple("Run", "name program words given variables more", defaults=("/dev/null", "", 0))
 
 
+def variable(program):
+    """The name of the variable that has the program's path."""
+    return program.replace("-", "_")
+
+
 def line_of(run, number, small):
     """A line of a shell, which itself keeps the stack that it has."""
-    limit = (SMALL if small else LARGE) + -(-run.more // 1024)
+    limit = (SMALL[run.program] if small else LARGE) + -(-run.more // 1024)
     export = f"export {run.variables}; " if run.variables else ""
-    command = f'ulimit -Ss {limit}; {export}exec "${run.program}" {run.words} <{run.given}'
+    command = f'ulimit -Ss {limit}; {export}exec "${variable(run.program)}" {run.words} <{run.given}'
     return f"({command}); printf '\\nended {number} %s\\n' $?\n"
 
 
@@ -67,6 +83,22 @@ def runs_of_argon2():
     for place, words in (("the salt", "{} -e"), ("a number", "somesalt -e -t {}"), ("a word", "somesalt -e {}")):
         long = words.format("1" * 100000)
         yield Run(f"100,000 bytes for {place} of argon2", "argon2", long, "p-8", more=100000)
+
+
+def runs_of_argon2_verify():
+    for length in range(4099):
+        yield Run(f"a password of {length} bytes for a hash", "argon2-verify", "hash", f"p-{length}")
+    for name in HASHES:
+        for length in (0, 8, 4096):
+            yield Run(f"a password of {length} bytes for {name}", "argon2-verify", name, f"p-{length}")
+    for length in PIECES:
+        yield Run(f"a first line of {length} bytes", "argon2-verify", f"p-{length}", "p-8")
+    for count in range(41):
+        words = " ".join(" ".join(["--maxmem 4096 --maxops 99"] * 11).split()[:count])
+        yield Run(f"{count} words for argon2-verify", "argon2-verify", words, "p-8")
+        yield Run(f"{count} words for argon2-verify, and a name", "argon2-verify", f"{words} hash", "p-8")
+    for place, words in (("the name", "{}"), ("a number", "--maxmem {} hash"), ("a word", "--{} 1 hash")):
+        yield Run(f"100,000 bytes for {place} of argon2-verify", "argon2-verify", words.format("1" * 100000), "p-8", more=100000)
 
 
 def runs_of_scrypt():
@@ -115,12 +147,12 @@ def runs_over_files():
 
 def run_all(runs, folder, programs, small):
     """What each run ends with, status and output, by its name; the shells that run them go side by side."""
-    count = len(os.sched_getaffinity(0))
+    count, paths = len(os.sched_getaffinity(0)), {variable(name): path for name, path in programs.items()}
 
     def part(chosen):
         text = "".join(line_of(run, number, small) for number, run in chosen)
         ran = subprocess.run(["sh", "-s"], input=text.encode(), stdout=subprocess.PIPE, stderr=subprocess.STDOUT,
-                             cwd=folder, env=programs, check=False)
+                             cwd=folder, env=paths, check=False)
         ended = re.findall(rb"(.*?)\nended (\d+) (\d+)\n", ran.stdout, re.DOTALL)
         return {int(number): (int(status), out) for out, number, status in ended}
 
@@ -135,7 +167,7 @@ def compare(runs, folder, programs):
     """The runs that end otherwise with a small stack, or by a signal; and what each ends with."""
     large, small = (run_all(runs, folder, programs, it) for it in (False, True))
     wrong = [(run.name, few, many) for run, few, many in zip(runs, small, large)
-             if few != many or few is None or few[0] not in (0, 1)]
+             if few != many or few is None or few[0] not in (0, 1, 2)]
     return wrong, large
 
 
@@ -187,13 +219,15 @@ def largest_frame(program):
     return max(found)
 
 
-def main(checks, folder, argon2, scrypt):
-    programs = {"argon2": argon2, "scrypt": scrypt}
-    for length in {*LENGTHS, *PIECES}:
+def main(checks, folder, argon2, verify, scrypt):
+    programs = {"argon2": argon2, "argon2-verify": verify, "scrypt": scrypt}
+    for length in {*range(4099), *PIECES}:
         checks.put(f"p-{length}", b"p" * length)
+    for name, text in HASHES.items():
+        checks.put(name, text.encode())
     checks.put("pw", b"pw\n")
     checks.put("hello", b"hello")
-    runs = [*runs_of_argon2(), *runs_of_scrypt()]
+    runs = [*runs_of_argon2(), *runs_of_argon2_verify(), *runs_of_scrypt()]
     wrong, ended = compare(runs, folder, programs)
     # the files of texts, as runs wrote them, and parts of one
     made = {run.name: out for run, (_, out) in zip(runs, ended)}
@@ -211,7 +245,7 @@ def main(checks, folder, argon2, scrypt):
     checks.that("passphrases under which files are opened", opens, [f"a file under a passphrase of {it} bytes" for it in range(2049)])
     checks.passed += len(runs) + len(over_files) - len(wrong)
     for name, small, large in wrong:
-        checks.that(f"with a stack of {SMALL} KiB: {name}", small, large if large and large[0] in (0, 1) else "no signal")
+        checks.that(f"with a small stack: {name}", small, large if large and large[0] in (0, 1, 2) else "no signal")
     statuses = [it[0] for it in ended if it]
     checks.that("some runs end well, and some do not", (0 in statuses, 1 in statuses), (True, True))
     finds_what_is_deep(checks, folder)
@@ -221,4 +255,4 @@ def main(checks, folder, argon2, scrypt):
         checks.that(f"{name}: no larger frame than {LARGEST_FRAME} bytes", size <= LARGEST_FRAME, True)
 
 
-over_programs(main, __doc__, "argon2", "scrypt")
+over_programs(main, __doc__, "argon2", "argon2-verify", "scrypt")

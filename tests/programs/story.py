@@ -1,12 +1,11 @@
 #!/usr/bin/env python3
 """Does what README and the manual pages show: README's first screen, a folder under a typed passphrase, and the
 story; the examples of the pages, in each shell that they are for, also where a command before a pipe fails, a
-password is wrong, or the stored text is empty; and what checks a stored text in Python, where the library is built.
-The login of docs/LIBRARY.md's Rust program is that of a test, and the text that it enrols is what the built argon2
-writes.
+password is wrong, or the stored text is empty. The login of docs/LIBRARY.md's Rust program is that of a test, and the
+text that it enrols is what the built argon2 writes.
 
-    tests/programs/story.py FOLDER               in which the programs argon2 and scrypt lie
-    tests/programs/story.py --recipes FOLDER     what is typed for README, and the examples of scrypt-ask and argon2
+    tests/programs/story.py FOLDER               in which the programs lie
+    tests/programs/story.py --recipes FOLDER     what is typed for README, and the examples of scrypt-ask, argon2 and argon2-verify
     tests/programs/story.py --prove              proves, builds and runs that Rust program over the crates (some minutes)
 """
 import os
@@ -19,31 +18,31 @@ import tempfile
 import textwrap
 
 sys.path += map(str, pathlib.Path(__file__).resolve().parents[1].iterdir())  # the other folders of tests/
-from checking import Checks, is_there, left_out
+import roff
+from checking import Checks, is_there
 from scrypt_ask import AGAIN, ASKED, CHEAP, Terminal
+from shown import GREAT, LIBRARY, STORED
+from tree import TOP, read
 
-TOP = pathlib.Path(__file__).resolve().parents[2]
-README = (TOP / "README.md").read_text(encoding="utf-8")
-LIBRARY = (TOP / "docs/LIBRARY.md").read_text(encoding="utf-8")
-SHARED = TOP / "bin/lib/libpikhsen.so.0"
+README = read("README.md")
 END = "-- end of the command --"
+
+
+def section_of_readme(heading):
+    return README.split(f"\n## {heading}\n")[1].split("\n## ")[0]
 
 
 def story():
     """The commands below the heading "A story", in their order, each with what it prints."""
-    section = README.split("\n## A story\n")[1].split("\n## ")[0]
-    lines = "".join(f"{line}\n" for line in re.findall(r"^    (.*)$", section, re.MULTILINE))
+    lines = "".join(f"{line}\n" for line in re.findall(r"^    (.*)$", section_of_readme("A story"), re.MULTILINE))
     found = re.findall(r"^\$ (.*\n(?:> .*\n)*)((?:(?!\$ ).*\n)*)", lines, re.MULTILINE)
     return [(command.rstrip("\n").replace("\n> ", "\n"), answer) for command, answer in found]
 
 
 def examples(page, heading="EXAMPLES"):
     """The examples in a section of a manual page, in their order, as they are typed, and what the page says that they print."""
-    section = (TOP / "man" / page).read_text(encoding="utf-8").split(f"\n.SH {heading}\n")[1].split("\n.SH ")[0]
     found = []
-    for text in re.findall(r"^\.nf\n(.*?)^\.fi$", section, re.MULTILINE | re.DOTALL):
-        for written, meant in ((r"\-", "-"), (r"\(aq", "'"), (r"\e", "\\")):
-            text = text.replace(written, meant)
+    for text in roff.examples(page, heading):
         begin = ("$ ", "    ") if re.search(r"^\$ ", text, re.MULTILINE) else ""  # how lines that are typed begin
         typed = "".join(line.removeprefix("$ ") for line in text.splitlines(keepends=True) if line.startswith(begin))
         found.append((typed, "".join(line for line in text.splitlines(keepends=True) if not line.startswith(begin))))
@@ -67,12 +66,6 @@ class Shell:
     def expect(self, name, found, expected):
         self.checks.that(f"{self.page} in {self.name}: {name}", found, expected)
 
-    def checked_in_python(self, name, program, given, expected):
-        """What checks a stored text in Python, where the library is built."""
-        (self.room / "check.py").write_text(program, encoding="utf-8")
-        found = self.run("python3 check.py", given, PYTHONPATH=str(TOP / "python"), PIKHSEN_LIBRARY=str(SHARED))
-        self.expect(name, found, (0, expected))
-
 
 def in_shells(checks, programs, names, page, run):
     """Runs what is for these shells in each, in an empty folder."""
@@ -84,8 +77,7 @@ def in_shells(checks, programs, names, page, run):
 
 def blocks_of_readme(heading):
     """The blocks of code below a heading of README."""
-    part = README.split(f"\n## {heading}\n")[1].split("\n## ")[0]
-    return [textwrap.dedent(it) for it in re.findall(r"(?:^    .*\n)+", part, re.MULTILINE)]
+    return [textwrap.dedent(it) for it in re.findall(r"(?:^    .*\n)+", section_of_readme(heading), re.MULTILINE)]
 
 
 def costs_timed(shell, loop):
@@ -154,7 +146,7 @@ def scrypt_examples(shell):
 def argon2_examples(shell):
     """A hash of a typed password, and its check; or, in a shell that cannot hide what is typed, without the line that asks,
     and with the password in a variable, as the page says of scripts."""
-    enrol, check, python, key = (text for text, _ in examples("argon2.1"))
+    enrol, check, key = (text for text, _ in examples("argon2.1"))
     asks = r"^  printf '(.*: )' >&2; IFS= read -rs password; echo >&2\n"
     prompts = [re.search(asks, it, re.MULTILINE)[1] + "\n" for it in (enrol, check)]
     if shell.name == "dash":
@@ -173,35 +165,16 @@ def argon2_examples(shell):
         kept = shell.run("cmp before stored")
         expect(f"a hash of {len(password)} bytes is refused, and what was stored stays", (status, kept), (1, (0, "")))
     expect("the right password", enter(check, right), (0, f"{asked}welcome\n"))
-    for password in ("battery staple", "correct horse ", " correct horse", "correct\\\\horse"):
+    for password in ("battery staple", "correct horse ", " correct horse", "correct\\\\horse", "", "x" * 200):
         expect(f"the password '{password}'", enter(check, password), (1, f"{asked}not you\n"))
-    for password in ("", "x" * 200):
-        status, said = enter(check, password)
-        expect(f"the password '{password}'", (status, "argon2: password is" in said, said[-8:]), (1, True, "not you\n"))
     if shell.name != "dash":
-        left = 'echo "<$password$kind$v$m$t$p$salt$tag$again>"'
+        left = 'echo "<$password$salt>"'
         expect("nothing stays in the shell", enter(f"{enrol}{left}", right), (0, f"{new}<>\n"))
         expect("nothing stays after a check", enter(f"{check}{left}", right), (0, f"{asked}welcome\n<>\n"))
-    # a text of any settings; and texts that somebody else wrote, which run nothing, with what argon2 says of them
     for words in ("'s,l$t = \u00e4' -i -t 2 -k 100 -p 3 -l 30 -v 10", "'ends in a line\n\n' -d -t 1 -k 8 -l 64"):
         found = enter(f"printf %s other | argon2 {words} -e >stored\n{check}", "other")
         expect(f"a text of {words}", found, (0, f"{asked}welcome\n"))
-    commands = "path[`touch run`]"
-    for text, said in (
-        (f"$argon2id$v={commands}$m=8,t=1,p=1$c29tZXNhbHQ$AAAAAA", "bad number"),
-        (f"$argon2{commands}$v={commands}$m={commands},t={commands},p={commands}${commands}${commands}", "usage"),
-        ("$argon2id$v=19$m=1048580,t=1,p=1$c29tZXNhbHQ$AAAAAA", "more memory needed than --maxmem allows"),
-        ("$argon2id$v=19$m=1048576,t=9,p=1$c29tZXNhbHQ$AAAAAA", "more work needed than --maxops allows"),
-        ("$argon2id$m=8,t=1,p=1$c29tZXNhbHQ$AAAAAA", "bad number"),
-        ("$argon2id$v=19$m=8,t=1,p=1$8PHy8/T19vf4+fr7/P3+/w$AAAAAA", "usage"),
-    ):
-        (shell.room / "stored").write_text(text + "\n", encoding="utf-8")
-        status, found = enter(check, right)
-        found = status != 0, f"argon2: {said}" in found, "welcome" in found, (shell.room / "run").exists()
-        expect(f"the text {text}", found, (True, True, False, False))
     enter(enrol, right)
-    for password, said in ((b"correct horse", "welcome\n"), (b"battery staple", "not you\n")) if SHARED.exists() else ():
-        shell.checked_in_python(f"the password {password} in Python", python, password, said)
     for name, stored in (("empty", ": >stored"), ("of a line feed", "echo >stored"), ("that is missing", "rm stored")):
         shell.run(stored)
         for password in ("anything", "correct horse", ""):
@@ -210,6 +183,21 @@ def argon2_examples(shell):
     status, said = shell.run(key, salt="a salt that is kept", password=right)
     expect("a key", (status, len(bytes.fromhex(said))), (0, 64))
     expect("a key without a salt", shell.run(key, password=right), (1, "argon2: salt length out of range\n"))
+
+
+def argon2_verify_examples(shell):
+    """Both checks of a password in a variable, under `set -e`, which ends where such a pipe stands alone."""
+    plain, told, _ = (f"set -e\n{text}" for text, _ in examples("argon2-verify.1"))
+    shell.run("printf %s 'correct horse' | argon2 somesalt -id -t 1 -k 8 -e >stored; cp stored other")
+    for password, said in (("correct horse", "welcome\n"), ("correct horse\n", "not you\n"), ("x", "not you\n"), ("", "not you\n")):
+        for text in (plain, told):
+            shell.expect(f"the password {password!r}", shell.run(text, password=password), (0, said))
+    refused = "argon2-verify: the file's first line is no encoded hash\n"
+    for text, said in ((plain, "not you\n"), (told, "try again later\n")):
+        shell.expect("an empty file", shell.run(f": >stored\n{text}", password="correct horse"), (0, refused + said))
+    alone = f"set -e\n{re.search('printf .* stored', plain)[0]}\necho after it"
+    shell.expect("a refusal alone", shell.run(alone, password="x"), (2, refused))
+    shell.expect("a wrong password alone", shell.run(f"cp other stored\n{alone}", password="x"), (1, ""))
 
 
 def typed(shell, text):
@@ -242,9 +230,8 @@ def first_screen(shell):
     lower costs, with a passphrase typed at each question. No line follows one that asks, which would read it."""
     install, *commands = re.findall(r"^    (.*)$", README.partition("\n[^speed]:")[0], re.MULTILINE)
     status, said, asked = typed(shell, "\n".join(commands))
-    text = r"\$argon2id\$v=19\$m=65536,t=3,p=4\$[\w+/]+\$[\w+/]{43}\r\n" + re.escape(asked)
-    found = install.startswith("make run && make install "), status, re.sub(f"^{text}$", "a hash", said)
-    shell.expect("the first screen", found, (True, 0, "a hash"))
+    found = install.startswith("make run && make install "), status, said
+    shell.expect("the first screen", found, (True, 0, f"welcome\r\n{asked}"))
     shell.expect("lines of the first screen that ask", [it for it in commands if "scrypt-ask" in it], commands[-1:])
     shell.expect("what was opened", shell.run("cat opened; cmp letter opened; cmp -s letter letter.scrypt"), (1, "Dear Ada\n"))
 
@@ -263,25 +250,29 @@ def asking_examples(shell):
 def compare_recipes(checks, programs):
     for page, part in (("README.md", first_screen), ("README.md", typed_folder), ("scrypt-ask.1", asking_examples)):
         in_shells(checks, programs, ("bash", "zsh"), page, part)
-    in_shells(checks, programs, ("bash", "dash", "zsh"), "argon2.1", argon2_examples)
+    for page, part in (("argon2.1", argon2_examples), ("argon2-verify.1", argon2_verify_examples)):
+        in_shells(checks, programs, ("bash", "dash", "zsh"), page, part)
 
 
 def parts_of_readme(shell):
-    """The loop that times costs, and the check of a stored text in Python."""
+    """The loop that times costs."""
     costs_timed(shell, *blocks_of_readme("Which costs"))
-    stored = README.split("\n## Checking a stored hash\n")[1].split("\n# ")[0]
-    (python,) = re.findall(r"^```python\n(.*?)^```", stored, re.MULTILINE | re.DOTALL)
-    if SHARED.exists():
-        (text,) = re.findall(r"^    (\$argon2id\$\S+\n)", README, re.MULTILINE)  # of the story
-        (shell.room / "stored").write_text(text, encoding="utf-8")
-        shell.checked_in_python("a stored text in Python", python, b"", "True\n")
-    else:
-        left_out("bin/lib/libpikhsen.so.0 is not built", "a stored text in Python", 1)
+
+
+def texts_of_others(shell):
+    """README's check of texts of other programs, under the limits that it gives a server; Django's word cut off as the page says."""
+    check, limits = re.search(r"`(printf .*) FILE` ends .* a server adds `(.*?)`", " ".join(README.split())).groups()
+    (cut,) = re.findall(r'^\.B "(sed .*)"$', read("man/argon2-verify.1"), re.MULTILINE)
+    for status, texts in ((0, STORED), (2, GREAT)):
+        for text in texts:
+            (shell.room / "theirs").write_text(text + "\n", encoding="utf-8")
+            found = shell.run(f"{cut} theirs >stored; {check} {limits} stored", password="correct horse")
+            shell.expect(f"a text of another program, {text[:34]}", found[0], status)
 
 
 def rust_program():
     """The Rust program of docs/LIBRARY.md, and what the page says that it prints."""
-    program = (TOP / "docs/programs/accounts.txt").read_text(encoding="utf-8")
+    program = read("docs/programs/accounts.txt")
     shown = re.search(r"It prints:\n\n((?:    .*\n)+)", LIBRARY.split(program)[1])[1]
     return program, textwrap.dedent(shown)
 
@@ -320,36 +311,39 @@ def prove():
         raise SystemExit(f"LIBRARY's program prints {ran.stdout!r}")
 
 
-def main():
-    if len(sys.argv) == 3 and sys.argv[1] == "--recipes":
-        checks = Checks(os.path.join(sys.argv[2], "scrypt"))
-        compare_recipes(checks, sys.argv[2])
-        return checks.end()
-    if len(sys.argv) != 2:
-        raise SystemExit(__doc__)
-    if sys.argv[1] == "--prove":
-        return prove()
-    checks = Checks(os.path.join(sys.argv[1], "scrypt"))
-    compare_library(checks, sys.argv[1])
+def story_is_told(checks, programs):
+    """README's story, command by command. Its login lets nobody in where the stored text is empty."""
     typed = story()
     with tempfile.TemporaryDirectory() as room:
         script = "".join(f"{command}\necho '{END}'\n" for command, _ in typed)
-        found = Shell(checks, "bash", sys.argv[1], room).run(script)[1].split(END + "\n")[:-1]
+        found = Shell(checks, "bash", programs, room).run(script)[1].split(END + "\n")[:-1]
     checks.that("as many answers as commands", len(found), len(typed))
     for (command, expected), answer in zip(typed, found):
         checks.that(f"README: {command}", answer, expected)
-    # its login lets nobody in where the stored text is empty, and argon2 refuses the password
-    (encoded,) = [command for command, _ in typed if command.startswith("encoded()")]
     (login,) = [command for command, answer in typed if answer == "welcome\n"]
     with tempfile.TemporaryDirectory() as room:
-        shell = Shell(checks, "bash", sys.argv[1], room)
+        shell = Shell(checks, "bash", programs, room)
         for stored in (": >stored", "echo >stored", "rm stored"):
             for password in ("''", "$(printf %200d 0)", "'correct horse'"):
-                status, said = shell.run(f"{stored}; {encoded}\n" + login.replace("'correct horse'", password))
-                checks.that(f"README: {password} after {stored}", (status != 0, "welcome" in said), (True, False))
-    in_shells(checks, sys.argv[1], ("bash", "zsh"), "README.md", parts_of_readme)
-    compare_recipes(checks, sys.argv[1])
-    in_shells(checks, sys.argv[1], ("bash", "zsh"), "scrypt.1", scrypt_examples)
+                status, said = shell.run(f"{stored}\n" + login.replace("'correct horse'", password))
+                checks.that(f"README: {password} after {stored}", (status, "welcome" in said), (2, False))
+
+
+def main():
+    if sys.argv[1:] == ["--prove"]:
+        return prove()
+    *option, programs = sys.argv[1:] or ["none"]
+    if programs == "none" or option not in ([], ["--recipes"]):
+        raise SystemExit(__doc__)
+    checks = Checks(os.path.join(programs, "scrypt"))
+    if not option:
+        compare_library(checks, programs)
+        story_is_told(checks, programs)
+        in_shells(checks, programs, ("bash", "zsh"), "README.md", parts_of_readme)
+        in_shells(checks, programs, ("bash",), "README.md", texts_of_others)
+    compare_recipes(checks, programs)
+    if not option:
+        in_shells(checks, programs, ("bash", "zsh"), "scrypt.1", scrypt_examples)
     checks.end()
 
 

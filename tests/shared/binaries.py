@@ -4,8 +4,11 @@ import re
 
 from checking import is_there, said
 
+# What a processor of the level x86-64-v3 has, as /proc/cpuinfo calls it (the x86-64 psABI, 3.1.1; abm is LZCNT).
+V3 = {"abm", "avx2", "bmi1", "bmi2", "f16c", "fma", "movbe"}
 
-def hardened(checks, name, file, is_program):
+
+def hardened(checks, name, file, is_program, needed=("libc.so.6",)):
     """All is bound at the start and read-only afterwards, no memory can be both written and run, no text is changed
     where it is loaded, and nothing is looked for in folders of whoever built it."""
     head, segments, dynamic = (said("readelf", it, str(file)) for it in ("-hW", "-lW", "-dW"))
@@ -21,7 +24,7 @@ def hardened(checks, name, file, is_program):
     checks.that(f"{name}: some memory is run", any("E" in it for it in loaded), True)
     wrong = re.findall(r"\((TEXTREL|RPATH|RUNPATH)\)", dynamic)
     checks.that(f"{name}: text that is changed, folders to look in", wrong, [])
-    checks.that(f"{name}: libraries needed", re.findall(r"\(NEEDED\).*\[(.*)\]", dynamic), ["libc.so.6"])
+    checks.that(f"{name}: libraries needed", re.findall(r"\(NEEDED\).*\[(.*)\]", dynamic), [*needed])
 
 
 def level(checks, name, file, has_avx):
@@ -34,7 +37,7 @@ def level(checks, name, file, has_avx):
 def runs_v3():
     """Whether the processor has the level x86-64-v3."""
     flags = re.search(r"(?m)^flags.*", pathlib.Path("/proc/cpuinfo").read_text(encoding="ascii", errors="replace"))
-    return {"abm", "avx2", "bmi1", "bmi2", "f16c", "fma", "movbe"} <= {*flags[0].split()}
+    return V3 <= {*flags[0].split()}
 
 
 def names_in(checks, words, names):

@@ -138,6 +138,12 @@ def compiled(text, out, *flags):
     subprocess.run(["cc", *flags, "-x", "c", "-", "-o", out], input=text, text=True, check=True)
 
 
+def ran(*words, **more):
+    """Status and output of a program."""
+    done = subprocess.run(words, stdout=subprocess.PIPE, stderr=subprocess.STDOUT, text=True, **more)
+    return done.returncode, done.stdout
+
+
 def said(*words, check=True):
     """What a program says on standard output."""
     return subprocess.run(words, stdout=subprocess.PIPE, check=check, text=True).stdout

@@ -5,7 +5,19 @@ import sys
 
 TOP = pathlib.Path(__file__).resolve().parents[2]
 sys.path.insert(0, str(TOP / "packaging"))
-from prove import uses_of as below  # noqa: E402, F401
+import prove  # noqa: E402
+
+below = prove.uses_of
+
+
+def read(name):
+    """The text of a file of the tree."""
+    return (TOP / name).read_text(encoding="utf-8")
+
+
+VERSION = read("VERSION").strip()
+# The crate of each program, by its name.
+PROGRAMS = dict(it.split() for it in read("packaging/programs").splitlines())
 
 
 def git(*words, top=TOP):

@@ -1,5 +1,5 @@
 #!/usr/bin/env python3
-"""Whether readers of sources by lines (tests/sources/functions.py, tests/pages/promises.py) see what was compiled: of each
+"""Whether readers of sources by lines (tests/sources/functions.py, tests/pages/contracts.py) see what was compiled: of each
 library that is built the same functions, and of each function with clauses the same clauses, by what the compiler keeps in
 NAME.rlib/toolchain. So no macro, module or comment hides from them; that files are the same, says calls.py.
 
@@ -12,10 +12,9 @@ import sys
 
 sys.path += map(str, pathlib.Path(__file__).resolve().parents[1].iterdir())  # the other folders of tests/
 import calls
+import contracts
 import promises
 from compiled import functions_of
-from functions import FUNCTION, IMPL, path_of
-from tree import TOP
 
 # What the compiler writes: of a function as a value, of a closure, and of what is derived or has a body in its trait.
 MADE = re.compile(r".*(\+\+|::fn::).*|.*(Debug::fmt|Display::fmt|PartialEq::eq|Clone::clone|Iterator::size_hint)")
@@ -28,17 +27,6 @@ def compiled_functions(folder):
         path = name.removesuffix("+decl").split("::")[1:]
         if not MADE.fullmatch(name):
             yield "::".join(path if not name.endswith("+decl") else [*path[:-2], path[-1]])
-
-
-def functions_by_lines(crate):
-    """The functions of a crate, as they are found by lines."""
-    folder = TOP / "crates" / crate
-    for path in sorted((folder / "src").rglob("*.rt")):
-        lines = path.read_text(encoding="utf-8").split("\n")
-        for at, found in enumerate(map(FUNCTION.match, lines)):
-            if found:
-                above = [it for it in map(IMPL.match, lines[:at]) if it and found[1]]
-                yield path_of(folder, path.relative_to(folder), above[-1] if above else None, found[2])
 
 
 def compiled_clauses(folder):
@@ -69,8 +57,8 @@ def main():
     wrong, compared = [], 0
     for folder in calls.libraries(sys.argv[1:]):
         crate = folder.stem
-        functions = {*compiled_functions(folder)} ^ {*functions_by_lines(crate)}
-        wrong += [f"{crate}: {it}: by lines alone, or compiled alone" for it in sorted(functions)]
+        by_lines = {it.prover_path(crate) for it in contracts.items(crate) if it.what == "fn"}
+        wrong += [f"{crate}: {it}: by lines alone, or compiled alone" for it in sorted(by_lines ^ {*compiled_functions(folder)})]
         if (folder / "toolchain/checked.json").is_file():
             compiled = compiled_clauses(folder)
             for name, clauses in promises.functions(crate).items():

@@ -50,7 +50,7 @@ BEGINS = frozenset({"argon::matrix::Matrix::start", "encfile::enc::Enc::start", 
 MIXES = re.compile(r"Wrap(Add|Mul)")  # of the work that is counted
 COMPARES = re.compile(r"\W*(Eq|Ne|Lt|Le)")
 SHOWS = re.compile(r"(Debug|Display)::fmt$|PartialEq::eq$")  # derived, of values that are no bytes
-RAW = re.compile(r".*::(forget|leak|into_raw\w*|from_raw\w*|ManuallyDrop::\w+)$|pikhsen_c::(stream::PikhsenStream::of|heap::Heap::take)$")
+RAW = re.compile(r".*::(forget|leak|into_raw\w*|from_raw\w*|ManuallyDrop::\w+)$|pikhsen_c::(stream::PikhsenStream::begin|heap::Heap::take)$")
 FOR_C, WIPES = re.compile(r"pikhsen_c::.*::pikhsen_\w+$"), "pikhsen_c::wiping::wipe_stack"
 DEEP, LONG = 72 << 10, 1 << 20
 

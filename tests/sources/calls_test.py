@@ -102,7 +102,7 @@ def want_of_memory(kind):
 
 
 CLONE = impl("std_alloc::string::methods::StringClone", impl("std_heap::GlobalAllocator"), impl("core::clone::Clone+copy"), impl("argon::Destruct++none"))
-BRANCH, STREAM = first(branch(copied(1, {"Deref": BYTE}))), "pikhsen_c::stream::PikhsenStream::of"
+BRANCH, STREAM = first(branch(copied(1, {"Deref": BYTE}))), "pikhsen_c::stream::PikhsenStream::begin"
 # A rule, the function, and what is put into it.
 TRIALS = [
     ("memory", "argon2_words::request::read_request", first(call((CLONE, 0)))),  # a copy of a word

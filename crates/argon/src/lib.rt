@@ -43,6 +43,7 @@
 mod addresses;
 mod block;
 mod blocks;
+mod clients;
 pub mod compression;
 mod compute_and_store_block;
 mod fault;

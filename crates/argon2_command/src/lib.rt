@@ -5,6 +5,7 @@
 #![tactic(auto)]
 
 mod bytes;
+mod laws;
 mod line;
 mod output;
 mod password;

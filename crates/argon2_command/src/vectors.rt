@@ -1,11 +1,14 @@
 //! The definitions of argon2's output, run on what the reference program gives.
-ghost use Rattle.std.specs.Prelude.{◌≡◌, [], ◌∷◌, ◌++◌, Ok, Err, None, Some, codes, replicate, true};
+ghost use Rattle.std.specs.Prelude.{◌≡◌, ◌+◌, [], ◌∷◌, ◌++◌, Ok, Err, None, Some, codes, false, is_ok, map, replicate, true};
 ghost use Rattle.argon.specs.Argon2.{argon2_tag};
 ghost use Rattle.argon_text.specs.Vectors.{sample_encoded_text, sample_encoded_value};
-ghost use Rattle.argon2_command.specs.Output.{argon2_command_output, output_for, tag_line};
+ghost use Rattle.argon2_command.specs.MemoryRequestEffects.{after_all_requests, memory_request_effects};
+ghost use Rattle.argon2_command.specs.Output.{argon2_command_output, output_for, parameters_of, password_in, request_work, tag_line};
 ghost use Rattle.argon2_command.specs.Run.{after_password_asked};
 ghost use Rattle.host.specs.HostState.{placeholder_host_state, stdin_once};
 ghost use Rattle.argon2_words.specs.Settings.{defaults};
+ghost use Rattle.argon.specs.declared.kind.Kind.TheVariants.{Id};
+ghost use Rattle.argon2_words.specs.declared.settings.Version.TheVariants.{V10};
 ghost use Rattle.argon2_words.specs.declared.items.Form.TheVariants.{Encoded, Hex};
 ghost use Rattle.argon2_words.specs.declared.refusal.Argon2Refusal.TheVariants.{EmptyPassword, LongPassword, MemoryLimit, OneForm, Passes, PasswordFault, SaltLength, WorkLimit};
 
@@ -56,6 +59,7 @@ fn first_refusal_of_a_run()
     ensures long { output_for (codes "s" ∷ codes "-e" ∷ []) (Some (replicate 128 7)) ≡ Err LongPassword }
     ensures longest { output_for (codes "s" ∷ codes "-e" ∷ []) (Some (replicate 127 7)) ≡ Err SaltLength }
     ensures passes_first { output_for (codes "s" ∷ codes "-t" ∷ codes "0" ∷ codes "-e" ∷ []) (Some (codes "p")) ≡ Err Passes }
+    ensures passes_before_limits { output_for (codes "s" ∷ codes "-t" ∷ codes "0" ∷ codes "--maxmem" ∷ codes "1" ∷ codes "-e" ∷ []) (Some (codes "p")) ≡ Err Passes }
     ensures memory_limit { output_for (codes "somesalt" ∷ codes "--maxmem" ∷ codes "4095" ∷ codes "--maxops" ∷ codes "1" ∷ codes "-e" ∷ []) (Some (codes "p")) ≡ Err MemoryLimit }
     ensures work_limit { output_for (codes "somesalt" ∷ codes "--maxmem" ∷ codes "4096" ∷ codes "--maxops" ∷ codes "1" ∷ codes "-e" ∷ []) (Some (codes "p")) ≡ Err WorkLimit }
 {}
@@ -64,4 +68,28 @@ fn first_refusal_of_a_run()
 fn password_by_words()
     ensures taken { (after_password_asked (codes "somesalt" ∷ codes "-e" ∷ []) placeholder_host_state).asked ≡ Some stdin_once }
     ensures refused { (after_password_asked (codes "somesalt" ∷ []) placeholder_host_state).asked ≡ None }
+{}
+
+// What is read of standard input: 1 to 127 bytes are a password, docs/FORMATS.md, ranges.
+fn passwords()
+    ensures empty { password_in (Some []) ≡ Err EmptyPassword }
+    ensures none { password_in None ≡ Err PasswordFault }
+    ensures lengths { map (λ n. is_ok (password_in (Some (replicate n 112)))) (0 ∷ 1 ∷ 127 ∷ 128 ∷ 129 ∷ 1000 ∷ [])
+        ≡ false ∷ true ∷ true ∷ false ∷ false ∷ false ∷ [] }
+    ensures long { password_in (Some (replicate 129 112)) ≡ Err LongPassword }
+{}
+
+// Each number in its place, as argon2 -id -t 2 -m 5 -p 3 -l 9 -v 10 gives it; and the block functions of what no option sets:
+// 3 * 4,096 - 2 blocks, and 2 * 8 for the address blocks of 12 segments of 1,024 columns (RFC 9106, 3.2 and 3.4.1.2).
+fn parameters_of_requests()
+    ensures each { parameters_of (record { salt = codes "somesalt"; settings = record defaults { kind = Id; passes = 2; memory_kib = 32; lanes = 3; tag_length = 9; version = V10 }; form = Hex }) (codes "pw")
+        ≡ record { kind = 2; version = 16; passes = 2; lanes = 3; memory_kib = 32; tag_len = 9; salt_len = 8; password_len = 2 } }
+    ensures work { request_work (record { salt = codes "somesalt"; settings = defaults; form = Hex }) ≡ 12478 }
+{}
+
+// The memory of the tag is asked for first, then that of its line, then the matrix: here each request leaves its number.
+fn requests_of_a_run()
+    ensures all { after_all_requests (memory_request_effects (λ asked bytes granted. bytes ∷ asked) (λ asked request bytes granted. (bytes + request.settings.passes) ∷ asked) (λ asked parameters granted. parameters.memory_kib ∷ asked))
+        (record { salt = codes "somesalt"; settings = defaults; form = Hex }) (record { kind = 1; version = 0x13; passes = 3; lanes = 1; memory_kib = 4096; tag_len = 32; salt_len = 8; password_len = 2 }) []
+        ≡ 4096 ∷ 35 ∷ 32 ∷ [] }
 {}

@@ -1,11 +1,15 @@
 //! The definitions of argon2's words, run on what the reference program takes.
-ghost use Rattle.std.specs.Prelude.{◌≡◌, [], ◌∷◌, Ok, Err, codes, false, true};
-ghost use Rattle.argon.specs.declared.kind.Kind.TheVariants.{I, Id};
+ghost use Rattle.std.specs.Prelude.{◌≡◌, [], ◌∷◌, Ok, Err, None, Some, codes, false, map, replicate, true};
+ghost use Rattle.argon.specs.declared.kind.Kind.TheVariants.{D, I, Id};
+ghost use Rattle.argon.specs.declared.fault.ParamFault.TheVariants as fault;
+ghost use Rattle.argon2_words.specs.Items as item;
+ghost use Rattle.argon2_words.specs.Items.{item_of_flag, option_of};
+ghost use Rattle.argon2_words.specs.Laws.{settings_with_last_item};
 ghost use Rattle.argon2_words.specs.Request.{argon2_request};
-ghost use Rattle.argon2_words.specs.Settings.{defaults};
-ghost use Rattle.argon2_words.specs.Refusal.{faults_after_refusal, line_of};
-ghost use Rattle.host.specs.Faults.{no_faults};
+ghost use Rattle.argon2_words.specs.Settings.{defaults, power_of_two_from_word, version_number};
+ghost use Rattle.argon2_words.specs.Refusal.{faults_after_refusal, line_of, refusal_of};
 ghost use Rattle.argon2_words.specs.declared.items.Form.TheVariants.{Encoded, Hex};
+ghost use Rattle.argon2_words.specs.declared.items.OptionName.TheVariants as option;
 ghost use Rattle.argon2_words.specs.declared.refusal.Argon2Refusal.TheVariants.{BadNumber, EmptyPassword, Lanes, LongPassword, Memory, MemoryLimit, MissingValue, OneForm, OutOfMemory, OutputFault, Passes, PasswordFault, SaltLength, TagLength, UnknownWord, Usage, WorkLimit};
 ghost use Rattle.argon2_words.specs.declared.settings.Version.TheVariants.{V10, V13};
 
@@ -134,7 +138,50 @@ fn lines_of_refusals()
 
 // A failing call of the host raises its own count, and no other refusal raises one.
 fn counts_of_refusals()
-    ensures password { faults_after_refusal PasswordFault no_faults ≡ record { input = 0; output = 0; secrets = 1; salt = 0; lines = 0 } }
-    ensures output { faults_after_refusal OutputFault no_faults ≡ record { input = 0; output = 1; secrets = 0; salt = 0; lines = 0 } }
-    ensures memory { faults_after_refusal OutOfMemory no_faults ≡ no_faults }
+    ensures password { faults_after_refusal PasswordFault (record { input = 10; output = 20; secrets = 30; salt = 40; lines = 50 }) ≡ record { input = 10; output = 20; secrets = 31; salt = 40; lines = 50 } }
+    ensures output { faults_after_refusal OutputFault (record { input = 10; output = 20; secrets = 30; salt = 40; lines = 50 }) ≡ record { input = 10; output = 21; secrets = 30; salt = 40; lines = 50 } }
+    ensures memory { faults_after_refusal OutOfMemory (record { input = 10; output = 20; secrets = 30; salt = 40; lines = 50 }) ≡ record { input = 10; output = 20; secrets = 30; salt = 40; lines = 50 } }
+{}
+
+// The names of refusals are those of faults; the row of a password's length is never taken, since that is tested before.
+fn refusals_of_faults()
+    ensures each { map refusal_of (fault.Passes ∷ fault.Lanes ∷ fault.Memory ∷ fault.TagLength ∷ fault.SaltLength ∷ fault.PasswordLength ∷ fault.MemoryLimit ∷ fault.WorkLimit ∷ [])
+        ≡ Passes ∷ Lanes ∷ Memory ∷ TagLength ∷ SaltLength ∷ LongPassword ∷ MemoryLimit ∷ WorkLimit ∷ [] }
+{}
+
+// RFC 9106, 3.1, has 0x13; 0x10 is version 1.0 of the reference program (argon2.h: ARGON2_VERSION_10).
+fn numbers_of_versions()
+    ensures each { version_number V10 ∷ version_number V13 ∷ [] ≡ 0x10 ∷ 0x13 ∷ [] }
+{}
+
+// man/argon2.1, -m: 2^N KiB for N from 1 to 31.
+fn powers_of_words()
+    ensures each { map power_of_two_from_word (codes "0" ∷ codes "1" ∷ codes "2" ∷ codes "10" ∷ codes "31" ∷ codes "32" ∷ [])
+        ≡ None ∷ Some 2 ∷ Some 4 ∷ Some 1024 ∷ Some 2147483648 ∷ None ∷ [] }
+{}
+
+// man/argon2.1, OPTIONS: each word that stands alone, words beside them, which argon2 0~20171227 knows as little, and each
+// option with its value's name.
+fn items_of_words()
+    ensures flags { map item_of_flag (codes "-d" ∷ codes "-i" ∷ codes "-id" ∷ codes "-e" ∷ codes "-r" ∷ codes "-h" ∷ codes "-di" ∷ codes "d" ∷ codes "-" ∷ codes "" ∷ codes "-D" ∷ [])
+        ≡ item.kind D ∷ item.kind I ∷ item.kind Id ∷ item.form Encoded ∷ item.form Hex ∷ item.help ∷ item.unknown_word ∷ item.unknown_word ∷ item.unknown_word ∷ item.unknown_word ∷ item.unknown_word ∷ [] }
+    ensures beside_flags { map item_of_flag (codes "-idx" ∷ codes "-ex" ∷ codes "-rx" ∷ codes "-help" ∷ codes "--help" ∷ codes "-E" ∷ codes "-R" ∷ codes "-H" ∷ codes "-I" ∷ codes "-ID" ∷ [])
+        ≡ replicate 10 item.unknown_word }
+    ensures options { map option_of (codes "-t" ∷ codes "-m" ∷ codes "-k" ∷ codes "-p" ∷ codes "-l" ∷ codes "-v" ∷ codes "--maxmem" ∷ codes "--maxops" ∷ codes "-T" ∷ codes "--max" ∷ [])
+        ≡ Some option.Passes ∷ Some option.LogMemory ∷ Some option.Memory ∷ Some option.Lanes ∷ Some option.TagLength ∷ Some option.Version ∷ Some option.MaxMemory ∷ Some option.MaxOps ∷ None ∷ None ∷ [] }
+{}
+
+// The last of several counts, and a form that is named twice is one form; the word after an option is its value, whatever it
+// is; and 0 is a number of -p, whose range is tested later.
+fn words_in_other_places()
+    ensures types { argon2_request (codes "somesalt" ∷ codes "-d" ∷ codes "-i" ∷ codes "-e" ∷ []) ≡
+        Ok (record { salt = codes "somesalt"; settings = record defaults { encoded = true }; form = Encoded }) }
+    ensures versions { argon2_request (codes "somesalt" ∷ codes "-v" ∷ codes "10" ∷ codes "-v" ∷ codes "13" ∷ codes "-e" ∷ []) ≡
+        Ok (record { salt = codes "somesalt"; settings = record defaults { encoded = true }; form = Encoded }) }
+    ensures forms { argon2_request (codes "somesalt" ∷ codes "-e" ∷ codes "-e" ∷ []) ≡
+        Ok (record { salt = codes "somesalt"; settings = record defaults { encoded = true }; form = Encoded }) }
+    ensures help_as_a_value { argon2_request (codes "somesalt" ∷ codes "-t" ∷ codes "-h" ∷ codes "-e" ∷ []) ≡ Err BadNumber }
+    ensures last_item { settings_with_last_item defaults (item.kind D ∷ item.form Hex ∷ []) (item.kind Id) ≡ Ok (record defaults { kind = Id; hex = true }) }
+    ensures no_lanes { argon2_request (codes "somesalt" ∷ codes "-p" ∷ codes "0" ∷ codes "-e" ∷ []) ≡
+        Ok (record { salt = codes "somesalt"; settings = record defaults { lanes = 0; encoded = true }; form = Encoded }) }
 {}

@@ -1,16 +1,22 @@
 //! What the checker computes of the definitions in specs/: each function's clause is an equation,
 //! which is proved by computing both sides. So the definitions are run, and not the code.
-ghost use Rattle.std.specs.Prelude.{◌≡◌, ◌+◌, ◌-◌, ◌*◌, ◌%◌, ◌^◌, ◌<◌, [], ◌∷◌, Ok, Err, codes, false, length, map, replicate, true};
+ghost use Rattle.std.specs.Prelude.{◌≡◌, ◌+◌, ◌-◌, ◌*◌, ◌%◌, ◌^◌, ◌<◌, ◌++◌, [], ◌∷◌, Ok, Err, None, Some, codes, false, is_some, length, map, replicate, true};
 ghost use Rattle.std.specs.List.{range_with_len};
-ghost use Rattle.argon.specs.Argon2.{argon2_tag, first_hash};
+ghost use Rattle.argon.specs.Argon2.{argon2_tag, first_hash, matrix_block, stored_block_by_j1_j2};
+ghost use Rattle.argon.specs.Buffer.{block_held, column_number_after_slices};
+ghost use Rattle.argon.specs.Filling.{next_slice};
+ghost use Rattle.argon.specs.Laws.{after_lane_turns, lane_turns_work};
+ghost use Rattle.argon.specs.Plan.{independent_reference_place};
+ghost use Rattle.argon.specs.Woven.{is_column_made, with_next_slice};
 ghost use Rattle.argon.specs.Compression.{compression};
-ghost use Rattle.argon.specs.Counts.{address_blocks_made_at, column_work, slice_work, work};
+ghost use Rattle.argon.specs.Counts.{address_blocks_made_at, column_work, first_index, segment_work, slice_work, work};
 ghost use Rattle.argon.specs.Inputs.{InputsFitParameters, inputs_of};
 ghost use Rattle.argon.specs.Kind.{type_number};
 ghost use Rattle.argon.specs.Range.{admission, checked_parameters, checked_with_any_password_length};
-ghost use Rattle.argon.specs.Reference.{is_independent, reference_lane, reference_set, reference_words, relative_place};
+ghost use Rattle.argon.specs.Reference.{is_independent, reference_lane, reference_number, reference_set, reference_words, relative_place};
+ghost use Rattle.four_words.specs.Words.{xored_words};
 ghost use Rattle.argon.specs.Vectors.{two_lane_sample_parameters};
-ghost use Rattle.argon.specs.SliceProgress.{lane_work_left, work_left};
+ghost use Rattle.argon.specs.SliceProgress.{after_step, lane_work_left, new_slice_progress, next_column_number, next_index_in_segment, work_left};
 ghost use Rattle.argon.specs.declared.fault.ParamFault.TheVariants.{Lanes, Memory, MemoryLimit, Passes, PasswordLength, SaltLength, TagLength, WorkLimit};
 ghost use Rattle.argon.specs.declared.kind.Kind.TheVariants.{D, I, Id};
 
@@ -149,14 +155,15 @@ fn tag_of_argon2id_in_two_passes()
         0xB5 ∷ 0xA1 ∷ 0xDD ∷ 0xE8 ∷ 0xB1 ∷ 0x07 ∷ 0x16 ∷ 0x46 ∷ [] }
 {}
 
-// printf password | argon2 somesalt -id -t 2 -k 16 -p 2 -l 32 -r
+// printf password | argon2 somesalt -id -t 2 -k 24 -p 2 -l 32 -r: segments of three columns, in which W of the own lane is
+// longer than that of the other
 fn tag_of_argon2id_with_two_lanes()
     ensures tag { argon2_tag (record {
       kind = 2;
       version = 0x13;
       passes = 2;
       lanes = 2;
-      memory_kib = 16;
+      memory_kib = 24;
       tag_len = 32;
       salt_len = 8;
       password_len = 8;
@@ -166,10 +173,10 @@ fn tag_of_argon2id_with_two_lanes()
       secret = [];
       associated = [];
     }) ≡
-        0x74 ∷ 0x7D ∷ 0x76 ∷ 0x31 ∷ 0xB1 ∷ 0x82 ∷ 0xFA ∷ 0xF7 ∷
-        0x49 ∷ 0xD7 ∷ 0xEF ∷ 0xC3 ∷ 0x1A ∷ 0xEC ∷ 0x31 ∷ 0xDF ∷
-        0x4E ∷ 0xCF ∷ 0xE3 ∷ 0xB5 ∷ 0x7C ∷ 0x79 ∷ 0x2F ∷ 0x53 ∷
-        0x80 ∷ 0x0A ∷ 0xC2 ∷ 0xC9 ∷ 0x97 ∷ 0x8B ∷ 0x48 ∷ 0x88 ∷ [] }
+        0x63 ∷ 0x5E ∷ 0xD0 ∷ 0x8A ∷ 0xAF ∷ 0x3C ∷ 0x4C ∷ 0x74 ∷
+        0x1A ∷ 0x27 ∷ 0x96 ∷ 0x34 ∷ 0x00 ∷ 0x18 ∷ 0x36 ∷ 0xC9 ∷
+        0xCB ∷ 0x98 ∷ 0x57 ∷ 0x86 ∷ 0xEB ∷ 0xB7 ∷ 0x3F ∷ 0x32 ∷
+        0x85 ∷ 0x25 ∷ 0x5B ∷ 0x3C ∷ 0x11 ∷ 0xEF ∷ 0x46 ∷ 0xE4 ∷ [] }
 {}
 
 // printf password | argon2 somesalt -d -t 2 -k 8 -p 1 -l 32 -v 10 -r
@@ -342,9 +349,11 @@ fn first_hash_of_the_standard()
 {}
 
 // The word J of a column that the second address block of its segment has, in the third pass, the second lane and the
-// last slice, as tests/library/address_block.c prints it of Debian's libargon2 0~20171227, the reference implementation.
+// last slice, as tests/library/address_block.c prints it of Debian's libargon2 0~20171227, the reference implementation, whose
+// `index_alpha` gives the place.
 fn word_of_the_second_address_block()
     ensures word { reference_words two_lane_sample_parameters 2 1 3 200 [] ≡ 0xC5D6A329209A6F59 }
+    ensures place { (independent_reference_place two_lane_sample_parameters 2 1 3 200).lane ∷ (independent_reference_place two_lane_sample_parameters 2 1 3 200).column ∷ [] ≡ 1 ∷ 788 ∷ [] }
 {}
 
 // W of segments of three columns, by RFC 9106, section 3.4.2, by hand: column c of pass r has the number 12 * r + c.
@@ -366,6 +375,46 @@ fn places_of_three_words()
     ensures greatest { relative_place 10 (2 ^ 32 - 1) ≡ 0 }
 {}
 
+// z of segments of four columns, by RFC 9106, section 3.4.2, by hand, of a block in lane 1 of 3: column c of pass r has the
+// number 16 * r + c. J 1 of 0 names the last of W, J 1 of a half the one after which a quarter of W stands, and the greatest J 1
+// the first. Other lanes stand before and after lane 1. The last four are of lane 0, of two lanes or one. So does `index_alpha` of
+// libargon2 0~20171227 (core.c), by columns.
+fn columns_that_words_name()
+    ensures own_lane { map (λ j1. reference_number (record two_lane_sample_parameters { lanes = 3; memory_kib = 48 }) 2 1 1 3 (1 * 2 ^ 32 + j1)) (0 ∷ 0x8000_0000 ∷ 0xFFFF_FFFF ∷ []) ≡ 37 ∷ 34 ∷ 24 ∷ [] }
+    ensures later_lane { map (λ j1. reference_number (record two_lane_sample_parameters { lanes = 3; memory_kib = 48 }) 2 1 1 3 (5 * 2 ^ 32 + j1)) (0 ∷ 0x8000_0000 ∷ 0xFFFF_FFFF ∷ []) ≡ 35 ∷ 32 ∷ 24 ∷ [] }
+    ensures earlier_lane { map (λ j1. reference_number (record two_lane_sample_parameters { lanes = 3; memory_kib = 48 }) 2 1 1 3 (3 * 2 ^ 32 + j1)) (0 ∷ 0x8000_0000 ∷ 0xFFFF_FFFF ∷ []) ≡ 35 ∷ 32 ∷ 24 ∷ [] }
+    ensures first_column { map (λ j1. reference_number (record two_lane_sample_parameters { lanes = 3; memory_kib = 48 }) 1 1 2 0 (2 * 2 ^ 32 + j1)) (0 ∷ 0x8000_0000 ∷ 0xFFFF_FFFF ∷ []) ≡ 22 ∷ 20 ∷ 12 ∷ [] }
+    ensures first_column_of_own_lane { map (λ j1. reference_number (record two_lane_sample_parameters { lanes = 3; memory_kib = 48 }) 1 1 2 0 (1 * 2 ^ 32 + j1)) (0 ∷ 0x8000_0000 ∷ 0xFFFF_FFFF ∷ []) ≡ 22 ∷ 20 ∷ 12 ∷ [] }
+    ensures last_slice { map (λ j1. reference_number (record two_lane_sample_parameters { lanes = 3; memory_kib = 48 }) 2 1 3 1 (4 * 2 ^ 32 + j1)) (0 ∷ 0x8000_0000 ∷ 0xFFFF_FFFF ∷ []) ≡ 43 ∷ 40 ∷ 32 ∷ [] }
+    ensures first_slice_later { map (λ j1. reference_number (record two_lane_sample_parameters { lanes = 3; memory_kib = 48 }) 1 1 0 2 (1 * 2 ^ 32 + j1)) (0 ∷ 0x8000_0000 ∷ 0xFFFF_FFFF ∷ []) ≡ 16 ∷ 13 ∷ 4 ∷ [] }
+    ensures first_slice_later_of_other_lane { map (λ j1. reference_number (record two_lane_sample_parameters { lanes = 3; memory_kib = 48 }) 1 1 0 2 (0 * 2 ^ 32 + j1)) (0 ∷ 0x8000_0000 ∷ 0xFFFF_FFFF ∷ []) ≡ 15 ∷ 12 ∷ 4 ∷ [] }
+    ensures first_pass { map (λ j1. reference_number (record two_lane_sample_parameters { lanes = 3; memory_kib = 48 }) 0 1 2 3 (4 * 2 ^ 32 + j1)) (0 ∷ 0x8000_0000 ∷ 0xFFFF_FFFF ∷ []) ≡ 9 ∷ 7 ∷ 0 ∷ [] }
+    ensures first_pass_of_other_lane { map (λ j1. reference_number (record two_lane_sample_parameters { lanes = 3; memory_kib = 48 }) 0 1 2 3 (2 * 2 ^ 32 + j1)) (0 ∷ 0x8000_0000 ∷ 0xFFFF_FFFF ∷ []) ≡ 7 ∷ 5 ∷ 0 ∷ [] }
+    ensures first_slice { map (λ j1. reference_number (record two_lane_sample_parameters { lanes = 3; memory_kib = 48 }) 0 1 0 3 (2 * 2 ^ 32 + j1)) (0 ∷ 0x8000_0000 ∷ 0xFFFF_FFFF ∷ []) ≡ 1 ∷ 1 ∷ 0 ∷ [] }
+    ensures last_slice_of_first_pass { reference_number (record two_lane_sample_parameters { lanes = 2; memory_kib = 32 }) 0 0 3 2 (2 ^ 32) ≡ 11 }
+    ensures first_slice_of_pass_2 { reference_number (record two_lane_sample_parameters { lanes = 2; memory_kib = 32 }) 2 0 0 2 (2 ^ 32) ≡ 31 }
+    ensures pass_3 { reference_number (record two_lane_sample_parameters { lanes = 1; memory_kib = 16 }) 3 0 1 1 0 ≡ 51 }
+    ensures column_257 { reference_number (record two_lane_sample_parameters { lanes = 1; memory_kib = 1200 }) 0 0 0 257 0 ≡ 255 }
+{}
+
+// G takes the block before, in the own lane, and the block that J names; from the second pass on the old block of the place is
+// xored in, which is 16 columns before, but not in version 0x10 (RFC 9106, section 3.2, steps 5 and 6). Each block is its
+// number and its lane, and G is not computed.
+fn blocks_that_g_takes()
+    ensures later_pass { stored_block_by_j1_j2 (record two_lane_sample_parameters { lanes = 3; memory_kib = 48 }) (λ number lane. number ∷ lane ∷ []) 39 2 0 1 3 (5 * 2 ^ 32 + 2 ^ 31 - 1) ≡
+        xored_words (compression (38 ∷ 0 ∷ []) (33 ∷ 2 ∷ [])) (23 ∷ 0 ∷ []) }
+    ensures first_slice_later { stored_block_by_j1_j2 (record two_lane_sample_parameters { lanes = 3; memory_kib = 48 }) (λ number lane. number ∷ lane ∷ []) 18 1 1 0 2 (2 * 2 ^ 32) ≡
+        xored_words (compression (17 ∷ 1 ∷ []) (15 ∷ 2 ∷ [])) (2 ∷ 1 ∷ []) }
+    ensures own_lane { stored_block_by_j1_j2 (record two_lane_sample_parameters { lanes = 3; memory_kib = 48 }) (λ number lane. number ∷ lane ∷ []) 39 2 2 1 3 (5 * 2 ^ 32) ≡
+        xored_words (compression (38 ∷ 2 ∷ []) (37 ∷ 2 ∷ [])) (23 ∷ 2 ∷ []) }
+    ensures first_pass { stored_block_by_j1_j2 (record two_lane_sample_parameters { lanes = 3; memory_kib = 48 }) (λ number lane. number ∷ lane ∷ []) 11 0 1 2 3 (6 * 2 ^ 32 - 1) ≡
+        compression (10 ∷ 1 ∷ []) (0 ∷ 2 ∷ []) }
+    ensures first_slice { stored_block_by_j1_j2 (record two_lane_sample_parameters { lanes = 3; memory_kib = 48 }) (λ number lane. number ∷ lane ∷ []) 3 0 1 0 3 (2 * 2 ^ 32) ≡
+        compression (2 ∷ 1 ∷ []) (1 ∷ 1 ∷ []) }
+    ensures version_0x10 { stored_block_by_j1_j2 (record two_lane_sample_parameters { version = 0x10; lanes = 3; memory_kib = 48 }) (λ number lane. number ∷ lane ∷ []) 39 2 0 1 3 (5 * 2 ^ 32 + 2 ^ 31 - 1) ≡
+        compression (38 ∷ 0 ∷ []) (33 ∷ 2 ∷ []) }
+{}
+
 // The numbers y of the types (RFC 9106, 3.1).
 fn numbers_of_types()
     ensures argon2d { type_number D ≡ 0 }
@@ -373,11 +422,12 @@ fn numbers_of_types()
     ensures argon2id { type_number Id ≡ 2 }
 {}
 
-// Which lane J 2 names, and which segments are addressed without blocks (RFC 9106, 3.4.1.3 and 3.4.2).
+// Which lane J 2 names, of two and, slice by slice, of three, and which segments are addressed without blocks (RFC 9106,
+// 3.4.1.3 and 3.4.2).
 fn lanes_and_kinds_of_segments()
     ensures other_lane { reference_lane two_lane_sample_parameters 0 0 1 (2 ^ 32) ≡ 1 }
-    ensures own_lane { reference_lane two_lane_sample_parameters 0 1 1 (2 ^ 33) ≡ 0 }
-    ensures first_slice { reference_lane two_lane_sample_parameters 0 1 0 (2 ^ 33) ≡ 1 }
+    ensures slices { map (λ slice. reference_lane (record two_lane_sample_parameters { lanes = 3 }) 0 1 slice (5 * 2 ^ 32 + 7)) (range_with_len 0 4) ≡ 1 ∷ 2 ∷ 2 ∷ 2 ∷ [] }
+    ensures slices_later { map (λ slice. reference_lane (record two_lane_sample_parameters { lanes = 3 }) 1 1 slice (5 * 2 ^ 32 + 7)) (range_with_len 0 4) ≡ 2 ∷ 2 ∷ 2 ∷ 2 ∷ [] }
     ensures first_slice_later { reference_lane two_lane_sample_parameters 1 1 0 (2 ^ 33) ≡ 0 }
     ensures argon2i { is_independent two_lane_sample_parameters 2 3 ≡ true }
     ensures argon2d { is_independent (record two_lane_sample_parameters { kind = 0 }) 0 0 ≡ false }
@@ -390,6 +440,8 @@ fn lanes_and_kinds_of_segments()
 // each column, and two for each address block, of which the first is made with the segment. Of 4,824 blocks of a hash 4
 // come from H0; two address blocks has each of 24 segments of Argon2i, of 4 of Argon2id, and none of Argon2d.
 fn work_by_columns()
+    ensures first_indices { first_index 0 0 ∷ first_index 0 1 ∷ first_index 1 0 ∷ first_index 1 1 ∷ [] ≡ 2 ∷ 0 ∷ 0 ∷ 0 ∷ [] }
+    ensures first_indices_of_passes { map (λ pass. first_index pass 0) (range_with_len 0 5) ≡ 2 ∷ 0 ∷ 0 ∷ 0 ∷ 0 ∷ [] }
     ensures first_column { address_blocks_made_at 0 ≡ 0 }
     ensures column_64 { address_blocks_made_at 64 ≡ 0 }
     ensures column_127 { address_blocks_made_at 127 ≡ 0 }
@@ -397,27 +449,44 @@ fn work_by_columns()
     ensures column_256 { address_blocks_made_at 256 ≡ 1 }
     ensures work_of_column_127 { column_work two_lane_sample_parameters 1 2 127 ≡ 1 }
     ensures work_of_column_128 { column_work two_lane_sample_parameters 1 2 128 ≡ 3 }
+    ensures work_of_argon2id { column_work (record two_lane_sample_parameters { kind = 2 }) 0 1 128 ∷ column_work (record two_lane_sample_parameters { kind = 2 }) 1 0 128 ∷ [] ≡ 3 ∷ 1 ∷ [] }
     ensures work_of_argon2d { column_work (record two_lane_sample_parameters { kind = 0 }) 1 2 128 ≡ 1 }
     ensures all_left { lane_work_left two_lane_sample_parameters 1 2 201 ≡ 203 }
     ensures before_column_128 { lane_work_left two_lane_sample_parameters 1 2 73 ≡ 75 }
     ensures after_column_128 { lane_work_left two_lane_sample_parameters 1 2 72 ≡ 72 }
     ensures none_left { lane_work_left two_lane_sample_parameters 1 2 0 ≡ 0 }
     ensures left_of_argon2d { lane_work_left (record two_lane_sample_parameters { kind = 0 }) 1 2 201 ≡ 201 }
+    ensures left_of_argon2id { lane_work_left (record two_lane_sample_parameters { kind = 2 }) 0 1 201 ∷ lane_work_left (record two_lane_sample_parameters { kind = 2 }) 1 0 201 ∷ [] ≡ 203 ∷ 201 ∷ [] }
+    ensures segments_of_argon2id { map (segment_work (record two_lane_sample_parameters { kind = 2 }) 0) (range_with_len 0 4) ≡ 203 ∷ 205 ∷ 201 ∷ 201 ∷ [] }
+    ensures first_segment_later { segment_work (record two_lane_sample_parameters { kind = 2 }) 1 0 ≡ 201 }
     ensures slice { slice_work two_lane_sample_parameters 1 2 ≡ 410 }
     ensures first_slice { slice_work two_lane_sample_parameters 0 0 ≡ 406 }
+    ensures slices_of_argon2id { slice_work (record two_lane_sample_parameters { kind = 2 }) 0 1 ∷ slice_work (record two_lane_sample_parameters { kind = 2 }) 1 0 ∷ [] ≡ 410 ∷ 402 ∷ [] }
     ensures whole { work two_lane_sample_parameters ≡ 4916 }
     ensures whole_of_argon2id { work (record two_lane_sample_parameters { kind = 2 }) ≡ 4836 }
     ensures whole_of_argon2d { work (record two_lane_sample_parameters { kind = 0 }) ≡ 4820 }
-    ensures two_lanes_left { work_left (record {
-      matrix = record { parameters = two_lane_sample_parameters; is_started = true; first_hash = []; slices_made = 6; blocks = [] };
+    ensures two_lanes_left { map (λ slices. work_left (record {
+      matrix = record { parameters = (record two_lane_sample_parameters { kind = 2 }); is_started = true; first_hash = []; slices_made = slices; blocks = [] };
       left = 201 ∷ 72 ∷ [];
-    }) ≡ 275 }
+    })) (range_with_len 0 5) ≡ 275 ∷ 275 ∷ 273 ∷ 273 ∷ 273 ∷ [] }
+    ensures five_lanes_left { work_left (record {
+      matrix = record { parameters = (record two_lane_sample_parameters { lanes = 5; memory_kib = 80 }); is_started = true; first_hash = []; slices_made = 4; blocks = [] };
+      left = 1 ∷ 1 ∷ 1 ∷ 1 ∷ 4 ∷ [];
+    }) ≡ 8 }
+    ensures left_of_pass_2 { work_left (record {
+      matrix = record { parameters = (record two_lane_sample_parameters { kind = 2; lanes = 1; memory_kib = 804 }); is_started = true; first_hash = []; slices_made = 8; blocks = [] };
+      left = 201 ∷ [];
+    }) ≡ 201 }
 {}
 
 // Parameters at the ends of their ranges, the first fault of several, and limits (RFC 9106, 3.1; the upper ends of tag,
 // salt and password, and the lower ends of salt and password, are own).
 fn faults_of_parameters()
-    ensures in_range { checked_parameters two_lane_sample_parameters ≡ Ok two_lane_sample_parameters }
+    ensures least { checked_parameters (record { kind = 0; version = 0x10; passes = 1; lanes = 1; memory_kib = 8; tag_len = 4; salt_len = 8; password_len = 1 })
+        ≡ Ok (record { kind = 0; version = 0x10; passes = 1; lanes = 1; memory_kib = 8; tag_len = 4; salt_len = 8; password_len = 1 }) }
+    ensures greatest { checked_parameters (record { kind = 2; version = 0x13; passes = 2 ^ 32 - 1; lanes = 2 ^ 24 - 1; memory_kib = 2 ^ 32 - 1; tag_len = 4096; salt_len = 255; password_len = 127 })
+        ≡ Ok (record { kind = 2; version = 0x13; passes = 2 ^ 32 - 1; lanes = 2 ^ 24 - 1; memory_kib = 2 ^ 32 - 1; tag_len = 4096; salt_len = 255; password_len = 127 }) }
+    ensures no_password { checked_parameters (record two_lane_sample_parameters { password_len = 0 }) ≡ Err PasswordLength }
     ensures passes { checked_parameters (record two_lane_sample_parameters { passes = 0; lanes = 0; memory_kib = 0; tag_len = 0; salt_len = 0; password_len = 0 }) ≡ Err Passes }
     ensures lanes { checked_parameters (record two_lane_sample_parameters { lanes = 0; memory_kib = 2 ^ 32; tag_len = 0; salt_len = 0; password_len = 0 }) ≡ Err Lanes }
     ensures memory { checked_parameters (record two_lane_sample_parameters { memory_kib = 15; tag_len = 0; salt_len = 0; password_len = 0 }) ≡ Err Memory }
@@ -436,10 +505,11 @@ fn faults_of_parameters()
 
 // The same with any password, whose range is that of RFC 9106, 3.1: it is tested last.
 fn faults_of_parameters_with_any_password()
-    ensures in_range { checked_with_any_password_length two_lane_sample_parameters ≡ Ok two_lane_sample_parameters }
     ensures empty { checked_with_any_password_length (record two_lane_sample_parameters { password_len = 0 }) ≡ Ok (record two_lane_sample_parameters { password_len = 0 }) }
-    ensures longest { checked_with_any_password_length (record two_lane_sample_parameters { password_len = 2 ^ 32 - 1 })
-        ≡ Ok (record two_lane_sample_parameters { password_len = 2 ^ 32 - 1 }) }
+    ensures least { checked_with_any_password_length (record { kind = 0; version = 0x10; passes = 1; lanes = 1; memory_kib = 8; tag_len = 4; salt_len = 8; password_len = 0 })
+        ≡ Ok (record { kind = 0; version = 0x10; passes = 1; lanes = 1; memory_kib = 8; tag_len = 4; salt_len = 8; password_len = 0 }) }
+    ensures greatest { checked_with_any_password_length (record { kind = 2; version = 0x13; passes = 2 ^ 32 - 1; lanes = 2 ^ 24 - 1; memory_kib = 2 ^ 32 - 1; tag_len = 4096; salt_len = 255; password_len = 2 ^ 32 - 1 })
+        ≡ Ok (record { kind = 2; version = 0x13; passes = 2 ^ 32 - 1; lanes = 2 ^ 24 - 1; memory_kib = 2 ^ 32 - 1; tag_len = 4096; salt_len = 255; password_len = 2 ^ 32 - 1 }) }
     ensures password { checked_with_any_password_length (record two_lane_sample_parameters { tag_len = 4096; salt_len = 255; password_len = 2 ^ 32 }) ≡ Err PasswordLength }
     ensures passes { checked_with_any_password_length (record two_lane_sample_parameters { passes = 0; lanes = 0; memory_kib = 0; tag_len = 0; salt_len = 0; password_len = 2 ^ 32 }) ≡ Err Passes }
     ensures lanes { checked_with_any_password_length (record two_lane_sample_parameters { lanes = 0; memory_kib = 2 ^ 32; tag_len = 0; salt_len = 0; password_len = 2 ^ 32 }) ≡ Err Lanes }
@@ -451,4 +521,25 @@ fn faults_of_parameters_with_any_password()
     ensures memory_above { checked_with_any_password_length (record two_lane_sample_parameters { memory_kib = 2 ^ 32 }) ≡ Err Memory }
     ensures tag_above { checked_with_any_password_length (record two_lane_sample_parameters { tag_len = 4097 }) ≡ Err TagLength }
     ensures salt_above { checked_with_any_password_length (record two_lane_sample_parameters { salt_len = 256 }) ≡ Err SaltLength }
+{}
+
+// A matrix of two lanes of eight columns whose sixth slice, columns 2 and 3 of pass 1, is made by lanes in turn, by hand from RFC
+// 9106, sections 3.2 and 3.4: each old block is the number of its place, and B is not computed.
+fn slice_made_by_lanes()
+    ensures next_slices { map (λ slices. next_slice (record { parameters = (record two_lane_sample_parameters { memory_kib = 16 }); is_started = true; first_hash = []; slices_made = slices; blocks = map (λ place. place ∷ []) (range_with_len 0 16) })) (0 ∷ 5 ∷ 11 ∷ 12 ∷ []) ≡ Some (0, 0) ∷ Some (1, 1) ∷ Some (2, 3) ∷ None ∷ [] }
+    ensures slices_left { map (λ slices. is_some (next_slice (record { parameters = (record two_lane_sample_parameters { memory_kib = 16 }); is_started = true; first_hash = []; slices_made = slices; blocks = map (λ place. place ∷ []) (range_with_len 0 16) }))) (11 ∷ 12 ∷ []) ≡ true ∷ false ∷ [] }
+    ensures not_started { next_slice (record { parameters = (record two_lane_sample_parameters { memory_kib = 16 }); is_started = false; first_hash = []; slices_made = 5; blocks = map (λ place. place ∷ []) (range_with_len 0 16) }) ≡ None }
+    ensures columns_after { map (column_number_after_slices (record two_lane_sample_parameters { memory_kib = 16 })) (0 ∷ 1 ∷ 5 ∷ []) ≡ 2 ∷ 2 ∷ 10 ∷ [] }
+    ensures left { (new_slice_progress (record { parameters = (record two_lane_sample_parameters { memory_kib = 16 }); is_started = true; first_hash = []; slices_made = 5; blocks = map (λ place. place ∷ []) (range_with_len 0 16) })).left ≡ 2 ∷ 2 ∷ [] }
+    ensures left_of_the_first { (new_slice_progress (record { parameters = (record two_lane_sample_parameters { memory_kib = 16 }); is_started = true; first_hash = []; slices_made = 0; blocks = map (λ place. place ∷ []) (range_with_len 0 16) })).left ≡ 0 ∷ 0 ∷ [] }
+    ensures next_indices { map (next_index_in_segment (record { matrix = record { parameters = (record two_lane_sample_parameters { memory_kib = 16 }); is_started = true; first_hash = []; slices_made = 5; blocks = map (λ place. place ∷ []) (range_with_len 0 16) }; left = 2 ∷ 1 ∷ [] })) (0 ∷ 1 ∷ []) ≡ 0 ∷ 1 ∷ [] }
+    ensures next_numbers { map (next_column_number (record { matrix = record { parameters = (record two_lane_sample_parameters { memory_kib = 16 }); is_started = true; first_hash = []; slices_made = 5; blocks = map (λ place. place ∷ []) (range_with_len 0 16) }; left = 2 ∷ 1 ∷ [] })) (0 ∷ 1 ∷ []) ≡ 10 ∷ 11 ∷ [] }
+    ensures step { (after_step (record { matrix = record { parameters = (record two_lane_sample_parameters { memory_kib = 16 }); is_started = true; first_hash = []; slices_made = 5; blocks = map (λ place. place ∷ []) (range_with_len 0 16) }; left = 2 ∷ 1 ∷ [] }) 1).matrix.blocks ≡ map (λ place. place ∷ []) (range_with_len 0 11) ++ matrix_block (record two_lane_sample_parameters { memory_kib = 16 }) [] 11 1 ∷ map (λ place. place ∷ []) (range_with_len 12 4) }
+    ensures left_after_step { (after_step (record { matrix = record { parameters = (record two_lane_sample_parameters { memory_kib = 16 }); is_started = true; first_hash = []; slices_made = 5; blocks = map (λ place. place ∷ []) (range_with_len 0 16) }; left = 2 ∷ 1 ∷ [] }) 1).left ≡ 2 ∷ 0 ∷ [] }
+    ensures left_after_turns { (after_lane_turns (record { matrix = record { parameters = (record two_lane_sample_parameters { memory_kib = 16 }); is_started = true; first_hash = []; slices_made = 5; blocks = map (λ place. place ∷ []) (range_with_len 0 16) }; left = 2 ∷ 1 ∷ [] }) (0 ∷ 1 ∷ 1 ∷ [])).left ≡ 1 ∷ 0 ∷ [] }
+    ensures work_of_turns { lane_turns_work (record { matrix = record { parameters = (record two_lane_sample_parameters { memory_kib = 16 }); is_started = true; first_hash = []; slices_made = 5; blocks = map (λ place. place ∷ []) (range_with_len 0 16) }; left = 2 ∷ 1 ∷ [] }) (0 ∷ 1 ∷ 1 ∷ []) ≡ 2 }
+    ensures held { block_held (record two_lane_sample_parameters { memory_kib = 16 }) (map (λ place. place ∷ []) (range_with_len 0 16)) 11 1 ≡ 11 ∷ [] }
+    ensures made { map (is_column_made (record { parameters = (record two_lane_sample_parameters { memory_kib = 16 }); is_started = true; first_hash = []; slices_made = 5; blocks = map (λ place. place ∷ []) (range_with_len 0 16) }) (2 ∷ 1 ∷ []) 1) (range_with_len 0 5) ≡ false ∷ false ∷ true ∷ false ∷ false ∷ [] }
+    ensures whole_slice { (with_next_slice (record { parameters = (record two_lane_sample_parameters { memory_kib = 16 }); is_started = true; first_hash = []; slices_made = 5; blocks = map (λ place. place ∷ []) (range_with_len 0 16) })).blocks ≡ map (λ place. place ∷ []) (range_with_len 0 2) ++ matrix_block (record two_lane_sample_parameters { memory_kib = 16 }) [] 10 0 ∷ matrix_block (record two_lane_sample_parameters { memory_kib = 16 }) [] 11 0 ∷ map (λ place. place ∷ []) (range_with_len 4 6) ++ matrix_block (record two_lane_sample_parameters { memory_kib = 16 }) [] 10 1 ∷ matrix_block (record two_lane_sample_parameters { memory_kib = 16 }) [] 11 1 ∷ map (λ place. place ∷ []) (range_with_len 12 4) }
+    ensures slices_made { (with_next_slice (record { parameters = (record two_lane_sample_parameters { memory_kib = 16 }); is_started = true; first_hash = []; slices_made = 5; blocks = map (λ place. place ∷ []) (range_with_len 0 16) })).slices_made ≡ 6 }
 {}

@@ -1,12 +1,14 @@
 //! The definitions, run on what the reference program and RFC 4648 give.
-ghost use Rattle.std.specs.Prelude.{◌≡◌, ◌-◌, ◌^◌, ℕ, List, [], None, Some, codes, true, false, replicate};
+ghost use Rattle.std.specs.Prelude.{◌≡◌, ◌-◌, ◌^◌, ℕ, List, [], ◌∷◌, None, Some, codes, true, false, filter, is_some, map, replicate};
+ghost use Rattle.std.specs.List.{range_with_len};
 ghost use Rattle.argon.specs.Argon2.{argon2_tag};
-ghost use Rattle.argon_text.specs.Base64.{base64_bytes, is_base64};
+ghost use Rattle.argon_text.specs.Base64.{alphabet, base64_bytes, is_base64, is_symbol};
 ghost use Rattle.argon_text.specs.EncodedText.{encoded_text, kind_name, short_text};
-ghost use Rattle.argon_text.specs.Grammar.{HasFields, is_number, value_of_fields};
+ghost use Rattle.argon_text.specs.Grammar.{HasFields, fields_of_value, is_number, value_of_fields};
+ghost use Rattle.argon_text.specs.Reading.{fields_at};
 ghost use Rattle.argon_text.specs.Settings.{first_field_range_fault, first_encoded_range_fault, settings_of_encoded_value};
 ghost use Rattle.argon_text.specs.Value.{are_in_range, is_in_range};
-ghost use Rattle.argon_text.specs.Verifying.{keyed_verify_fault, keyed_tag, tag_of_password, verify_fault};
+ghost use Rattle.argon_text.specs.Verifying.{keyed_verify_fault, keyed_tag, parameters_of_value, tag_of_password, verify_fault};
 ghost use Rattle.argon_text.specs.Vectors.{sample_encoded_fields, sample_encoded_text, sample_encoded_value, old_short_fields, old_short_text, version_16_sample_text, version_16_sample_value};
 ghost use Rattle.argon.specs.declared.kind.Kind.TheVariants.{D, I, Id};
 ghost use Rattle.argon_text.specs.declared.fault.VerifyFault.TheVariants.{InputLength, MemoryLimit, PasswordLength, WorkLimit};
@@ -20,6 +22,21 @@ fn text_of_known_value()
 fn fields_of_known_text()
     ensures fields { HasFields sample_encoded_text sample_encoded_fields }
     ensures value { value_of_fields sample_encoded_fields ≡ sample_encoded_value }
+{}
+
+// The known texts, field by field, and texts that stop at a field: another type, no comma, a leading zero, passes before memory,
+// no tag (the reference implementation, encoding.c: decode_string).
+fn fields_taken_apart()
+    ensures whole { fields_at sample_encoded_text ≡ Some sample_encoded_fields }
+    ensures short { fields_at old_short_text ≡ Some old_short_fields }
+    ensures stopped { map (λ text. is_some (fields_at text)) (codes "$argon2i$v=19$m=8,t=1,p=1$c2FsdA$dGFn" ∷ codes "$argon2id$v=19$m=8,t=1,p=1$c2FsdA$dGFn" ∷ codes "$argon2x$v=19$m=8,t=1,p=1$c2FsdA$dGFn"
+        ∷ codes "$argon2d$v=19$m=8;t=1,p=1$c2FsdA$dGFn" ∷ codes "$argon2d$v=19$m=08,t=1,p=1$c2FsdA$dGFn" ∷ codes "$argon2d$v=19$t=1,m=8,p=1$c2FsdA$dGFn" ∷ codes "$argon2d$v=19$m=8,t=1,p=1$c2FsdA" ∷ [])
+        ≡ true ∷ true ∷ false ∷ false ∷ false ∷ false ∷ false ∷ [] }
+{}
+
+// The fields as which the known value is written, with its version.
+fn fields_of_known_value()
+    ensures fields { fields_of_value sample_encoded_value ≡ sample_encoded_fields }
 {}
 
 // A value of version 0x10 has two texts, and the fields of the short one say it.
@@ -47,9 +64,13 @@ fn forms_of_numbers()
     ensures digits { is_number (codes "9008") ≡ true }
     ensures sign { is_number (codes "-1") ≡ false }
     ensures letter { is_number (codes "1a") ≡ false }
+    ensures beside_the_digits { map is_number (codes ":" ∷ codes "/" ∷ codes ":1" ∷ codes "/1" ∷ codes "1:" ∷ codes "1/" ∷ codes "9" ∷ codes "10" ∷ [])
+        ≡ false ∷ false ∷ false ∷ false ∷ false ∷ false ∷ true ∷ true ∷ [] }
 {}
 
-// RFC 4648, 10, without the padding; and the last bits that must be zero (3.5).
+// RFC 4648, 10, without the padding; the last bits that must be zero (3.5), so that after one or two symbols these alone may
+// stand last, as libargon2 0~20171227 takes them; the 64 symbols (4, table 1) among all bytes, and a byte beside them in each
+// place; and texts whose bytes Python's base64 gives.
 fn base64_of_the_standard()
     ensures nothing { base64_bytes [] ≡ [] }
     ensures two_symbols { base64_bytes (codes "Zg") ≡ codes "f" }
@@ -62,6 +83,15 @@ fn base64_of_the_standard()
     ensures unused_bits_of_two { is_base64 (codes "Zh") ≡ false }
     ensures lone_symbol { is_base64 (codes "Zm9vY") ≡ false }
     ensures padding { is_base64 (codes "Zm9vYg==") ≡ false }
+    ensures symbols { filter is_symbol (range_with_len 0 256) ≡ codes "+/0123456789ABCDEFGHIJKLMNOPQRSTUVWXYZabcdefghijklmnopqrstuvwxyz" }
+    ensures each_place { map is_base64 (codes "@A" ∷ codes "A@" ∷ codes "@AA" ∷ codes "A@A" ∷ codes "AA@" ∷ codes "@AAA" ∷ codes "A@AA" ∷ codes "AA@A" ∷ codes "AAA@" ∷ codes "AAAA@A" ∷ [])
+        ≡ false ∷ false ∷ false ∷ false ∷ false ∷ false ∷ false ∷ false ∷ false ∷ false ∷ [] }
+    ensures last_bits { map is_base64 (codes "//8" ∷ codes "/w" ∷ codes "APA" ∷ codes "APAA" ∷ codes "+/+/" ∷ codes "zzzz" ∷ codes "AAB" ∷ [])
+        ≡ true ∷ true ∷ true ∷ true ∷ true ∷ true ∷ false ∷ [] }
+    ensures last_of_two { filter (λ x. is_base64 (65 ∷ x ∷ [])) alphabet ≡ codes "AQgw" }
+    ensures last_of_three { filter (λ x. is_base64 (65 ∷ 65 ∷ x ∷ [])) alphabet ≡ codes "AEIMQUYcgkosw048" }
+    ensures bytes { map base64_bytes (codes "//8" ∷ codes "/w" ∷ codes "APA" ∷ codes "APAA" ∷ codes "+/+/" ∷ codes "zzzz" ∷ [])
+        ≡ (255 ∷ 255 ∷ []) ∷ (255 ∷ []) ∷ (0 ∷ 240 ∷ []) ∷ (0 ∷ 240 ∷ 0 ∷ []) ∷ (251 ∷ 255 ∷ 191 ∷ []) ∷ (207 ∷ 60 ∷ 243 ∷ []) ∷ [] }
 {}
 
 // Why a password is not tested: its length, then memory, then work. The known value has 8 blocks, of which 6 are made from
@@ -154,38 +184,57 @@ fn values_in_range()
     ensures old { is_in_range version_16_sample_value ≡ true }
     ensures passes { is_in_range (record sample_encoded_value { passes = 2 }) ≡ true }
     ensures tag { is_in_range (record sample_encoded_value { tag = codes "4321" }) ≡ true }
-    ensures version { is_in_range (record sample_encoded_value { version = 0x12 }) ≡ false }
-    ensures memory { is_in_range (record sample_encoded_value { memory = 7 }) ≡ false }
-    ensures salt { is_in_range (record sample_encoded_value { salt = codes "omesalt" }) ≡ false }
+    ensures below { map is_in_range ((record sample_encoded_value { version = 18 }) ∷ (record sample_encoded_value { passes = 0 }) ∷ (record sample_encoded_value { lanes = 0 }) ∷ (record sample_encoded_value { memory = 7 })
+        ∷ (record sample_encoded_value { tag = replicate 3 2 }) ∷ (record sample_encoded_value { salt = replicate 7 1 }) ∷ [])
+        ≡ false ∷ false ∷ false ∷ false ∷ false ∷ false ∷ [] }
+    ensures above { map is_in_range ((record sample_encoded_value { passes = 2 ^ 32 }) ∷ (record sample_encoded_value { lanes = 2 ^ 24; memory = 2 ^ 32 - 1 }) ∷ (record sample_encoded_value { lanes = 2 }) ∷ (record sample_encoded_value { memory = 2 ^ 32 })
+        ∷ (record sample_encoded_value { tag = replicate 4097 2 }) ∷ (record sample_encoded_value { salt = replicate 256 1 }) ∷ [])
+        ≡ false ∷ false ∷ false ∷ false ∷ false ∷ false ∷ [] }
+    ensures ends { map is_in_range ((record sample_encoded_value { version = 16 }) ∷ (record sample_encoded_value { passes = 2 ^ 32 - 1 }) ∷ (record sample_encoded_value { lanes = 2 ^ 24 - 1; memory = 2 ^ 32 - 1 })
+        ∷ (record sample_encoded_value { tag = replicate 4 2 }) ∷ (record sample_encoded_value { tag = replicate 4096 2 }) ∷ (record sample_encoded_value { salt = replicate 255 1 }) ∷ [])
+        ≡ true ∷ true ∷ true ∷ true ∷ true ∷ true ∷ [] }
 {}
 
-// What is out of range, the first of several (RFC 9106, 3.1: each of these numbers is the first beyond an end of its range).
+// What is out of range, the first of several, and the ends of each range (RFC 9106, 3.1: the numbers on both sides of each end;
+// the ends of salt and tag but the least tag are own, as docs/FORMATS.md has them).
 fn first_of_faults()
-    ensures none { first_field_range_fault 0x13 1 1 8 4 8 ≡ None }
-    ensures none_too { first_field_range_fault 0x10 0xFFFF_FFFF 0xFF_FFFF 0xFFFF_FFFF 4096 255 ≡ None }
     ensures version { first_field_range_fault 0x12 0 0 0 0 0 ≡ Some Version }
     ensures passes { first_field_range_fault 0x13 0 0 0 0 0 ≡ Some Passes }
     ensures lanes { first_field_range_fault 0x13 1 0x100_0000 0 0 0 ≡ Some Lanes }
     ensures memory { first_field_range_fault 0x13 1 2 15 0 0 ≡ Some Memory }
     ensures tag { first_field_range_fault 0x13 1 2 16 4097 0 ≡ Some TagLength }
     ensures salt { first_field_range_fault 0x13 1 2 16 4096 256 ≡ Some SaltLength }
+    ensures versions { map (λ version. first_field_range_fault version 3 2 64 4 8) (0x0F ∷ 0x10 ∷ 0x11 ∷ 0x12 ∷ 0x13 ∷ 0x14 ∷ [])
+        ≡ Some Version ∷ None ∷ Some Version ∷ Some Version ∷ None ∷ Some Version ∷ [] }
+    ensures ends_of_passes { map (λ passes. first_field_range_fault 0x13 passes 2 64 4 8) (0 ∷ 1 ∷ 0xFFFF_FFFF ∷ 0x1_0000_0000 ∷ 0x2_0000_0000 ∷ [])
+        ≡ Some Passes ∷ None ∷ None ∷ Some Passes ∷ Some Passes ∷ [] }
+    ensures ends_of_lanes { map (λ lanes. first_field_range_fault 0x13 3 lanes (2 ^ 32 - 1) 4 8) (0 ∷ 1 ∷ 0xFF_FFFF ∷ 0x100_0000 ∷ 0x200_0000 ∷ [])
+        ≡ Some Lanes ∷ None ∷ None ∷ Some Lanes ∷ Some Lanes ∷ [] }
+    ensures ends_of_memory { map (λ memory. first_field_range_fault 0x13 3 2 memory 4 8) (15 ∷ 16 ∷ 0xFFFF_FFFF ∷ 0x1_0000_0000 ∷ 0x2_0000_0000 ∷ [])
+        ≡ Some Memory ∷ None ∷ None ∷ Some Memory ∷ Some Memory ∷ [] }
+    ensures ends_of_tag { map (λ tag. first_field_range_fault 0x13 3 2 64 tag 8) (3 ∷ 4 ∷ 300 ∷ 4096 ∷ 4097 ∷ 5000 ∷ [])
+        ≡ Some TagLength ∷ None ∷ None ∷ None ∷ Some TagLength ∷ Some TagLength ∷ [] }
+    ensures ends_of_salt { map (λ salt. first_field_range_fault 0x13 3 2 64 4 salt) (7 ∷ 8 ∷ 255 ∷ 256 ∷ [])
+        ≡ Some SaltLength ∷ None ∷ None ∷ Some SaltLength ∷ [] }
 {}
 
-// The known value is in range, and with one KiB less than 8 for its lane it is not.
-fn fault_of_known_value()
-    ensures none { first_encoded_range_fault sample_encoded_value ≡ None }
-    ensures memory { first_encoded_range_fault (record sample_encoded_value { memory = 7 }) ≡ Some Memory }
+// The known value with one part changed, below its range, above it, and at its ends: each part is tested in its own place.
+fn faults_of_values()
+    ensures below { map first_encoded_range_fault ((record sample_encoded_value { version = 18 }) ∷ (record sample_encoded_value { passes = 0 }) ∷ (record sample_encoded_value { lanes = 0 }) ∷ (record sample_encoded_value { memory = 7 })
+        ∷ (record sample_encoded_value { tag = replicate 3 2 }) ∷ (record sample_encoded_value { salt = replicate 7 1 }) ∷ [])
+        ≡ Some Version ∷ Some Passes ∷ Some Lanes ∷ Some Memory ∷ Some TagLength ∷ Some SaltLength ∷ [] }
+    ensures above { map first_encoded_range_fault ((record sample_encoded_value { passes = 2 ^ 32 }) ∷ (record sample_encoded_value { lanes = 2 ^ 24; memory = 2 ^ 32 - 1 }) ∷ (record sample_encoded_value { lanes = 2 }) ∷ (record sample_encoded_value { memory = 2 ^ 32 })
+        ∷ (record sample_encoded_value { tag = replicate 4097 2 }) ∷ (record sample_encoded_value { salt = replicate 256 1 }) ∷ [])
+        ≡ Some Passes ∷ Some Lanes ∷ Some Memory ∷ Some Memory ∷ Some TagLength ∷ Some SaltLength ∷ [] }
+    ensures ends { map first_encoded_range_fault ((record sample_encoded_value { version = 16 }) ∷ (record sample_encoded_value { passes = 2 ^ 32 - 1 }) ∷ (record sample_encoded_value { lanes = 2 ^ 24 - 1; memory = 2 ^ 32 - 1 })
+        ∷ (record sample_encoded_value { tag = replicate 4 2 }) ∷ (record sample_encoded_value { tag = replicate 4096 2 }) ∷ (record sample_encoded_value { salt = replicate 255 1 }) ∷ [])
+        ≡ None ∷ None ∷ None ∷ None ∷ None ∷ None ∷ [] }
 {}
 
-// What the known text says of its settings.
-fn settings_of_known_value()
-    ensures settings { settings_of_encoded_value sample_encoded_value ≡ record {
-      kind = D;
-      version = 19;
-      memory = 8;
-      passes = 1;
-      lanes = 1;
-      salt_len = 8;
-      tag_len = 32;
-    } }
+// What a value says of its settings, and with a password of two bytes of the parameters of its tag: each number in its place.
+fn settings_of_a_value()
+    ensures settings { settings_of_encoded_value (record { kind = Id; version = 19; memory = 64; passes = 3; lanes = 2; salt = replicate 10 1; tag = replicate 9 2 })
+        ≡ record { kind = Id; version = 19; memory = 64; passes = 3; lanes = 2; salt_len = 10; tag_len = 9 } }
+    ensures parameters { parameters_of_value (record { kind = Id; version = 19; memory = 64; passes = 3; lanes = 2; salt = replicate 10 1; tag = replicate 9 2 }) (codes "pw")
+        ≡ record { kind = 2; version = 19; passes = 3; lanes = 2; memory_kib = 64; tag_len = 9; salt_len = 10; password_len = 2 } }
 {}

@@ -1,6 +1,7 @@
 //! The program `argon2`: the command over the system.
 #![tactic(auto)]
 
+mod laws;
 mod program;
 
 use std::process::ExitCode;

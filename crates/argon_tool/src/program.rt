@@ -2,6 +2,7 @@
 ghost use Rattle.std.specs.Prelude.{◌≡◌, ◌≤◌, IsTrue};
 ghost use Rattle.host.specs.Faults.{no_faults};
 ghost use Rattle.argon_tool.specs.Program.{ProgramRefuses, ProgramSucceeds};
+ghost use Rattle.tools.specs.Failures.{AreFaultsOfSystem};
 ghost use Rattle.tools.specs.SystemState.{IsUnused};
 
 use argon2_command::{Argon2Refusal, argon2};
@@ -22,6 +23,7 @@ pub fn run<S: System>(alloc: Global, system: S) -> (u8, S, RunFailureCounts<S>)
         ProgramSucceeds (S.words system) (S.state system) (S.state result.1) }
     ensures refuses { IsTrue S.tells → result.0 ≡ 1 →
         ProgramRefuses S.tells (S.words system) (S.state system) (S.state result.1) result.2 }
+    ensures fails { IsTrue S.tells → AreFaultsOfSystem result.2 (S.failures result.1) (S.files result.1) }
 {
     let read = words(&system, alloc);
     let mut host = SystemHost::new(system);

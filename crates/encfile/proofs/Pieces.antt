@@ -1,7 +1,7 @@
 -- Pieces of lists, of a text, of a key stream and of what is held.
 use Rattle.std.proofs.Common.{◌≡◌, ℕ, zero, suc, ◌+◌, ◌-◌, ◌≤◌, List, [], ◌∷◌, ◌++◌, length, take, drop, arith, refl, ap, ap₂, sym, ◌∙◌, append-nil, append_assoc, length-append}
 use borrow.Rule.Slice.PartMut.{put_mid}
-use Rattle.std.proofs.lemmas.List.{drop_at, drop-take, take_at, take-take}
+use Rattle.std.proofs.lemmas.List.{drop_at, drop-take, take_at, take-append-drop, take-take}
 use Rattle.aes_ctr.specs.CounterMode.{KeyStreamPlace, counter_mode, counter_mode_from}
 use Rattle.aes_ctr.proofs.KeyStream.{counter_mode_from-append}
 use Rattle.encfile.specs.Header.{bytes_at}
@@ -41,6 +41,17 @@ cut_at held piece list copy post moved len whole long copied below =
     let all : moved + (len - moved) ≡ len = omega arith in
     ap (λ b. take moved list ++ b) (take_at copy post (len - moved) long ∙ copied) ∙ both_parts moved (len - moved) list
     ∙ ap (λ n. take n list) all ∙ whole
+
+-- what follows `made`, which was written over the first `n` bytes of `out`: `last`, and then what `old` had there
+pub after_made : (n len : ℕ) (old out made last : List ℕ) → length made ≡ n → length (take n out) ≡ n
+    → take len out ≡ take n out ++ last → drop len out ≡ drop len old → n + length last ≡ len
+    → drop n (made ++ drop n out) ≡ last ++ drop (n + length last) old
+after_made n len old out made last long moved first rest all =
+    let front : List ℕ = take n out in
+    let whole : out ≡ front ++ (last ++ drop len old) =
+    sym (take-append-drop len out) ∙ ap₂ (λ (a b : List ℕ). a ++ b) first rest ∙ append_assoc front last (drop len old) in
+    drop_at made (drop n out) n long ∙ ap (drop n) whole ∙ drop_at front (last ++ drop len old) n moved
+    ∙ ap (λ k. last ++ drop k old) (sym all)
 
 -- ---- a key stream
 

@@ -10,7 +10,7 @@ use Rattle.romix.specs.Costs.{IsInRange, Parameters}
 use Rattle.encfile.specs.Header.{bytes_at, checksum, first_48_header_bytes, costs_of, header, salt_of}
 use Rattle.encfile.specs.EncryptedFile.{IsEncryptionOf, body, cipher_key, hmac_key, derived_key, encrypted_file, head, header_hmac, released_text, right_header_hmac}
 use Rattle.encfile.specs.Encrypting.{FitsSha256}
-use Rattle.encfile.specs.Decrypting.{DecryptionHasRead, IsSplit}
+use Rattle.encfile.specs.Decrypting.{DecryptionHasRead, IsSplit, held_bytes}
 use Rattle.encfile.specs.Inside.Lengths.{bytes_read_so_far}
 use Rattle.encfile.specs.declared.dec.Dec.{Dec}
 use Rattle.encfile.proofs.Files.{costs_of-encrypted_file, costs_of-front, length-head, salt_of-encrypted_file, salt_of-front}
@@ -87,6 +87,21 @@ released_text-split file passphrase salt costs done held s =
     let long = length-split file passphrase salt costs done held s in
     released_by file passphrase salt costs done held (leb 128 (length file)) refl same_costs same_salt long
     (ap (drop 96) s.bytes ∙ drop_at (head passphrase salt costs) more 96 front) s.few s.full
+
+done_of : (done held all : ℕ) → all ≡ 96 + (done + held) → held ≤ 32 → (0 < done → held ≡ 32) → all - 128 ≡ done
+done_of zero held all sum few full = omega arith
+done_of (suc done) held all sum few full = let e : held ≡ 32 = full (omega arith) in omega arith
+
+-- the last ones are held
+pub held_bytes-split : (file passphrase salt : List ℕ) (costs : Parameters) (done held : List ℕ) → IsSplit file passphrase salt costs done held
+    → held_bytes file ≡ held
+held_bytes-split file passphrase salt costs done held s =
+    let front = length-head passphrase salt costs s.salt_has_32_bytes in
+    let n : length file - 128 ≡ length done =
+    done_of (length done) (length held) (length file) (length-split file passphrase salt costs done held s) s.few s.full in
+    let rest : drop 96 file ≡ done ++ held =
+    ap (drop 96) s.bytes ∙ drop_at (head passphrase salt costs) (done ++ held) 96 front in
+    ap₂ (λ (k : ℕ) (l : List ℕ). drop k l) n rest ∙ drop_at done held (length done) refl
 
 -- a file of fewer than 128 bytes releases nothing
 pub released_text-short : (file passphrase : List ℕ) → length file < 128 → released_text file passphrase ≡ []

@@ -1,5 +1,5 @@
 -- What contracts see of a running decryption.
-use Rattle.std.specs.Prelude.{◌≡◌, ℕ, ◌+◌, ◌^◌, ◌<◌, ◌≤◌, List, ◌++◌, length, take, drop}
+use Rattle.std.specs.Prelude.{◌≡◌, ℕ, ◌+◌, ◌-◌, ◌^◌, ◌<◌, ◌≤◌, List, ◌++◌, length, take, drop}
 use Rattle.macs.specs.Hmac.{Holds}
 use Rattle.romix.specs.Costs.{IsInRange, Parameters}
 use Rattle.encfile.specs.EncryptedFile.{derived_key, head}
@@ -30,3 +30,11 @@ pub record DecryptionHasRead (dec : Dec) (passphrase file : List ℕ) : Type 0 w
   pub state : HasDecryptedWithKeys dec (head passphrase salt costs) (derived_key passphrase salt costs) done held
   pub split : IsSplit file passphrase salt costs done held
   pub below_limit : length file < 2 ^ 60 + 128
+
+-- the bytes that are held once so much of a file was read: the last 32 after its first 96, or all, where they are fewer
+abbrev pub held_bytes : List ℕ → List ℕ
+held_bytes file = drop (length file - 128) (drop 96 file)
+
+-- after its first `n` bytes a buffer has those that are held of the file, as they came, and then what it had before
+abbrev pub HasHeldBytesAfter : ℕ → List ℕ → List ℕ → List ℕ → Type 0
+HasHeldBytesAfter n file before after = drop n after ≡ held_bytes file ++ drop (n + length (held_bytes file)) before

@@ -4,7 +4,7 @@ ghost use Rattle.romix.specs.Costs.{cores};
 ghost use Rattle.encfile.specs.Header.{IsHeaderOf};
 ghost use Rattle.encfile.specs.EncryptedFile.{HasRightHeaderHmac, IsEncryptionOf, released_text, CountsDerivation, CountsWithinBound};
 ghost use Rattle.encfile.specs.Encrypting.{FitsSha256};
-ghost use Rattle.encfile.specs.Decrypting.{HasDecryptedWithKeys, DecryptionHasRead};
+ghost use Rattle.encfile.specs.Decrypting.{HasDecryptedWithKeys, DecryptionHasRead, HasHeldBytesAfter};
 
 use crate::fault::{Damaged, TooLong, WrongPassphrase};
 use crate::header::Header;
@@ -74,8 +74,8 @@ impl Dec {
     }
 
     /// Reads the next bytes of the file, and answers how many bytes of text it released, which are
-    /// the first of `out`. `out` is at least 32 bytes longer than the piece: so many of it are in no
-    /// promised state, and the rest of `out` stays.
+    /// the first of `out`. After them it puts those that it holds, at most 32, as they came. The rest of
+    /// `out` stays: it is at least 32 bytes longer than the piece.
     ///
     /// It refuses the piece where the bytes after the first 96 would reach 2^60 + 32. After a
     /// refusal `out` and the decryption are as they were.
@@ -87,6 +87,10 @@ impl Dec {
             → DecryptionHasRead self.old passphrase file
             → released_text file passphrase ++ take n out.new
             ≡ released_text (file ++ piece.now) passphrase) }
+        // then come the bytes that it holds, and then what stood there before
+        ensures held { IfOk result (λ n. (passphrase file : List ℕ)
+            → DecryptionHasRead self.old passphrase file
+            → HasHeldBytesAfter n (file ++ piece.now) out.old out.new) }
         ensures within { IfOk result (λ n. n ≤ length piece.now) }
         ensures rest { drop (length piece.now + 32) out.new ≡ drop (length piece.now + 32) out.old }
         ensures fits { OnOk result ((passphrase file : List ℕ) → DecryptionHasRead self.old passphrase file

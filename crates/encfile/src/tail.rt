@@ -43,13 +43,14 @@ impl Tail {
         self.len
     }
 
-    // Adds the piece, moves all but the last 32 bytes to the front of `out`, and answers how many
-    // it moved. What comes after them in `out` isn't promised, as far as there are bytes; the rest of `out` stays.
+    // Adds the piece, puts all the bytes at the front of `out`, of which the rest stays, holds the last 32,
+    // and answers how many come before those.
     pub(crate) fn take_in(&mut self, piece: &[u8], out: &mut [u8]) -> usize
         requires room { length piece.now + 32 ≤ length out.old }
         ensures moved { result ≡ length self.old + length piece.now - 32 }
         ensures at_most_32 { length self.new ≤ 32 }
         ensures joined { take result out.new ++ self.new ≡ self.old ++ piece.now }
+        ensures put { take (length self.old + length piece.now) out.new ≡ self.old ++ piece.now }
         ensures rest { drop (length self.old + length piece.now) out.new ≡ drop (length self.old + length piece.now) out.old }
     {
         let len = self.len + piece.len();

@@ -1,12 +1,15 @@
 //! Vectors that the checker computes by the definitions alone.
-ghost use Rattle.std.specs.Prelude.{◌≡◌, ◌++◌, ◌^◌, [], ◌∷◌, codes, slice_set, take, Some, None};
+ghost use Rattle.std.specs.Prelude.{◌≡◌, ◌++◌, ◌^◌, [], ◌∷◌, codes, false, slice_set, take, true, Some, None};
 ghost use Rattle.std.specs.List.{range_with_len};
-ghost use Rattle.encfile.specs.EncryptedFile.{encrypted_file, released_text};
+ghost use Rattle.encfile.specs.Decrypting.{held_bytes};
+ghost use Rattle.encfile.specs.EncryptedFile.{derived_key, encrypted_file, released_text};
 ghost use Rattle.encfile.specs.Front.{format_refusal, front_refusal, file_refusal_before_passphrase};
 ghost use Rattle.encfile.specs.Front.FrontRefusal.{KeepAboveN, NotScryptData, WrongPassphrase, UnsupportedVersion, TooMuchMemory, TooMuchWork};
 ghost use Rattle.encfile.specs.Header.{costs_of, header, salt_of};
-ghost use Rattle.encfile.specs.HeaderFaults.{header_fault};
+ghost use Rattle.encfile.specs.HeaderFaults.{are_out_of_range, header_fault};
+ghost use Rattle.encfile.specs.Laws.{header_costs_with_allowed_keep};
 ghost use Rattle.encfile.specs.Vectors.{allowance, front_of_costs, front_of_hello, hello_file_from_byte_96};
+ghost use Rattle.romix.specs.Scrypt.{scrypt};
 ghost use Rattle.encfile.specs.declared.fault.HeaderFault.TheVariants.{Checksum, CostsOutOfRange, Magic, Version};
 
 // The file of `hello` with log2 N 4, r 1, p 1, the passphrase `pw` and the salt 00 01 .. 1f, as
@@ -29,6 +32,16 @@ fn file_of_hello()
         0xB8 ∷ [] }
     ensures text { released_text (front_of_hello ++ hello_file_from_byte_96) (codes "pw") ≡ codes "hello" }
     ensures cut_off { released_text front_of_hello (codes "pw") ≡ [] }
+{}
+
+// What of the same file is held once all is read: the final code. Where fewer than 32 bytes follow the first 96, it is
+// these.
+fn held_of_hello()
+    ensures code { held_bytes (front_of_hello ++ hello_file_from_byte_96) ≡
+        0xFA ∷ 0xF6 ∷ 0x91 ∷ 0x95 ∷ 0x12 ∷ 0x96 ∷ 0xA9 ∷ 0x92 ∷ 0x5E ∷ 0x75 ∷ 0x4D ∷ 0x1B ∷
+        0x00 ∷ 0xD8 ∷ 0xF6 ∷ 0xAC ∷ 0xAA ∷ 0x79 ∷ 0x86 ∷ 0x8E ∷ 0x22 ∷ 0x1C ∷ 0xD3 ∷ 0xC4 ∷
+        0x0E ∷ 0xFB ∷ 0x4B ∷ 0xDD ∷ 0x9F ∷ 0xFB ∷ 0x35 ∷ 0xB8 ∷ [] }
+    ensures short { held_bytes (front_of_hello ++ codes "hello") ≡ codes "hello" }
 {}
 
 // The file of `h` with log2 N 1, r 1 and p 1, under the same passphrase and salt, as the same programs give it: computed at
@@ -143,4 +156,31 @@ fn header_of_large_costs()
     ensures r { (costs_of (header (record { log_n = 10; r = 0x01020304; p = 5 }) (range_with_len 0 32))).r ≡ 0x01020304 }
     ensures p { (costs_of (header (record { log_n = 10; r = 0x01020304; p = 5 }) (range_with_len 0 32))).p ≡ 5 }
     ensures salt { salt_of (header (record { log_n = 10; r = 0x01020304; p = 5 }) (range_with_len 0 32)) ≡ range_with_len 0 32 }
+    ensures with_keep { header_costs_with_allowed_keep (header (record { log_n = 10; r = 0x01020304; p = 5 }) (range_with_len 0 32)) (allowance 4 2 3)
+        ≡ record { costs = record { log_n = 10; r = 0x01020304; p = 5 }; keep = 4 } }
+{}
+
+// docs/FORMATS.md: the 64 bytes are scrypt of the passphrase and the salt with N, r and p, each in its place. Scrypt is not
+// computed.
+fn keys_by_scrypt()
+    ensures key { derived_key (codes "pw") (codes "NaCl") (record { log_n = 5; r = 3; p = 7 }) ≡
+        scrypt (codes "pw") (codes "NaCl") 32 3 7 64 }
+{}
+
+// The same with N, r and p of 2, 2 and 1, by Python's hashlib.scrypt.
+fn keys_of_small_costs()
+    ensures key { derived_key (codes "pw") (codes "NaCl") (record { log_n = 1; r = 2; p = 1 }) ≡
+        0x10 ∷ 0xB4 ∷ 0xEC ∷ 0x42 ∷ 0x4E ∷ 0xFC ∷ 0x48 ∷ 0xE1 ∷ 0xDE ∷ 0xD6 ∷ 0xCF ∷ 0xDD ∷
+        0x16 ∷ 0x33 ∷ 0xD6 ∷ 0xC4 ∷ 0x7A ∷ 0xE0 ∷ 0xE3 ∷ 0xAD ∷ 0xDB ∷ 0x90 ∷ 0x96 ∷ 0x4D ∷
+        0x18 ∷ 0x52 ∷ 0x23 ∷ 0xDF ∷ 0xD3 ∷ 0x35 ∷ 0x63 ∷ 0x6D ∷ 0xD9 ∷ 0xCA ∷ 0xB6 ∷ 0x4C ∷
+        0xFD ∷ 0x73 ∷ 0x70 ∷ 0x50 ∷ 0xA6 ∷ 0x87 ∷ 0x60 ∷ 0x4E ∷ 0xA2 ∷ 0x45 ∷ 0x04 ∷ 0x18 ∷
+        0x10 ∷ 0x78 ∷ 0xD0 ∷ 0xB0 ∷ 0x7C ∷ 0x90 ∷ 0xE0 ∷ 0xF3 ∷ 0x8E ∷ 0x70 ∷ 0xDD ∷ 0xAA ∷
+        0x58 ∷ 0xE5 ∷ 0xDB ∷ 0x9C ∷ [] }
+{}
+
+// RFC 7914, section 6: r and p are at least 1; N is a power of 2 above 1.
+fn costs_of_one_and_none()
+    ensures zeros { are_out_of_range (record { log_n = 1; r = 1; p = 1 }) ∷ are_out_of_range (record { log_n = 0; r = 1; p = 1 })
+        ∷ are_out_of_range (record { log_n = 1; r = 0; p = 1 }) ∷ are_out_of_range (record { log_n = 1; r = 1; p = 0 }) ∷ []
+        ≡ false ∷ true ∷ true ∷ true ∷ [] }
 {}

@@ -1,2 +1,4 @@
 -- Lemmas, by topic.
+pub mod FirstLines
+pub mod Pulls
 pub mod Pushes

@@ -22,6 +22,14 @@ pub record GrantsAllHostCalls (g : CallsGrantedByHost) : Type 0 where
   pub secret : g.secret ≡ true
   pub salt : g.salt ≡ true
 
+-- every call but a pull is granted as before
+pub record GrantsAllButPullsAsBefore (before after : CallsGrantedByHost) : Type 0 where
+  pub input : after.input ≡ before.input
+  pub output : after.output ≡ before.output
+  pub writable : after.writable ≡ before.writable
+  pub secret : after.secret ≡ before.secret
+  pub salt : after.salt ≡ before.salt
+
 -- the input was opened: it may be pulled from, and is not opened again
 abbrev pub with_input_opened : CallsGrantedByHost → CallsGrantedByHost
 with_input_opened g = record g { input = false; readable = true }

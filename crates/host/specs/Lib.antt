@@ -4,6 +4,7 @@ pub mod AskedSource
 pub mod Faults
 pub mod CallsGrantedByHost
 pub mod Secret
+pub mod FirstLine
 pub mod Lines
 pub mod Output
 pub mod Entries

@@ -1,7 +1,7 @@
 //! What a command asks of the world.
 ghost use Rattle.std.specs.Prelude.{◌≡◌, ◌-◌, ◌<◌, ◌^◌, Bool, true, [], take, length, option_map, IfOk, OnOk, OnErr, IsTrue};
 ghost use Rattle.host.specs.Faults.{Faults, AreBelow, with_input_failure_counted, with_output_failure_counted, with_secret_failure_counted, with_salt_failure_counted, with_line_failure_counted, CountsFailure, CountsNoFailure};
-ghost use Rattle.host.specs.CallsGrantedByHost.{CallsGrantedByHost, with_input_opened, with_output_asked, with_output_opened, with_salt_asked, with_secret_asked};
+ghost use Rattle.host.specs.CallsGrantedByHost.{CallsGrantedByHost, GrantsAllButPullsAsBefore, with_input_opened, with_output_asked, with_output_opened, with_salt_asked, with_secret_asked};
 ghost use Rattle.host.specs.Secret.{secret_of_source, source_of, IsBeginning};
 ghost use Rattle.host.specs.HostState.{HostState, after_ask_secret, after_pull, after_push, after_salt, after_say, after_ask_output, after_open_input, after_open_output, FitsWithin, KeepsOnErr, KeepsOnOk, TakesSome};
 
@@ -98,7 +98,7 @@ pub trait Host {
         ensures progress { IsTrue tells → IfOk result (λ n.
             0 < length buf.old → n ≡ 0 → (seen self.old).input ≡ []) }
         ensures granted { IfOk result (λ n. 0 < n → grants self.new ≡ grants self.old) }
-        ensures still_writable { KeepsOnOk result (grants self.old).writable (grants self.new).writable };
+        ensures granted_all_but_pulls { OnOk result (GrantsAllButPullsAsBefore (grants self.old) (grants self.new)) };
 
     /// Writes a beginning of the bytes, of at least one where there is one, and says how many. The output
     /// is opened, and no push before has failed.

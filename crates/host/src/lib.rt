@@ -17,9 +17,11 @@
 
 mod asked_source;
 mod host;
+mod reading;
 mod vectors;
 mod writing;
 
 pub use asked_source::{AskedSource, GhostName};
 pub use host::{Host, HostFault, Source};
+pub use reading::{first_line_length, is_line_end, pull_full};
 pub use writing::{push_all, refuse, write_output};

@@ -4,6 +4,7 @@ ghost use Rattle.host.specs.Faults.{with_input_failure_counted, with_line_failur
 ghost use Rattle.host.specs.CallsGrantedByHost.{nothing_asked, with_input_opened, with_output_asked, with_output_opened, with_salt_asked, with_secret_asked};
 ghost use Rattle.host.specs.Lines.{after_line, faults_after_line};
 ghost use Rattle.host.specs.Entries.{lookup};
+ghost use Rattle.host.specs.FirstLine.{first_line};
 ghost use Rattle.host.specs.Output.{after_writing};
 ghost use Rattle.host.specs.Secret.{secret_bytes_in_host};
 ghost use Rattle.host.specs.HostState.{after_ask_secret, after_ask_output, after_open_input, after_open_output, after_pull, after_push, after_salt, after_say, env, file, stdin_once};
@@ -33,15 +34,16 @@ fn names_after_calls()
     ensures salt { (after_salt sample_host).salted ≡ true }
 {}
 
-// A failure raises its own count by one.
+// A failure raises its own count by one, whatever the counts are.
 fn counts_after_failures()
-    ensures input { with_input_failure_counted no_faults ≡ record { input = 1; output = 0; secrets = 0; salt = 0; lines = 0 } }
-    ensures output { with_output_failure_counted no_faults ≡ record { input = 0; output = 1; secrets = 0; salt = 0; lines = 0 } }
-    ensures secret { with_secret_failure_counted no_faults ≡ record { input = 0; output = 0; secrets = 1; salt = 0; lines = 0 } }
-    ensures salt { with_salt_failure_counted no_faults ≡ record { input = 0; output = 0; secrets = 0; salt = 1; lines = 0 } }
-    ensures line { with_line_failure_counted no_faults ≡ record { input = 0; output = 0; secrets = 0; salt = 0; lines = 1 } }
-    ensures line_said { faults_after_line true no_faults ≡ no_faults }
-    ensures line_unsaid { (faults_after_line false no_faults).lines ≡ 1 }
+    ensures input { with_input_failure_counted (record { input = 10; output = 20; secrets = 30; salt = 40; lines = 50 }) ≡ record { input = 11; output = 20; secrets = 30; salt = 40; lines = 50 } }
+    ensures output { with_output_failure_counted (record { input = 10; output = 20; secrets = 30; salt = 40; lines = 50 }) ≡ record { input = 10; output = 21; secrets = 30; salt = 40; lines = 50 } }
+    ensures secret { with_secret_failure_counted (record { input = 10; output = 20; secrets = 30; salt = 40; lines = 50 }) ≡ record { input = 10; output = 20; secrets = 31; salt = 40; lines = 50 } }
+    ensures salt { with_salt_failure_counted (record { input = 10; output = 20; secrets = 30; salt = 40; lines = 50 }) ≡ record { input = 10; output = 20; secrets = 30; salt = 41; lines = 50 } }
+    ensures line { with_line_failure_counted (record { input = 10; output = 20; secrets = 30; salt = 40; lines = 50 }) ≡ record { input = 10; output = 20; secrets = 30; salt = 40; lines = 51 } }
+    ensures none { no_faults ≡ record { input = 0; output = 0; secrets = 0; salt = 0; lines = 0 } }
+    ensures line_said { faults_after_line true (record { input = 10; output = 20; secrets = 30; salt = 40; lines = 50 }) ≡ record { input = 10; output = 20; secrets = 30; salt = 40; lines = 50 } }
+    ensures line_unsaid { faults_after_line false (record { input = 10; output = 20; secrets = 30; salt = 40; lines = 50 }) ≡ record { input = 10; output = 20; secrets = 30; salt = 40; lines = 51 } }
 {}
 
 // A source gives what stands in its own place, if anything does.
@@ -53,6 +55,15 @@ fn secrets_by_source()
     ensures no_file { secret_bytes_in_host (file (codes "PW")) sample_host ≡ None }
     ensures first_of_two { lookup (record { name = codes "a"; bytes = codes "1" } ∷ record { name = codes "b"; bytes = codes "2" }
         ∷ record { name = codes "b"; bytes = codes "3" } ∷ []) (codes "b") ≡ Some (codes "2") }
+{}
+
+// A line ends before the first LF or CR; a text may have neither, or nothing before it.
+fn first_lines()
+    ensures line_feed { first_line (codes "pw\nx\n") ≡ codes "pw" }
+    ensures carriage_return { first_line (112 ∷ 13 ∷ 10 ∷ []) ≡ codes "p" }
+    ensures no_end { first_line (codes "p w") ≡ codes "p w" }
+    ensures empty { first_line (codes "\npw") ≡ [] }
+    ensures nothing { first_line [] ≡ [] }
 {}
 
 // What was opened may be pulled from, or pushed to; what was asked for is not granted once more.

@@ -1,20 +1,22 @@
 -- What contracts see of a system in memory.
 use Rattle.std.specs.Prelude.{◌≡◌, ℕ, List, [], ◌∷◌, ◌++◌, Option, None, Some, false}
+use Rattle.host.specs.Faults.{Faults, no_faults}
 use Rattle.host.specs.HostState.{Text}
 use Rattle.tools.specs.declared.identity.FileIdentity.{FileIdentity}
 use Rattle.tools.specs.SystemState.{Files, Source, SystemState, placeholder_files, placeholder_state}
 
 -- a system in memory: its bytes, names and lines, which files its streams are, how often a read or a write was
--- asked for, and the words of the process
+-- asked for, how often each kind of call has failed, and the words of the process
 pub record Memory : Type 0 where
   pub state : SystemState
   pub files : Files
   pub tries : ℕ
+  pub failures : Faults
   pub words : List Text
 
--- nothing stands under any name, and nothing was opened, said or tried
+-- nothing stands under any name, nothing was opened, said or tried, and nothing has failed
 abbrev pub new_system_in_memory : Memory
-new_system_in_memory = record { state = placeholder_state; files = placeholder_files; tries = 0; words = [] }
+new_system_in_memory = record { state = placeholder_state; files = placeholder_files; tries = 0; failures = no_faults; words = [] }
 
 -- a stream that is not opened yet, and is to give these bytes
 abbrev pub source_not_yet_opened : List ℕ → Source

@@ -3,6 +3,7 @@
 #![tactic(auto)]
 
 mod contents;
+mod failure_counts;
 mod memory_source;
 mod system;
 mod unbounded_count;

@@ -1,10 +1,12 @@
 //! A system in memory.
-ghost use Rattle.std.specs.Prelude.{◌≡◌, ◌↔◌, ◌+◌, ◌-◌, ◌<◌, ◌^◌, None, true, map, min, option_map, Some, IfOk, OnOk, OnErr, IsTrue, string_bytes};
+ghost use Rattle.std.specs.Prelude.{◌≡◌, ◌↔◌, ◌+◌, ◌-◌, ◌<◌, ◌^◌, None, true, length, map, min, option_map, Some, IfOk, OnOk, OnErr, IsTrue, string_bytes};
+ghost use Rattle.host.specs.HostState.{FitsWithin, KeepsOnErr};
 ghost use Rattle.memory_system.specs.Memory.{new_system_in_memory, source_not_yet_opened, with_standard_error_file, with_file, with_input_bytes, with_stdin_bytes, with_environment_variable, append_word};
-ghost use Rattle.tools.specs.SystemState.{IsReadStreamUnopened, Opens, identity_of_stream, stands_at};
+ghost use Rattle.tools.specs.SystemState.{IsReadStreamUnopened, Opens, Reads, identity_of_stream, stands_at};
 ghost use Rattle.tools.specs.declared.system.Reading.TheVariants as reading;
 
 use crate::contents::{Contents, Identities, Named, find};
+use crate::failure_counts::FailureCounts;
 use crate::memory_source::{InMemoryStream, fill, to_ghost_name};
 use crate::unbounded_count::UnboundedCount;
 use host::{GhostName, HostFault};
@@ -70,6 +72,7 @@ pub struct MemorySystem {
     opened: IdentitiesOfOpenedFiles,
     opened_then: IdentitiesOfOpenedFiles,
     tries: UnboundedCount,
+    failures: FailureCounts,
     read_size: usize,
     write_size: usize,
     interruptions: u64,
@@ -105,6 +108,7 @@ impl Model for MemorySystem {
       };
       files = record { input = m.opened.input; secret = m.opened.secret; output = m.opened.output; error = m.opened.error };
       tries = m.tries;
+      failures = m.failures;
       words = m.words.items;
     } };
 
@@ -143,6 +147,7 @@ impl MemorySystem {
             opened: NO_FILES,
             opened_then: NO_FILES,
             tries: UnboundedCount::new(),
+            failures: FailureCounts::new(),
             read_size: usize::MAX,
             write_size: usize::MAX,
             interruptions: 0,
@@ -348,11 +353,57 @@ impl MemorySystem {
         }
     }
 
+    // Opens a stream, and counts no failure.
+    fn open_stream(&mut self, reading: Reading, name: Option<&str>) -> Result<(), HostFault>
+        ensures kept { KeepsOnErr result self.old.state self.new.state }
+        ensures opened { OnOk result (Opens reading (option_map (λ n. n.now) name.entry) self.old.state self.new.state) }
+        ensures uncounted { self.new.failures ≡ self.old.failures }
+    {
+        if self.next_call_fails() {
+            return Err(HostFault);
+        }
+        match reading {
+            Reading::Input => self.open_input(name)?,
+            Reading::Secret => {
+                let (source, file) = self.source_of(name)?;
+                self.secret = source;
+                self.secret.open(name);
+                self.opened.secret = file.before;
+                self.opened_then.secret = file.after;
+            }
+            Reading::Random => {
+                let (source, _) = self.source_of(name)?;
+                self.random = source;
+                self.random.open(name);
+            }
+        }
+        Ok(())
+    }
+
+    // Reads the next bytes of a stream, and counts no failure.
+    fn read_stream(&mut self, reading: Reading, buf: &mut [u8]) -> io::Result<usize>
+        requires not_empty { 0 < length buf.old }
+        ensures bound { FitsWithin result buf.old }
+        ensures kept { KeepsOnErr result self.old.state self.new.state }
+        ensures bytes { IfOk result (λ n. Reads reading n buf.new self.old.state self.new.state) }
+        ensures same_files { self.new.files ≡ self.old.files }
+        ensures tried { self.new.tries ≡ self.old.tries + 1 }
+        ensures uncounted { self.new.failures ≡ self.old.failures }
+    {
+        self.count_read_or_write_or_fail()?;
+        match reading {
+            Reading::Input => self.input.read(buf, self.read_size),
+            Reading::Secret => self.secret.read(buf, self.read_size),
+            Reading::Random => self.random.read(buf, self.read_size),
+        }
+    }
+
     // Opens the input, if it stands under this name.
     fn open_input(&mut self, name: Option<&str>) -> Result<(), HostFault>
         ensures ok { OnOk result (Opens reading.Input (option_map (λ n. n.now) name.entry)
             self.old.state self.new.state) }
         ensures err { OnErr result (self.new.state ≡ self.old.state) }
+        ensures uncounted { self.new.failures ≡ self.old.failures }
     {
         if !self.is_input_name(name) {
             return Err(HostFault);
@@ -384,6 +435,8 @@ impl System for MemorySystem {
 
     ghost tries = { λ m. m.tries };
 
+    ghost failures = { λ m. m.failures };
+
     ghost words = { λ m. m.words };
 
     fn word(&self, place: usize, buf: &mut [u8]) -> Result<usize, WordFault> {
@@ -394,50 +447,46 @@ impl System for MemorySystem {
         }
     }
 
-    fn variable(&self, name: &str, buf: &mut [u8]) -> Result<usize, HostFault> {
+    fn variable(&mut self, name: &str, buf: &mut [u8]) -> Result<usize, HostFault> {
         if self.next_call_fails() {
+            self.failures.count_variable_failure();
             return Err(HostFault);
         }
-        match find(self.variables.as_slice(), name) {
+        let read = match find(self.variables.as_slice(), name) {
             None => Err(HostFault),
             Some(value) => Ok(fill(value.bytes(), buf)),
+        };
+        if read.is_err() {
+            self.failures.count_variable_failure();
         }
+        read
     }
 
     fn open(&mut self, reading: Reading, name: Option<&str>) -> Result<(), HostFault> {
-        if self.next_call_fails() {
-            return Err(HostFault);
+        let opened = self.open_stream(reading, name);
+        if opened.is_err() {
+            self.failures.count_read_failure(reading);
         }
-        match reading {
-            Reading::Input => self.open_input(name)?,
-            Reading::Secret => {
-                let (source, file) = self.source_of(name)?;
-                self.secret = source;
-                self.secret.open(name);
-                self.opened.secret = file.before;
-                self.opened_then.secret = file.after;
-            }
-            Reading::Random => {
-                let (source, _) = self.source_of(name)?;
-                self.random = source;
-                self.random.open(name);
-            }
-        }
-        Ok(())
+        opened
     }
 
     fn read(&mut self, reading: Reading, buf: &mut [u8]) -> io::Result<usize> {
-        self.count_read_or_write_or_fail()?;
-        match reading {
-            Reading::Input => self.input.read(buf, self.read_size),
-            Reading::Secret => self.secret.read(buf, self.read_size),
-            Reading::Random => self.random.read(buf, self.read_size),
+        match self.read_stream(reading, buf) {
+            Ok(n) => {
+                self.failures.count_read(reading, n);
+                Ok(n)
+            }
+            Err(e) => {
+                self.failures.count_read_failure(reading);
+                Err(e)
+            }
         }
     }
 
     fn open_output(&mut self, name: Option<&str>) -> Result<(), HostFault> {
         self.output_asked = Some(to_ghost_name(name));
         if self.next_call_fails() {
+            self.failures.count_output_failure();
             return Err(HostFault);
         }
         let file = self.identities_of_output(name).after;
@@ -453,11 +502,12 @@ impl System for MemorySystem {
         Ok(())
     }
 
-    fn file(&self, stream: StreamRole) -> Result<Option<FileIdentity>, HostFault> {
+    fn file(&mut self, stream: StreamRole) -> Result<Option<FileIdentity>, HostFault> {
         if self.is_unopened(stream) {
             return Ok(None);
         }
         if self.next_call_fails() {
+            self.failures.count_file_failure(stream);
             return Err(HostFault);
         }
         Ok(match stream {
@@ -470,6 +520,7 @@ impl System for MemorySystem {
 
     fn empty(&mut self) -> Result<(), HostFault> {
         if self.next_call_fails() {
+            self.failures.count_output_failure();
             return Err(HostFault);
         }
         self.is_new = true;
@@ -478,17 +529,23 @@ impl System for MemorySystem {
     }
 
     fn write(&mut self, bytes: &[u8]) -> io::Result<usize> {
-        self.count_read_or_write_or_fail()?;
+        if let Err(e) = self.count_read_or_write_or_fail() {
+            self.failures.count_output_failure();
+            return Err(e);
+        }
         let n = bytes.len().min(self.write_size);
         if self.output.extend_from_slice(&bytes[..n]).is_err() {
+            self.failures.count_output_failure();
             return Err(io::Error::from(ErrorKind::OutOfMemory));
         }
+        self.failures.count_write(n);
         Ok(n)
     }
 
     fn sync(&mut self) -> Result<(), HostFault> {
         self.sync_asked = true;
         if self.next_call_fails() {
+            self.failures.count_output_failure();
             return Err(HostFault);
         }
         self.is_synced = true;
@@ -498,9 +555,17 @@ impl System for MemorySystem {
     fn line(&mut self, line: &str) -> Result<(), HostFault> {
         self.line_asked = true;
         if self.next_call_fails() {
+            self.failures.count_line_failure();
             return Err(HostFault);
         }
-        let kept = String::from_str(self.alloc, line).map_err(|_| HostFault)?;
-        self.lines.push(kept).map_err(|_| HostFault)
+        let Ok(kept) = String::from_str(self.alloc, line) else {
+            self.failures.count_line_failure();
+            return Err(HostFault);
+        };
+        if self.lines.push(kept).is_err() {
+            self.failures.count_line_failure();
+            return Err(HostFault);
+        }
+        Ok(())
     }
 }

@@ -1,5 +1,5 @@
 //! The heap of the program that calls, as the functions for C have it: contracts see what was asked of it.
-ghost use Rattle.std.specs.Prelude.{◌≡◌, length, IfOk, Some, is_ok, is_some, true};
+ghost use Rattle.std.specs.Prelude.{◌≡◌, length, IfOk, Some, None, is_ok, is_some, true};
 ghost use Rattle.argon.specs.Range.{IsInRangeWithAnyPassword};
 ghost use Rattle.pikhsen_c.specs.Argon2.{encoded_text_with_zero_tag};
 ghost use Rattle.pikhsen_c.specs.Heap.{after_matrix_request, after_state_request, after_text_request, after_workspace_request, after_reading_request, one_more};
@@ -66,6 +66,7 @@ impl Heap {
         requires full { is_some stream.old.kept.value ≡ true }
         ensures kept { stream.old.kept.value ≡ Some result.value }
         ensures over { stream.new.runs ≡ 0 }
+        ensures empty { stream.new.kept.value ≡ None }
     {
         stream.runs = 0;
         stream.kept.take(self.alloc)

@@ -1,5 +1,5 @@
 //! A file in pieces: what the caller keeps between calls.
-ghost use Rattle.std.specs.Prelude.{◌≡◌, Option, Some, None, is_some, replicate, true};
+ghost use Rattle.std.specs.Prelude.{◌≡◌, ◌≢◌, Option, Some, None, is_some, replicate, true};
 ghost use Rattle.pikhsen_c.specs.Inside.StreamState.{is_decryption, is_encryption, kept_state_satisfies};
 ghost use Rattle.pikhsen_c.specs.declared.stream.StreamState.{StreamState};
 
@@ -87,7 +87,7 @@ pub(crate) const STREAM_ENCRYPTS: u8 = 1;
 
 pub(crate) const STREAM_DECRYPTS: u8 = 2;
 
-/// What C keeps between the calls for a file in pieces: which of the two runs, or 0, and its box.
+/// What C keeps between the calls for a file in pieces: which of the two runs, or 0, and its box; where none runs, nothing.
 #[repr(C)]
 #[derive(Drop)]
 pub struct PikhsenStream {
@@ -95,17 +95,20 @@ pub struct PikhsenStream {
     pub(crate) kept: StreamBox,
     ghost encryption: { runs ≡ 1 → kept_state_satisfies is_encryption kept.value ≡ true },
     ghost decryption: { runs ≡ 2 → kept_state_satisfies is_decryption kept.value ≡ true },
+    ghost idle: { runs ≢ 1 → runs ≢ 2 → kept.value ≡ None },
 }
 
 impl PikhsenStream {
-    /// A stream in which this runs.
-    pub(crate) fn of(runs: u8, boxed: Box<StreamState, Global>) -> PikhsenStream
+    /// Lets this run in a stream that keeps nothing, so that no block is lost.
+    pub(crate) fn begin(&mut self, runs: u8, boxed: Box<StreamState, Global>)
+        requires empty { self.old.kept.value ≡ None }
+        requires one { runs ≢ 1 → runs ≢ 2 → ⊥ }
         requires encryption { runs ≡ 1 → is_encryption boxed.value ≡ true }
         requires decryption { runs ≡ 2 → is_decryption boxed.value ≡ true }
-        ensures runs { result.runs ≡ runs }
-        ensures kept { result.kept.value ≡ Some boxed.value }
+        ensures runs { self.new.runs ≡ runs }
+        ensures kept { self.new.kept.value ≡ Some boxed.value }
     {
-        let kept = StreamBox::of(boxed);
-        PikhsenStream { runs, kept }
+        self.kept = StreamBox::of(boxed);
+        self.runs = runs;
     }
 }

@@ -1,6 +1,7 @@
 //! scrypt's encrypted files in pieces.
-ghost use Rattle.std.specs.Prelude.{◌≡◌, ◌≢◌, ℕ, ◌+◌, ◌-◌, ◌^◌, ◌<◌, ◌≤◌, ◌++◌, List, [], length, take, drop, true, false};
+ghost use Rattle.std.specs.Prelude.{◌≡◌, ◌≢◌, ℕ, ◌+◌, ◌-◌, ◌^◌, ◌<◌, ◌≤◌, ◌++◌, List, [], length, take, drop, true, false, None};
 ghost use Rattle.encfile.specs.EncryptedFile.{HasRightHeaderHmac, body, released_text};
+ghost use Rattle.encfile.specs.Decrypting.{HasHeldBytesAfter};
 ghost use Rattle.pikhsen_c.specs.File.{salsa20_cores_to_open};
 ghost use Rattle.pikhsen_c.specs.Heap.{RequestsMemoryToStart, CountsWorkOnce, CountsWorkUnlessEarly};
 ghost use Rattle.pikhsen_c.specs.Inside.StreamState.{is_decryption, is_encryption};
@@ -53,7 +54,7 @@ fn encrypt_start_in(
         Ok(enc) => {
             head.copy_from_slice(&enc.header());
             drop(Box::replace(&mut block, StreamState::Enc(enc)));
-            *stream = PikhsenStream::of(STREAM_ENCRYPTS, block);
+            stream.begin(STREAM_ENCRYPTS, block);
             status::OK
         }
         Err(status) => status,
@@ -143,7 +144,7 @@ pub extern "C" fn pikhsen_scrypt_encrypt_feed(
     if stream.runs == STREAM_ENCRYPTS {
         let mut boxed = machine.heap.take(stream);
         told = encrypted(&mut boxed, bytes);
-        *stream = PikhsenStream::of(STREAM_ENCRYPTS, boxed);
+        stream.begin(STREAM_ENCRYPTS, boxed);
     }
     wipe_stack(told, machine)
 }
@@ -175,6 +176,7 @@ pub extern "C" fn pikhsen_scrypt_encrypt_finish(
     ensures other { length code.old ≡ 32 → stream.old.runs ≢ 1 → result.status ≡ wrong_stream_state_status }
     ensures ends { length code.old ≡ 32 → stream.old.runs ≡ 1 → result.status ≡ 0 }
     ensures over { result.status ≡ 0 → stream.new.runs ≡ 0 }
+    ensures empty { result.status ≡ 0 → stream.new.kept.value ≡ None }
     ensures untouched { IsUnchangedIfRefused result.status code.old code.new }
     ensures unchanged { IsUnchangedIfRefused result.status stream.old stream.new }
     ensures machine { result.machine ≡ machine }
@@ -224,7 +226,7 @@ fn decrypt_start_in(
     match start_decryption(heap, limits, passphrase, front, ticks) {
         Ok(dec) => {
             drop(Box::replace(&mut block, StreamState::Dec(dec)));
-            *stream = PikhsenStream::of(STREAM_DECRYPTS, block);
+            stream.begin(STREAM_DECRYPTS, block);
             status::OK
         }
         Err(status) => status,
@@ -276,6 +278,8 @@ fn decrypted(running: &mut StreamState, piece: &[u8], out: &mut [u8], released: 
     requires room { length piece.now + 32 ≤ length out.old }
     ensures read { result ≡ 0 → ReadsNextPiece (StreamStateHasRead running.old) (StreamStateHasRead running.new) piece.now }
     ensures released { result ≡ 0 → IsNextReleasedText (StreamStateHasRead running.old) piece.now (take released.new out.new) }
+    ensures held { result ≡ 0 → (passphrase file : List ℕ) → StreamStateHasRead running.old passphrase file
+        → HasHeldBytesAfter released.new (file ++ piece.now) out.old out.new }
     ensures within { result ≡ 0 → released.new ≤ length piece.now }
     ensures rest { result ≡ 0 → drop (length piece.now + 32) out.new ≡ drop (length piece.now + 32) out.old }
     ensures fits { ReadsUnlessFileTooLong (StreamStateHasRead running.old) (length piece.now) result }
@@ -308,6 +312,9 @@ pub extern "C" fn pikhsen_scrypt_decrypt_feed(
 ) -> Answer
     ensures read { result.status ≡ 0 → ReadsNextPiece (StreamHasRead stream.old) (StreamHasRead stream.new) piece.now }
     ensures released { result.status ≡ 0 → IsNextReleasedText (StreamHasRead stream.old) piece.now (take released.new out.new) }
+    // The whole of `out`: the released bytes, those that are held, and what stood there before.
+    ensures held { result.status ≡ 0 → (passphrase file : List ℕ) → StreamHasRead stream.old passphrase file
+        → HasHeldBytesAfter released.new (file ++ piece.now) out.old out.new }
     ensures within { result.status ≡ 0 → released.new ≤ length piece.now }
     ensures rest { result.status ≡ 0 → drop (length piece.now + 32) out.new ≡ drop (length piece.now + 32) out.old }
     ensures buffer { length out.old < length piece.now + 32 → result.status ≡ wrong_buffer_status }
@@ -328,7 +335,7 @@ pub extern "C" fn pikhsen_scrypt_decrypt_feed(
     } else if stream.runs == STREAM_DECRYPTS {
         let mut boxed = machine.heap.take(stream);
         told = decrypted(&mut boxed, piece, out, released);
-        *stream = PikhsenStream::of(STREAM_DECRYPTS, boxed);
+        stream.begin(STREAM_DECRYPTS, boxed);
     }
     wipe_stack(told, machine)
 }
@@ -362,6 +369,7 @@ pub extern "C" fn pikhsen_scrypt_decrypt_finish(
     ensures other { stream.old.runs ≢ 2 → result.status ≡ wrong_stream_state_status }
     ensures ends { stream.old.runs ≡ 2 → result.status ≢ 0 → result.status ≡ damaged_status }
     ensures over { result.status ≢ wrong_stream_state_status → stream.new.runs ≡ 0 }
+    ensures empty { result.status ≢ wrong_stream_state_status → stream.new.kept.value ≡ None }
     ensures unchanged { result.status ≡ wrong_stream_state_status → stream.new ≡ stream.old }
     ensures machine { result.machine ≡ machine }
 {
@@ -387,6 +395,7 @@ fn ended(boxed: Box<StreamState, Global>) -> u32
 pub extern "C" fn pikhsen_stream_free(machine: Machine, stream: &mut PikhsenStream) -> Answer
     ensures done { result.status ≡ 0 }
     ensures over { stream.new.runs ≡ 0 }
+    ensures empty { stream.new.kept.value ≡ None }
     ensures machine { result.machine ≡ machine }
 {
     let mut told = status::OK;

@@ -1,17 +1,21 @@
 //! What the checker computes of the definitions in specs/: the number of each refusal as include/pikhsen.h has it, and
 //! which of several is told, in the order that the header gives.
-ghost use Rattle.std.specs.Prelude.{◌≡◌, ◌-◌, ◌*◌, ◌+◌, ◌^◌, ◌++◌, [], Some, None, codes, replicate};
+ghost use Rattle.std.specs.Prelude.{◌≡◌, ◌-◌, ◌*◌, ◌+◌, ◌^◌, ◌++◌, [], ◌∷◌, Some, None, codes, false, map, replicate, take, true};
+ghost use Rattle.std.specs.List.{range_with_len};
 ghost use Rattle.argon.specs.Argon2.{argon2_tag};
 ghost use Rattle.argon.specs.declared.fault.ParamFault.TheVariants.{Lanes, Memory, MemoryLimit, Passes, PasswordLength, SaltLength, TagLength, WorkLimit};
 ghost use Rattle.argon.specs.declared.kind.Kind.TheVariants.{D, I, Id};
 ghost use Rattle.argon_text.specs.Vectors.{sample_encoded_text, sample_encoded_value};
 ghost use Rattle.argon_text.specs.declared.range.RangeFault.TheVariants as range;
+ghost use Rattle.encfile.specs.Vectors.{front_of_hello};
 ghost use Rattle.encfile.specs.declared.fault.HeaderFault.TheVariants.{Checksum, CostsOutOfRange, Magic, Version};
+ghost use Rattle.romix.specs.Sparse.{sparse_table_core_count};
 ghost use Rattle.romix.specs.declared.fault.CostFault.TheVariants as costs;
-ghost use Rattle.pikhsen_c.specs.Argon2.{encoded_hash, encoded_keyed_hash, encoded_keyed_status, hash_to_encoded_status, hash_status, inputs_given, kind_numbered, parameters_of_numbers, room_status, value_to_encode};
-ghost use Rattle.pikhsen_c.specs.File.{encrypt_status, front_status, header_status, number_of as number_of_header};
+ghost use Rattle.pikhsen_c.specs.Argon2.{encoded_hash, encoded_keyed_hash, encoded_keyed_status, encoded_text_with_zero_tag, hash_to_encoded_status, hash_status, inputs_given, kind_numbered, parameters_of_numbers, room_status, value_to_encode};
+ghost use Rattle.pikhsen_c.specs.File.{encrypt_status, front_status, header_status, number_of as number_of_header, salsa20_cores_to_open};
+ghost use Rattle.pikhsen_c.specs.Heap.{one_more};
 ghost use Rattle.pikhsen_c.specs.Message.{sentence_of};
-ghost use Rattle.pikhsen_c.specs.Scrypt.{costs_of_numbers, limits_of_numbers, number_of as number_of_costs, scrypt_status};
+ghost use Rattle.pikhsen_c.specs.Scrypt.{costs_of_numbers, limits_of_numbers, number_of as number_of_costs, salsa20_cores_of_numbers, scrypt_status};
 ghost use Rattle.pikhsen_c.specs.Settings.{number_of as number_of_range, c_settings_of_value};
 ghost use Rattle.pikhsen_c.specs.Stream.{decrypt_start_status, encrypt_start_status};
 ghost use Rattle.pikhsen_c.specs.Status.{cost_fault_status, damaged_status, first_nonzero_status, header_fault_status, long_password_status, mismatch_status, above_memory_limit_status, above_work_limit_status, wrong_stream_state_status, not_encoded_status, out_of_memory_status, out_of_range_status, param_fault_status, wrong_passphrase_status};
@@ -241,6 +245,49 @@ fn refusals_of_a_file()
     ensures short_header { header_status (replicate 63 0) ≡ 26 }
     ensures whole_header { header_status (replicate 64 0) ≡ 22 }
     ensures version_of_header { header_status (codes "scrypt" ++ replicate 58 1) ≡ 23 }
+{}
+
+// The front of a real file, with 2,048 bytes of V and 64 cores (RFC 7914, 4 to 6), under limits on both sides of these; with S of
+// 3, of 32, which is above N, and of 2, with which V has 1,024 bytes; and cut, or with too little room.
+fn limits_of_a_known_file()
+    ensures front { front_status front_of_hello 1 2048 64 96 ∷ front_status front_of_hello 1 2047 64 96 ∷ front_status front_of_hello 1 2048 63 96 ∷ front_status front_of_hello 1 2047 63 96 ∷ front_status front_of_hello 3 2048 64 96
+        ∷ front_status front_of_hello 32 2048 64 96 ∷ front_status front_of_hello 1 5000 64 96 ∷ front_status front_of_hello 1 2048 5000 96 ∷ front_status front_of_hello 2 1024 200 96 ∷ front_status front_of_hello 2 1023 200 96 ∷ []
+        ≡ 0 ∷ 7 ∷ 8 ∷ 7 ∷ 20 ∷ 21 ∷ 0 ∷ 0 ∷ 0 ∷ 7 ∷ [] }
+    ensures start { decrypt_start_status 0 front_of_hello 1 2048 64 ∷ decrypt_start_status 0 front_of_hello 1 2047 64 ∷ decrypt_start_status 0 front_of_hello 1 2048 63 ∷ decrypt_start_status 0 front_of_hello 1 2047 63
+        ∷ decrypt_start_status 0 front_of_hello 3 2048 64 ∷ decrypt_start_status 0 front_of_hello 32 2048 64 ∷ decrypt_start_status 0 front_of_hello 1 5000 64 ∷ decrypt_start_status 0 front_of_hello 1 2048 5000
+        ∷ decrypt_start_status 0 front_of_hello 2 1024 200 ∷ decrypt_start_status 0 front_of_hello 2 1023 200 ∷ []
+        ≡ 0 ∷ 7 ∷ 8 ∷ 7 ∷ 20 ∷ 21 ∷ 0 ∷ 0 ∷ 0 ∷ 7 ∷ [] }
+    ensures short { front_status (take 95 front_of_hello) 1 2048 64 95 ≡ 26 }
+    ensures buffer { front_status front_of_hello 1 2048 64 95 ≡ 13 }
+    ensures short_start { decrypt_start_status 0 (take 95 front_of_hello) 1 2048 64 ≡ 26 }
+    ensures running { decrypt_start_status 2 front_of_hello 1 2048 64 ≡ 37 }
+    ensures header { header_status (take 64 front_of_hello) ≡ 0 }
+    ensures short_header { header_status (take 63 front_of_hello) ≡ 26 }
+{}
+
+// The text with a tag of zeros, in the form of the reference program (encoding.c: encode_string), of 83 symbols; so 84 bytes are
+// enough. It takes 64 blocks.
+fn texts_with_a_tag_of_zeros()
+    ensures text { encoded_text_with_zero_tag (parameters_of_numbers 2 0x13 3 2 64 32 8 8) (codes "somesalt") ≡ codes "$argon2id$v=19$m=64,t=3,p=2$c29tZXNhbHQ$AAAAAAAAAAAAAAAAAAAAAAAAAAAAAAAAAAAAAAAAAAA" }
+    ensures room { map (hash_to_encoded_status (parameters_of_numbers 2 0x13 3 2 64 32 8 8) (codes "somesalt") 64 5000) (83 ∷ 84 ∷ 5000 ∷ []) ≡ 13 ∷ 0 ∷ 0 ∷ [] }
+    ensures keyed_room { map (encoded_keyed_status (parameters_of_numbers 2 0x13 3 2 64 32 8 8) (codes "somesalt") 1 2 64 5000) (83 ∷ 84 ∷ 5000 ∷ []) ≡ 13 ∷ 0 ∷ 0 ∷ [] }
+    ensures keyed_memory { encoded_keyed_status (parameters_of_numbers 2 0x13 3 2 64 32 8 8) (codes "somesalt") 1 2 63 5000 200 ≡ 7 }
+    ensures keyed_secret { encoded_keyed_status (parameters_of_numbers 2 0x13 3 2 64 32 8 8) (codes "somesalt") (2 ^ 32) 2 64 5000 200 ≡ 12 }
+    ensures keyed_associated { encoded_keyed_status (parameters_of_numbers 2 0x13 3 2 64 32 8 8) (codes "somesalt") 2 (2 ^ 32) 64 5000 200 ≡ 12 }
+{}
+
+// The cores are those of the same costs, salt and S in `romix`, where they are not computed again.
+fn cores_of_calls()
+    ensures key { salsa20_cores_of_numbers (codes "pw") (codes "s") 2 3 5 4 ≡
+        sparse_table_core_count (codes "pw") (codes "s") (record { costs = record { log_n = 2; r = 3; p = 5 }; keep = 4 }) }
+    ensures file { salsa20_cores_to_open (codes "pw") front_of_hello 2 ≡
+        sparse_table_core_count (codes "pw") (range_with_len 0 32) (record { costs = record { log_n = 4; r = 1; p = 1 }; keep = 2 }) }
+{}
+
+// A request that was granted counts there, and one that was refused here.
+fn counts_of_requests()
+    ensures granted { one_more (record { granted = 3; refused = 5 }) true ≡ record { granted = 4; refused = 5 } }
+    ensures refused { one_more (record { granted = 3; refused = 5 }) false ≡ record { granted = 3; refused = 6 } }
 {}
 
 // The comments of enum pikhsen_status in include/pikhsen.h.

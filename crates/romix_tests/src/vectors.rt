@@ -1,13 +1,15 @@
 //! Vectors that the checker computes by the definitions alone.
-ghost use Rattle.std.specs.Prelude.{◌≡◌, ◌+◌, ◌-◌, ◌*◌, ◌^◌, ◌++◌, [], ◌∷◌, codes, replicate, Some, None};
+ghost use Rattle.std.specs.Prelude.{◌≡◌, ◌+◌, ◌-◌, ◌*◌, ◌^◌, ◌++◌, [], ◌∷◌, codes, filter, if◌then◌else◌, replicate, true, false, Some, None};
+ghost use Rattle.std.specs.List.{range_with_len};
 ghost use Rattle.romix.specs.BlockMix.{block_mix};
 ghost use Rattle.romix.specs.Costs.{cores, parts_bytes, table_bytes};
 ghost use Rattle.romix.specs.Faults.{cost_fault, keep_parameter_fault, limit_fault, sparse_limit_fault};
+ghost use Rattle.romix.specs.Requests.{after_table_and_row_requests};
 ghost use Rattle.romix.specs.Romix.{integerify, romix};
 ghost use Rattle.romix.specs.Salsa20.{quarter_round, salsa20_8};
 ghost use Rattle.romix.specs.Scrypt.{scrypt};
 ghost use Rattle.romix.specs.Sparse.{sparse_table_core_count};
-ghost use Rattle.romix.specs.SparseCosts.{cores_bound, sparse_table_bytes};
+ghost use Rattle.romix.specs.SparseCosts.{cores_bound, is_valid_keep, sparse_table_bytes, whole};
 ghost use Rattle.romix.specs.declared.fault.CostFault.TheVariants.{Keep, KeepAboveN, LogN, Memory, Product, Work, Zero};
 
 // Salsa20 specification, section 3, the last example.
@@ -92,19 +94,32 @@ fn integerify_of_a_row()
         ≡ 1 + 2 * 2 ^ 32 + 3 * 2 ^ 64 + 4 * 2 ^ 480 }
 {}
 
-// N is 4, r and p are 2, the password has 65 bytes and the key 40, by Python's hashlib.scrypt. So rows have four blocks,
-// the first key of HMAC is hashed, there are two parts, and of the last block of PBKDF2 not all is taken.
-fn scrypt_of_two_parts()
-    ensures key { scrypt (replicate 65 0x70) (codes "s") 4 2 2 40 ≡
-        0xBB ∷ 0x38 ∷ 0x01 ∷ 0x79 ∷ 0x89 ∷ 0x7B ∷ 0x7F ∷ 0x1D ∷
-        0xFD ∷ 0x6A ∷ 0x6E ∷ 0x15 ∷ 0x50 ∷ 0x5D ∷ 0xE1 ∷ 0x73 ∷
-        0x1A ∷ 0xA9 ∷ 0xE4 ∷ 0x8C ∷ 0xA4 ∷ 0x6A ∷ 0xBF ∷ 0x1E ∷
-        0x80 ∷ 0x5C ∷ 0x67 ∷ 0xD3 ∷ 0x3F ∷ 0xA1 ∷ 0xA3 ∷ 0x6E ∷
-        0xE7 ∷ 0x17 ∷ 0x2C ∷ 0x1D ∷ 0x58 ∷ 0x25 ∷ 0x95 ∷ 0x5E ∷ [] }
+// N is 4, r is 2, p is 3, the password has 65 bytes and the key 70, by Python's hashlib.scrypt. So rows have four blocks, the
+// first key of HMAC is hashed, there are three parts, and of the last block of PBKDF2 not all is taken.
+fn scrypt_of_three_parts()
+    ensures key { scrypt (replicate 65 0x70) (codes "s") 4 2 3 70 ≡
+        0xC3 ∷ 0x7D ∷ 0x52 ∷ 0x7F ∷ 0x39 ∷ 0x46 ∷ 0x00 ∷ 0x29 ∷
+        0xBD ∷ 0xDA ∷ 0x55 ∷ 0x54 ∷ 0xEB ∷ 0xF1 ∷ 0x29 ∷ 0x73 ∷
+        0x63 ∷ 0xA1 ∷ 0x48 ∷ 0x86 ∷ 0x62 ∷ 0x1D ∷ 0x13 ∷ 0x08 ∷
+        0x4D ∷ 0x5F ∷ 0xC0 ∷ 0x01 ∷ 0xBE ∷ 0x68 ∷ 0x00 ∷ 0xD4 ∷
+        0x4D ∷ 0x52 ∷ 0x2E ∷ 0xBA ∷ 0xE7 ∷ 0x0A ∷ 0x2B ∷ 0xC9 ∷
+        0x1D ∷ 0x49 ∷ 0x92 ∷ 0x96 ∷ 0x58 ∷ 0x70 ∷ 0x8E ∷ 0x59 ∷
+        0xF2 ∷ 0x4F ∷ 0xAE ∷ 0xBA ∷ 0xBE ∷ 0x3E ∷ 0x86 ∷ 0x02 ∷
+        0x9E ∷ 0x3D ∷ 0xD9 ∷ 0x55 ∷ 0x98 ∷ 0xA4 ∷ 0x3B ∷ 0x6A ∷
+        0xFD ∷ 0xA2 ∷ 0x22 ∷ 0x3F ∷ 0xBB ∷ 0xA8 ∷ [] }
 {}
 
-// The cores of the same derivation where every second row of V is kept, and where one of four is. A program in Python that
-// makes the rows between again, and gives the key above, counted them.
+// N is 2, r is 3 and p is 1, by Python's hashlib.scrypt: rows have six blocks, and r is another number than p.
+fn scrypt_of_six_blocks()
+    ensures key { scrypt (codes "password") (codes "NaCl") 2 3 1 32 ≡
+        0x5E ∷ 0x74 ∷ 0x42 ∷ 0xCF ∷ 0x41 ∷ 0x27 ∷ 0x24 ∷ 0xF0 ∷
+        0xC9 ∷ 0x6B ∷ 0x34 ∷ 0xEC ∷ 0x77 ∷ 0x92 ∷ 0xAD ∷ 0xDE ∷
+        0xEC ∷ 0x79 ∷ 0x8D ∷ 0x27 ∷ 0x34 ∷ 0x5E ∷ 0xED ∷ 0x4D ∷
+        0xBB ∷ 0xF9 ∷ 0x33 ∷ 0xDE ∷ 0x1E ∷ 0xC3 ∷ 0x12 ∷ 0xE2 ∷ [] }
+{}
+
+// The cores of a derivation of two parts where every second row of V is kept, and where one of four is. A program in Python that
+// makes the rows between again, and gives the key of hashlib.scrypt, counted them.
 fn sparse_cores_of_two_parts()
     ensures keep_2 { sparse_table_core_count (replicate 65 0x70) (codes "s") (record { costs = record { log_n = 2; r = 2; p = 2 }; keep = 2 }) ≡ 80 }
     ensures keep_4 { sparse_table_core_count (replicate 65 0x70) (codes "s") (record { costs = record { log_n = 2; r = 2; p = 2 }; keep = 4 }) ≡ 112 }
@@ -145,4 +160,19 @@ fn faults_of_limits()
     ensures sparse { sparse_limit_fault (record { costs = record { log_n = 4; r = 3; p = 5 }; keep = 4 }) (record { max_bytes = 1919; max_ops = 1 }) ≡ Some Memory }
     ensures sparse_work { sparse_limit_fault (record { costs = record { log_n = 4; r = 3; p = 5 }; keep = 4 }) (record { max_bytes = 1920; max_ops = 2399 }) ≡ Some Work }
     ensures sparse_admitted { sparse_limit_fault (record { costs = record { log_n = 4; r = 3; p = 5 }; keep = 4 }) (record { max_bytes = 1920; max_ops = 2400 }) ≡ None }
+{}
+
+// docs/FORMATS.md: the numbers up to 2,049 that S can be, and powers of two above.
+fn values_of_keep()
+    ensures powers { filter is_valid_keep (range_with_len 0 2050) ≡
+        1 ∷ 2 ∷ 4 ∷ 8 ∷ 16 ∷ 32 ∷ 64 ∷ 128 ∷ 256 ∷ 512 ∷ 1024 ∷ [] }
+    ensures beyond { filter is_valid_keep (4096 ∷ 65536 ∷ []) ≡ [] }
+{}
+
+// With S of 1 every row is kept; and a workspace asks for the words of V first, of which a quarter is kept, and then for those of
+// each row of 128 * r bytes (RFC 7914, 5), until one is refused.
+fn requests_of_a_workspace()
+    ensures whole { whole (record { log_n = 4; r = 3; p = 5 }) ≡ record { costs = record { log_n = 4; r = 3; p = 5 }; keep = 1 } }
+    ensures table { after_table_and_row_requests (λ asked words granted. (if granted then words else 0) ∷ asked) (record { costs = record { log_n = 4; r = 3; p = 5 }; keep = 4 }) [] 0 true ≡ 384 ∷ [] }
+    ensures rows { after_table_and_row_requests (λ asked words granted. (if granted then words else 0) ∷ asked) (record { costs = record { log_n = 4; r = 3; p = 5 }; keep = 4 }) [] 2 false ≡ 0 ∷ 96 ∷ 384 ∷ [] }
 {}

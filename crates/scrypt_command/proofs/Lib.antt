@@ -1,2 +1,5 @@
 -- Lemmas, by topic.
+pub mod BackAgain
+pub mod Existence
+pub mod OtherBytes
 pub mod WholeRuns

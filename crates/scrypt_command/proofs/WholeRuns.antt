@@ -23,7 +23,7 @@ abbrev refused : Result Request ScryptRefusal → Option ScryptRefusal
 refused (Ok request) = None
 refused (Err r) = Some r
 
-same_request : (words : List Text) (a b : Request) → scrypt_request words ≡ Ok a → scrypt_request words ≡ Ok b → b ≡ a
+pub same_request : (words : List Text) (a b : Request) → scrypt_request words ≡ Ok a → scrypt_request words ≡ Ok b → b ≡ a
 same_request words a b ha hb = same_Some b a (ap taken (sym hb ∙ ha))
 
 same_refusal : (words : List Text) (r q : ScryptRefusal) → scrypt_request words ≡ Err r → scrypt_request words ≡ Err q → r ≡ q

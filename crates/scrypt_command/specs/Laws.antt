@@ -1,8 +1,12 @@
 -- What is proved of the definitions of a whole run of scrypt alone.
-use Rattle.std.specs.Prelude.{◌≡◌, ◌⊎◌, List, Ok}
-use Rattle.host.specs.HostState.{Text}
+use Rattle.std.specs.Prelude.{◌≡◌, ◌<◌, ◌^◌, ◌⊎◌, ℕ, List, Ok, length}
+use Rattle.romix.specs.Allowance.{Admits}
+use Rattle.romix.specs.Costs.{IsInRange}
+use Rattle.host.specs.HostState.{HostState, Text}
+use Rattle.scrypt_run.specs.Encrypting.{salt_used}
 use Rattle.scrypt_run.specs.Laws.{IsRefusedFromOutside as RefusesFromOutside}
-use Rattle.scrypt_request.specs.Request.{Request}
+use Rattle.scrypt_run.specs.Passphrase.{HasPassphrase, first_line_of_source}
+use Rattle.scrypt_request.specs.Request.{Encryption, Request, allowance_of}
 use Rattle.scrypt_request.specs.declared.refusal.ScryptRefusal.{ScryptRefusal}
 use Rattle.scrypt_request.specs.declared.refusal.ScryptRefusal.TheVariants as refusal
 use Rattle.scrypt_words.specs.Request.{scrypt_request}
@@ -16,3 +20,12 @@ pub record RefusesAcceptedWords (words : List Text) (r : ScryptRefusal) : Type 0
 -- the refusal is from outside: a growth of memory was refused, or the host failed at what the words ask for
 abbrev pub IsRefusedFromOutside : List Text → ScryptRefusal → Type 0
 IsRefusedFromOutside words r = (r ≡ refusal.OutOfMemory) ⊎ RefusesAcceptedWords words r
+
+-- the source gives the passphrase, the salt that is given or the host's has 32 bytes, and the limits admit the costs of
+-- the new file
+pub record CanBeEncrypted (asked : Encryption) (before : HostState) (passphrase : List ℕ) : Type 0 where
+  pub given : HasPassphrase (first_line_of_source asked.task.source before) passphrase
+  pub salt_has_32_bytes : length (salt_used asked.salt before) ≡ 32
+  pub in_range : IsInRange asked.costs
+  pub admitted : Admits (allowance_of asked.task) asked.costs
+  pub below_limit : length before.input < 2 ^ 60

@@ -1,6 +1,5 @@
 //! Vectors that the checker computes by the definitions alone.
-ghost use Rattle.std.specs.Prelude.{◌≡◌, codes, false, true};
-ghost use Rattle.host.specs.Faults.{no_faults};
+ghost use Rattle.std.specs.Prelude.{◌≡◌, [], ◌∷◌, codes, filter, true};
 ghost use Rattle.scrypt_request.specs.Refusal.{faults_after_refusal, comes_only_after_work, is_out_of_memory, line_of, may_follow_work};
 ghost use Rattle.scrypt_request.specs.declared.refusal.ScryptRefusal.{ScryptRefusal};
 
@@ -32,31 +31,32 @@ fn lines_of_refusals()
 
 // A failing call of the host raises its own count, and no other refusal raises one.
 fn counts_of_refusals()
-    ensures input { faults_after_refusal ScryptRefusal.InputFault no_faults ≡ record { input = 1; output = 0; secrets = 0; salt = 0; lines = 0 } }
-    ensures output { faults_after_refusal ScryptRefusal.OutputFault no_faults ≡ record { input = 0; output = 1; secrets = 0; salt = 0; lines = 0 } }
-    ensures passphrase { faults_after_refusal ScryptRefusal.PassphraseFault no_faults ≡ record { input = 0; output = 0; secrets = 1; salt = 0; lines = 0 } }
-    ensures salt { faults_after_refusal ScryptRefusal.SaltFault no_faults ≡ record { input = 0; output = 0; secrets = 0; salt = 1; lines = 0 } }
-    ensures damaged { faults_after_refusal ScryptRefusal.Damaged no_faults ≡ no_faults }
-    ensures memory { faults_after_refusal ScryptRefusal.OutOfMemory no_faults ≡ no_faults }
+    ensures input { faults_after_refusal ScryptRefusal.InputFault (record { input = 10; output = 20; secrets = 30; salt = 40; lines = 50 }) ≡ record { input = 11; output = 20; secrets = 30; salt = 40; lines = 50 } }
+    ensures output { faults_after_refusal ScryptRefusal.OutputFault (record { input = 10; output = 20; secrets = 30; salt = 40; lines = 50 }) ≡ record { input = 10; output = 21; secrets = 30; salt = 40; lines = 50 } }
+    ensures passphrase { faults_after_refusal ScryptRefusal.PassphraseFault (record { input = 10; output = 20; secrets = 30; salt = 40; lines = 50 }) ≡ record { input = 10; output = 20; secrets = 31; salt = 40; lines = 50 } }
+    ensures salt { faults_after_refusal ScryptRefusal.SaltFault (record { input = 10; output = 20; secrets = 30; salt = 40; lines = 50 }) ≡ record { input = 10; output = 20; secrets = 30; salt = 41; lines = 50 } }
+    ensures damaged { faults_after_refusal ScryptRefusal.Damaged (record { input = 10; output = 20; secrets = 30; salt = 40; lines = 50 }) ≡ record { input = 10; output = 20; secrets = 30; salt = 40; lines = 50 } }
+    ensures memory { faults_after_refusal ScryptRefusal.OutOfMemory (record { input = 10; output = 20; secrets = 30; salt = 40; lines = 50 }) ≡ record { input = 10; output = 20; secrets = 30; salt = 40; lines = 50 } }
 {}
 
 // docs/REFUSALS.md, the order of scrypt: S10, S11, S13 and S14 come after the derivation, S12 before and after it, and S15 and
 // what is told of the first 96 bytes before it.
 fn refusals_after_work()
-    ensures passphrase { comes_only_after_work ScryptRefusal.WrongPassphrase ≡ true }
     ensures damaged { comes_only_after_work ScryptRefusal.Damaged ≡ true }
-    ensures output { comes_only_after_work ScryptRefusal.OutputFault ≡ true }
-    ensures long { comes_only_after_work ScryptRefusal.TooLong ≡ true }
-    ensures input { comes_only_after_work ScryptRefusal.InputFault ≡ false }
-    ensures input_may { may_follow_work ScryptRefusal.InputFault ≡ true }
-    ensures damaged_may { may_follow_work ScryptRefusal.Damaged ≡ true }
-    ensures memory { may_follow_work ScryptRefusal.OutOfMemory ≡ false }
-    ensures memory_limit { may_follow_work ScryptRefusal.MemoryLimit ≡ false }
-    ensures salt { may_follow_work ScryptRefusal.SaltFault ≡ false }
+    ensures only_after { filter comes_only_after_work (ScryptRefusal.Usage ∷ ScryptRefusal.SomeCosts ∷ ScryptRefusal.CostsOutOfRange ∷ ScryptRefusal.StandardInputTwice ∷ ScryptRefusal.SameName ∷ ScryptRefusal.PassphraseSource ∷ ScryptRefusal.PassphraseFault ∷ ScryptRefusal.LongPassphrase
+        ∷ ScryptRefusal.SaltDigits ∷ ScryptRefusal.SaltFault ∷ ScryptRefusal.NotScryptData ∷ ScryptRefusal.UnsupportedVersion ∷ ScryptRefusal.MemoryLimit ∷ ScryptRefusal.WorkLimit ∷ ScryptRefusal.WrongPassphrase
+        ∷ ScryptRefusal.Damaged ∷ ScryptRefusal.InputFault ∷ ScryptRefusal.OutputFault ∷ ScryptRefusal.TooLong ∷ ScryptRefusal.OutOfMemory ∷ ScryptRefusal.KeepOutOfRange ∷ ScryptRefusal.KeepAboveN ∷ [])
+        ≡ ScryptRefusal.WrongPassphrase ∷ ScryptRefusal.Damaged ∷ ScryptRefusal.OutputFault ∷ ScryptRefusal.TooLong ∷ [] }
+    ensures after { filter may_follow_work (ScryptRefusal.Usage ∷ ScryptRefusal.SomeCosts ∷ ScryptRefusal.CostsOutOfRange ∷ ScryptRefusal.StandardInputTwice ∷ ScryptRefusal.SameName ∷ ScryptRefusal.PassphraseSource ∷ ScryptRefusal.PassphraseFault ∷ ScryptRefusal.LongPassphrase
+        ∷ ScryptRefusal.SaltDigits ∷ ScryptRefusal.SaltFault ∷ ScryptRefusal.NotScryptData ∷ ScryptRefusal.UnsupportedVersion ∷ ScryptRefusal.MemoryLimit ∷ ScryptRefusal.WorkLimit ∷ ScryptRefusal.WrongPassphrase
+        ∷ ScryptRefusal.Damaged ∷ ScryptRefusal.InputFault ∷ ScryptRefusal.OutputFault ∷ ScryptRefusal.TooLong ∷ ScryptRefusal.OutOfMemory ∷ ScryptRefusal.KeepOutOfRange ∷ ScryptRefusal.KeepAboveN ∷ [])
+        ≡ ScryptRefusal.WrongPassphrase ∷ ScryptRefusal.Damaged ∷ ScryptRefusal.InputFault ∷ ScryptRefusal.OutputFault ∷ ScryptRefusal.TooLong ∷ [] }
 {}
 
 // Want of memory is S15 alone: S8 is a limit.
 fn wants_of_memory()
-    ensures refused { is_out_of_memory ScryptRefusal.OutOfMemory ≡ true }
-    ensures limit { is_out_of_memory ScryptRefusal.MemoryLimit ≡ false }
+    ensures alone { filter is_out_of_memory (ScryptRefusal.Usage ∷ ScryptRefusal.SomeCosts ∷ ScryptRefusal.CostsOutOfRange ∷ ScryptRefusal.StandardInputTwice ∷ ScryptRefusal.SameName ∷ ScryptRefusal.PassphraseSource ∷ ScryptRefusal.PassphraseFault ∷ ScryptRefusal.LongPassphrase
+        ∷ ScryptRefusal.SaltDigits ∷ ScryptRefusal.SaltFault ∷ ScryptRefusal.NotScryptData ∷ ScryptRefusal.UnsupportedVersion ∷ ScryptRefusal.MemoryLimit ∷ ScryptRefusal.WorkLimit ∷ ScryptRefusal.WrongPassphrase
+        ∷ ScryptRefusal.Damaged ∷ ScryptRefusal.InputFault ∷ ScryptRefusal.OutputFault ∷ ScryptRefusal.TooLong ∷ ScryptRefusal.OutOfMemory ∷ ScryptRefusal.KeepOutOfRange ∷ ScryptRefusal.KeepAboveN ∷ [])
+        ≡ ScryptRefusal.OutOfMemory ∷ [] }
 {}

@@ -15,9 +15,9 @@ use Rattle.scrypt_request.specs.Request.{Encryption}
 use Rattle.scrypt_run.specs.Steps.{after_pull_and_push}
 use Rattle.scrypt_run.specs.Text.{RefusesDuringText, FailsWriting}
 use Rattle.scrypt_request.specs.declared.refusal.ScryptRefusal.{ScryptRefusal}
+use Rattle.host.proofs.Pulls.{begun_on}
 use Rattle.host.proofs.Pushes.{push_push}
 use Rattle.scrypt_run.proofs.Ends.{first_line_of_source-reading, salt_used-opening}
-use Rattle.scrypt_run.proofs.Passing.{begun_on}
 
 -- ---- the passphrase and the salt
 

@@ -5,7 +5,6 @@ pub mod Encrypting
 pub mod Ends
 pub mod Fronts
 pub mod Keeping
-pub mod Lines
 pub mod Openings
 pub mod Passing
 pub mod Refusals

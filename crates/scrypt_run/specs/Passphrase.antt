@@ -1,18 +1,10 @@
 -- The passphrase of a run: the first line of its source.
-use Rattle.std.specs.Prelude.{◌≡◌, ◌<◌, ◌≤◌, ◌==◌, ◌||◌, ◌⊎◌, ℕ, Bool, List, [], ◌∷◌, Option, Some, option_map, length, if◌then◌else◌}
+use Rattle.std.specs.Prelude.{◌≡◌, ◌<◌, ◌≤◌, ◌⊎◌, ℕ, List, Option, Some, option_map, length}
+use Rattle.host.specs.FirstLine.{first_line}
 use Rattle.host.specs.HostState.{SecretSource, HostState}
 use Rattle.host.specs.Secret.{secret_bytes_in_host}
 use Rattle.scrypt_request.specs.declared.refusal.ScryptRefusal.{ScryptRefusal}
 use Rattle.scrypt_request.specs.declared.refusal.ScryptRefusal.TheVariants as refusal
-
--- whether a byte is LF or CR
-abbrev pub is_line_end : ℕ → Bool
-is_line_end b = b == 10 || b == 13
-
--- the bytes of a text before its first CR or LF, or all where it has neither
-abbrev pub first_line : List ℕ → List ℕ
-first_line [] = []
-first_line (b ∷ bytes) = if is_line_end b then [] else b ∷ first_line bytes
 
 -- the first line of a source, if the host has it
 abbrev pub first_line_of_source : SecretSource → HostState → Option (List ℕ)

@@ -1,9 +1,8 @@
 //! The first 96 bytes of a file, and the checks that need no passphrase.
-ghost use Rattle.std.specs.Prelude.{◌≡◌, ◌<◌, ◌≤◌, ◌^◌, ℕ, Some, None, take, length, option_map, IfOk, IfErr, OnOk, OnErr, IsTrue};
+ghost use Rattle.std.specs.Prelude.{◌≡◌, ◌^◌, Some, None, take, option_map, IfOk, IfErr, OnOk, IsTrue};
 ghost use Rattle.encfile.specs.Front.{format_refusal, file_refusal_before_passphrase};
 ghost use Rattle.encfile.specs.Header.{IsHeaderOf, costs_of, salt_of};
-ghost use Rattle.host.specs.Faults.{AreBelow, with_input_failure_counted, CountsFailure, CountsNoFailure};
-ghost use Rattle.host.specs.HostState.{after_pull, FitsWithin};
+ghost use Rattle.host.specs.Faults.{AreBelow};
 ghost use Rattle.scrypt_request.specs.Refusal.{CountsFault};
 ghost use Rattle.scrypt_run.specs.Inside.Steps.{IsFrontOf, IsNotOutOfMemory, MayPrecedeWork, OpensInput, ReadsFront};
 ghost use Rattle.scrypt_run.specs.Refusal.{refusal_of};
@@ -13,39 +12,9 @@ ghost use Rattle.scrypt_run.specs.Admission.{AreCostsWithinLimits};
 use crate::admission::admit;
 use crate::refusal::header_refusal;
 use encfile::Header;
-use host::{Host, HostFault};
+use host::{Host, HostFault, pull_full};
 use romix::Sparse;
 use scrypt_request::{ScryptRefusal, Task};
-
-// Pulls 96 bytes, or all where there are fewer, and says how many.
-fn pull_first_96_bytes<H: Host>(host: &mut H, front: &mut [u8; 96]) -> Result<usize, HostFault>
-    requires room { AreBelow (2 ^ 63) (H.faults host.old) }
-    requires readable { IsTrue (H.grants host.old).readable }
-    ensures bound { IfOk result (λ n. n ≤ 96) }
-    ensures granted { IfOk result (λ n. 96 ≤ n → H.grants host.new ≡ H.grants host.old) }
-    ensures counts { CountsNoFailure result (H.faults host.old) (H.faults host.new) }
-    ensures counted { CountsFailure with_input_failure_counted result (H.faults host.old) (H.faults host.new) }
-    ensures bytes { IsTrue H.tells →
-        IfOk result (λ n. take n front.new ≡ take n (H.seen host.old).input) }
-    ensures within { IsTrue H.tells → FitsWithin result (H.seen host.old).input }
-    ensures whole { IsTrue H.tells →
-        IfOk result (λ n. n < 96 → length (H.seen host.old).input ≤ n) }
-    ensures taken { IsTrue H.tells →
-        IfOk result (λ n. H.seen host.new ≡ after_pull n (H.seen host.old)) }
-    ensures cut_off { IsTrue H.tells → OnErr result ((n : ℕ) × (n < 96)
-        × (n ≤ length (H.seen host.old).input)
-        × (H.seen host.new ≡ after_pull n (H.seen host.old))) }
-{
-    let mut at = 0;
-    while at < 96 {
-        let n = host.pull(&mut front[at..])?;
-        if n == 0 {
-            return Ok(at);
-        }
-        at += n;
-    }
-    Ok(at)
-}
 
 // Opens the input and reads its first 96 bytes.
 fn read_front<H: Host>(host: &mut H, infile: Option<&str>) -> Result<[u8; 96], ScryptRefusal>
@@ -63,7 +32,7 @@ fn read_front<H: Host>(host: &mut H, infile: Option<&str>) -> Result<[u8; 96], S
         return Err(ScryptRefusal::InputFault);
     };
     let mut front = [0u8; 96];
-    match pull_first_96_bytes(host, &mut front) {
+    match pull_full(host, &mut front) {
         Ok(96) => Ok(front),
         Ok(_) => Err(ScryptRefusal::NotScryptData),
         Err(HostFault) => Err(ScryptRefusal::InputFault),

@@ -1,14 +1,14 @@
 //! The passphrase of a run: the first line of its source.
-ghost use Rattle.std.specs.Prelude.{◌≡◌, ◌<◌, ◌≤◌, ◌^◌, ℕ, List, take, length, IfOk, IfErr, IsTrue};
+ghost use Rattle.std.specs.Prelude.{◌≡◌, ◌≤◌, ◌^◌, ℕ, List, take, IfOk, IfErr, IsTrue};
 ghost use Rattle.host.specs.Faults.{AreBelow};
 ghost use Rattle.host.specs.CallsGrantedByHost.{with_secret_asked};
 ghost use Rattle.host.specs.Secret.{source_of};
 ghost use Rattle.host.specs.HostState.{after_ask_secret};
 ghost use Rattle.scrypt_run.specs.Inside.Steps.{IsNotOutOfMemory, MayPrecedeWork};
-ghost use Rattle.scrypt_run.specs.Passphrase.{HasPassphrase, PassphraseRefused, first_line, first_line_of_source, is_line_end};
+ghost use Rattle.scrypt_run.specs.Passphrase.{HasPassphrase, PassphraseRefused, first_line_of_source};
 ghost use Rattle.scrypt_request.specs.Refusal.{CountsFault};
 
-use host::{Host, Source};
+use host::{Host, Source, first_line_length};
 use scrypt_request::ScryptRefusal;
 use std::marker::Model;
 
@@ -37,24 +37,6 @@ impl Passphrase {
     }
 }
 
-// Whether a byte ends a line: LF or CR.
-fn is_line_end(byte: u8) -> bool
-    ensures end { result ≡ is_line_end byte }
-{
-    byte == b'\n' || byte == b'\r'
-}
-
-// The length of the first line, without its end.
-fn line_length(bytes: &[u8]) -> usize
-    ensures within { result ≤ length bytes.now }
-    ensures line { take result bytes.now ≡ first_line bytes.now }
-{
-    bytes
-        .iter()
-        .position(|byte| is_line_end(*byte))
-        .unwrap_or(bytes.len())
-}
-
 /// Reads the passphrase from its source. No source was asked before.
 pub(crate) fn read_passphrase<H: Host>(
     host: &mut H,
@@ -77,7 +59,7 @@ pub(crate) fn read_passphrase<H: Host>(
     let n = host
         .secret(source, &mut buf)
         .map_err(|_| ScryptRefusal::PassphraseFault)?;
-    let len = line_length(&buf[..n]);
+    let len = first_line_length(&buf[..n]);
     if len > 2048 {
         return Err(ScryptRefusal::LongPassphrase);
     }

@@ -1,14 +1,17 @@
 //! Vectors that the checker computes by the definitions alone.
 ghost use Rattle.std.specs.Prelude.{◌≡◌, ◌++◌, [], ◌∷◌, Some, None, codes, false, replicate, true};
+ghost use Rattle.encfile.specs.EncryptedFile.{body, encrypted_file, released_text};
+ghost use Rattle.encfile.specs.Front.{front_refusal};
 ghost use Rattle.encfile.specs.Front.FrontRefusal.{KeepAboveN, NotScryptData, TooMuchMemory, TooMuchWork, UnsupportedVersion, WrongPassphrase};
 ghost use Rattle.host.specs.HostState.{env, file, stdin_once};
 ghost use Rattle.host.specs.Vectors.{sample_host};
 ghost use Rattle.scrypt_run.specs.Asking.{source_after_workspace_request};
-ghost use Rattle.scrypt_run.specs.Decrypting.{input_refusal_before_passphrase};
-ghost use Rattle.scrypt_run.specs.Encrypting.{after_salting, costs_refusal_of, after_salt_asked, salt_used};
+ghost use Rattle.scrypt_run.specs.Decrypting.{front_refusal_of, input_refusal_before_passphrase, released_text_of_header_and_rest};
+ghost use Rattle.scrypt_run.specs.Encrypting.{after_salting, costs_refusal_of, after_salt_asked, decided, salt_used};
 ghost use Rattle.scrypt_run.specs.Front.{after_front};
+ghost use Rattle.scrypt_run.specs.Laws.{request_with_keep, source_of_request};
 ghost use Rattle.scrypt_run.specs.Inspecting.{costs_line, costs_line_of_input};
-ghost use Rattle.scrypt_run.specs.Passphrase.{first_line, first_line_of_source};
+ghost use Rattle.scrypt_run.specs.Passphrase.{first_line_of_source};
 ghost use Rattle.scrypt_run.specs.Refusal.{refusal_of};
 ghost use Rattle.scrypt_request.specs.Request.{allowance_of, decrypt, encrypt, inspect};
 ghost use Rattle.scrypt_run.specs.Run.{salsa20_cores_of_request, most_salsa20_cores};
@@ -23,15 +26,6 @@ fn costs_lines()
     ensures of_large_costs { costs_line (record { log_n = 14; r = 8; p = 2 })
         ≡ codes "N = 16384; r = 8; p = 2; memory = 16777216; cores = 1048576\n" }
     ensures of_an_input { costs_line_of_input (record sample_host { input = sample_header_costs }) ≡ codes "N = 32; r = 1; p = 2; memory = 4096; cores = 256\n" }
-{}
-
-// The passphrase ends before the first LF or CR; a file may have neither, or nothing before it.
-fn first_lines()
-    ensures line_feed { first_line (codes "pw\nx\n") ≡ codes "pw" }
-    ensures carriage_return { first_line (112 ∷ 13 ∷ 10 ∷ []) ≡ codes "p" }
-    ensures no_end { first_line (codes "p w") ≡ codes "p w" }
-    ensures empty { first_line (codes "\npw") ≡ [] }
-    ensures nothing { first_line [] ≡ [] }
 {}
 
 // The memory of a derivation is that of the costs, with the S of the task.
@@ -79,17 +73,21 @@ fn steps_of_a_run()
     ensures pulled { (after_reading_first_bytes (Some (codes "in")) 1 sample_host).input ≡ codes "bcd" }
     ensures asked { (after_passphrase_asked (sample_task 1 1 1) 3 sample_host).asked ≡ Some (env (codes "PW")) }
     ensures input_before { (after_passphrase_asked (sample_task 1 1 1) 3 sample_host).input ≡ codes "d" }
+    ensures opened_before { (after_passphrase_asked (sample_task 1 1 1) 3 sample_host).input_opened ≡ Some (Some (codes "in")) }
     ensures front { (after_front None (record sample_host { input = replicate 97 7 })).input ≡ 7 ∷ [] }
     ensures front_opened { (after_front None sample_host).input_opened ≡ Some None }
     ensures passed { (after_pull_and_push (λ bytes. bytes ++ codes "!") 3 sample_host).output ≡ codes "oabc!" }
     ensures rest { (after_pull_and_push (λ bytes. bytes ++ codes "!") 3 sample_host).input ≡ codes "d" }
 {}
 
-// The first line of what the source gives, if it gives anything.
+// The first line of what the source gives, if it gives anything: LF and CR alone end it, and no other control.
 fn first_lines_of_sources()
     ensures stdin { first_line_of_source stdin_once sample_host ≡ Some (codes "typed") }
     ensures variable { first_line_of_source (env (codes "PW")) sample_host ≡ Some (codes "set") }
     ensures no_file { first_line_of_source (file (codes "PW")) sample_host ≡ None }
+    ensures lone_carriage_return { first_line_of_source stdin_once (record sample_host { stdin = Some (112 ∷ 13 ∷ 119 ∷ []) }) ≡ Some (codes "p") }
+    ensures byte_zero { first_line_of_source stdin_once (record sample_host { stdin = Some (112 ∷ 0 ∷ 119 ∷ 10 ∷ []) }) ≡ Some (112 ∷ 0 ∷ 119 ∷ []) }
+    ensures other_controls { first_line_of_source stdin_once (record sample_host { stdin = Some (112 ∷ 11 ∷ 9 ∷ 119 ∷ 10 ∷ 113 ∷ []) }) ≡ Some (112 ∷ 11 ∷ 9 ∷ 119 ∷ []) }
 {}
 
 // A file that is read is tested by its own bytes.
@@ -105,4 +103,26 @@ fn costs_of_runs()
     ensures most_of_file { most_salsa20_cores (decrypt (sample_task 1 3 2)) ≡ 2 }
     ensures most_of_new_file { most_salsa20_cores (encrypt (sample_encryption None (sample_task 1 3 2))) ≡ 2 }
     ensures most_of_info { most_salsa20_cores (inspect None) ≡ 0 }
+{}
+
+// What a run makes of a file, by `encfile`, where that is not computed again: the final code is decided with the last byte of
+// the text, the first 96 bytes stand before those after them, and a task has the limits.
+fn files_of_runs()
+    ensures whole { decided (codes "pw") (codes "salt") (record { log_n = 4; r = 1; p = 2 }) 2 (codes "ab") ≡
+        encrypted_file (codes "pw") (codes "salt") (record { log_n = 4; r = 1; p = 2 }) (codes "ab") }
+    ensures part { decided (codes "pw") (codes "salt") (record { log_n = 4; r = 1; p = 2 }) 3 (codes "ab") ≡
+        body (codes "pw") (codes "salt") (record { log_n = 4; r = 1; p = 2 }) (codes "ab") }
+    ensures text { released_text_of_header_and_rest (codes "pw") (codes "ab") (codes "cd") ≡ released_text (codes "abcd") (codes "pw") }
+    ensures refusal { front_refusal_of (sample_task 4 3 2) sample_host (codes "pw") ≡
+        front_refusal (codes "abcd") (record { limits = record { max_bytes = 3; max_ops = 2 }; keep = 4 }) (codes "pw") }
+{}
+
+// The source that a request names, and the request with another S.
+fn parts_of_requests()
+    ensures source_of_dec { source_of_request (decrypt (sample_task 1 3 2)) ≡ Some (env (codes "PW")) }
+    ensures source_of_enc { source_of_request (encrypt (sample_encryption None (sample_task 1 3 2))) ≡ Some (env (codes "PW")) }
+    ensures source_of_info { source_of_request (inspect None) ≡ None }
+    ensures dec { request_with_keep 8 (decrypt (sample_task 1 3 2)) ≡ decrypt (sample_task 8 3 2) }
+    ensures enc { request_with_keep 8 (encrypt (sample_encryption None (sample_task 1 3 2))) ≡ encrypt (sample_encryption None (sample_task 8 3 2)) }
+    ensures info { request_with_keep 8 (inspect None) ≡ inspect None }
 {}

@@ -1,6 +1,7 @@
 //! The program `scrypt`: the command over the system.
 #![tactic(auto)]
 
+mod laws;
 mod program;
 
 use std::process::ExitCode;

@@ -90,6 +90,7 @@ fn costs_in_range()
 #[tactic(auto, unfolding(clap::proofs::OnLiterals::clap_on_literals, hex::proofs::OnLiterals::hex_on_literals))]
 fn refusals()
     ensures stdin_twice { scrypt_request (typed (codes "enc -P - out")) ≡ Err StandardInputTwice }
+    ensures stdin_twice_without_outfile { scrypt_request (typed (codes "dec -P -")) ≡ Err StandardInputTwice }
     ensures stdin_named { scrypt_request (typed (codes "dec --passphrase dev:stdin-once - out")) ≡
         Err StandardInputTwice }
     ensures some_costs { scrypt_request (typed (codes "enc --logN 4 --passphrase file:pw a b")) ≡
@@ -107,6 +108,10 @@ fn refusals()
         Err PassphraseSource }
     ensures no_name { scrypt_request (typed (codes "dec --passphrase env: a")) ≡
         Err PassphraseSource }
+    ensures source_twice { scrypt_request (typed (codes "dec -P --passphrase dev:stdin-once a")) ≡
+        Err PassphraseSource }
+    ensures longer_method { scrypt_request (typed (codes "dec --passphrase dev:stdin-once2 a")) ≡
+        Err PassphraseSource }
     ensures empty_source { scrypt_request (typed (codes "dec --passphrase= a")) ≡
         Err PassphraseSource }
     ensures short_salt { scrypt_request (typed (codes "enc --salt 000102030405060708090a0b0c0d0e0f101112131415161718191a1b1c1d1e1 -P a")) ≡
@@ -121,6 +126,8 @@ fn refusals()
 fn first_refusal()
     ensures usage { scrypt_request (typed (codes "enc -r x --salt 00 - -")) ≡ Err Usage }
     ensures limit { scrypt_request (typed (codes "enc -r 0 --maxops 0 --salt 00 - -")) ≡ Err Usage }
+    ensures keep_before_costs { scrypt_request (typed (codes "enc --keep x --logN 4 -P a")) ≡ Err Usage }
+    ensures limit_before_source { scrypt_request (typed (codes "dec -M 0 a")) ≡ Err Usage }
     ensures some_costs { scrypt_request (typed (codes "enc -r 0 --salt 00 -P - -")) ≡
         Err SomeCosts }
     ensures costs { scrypt_request (typed (codes "enc --logN 64 -r 1 -p 1 --salt 00 -P - -")) ≡
@@ -150,6 +157,8 @@ fn taken()
         Ok (decrypt (task_with_default_limits stdin_once (Some (codes "a")) (Some (codes "-P")))) }
     ensures name_of_a_command { scrypt_request (typed (codes "dec -P help enc")) ≡
         Ok (decrypt (task_with_default_limits stdin_once (Some (codes "help")) (Some (codes "enc")))) }
+    ensures file_named_dash { scrypt_request (typed (codes "dec --passphrase file:- a")) ≡
+        Ok (decrypt (task_with_default_limits (file (codes "-")) (Some (codes "a")) None)) }
     ensures variable { scrypt_request (typed (codes "dec --passphrase=env:PW -")) ≡
         Ok (decrypt (task_with_default_limits (env (codes "PW")) None None)) }
     ensures info { scrypt_request (typed (codes "info F5")) ≡ Ok (inspect (Some (codes "F5"))) }

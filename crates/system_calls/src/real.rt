@@ -1,5 +1,6 @@
 //! The system itself.
 ghost use Rattle.std.specs.Prelude.{false, [], IsNone, IsSome, IfOk};
+ghost use Rattle.host.specs.Faults.{no_faults};
 ghost use Rattle.system_calls.specs.Inside.Opened.{IsOpenedByName, IsStandard};
 ghost use Rattle.tools.specs.SystemState.{placeholder_files, placeholder_state};
 
@@ -138,6 +139,8 @@ impl System for Real {
 
     ghost tries = { λ _. 0 };
 
+    ghost failures = { λ _. no_faults };
+
     ghost words = { λ _. [] };
 
     fn word(&self, place: usize, buf: &mut [u8]) -> Result<usize, WordFault> {
@@ -148,7 +151,7 @@ impl System for Real {
         }
     }
 
-    fn variable(&self, name: &str, buf: &mut [u8]) -> Result<usize, HostFault> {
+    fn variable(&mut self, name: &str, buf: &mut [u8]) -> Result<usize, HostFault> {
         match self.rt.var(name, buf) {
             Ok(n) => Ok(n),
             // The buffer holds the first bytes of the value.
@@ -182,7 +185,7 @@ impl System for Real {
         Ok(())
     }
 
-    fn file(&self, stream: StreamRole) -> Result<Option<FileIdentity>, HostFault> {
+    fn file(&mut self, stream: StreamRole) -> Result<Option<FileIdentity>, HostFault> {
         let told = match stream {
             StreamRole::Input => self.input.told(self.rt, "/proc/self/fd/0")?,
             StreamRole::Secret => self.secret.told(self.rt, "/proc/self/fd/0")?,

@@ -2,4 +2,5 @@
 pub mod Identity
 pub mod Words
 pub mod SystemState
+pub mod Failures
 pub mod RunState

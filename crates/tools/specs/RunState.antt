@@ -1,20 +1,24 @@
 -- What contracts see of a system's host: the host that is made of a system and of how far a run has come.
 use Rattle.std.specs.Prelude.{◌≡◌, Bool, true, false, not, ℕ, List, [], codes, drop, take, Option, None, Some, IsTrue, is_none, if◌then◌else◌}
-use Rattle.host.specs.Faults.{Faults}
+use Rattle.host.specs.Faults.{Faults, no_faults}
 use Rattle.host.specs.CallsGrantedByHost.{CallsGrantedByHost, nothing_asked}
 use Rattle.host.specs.Lines.{SaysOneLine}
 use Rattle.host.specs.Entries.{lookup}
 use Rattle.host.specs.HostState.{SecretSource, HostState, Text, env, file, stdin_once}
-use Rattle.tools.specs.SystemState.{Files, IsLineAskedUnlessReading, IsOutputSeparate, IsOutputSynced, IsOutputUnsynced, OpensNoOther, SystemState}
+use Rattle.tools.specs.Failures.{AreNoFewer}
+use Rattle.tools.specs.SystemState.{Files, IsLineAskedUnlessReading, IsOutputSeparate, IsOutputSynced, IsOutputUnsynced, OpensNoOther, SystemState, placeholder_files}
 use Rattle.tools.specs.declared.run.InputStage.{InputStage}
 use Rattle.tools.specs.declared.run.InputStage.TheVariants as input
 use Rattle.tools.specs.declared.run.OutputStage.{OutputStage}
 use Rattle.tools.specs.declared.run.OutputStage.TheVariants as output
 
--- what contracts see of the host over a system: the system; the calls that are granted; the secret source that was
--- asked, and whether a salt was asked for, whatever came of it; and whether it tried to say a line
+-- what contracts see of the host over a system: the system, how often its calls have failed, and which files its streams
+-- are; the calls that are granted; the secret source that was asked, and whether a salt was asked for, whatever came of
+-- it; and whether it tried to say a line
 pub record RunState : Type 0 where
   pub state : SystemState
+  pub failures : Faults
+  pub system_files : Files
   pub grants : CallsGrantedByHost
   pub asked : Option SecretSource
   pub salted : Bool
@@ -127,7 +131,7 @@ host_seen h = record {
 
 -- what is seen of the host over a system that was not used yet
 abbrev pub host_over : SystemState → HostState
-host_over w = host_seen (record { state = w; grants = nothing_asked; asked = None; salted = false; told = false })
+host_over w = host_seen (record { state = w; failures = no_faults; system_files = placeholder_files; grants = nothing_asked; asked = None; salted = false; told = false })
 
 -- what a run leaves of a system: it stands as a host over it is seen at the end of the run. As a secret's stream it
 -- opened at most the source that the host was asked for, and random bytes at most for a salt; and it emptied nothing
@@ -148,6 +152,16 @@ pub record EndsWithLine (tells : Bool) (line : Text) (before : HostState) (fault
   pub says : SaysOneLine tells line before seen faults_before faults_after
   pub asks : IsTrue tells → IsLineAskedUnlessReading after
 
+-- a run has come as far before a call as after it, or less far: the output was not asked to be brought to the disk, no kind of
+-- call has failed less often, and what was opened or asked for stays so; once an output was asked for, which files the
+-- streams are stays, too
+pub record GoesOn (before after : RunState) : Type 0 where
+  pub sync_asked : after.state.sync_asked ≡ before.state.sync_asked
+  pub failures : AreNoFewer before.failures after.failures
+  pub output : after.state.output_asked ≡ None → before.state.output_asked ≡ None
+  pub input : (after.state.input.opened ≡ None → after.state.output_asked ≡ None) → before.state.input.opened ≡ None → before.state.output_asked ≡ None
+  pub files : (before.state.output_asked ≡ None → ⊥) → after.system_files ≡ before.system_files
+
 -- a run has come as far as its stages say; `told` is whether it tried to say a line
 pub record IsAt (input_stage : InputStage) (output_stage : OutputStage) (asked : Option SecretSource) (salted told : Bool) (grants : CallsGrantedByHost) (w : SystemState) (f : Files) : Type 0 where
   pub unopened : grants.input ≡ true → w.input.opened ≡ None
@@ -156,6 +170,7 @@ pub record IsAt (input_stage : InputStage) (output_stage : OutputStage) (asked :
   pub unasked : grants.secret ≡ true → w.secret.opened ≡ None
   pub unsalted : grants.salt ≡ true → w.random.opened ≡ None
   pub early : grants.output ≡ true → w.output_asked ≡ None
+  pub late : is_output_unasked output_stage ≡ false → is_none w.output_asked ≡ false
   pub new : is_output_opened output_stage ≡ true → w.is_new ≡ true
   pub apart : is_output_opened output_stage ≡ true → IsOutputSeparate f
   pub secret : OpensNoOther (name_opened_for_secret asked) w.secret
@@ -165,6 +180,7 @@ pub record IsAt (input_stage : InputStage) (output_stage : OutputStage) (asked :
   pub streamed : output_stage ≡ output.Opened → w.is_kept ≡ false
   pub kept : output_stage ≡ output.Kept → w.is_kept ≡ true
   pub before_sync : is_before_sync output_stage ≡ true → w.sync_asked ≡ false
+  pub after_sync : is_before_sync output_stage ≡ false → w.sync_asked ≡ true
   pub not_yet : is_before_sync output_stage ≡ true → w.is_synced ≡ false
   pub synced : output_stage ≡ output.Synced → IsOutputSynced w
   pub unsynced : output_stage ≡ output.Unsynced → IsOutputUnsynced w

@@ -210,9 +210,10 @@ pub record IsOutputSynced (w : SystemState) : Type 0 where
   pub synced : w.is_kept ≡ true → w.is_synced ≡ true
   pub unasked : w.is_kept ≡ false → w.sync_asked ≡ false
 
--- the same, but that the output was asked to be brought to the disk, and was not
+-- the same was taken away; the output is kept, was asked to be brought to the disk, and was not
 pub record IsOutputUnsynced (w : SystemState) : Type 0 where
   pub new : w.is_new ≡ true
+  pub kept : w.is_kept ≡ true
   pub asked : w.sync_asked ≡ true
   pub unsynced : w.is_synced ≡ false
 

@@ -1,7 +1,8 @@
 //! What is read from its beginning: secrets and salts.
-ghost use Rattle.std.specs.Prelude.{◌≡◌, ℕ, List, IfOk, OnOk, IsTrue, Some, codes};
+ghost use Rattle.std.specs.Prelude.{◌≡◌, ◌<◌, ℕ, List, IfOk, OnOk, OnErr, IsTrue, Some, codes};
 ghost use Rattle.host.specs.Secret.{IsBeginning, source_of};
 ghost use Rattle.host.specs.HostState.{env, FitsWithin};
+ghost use Rattle.tools.specs.Failures.{AreNoFewer};
 ghost use Rattle.tools.specs.RunState.{name_opened_for_secret, salt_of, secret_bytes_in_system, rest_of_secret_stream};
 ghost use Rattle.tools.specs.SystemState.{LeavesAllBut, OpensNoOther, IsBeforeOutput, IsNotYetOpened};
 ghost use Rattle.tools.specs.declared.system.Reading.TheVariants as reading;
@@ -34,6 +35,9 @@ pub fn read_secret<S: System>(
         OpensNoOther (name_opened_for_secret (Some (source_of source.entry))) (S.state system.new).secret }
     ensures variable { (name : List ℕ) → source_of source.entry ≡ env name → IsTrue S.tells →
         S.state system.new ≡ S.state system.old }
+    ensures no_fewer { IsTrue S.tells → AreNoFewer (S.failures system.old) (S.failures system.new) }
+    ensures failed { IsTrue S.tells → OnErr result
+        ((S.failures system.old).secrets < (S.failures system.new).secrets) }
 {
     match source {
         Source::StdinOnce => {
@@ -60,6 +64,9 @@ pub fn read_salt<S: System>(system: &mut S, out: &mut [u8; 32]) -> Result<(), Ho
     ensures random { IsTrue S.tells → OnOk result (out.new ≡ salt_of (S.state system.old)) }
     ensures no_other { IsTrue S.tells →
         OpensNoOther (Some (Some (codes "/dev/urandom"))) (S.state system.new).random }
+    ensures no_fewer { IsTrue S.tells → AreNoFewer (S.failures system.old) (S.failures system.new) }
+    ensures failed { IsTrue S.tells → OnErr result
+        ((S.failures system.old).salt < (S.failures system.new).salt) }
 {
     system.open(Reading::Random, Some("/dev/urandom"))?;
     if read_full(system, Reading::Random, out)? == out.len() {

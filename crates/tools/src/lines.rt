@@ -1,6 +1,7 @@
 //! What is said: a line that goes into no file that is read.
-ghost use Rattle.std.specs.Prelude.{◌≡◌, [], OnErr, OnOk, IsTrue};
-ghost use Rattle.tools.specs.SystemState.{IsLineAskedUnlessReading, MayAskForLine, after_line};
+ghost use Rattle.std.specs.Prelude.{◌≡◌, ◌<◌, [], OnErr, OnOk, IsTrue};
+ghost use Rattle.tools.specs.Failures.{AreNoFewer};
+ghost use Rattle.tools.specs.SystemState.{HasSeparateErrorStream, IsLineAskedUnlessReading, MayAskForLine, after_line};
 
 use crate::identity::IdentitiesOfFilesRead;
 use crate::system::{StreamRole, System};
@@ -19,6 +20,9 @@ pub fn say_if_stderr_is_separate<S: System>(system: &mut S, line: &str) -> Resul
     ensures said { IsTrue S.tells →
         OnOk result (S.state system.new ≡ after_line line.now (S.state system.old)) }
     ensures same_files { IsTrue S.tells → S.files system.new ≡ S.files system.old }
+    ensures no_fewer { IsTrue S.tells → AreNoFewer (S.failures system.old) (S.failures system.new) }
+    ensures failed { IsTrue S.tells → OnErr result (HasSeparateErrorStream (S.files system.new) →
+        (S.failures system.old).lines < (S.failures system.new).lines) }
 {
     let read = IdentitiesOfFilesRead {
         input: system.file(StreamRole::Input)?,

@@ -1,6 +1,7 @@
 //! What is written: an output that is no file that is read.
-ghost use Rattle.std.specs.Prelude.{◌≡◌, false, true, option_map, IfOk, OnOk, IsTrue};
+ghost use Rattle.std.specs.Prelude.{◌≡◌, ◌<◌, false, true, option_map, IfOk, OnOk, OnErr, IsTrue};
 ghost use Rattle.host.specs.HostState.{KeepsOnErr};
+ghost use Rattle.tools.specs.Failures.{AreNoFewer};
 ghost use Rattle.tools.specs.SystemState.{AsksOutput, IsOutputSeparate, IsBeforeOutput, IsBeforeSync};
 
 use crate::identity::IdentitiesOfFilesRead;
@@ -23,6 +24,9 @@ pub fn open_apart<S: System>(system: &mut S, name: Option<&str>) -> Result<bool,
     ensures new { IsTrue S.tells → OnOk result ((S.state system.new).is_new ≡ true) }
     ensures apart { IsTrue S.tells → OnOk result (IsOutputSeparate (S.files system.new)) }
     ensures kept { IsTrue S.tells → IfOk result (λ is_kept. (S.state system.new).is_kept ≡ is_kept) }
+    ensures no_fewer { IsTrue S.tells → AreNoFewer (S.failures system.old) (S.failures system.new) }
+    ensures failed { IsTrue S.tells → OnErr result (IsOutputSeparate (S.files system.new) →
+        (S.failures system.old).output < (S.failures system.new).output) }
 {
     system.open_output(name)?;
     let Some(output) = system.file(StreamRole::Output)? else {

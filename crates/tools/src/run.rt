@@ -1,11 +1,12 @@
 //! A run over a system: the system, and how far the run has come.
 ghost use Rattle.std.specs.Prelude.{◌≡◌, ◌<◌, ℕ, List, None, [], length, option_map, take, IfOk, OnOk, OnErr, IsTrue, true, false};
 ghost use Rattle.host.specs.AskedSource.{asked_source};
-ghost use Rattle.host.specs.CallsGrantedByHost.{nothing_asked, with_input_opened, with_output_asked, with_output_opened, with_salt_asked, with_secret_asked};
+ghost use Rattle.host.specs.CallsGrantedByHost.{GrantsAllButPullsAsBefore, nothing_asked, with_input_opened, with_output_asked, with_output_opened, with_salt_asked, with_secret_asked};
 ghost use Rattle.host.specs.Secret.{IsBeginning, secret_of_source, source_of};
-ghost use Rattle.host.specs.HostState.{after_ask_secret, after_ask_output, after_open_input, after_open_output, after_pull, after_push, after_salt, after_say, env, FitsWithin, KeepsOnErr, KeepsOnOk, TakesSome};
-ghost use Rattle.tools.specs.RunState.{Leaves, host_seen, rest_of_secret_stream};
-ghost use Rattle.tools.specs.SystemState.{IsLineAskedUnlessReading, IsOutputSynced, IsOutputUnsynced, IsUnused, MayAskForLine, after_line};
+ghost use Rattle.host.specs.HostState.{after_ask_secret, after_ask_output, after_open_input, after_open_output, after_pull, after_push, after_salt, after_say, env, FitsWithin, KeepsOnErr, TakesSome};
+ghost use Rattle.tools.specs.Failures.{AreNoFewer};
+ghost use Rattle.tools.specs.RunState.{GoesOn, Leaves, host_seen, rest_of_secret_stream};
+ghost use Rattle.tools.specs.SystemState.{HasSeparateErrorStream, IsLineAskedUnlessReading, IsOutputSeparate, IsOutputSynced, IsOutputUnsynced, IsUnused, MayAskForLine, after_line};
 
 use crate::inputs::{read_salt, read_secret};
 use crate::lines::say_if_stderr_is_separate;
@@ -72,6 +73,8 @@ impl<S: System> Model for Run<S> {
 
     ghost view = { λ r. record {
       state = S.state r.system;
+      failures = S.failures r.system;
+      system_files = S.files r.system;
       grants = granted_calls_at_stage r.input r.output (option_map asked_source r.asked) r.salted;
       asked = option_map asked_source r.asked;
       salted = r.salted;
@@ -88,7 +91,15 @@ impl<S: System> Run<S> {
     /// A run that is to begin, over a system of which nothing was used.
     pub fn new(system: S) -> Run<S>
         requires unused { IsTrue S.tells → IsUnused (S.state system) }
-        ensures seen { result ≡ record { state = S.state system; grants = nothing_asked; asked = None; salted = false; told = false } }
+        ensures seen { result ≡ record {
+          state = S.state system;
+          failures = S.failures system;
+          system_files = S.files system;
+          grants = nothing_asked;
+          asked = None;
+          salted = false;
+          told = false;
+        } }
     {
         Run {
             system,
@@ -110,6 +121,8 @@ impl<S: System> Run<S> {
     /// The system, as the run left it, at the end of the run.
     pub fn into_system(self) -> S
         ensures same { S.state result ≡ self.state }
+        ensures same_failures { S.failures result ≡ self.failures }
+        ensures same_files { S.files result ≡ self.system_files }
         ensures leaves { IsTrue S.tells → Leaves (S.state result) (host_seen self) }
         ensures asks { IsTrue S.tells → self.told ≡ true → IsLineAskedUnlessReading (S.state result) }
     {
@@ -162,6 +175,11 @@ impl<S: System> Run<S> {
         ensures granted { OnOk result (self.new.grants ≡ with_input_opened self.old.grants) }
         ensures granted_as_before { KeepsOnErr result self.old.grants self.new.grants }
         ensures told { self.new.told ≡ self.old.told }
+        ensures unopened_before { IsTrue S.tells → self.old.state.input.opened ≡ None }
+        ensures before_output { IsTrue S.tells → OnOk result (self.old.state.output_asked ≡ None) }
+        ensures goes_on { IsTrue S.tells → GoesOn self.old self.new }
+        ensures failed { IsTrue S.tells → OnErr result
+            (self.old.state.output_asked ≡ None → self.old.failures.input < self.new.failures.input) }
     {
         if self.output != OutputStage::Unasked {
             return Err(HostFault);
@@ -184,6 +202,10 @@ impl<S: System> Run<S> {
         ensures granted { OnOk result (self.new.grants ≡ with_output_opened self.old.grants) }
         ensures granted_no_other { OnErr result (self.new.grants ≡ with_output_asked self.old.grants) }
         ensures told { self.new.told ≡ self.old.told }
+        ensures before_output { IsTrue S.tells → self.old.state.output_asked ≡ None }
+        ensures goes_on { IsTrue S.tells → GoesOn self.old self.new }
+        ensures failed { IsTrue S.tells → OnErr result (IsOutputSeparate self.new.system_files →
+            self.old.failures.output < self.new.failures.output) }
     {
         self.output = OutputStage::Refused;
         let is_kept = open_apart(&mut self.system, name)?;
@@ -207,8 +229,11 @@ impl<S: System> Run<S> {
         ensures progress { IsTrue S.tells → IfOk result (λ n.
             0 < length buf.old → n ≡ 0 → self.old.state.input.left ≡ []) }
         ensures granted { IfOk result (λ n. 0 < n → self.new.grants ≡ self.old.grants) }
-        ensures still_writable { KeepsOnOk result self.old.grants.writable self.new.grants.writable }
+        ensures granted_all_but_pulls { OnOk result (GrantsAllButPullsAsBefore self.old.grants self.new.grants) }
         ensures told { self.new.told ≡ self.old.told }
+        ensures goes_on { IsTrue S.tells → GoesOn self.old self.new }
+        ensures failed { IsTrue S.tells → self.old.grants.readable ≡ true →
+            OnErr result (self.old.failures.input < self.new.failures.input) }
     {
         if self.input == InputStage::Unopened {
             return Err(HostFault);
@@ -232,6 +257,9 @@ impl<S: System> Run<S> {
             host_seen self.new ≡ after_push (take n bytes.now) (host_seen self.old)) }
         ensures granted { self.new.grants ≡ self.old.grants }
         ensures told { self.new.told ≡ self.old.told }
+        ensures goes_on { IsTrue S.tells → GoesOn self.old self.new }
+        ensures failed { IsTrue S.tells → self.old.grants.writable ≡ true → self.old.state.sync_asked ≡ false →
+            OnErr result (self.old.failures.output < self.new.failures.output) }
     {
         match self.output {
             OutputStage::Opened | OutputStage::Kept => write_some(&mut self.system, bytes),
@@ -248,6 +276,10 @@ impl<S: System> Run<S> {
             OnErr result (IsOutputUnsynced self.new.state) }
         ensures granted { self.new.grants ≡ self.old.grants }
         ensures told { self.new.told ≡ self.old.told }
+        ensures no_fewer { IsTrue S.tells → AreNoFewer self.old.failures self.new.failures }
+        ensures same_files { IsTrue S.tells → self.new.system_files ≡ self.old.system_files }
+        ensures failed { IsTrue S.tells → self.old.grants.writable ≡ true → self.old.state.sync_asked ≡ false →
+            OnErr result (self.old.failures.output < self.new.failures.output) }
     {
         match self.output {
             OutputStage::Opened | OutputStage::Synced => Ok(()),
@@ -277,6 +309,9 @@ impl<S: System> Run<S> {
             self.new.state ≡ self.old.state }
         ensures granted { self.new.grants ≡ with_secret_asked self.old.grants }
         ensures told { self.new.told ≡ self.old.told }
+        ensures goes_on { IsTrue S.tells → GoesOn self.old self.new }
+        ensures failed { IsTrue S.tells → OnErr result
+            (self.old.state.output_asked ≡ None → self.old.failures.secrets < self.new.failures.secrets) }
     {
         self.asked = Some(AskedSource::of(&source));
         if self.output != OutputStage::Unasked {
@@ -293,6 +328,9 @@ impl<S: System> Run<S> {
         ensures bytes { IsTrue S.tells → OnOk result (out.new ≡ (host_seen self.old).salt) }
         ensures granted { self.new.grants ≡ with_salt_asked self.old.grants }
         ensures told { self.new.told ≡ self.old.told }
+        ensures goes_on { IsTrue S.tells → GoesOn self.old self.new }
+        ensures failed { IsTrue S.tells → OnErr result
+            (self.old.state.output_asked ≡ None → self.old.failures.salt < self.new.failures.salt) }
     {
         self.salted = true;
         if self.output != OutputStage::Unasked {
@@ -311,6 +349,10 @@ impl<S: System> Run<S> {
             OnOk result (self.new.state ≡ after_line line.now self.old.state) }
         ensures granted { self.new.grants ≡ self.old.grants }
         ensures told { self.new.told ≡ true }
+        ensures goes_on { IsTrue S.tells → GoesOn self.old self.new }
+        ensures same_files { IsTrue S.tells → self.new.system_files ≡ self.old.system_files }
+        ensures failed { IsTrue S.tells → self.old.told ≡ false → OnErr result
+            (HasSeparateErrorStream self.new.system_files → self.old.failures.lines < self.new.failures.lines) }
     {
         if self.told {
             return Err(HostFault);

@@ -1,8 +1,10 @@
 //! Reading and writing what signals may interrupt.
-ghost use Rattle.std.specs.Prelude.{◌≡◌, ◌+◌, ◌<◌, ◌≤◌, ℕ, Some, true, drop, take, length, IfOk, IsTrue};
+ghost use Rattle.std.specs.Prelude.{◌≡◌, ◌+◌, ◌<◌, ◌≤◌, ℕ, Some, true, drop, take, length, IfOk, OnErr, IsTrue};
 ghost use Rattle.host.specs.Secret.{IsBeginning};
 ghost use Rattle.host.specs.HostState.{FitsWithin, KeepsOnErr, TakesSome};
+ghost use Rattle.tools.specs.Failures.{AreNoFewer, read_failure_count};
 ghost use Rattle.tools.specs.SystemState.{IsOutputSeparate, Reads, TakesFrom, after_write, state_of_read_stream, IsBeforeSync, ReadStreamHasNotEnded};
+ghost use Rattle.tools.specs.declared.system.Reading.TheVariants as source;
 
 use crate::system::{Reading, System};
 use host::HostFault;
@@ -29,6 +31,11 @@ pub fn read_some<S: System>(
         Reads reading n buf.new (S.state system.old) (S.state system.new)) }
     ensures same_files { IsTrue S.tells → S.files system.new ≡ S.files system.old }
     ensures tries { IsTrue S.tells → S.tries system.new ≤ S.tries system.old + 17 }
+    ensures no_fewer { IsTrue S.tells → AreNoFewer (S.failures system.old) (S.failures system.new) }
+    ensures failed { IsTrue S.tells → OnErr result
+        (read_failure_count reading (S.failures system.old) < read_failure_count reading (S.failures system.new)) }
+    ensures ended { IsTrue S.tells → IfOk result (λ n. n ≡ 0 → reading ≡ source.Random →
+        (S.failures system.old).salt < (S.failures system.new).salt) }
 {
     for _ in 0..=INTERRUPT_RETRIES {
         match system.read(reading, buf) {
@@ -57,6 +64,11 @@ pub fn read_full<S: System>(
         ≡ drop n (state_of_read_stream reading (S.state system.old)).left) }
     ensures taken { IsTrue S.tells → TakesFrom reading (S.state system.old) (S.state system.new) }
     ensures same_files { IsTrue S.tells → S.files system.new ≡ S.files system.old }
+    ensures no_fewer { IsTrue S.tells → AreNoFewer (S.failures system.old) (S.failures system.new) }
+    ensures failed { IsTrue S.tells → OnErr result
+        (read_failure_count reading (S.failures system.old) < read_failure_count reading (S.failures system.new)) }
+    ensures ended { IsTrue S.tells → IfOk result (λ n. n < length buf.old → reading ≡ source.Random →
+        (S.failures system.old).salt < (S.failures system.new).salt) }
 {
     let mut at = 0;
     while at < buf.len() {
@@ -86,6 +98,9 @@ pub fn write_some<S: System>(system: &mut S, bytes: &[u8]) -> Result<usize, Host
         S.state system.new ≡ after_write (take n bytes.now) (S.state system.old)) }
     ensures same_files { IsTrue S.tells → S.files system.new ≡ S.files system.old }
     ensures tries { IsTrue S.tells → S.tries system.new ≤ S.tries system.old + 17 }
+    ensures no_fewer { IsTrue S.tells → AreNoFewer (S.failures system.old) (S.failures system.new) }
+    ensures failed { IsTrue S.tells → OnErr result
+        ((S.failures system.old).output < (S.failures system.new).output) }
 {
     if bytes.is_empty() {
         return Ok(0);

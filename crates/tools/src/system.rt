@@ -1,8 +1,10 @@
 //! The calls of the system that the programs make.
 ghost use Rattle.std.specs.Prelude.{◌≡◌, ◌+◌, ◌<◌, Bool, ℕ, List, [], None, Ok, true, false, length, option_map, take, IfOk, OnOk, OnErr, IsTrue};
+ghost use Rattle.host.specs.Faults.{Faults, CountsFailure, CountsNoFailure, with_line_failure_counted, with_output_failure_counted, with_secret_failure_counted};
 ghost use Rattle.host.specs.Entries.{lookup};
 ghost use Rattle.host.specs.Secret.{IsBeginning};
 ghost use Rattle.host.specs.HostState.{Text, FitsWithin, KeepsOnErr};
+ghost use Rattle.tools.specs.Failures.{after_read_counted, after_write_counted, with_file_failure_counted, with_read_failure_counted};
 ghost use Rattle.tools.specs.Words.{GivesCommandLineWord, word_at};
 ghost use Rattle.tools.specs.SystemState.{Files, IsOutputSeparate, Opens, Reads, HasSeparateErrorStream, SystemState, after_ask_line, after_ask_output, after_ask_sync, after_empty, after_line, after_open_output, after_sync, after_write, identity_of_stream, IsBeforeOutput, IsBeforeSync, IsReadStreamUnopened, ReadStreamHasNotEnded, IsNotYetOpened};
 
@@ -49,7 +51,7 @@ pub enum StreamRole {
 /// Contracts see whether the system tells its bytes (`tells`); its bytes, names and lines (`state`);
 /// which regular files and block devices its streams are (`files`), which may change when a file is opened,
 /// as where a file system of layers copies a file that is opened to be written; how often a read or a write
-/// was asked for (`tries`); and the words of the process (`words`). Of a system that tells nothing only the
+/// was asked for (`tries`); how often each kind of call has failed (`failures`); and the words of the process (`words`). Of a system that tells nothing only the
 /// bounds on lengths are said.
 ///
 /// What must never happen is a condition of a call: each stream is opened once, and none once an output
@@ -71,6 +73,10 @@ pub trait System {
     // How often a read or a write was asked for.
     ghost tries: { Self → ℕ };
 
+    // How often each kind of call has failed: to open or read the input; to open, write, empty or keep the output; to
+    // open, read or give a secret; to open or read random bytes; and to say a line.
+    ghost failures: { Self → Faults };
+
     // The words of the process, of which the first is its name.
     ghost words: { Self → List Text };
 
@@ -81,10 +87,16 @@ pub trait System {
         ensures bytes { IsTrue tells → GivesCommandLineWord (word_at (words self.now) place) result buf.new };
 
     /// Puts the first bytes of a variable into the buffer, as many as there are and as fit.
-    fn variable(&self, name: &str, buf: &mut [u8]) -> Result<usize, HostFault>
+    fn variable(&mut self, name: &str, buf: &mut [u8]) -> Result<usize, HostFault>
         ensures bound { FitsWithin result buf.old }
         ensures bytes { IsTrue tells → IfOk result (λ n.
-            IsBeginning (lookup (state self.now).variables name.now) n buf.new) };
+            IsBeginning (lookup (state self.old).variables name.now) n buf.new) }
+        ensures same { IsTrue tells → state self.new ≡ state self.old }
+        ensures same_files { IsTrue tells → files self.new ≡ files self.old }
+        ensures untried { IsTrue tells → tries self.new ≡ tries self.old }
+        ensures counts { IsTrue tells → CountsNoFailure result (failures self.old) (failures self.new) }
+        ensures counted { IsTrue tells →
+            CountsFailure with_secret_failure_counted result (failures self.old) (failures self.new) };
 
     /// Opens what has this name, to be read from its beginning; `None` is standard input.
     fn open(&mut self, reading: Reading, name: Option<&str>) -> Result<(), HostFault>
@@ -92,9 +104,13 @@ pub trait System {
         requires early { IsTrue tells → IsBeforeOutput (state self.old) }
         ensures kept { IsTrue tells → KeepsOnErr result (state self.old) (state self.new) }
         ensures opened { IsTrue tells → OnOk result
-            (Opens reading (option_map (λ n. n.now) name.entry) (state self.old) (state self.new)) };
+            (Opens reading (option_map (λ n. n.now) name.entry) (state self.old) (state self.new)) }
+        ensures counts { IsTrue tells → CountsNoFailure result (failures self.old) (failures self.new) }
+        ensures counted { IsTrue tells →
+            CountsFailure (with_read_failure_counted reading) result (failures self.old) (failures self.new) };
 
-    /// Reads the next bytes of an opened stream, and says how many. After an error nothing was read.
+    /// Reads the next bytes of an opened stream, and says how many. After an error nothing was read. Random bytes have
+    /// no end, so one that gives none of them has failed, too.
     fn read(&mut self, reading: Reading, buf: &mut [u8]) -> io::Result<usize>
         requires not_empty { 0 < length buf.old }
         requires going { IsTrue tells → ReadStreamHasNotEnded reading (state self.old) }
@@ -103,7 +119,11 @@ pub trait System {
         ensures bytes { IsTrue tells → IfOk result (λ n.
             Reads reading n buf.new (state self.old) (state self.new)) }
         ensures same_files { IsTrue tells → files self.new ≡ files self.old }
-        ensures tried { IsTrue tells → tries self.new ≡ tries self.old + 1 };
+        ensures tried { IsTrue tells → tries self.new ≡ tries self.old + 1 }
+        ensures counts { IsTrue tells → IfOk result (λ n.
+            failures self.new ≡ after_read_counted reading n (failures self.old)) }
+        ensures counted { IsTrue tells →
+            CountsFailure (with_read_failure_counted reading) result (failures self.old) (failures self.new) };
 
     /// Opens an output, which holds what it held before; `None` is standard output. No output was asked
     /// for before; this one is asked for, whatever the answer.
@@ -112,13 +132,22 @@ pub trait System {
         ensures asks { IsTrue tells → OnErr result
             (state self.new ≡ after_ask_output (option_map (λ n. n.now) name.entry) (state self.old)) }
         ensures opened { IsTrue tells → OnOk result (state self.new ≡ after_open_output
-            (option_map (λ n. n.now) name.entry) (files self.new).output (state self.old)) };
+            (option_map (λ n. n.now) name.entry) (files self.new).output (state self.old)) }
+        ensures counts { IsTrue tells → CountsNoFailure result (failures self.old) (failures self.new) }
+        ensures counted { IsTrue tells →
+            CountsFailure with_output_failure_counted result (failures self.old) (failures self.new) };
 
     /// Which regular file or block device a stream is, if it is one. What is not opened is none; of the input
     /// and of the secret's source that is known, so it is no fault.
-    fn file(&self, stream: StreamRole) -> Result<Option<FileIdentity>, HostFault>
-        ensures found { IsTrue tells → IfOk result (λ file. file ≡ identity_of_stream stream (files self.now)) }
-        ensures unopened { IsTrue tells → IsReadStreamUnopened stream (state self.now) → result ≡ Ok None };
+    fn file(&mut self, stream: StreamRole) -> Result<Option<FileIdentity>, HostFault>
+        ensures found { IsTrue tells → IfOk result (λ file. file ≡ identity_of_stream stream (files self.old)) }
+        ensures unopened { IsTrue tells → IsReadStreamUnopened stream (state self.old) → result ≡ Ok None }
+        ensures same { IsTrue tells → state self.new ≡ state self.old }
+        ensures same_files { IsTrue tells → files self.new ≡ files self.old }
+        ensures untried { IsTrue tells → tries self.new ≡ tries self.old }
+        ensures counts { IsTrue tells → CountsNoFailure result (failures self.old) (failures self.new) }
+        ensures counted { IsTrue tells →
+            CountsFailure (with_file_failure_counted stream) result (failures self.old) (failures self.new) };
 
     /// Takes away what the output holds: a regular file that was opened by its name, was neither emptied
     /// nor asked to be brought to the disk, and is none that is read.
@@ -128,10 +157,13 @@ pub trait System {
         requires unsynced { IsTrue tells → IsBeforeSync (state self.old) }
         ensures kept { IsTrue tells → KeepsOnErr result (state self.old) (state self.new) }
         ensures emptied { IsTrue tells → OnOk result (state self.new ≡ after_empty (state self.old)) }
-        ensures same_files { IsTrue tells → files self.new ≡ files self.old };
+        ensures same_files { IsTrue tells → files self.new ≡ files self.old }
+        ensures counts { IsTrue tells → CountsNoFailure result (failures self.old) (failures self.new) }
+        ensures counted { IsTrue tells →
+            CountsFailure with_output_failure_counted result (failures self.old) (failures self.new) };
 
     /// Writes a beginning of the bytes, and says how many. The output is no file that is read, is new, and was
-    /// not asked to be brought to the disk. After an error nothing was written.
+    /// not asked to be brought to the disk. After an error nothing was written. One that takes none has failed, too.
     fn write(&mut self, bytes: &[u8]) -> io::Result<usize>
         requires not_empty { 0 < length bytes.now }
         requires apart { IsTrue tells → IsOutputSeparate (files self.old) }
@@ -142,7 +174,11 @@ pub trait System {
         ensures put { IsTrue tells → IfOk result (λ n.
             state self.new ≡ after_write (take n bytes.now) (state self.old)) }
         ensures same_files { IsTrue tells → files self.new ≡ files self.old }
-        ensures tried { IsTrue tells → tries self.new ≡ tries self.old + 1 };
+        ensures tried { IsTrue tells → tries self.new ≡ tries self.old + 1 }
+        ensures counts { IsTrue tells → IfOk result (λ n.
+            failures self.new ≡ after_write_counted n (failures self.old)) }
+        ensures counted { IsTrue tells →
+            CountsFailure with_output_failure_counted result (failures self.old) (failures self.new) };
 
     /// Brings to the disk what was written, and tells whether that failed: an output that is kept, and was not
     /// asked to be brought there yet.
@@ -151,7 +187,10 @@ pub trait System {
         requires once { IsTrue tells → IsBeforeSync (state self.old) }
         ensures asks { IsTrue tells → OnErr result (state self.new ≡ after_ask_sync (state self.old)) }
         ensures synced { IsTrue tells → OnOk result (state self.new ≡ after_sync (state self.old)) }
-        ensures same_files { IsTrue tells → files self.new ≡ files self.old };
+        ensures same_files { IsTrue tells → files self.new ≡ files self.old }
+        ensures counts { IsTrue tells → CountsNoFailure result (failures self.old) (failures self.new) }
+        ensures counted { IsTrue tells →
+            CountsFailure with_output_failure_counted result (failures self.old) (failures self.new) };
 
     /// Writes a line and its line feed to standard error, which is no file that is read. No line
     /// was said before; this one is asked for, whatever the answer.
@@ -160,5 +199,8 @@ pub trait System {
         requires apart { IsTrue tells → HasSeparateErrorStream (files self.old) }
         ensures asks { IsTrue tells → OnErr result (state self.new ≡ after_ask_line (state self.old)) }
         ensures said { IsTrue tells → OnOk result (state self.new ≡ after_line line.now (state self.old)) }
-        ensures same_files { IsTrue tells → files self.new ≡ files self.old };
+        ensures same_files { IsTrue tells → files self.new ≡ files self.old }
+        ensures counts { IsTrue tells → CountsNoFailure result (failures self.old) (failures self.new) }
+        ensures counted { IsTrue tells →
+            CountsFailure with_line_failure_counted result (failures self.old) (failures self.new) };
 }

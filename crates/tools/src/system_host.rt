@@ -1,7 +1,8 @@
 //! The system as a host.
-ghost use Rattle.std.specs.Prelude.{◌≡◌, ◌-◌, ◌<◌, ◌≤◌, ◌^◌, true, IsTrue};
+ghost use Rattle.std.specs.Prelude.{◌≡◌, ◌-◌, ◌<◌, ◌≤◌, ◌^◌, true, false, IsTrue};
 ghost use Rattle.host.specs.CallsGrantedByHost.{nothing_asked};
 ghost use Rattle.host.specs.Faults.{AreBelow, no_faults, with_output_failure_counted};
+ghost use Rattle.tools.specs.Failures.{AreFaultsOfHost};
 ghost use Rattle.tools.specs.RunState.{EndsWithLine, Leaves, host_over, host_seen};
 ghost use Rattle.tools.specs.SystemState.{IsLineAskedUnlessReading, IsOutputSynced, IsOutputUnsynced, IsUnused};
 
@@ -29,6 +30,8 @@ pub struct SystemHost<S: System> {
     run: Run<S>,
     counts: RunFailureCounts<S>,
     ghost told: { 0 < counts.lines → run.told ≡ true },
+    ghost unsynced: { IsTrue S.tells → run.state.sync_asked ≡ false },
+    ghost failed: { IsTrue S.tells → AreFaultsOfHost counts run.failures run.state run.system_files },
 }
 
 impl<S: System> SystemHost<S> {
@@ -67,6 +70,8 @@ impl<S: System> SystemHost<S> {
             (with_output_failure_counted (⟦<SystemHost<S> as Host>⟧.faults self)) (S.state result.1) result.2 }
         ensures output_unsynced { IsTrue S.tells → (⟦<SystemHost<S> as Host>⟧.grants self).writable ≡ true →
             result.0 ≡ 1 → IsOutputUnsynced (S.state result.1) }
+        ensures fails { IsTrue S.tells → (⟦<SystemHost<S> as Host>⟧.grants self).writable ≡ true →
+            AreFaultsOfHost result.2 (S.failures result.1) (S.state result.1) (S.files result.1) }
     {
         let SystemHost {
             mut run,
@@ -87,6 +92,8 @@ impl<S: System> SystemHost<S> {
         ensures status { result.0 ≡ 1 }
         ensures says { EndsWithLine S.tells line.now (⟦<SystemHost<S> as Host>⟧.seen self)
             (⟦<SystemHost<S> as Host>⟧.faults self) (S.state result.1) result.2 }
+        ensures fails { IsTrue S.tells →
+            AreFaultsOfHost result.2 (S.failures result.1) (S.state result.1) (S.files result.1) }
     {
         let SystemHost {
             mut run,
@@ -103,6 +110,8 @@ impl<S: System> SystemHost<S> {
         ensures leaves { IsTrue S.tells →
             Leaves (S.state result.0) (⟦<SystemHost<S> as Host>⟧.seen self) }
         ensures asks { IsTrue S.tells → 0 < result.1.lines → IsLineAskedUnlessReading (S.state result.0) }
+        ensures fails { IsTrue S.tells →
+            AreFaultsOfHost result.1 (S.failures result.0) (S.state result.0) (S.files result.0) }
     {
         let SystemHost { run, counts } = self;
         (run.into_system(), counts)

@@ -10,8 +10,8 @@ fn list(alloc: Global, bytes: &[u8]) -> Vec<u8> {
     bytes.to_vec(alloc).unwrap_or(Vec::new(alloc))
 }
 
-// This text.
-fn text(alloc: Global, text: &str) -> String {
+/// This text.
+pub fn text(alloc: Global, text: &str) -> String {
     String::from_str(alloc, text).unwrap_or(String::new(alloc))
 }
 

@@ -16,4 +16,10 @@ returns c = record {
   unused_bits_of_two = refl;
   lone_symbol = refl;
   padding = refl;
+  symbols = refl;
+  each_place = refl;
+  last_bits = refl;
+  last_of_two = refl;
+  last_of_three = refl;
+  bytes = refl;
 }

@@ -8,7 +8,8 @@ use Rattle.host.specs.HostState.{HostState}
 use Rattle.scrypt_run.specs.Decrypting.{released_text_of_header_and_rest}
 use Rattle.scrypt_run.specs.Steps.{after_pull_and_push}
 use Rattle.scrypt_run.proofs.Decrypting.{length-first, bytes_read_so_far-below, bytes_read_so_far-more, released_text_of_header_and_rest-more, released_text_of_header_and_rest-nil}
-use Rattle.scrypt_run.proofs.Passing.{fits_on, gives_length, left_on, pass_all, pass_none, pass_part, pass_whole, starts, take_on}
+use Rattle.host.proofs.Pulls.{fits_on}
+use Rattle.scrypt_run.proofs.Passing.{gives_length, left_on, pass_all, pass_none, pass_part, pass_whole, starts, take_on}
 use Rattle.scrypt_run.proofs.decrypt.release.Goals as goal
 
 pub loop-n-init : goal.loop-n-init

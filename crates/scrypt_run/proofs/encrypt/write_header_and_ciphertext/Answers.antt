@@ -7,7 +7,8 @@ use Rattle.encfile.proofs.Files.{bytes_encrypted_so_far-is}
 use Rattle.host.specs.HostState.{HostState, after_push}
 use Rattle.scrypt_run.specs.Steps.{after_pull_and_push}
 use Rattle.scrypt_run.proofs.Encrypting.{header_cut, bytes_encrypted_so_far-below, bytes_encrypted_so_far-more}
-use Rattle.scrypt_run.proofs.Passing.{fits_on, gives_length, left_on, pass_part, pass_whole, put_length, take_on}
+use Rattle.host.proofs.Pulls.{fits_on}
+use Rattle.scrypt_run.proofs.Passing.{gives_length, left_on, pass_part, pass_whole, put_length, take_on}
 use Rattle.scrypt_run.proofs.encrypt.write_header_and_ciphertext.Goals as goal
 
 pub returns-in_default-clause-refused : goal.returns-in_default-clause-refused

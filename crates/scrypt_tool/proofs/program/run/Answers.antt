@@ -10,6 +10,8 @@ use Rattle.scrypt_tool.specs.Program.{FailsSync}
 use Rattle.tools.specs.RunState.{RunState, host_seen}
 use Rattle.tools.specs.SystemState.{IsOutputUnsynced, SystemState}
 use Rattle.scrypt_request.specs.declared.refusal.ScryptRefusal.TheVariants as refusal
+use Rattle.scrypt_tool.proofs.Ends.{faults-refused}
+use Rattle.tools.proofs.Ends.{faults-synced}
 use Rattle.scrypt_tool.proofs.program.run.Goals as goal
 
 -- a line is said over what stood before it
@@ -62,3 +64,17 @@ returns-then-status-eq0-clause-refuses g c = λ t failed.
           (c.sync_and_end.ensures.output_unsynced t (writable _ c.scrypt-status.new.host.run _ succeeds) failed))));
       asks = λ _. ends.asks t;
     }
+
+pub returns-then-status-eq0-clause-fails : goal.returns-then-status-eq0-clause-fails
+returns-then-status-eq0-clause-fails g c = λ t.
+    let ends = c.sync_and_end.ensures in
+    let succeeds = c.scrypt-status.ensures.succeeds t c.if-status-eq0.true in
+    faults-synced _ _ _ _ _ _ _ _ _ ends.status ends.counts ends.says (c.scrypt-status.ensures.counts c.if-status-eq0.true ∙ c.new-host.ensures.counts)
+    (ends.fails t (writable _ c.scrypt-status.new.host.run _ succeeds))
+
+pub returns-else-status-eq0-clause-fails : goal.returns-else-status-eq0-clause-fails
+returns-else-status-eq0-clause-fails g c = λ t.
+    let ends = c.into_system-system.ensures in
+    let one : c.scrypt-status.result ≡ 1 = search rules in
+    faults-refused _ _ _ _ _ _ _ _ _ _ _ t c.new-host.ensures.seen (c.requires.unused t).output c.new-host.ensures.counts
+    (c.scrypt-status.ensures.refuses one) ends.counts (ends.leaves t) (ends.fails t)

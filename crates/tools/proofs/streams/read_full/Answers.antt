@@ -1,4 +1,5 @@
 use Rattle.std.proofs.Common.{◌≡◌, ◌≤◌, ◌-◌, ◌∙◌, rules, length}
+use Rattle.tools.proofs.Failing.{no_fewer-then}
 use Rattle.tools.proofs.Parts.{beginning_at_put, is_read-more}
 use Rattle.tools.proofs.streams.read_full.Goals as goal
 use borrow.Rule.Slice.PartMut.{put_mid}
@@ -10,6 +11,7 @@ loop-at-preserved g c =
       λ t. is_read-more c.args.reading c.loop-at.at _ c.in_ok-n.n c.loop-at.buf c.read_some.new.buf _ _ _ c.loop-at.invariant.0 fits
           c.if-n-eq0.false (c.loop-at.invariant.1 t) (c.in_ok-n.ensures.bytes t),
       λ t. c.in_ok-n.ensures.same_files t ∙ c.loop-at.invariant.2 t,
+      λ t. no_fewer-then _ _ _ (c.loop-at.invariant.3 t) (c.in_ok-n.ensures.no_fewer t),
     )
 
 pub returns-then-n-eq0-clause-whole : goal.returns-then-n-eq0-clause-whole

@@ -4,8 +4,8 @@ use Rattle.std.proofs.lemmas.Slice.{drop-append-drop}
 use Rattle.macs.specs.Hmac.{Holds}
 use Rattle.aes_ctr.specs.CounterMode.{KeyStreamPlace}
 use Rattle.encfile.specs.EncryptedFile.{cipher_key, hmac_key, head, released_text}
-use Rattle.encfile.proofs.Pieces.{place-more}
-use Rattle.encfile.proofs.Reading.{FitsSha256-take, IsSplit-more, length-split, released_text-more}
+use Rattle.encfile.proofs.Pieces.{after_made, place-more}
+use Rattle.encfile.proofs.Reading.{FitsSha256-take, IsSplit-more, held_bytes-split, length-split, released_text-more}
 use Rattle.encfile.proofs.dec.Dec.feed.Goals as goal
 
 pub returns-then-piece-saturating_sub-clause-too_long : goal.returns-then-piece-saturating_sub-clause-too_long
@@ -20,9 +20,9 @@ returns-clause-fits c passphrase file h =
 
 pub returns-clause-hashed : goal.returns-clause-hashed
 returns-clause-hashed c passphrase file h =
-    let piece : List ℕ = c.args.piece.now in
-    let fits : length file + length piece < 2 ^ 60 + 128 = returns-clause-fits c passphrase file h in
-    FitsSha256-take _ (file ++ piece) (omega (arith, fits))
+    let long = length-split file passphrase h.salt h.costs h.done h.held h.split in
+    FitsSha256-take _ (file ++ c.args.piece.now)
+    (omega (arith, long, ap (λ (p : KeyStreamPlace). p.position) h.state.cipher, ap length h.state.held, c.position.ensures.position, c.len.ensures.len, c.saturating_add-rest.ensures, c.saturating_sub.ensures, c.if-piece-saturating_sub.false))
 
 pub returns-clause-read : goal.returns-clause-read
 returns-clause-read c passphrase file h =
@@ -62,6 +62,28 @@ returns-clause-released c passphrase file h =
     ∙ released_text-more file (file ++ piece) passphrase h.salt h.costs h.done h.held (take n out) c.take_in-released.new.self c.apply.new.bytes c.args.self.now.ctr h.split
     (IsSplit-more file passphrase h.salt h.costs h.done h.held piece (take n out) c.take_in-released.new.self h.split joined count c.take_in-released.ensures.at_most_32)
     h.state.cipher c.apply.ensures.xored
+
+pub returns-clause-held : goal.returns-clause-held
+returns-clause-held c passphrase file h =
+    let piece : List ℕ = c.args.piece.now in
+    let n : ℕ = c.take_in-released.result in
+    let out : List ℕ = c.take_in-released.new.out in
+    let old : List ℕ = c.args.out.now in
+    let before : List ℕ = c.args.self.now.held in
+    let last : List ℕ = c.take_in-released.new.self in
+    let joined = c.take_in-released.ensures.joined ∙ ap (λ held. held ++ piece) h.state.held in
+    let few : length before ≤ 32 = omega (arith, c.len.ensures.len, c.len.ensures.at_most_32) in
+    let moved : length (take n out) ≡ n =
+    omega (arith, length-take n out, c.take_in-released.ensures.moved, c.take_in-released.auto.out, c.requires.room, few) in
+    let count : length (take n out) ≡ length h.held + length piece - 32 = omega (arith, moved, c.take_in-released.ensures.moved, ap length h.state.held) in
+    let long : length c.apply.new.bytes ≡ n = omega (arith, c.apply.auto.bytes, moved) in
+    let all : n + length last ≡ length before + length piece =
+    omega (arith, ap length c.take_in-released.ensures.joined, length-append (take n out) last, length-append before piece, moved) in
+    let kept = held_bytes-split (file ++ piece) passphrase h.salt h.costs (h.done ++ take n out) last
+    (IsSplit-more file passphrase h.salt h.costs h.done h.held piece (take n out) last h.split joined count c.take_in-released.ensures.at_most_32) in
+    after_made n (length before + length piece) old out c.apply.new.bytes last long moved
+    (c.take_in-released.ensures.put ∙ sym c.take_in-released.ensures.joined) c.take_in-released.ensures.rest all
+    ∙ ap (λ (l : List ℕ). l ++ drop (n + length l) old) (sym kept)
 
 pub returns-clause-rest : goal.returns-clause-rest
 returns-clause-rest c =

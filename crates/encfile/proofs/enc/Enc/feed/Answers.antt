@@ -16,9 +16,8 @@ returns-clause-fits c passphrase salt costs text h =
 
 pub returns-clause-hashed : goal.returns-clause-hashed
 returns-clause-hashed c passphrase salt costs text h =
-    let bytes : List ℕ = c.args.bytes.now in
-    let fits : length text + length bytes < 2 ^ 60 = returns-clause-fits c passphrase salt costs text h in
-    FitsSha256-body passphrase salt costs _ h.salt_has_32_bytes (omega (arith, fits, length-append text bytes))
+    FitsSha256-body passphrase salt costs _ h.salt_has_32_bytes
+    (omega (arith, ap (λ (p : KeyStreamPlace). p.position) h.state.cipher, c.position.ensures.position, c.saturating_sub.ensures, c.if-bytes-saturating_sub.false, length-append text c.args.bytes.now))
 
 pub returns-clause-fed : goal.returns-clause-fed
 returns-clause-fed c passphrase salt costs text h =

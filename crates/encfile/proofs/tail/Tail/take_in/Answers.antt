@@ -20,6 +20,20 @@ returns-clause-joined c =
     cut_at c.args.self.now c.args.piece.now _ c.copy_from_slice-3.new.self _ c.saturating_sub-moved.result l
     (first ∙ rw (take_at held (drop s c.args.out.now) s long, same, piece) refl) wide c.copy_from_slice-3.ensures.after (omega (arith, c.saturating_sub-moved.ensures))
 
+pub returns-clause-put : goal.returns-clause-put
+returns-clause-put c =
+    let s : ℕ = c.self.inside.len in
+    let l : ℕ = s + length c.args.piece.now in
+    let held : List ℕ = c.copy_from_slice.new.self in
+    let out : List ℕ = held ++ drop s c.args.out.now in
+    let long : length held ≡ s = omega (arith, c.copy_from_slice.ensures.len, length-take {A = ℕ}) in
+    let same : held ≡ c.args.self.now = c.copy_from_slice.ensures.after ∙ c.self.view_is in
+    let known : length c.args.self.now ≡ s = sym (ap length same) ∙ long in
+    let piece : c.copy_from_slice-2.new.self ≡ c.args.piece.now = c.copy_from_slice-2.ensures.after in
+    let room : s ≤ length out = omega (arith, long, length-append held (drop s c.args.out.now)) in
+    let first = take-put_mid s (l - s) out c.copy_from_slice-2.new.self l (omega (arith, ap length piece)) room in
+    rw known (first ∙ rw (take_at held (drop s c.args.out.now) s long, same, piece) refl)
+
 pub returns-clause-rest : goal.returns-clause-rest
 returns-clause-rest c =
     let s : ℕ = c.self.inside.len in

@@ -2,6 +2,7 @@
 use Rattle.std.proofs.Common.{◌≡◌, Bool, true, false, Option, None, Some, refl, sym, subst, ap, is_none, if◌then◌else◌, option_map}
 use Rattle.host.specs.HostState.{SecretSource, Text}
 use Rattle.tools.specs.RunState.{RunState, IsAt, Leaves, granted_calls_at_stage, host_seen, is_output_opened}
+use Rattle.host.specs.Faults.{Faults}
 use Rattle.tools.specs.SystemState.{Files, SystemState}
 use Rattle.tools.specs.declared.run.InputStage.{InputStage}
 use Rattle.tools.specs.declared.run.OutputStage.{OutputStage}
@@ -21,10 +22,10 @@ unemptied-where true None is_emptied named unused none = elim (subst IsFalse (sy
 unemptied-where true (Some name) is_emptied named unused none = elim (subst IsFalse (ap is_none none) tt) [ ]
 
 leaves-at : (h : RunState) (input_stage : InputStage) (output_stage : OutputStage) (asked : Option SecretSource) (salted told : Bool)
-    (w : SystemState) (f : Files) → h ≡ record { state = w; grants = granted_calls_at_stage input_stage output_stage asked salted; asked = asked; salted = salted; told = told }
+    (w : SystemState) (failures : Faults) (f : Files) → h ≡ record { state = w; failures = failures; system_files = f; grants = granted_calls_at_stage input_stage output_stage asked salted; asked = asked; salted = salted; told = told }
     → IsAt input_stage output_stage asked salted told (granted_calls_at_stage input_stage output_stage asked salted) w f → Leaves w (host_seen h)
-leaves-at h input_stage output_stage asked salted told w f is at = subst (λ k. Leaves w (host_seen k)) (sym is) (record {
-  held = record { state = w; grants = granted_calls_at_stage input_stage output_stage asked salted; asked = asked; salted = salted; told = told };
+leaves-at h input_stage output_stage asked salted told w failures f is at = subst (λ k. Leaves w (host_seen k)) (sym is) (record {
+  held = record { state = w; failures = failures; system_files = f; grants = granted_calls_at_stage input_stage output_stage asked salted; asked = asked; salted = salted; told = told };
   over = refl;
   same = refl;
   secret = at.secret;
@@ -35,4 +36,4 @@ leaves-at h input_stage output_stage asked salted told w f is at = subst (λ k. 
 pub returns-clause-leaves : goal.returns-clause-leaves
 returns-clause-leaves g c = λ t.
     leaves-at _ c.self.inside.input c.self.inside.output (option_map asked_source c.self.inside.asked) c.self.inside.salted
-    c.self.inside.told _ _ (sym c.self.view_is) (c.self.invariant t)
+    c.self.inside.told _ _ _ (sym c.self.view_is) (c.self.invariant t)

@@ -1,0 +1,7 @@
+-- Lemmas, by topic.
+mod Ends
+mod Existence
+mod KnownHash
+mod Lines
+mod OneEnd
+mod TextLengths

@@ -1,0 +1,39 @@
+-- What the steps of a run come to.
+use Rattle.std.specs.Prelude.{◌≡◌, ◌+◌, ◌↔◌, ◌≤◌, ℕ, Bool, true, List, Ok, IsTrue, length}
+use Rattle.argon.specs.Argon2.{Parameters}
+use Rattle.argon.specs.Counts.{work}
+use Rattle.argon_text.specs.Reading.{fields_at}
+use Rattle.argon_text.specs.Value.{Value}
+use Rattle.argon_text.specs.Verifying.{parameters_of_value, tag_of_password}
+use Rattle.host.specs.FirstLine.{first_line}
+use Rattle.host.specs.HostState.{HostState}
+use Rattle.argon2_verify.specs.Hash.{Says}
+use Rattle.argon2_verify.specs.Memory.{IsLeftWithoutHash, after_matrix, after_text}
+use Rattle.argon2_verify.specs.Reading.{password_in}
+use Rattle.argon2_verify.specs.declared.refusal.VerifyRefusal.{VerifyRefusal}
+use Rattle.argon2_verify.specs.declared.request.Limits.{Limits}
+
+-- a line was read, and says this value; on a host that tells its bytes it is the first of the file
+pub record ReadsHash {Source : Type 0} (decoded : Source → List ℕ → Bool → Source) (tells : Bool) (before : HostState) (v : Value)
+    (memory_before memory_after : Source) : Type 0 where
+  pub line : List ℕ
+  pub is : IsTrue tells → line ≡ first_line before.input
+  pub says : Says line v
+  pub memory : memory_after ≡ after_text decoded (fields_at line) memory_before
+
+-- the source of memory at a refusal of the file
+pub record LeavesMemoryWithoutHash {Source : Type 0} (decoded : Source → List ℕ → Bool → Source) (tells : Bool) (seen : HostState)
+    (r : VerifyRefusal) (before after : Source) : Type 0 where
+  pub line : List ℕ
+  pub is : IsTrue tells → line ≡ first_line seen.input
+  pub left : IsLeftWithoutHash decoded line r before after
+
+-- a password was read and tested against a value; on a host that tells its bytes it is all of standard input
+pub record TestsPassword {Source : Type 0} (matrix : Source → Parameters → ℕ → ℕ → Bool → Source) (tells : Bool) (v : Value) (l : Limits)
+    (same : Bool) (before : HostState) (works_before works_after : ℕ) (memory_before memory_after : Source) : Type 0 where
+  pub password : List ℕ
+  pub fits : length password ≤ 4096
+  pub is : IsTrue tells → password_in before.stdin ≡ Ok password
+  pub answer : IsTrue same ↔ (tag_of_password v password ≡ v.tag)
+  pub works : works_after ≡ works_before + work (parameters_of_value v password)
+  pub memory : memory_after ≡ after_matrix matrix v password l true memory_before

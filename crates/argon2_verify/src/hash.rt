@@ -1,0 +1,108 @@
+//! The hash: the first line of the file.
+ghost use Rattle.std.specs.Prelude.{◌≡◌, ◌≤◌, ◌^◌, true, None, Some, take, IfOk, IfErr, OnOk, MatchResult, IsTrue};
+ghost use Rattle.argon_text.specs.View.{value_of};
+ghost use Rattle.host.specs.CallsGrantedByHost.{GrantsAllButPullsAsBefore, with_input_opened};
+ghost use Rattle.host.specs.Faults.{AreBelow};
+ghost use Rattle.host.specs.FirstLine.{first_line};
+ghost use Rattle.argon2_verify.specs.Hash.{limits_refusal, read_refusal};
+ghost use Rattle.argon2_verify.specs.Inside.Steps.{LeavesMemoryWithoutHash, ReadsHash};
+ghost use Rattle.argon2_verify.specs.Reading.{IsFileRefused, after_file_read};
+ghost use Rattle.argon2_verify.specs.Refusal.{CountsFault, IsNotOutOfMemory, RaisesNoCount};
+
+use crate::refusal::VerifyRefusal;
+use crate::request::Limits;
+use argon::{ParamFault, Params};
+use argon_text::{DecodeMemory, Encoded, ReadFault, read_encoded_with_memory};
+use host::{Host, first_line_length, pull_full};
+
+// The refusal of a text that is not read.
+fn read_refusal(fault: ReadFault) -> VerifyRefusal
+    ensures refusal { result ≡ read_refusal fault }
+{
+    match fault {
+        ReadFault::NotInGrammar => VerifyRefusal::NotHash,
+        ReadFault::OutOfRange => VerifyRefusal::OutOfRange,
+        ReadFault::OutOfMemory => VerifyRefusal::OutOfMemory,
+    }
+}
+
+/// Opens the file, and reads the hash in its first line.
+pub(crate) fn read_hash<R: DecodeMemory, H: Host>(
+    memory: &mut R,
+    host: &mut H,
+    file: &str,
+) -> Result<Encoded, VerifyRefusal>
+    requires room { AreBelow (2 ^ 63) (H.faults host.old) }
+    requires unopened { (H.grants host.old).input ≡ true }
+    ensures counts { CountsFault result (H.faults host.old) (H.faults host.new) }
+    ensures granted { OnOk result (GrantsAllButPullsAsBefore (with_input_opened (H.grants host.old)) (H.grants host.new)) }
+    ensures hash { IfOk result (λ hash. ReadsHash R.after_decoded H.tells (H.seen host.old) (value_of hash) memory.old memory.new) }
+    ensures read { IsTrue H.tells → OnOk result (H.seen host.new ≡ after_file_read file.now (H.seen host.old)) }
+    ensures refused { IsTrue H.tells → IfErr result (λ r. IsFileRefused file.now r (H.seen host.old) (H.seen host.new)) }
+    ensures memory { IfErr result (λ r. LeavesMemoryWithoutHash R.after_decoded H.tells (H.seen host.old) r memory.old memory.new) }
+{
+    // One byte more than a line may have tells that it is too long.
+    let mut buf = [0u8; 8192];
+    let len = read_line(host, file, &mut buf)?;
+    match read_encoded_with_memory(memory, &buf[..len]) {
+        Ok(hash) => Ok(hash),
+        Err(fault) => Err(read_refusal(fault)),
+    }
+}
+
+// Opens the file, and puts its first bytes into the buffer: how many of these are its first line.
+fn read_line<H: Host>(
+    host: &mut H,
+    file: &str,
+    buf: &mut [u8; 8192],
+) -> Result<usize, VerifyRefusal>
+    requires room { AreBelow (2 ^ 63) (H.faults host.old) }
+    requires unopened { (H.grants host.old).input ≡ true }
+    ensures counts { CountsFault result (H.faults host.old) (H.faults host.new) }
+    ensures granted { OnOk result (GrantsAllButPullsAsBefore (with_input_opened (H.grants host.old)) (H.grants host.new)) }
+    ensures early { IfErr result IsNotOutOfMemory }
+    ensures short { IfOk result (λ len. len ≤ 8191) }
+    ensures line { IsTrue H.tells → IfOk result (λ len. take len buf.new ≡ first_line (H.seen host.old).input) }
+    ensures read { IsTrue H.tells → OnOk result (H.seen host.new ≡ after_file_read file.now (H.seen host.old)) }
+    ensures refused { IsTrue H.tells → IfErr result (λ r. IsFileRefused file.now r (H.seen host.old) (H.seen host.new)) }
+{
+    let Ok(()) = host.open_input(Some(file)) else {
+        return Err(VerifyRefusal::FileFault);
+    };
+    let Ok(n) = pull_full(host, buf) else {
+        return Err(VerifyRefusal::FileFault);
+    };
+    let len = first_line_length(&buf[..n]);
+    if len > 8191 {
+        return Err(VerifyRefusal::NotHash);
+    }
+    Ok(len)
+}
+
+/// Holds a hash against the limits, of memory first.
+pub(crate) fn test_limits(hash: &Encoded, limits: &Limits) -> Result<(), VerifyRefusal>
+    ensures limits { MatchResult result (λ _. limits_refusal limits.now (value_of hash.now) ≡ None)
+        (λ r. limits_refusal limits.now (value_of hash.now) ≡ Some r) }
+    ensures counts { IfErr result RaisesNoCount }
+    ensures early { IfErr result IsNotOutOfMemory }
+{
+    // The blocks and the block functions are the same for each password.
+    let Ok(params) = Params::with_any_password_length(
+        hash.kind,
+        hash.version,
+        hash.passes,
+        hash.lanes,
+        hash.memory,
+        hash.tag.len(),
+        hash.salt.len(),
+        0,
+    ) else {
+        // Not met: the ranges of a hash that was read are tested.
+        return Err(VerifyRefusal::OutOfRange);
+    };
+    match params.admitted(limits.max_kib, limits.max_ops) {
+        Ok(()) => Ok(()),
+        Err(ParamFault::MemoryLimit) => Err(VerifyRefusal::MemoryLimit),
+        Err(_) => Err(VerifyRefusal::WorkLimit),
+    }
+}

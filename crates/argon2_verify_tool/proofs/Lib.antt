@@ -1,0 +1,2 @@
+-- What each refusal leaves.
+mod Ends

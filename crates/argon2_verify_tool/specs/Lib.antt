@@ -1,0 +1,2 @@
+-- What the program argon2-verify comes to over a system.
+pub mod Program

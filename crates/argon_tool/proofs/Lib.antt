@@ -1,0 +1,3 @@
+-- Lemmas, by topic.
+mod Ends
+mod Existence

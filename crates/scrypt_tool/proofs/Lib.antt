@@ -1,0 +1,4 @@
+-- Lemmas, by topic.
+mod Ends
+mod Existence
+mod OtherSystems

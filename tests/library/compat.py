@@ -1,0 +1,514 @@
+#!/usr/bin/env python3
+"""What programs get that call libargon2.so.1 and find that of compat/: its names and numbers, random calls beside Debian's
+library (whatever differs is one of the differences that man/pikhsen-compat.7 lists), refused memory, and programs of Debian
+over both, each with what it made over the other.
+
+    tests/library/compat.py FOLDER      the folder in which libpikhsen.a lies
+"""
+import ctypes
+import os
+import pathlib
+import random
+import re
+import shutil
+import subprocess
+import sys
+
+sys.path += map(str, pathlib.Path(__file__).resolve().parents[1].iterdir())  # the other folders of tests/
+import binaries
+from compat_openssl import openssl_of
+from checking import compiled, is_there, left_out, over_library, ran, said
+from shown import STORED
+from tree import TOP
+
+HEADER = TOP / "compat/libargon2/argon2.h"
+DEBIANS = pathlib.Path("/usr/lib/x86_64-linux-gnu/libargon2.so.1")
+KINDS = ("argon2d", "argon2i", "argon2id")
+NAMES = sorted([
+    *(f"argon2_{it}" for it in ("ctx", "encodedlen", "error_message", "hash", "type2string", "verify", "verify_ctx")),
+    *(f"{kind}_{it}" for kind in KINDS for it in ("ctx", "hash_encoded", "hash_raw", "verify", "verify_ctx")),
+])
+# The numbers of argon2.h that are named below.
+OK, OUTPUT_TOO_LONG, SALT_TOO_LONG, MEMORY_ALLOCATION_ERROR, INCORRECT_PARAMETER, ENCODING_FAIL, DECODING_FAIL, VERIFY_MISMATCH = (
+    0, -3, -7, -22, -25, -31, -32, -35)
+# Words of the header that are none.
+NO_NUMBERS = {"ARGON2_LOCAL", "ARGON2_MIN", "ARGON2_OF_TYPE", "ARGON2_PUBLIC"}
+CALLS = 10000
+GIVE = ctypes.CFUNCTYPE(ctypes.c_int, ctypes.POINTER(ctypes.c_void_p), ctypes.c_size_t)
+TAKE = ctypes.CFUNCTYPE(None, ctypes.c_void_p, ctypes.c_size_t)
+
+
+class Context(ctypes.Structure):
+    """argon2_context."""
+    _fields_ = [
+        *(field for name in ("out", "pwd", "salt", "secret", "ad") for field in (
+            (name, ctypes.c_void_p), (f"{name}len", ctypes.c_uint32))),
+        *((name, ctypes.c_uint32) for name in ("t_cost", "m_cost", "lanes", "threads", "version")),
+        ("allocate_cbk", GIVE), ("free_cbk", TAKE), ("flags", ctypes.c_uint32),
+    ]
+
+
+def loaded(file):
+    """A library with these names. Each is given the types of its parameters by what it is called with."""
+    library = ctypes.CDLL(str(file))
+    library.argon2_error_message.restype = library.argon2_type2string.restype = ctypes.c_char_p
+    library.argon2_encodedlen.restype = ctypes.c_size_t
+    return library
+
+
+def built(checks, folder, lib):
+    """The library, built twice, and what it shows of itself."""
+    for it in ("compat", "again"):
+        checks.that(f"compat.sh: {it}", ran(TOP / "packaging/compat.sh", lib, f"{folder}/{it}"), (0, ""))
+    file = pathlib.Path(folder, "compat/libargon2.so.1")
+    checks.that("libargon2.so.1, built twice", file.read_bytes() == pathlib.Path(folder, "again", file.name).read_bytes(), True)
+    binaries.names_in(checks, ["nm", "-D", "--defined-only", str(file)], NAMES)
+    checks.that("libargon2.so.1: soname", re.findall(r"\(SONAME\).*\[(.*)\]", said("readelf", "-d", str(file))), [file.name])
+    checks.that("libargon2.so.1: nothing of this machine", "Build ID" in said("readelf", "-nW", str(file)), False)
+    binaries.hardened(checks, "libargon2.so.1", file, False)
+    binaries.level(checks, "libargon2.so.1", file, False)
+    return file
+
+
+def header(checks, folder):
+    """Types, numbers and functions of argon2.h are those of Debian's."""
+    text = HEADER.read_text(encoding="utf-8")
+    declared = text[text.index("\nint argon2_ctx("):text.index("\n#ifdef __cplusplus\n}")]
+    words = (["gcc", "-std=c99"], *([["g++", "-x", "c++"]] if is_there("g++", "argon2.h is not compiled as C++", 1) else []))
+    for word in words:
+        checks.that(f"argon2.h under {word[0]}", ran(*word, "-Wall", "-Wextra", "-pedantic", "-Werror", "-fsyntax-only", HEADER), (0, ""))
+    debians = pathlib.Path("/usr/include/argon2.h")
+    if not debians.exists():
+        left_out("libargon2-dev is not installed", "its argon2.h is not compared", 3)
+        return
+    found = {}
+    for name, file in (("ours", HEADER), ("Debian's", debians)):
+        shutil.copy(file, f"{folder}/argon2.h")
+        plain = re.sub(r"/\*.*?\*/", "", file.read_text(encoding="utf-8"), flags=re.DOTALL)
+        numbers = {*re.findall(r"\b(?:ARGON2_[A-Z]\w+|Argon2_(?:d|i|id)\b)", plain)} - NO_NUMBERS
+        lines = [f'printf("{it} %lld\\n", (long long)({it}));' for it in sorted(numbers)]
+        lines += [f'printf("{it} %zu %zu\\n", offsetof(argon2_context, {it}), sizeof of.{it});' for it, _ in Context._fields_]
+        lines += [f'printf("{it} %zu\\n", sizeof({it}));' for it in ("argon2_context", "argon2_type")]
+        compiled("#include <limits.h>\n#include <stddef.h>\n#include <stdio.h>\n#include <argon2.h>\n"
+                 f"int main(void) {{ argon2_context of; {' '.join(lines)} }}", f"{folder}/numbers", "-I", folder)
+        found[name] = set(said(f"{folder}/numbers").splitlines())
+    checks.that("numbers and sizes of argon2.h", found["ours"], found["Debian's"])
+    both = f"#include <stddef.h>\n#include <argon2.h>\n{declared}"
+    made = subprocess.run(["gcc", "-I", folder, "-x", "c", "-fsyntax-only", "-"], input=both, text=True, capture_output=True)
+    checks.that("functions of argon2.h beside Debian's", (made.returncode, made.stderr), (0, ""))
+    sizes = [*(f"{name} {getattr(Context, name).offset} {getattr(Context, name).size}" for name, _ in Context._fields_),
+             f"argon2_context {ctypes.sizeof(Context)}"]
+    checks.that("the context of this test", [it for it in sizes if it not in found["ours"]], [])
+
+
+# What is called with random arguments, and what is left in each buffer.
+ROOM = 8000
+
+
+def hashed_in(library, it, which):
+    """The answer of a context, its lengths, and its buffers after the call."""
+    buffers = {name: ctypes.create_string_buffer(it[name], max(1, len(it[name]))) for name in ("pwd", "salt", "secret", "ad")}
+    buffers["out"] = ctypes.create_string_buffer(b"\xa5" * ROOM, ROOM)
+    asked = []
+
+    def give(to, size):
+        asked.append(ctypes.create_string_buffer(size))
+        to[0] = ctypes.addressof(asked[-1])
+        return 0
+
+    of = Context(**{name: ctypes.addressof(buffers[name]) for name in buffers if name != it["null"]},
+                 **{f"{name}len": len(it[name]) for name in buffers if name != "out"}, outlen=it["tag_len"],
+                 t_cost=it["passes"], m_cost=it["kib"], lanes=it["lanes"], threads=it["threads"], version=it["version"],
+                 flags=it["flags"])
+    if "give" in it["callbacks"]:
+        of.allocate_cbk = GIVE(give)
+    if "take" in it["callbacks"]:
+        of.free_cbk = TAKE(lambda at, size: None)
+    if which == "verify":
+        answer = library.argon2_verify_ctx(ctypes.byref(of), it["tag"], it["kind"])
+    elif it["kind"] < 3 and it["by_name"]:
+        answer = getattr(library, f"{KINDS[it['kind']]}_ctx")(ctypes.byref(of))
+    else:
+        answer = library.argon2_ctx(ctypes.byref(of), it["kind"])
+    lengths = [getattr(of, f"{name}len") for name in buffers]
+    return answer, lengths, [it.raw for it in buffers.values()]
+
+
+def encoded_by(library, it):
+    """The answer of argon2_hash, or of a function of the type, and its buffers after the call."""
+    tag, text = (ctypes.create_string_buffer(b"\xa5" * ROOM, ROOM) for _ in range(2))
+    size = ctypes.c_size_t
+    given = [ctypes.c_uint32(it[name]) for name in ("passes", "kib", "lanes")]
+    given += [None if it["null"] == "pwd" else it["pwd"], size(len(it["pwd"])), None if it["null"] == "salt" else it["salt"], size(len(it["salt"]))]
+    wanted = it["wanted"]
+    if it["kind"] < 3 and it["version"] == 0x13 and it["by_name"] and wanted != "both":
+        last = [tag, size(it["tag_len"])] if wanted == "tag" else [size(it["tag_len"]), text, size(it["room"])]
+        name = "hash_raw" if wanted == "tag" else "hash_encoded"
+        answer = getattr(library, f"{KINDS[it['kind']]}_{name}")(*given, *last)
+    else:
+        answer = library.argon2_hash(*given, None if wanted == "text" else tag, size(it["tag_len"]), None if wanted == "tag" else text,
+                                     size(it["room"]), it["kind"], ctypes.c_uint32(it["version"]))
+    return answer, [], [tag.raw, text.raw]
+
+
+def some_call(of, library):
+    """Arguments of a random call, most of them in range."""
+    def number(usual, *others):
+        return of.choice(others) if of.random() < 0.05 else usual
+
+    def some(length):
+        return of.randbytes(length)
+
+    lanes = number(of.randint(1, 4), 0, 200, 0x1000000, 0xffffffff)
+    it = {
+        "passes": number(of.randint(1, 3), 0, 5), "lanes": lanes, "kib": number(8 * min(lanes, 300) + of.randrange(60), 0, 1, 7, 8, 15, 16),
+        "version": number(of.choice((0x10, 0x13, 0x13)), 0, 0x11, 0x12, 0x14), "threads": number(lanes, 0, 1, 2, 0x1000000),
+        "kind": number(of.randrange(3), 3, 7), "tag_len": number(of.randint(4, 104), 0, 3, 4096, 4097, 5000),
+        "pwd": some(number(of.randrange(200), 0, 1, 5000)), "salt": some(number(of.randint(8, 108), 0, 7, 255, 256, 300)),
+        "secret": some(of.choice((0, of.randrange(60)))), "ad": some(of.choice((0, of.randrange(60)))),
+        "null": number(None, "out", "pwd", "salt", "secret", "ad"), "callbacks": number((), ("give", "take"), ("give",), ("take",)),
+        "flags": of.choice((0, 0, 1, 2, 3)), "by_name": of.random() < 0.5, "wanted": of.choice(("tag", "text", "both")),
+    }
+    exact = library.argon2_encodedlen(*(ctypes.c_uint32(it[name]) for name in ("passes", "kib", "lanes")),
+                                      ctypes.c_uint32(len(it["salt"])), ctypes.c_uint32(it["tag_len"]), min(it["kind"], 2))
+    it["room"] = max(0, min(ROOM, of.choice((ROOM, exact, number(exact, exact - 1, 20, 0)))))
+    return it
+
+
+def listed_of(it, is_context):
+    """The answers by which a call is refused that Debian's library does not refuse."""
+    return {
+        *([OUTPUT_TOO_LONG] if it["tag_len"] > 4096 else []), *([SALT_TOO_LONG] if len(it["salt"]) > 255 else []),
+        *([INCORRECT_PARAMETER] if it["version"] not in (0x10, 0x13) else []),
+        *([MEMORY_ALLOCATION_ERROR] if is_context and it["callbacks"] == ("give", "take") else []),
+    }
+
+
+def changed(of, text):
+    """A text, mostly changed in some way."""
+    at = of.randrange(len(text))
+    way = of.randrange(8)
+    if way == 0:
+        return text[:at] + bytes([of.randrange(1, 256)]) + text[at + 1:]
+    if way == 1:
+        return text[:at]
+    if way == 2:
+        return text[:at] + of.choice(b"$A=+0,1").to_bytes(1, "little") + text[at:]
+    if way == 3:
+        return text + of.choice((b"A", b"$", b"=", b" "))
+    if way == 4:
+        return re.sub(rb"\$v=\d+", of.choice((b"", b"$v=16", b"$v=19", b"$v=18")), text)
+    if way == 5:
+        return re.sub(of.choice((rb"m=\d+", rb"t=\d+", rb"p=\d+")), lambda it: it[0][:2] + of.choice((b"0", b"7", b"4294967296", b"01")), text)
+    return text
+
+
+def is_small(text):
+    """Whether a hash of this text, if it is one, is soon made."""
+    numbers = [int(it) for it in re.findall(rb"[mt]=(\d+)", text)]
+    return all(it < 2000 or it > 0xffffffff for it in numbers)
+
+
+def out_of_range(text):
+    """Whether a text is one of a hash, but for the range of some value."""
+    found = re.fullmatch(rb"\$argon2(?:d|i|id)(?:\$v=(\d+))?\$m=(\d+),t=(\d+),p=(\d+)\$([A-Za-z0-9+/]*)\$([A-Za-z0-9+/]*)", text)
+    if not found:
+        return False
+    version, kib, passes, lanes = (int(it) if it else 16 for it in found.groups()[:4])
+    salt, tag = (len(it) * 3 // 4 for it in found.groups()[4:])
+    return not (version in (16, 19) and 8 * lanes <= kib < 1 << 32 and 1 <= passes < 1 << 32 and 1 <= lanes < 1 << 24
+                and 8 <= salt <= 255 and 4 <= tag <= 4096)
+
+
+def beside_debians(checks, file):
+    """Random calls, of which each ends as over Debian's library, or in one of the ways that the page lists."""
+    if not DEBIANS.exists():
+        left_out("libargon2-1 is not installed", "no calls are made beside it", CALLS)
+        return
+    ours, theirs, of = loaded(file), loaded(DEBIANS), random.Random(1)
+    wrong, seen = [], dict.fromkeys(("worked", "refused", "listed", "no room", "text"), 0)
+
+    def compare(name, it, listed, ours_said, theirs_said, refused):
+        answer, theirs_answer = ours_said[0], theirs_said[0]
+        if listed and theirs_answer in (OK, VERIFY_MISMATCH, ENCODING_FAIL):
+            seen["listed"] += 1
+            same = answer in listed and ours_said[1:] == refused
+        elif answer in (OK, VERIFY_MISMATCH):
+            seen["worked"] += 1
+            same = not listed and ours_said == theirs_said
+        else:
+            seen["no room" if answer == ENCODING_FAIL else "refused"] += 1
+            same = answer == theirs_answer and ours_said[1:] == refused
+        if not same:
+            wrong.append((name, answer, theirs_answer, it))
+
+    for code in range(-40, 4):
+        known = [it.argon2_error_message(code) != it.argon2_error_message(1) for it in (ours, theirs)]
+        checks.that(f"a sentence of {code}", known[0], known[1])
+    for kind in range(-1, 5):
+        for case in range(3):
+            checks.that(f"the name of {kind}, {case}", *(it.argon2_type2string(kind, case) for it in (ours, theirs)))
+    for _ in range(CALLS):
+        it, which = some_call(of, theirs), of.choice(("hash", "verify", "text", "text"))
+        before = [[len(it["pwd"]), len(it["salt"]), len(it["secret"]), len(it["ad"]), it["tag_len"]],
+                  [it[name] or b"\0" for name in ("pwd", "salt", "secret", "ad")] + [b"\xa5" * ROOM]]
+        if which == "text":
+            if it["kind"] < 3:
+                lengths = [each.argon2_encodedlen(*(ctypes.c_uint32(it[name]) for name in ("passes", "kib", "lanes")), len(it["salt"]),
+                                                  it["tag_len"], it["kind"]) for each in (ours, theirs)]
+                wrong += [("encodedlen", *lengths, it)] if lengths[0] != lengths[1] else []
+            both = [encoded_by(each, it) for each in (ours, theirs)]
+            compare("argon2_hash", it, listed_of(it, False), *both, ([], [b"\xa5" * ROOM] * 2))
+            text = both[0][2][1].split(b"\0")[0]
+            if both[0][0] == OK and text[:1] == b"$":
+                text, password = changed(of, text), of.choice((it["pwd"], it["pwd"], b"x" + it["pwd"]))
+                kind = of.choice((it["kind"],) * 5 + (0, 1, 2, 3))
+                if is_small(text):
+                    told = [each.argon2_verify(text, password, ctypes.c_size_t(len(password)), kind) for each in (ours, theirs)]
+                    is_read = told[1] in (OK, VERIFY_MISMATCH)
+                    if told[0] == DECODING_FAIL != told[1] and (not is_read or out_of_range(text) or not text.isascii()):
+                        seen["text"] += 1
+                    elif told[0] != told[1]:
+                        wrong.append(("argon2_verify", *told, text))
+        else:
+            if which == "verify":
+                it["tag"] = hashed_in(theirs, {**it, "flags": 0}, "hash")[2][-1][:ROOM]
+                at = of.randrange(max(1, min(it["tag_len"], 4096)))
+                it["tag"] = it["tag"] if of.random() < 0.5 else it["tag"][:at] + bytes([it["tag"][at] ^ 4]) + it["tag"][at + 1:]
+            both = [hashed_in(each, it, which) for each in (ours, theirs)]
+            compare(f"argon2_ctx to {which}", it, listed_of(it, True), *both, tuple(before))
+    checks.that("calls beside Debian's library", wrong[:3], [])
+    checks.that("kinds of answers that were seen", [name for name, count in seen.items() if count < 20], [])
+    print(f"{CALLS} calls beside Debian's library: {seen}")
+
+
+# Refuses each request for memory in turn: the answer must be MEMORY_ALLOCATION_ERROR, with nothing written and all freed.
+REFUSED = """#include <argon2.h>
+#include <stdio.h>
+#include <stdlib.h>
+#include <string.h>
+extern void *__libc_malloc(size_t), *__libc_realloc(void *, size_t), *__libc_memalign(size_t, size_t), __libc_free(void *);
+static long granted = -1, live;
+static int refuses(void) { return granted == 0 || (granted > 0 && granted-- == 0); }
+static void *counted(void *it) { live += it != NULL; return it; }
+void *malloc(size_t size) { return refuses() ? NULL : counted(__libc_malloc(size)); }
+void *calloc(size_t count, size_t size) { void *it = malloc(count * size); return it ? memset(it, 0, count * size) : it; }
+void *aligned_alloc(size_t to, size_t size) { return refuses() ? NULL : counted(__libc_memalign(to, size)); }
+void *realloc(void *it, size_t size) { return refuses() ? NULL : it ? __libc_realloc(it, size) : counted(__libc_malloc(size)); }
+void free(void *it) { live -= it != NULL; __libc_free(it); }
+static uint8_t password[] = "password", secret[] = "secret", tag[32];
+static char text[200];
+static argon2_context of;
+static int called(int which)
+{
+    of = (argon2_context){.out = tag, .outlen = 32, .pwd = password, .pwdlen = 8, .salt = (uint8_t *)"somesalt", .saltlen = 8,
+        .secret = secret, .secretlen = 6, .t_cost = 1, .m_cost = 4096, .lanes = 2, .threads = 2, .version = 0x13, .flags = 3};
+    memcpy(password, "password", 8);
+    memcpy(secret, "secret", 6);
+    memset(tag, 7, 32);
+    switch (which) {
+    case 0: return argon2_ctx(&of, Argon2_id);
+    case 1: return argon2_hash(1, 4096, 2, "password", 8, "somesalt", 8, tag, 32, text, 200, Argon2_id, 0x13);
+    case 2: return argon2id_hash_raw(1, 4096, 2, "password", 8, "somesalt", 8, tag, 32);
+    default: return argon2id_verify("TEXT", "correct horse", 13);
+    }
+}
+int main(void)
+{
+    for (int which = 0; which < 4; which += 1)
+        for (long refused = 0, answer = 1; answer != ARGON2_OK; refused += 1) {
+            memset(text, 7, 200);
+            granted = refused;
+            live = 0;
+            answer = called(which);
+            granted = -1;
+            int wrote = text[0] != 7 || tag[0] != 7 || memcmp(password, "password", 8) != 0 || of.pwdlen != 8 || of.secretlen != 6;
+            if (live != 0 || refused > 50 || (answer != ARGON2_OK && (answer != ARGON2_MEMORY_ALLOCATION_ERROR || wrote))) {
+                printf("%d, request %ld: %ld, %ld blocks, %d\\n", which, refused, answer, live, wrote);
+                return 1;
+            }
+            if (answer == ARGON2_OK && refused == 0) {
+                printf("%d asked for no memory\\n", which);
+                return 1;
+            }
+        }
+    return 0;
+}
+"""
+
+
+# Looks for a tag, which the caller keeps turned round, in the stack below its own frame after each kind of call.
+LEFT = """#include <argon2.h>
+#include <stdio.h>
+#include <string.h>
+static uint8_t turned[32], tag[32];
+static char text[200];
+static __attribute__((noinline)) int called(int which)
+{
+    return which ? argon2id_hash_raw(1, 64, 1, "pw", 2, "somesalt", 8, tag, 32) : argon2id_hash_encoded(1, 64, 1, "pw", 2, "somesalt", 8, 32, text, 200);
+}
+static __attribute__((noinline)) int is_left(void)
+{
+    volatile uint8_t here[60000];
+    for (size_t at = 0; at + 32 < sizeof here; at += 1) {
+        int same = 0;
+        while (same < 16 && here[at + same] == (uint8_t)~turned[same])
+            same += 1;
+        if (same == 16)
+            return 1;
+    }
+    return 0;
+}
+int main(void)
+{
+    if (called(1) != ARGON2_OK)
+        return 1;
+    for (int at = 0; at < 32; at += 1)
+        turned[at] = (uint8_t)~tag[at];
+    for (int which = 0; which < 2; which += 1)
+        if (called(which) != ARGON2_OK || is_left())
+            return 2 + which;
+    return 0;
+}
+"""
+
+
+def nothing_left(checks, folder, file):
+    source, program = pathlib.Path(folder, "left.c"), f"{folder}/left"
+    source.write_text(LEFT, encoding="utf-8")
+    made = ran("gcc", "-std=gnu99", "-O0", "-w", "-I", HEADER.parent, source, file, f"-Wl,-rpath,{file.parent},-z,now", "-o", program)
+    checks.that("what is left on the stack, compiled", made, (0, ""))
+    checks.that("a tag on the stack after a call", ran(program), (0, ""))
+
+
+def memory_refused(checks, folder, file):
+    source, program = pathlib.Path(folder, "refused.c"), f"{folder}/refused"
+    source.write_text(REFUSED.replace("TEXT", STORED[0]), encoding="utf-8")
+    made = ran("gcc", "-std=gnu99", "-O1", "-Wall", "-I", HEADER.parent, source, file, f"-Wl,-rpath,{file.parent}", "-o", program)
+    checks.that("requests are refused, compiled", made, (0, ""))
+    checks.that("each request for memory refused in turn", ran(program), (0, ""))
+
+
+def answers(checks, file):
+    """What the interface promises beyond the calls beside Debian's: flags clear what they name, and an output may lie over an input."""
+    library = loaded(file)
+    # RFC 9106, 5.3
+    it = {"passes": 3, "kib": 32, "lanes": 4, "threads": 4, "version": 0x13, "kind": 2, "tag_len": 32, "pwd": b"\1" * 32, "salt": b"\2" * 16,
+          "secret": b"\3" * 8, "ad": b"\4" * 12, "null": None, "callbacks": (), "flags": 0, "by_name": False}
+    expected = bytes.fromhex("0d640df58d78766c08c037a34a8b53c9d01ef0452d75b65eb52520e96b01e659")
+    for flags, password, secret in ((0, 32, 8), (1, 0, 8), (2, 32, 0), (3, 0, 0)):
+        answer, lengths, (found, _, found_secret, _, tag) = hashed_in(library, {**it, "flags": flags}, "hash")
+        checks.that(f"RFC 9106's Argon2id, flags {flags}", (answer, tag[:32], lengths[0], lengths[2]), (OK, expected, password, secret))
+        kept = found == (it["pwd"] if password else bytes(32)), found_secret == (it["secret"] if secret else bytes(8))
+        checks.that(f"password and secret after flags {flags}", kept, (True, True))
+    for lanes, expected_answer in ((1, OK), (2, OK), (0, -14 if it["kib"] < 8 else -16)):
+        tag = ctypes.create_string_buffer(32)
+        answer = library.argon2id_hash_raw(1, 64, lanes, b"pw", ctypes.c_size_t(2), b"somesalt", ctypes.c_size_t(8), tag, ctypes.c_size_t(32))
+        checks.that(f"{lanes} lanes", (answer, tag.raw != bytes(32)), (expected_answer, expected_answer == OK))
+    over, apart = (ctypes.create_string_buffer(b"the password, over which the tag is written", 64) for _ in range(2))
+    tag = ctypes.create_string_buffer(64)
+    for to in (tag, over):
+        found = library.argon2id_hash_raw(1, 64, 1, over if to is over else apart, ctypes.c_size_t(43), b"somesalt", ctypes.c_size_t(8), to, ctypes.c_size_t(64))
+        checks.that("a tag over its password, and beside it", found, OK)
+    checks.that("a tag over its password", over.raw, tag.raw)
+
+
+def with_library(file):
+    """The environment in which programs find this library of Argon2, or Debian's."""
+    return {**os.environ, **({"LD_LIBRARY_PATH": str(file.parent)} if file else {})}
+
+
+PHP = """$told = isset($argv[1]) ? file_get_contents($argv[1]) : password_hash("secret", PASSWORD_ARGON2ID, ["memory_cost" => 1024, "time_cost" => 2, "threads" => 2]);
+$is_ours = str_contains(file_get_contents("/proc/self/maps"), getenv("OURS"));
+echo json_encode([password_verify("secret", $told), password_verify("no", $told), $is_ours]), $told;"""
+PYTHON = """import argon2, json, os, sys
+hasher = argon2.PasswordHasher(memory_cost=1024, time_cost=2)
+text = open(sys.argv[1]).read() if len(sys.argv) > 1 else hasher.hash("secret")
+def is_right(password):
+    try:
+        return hasher.verify(text, password)
+    except argon2.exceptions.VerifyMismatchError:
+        return False
+print(json.dumps([is_right("secret"), is_right("no"), os.environ["OURS"] in open("/proc/self/maps").read()], separators=(",", ":")), end=text)"""
+
+
+def of_passwords(checks, folder, file, name, *words):
+    """A program makes a hash over each library, and verifies what it made over the other."""
+    for maker, other in ((file, None), (None, file)):
+        made, status = ran(*words, env={**with_library(maker), "OURS": str(file)})[::-1]
+        expected = f"[true,false,{'true' if maker else 'false'}]"
+        checks.that(f"{name}, {'ours' if maker else 'Debian'}", (status, made.partition("$")[0]), (0, expected))
+        text = pathlib.Path(folder, "text")
+        text.write_text("".join(made.partition("$")[1:]), encoding="utf-8")
+        found = ran(*words, text, env={**with_library(other), "OURS": str(file)})
+        checks.that(f"{name}, of the other", (found[0], found[1].partition("$")[0]), (0, f"[true,false,{'true' if other else 'false'}]"))
+
+
+def volumes(checks, folder, file):
+    """cryptsetup makes a volume in a file over each library, and opens it over the other."""
+    if not is_there("cryptsetup", "no volume is made", 8):
+        return
+    key, wrong = pathlib.Path(folder, "key"), pathlib.Path(folder, "wrong")
+    key.write_bytes(b"passphrase")
+    wrong.write_bytes(b"other")
+    for maker, other in ((file, None), (None, file)):
+        volume = f"{folder}/volume-{'ours' if maker else 'Debian'}"
+        pathlib.Path(volume).write_bytes(b"")
+        os.truncate(volume, 24 << 20)
+        made = ran("cryptsetup", "luksFormat", "--batch-mode", "--type", "luks2", "--pbkdf", "argon2id", "--pbkdf-memory", "1024", "--pbkdf-parallel",
+                   "2", "--pbkdf-force-iterations", "4", "--key-file", key, volume, env=with_library(maker))
+        if made[0] != 0 and maker is file and "ice" in made[1]:
+            left_out(f"cryptsetup makes no volume here ({made[1].strip()[:60]})", "none is opened", 8)
+            return
+        checks.that(f"cryptsetup luksFormat: {volume[-6:]}", made, (0, ""))
+        for which in (maker, other):
+            for word, expected in ((key, 0), (wrong, 2)):
+                status, _ = ran("cryptsetup", "open", "--test-passphrase", "--key-file", word, volume, env=with_library(which))
+                checks.that(f"cryptsetup opens {volume[-6:]}, {'ours' if which else 'Debian'}, {word.name}", status, expected)
+
+
+def safes(checks, folder, file):
+    """keepassxc-cli makes a file of passwords over each library, and opens it over the other."""
+    if not is_there("keepassxc-cli", "no file of passwords is made", 6):
+        return
+    at_home = {"HOME": folder, "QT_QPA_PLATFORM": "offscreen", "LC_ALL": "C.UTF-8"}
+
+    def command(given, which, *words):
+        done = subprocess.run(["keepassxc-cli", *words], input=given, capture_output=True, env={**with_library(which), **at_home}, text=True)
+        return done.returncode
+
+    for maker, other in ((file, None), (None, file)):
+        safe = f"{folder}/{'ours' if maker else 'Debian'}.kdbx"
+        checks.that(f"keepassxc-cli makes {safe}", command("pw\npw\n", maker, "db-create", "-q", "-p", "-t", "100", safe), 0)
+        for password, expected in (("pw", 0), ("no", 1)):
+            checks.that(f"keepassxc-cli opens that of the other, {password}", command(f"{password}\n", other, "ls", "-q", safe), expected)
+
+
+def programs(checks, folder, file):
+    """Programs of Debian, over Debian's library and this one."""
+    if not DEBIANS.exists():
+        left_out("libargon2-1 is not installed", "no program runs over both libraries")
+        return
+    if is_there("php", "no hash is made by it", 4):
+        of_passwords(checks, folder, file, "php", "php", "-n", "-r", PHP, "--")
+    if ran("/usr/bin/python3", "-c", "import argon2")[0] == 0:
+        of_passwords(checks, folder, file, "python3-argon2", "/usr/bin/python3", "-c", PYTHON)
+    else:
+        left_out("python3-argon2 is not installed", "no hash is made by it", 4)
+    volumes(checks, folder, file)
+    safes(checks, folder, file)
+
+
+def all_of(checks, folder, lib):
+    file = built(checks, folder, lib)
+    header(checks, folder)
+    answers(checks, file)
+    memory_refused(checks, folder, file)
+    nothing_left(checks, folder, file)
+    openssl_of(checks, folder, file.parent)
+    programs(checks, folder, file)
+    beside_debians(checks, file)
+
+
+if __name__ == "__main__":
+    over_library(all_of)
