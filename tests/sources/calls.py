@@ -9,8 +9,9 @@ system      only system_calls comes to a function of C, but to those that take a
             a table or a pointer to a function
 counter     on no way through a function are two counters made; what does the work that they count is reached only
             through what ticks, which does so in one place, in no loop
-begins      on no way is a hash or a derivation, whose first steps are not counted, begun twice
-bytes       no branch, and no yes or no, depends on a byte that is loaded or given, nor does what the toolchain compares
+begins      on no way is a hash or a derivation, whose first steps are not counted, begun twice, nor H0 or first columns made twice
+bytes       no branch, and no yes or no, depends on a byte that is loaded or given, nor does what the toolchain compares; the row
+            of what may branch so tells of a loop
 makes       no refusal for want of memory is made, but of one that the heap gave
 raw         nothing is dropped by code of ours, forgotten, leaked or made of a pointer, nor a block kept by a stream
 stack       no function calls itself, and all values of the functions that are at work at once have less than 72 KiB
@@ -46,7 +47,9 @@ SPARE = re.compile(r"reserve|with_capacity|grow")  # takes more than it holds
 HEAP = "std_heap::Global"
 SYSTEM = "system_calls::"
 COUNTS = frozenset({"counter::Count::new"})
-BEGINS = frozenset({"argon::matrix::Matrix::start", "encfile::enc::Enc::start", "encfile::dec::Dec::open"})
+BEGINS = [frozenset(it) for it in (
+    ["argon::matrix::Matrix::start", "encfile::enc::Enc::start", "encfile::dec::Dec::open"],
+    ["argon::first_columns::first_hash"], ["argon::first_columns::fill_first_two_columns"])]
 MIXES = re.compile(r"Wrap(Add|Mul)")  # of the work that is counted
 COMPARES = re.compile(r"\W*(Eq|Ne|Lt|Le)")
 SHOWS = re.compile(r"(Debug|Display)::fmt$|PartialEq::eq$")  # derived, of values that are no bytes
@@ -171,12 +174,13 @@ class Rules:
         return self.code.most(name, wanted) > 1 and all(self.code.most(it, wanted) < 2 for it in self.called(name))
 
     def begins(self, name, function, reached):
-        if self.first(name, BEGINS):
+        if any(self.first(name, it) for it in BEGINS):
             self.wrong.append(f"begins\t{name}\tbegins a hash or a derivation twice")
 
     def bytes(self, name, function, reached):
         if not SHOWS.search(name):
             by = [it for it in by_bytes(function, self.returning) if it in ("branches", "answers")]
+            by += ["a loop"] * ("branches" in by and "Loop" in function["body"])
             self.except_("bytes", name, *by, *["compares"] * any(compares_bytes(self.code, it) for it in self.code.passed(name)))
 
     def makes(self, name, function, reached):

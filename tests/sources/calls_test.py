@@ -85,12 +85,14 @@ def by_words_in_an_array(function):
           assign(answer, {"Op2": [{"Lt": "Unsigned"}, copied(words, {"Index": number(0)}), number(9)]}), branch(copied(answer)))(function)
 
 
-def time_of_a_byte(function):
-    """A loop over a range to a byte that is loaded."""
-    span = new(function, {"Named": [{"name": "core::ops::Range", "lifetimes": []}, [WORD]]})
-    lent, more = new(function, "Ptr"), new(function, "Bool")
-    first(assign(span, {"Aggregate": [number(0), copied(1, {"Deref": BYTE})]}), assign(lent, {"AddrOf": place(span)}),
-          call("core::slice::slice+T::first", copied(lent), to=more), branch(copied(more)))(function)
+def time_of_a_byte(*steps):
+    """A loop over a range to a byte: to that to which these steps lead from what is given."""
+    def put(function):
+        span = new(function, {"Named": [{"name": "core::ops::Range", "lifetimes": []}, [WORD]]})
+        lent, more = new(function, "Ptr"), new(function, "Bool")
+        first(assign(span, {"Aggregate": [number(0), copied(1, *steps)]}), assign(lent, {"AddrOf": place(span)}),
+              ["Block", "Loop", call("core::slice::slice+T::first", copied(lent), to=more)], branch(copied(more)))(function)
+    return put
 
 
 def want_of_memory(kind):
@@ -117,10 +119,13 @@ TRIALS = [
     ("counter", "romix::salsa20::core_by_diagonals", first(call("romix::ticks::Ticks::tick"))),
     ("begins", "argon_text::verify_password::write_tag", first(call("argon::matrix::Matrix::start"))),
     ("begins", "scrypt_run::encrypt::start", first(["Loop", call("encfile::enc::Enc::start")])),
+    ("begins", "argon::matrix::Matrix::start", first(call("argon::first_columns::first_hash"))),
+    ("begins", "argon::matrix::Matrix::start", first(call("argon::first_columns::fill_first_two_columns"))),
     ("bytes", "argon_text::verify_password::verify_keyed", BRANCH),  # a comparison that stops at a byte
     ("bytes", "argon_text::verify_password::verify_keyed", by_words_in_an_array),
     ("bytes", "tools::run::Run::push", BRANCH),  # a fault that was not
-    ("bytes", "scrypt_run::passphrase::read_passphrase", time_of_a_byte),
+    ("bytes", "scrypt_run::passphrase::read_passphrase", time_of_a_byte({"Deref": BYTE})),
+    ("bytes", "host::reading::is_line_end", time_of_a_byte()),  # which may branch by it
     ("makes", "argon_text::read::read_encoded_with_memory", want_of_memory("argon_text::fault::ReadFault")),
     ("makes", "scrypt_run::encrypt::start", want_of_memory("scrypt_request::refusal::ScryptRefusal")),
     ("raw", "encfile::enc::Enc::finish", first(call("core::mem::forget", by=[impl("argon::Destruct++none")]))),
