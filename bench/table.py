@@ -1,15 +1,15 @@
 #!/usr/bin/env python3
 """Times the built programs beside the argon2 and scrypt that are installed, and libsodium and OpenSSL, in one table.
 
-    bench/table.py FOLDER.. [--rounds 5] [--only WORD] [--out PATH]
+    bench/table.py FOLDER.. [--rounds 5] [--out PATH]
 
 Each FOLDER, as bin/x86-64-v2, has argon2 and scrypt, built for the level of its name. In each round every program does
 the row's work once, in turn; the least of all rounds counts, so that what else the machine does hits all alike. Time is
 user and system time of the process, and elapsed time. Memory is the greatest resident set, of a further run under GNU
 time where that is there. A ratio is to the installed program, and below 1 where ours takes less. Hashes and decrypted
 files are compared. Over libsodium and OpenSSL, where they are installed, a program is compiled (bench/library.c), and a
-line says which instructions they use. --out PATH writes the table to PATH.tsv, too, as tab-separated values, and draws
-a whole one as PATH.svg (bench/ratios.py).
+line says which instructions they use. --out PATH writes the table to PATH.tsv, too, as tab-separated values, and draws it
+as PATH.svg (bench/ratios.py).
 """
 import collections
 import ctypes.util
@@ -126,10 +126,9 @@ def values(row, level, best, rounds):
 
 def main():
     reader = asked(__doc__, 5)
-    reader.add_argument("--only", default="")
     reader.add_argument("--out")
     given = reader.parse_args()
-    rows = [row for row in (*argon2_rows(), *scrypt_rows(), *library_rows()) if given.only in f"{row.work} {row.size}"]
+    rows = [*argon2_rows(), *scrypt_rows(), *library_rows()]
     levels = {it.name: it for it in given.folders}
     processor = pathlib.Path("/proc/cpuinfo").read_text(encoding="utf-8")
     model = re.search(r"(?m)^model name\s*: (.*)", processor)
@@ -155,8 +154,7 @@ def main():
     if given.out:
         text = f"# {title}\n" + "".join("\t".join(line) + "\n" for line in [COLUMNS, *lines])
         pathlib.Path(f"{given.out}.tsv").write_text(text, encoding="utf-8")
-        if not given.only:
-            pathlib.Path(f"{given.out}.svg").write_text(ratios.drawn(f"{given.out}.tsv"), encoding="utf-8")
+        pathlib.Path(f"{given.out}.svg").write_text(ratios.drawn(f"{given.out}.tsv"), encoding="utf-8")
 
 
 main()
