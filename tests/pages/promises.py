@@ -32,8 +32,8 @@ def records(crate):
 
 def functions(crate):
     """The clauses of each function of a crate, by its name, after that of its type or trait; and its types. A clause that
-    cites a record has its fields, as `first.memory`; the only one that a function ensures or requires is there behind that
-    word, too. Where functions of several modules have one name, each is told by its path."""
+    cites a record has its fields, as `first.memory`; the only one that a function ensures or requires is there as
+    `ensures.key`, too. Where functions of several modules have one name, each is told by its path."""
     found, free, fields = {}, {}, records(crate)
     for it in contracts.without_tests(crate):
         if it.what in ("impl", "trait", "struct"):
@@ -46,7 +46,7 @@ def functions(crate):
                 cited = (field for word in re.findall(r"\w+", said) for field in fields.get(word, ()))
                 named.update([clause, *(f"{clause}.{field}" for field in cited)])
             said = SAID.findall(it.text)
-            named.update(f"{word} {clause}" for word, clause in said if [other for other, _ in said].count(word) == 1)
+            named.update(f"{word}.{clause}" for word, clause in said if [other for other, _ in said].count(word) == 1)
             if not it.block:
                 free.setdefault(it.name, []).append(name)
     for name, (path, *others) in free.items():
@@ -161,7 +161,7 @@ def unheld():
                 of_it = [goals for (where, kind, method), goals in at.items() if method == last and (
                     FUNCTIONS[where].get(name) is own and owner in ("", kind) or owner and kind != owner and kind.endswith(owner))]
                 for clause in {it.split(".")[0] for it in clauses} & own:
-                    ensured, required = ({clause, ONLY} if f"{word} {clause}" in own else {clause} for word in ("ensures", "requires"))
+                    ensured, required = ({clause, ONLY} if f"{word}.{clause}" in own else {clause} for word in ("ensures", "requires"))
                     is_held = any(ensured & goals for goals in of_it) or any((last, it) in conditions for it in required)
                     if not is_held and f"{crate} {name}" not in alone:
                         yield f"{crate} {name} {clause}"
