@@ -29,7 +29,7 @@ PROGRAMS = [*CHOSEN, *BUILT]
 IN_MEMORY = ["memory_host", "memory_system"]
 OF_PROGRAMS = [it for it in prove.listed() if it not in ("pikhsen_c", "command", *IN_MEMORY) and not it.endswith("_tests")]
 # What is begun where the run of scrypt changed: programs are begun each time.
-SCRYPT = ["scrypt_run", "scrypt_command", *TOOLS.values()]
+SCRYPT = ["scrypt_run", "scrypt_command", "scrypt_program", *TOOLS.values()]
 APART = "command_tests", "test"
 # Says that a crate is proved whose text has not the word "broken", after a minute where it has the word "slow". Like rt
 # it lets no other run work in the crate and in what it stands on, keeps a library, and then says nothing.
@@ -229,11 +229,12 @@ def fails(checks, tree):
     tree.write("tools", "other\n")
     status, said = tree.make("run", f"CPU={LEVEL}")
     checks.that("a failure", (status != 0, tree.there([*older, "bin/level"])), (True, []))
-    checks.that("a failure: begun", tree.begun(), ["argon2_verify_tool", "argon_tool", "scrypt_run", "system_calls", "tools"])
+    checks.that("a failure: begun", tree.begun(), [
+        "argon2_program", "argon2_verify_program", "argon2_verify_tool", "argon_tool", "scrypt_run", "system_calls", "tools"])
     checks.that("a failure: why", "| scrypt_run::there: no proof" in said and "| line 99" in said, True)
     checks.that("a failure: no more than its end", "| line 10" in said, False)
     checks.that("a failure: the log", "scrypt_run FAILED. The end of bin/logs/scrypt_run:" in said, True)
-    left = "Left out, since they stand on it: scrypt_command, scrypt_tool."
+    left = "Left out, since they stand on it: scrypt_command, scrypt_program, scrypt_tool."
     checks.that("a failure: the last line", any(it.startswith(f"Failed: scrypt_run. {left}") for it in said), True)
     status, said = tree.make("install", f"CPU={LEVEL}", f"PREFIX={tree.top}/to")
     checks.that("a failure: nothing is installed", (status != 0, tree.there(["to"])), (True, []))
@@ -267,13 +268,14 @@ def checks_what_changed(checks, tree):
     tree.write("pikhsen_c", "as it was\n")
     tree.older(["crates/command_tests/src/tests/of_scrypt_command.rt"])
     subprocess.run([*git, "init", "-q"], cwd=tree.top, env=tree.environment, check=True)
-    touched = {**dict.fromkeys(["argon_text", "argon2_command", "argon2_verify", "command"], "lib"),
+    programs = ["argon2_program", "argon2_verify_program"]
+    touched = {**dict.fromkeys(["argon_text", "argon2_command", "argon2_verify", "command", *programs], "lib"),
                **dict.fromkeys(["argon_tool", "argon2_verify_tool", "pikhsen_c"], "check")}
     for name, texts, begun, line in (
         ("make check", {"argon_text": "changed", "argon_tool": "changed"}, [
-            *touched.items(), (IN_MEMORY[0], "lib"), ("argon_text_tests", "test")], "7 crates to prove"),
+            *touched.items(), (IN_MEMORY[0], "lib"), ("argon_text_tests", "test")], "9 crates to prove"),
         ("make check, tests apart", {"scrypt_command": "changed"}, [
-            ("command", "lib"), ("scrypt_command", "lib"), APART, ("scrypt_tool", "check")], "3 crates to prove"),
+            ("command", "lib"), ("scrypt_command", "lib"), ("scrypt_program", "lib"), APART, ("scrypt_tool", "check")], "4 crates to prove"),
         ("make check, tests alone", {"command_tests": "changed"}, [APART], "1 to test: command_tests."),
         ("make check fails", {"argon_text": "broken"}, [("argon_text", "lib")], "Failed: argon_text."),
     ):
@@ -285,7 +287,7 @@ def checks_what_changed(checks, tree):
         checks.that(name, (status != 0, any(it.startswith(line) for it in said)), (name == "make check fails", True))
         checks.that(f"{name}: begun", sorted((it[1], it[2][0]) for it in tree.noted("begin")), sorted(begun))
         if name == "make check":
-            checks.that(f"{name}: the lines", len([it for it in said if LINE.fullmatch(it)]), 27)
+            checks.that(f"{name}: the lines", len([it for it in said if LINE.fullmatch(it)]), 29)
 
 
 def main(checks, folder):

@@ -17,7 +17,7 @@ from functions import function_at, text_of
 from pages import TOP
 
 # Clauses that no body breaks which the types let through: the counts come with the system, and nothing else makes any.
-BY_TYPES = {f"{crate} run fails" for crate in ("scrypt_tool", "argon_tool", "argon2_verify_tool")}
+BY_TYPES = {f"{crate} run fails" for crate in ("scrypt_program", "argon2_program", "argon2_verify_program")}
 IN_BACKTICKS = re.compile(r"`([^`]+)`")
 ONLY = "the only one"
 SAID = re.compile(r"(?m)^ +(ensures|requires)\*? (\w+) \{")

@@ -14,7 +14,7 @@ from specs import CRATES, TOP, WORD, File, handed_on, reached
 
 # The calls whose definitions have to be told: of programs, commands, a login, and the functions for C.
 OURS = [
-    "scrypt_tool::run", "argon_tool::run", "command::scrypt", "command::argon2", "scrypt_run::run",
+    "scrypt_program::run", "argon2_program::run", "command::scrypt", "command::argon2", "scrypt_run::run",
     "argon_text::verify",
 ]
 FOR_C = sorted(it for it in contracts.root_of("pikhsen_c")[1] if it.startswith("pikhsen_") and it != "pikhsen_version")

@@ -1,11 +1,10 @@
-//! The program `argon2-verify`: the command over the system.
+//! The program `argon2-verify`: its run over the system.
 #![tactic(auto)]
 
-mod program;
-
+use argon2_verify_program::run;
 use std::process::ExitCode;
 use system_calls::Real;
 
 fn main(rt: HostRuntime) -> ExitCode {
-    ExitCode::from(program::run::<Real>(rt.alloc(), Real::new(rt)).0)
+    ExitCode::from(run::<Real>(rt.alloc(), Real::new(rt)).0)
 }

@@ -1,12 +1,10 @@
-//! The program `scrypt`: the command over the system.
+//! The program `scrypt`: its run over the system.
 #![tactic(auto)]
 
-mod laws;
-mod program;
-
+use scrypt_program::run;
 use std::process::ExitCode;
 use system_calls::Real;
 
 fn main(rt: HostRuntime) -> ExitCode {
-    ExitCode::from(program::run::<Real>(rt.alloc(), Real::new(rt)).0)
+    ExitCode::from(run::<Real>(rt.alloc(), Real::new(rt)).0)
 }

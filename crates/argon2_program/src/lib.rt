@@ -1,0 +1,7 @@
+//! The program `argon2` over any system: the command, with the words of a process.
+#![tactic(auto)]
+
+mod laws;
+mod program;
+
+pub use program::run;

@@ -1,0 +1,39 @@
+//! The program over any system.
+ghost use Rattle.std.specs.Prelude.{◌≡◌, ◌≤◌, IsTrue};
+ghost use Rattle.host.specs.Faults.{no_faults};
+ghost use Rattle.argon2_program.specs.Program.{ProgramRefuses, ProgramSucceeds};
+ghost use Rattle.tools.specs.Failures.{AreFaultsOfSystem};
+ghost use Rattle.tools.specs.SystemState.{IsUnused};
+
+use argon2_command::{Argon2Refusal, argon2};
+use std::alloc::Global;
+use tools::{RunFailureCounts, System, SystemHost, WordsFault, words};
+
+/// `argon2` with the words of a process, over a system of which nothing was used. It gives the status, the
+/// system as the run left it, and how often each kind of call has failed. Nothing else is kept of the system:
+/// what is done to it afterwards is done by the caller.
+///
+/// This is what the program promises: over every system that tells its bytes, they, the line and the
+/// status are what the definitions of `argon2_command` make of the words and of what the system gives.
+pub fn run<S: System>(alloc: Global, system: S) -> (u8, S, RunFailureCounts<S>)
+    requires unused { IsTrue S.tells → IsUnused (S.state system) }
+    ensures status { result.0 ≤ 1 }
+    ensures counts { result.0 ≡ 0 → result.2 ≡ no_faults }
+    ensures succeeds { IsTrue S.tells → result.0 ≡ 0 →
+        ProgramSucceeds (S.words system) (S.state system) (S.state result.1) }
+    ensures refuses { IsTrue S.tells → result.0 ≡ 1 →
+        ProgramRefuses S.tells (S.words system) (S.state system) (S.state result.1) result.2 }
+    ensures fails { IsTrue S.tells → AreFaultsOfSystem result.2 (S.failures result.1) (S.files result.1) }
+{
+    let read = words(&system, alloc);
+    let mut host = SystemHost::new(system);
+    match read {
+        Ok(words) => {
+            let status = argon2(alloc, &words, &mut host);
+            let (system, counts) = host.into_system();
+            (status, system, counts)
+        }
+        Err(WordsFault::NotText) => host.refuse(Argon2Refusal::Usage.line()),
+        Err(WordsFault::OutOfMemory) => host.refuse(Argon2Refusal::OutOfMemory.line()),
+    }
+}

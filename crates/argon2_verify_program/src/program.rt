@@ -1,0 +1,57 @@
+//! The program over any system.
+ghost use Rattle.std.specs.Prelude.{◌≡◌, ◌-◌, ◌≤◌, ◌^◌, IsTrue};
+ghost use Rattle.host.specs.Faults.{AreBelow, no_faults};
+ghost use Rattle.argon2_verify.specs.Refusal.{line_of};
+ghost use Rattle.argon2_verify_program.specs.Program.{ProgramDiffers, ProgramRefuses, ProgramVerifies};
+ghost use Rattle.tools.specs.Failures.{AreFaultsOfHost, AreFaultsOfSystem};
+ghost use Rattle.tools.specs.RunState.{EndsWithLine};
+ghost use Rattle.tools.specs.SystemState.{IsUnused};
+
+use argon2_verify::{VerifyRefusal, argon2_verify};
+use host::Host;
+use std::alloc::Global;
+use tools::{RunFailureCounts, System, SystemHost, WordsFault, words};
+
+/// `argon2-verify` with the words of a process, over a system of which nothing was used. It gives the status, the
+/// system as the run left it, and how often each kind of call has failed. Nothing else is kept of the system:
+/// what is done to it afterwards is done by the caller.
+///
+/// This is what the program promises: over every system that tells its bytes, the status is what the
+/// definitions of `argon2_verify` make of the words and of what the system gives.
+pub fn run<S: System>(alloc: Global, system: S) -> (u8, S, RunFailureCounts<S>)
+    requires unused { IsTrue S.tells → IsUnused (S.state system) }
+    ensures status { result.0 ≤ 2 }
+    ensures counts { result.0 ≤ 1 → result.2 ≡ no_faults }
+    ensures verifies { IsTrue S.tells → result.0 ≡ 0 →
+        ProgramVerifies S.tells (S.words system) (S.state system) (S.state result.1) }
+    ensures differs { IsTrue S.tells → result.0 ≡ 1 →
+        ProgramDiffers S.tells (S.words system) (S.state system) (S.state result.1) }
+    ensures refuses { IsTrue S.tells → result.0 ≡ 2 →
+        ProgramRefuses S.tells (S.words system) (S.state system) (S.state result.1) result.2 }
+    ensures fails { IsTrue S.tells → AreFaultsOfSystem result.2 (S.failures result.1) (S.files result.1) }
+{
+    let read = words(&system, alloc);
+    let mut host = SystemHost::new(system);
+    match read {
+        Ok(words) => {
+            let status = argon2_verify(alloc, &words, &mut host);
+            let (system, counts) = host.into_system();
+            (status, system, counts)
+        }
+        Err(WordsFault::NotText) => refuse(host, VerifyRefusal::Usage),
+        Err(WordsFault::OutOfMemory) => refuse(host, VerifyRefusal::OutOfMemory),
+    }
+}
+
+// The end of a run whose words cannot be read: status 2.
+fn refuse<S: System>(host: SystemHost<S>, refusal: VerifyRefusal) -> (u8, S, RunFailureCounts<S>)
+    requires room { AreBelow (2 ^ 64 - 1) (⟦<SystemHost<S> as Host>⟧.faults host) }
+    ensures status { result.0 ≡ 2 }
+    ensures says { EndsWithLine S.tells (line_of refusal) (⟦<SystemHost<S> as Host>⟧.seen host)
+        (⟦<SystemHost<S> as Host>⟧.faults host) (S.state result.1) result.2 }
+    ensures fails { IsTrue S.tells →
+        AreFaultsOfHost result.2 (S.failures result.1) (S.state result.1) (S.files result.1) }
+{
+    let (_, system, counts) = host.refuse(refusal.line());
+    (2, system, counts)
+}

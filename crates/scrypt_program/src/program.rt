@@ -1,0 +1,42 @@
+//! The program over any system.
+ghost use Rattle.std.specs.Prelude.{◌≡◌, ◌≤◌, IsTrue};
+ghost use Rattle.host.specs.Faults.{no_faults};
+ghost use Rattle.scrypt_program.specs.Program.{ProgramRefuses, ProgramSucceeds};
+ghost use Rattle.tools.specs.Failures.{AreFaultsOfSystem};
+ghost use Rattle.tools.specs.SystemState.{IsUnused};
+
+use scrypt_command::{ScryptRefusal, scrypt};
+use std::alloc::Global;
+use tools::{RunFailureCounts, System, SystemHost, WordsFault, words};
+
+/// `scrypt` with the words of a process, over a system of which nothing was used. It gives the status, the
+/// system as the run left it, and how often each kind of call has failed. Nothing else is kept of the system:
+/// what is done to it afterwards is done by the caller.
+///
+/// This is what the program promises: over every system that tells its bytes, they, the line and the
+/// status are what the definitions of `scrypt_command` make of the words and of what the system gives.
+pub fn run<S: System>(alloc: Global, system: S) -> (u8, S, RunFailureCounts<S>)
+    requires unused { IsTrue S.tells → IsUnused (S.state system) }
+    ensures status { result.0 ≤ 1 }
+    ensures counts { result.0 ≡ 0 → result.2 ≡ no_faults }
+    ensures succeeds { IsTrue S.tells → result.0 ≡ 0 →
+        ProgramSucceeds (S.words system) (S.state system) (S.state result.1) }
+    ensures refuses { IsTrue S.tells → result.0 ≡ 1 →
+        ProgramRefuses S.tells (S.words system) (S.state system) (S.state result.1) result.2 }
+    ensures fails { IsTrue S.tells → AreFaultsOfSystem result.2 (S.failures result.1) (S.files result.1) }
+{
+    let read = words(&system, alloc);
+    let mut host = SystemHost::new(system);
+    match read {
+        Ok(words) => {
+            let status = scrypt(alloc, &words, &mut host);
+            if status == 0 {
+                return host.sync_and_end(ScryptRefusal::OutputFault.line());
+            }
+            let (system, counts) = host.into_system();
+            (status, system, counts)
+        }
+        Err(WordsFault::NotText) => host.refuse(ScryptRefusal::Usage.line()),
+        Err(WordsFault::OutOfMemory) => host.refuse(ScryptRefusal::OutOfMemory.line()),
+    }
+}
