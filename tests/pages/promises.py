@@ -62,7 +62,8 @@ for each, below in CRATES.items():
     for owner, name in contracts.root_of(each)[2] if each in contracts.libraries() else ():
         if name[0].islower() and name in FUNCTIONS[owner]:
             FUNCTIONS[each][name] = FUNCTIONS[owner][name]
-    FUNCTIONS[each.removesuffix("_tests")].update(FUNCTIONS[each])
+    if each.removesuffix("_tests") in CRATES:  # program_tests are of several
+        FUNCTIONS[each.removesuffix("_tests")].update(FUNCTIONS[each])
     FUNCTIONS[each].update({trait: set() for owner, trait in (("host", "Host"), ("tools", "System")) if owner in below})
 
 
