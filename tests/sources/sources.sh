@@ -1,8 +1,8 @@
 #!/bin/sh
 # What a reader of the sources relies on, beside the proofs, and calls.py cannot see in compiled code: proofs by hand are
 # listed in docs/GATE.md; no comment goes over lines; what is unsafe stands in files that are compared whole; and so do all
-# files of the programs, those over any system, too, and of the crate that calls the system, the zeros over the stack, the
-# box of a stream, and the lists that are wiped. (Who has read one again: sha256sum FILE.)
+# files of the programs, of which no compiled code is kept, and of the crate that calls the system, the zeros over the stack,
+# the box of a stream, and the lists that are wiped. (Who has read one again: sha256sum FILE.)
 set -eu
 cd "$(dirname "$0")/../.."
 status=0
@@ -27,7 +27,7 @@ refuse '\bunsafe\b[^(]' "what is unsafe stands where it is not compared whole" \
     "$(sed 's/.*  //' $whole | paste -sd '|')|crates/\w+_tests/"
 
 sha256sum --quiet --strict -c $whole >&2 || fail "a file is not what was read"
-for file in crates/system_calls/src/* crates/*_program/src/* $(find crates/*/src -path '*_tests/*' -prune -o -name main.rt -printf '%h/* '); do
+for file in crates/system_calls/src/* $(find crates/*/src -path '*_tests/*' -prune -o -name main.rt -printf '%h/* '); do
     grep -qF "  $file" $whole || fail "a file is compared with nothing: $file"
 done
 
