@@ -1,7 +1,9 @@
 //! The program over any system.
-ghost use Rattle.std.specs.Prelude.{◌≡◌, ◌-◌, ◌≤◌, ◌^◌, IsTrue};
+ghost use Rattle.std.specs.Prelude.{◌≡◌, ◌-◌, ◌≤◌, ◌^◌, Bool, IsTrue};
 ghost use Rattle.host.specs.Faults.{AreBelow, no_faults};
-ghost use Rattle.argon2_verify.specs.Refusal.{line_of};
+ghost use Rattle.host.specs.Lines.{faults_after_line};
+ghost use Rattle.argon2_verify.specs.Refusal.{faults_after_refusal, line_of};
+ghost use Rattle.argon2_verify.specs.declared.refusal.VerifyRefusal.{VerifyRefusal};
 ghost use Rattle.argon2_verify_program.specs.Program.{ProgramDiffers, ProgramRefuses, ProgramVerifies};
 ghost use Rattle.tools.specs.Failures.{AreFaultsOfHost, AreFaultsOfSystem};
 ghost use Rattle.tools.specs.RunState.{EndsWithLine};
@@ -28,6 +30,10 @@ pub fn run<S: System>(alloc: Global, system: S) -> (u8, S, RunFailureCounts<S>)
         ProgramDiffers S.tells (S.words system) (S.state system) (S.state result.1) }
     ensures refuses { IsTrue S.tells → result.0 ≡ 2 →
         ProgramRefuses S.tells (S.words system) (S.state system) (S.state result.1) result.2 }
+    // Of every system, also one that tells nothing: there is one refusal. Of the counts only the one that it names rose,
+    // if it names one, and that of lines if its line could not be said.
+    ensures counts_refusal { result.0 ≡ 2 → (told : VerifyRefusal) × (said : Bool)
+        × (result.2 ≡ faults_after_line said (faults_after_refusal told no_faults)) }
     ensures fails { IsTrue S.tells → AreFaultsOfSystem result.2 (S.failures result.1) (S.files result.1) }
 {
     let read = words(&system, alloc);

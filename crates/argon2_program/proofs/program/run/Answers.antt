@@ -1,3 +1,9 @@
+use Rattle.std.proofs.Common.{rules, ◌≡◌, Bool}
+use Rattle.host.specs.Faults.{Faults, no_faults}
+use Rattle.host.specs.Lines.{faults_after_line}
+use Rattle.argon2_words.specs.Refusal.{faults_after_refusal}
+use Rattle.argon2_words.specs.declared.refusal.Argon2Refusal.{Argon2Refusal}
+use Rattle.argon2_words.specs.declared.refusal.Argon2Refusal.TheVariants as refusal
 use Rattle.argon2_program.proofs.Ends.{faults-ended}
 use Rattle.argon2_program.proofs.program.run.Goals as goal
 
@@ -7,3 +13,14 @@ returns-in-Ok-clause-fails g c = λ t.
     let run = c.argon2-status.ensures in
     faults-ended _ _ _ _ _ _ _ _ _ _ _ _ t run.status run.counts c.new-host.ensures.seen (c.requires.unused t).output c.new-host.ensures.counts
     run.refuses ends.counts (ends.leaves t) (ends.fails t)
+
+-- the refusal of words that cannot be read
+counted : (r : Argon2Refusal) (all : Faults) → (said : Bool) × (all ≡ faults_after_line said (faults_after_refusal r no_faults))
+    → (told : Argon2Refusal) × (said : Bool) × (all ≡ faults_after_line said (faults_after_refusal told no_faults))
+counted r all (said, same) = (r, said, same)
+
+pub returns-in-Err-NotText-clause-counts_refusal : goal.returns-in-Err-NotText-clause-counts_refusal
+returns-in-Err-NotText-clause-counts_refusal g c = λ _. counted refusal.Usage _ (search rules)
+
+pub returns-in-Err-OutOfMemory-clause-counts_refusal : goal.returns-in-Err-OutOfMemory-clause-counts_refusal
+returns-in-Err-OutOfMemory-clause-counts_refusal g c = λ _. counted refusal.OutOfMemory _ (search rules)

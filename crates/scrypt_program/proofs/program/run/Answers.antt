@@ -1,6 +1,6 @@
 use Rattle.std.proofs.Common.{rules, ◌∙◌, inr, ◌≡◌, Bool, true, false, List, Option, None, Some, if◌then◌else◌, is_none, refl, sym, subst, ap}
 use Rattle.host.specs.Faults.{Faults, no_faults, with_output_failure_counted}
-use Rattle.host.specs.Lines.{SaysOneLine}
+use Rattle.host.specs.Lines.{SaysOneLine, faults_after_line}
 use Rattle.host.specs.HostState.{HostState, Text}
 use Rattle.scrypt_command.specs.Run.{Succeeds}
 use Rattle.scrypt_request.specs.Refusal.{faults_after_refusal, line_of}
@@ -9,6 +9,7 @@ use Rattle.scrypt_run.specs.Run.{ScryptRequestSucceeds}
 use Rattle.scrypt_program.specs.Program.{FailsSync}
 use Rattle.tools.specs.RunState.{RunState, host_seen}
 use Rattle.tools.specs.SystemState.{IsOutputUnsynced, SystemState}
+use Rattle.scrypt_request.specs.declared.refusal.ScryptRefusal.{ScryptRefusal}
 use Rattle.scrypt_request.specs.declared.refusal.ScryptRefusal.TheVariants as refusal
 use Rattle.scrypt_program.proofs.Ends.{faults-refused}
 use Rattle.tools.proofs.Ends.{faults-synced}
@@ -64,6 +65,23 @@ returns-then-status-eq0-clause-refuses g c = λ t failed.
           (c.sync_and_end.ensures.output_unsynced t (writable _ c.scrypt-status.new.host.run _ succeeds) failed))));
       asks = λ _. ends.asks t;
     }
+
+pub returns-then-status-eq0-clause-counts_refusal : goal.returns-then-status-eq0-clause-counts_refusal
+returns-then-status-eq0-clause-counts_refusal g c = λ failed.
+    let says = (c.sync_and_end.ensures.says failed).says in
+    let none = c.scrypt-status.ensures.counts c.if-status-eq0.true ∙ c.new-host.ensures.counts in
+    (refusal.OutputFault, says.said, says.counts ∙ ap (λ (f : Faults). faults_after_line says.said (with_output_failure_counted f)) none)
+
+-- the refusal of words that cannot be read
+counted : (r : ScryptRefusal) (all : Faults) → (said : Bool) × (all ≡ faults_after_line said (faults_after_refusal r no_faults))
+    → (told : ScryptRefusal) × (said : Bool) × (all ≡ faults_after_line said (faults_after_refusal told no_faults))
+counted r all (said, same) = (r, said, same)
+
+pub returns-in-Err-NotText-clause-counts_refusal : goal.returns-in-Err-NotText-clause-counts_refusal
+returns-in-Err-NotText-clause-counts_refusal g c = λ _. counted refusal.Usage _ (search rules)
+
+pub returns-in-Err-OutOfMemory-clause-counts_refusal : goal.returns-in-Err-OutOfMemory-clause-counts_refusal
+returns-in-Err-OutOfMemory-clause-counts_refusal g c = λ _. counted refusal.OutOfMemory _ (search rules)
 
 pub returns-then-status-eq0-clause-fails : goal.returns-then-status-eq0-clause-fails
 returns-then-status-eq0-clause-fails g c = λ t.
