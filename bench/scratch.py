@@ -1,4 +1,5 @@
-"""What the scripts of bench/ share: what a run of a program, or a call, uses, and the least of several."""
+"""What the scripts of bench/ share: a small program over crates of this repository; what a run of a program, or a call, uses,
+and the least of several."""
 import argparse
 import collections
 import math
@@ -11,7 +12,22 @@ import tempfile
 import time
 
 TOP = pathlib.Path(__file__).resolve().parent.parent
+ROOM = tempfile.TemporaryDirectory(prefix="pikhsen-bench-")  # for a copy of the crates; it is deleted when Python ends
 Used = collections.namedtuple("Used", "cpu elapsed made")
+
+
+def built(name, crates, source):
+    """The program of this name over these crates, of a file of Rattle, built in a copy of the crates, proved as all is."""
+    room = pathlib.Path(ROOM.name)
+    folder = shutil.copytree(TOP / "crates", room / "crates", symlinks=True) / name
+    shutil.copy(TOP / "HANDLES", room)
+    listed = (TOP / "crates.txt").read_text(encoding="utf-8")
+    (room / "crates.txt").write_text(f"{listed}\n{name}: {crates}\n", encoding="utf-8")
+    (folder / "src").mkdir(parents=True)
+    shutil.copy(source, folder / "src/main.rt")
+    subprocess.run(["git", "init", "-q", room], check=True)
+    subprocess.run(["rt", "run"], cwd=folder, stdin=subprocess.DEVNULL, capture_output=True)
+    return folder / "out" / name
 
 
 def asked(doc, rounds):

@@ -12,7 +12,6 @@ import os
 import pathlib
 import re
 import shlex
-import shutil
 import subprocess
 import sys
 import tempfile
@@ -300,19 +299,14 @@ def compare_library(checks, folder):
 
 
 def prove():
-    """Builds LIBRARY's program in a copy of the crates, proved as all is, and runs it."""
+    sys.path.insert(0, str(TOP / "bench"))
+    from scratch import built
+
     program, shown = rust_program()
-    with tempfile.TemporaryDirectory() as name:
-        room = pathlib.Path(name)
-        folder = shutil.copytree(TOP / "crates", room / "crates", symlinks=True) / "accounts"
-        shutil.copy(TOP / "HANDLES", room)
-        listed = (TOP / "crates.txt").read_text(encoding="utf-8")
-        (room / "crates.txt").write_text(f"{listed}\naccounts: argon argon_text\n", encoding="utf-8")
-        (folder / "src").mkdir(parents=True)
-        (folder / "src/main.rt").write_text(program, encoding="utf-8")
-        subprocess.run(["git", "init", "-q", room], check=True)
-        subprocess.run(["rt", "run"], cwd=folder, stdin=subprocess.DEVNULL, capture_output=True)
-        ran = subprocess.run([folder / "out" / "accounts"], stdout=subprocess.PIPE)
+    with tempfile.TemporaryDirectory() as room:
+        text = pathlib.Path(room) / "main.rt"
+        text.write_text(program, encoding="utf-8")
+        ran = subprocess.run([built("accounts", "argon argon_text", str(text))], stdout=subprocess.PIPE)
     if (ran.returncode, ran.stdout.decode()) != (0, shown):
         raise SystemExit(f"LIBRARY's program prints {ran.stdout!r}")
 
