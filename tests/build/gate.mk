@@ -29,7 +29,7 @@ first_run: ; $(call step,tests/build/first_run.py)
 scripts:   ; $(call step,tests/build/build_scripts.py)
 heap:      ; $(call step,tests/library/heap.py)
 proved: sources documents values told choice first_run scripts heap
-	@rm -rf crates/*/out/*_tool.o bin/*.rlib
+	@rm -rf crates/*/out/*_tool.o crates/*/out/rlib bin/*.rlib # rt ci leaves what it finds, be it of older sources
 	+$(call step,rt ci)
 linked: proved
 	$(call step,tests/build/objects.py)
