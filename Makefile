@@ -55,7 +55,7 @@ audit: bin/x86-64-v2/scrypt bin/lib/libpikhsen.so.0 ## tries each wrong body, de
 	@$(MAKE) --no-print-directory -f tests/build/gate.mk -j audit
 	@test "$$(tests/edits/choice.py)" = "$$(head -n 1 bin/audit)" && mv bin/audit docs/audit && test $$(wc -l <docs/audit) = 1
 
-reading: ## writes bin/reading/index.html: what a reader must judge (CALL=CRATE::NAME: of that), and what each crate exports
+reading: ## writes bin/reading/: what a reader must judge (CALL=CRATE::NAME: of that), and what each crate exports
 	tests/pages/reading_page.py $(CALL)
 doc: reading
 
@@ -94,7 +94,6 @@ builds: $(call built,x86-64-v2 x86-64-v3) deb ## writes docs/builds.sha256 at a 
 bench: $(call built,$(LEVELS)) bin/lib/libpikhsen.so.0 ## times the programs beside those that are installed
 	bench/table.py $(LEVELS:%=bin/%) --out $(BENCH)
 	bench/beside.py $(LEVELS:%=bin/%)
-	bench/c_face.py
 
 clean: ## removes bin/ and all kept proofs
 	rm -rf bin crates/*/out

@@ -36,10 +36,11 @@ WIDTH = SECONDS + 190
 LIGHT = "#ffffff #1f2328 #59636e #d1d9e0 #4493f8 #0a3069 #cf222e".split()
 DARK = "#0d1117 #e6edf3 #9198a1 #3d444d #316dca #a5d6ff #ff7b72".split()
 COLOURS = """.page{fill:%s} text{fill:%s} .soft{fill:%s} .grid{stroke:%s} .v2{fill:%s} .v3{fill:%s} .one{stroke:%s}"""
-STYLE = """text{font:13px Helvetica,Arial,"Liberation Sans",sans-serif} .title{font-size:17px;font-weight:bold}
-.soft{font-size:11.5px} .one{stroke-width:2}
-""" + "\n".join(begin + COLOURS % tuple(colours) + end for begin, colours, end in [
-    ("", LIGHT, ""), ("@media (prefers-color-scheme:dark){", DARK, "}")])
+HEAD = f"""<title>Processor time beside Debian's scrypt and argon2</title><style>\
+text{{font:13px Helvetica,Arial,"Liberation Sans",sans-serif}} .title{{font-size:17px;font-weight:bold}}
+.soft{{font-size:11.5px}} .one{{stroke-width:2}}
+{COLOURS % tuple(LIGHT)}
+@media (prefers-color-scheme:dark){{{COLOURS % tuple(DARK)}}}</style>"""
 
 
 def read(path):
@@ -60,6 +61,12 @@ def line(ratio, kind, said, height):
             f'<text class="soft" x="{x:g}" y="{height - 12}" text-anchor="middle">{said}</text>')
 
 
+def bar(kind, x, y, width, height, at, said):
+    """A bar, and beside it at some place what it says."""
+    return (f'<rect class="{kind}" x="{x}" y="{y}" width="{width}" height="{height}" rx="2"/>'
+            f'<text class="soft" x="{at}" y="{y + 10}">{said}</text>')
+
+
 def drawn(path):
     """The picture of a table."""
     title, found = read(path)
@@ -68,31 +75,23 @@ def drawn(path):
     machine, *_, day, _ = title.split("; ")
     parts = [
         f'<svg xmlns="http://www.w3.org/2000/svg" viewBox="0 0 {WIDTH} {height}" width="{WIDTH}" height="{height}">',
-        f"<title>Processor time beside Debian's scrypt and argon2</title><style>{STYLE}</style>",
+        HEAD,
         f'<rect class="page" width="{WIDTH}" height="{height}"/>',
         '<text class="title" x="20" y="28">Processor time beside Debian\'s programs and libraries: shorter is faster</text>',
         f'<text class="soft" x="20" y="47">{escape(machine)}; {escape(day)}; labels: the ratio, our time, Debian\'s time</text>',
+        *(bar(kind, x, 57, 14, 11, x + 20, f"built for {level}") for (level, kind, _), x in zip(LEVELS, (20, 180))),
+        *(line(part, "grid", f"{part:g}", height) for part in (0, 0.25, 0.5, 0.75, 1.25)),
     ]
-    for (level, kind, _), x in zip(LEVELS, (20, 180)):
-        parts.append(f'<rect class="{kind}" x="{x}" y="57" width="14" height="11" rx="2"/>'
-                     f'<text class="soft" x="{x + 20}" y="67">built for {level}</text>')
-    for part in (0, 0.25, 0.5, 0.75, 1.25):
-        parts.append(line(part, "grid", f"{part:g}", height))
     for number, (work, size, said) in enumerate(rows):
         y = TOP + STEP * number + GAP * work.startswith(LIBRARIES)
         parts.append(f'<text x="{LEFT - 10}" y="{y + 18}" text-anchor="end">{said}</text>')
         for level, kind, below in LEVELS:
             row = found.get((work, size, level))
             if row and row["ratio"]:
-                ratio = float(row["ratio"])
-                parts.append(
-                    f'<rect class="{kind}" x="{LEFT}" y="{y + below}" width="{ratio * SCALE:.0f}" height="12" rx="2"/>'
-                    f'<text class="soft" x="{SECONDS}" y="{y + below + 10}">{ratio:.2f}: {seconds(row["ours"])}'
-                    f' and {seconds(row["theirs"])}</text>')
+                times = f"{float(row['ratio']):.2f}: {seconds(row['ours'])} and {seconds(row['theirs'])}"
+                parts.append(bar(kind, LEFT, y + below, f"{float(row['ratio']) * SCALE:.0f}", 12, SECONDS, times))
     return "\n".join([*parts, line(1, "one", "1 = Debian's", height), "</svg>"]) + "\n"
 
 
 if __name__ == "__main__":
-    if len(sys.argv) != 3:
-        raise SystemExit(__doc__)
     pathlib.Path(sys.argv[2]).write_text(drawn(sys.argv[1]), encoding="utf-8")

@@ -20,21 +20,19 @@ def built(name, crates, source):
     """The program of this name over these crates, of a file of Rattle, built in a copy of the crates, proved as all is."""
     room = pathlib.Path(ROOM.name)
     folder = shutil.copytree(TOP / "crates", room / "crates", symlinks=True) / name
-    shutil.copy(TOP / "HANDLES", room)
     listed = (TOP / "crates.txt").read_text(encoding="utf-8")
     (room / "crates.txt").write_text(f"{listed}\n{name}: {crates}\n", encoding="utf-8")
     (folder / "src").mkdir(parents=True)
     shutil.copy(source, folder / "src/main.rt")
-    subprocess.run(["git", "init", "-q", room], check=True)
     subprocess.run(["rt", "run"], cwd=folder, stdin=subprocess.DEVNULL, capture_output=True)
     return folder / "out" / name
 
 
-def asked(doc, rounds):
+def asked(doc):
     """The reader of words of a script over folders of programs."""
     reader = argparse.ArgumentParser(description=doc, formatter_class=argparse.RawDescriptionHelpFormatter)
     reader.add_argument("folders", nargs="+", metavar="FOLDER", type=lambda it: pathlib.Path(it).resolve())
-    reader.add_argument("--rounds", type=int, default=rounds)
+    reader.add_argument("--rounds", type=int, default=5)
     return reader
 
 
@@ -44,9 +42,9 @@ def used(words, given=b"", wanted=0, **more):
     with tempfile.TemporaryFile() as source:
         source.write(given)
         source.seek(0)
-        how = {"stdin": source, "stdout": subprocess.PIPE, "env": {**os.environ, "PW": "pw"}, **more}
-        running = subprocess.Popen(words, **how)
-        printed = running.stdout.read() if running.stdout else b""
+        how = {"stdin": source, "stdout": subprocess.PIPE, "stderr": subprocess.DEVNULL, **more}
+        running = subprocess.Popen(words, env={**os.environ, "PW": "pw"}, **how)
+        printed = running.stdout.read()
         _, status, usage = os.wait4(running.pid, 0)
     running.returncode = os.waitstatus_to_exitcode(status)
     if running.returncode != wanted:
@@ -56,8 +54,9 @@ def used(words, given=b"", wanted=0, **more):
 
 def spent(work):
     """User and system time of a call, and what it answered."""
-    before, answer, after = resource.getrusage(resource.RUSAGE_SELF), work(), resource.getrusage(resource.RUSAGE_SELF)
-    return Used(after.ru_utime + after.ru_stime - before.ru_utime - before.ru_stime, 0, answer)
+    before, began = resource.getrusage(resource.RUSAGE_SELF), time.monotonic()
+    answer, after = work(), resource.getrusage(resource.RUSAGE_SELF)
+    return Used(after.ru_utime + after.ru_stime - before.ru_utime - before.ru_stime, time.monotonic() - began, answer)
 
 
 def in_turn(name, works, rounds):
@@ -82,7 +81,8 @@ def peak(words, *given, **more):
         return int(told.read().split()[-1]) / 1024 if timing else None
 
 
-def huge_pages():
-    """For what Linux gives huge pages here: always, madvise (where a program asks for them) or never."""
+def circumstances():
+    """For what Linux gives huge pages here: always, madvise (where a program asks for them) or never; and the load."""
     setting = pathlib.Path("/sys/kernel/mm/transparent_hugepage/enabled")
-    return setting.read_text(encoding="ascii").partition("[")[2].partition("]")[0] if setting.is_file() else "never"
+    pages = setting.read_text(encoding="ascii").partition("[")[2].partition("]")[0] if setting.is_file() else "never"
+    return f"huge pages: {pages}; load {os.getloadavg()[0]:.1f}"

@@ -1,8 +1,7 @@
 #!/bin/sh
-# Makes the packages for Debian, with the programs in bin/x86-64-v2.
+# Makes the packages for Debian in a folder, with the programs in bin/x86-64-v2 and the library in another folder.
 #
-#     packaging/deb.sh                             with the library in bin/lib, in bin/
-#     packaging/deb.sh LIBRARY FOLDER              with the library in LIBRARY, in FOLDER
+#     packaging/deb.sh LIBRARY FOLDER
 #     packaging/deb.sh LIBRARY FOLDER x86-64-v3    and one more of the programs in bin/x86-64-v3, of the version ..+v3
 #
 #     pikhsen            the programs, their pages, completions and documents
@@ -12,14 +11,13 @@
 #     pikhsen-libargon2  libargon2.so.1 over the library, in place of Debian's libargon2-1
 #     pikhsen-openssl    a provider for OpenSSL's scrypt, and the openssl.cnf that loads it
 #
-# The last two are made of what packaging/compat.sh left in pikhsen/compat below LIBRARY.
-#
-# They are the same bytes each time, with the time of the last commit (without git: of now), or SOURCE_DATE_EPOCH where
-# it is set. Programs and library are not stripped: they are the bytes that the tests run.
+# The last two are made of what packaging/compat.sh left in pikhsen/compat below LIBRARY. All are the same bytes each
+# time, with the time of the last commit (without git: of now), or SOURCE_DATE_EPOCH where it is set. Programs and
+# library are not stripped: they are the bytes that the tests run.
 set -eu
 umask 022
 cd "$(dirname "$0")/.."
-library=${1:-bin/lib} out=${2:-bin} higher=${3:-} version=$(cat VERSION)
+library=$1 out=$2 higher=${3:-} version=$(cat VERSION)
 told=$version
 maintainer='The authors of Pikhsen <pikhsen@localhost>'
 export SOURCE_DATE_EPOCH="${SOURCE_DATE_EPOCH:-$(git log -1 --format=%ct 2>/dev/null || date +%s)}"
@@ -93,11 +91,9 @@ hwcaps=$libraries/glibc-hwcaps
 test ! -d "$work/usr/$hwcaps" || contents libpikhsen0 "$hwcaps"
 contents libpikhsen0 "$libraries/libpikhsen.so.0"
 compat=$libraries/pikhsen/compat
-if test -d "$work/usr/$compat"; then
-    mv "$work/usr/$compat/libargon2.so.1" "$work/usr/$libraries"
-    contents pikhsen-libargon2 "$libraries/libargon2.so.1"
-    contents pikhsen-openssl "$libraries/pikhsen"
-fi
+mv "$work/usr/$compat/libargon2.so.1" "$work/usr/$libraries"
+contents pikhsen-libargon2 "$libraries/libargon2.so.1"
+contents pikhsen-openssl "$libraries/pikhsen"
 contents libpikhsen-dev include "$libraries" share/man/man3
 contents python3-pikhsen "$modules"
 
@@ -178,15 +174,14 @@ Description: Argon2, scrypt and scrypt's encrypted files, from Python
 END
 
 # In place of this version of Debian's, that of Debian 12: apt takes either for what other packages depend on.
-if test -d "$work/pikhsen-libargon2"; then
-    echo 'activate-noawait ldconfig' >"$work/pikhsen-libargon2/DEBIAN/triggers"
-    echo 'libargon2 1 libargon2-1' >"$work/pikhsen-libargon2/DEBIAN/shlibs"
-    passed_over pikhsen-libargon2 <<'END'
+echo 'activate-noawait ldconfig' >"$work/pikhsen-libargon2/DEBIAN/triggers"
+echo 'libargon2 1 libargon2-1' >"$work/pikhsen-libargon2/DEBIAN/shlibs"
+passed_over pikhsen-libargon2 <<'END'
 # It has the name that programs were linked to, and they are built with Debian's libargon2-dev.
 package-name-doesnt-match-sonames libargon2-1
 no-symbols-control-file *
 END
-    build pikhsen-libargon2 amd64 <<END
+build pikhsen-libargon2 amd64 <<END
 Section: libs
 Multi-Arch: same
 Depends: $(libc "$work/pikhsen-libargon2/usr/$libraries/libargon2.so.1")
@@ -201,7 +196,6 @@ Description: libargon2.so.1 over Argon2, proved in Rattle
  tested, not proved. It is built for processors of the level x86-64-v2 and
  above.
 END
-fi
 if test -f "$work/pikhsen-openssl/usr/$compat/pikhsen.so"; then
     build pikhsen-openssl amd64 <<END
 Section: libs

@@ -1,7 +1,6 @@
 #!/bin/sh
 # Makes the wheel, which pip installs: the module for Python with the library inside, for each level it was built for.
 #
-#     packaging/wheel.sh                     with the library in bin/lib, in bin/
 #     packaging/wheel.sh LIBRARY FOLDER      with the library in LIBRARY, in FOLDER
 #
 # setuptools makes it by python/pyproject.toml and setup.py, of the first Python that can: python3, or that of the system. It is the
@@ -9,7 +8,7 @@
 set -eu
 umask 022
 cd "$(dirname "$0")/.."
-library=${1:-bin/lib} out=${2:-bin}
+library=$1 out=$2
 export SOURCE_DATE_EPOCH="${SOURCE_DATE_EPOCH:-$(git log -1 --format=%ct 2>/dev/null || date +%s)}"
 work=$(mktemp -d)
 trap 'rm -rf "$work"' EXIT

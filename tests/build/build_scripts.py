@@ -8,7 +8,9 @@ What they make is what rt left, with the heap of packaging/, and with its permis
 fails, a program that is not there, a linker that fails or a signal leaves no older program, library or package. What
 `make install` put below a prefix, and nothing else, `make uninstall` takes away.
 """
+import contextlib
 import hashlib
+import itertools
 import os
 import pathlib
 import shlex
@@ -21,7 +23,7 @@ import time
 sys.path += map(str, pathlib.Path(__file__).resolve().parents[1].iterdir())  # the other folders of tests/
 import binaries
 from checking import is_there, over_programs, ran
-from first_run import BUILT, CHOSEN, KIT, LEVEL, PROGRAMS, STAND_IN, TOOLS, TOP, Tree
+from first_run import BUILT, CHOSEN, KIT, LEVEL, PROGRAMS, STAND_IN, TOOLS, TOP, Tree, put
 from library_texts import HEADER, prototypes
 from tree import VERSION
 
@@ -29,26 +31,31 @@ OTHER = "x86-64-v3"
 # The programs and the library, over a crate each.
 CRATES = "".join(["host:\nblake:\n", *(f"{it}: host\n" for it in TOOLS.values()), "pikhsen_c staticlib: blake\n"])
 OTHERS = [f"bin/{OTHER}/{it}" for it in TOOLS]
-HIGHER = f"glibc-hwcaps/{OTHER}/libpikhsen.so.0"
-LIBRARIES = ["bin/lib/libpikhsen.a", "bin/lib/libpikhsen.so.0", f"bin/lib/{HIGHER}"]
+LIBRARIES = [f"bin/lib/{it}" for it in ("libpikhsen.a", "libpikhsen.so.0", f"glibc-hwcaps/{OTHER}/libpikhsen.so.0")]
 COMPAT = [f"bin/lib/pikhsen/compat/{it}" for it in ("libargon2.so.1", "pikhsen.so")]
 FAILS = "#!/bin/sh\nexit 1\n"
 PACKAGE, WHEEL = "bin/pikhsen_0.0.1_amd64.deb", "bin/pikhsen-0.0.1-py3-none-any.whl"
+NAMES = "pikhsen_{}_amd64 libpikhsen0_{}_amd64 libpikhsen-dev_{}_amd64 python3-pikhsen_{}_all pikhsen_{}+v3_amd64"
+PACKAGES = [f"bin/{name.format(VERSION)}.deb" for name in NAMES.split()]
+ARCHIVE = "crates/pikhsen_c/out/libpikhsen_c.a"
+# The programs as rt leaves them, and all that build.sh takes away where it fails.
+OUTS, OF_BUILD = [f"crates/{it}/out/{it}" for it in TOOLS.values()], [*PROGRAMS, *OTHERS, "bin/level", PACKAGE]
 # The library in C: the names of the header, over the heap, whose names are not to be seen outside.
 HEAP = "struct tried { _Bool ok; void *block; } rattle_alloc(unsigned long, unsigned long);\n"
 BODY = "unsigned int {}(void) {{ return rattle_alloc(1, 1).ok; }}\n"
-# What is installed from where, beside docs/.
-INSTALLED = {
-    **{it: it for it in CHOSEN}, **{it.removeprefix("bin/"): it for it in LIBRARIES + COMPAT}, "include/pikhsen.h": "include/pikhsen.h",
-    "bin/scrypt-ask": "packaging/scrypt-ask", "share/man/man3/pikhsen.3": "man/pikhsen.3",
-    "share/man/man7/pikhsen-compat.7": "man/pikhsen-compat.7",
-    **{f"share/man/man1/{it}.1": f"man/{it}.1" for it in (*TOOLS, "scrypt-ask")},
-    **{f"share/bash-completion/completions/{it}": f"completions/bash/{it}" for it in (*TOOLS, "scrypt-ask")},
-    **{f"share/zsh/site-functions/_{it}": f"completions/zsh/_{it}" for it in TOOLS},
-    **{f"share/doc/pikhsen/{it}": it for it in ("README.md", "CHANGELOG.md")},
-    **{f"share/pikhsen/pikhsen/{it}": f"python/pikhsen/{it}" for it in ("__init__.py", "_files.py")},
-    "share/pikhsen/pikhsen/py.typed": "/dev/null",
+# What is installed, by the folder in which it is then; and the source of each file by its place.
+TOLD = [*TOOLS, "scrypt-ask"]
+FOLDERS = {
+    "bin": [*CHOSEN, "packaging/scrypt-ask"], "include": ["include/pikhsen.h"], "lib": LIBRARIES[:2],
+    f"lib/glibc-hwcaps/{OTHER}": LIBRARIES[2:], "lib/pikhsen/compat": COMPAT,
+    "share/man/man1": [f"man/{it}.1" for it in TOLD], "share/man/man3": ["man/pikhsen.3"],
+    "share/man/man7": ["man/pikhsen-compat.7"], "share/zsh/site-functions": [f"completions/zsh/_{it}" for it in TOOLS],
+    "share/bash-completion/completions": [f"completions/bash/{it}" for it in TOLD],
+    "share/doc/pikhsen": ["README.md", "CHANGELOG.md"],
+    "share/doc/pikhsen/docs": [f"docs/{it.name}" for it in (TOP / "docs").glob("*.*")],  # docs/audit is for the gate
+    "share/pikhsen/pikhsen": ["python/pikhsen/__init__.py", "python/pikhsen/_files.py"],
 }
+INSTALLED = {f"{folder}/{pathlib.Path(it).name}": it for folder, files in FOLDERS.items() for it in files}
 FLAGS = """prefix={}
 libdir=${{prefix}}/{}
 includedir=${{prefix}}/include
@@ -59,6 +66,7 @@ Version: {}
 Libs: -L"${{libdir}}" -lpikhsen
 Cflags: -I"${{includedir}}"
 """
+PREFIXES = ("", "begin with /"), ("a/b", "begin with /"), ("/a\nb", "newline")  # that are refused, and what is said
 LIST, SUM_OF_ANOTHERS = "share/doc/pikhsen/installed.sha256", hashlib.sha256(b"another's").hexdigest()
 
 
@@ -70,7 +78,6 @@ class Room(Tree):
         self.folder = pathlib.Path(folder)
         (self.folder / "tmp").mkdir()
         self.environment.update(ARCHIVE=f"{folder}/functions.a", TMPDIR=f"{folder}/tmp")
-        self.journal.write_text("")
         for name in ("compat", "completions", "docs", "include", "man", "python"):
             shutil.copytree(TOP / name, self.top / name, ignore=shutil.ignore_patterns("__pycache__"))
         for name in ("README.md", "CHANGELOG.md"):
@@ -84,26 +91,15 @@ class Room(Tree):
             subprocess.run(words, cwd=self.folder, check=True)
         (self.kit / "toolchain/bin/clang").write_text('#!/bin/sh\nexec gcc "$@"\n')
 
-    def stand_in(self, name, text):
-        """Puts a program of this name before those of the system; none where there is no text."""
-        path = self.kit / "bin" / name
-        path.unlink(missing_ok=True)
-        if text:
-            path.write_text(text, encoding="utf-8")
-            path.chmod(0o755)
-
-    def leaves(self, checks, name, there, *words):
-        """What a script said that fails, and leaves none of these."""
-        status, said = self.run(*words)
-        checks.that(name, (status != 0, self.there(there)), (True, []))
-        return said
-
-    def fails(self, checks, name, program, older, there, *words):
-        """A script leaves none of these where a program fails that it runs."""
-        self.older(older)
-        self.stand_in(program, FAILS)
-        self.leaves(checks, f"{name}, {program} fails", there, *words)
-        self.stand_in(program, None)
+    @contextlib.contextmanager
+    def instead(self, text, *paths):
+        """These files have another text for a while, or are not there where it is None."""
+        before = {it: it.read_bytes() if it.exists() else None for it in paths}
+        for path in paths:
+            path.unlink(missing_ok=True) if text is None else put(path, text)
+        yield
+        for path, content in before.items():
+            path.unlink(missing_ok=True) if content is None else path.write_bytes(content)
 
     def modes(self, names):
         return [mode(self.top / it) for it in names if (self.top / it).exists()]
@@ -122,25 +118,21 @@ def mode(path):
 
 def programs_are_built(checks, room, level):
     """The programs are those that rt built for the level, and all can run them; a change during the proof is newer."""
-    before, here = time.time(), room.there(["bin/level"]) and room.texts(*CHOSEN)
+    built, here, before = [f"bin/{level}/{it}" for it in TOOLS], room.texts("bin/level", *CHOSEN), time.time()
     room.write("host", f"for {level}\n")
     status, _ = room.run("packaging/build.sh", level, umask=0o077)
-    built = [f"bin/{level}/{it}" for it in TOOLS]
     checks.that(f"build.sh {level}", (status, room.modes(built)), (0, ["0o755"] * len(built)))
-    outs = room.texts(*(f"crates/{it}/out/{it}" for it in TOOLS.values()))
-    outs = [it.replace("the heap of the kit", "the heap") for it in outs if it]
+    outs = [it.replace("the heap of the kit", "the heap") for it in room.texts(*OUTS) if it]
     checks.that(f"build.sh {level}: the programs", room.texts(*built), outs)
-    checks.that(f"build.sh {level}: those in bin/ stay", here, room.there(["bin/level"]) and room.texts(*CHOSEN))
+    checks.that(f"build.sh {level}: those in bin/ stay", room.texts("bin/level", *CHOSEN), here)
     begun = {(room.top / it).stat().st_mtime for it in [*built, f"bin/{level}/began"]}
     checks.that(f"build.sh {level}: as old as the beginning of the proof", len(begun), 1)
     checks.that(f"build.sh {level}: no older than its beginning", before - 2 <= begun.pop() <= time.time(), True)
-    words = {crate: words for _, crate, words in room.noted("begin")}
-    levels = {words[it][words[it].index("--cpu") + 1] for it in TOOLS.values()}
+    levels = {words[words.index("--cpu") + 1] for _, crate, words in room.noted("begin") if crate in TOOLS.values()}
     checks.that(f"build.sh {level}: the level", levels, {level})
     status, _ = room.run("packaging/chosen.sh", level, umask=0o077)
     checks.that(f"chosen.sh {level}", (status, room.modes(CHOSEN)), (0, ["0o755"] * len(built)))
-    checks.that(f"chosen.sh {level}: the level", room.texts("bin/level"), [f"{level}\n"])
-    checks.that(f"chosen.sh {level}: the programs", room.texts(*CHOSEN), outs)
+    checks.that(f"chosen.sh {level}: the level, the programs", room.texts("bin/level", *CHOSEN), [f"{level}\n", *outs])
     checks.that(f"chosen.sh {level}: copies", [it for it in CHOSEN if (room.top / it).is_symlink()], [])
 
 
@@ -160,38 +152,48 @@ def both_levels_are_built(checks, room):
         checks.that(f"chosen.sh without {missing}", (status != 0, room.texts(*there)), (True, [f"older {it}" for it in there]))
 
 
-def proofs_fail(checks, room):
-    """A proof that fails, whichever it is, leaves no program of any level, and no package."""
-    there = [*PROGRAMS, *OTHERS, "bin/level", PACKAGE]
+def failures(room, has_gcc):
+    """What fails: its name, the file that has another text then, the script, what that must not leave, and says."""
+    build, link = ["packaging/build.sh", LEVEL], ["packaging/link.sh", LEVEL]
+    lib, deb = ["packaging/lib.sh", "bin/lib"], ["packaging/deb.sh", "bin/lib", "bin"]
+    of_lib = [*LIBRARIES, *COMPAT, PACKAGE, WHEEL]
     for crate in reversed(TOOLS.values()):
-        room.older([*there, *(f"crates/{it}/out/{it}" for it in TOOLS.values())])
-        room.write(crate, "broken\n")
-        said = room.leaves(checks, f"{crate} fails", there, "packaging/build.sh", LEVEL)
-        checks.that(f"{crate} fails, and is named", f"{crate} FAILED" in said, True)
-        room.write(crate, f"as it was, {crate}\n")
+        yield f"{crate} fails", room.source(crate), "broken\n", build, OF_BUILD, f"{crate} FAILED"
     # rt that says that all is well, and makes no program
-    room.older(there)
-    room.write("scrypt_tool", "another\n")
-    room.stand_in("rt", STAND_IN.replace('if words[0] == "run":', 'if words[0] == "run" and name != "scrypt_tool":'))
-    room.leaves(checks, "no program is made", there, "packaging/build.sh", LEVEL)
-    room.stand_in("rt", STAND_IN)
-    # programs are there once more, and a whole run goes before this
-    room.run("packaging/build.sh", LEVEL)
-    checks.that("mended", room.there(there), BUILT)
-
-
-def links_fail(checks, room):
-    """Where the heap is not compiled, a program is not linked, or is another than rt's with the kit's heap, there is none."""
-    there = [*PROGRAMS, *OTHERS, "bin/level", PACKAGE]
+    lacking = STAND_IN.replace('if words[0] == "run":', 'if words[0] == "run" and name != "scrypt_tool":')
+    yield "no program is made", room.kit / "bin/rt", lacking, build, OF_BUILD, "scrypt_tool FAILED"
+    # a program is another than rt's, linked with the kit's heap
     otherwise = KIT["bin/rattle-link"] + 'echo >>"$to"\n'
-    for name, text in (("toolchain/bin/clang", FAILS), ("bin/rattle-link", FAILS), ("bin/rattle-link", otherwise)):
-        how = "fails" if text == FAILS else "links otherwise"
-        for script, none in (("build.sh", there), ("link.sh", BUILT)):
-            room.older(there)
-            (room.kit / name).write_text(text, encoding="utf-8")
-            room.leaves(checks, f"{script}, {name} {how}", none, f"packaging/{script}", LEVEL)
-            (room.kit / name).write_text(KIT[name], encoding="utf-8")
-    checks.that("link.sh: folders that it leaves", room.left(), [])
+    for script, words, none in ("build.sh", build, OF_BUILD), ("link.sh", link, BUILT):
+        for name in ("toolchain/bin/clang", "bin/rattle-link"):
+            yield f"{script}, {name} fails", room.kit / name, FAILS, words, none, ""
+        yield f"{script}, bin/rattle-link links otherwise", room.kit / "bin/rattle-link", otherwise, words, none, ""
+    for name in ("dpkg-deb", "objdump", "gzip"):
+        yield f"deb.sh, {name} fails", room.kit / "bin" / name, FAILS, deb, PACKAGES, ""
+    if has_gcc:
+        for name in ("ld", "objcopy", "ar", "ranlib", "cc"):
+            yield f"lib.sh, {name} fails", room.kit / "bin" / name, FAILS, lib, of_lib, ""
+        yield "lib.sh without what rt left", room.top / ARCHIVE, None, lib, of_lib, ""
+        source, said = room.source("pikhsen_c"), "| pikhsen_c::there: no proof"
+        yield "lib.sh, a proof that fails", source, "broken\n", ["make", "lib"], [*of_lib, ARCHIVE], said
+
+
+def what_fails_leaves_nothing(checks, room, has_gcc):
+    """A proof, a compiler, a linker or a packer that fails leaves nothing that the script makes, and nothing that is
+    made of that, older ones neither."""
+    for name, file, text, words, none, says in failures(room, has_gcc):
+        room.older([*OF_BUILD, *OUTS, *LIBRARIES, *COMPAT, *PACKAGES, WHEEL])
+        with room.instead(text, file):
+            status, said = room.run(*words)
+        checks.that(name, (status != 0, room.there(none), says in said), (True, [], True))
+    mended = [(["packaging/build.sh", LEVEL], BUILT)]
+    if has_gcc:
+        found = room.begun(), room.there(PROGRAMS)
+        checks.that("make lib, a proof that fails: begun, and the programs", found, (["pikhsen_c"], PROGRAMS))
+        mended.append((["packaging/lib.sh", "bin/lib", LEVEL], LIBRARIES[:2]))
+    for words, made in mended:
+        checks.that(f"{words[0]}, mended", (room.run(*words)[0], room.there(made)), (0, made))
+    checks.that("folders that are left", room.left(), [])
 
 
 def is_stopped(checks, room):
@@ -209,8 +211,7 @@ def is_stopped(checks, room):
             checks.that(f"{script}: what it makes, while it proves", room.there(makes), [])
             os.killpg(running.pid, number)
             running.communicate(timeout=30)
-            found = running.returncode != 0, room.there(there)
-            checks.that(f"{script}, stopped by {number.name}", found, (True, []))
+            checks.that(f"{script}, stopped by {number.name}", (running.returncode != 0, room.there(there)), (True, []))
         room.write(crate, "as it was\n")
 
 
@@ -240,33 +241,6 @@ def library_is_made(checks, room):
     checks.that("lib.sh: folders that it leaves", room.left(), [])
 
 
-def libraries_fail(checks, room):
-    """A proof, a linker or a compiler that fails leaves no library, neither in place of the new one nor beside it."""
-    there, archive = [*LIBRARIES, *COMPAT, PACKAGE, WHEEL], "crates/pikhsen_c/out/libpikhsen_c.a"
-    room.older([*there, archive, *PROGRAMS])
-    room.write("pikhsen_c", "broken\n")
-    said = room.leaves(checks, "lib.sh, a proof that fails", [*there, archive], "make", "lib")
-    found = room.begun(), "| pikhsen_c::there: no proof" in said, room.there(PROGRAMS)
-    checks.that("lib.sh, a proof that fails: begun, why, the programs", found, (["pikhsen_c"], True, [*PROGRAMS]))
-    room.write("pikhsen_c", "as it was\n")
-    room.run("packaging/lib.sh", "bin/lib", LEVEL)
-    checks.that("lib.sh, mended", room.there(LIBRARIES), LIBRARIES[:2])
-    for program in ("ld", "objcopy", "ar", "ranlib", "cc"):
-        room.fails(checks, "lib.sh", program, there, there, "packaging/lib.sh", "bin/lib")
-    room.older(there)
-    os.rename(room.top / archive, room.folder / "away")
-    room.leaves(checks, "lib.sh without what rt left", there, "packaging/lib.sh", "bin/lib")
-    os.rename(room.folder / "away", room.top / archive)
-
-
-def packages_fail(checks, room):
-    """Where one of the packages cannot be made, none is left, of older ones neither."""
-    names = "pikhsen_{}_amd64 libpikhsen0_{}_amd64 libpikhsen-dev_{}_amd64 python3-pikhsen_{}_all pikhsen_{}+v3_amd64"
-    there = [f"bin/{name.format(VERSION)}.deb" for name in names.split()]
-    for program in ("dpkg-deb", "objdump", "gzip"):
-        room.fails(checks, "deb.sh", program, [*there, *BUILT, *LIBRARIES], there, "packaging/deb.sh")
-
-
 # ---- what is installed, and taken away
 
 
@@ -286,23 +260,20 @@ def is_installed(checks, room):
     room.older([*CHOSEN, "bin/level", *LIBRARIES, *COMPAT])
     checks.that("make install", room.run("make", "install", f"PREFIX={to}", umask=0o077)[0], 0)
     checks.that("a link in the place of a program", another.read_text(), "another's")
-    docs = [f"docs/{it.name}" for it in (room.top / "docs").glob("*.*")]  # docs/audit is for the gate
-    files = {**INSTALLED, **{f"share/doc/pikhsen/{it}": it for it in docs}}
-    wanted = {it: (room.top / file).read_bytes() for it, file in files.items()}
+    wanted = {it: (room.top / file).read_bytes() for it, file in INSTALLED.items()}
     for it in wanted:
         if "/man/" in it:  # manual pages name documents by where they are installed
             wanted[it] = wanted[it].replace(b"/usr/local/share/doc/", f"{to}/share/doc/".encode())
-    flags = FLAGS.format(to, "lib", VERSION).encode()
-    configuration = room.texts("compat/openssl/openssl.cnf")[0].replace("@FOLDER@", f"{to}/lib/pikhsen/compat").encode()
-    wanted.update({"lib/libpikhsen.so": "libpikhsen.so.0", "lib/pkgconfig/pikhsen.pc": flags,
-                   "lib/pikhsen/compat/openssl.cnf": configuration})
+    flags = FLAGS.format(to, "lib", VERSION)
+    configuration = room.texts("compat/openssl/openssl.cnf")[0].replace("@FOLDER@", f"{to}/lib/pikhsen/compat")
+    wanted.update({"lib/libpikhsen.so": "libpikhsen.so.0", "lib/pkgconfig/pikhsen.pc": flags.encode(),
+                   "lib/pikhsen/compat/openssl.cnf": configuration.encode(), "share/pikhsen/pikhsen/py.typed": b""})
     found = {name: text for name, text in below(to).items() if text is not None}
-    checks.that("files, installed", sorted(found), sorted([*wanted, LIST]))
+    listed = [it.split("  ")[1] for it in found.pop(LIST).decode().splitlines() if not it.startswith("# folder  ")]
+    checks.that("files, installed", sorted(found), sorted(wanted))
     checks.that("files, installed, and what they hold", [it for it in wanted if found.get(it) != wanted[it]], [])
-    others = {it: mode(to / it) for it in found if mode(to / it) != ("0o755" if "bin/" in it else "0o644")}
-    checks.that("permissions, installed", others, {})
-    checks.that("folders, installed", {mode(it) for it in to.rglob("*") if it.is_dir()}, {"0o755"})
-    listed = [it.split("  ")[1] for it in found[LIST].decode().splitlines() if not it.startswith("# folder  ")]
+    modes = {name: "0o755" if text is None or "bin/" in name else "0o644" for name, text in below(to).items()}
+    checks.that("permissions, installed", {it: mode(to / it) for it in modes}, modes)
     checks.that("what is listed", sorted(listed), sorted(wanted))
     checks.that("sums that are listed", ran("sha256sum", "--strict", "--quiet", "-c", LIST, cwd=to), (0, ""))
     if is_there("pkg-config", "what it says of the library is not looked at", 2):
@@ -319,21 +290,20 @@ def is_taken_away(checks, room):
     checks.that("make install, into DESTDIR", room.run("make", "install", *words, PIKHSEN_LIB=lib)[0], 0)
     flags = (to / lib / "pkgconfig/pikhsen.pc").read_text(encoding="utf-8")
     checks.that("a prefix with signs of sed's", flags, FLAGS.format(prefix, lib, VERSION))
-    why = dict.fromkeys(["bin/scrypt", f"{lib}/libpikhsen.so", "share/doc/pikhsen/README.md"], "was changed since")
-    why["share/man/man1/scrypt.1"] = "is not there"
-    for name in why:
+    changed, link = ["bin/scrypt", "share/doc/pikhsen/README.md"], f"{lib}/libpikhsen.so"
+    gone = "share/man/man1/scrypt.1"
+    for name in (link, gone):
         (to / name).unlink()
-    (to / lib / "libpikhsen.so").symlink_to("libpikhsen.so.7")
-    (to / "share/pikhsen/pikhsen/__pycache__").mkdir()
-    for name in ("__init__", "_files"):
-        (to / f"share/pikhsen/pikhsen/__pycache__/{name}.cpython-39.pyc").touch()
-    left = dict.fromkeys(["bin/scrypt", "share/doc/pikhsen/README.md", "share/zsh/another"], b"another's")
-    for name, text in left.items():
-        (to / name).write_bytes(text)
-    left[f"{lib}/libpikhsen.so"] = "libpikhsen.so.7"
+    (to / link).symlink_to("libpikhsen.so.7")
+    left = {link: "libpikhsen.so.7", **dict.fromkeys([*changed, "share/zsh/another"], b"another's")}
     left.update(dict.fromkeys(["bin", "include", "lib", lib, "share", "share/doc", "share/doc/pikhsen", "share/zsh"]))
-    lines = [f"packaging/install.sh: left {name} below {to}: it {it}\n" for name, it in why.items()]
-    checks.that("make uninstall", room.run("make", "uninstall", *words), (0, "".join(lines)))
+    for name in [*changed, "share/zsh/another"]:
+        (to / name).write_bytes(b"another's")
+    for name in ("__init__", "_files"):
+        put(to / f"share/pikhsen/pikhsen/__pycache__/{name}.cpython-39.pyc", "")
+    why = {**dict.fromkeys([*changed, link], "was changed since"), gone: "is not there"}
+    said = "".join(f"packaging/install.sh: left {name} below {to}: it {why[name]}\n" for name in sorted(why))
+    checks.that("make uninstall", room.run("make", "uninstall", *words), (0, said))
     checks.that("what uninstall leaves", below(to), left)
     status, said = room.run("packaging/install.sh", "uninstall", to)
     checks.that("uninstall without a list", (status, said.count("\n"), below(to) == left), (2, 1, True))
@@ -341,30 +311,30 @@ def is_taken_away(checks, room):
 
 def another_is_installed_over_it(checks, room):
     """What an older one put there and this does not goes, as at uninstall; where an install fails, all of both is listed."""
-    stage = f"DESTDIR={room.folder}/over"
-    to = room.folder / "over/usr/local"
+    stage, to = f"DESTDIR={room.folder}/over", room.folder / "over/usr/local"
     room.run("make", "install", stage)
-    (to / "include/pikhsen.h").write_bytes(b"edited")
-    (to / "bin/scrypt").write_bytes(b"edited")
+    for name in ("include/pikhsen.h", "bin/scrypt"):
+        (to / name).write_bytes(b"edited")
     older = below(to)
     status, said = room.run("packaging/install.sh", "install", to, "bin")
     gone = [name for name, text in older.items() if name not in below(to) and text is not None]
-    told = [f"packaging/install.sh: left include/pikhsen.h below {to}: it was changed since", *(
-        f"packaging/install.sh: took away {it} below {to}, which this install does not put there" for it in gone)]
-    checks.that("install, over an older one", (status, sorted(said.splitlines())), (0, sorted(told)))
+    told = [f"left include/pikhsen.h below {to}: it was changed since",
+            *(f"took away {it} below {to}, which this install does not put there" for it in gone)]
+    found = status, sorted(said.splitlines())
+    checks.that("install, over an older one", found, (0, sorted(f"packaging/install.sh: {it}" for it in told)))
     left = {"include": None, "include/pikhsen.h": b"edited"}
-    checks.that("what is left of the older one", {it: text for it, text in below(to).items() if it.startswith(("lib/l", "include"))}, left)
+    found = {it: text for it, text in below(to).items() if it.startswith(("lib/l", "include"))}
+    checks.that("what is left of the older one", found, left)
     checks.that("the new one", (to / "bin/scrypt").read_bytes(), b"older bin/scrypt")
     checks.that("make uninstall, after both", (room.run("make", "uninstall", stage), below(to)), ((0, ""), left))
     room.run("make", "install", stage)
-    room.stand_in("cp", '#!/bin/sh\nfor to; do :; done\ncase $to in *README.md*) echo half >"$to"; exit 1 ;; esac\nexec /bin/cp "$@"\n')
-    room.older(["README.md"])
-    status, _ = room.run("packaging/install.sh", "install", to, "bin", PIKHSEN_ZSH="share/other")
-    room.stand_in("cp", None)
-    shutil.copy(TOP / "README.md", room.top)
+    halves = 'for to; do :; done\ncase $to in *README.md*) echo half >"$to"; exit 1 ;; esac\ncommand -p cp "$@"\n'
+    with room.instead("another", room.top / "README.md"), room.instead(f"#!/bin/sh\n{halves}", room.kit / "bin/cp"):
+        status, _ = room.run("packaging/install.sh", "install", to, "bin", PIKHSEN_ZSH="share/other")
     found = (to / "share/doc/pikhsen/README.md").read_text()
     checks.that("an install that fails leaves the file that is there", found, room.texts("README.md")[0])
-    checks.that("an install that fails", (status != 0, room.run("make", "uninstall", stage)[0], below(to)), (True, 0, {"include": None}))
+    found = status != 0, room.run("make", "uninstall", stage)[0], below(to)
+    checks.that("an install that fails", found, (True, 0, {"include": None}))
 
 
 def a_list_leads_out(checks, room):
@@ -376,8 +346,8 @@ def a_list_leads_out(checks, room):
     for name in ("file", "two\nlines"):
         (outside / name).write_bytes(b"another's")
     names = ["../outside/file", "bin/../../outside/file", f"{outside}/file", "link/file", "../outside/two\nlines", "../outside/two\\nlines"]
-    lines = [f"{SUM_OF_ANOTHERS}  {it}" for it in names] + [f"\\{SUM_OF_ANOTHERS}  ../outside/two\\nlines"]
-    lines += [f"# folder  {it}" for it in ("../outside/empty", f"{outside}/empty", "link/empty")] + ["", "bin"]
+    lines = [*(f"{SUM_OF_ANOTHERS}  {it}" for it in names), f"\\{SUM_OF_ANOTHERS}  ../outside/two\\nlines",
+             *(f"# folder  {it}" for it in ("../outside/empty", f"{outside}/empty", "link/empty")), "", "bin"]
     before = below(outside)
     for what in ("uninstall", "install"):
         (to / "bin/argon2").write_bytes(b"another's")
@@ -395,29 +365,28 @@ def a_list_leads_out(checks, room):
 
 def prefixes_are_refused(checks, room):
     """A prefix that is empty, does not begin with a slash or has a newline is refused before anything is touched or built."""
-    to, tools = room.folder / "nowhere", ("mktemp", "mkdir", "install", "cp", "rm", "rmdir")
+    to = room.folder / "nowhere"
     for name in CHOSEN:
         (room.top / name).unlink(missing_ok=True)
-    for name in tools:
-        room.stand_in(name, FAILS)
-    for what in ("install", "uninstall"):
-        for prefix, why in (("", "begin with /"), ("a/b", "begin with /"), ("/a\nb", "newline")):
+    with room.instead(FAILS, *(room.kit / "bin" / it for it in ("mktemp", "mkdir", "install", "cp", "rm", "rmdir"))):
+        for what, (prefix, why) in itertools.product(("install", "uninstall"), PREFIXES):
             found = room.run("packaging/install.sh", what, prefix, "bin"), room.run("packaging/install.sh", what, to, "bin", PREFIX=prefix)
             checks.that(f"{what}, {prefix!r}", [(it, said.count("\n"), why in said) for it, said in found], [(2, 1, True)] * 2)
             for words in ([], [f"DESTDIR={to}"]):
                 status, said = room.run("make", what, f"PREFIX={prefix}", *words)
                 checks.that(f"make {what}, {prefix!r}{', into DESTDIR' * len(words)}", (status, why in said), (2, True))
-    for name in tools:
-        room.stand_in(name, None)
 
 
 def main(checks, folder):
     room = Room(folder)
-    parts = [both_levels_are_built, proofs_fail, links_fail]
-    if is_there("gcc", "packaging/lib.sh is not looked at"):
-        parts += [library_is_made, libraries_fail, is_stopped]
-    parts += [packages_fail, is_installed, is_taken_away, another_is_installed_over_it, a_list_leads_out]
-    for part in [*parts, prefixes_are_refused]:
+    both_levels_are_built(checks, room)
+    has_gcc = is_there("gcc", "packaging/lib.sh is not looked at")
+    if has_gcc:
+        library_is_made(checks, room)
+    what_fails_leaves_nothing(checks, room, has_gcc)
+    if has_gcc:
+        is_stopped(checks, room)
+    for part in (is_installed, is_taken_away, another_is_installed_over_it, a_list_leads_out, prefixes_are_refused):
         part(checks, room)
 
 

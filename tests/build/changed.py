@@ -19,14 +19,6 @@ import prove  # noqa: E402
 TESTS = "_tests"  # how the name of a crate of tests ends
 
 
-def steps_for(touched, tested):
-    """The steps that prove the crates that are touched, with what they and the tests stand on, and run these tests."""
-    uses = prove.uses_of()
-    below = [it for name in tested for it in uses[name]]
-    tests = [prove.Step(f"{name}-tests", name, ["test"], uses[name]) for name in tested]
-    return prove.steps_for([*touched, *below]) + tests
-
-
 def main():
     base = sys.argv[1] if len(sys.argv) > 1 else "HEAD"
     words = ["diff", "--name-only", base], ["ls-files", "--others", "--exclude-standard"]
@@ -40,10 +32,11 @@ def main():
     modules = {it: (prove.CRATES / it / "src/tests").glob("of_*.rt") for it in uses if it.endswith(TESTS)}
     tested = [it for it, of in modules.items() if named & {it, it.removesuffix(TESTS), *(path.stem[3:] for path in of)}]
     if touched or tested:
-        steps = steps_for(touched, tested)
+        below = [it for name in tested for it in uses[name]]
+        steps = [*prove.steps_for([*touched, *below]), *(prove.Step(it, ["test"]) for it in tested)]
         prove.say(f"{len(touched)} crates to prove, changed since {base} or above one that is: {', '.join(touched)}.")
         prove.say(f"{len(tested)} to test: {', '.join(tested)}. With what all of these stand on, {len(steps)} steps:")
-        prove.prove_or_exit(steps)
+        prove.prove(steps)
     for script in ("tests/sources/sources.sh", "tests/sources/calls.py", "tests/pages/documents.py"):
         if subprocess.run([script], cwd=TOP).returncode != 0:
             sys.exit(f"{script} failed")

@@ -21,7 +21,7 @@ sys.dont_write_bytecode = True
 from checking import over_programs  # noqa: E402
 from tree import PROGRAMS as TOOLS, TOP, prove  # noqa: E402
 
-LINE = re.compile(r" ?(\d+) of (\d+) ([\w-]+), (\d+ s|as it was proved before)(?:; under way: (.*))?")
+LINE = re.compile(r"^ ?(\d+ of \d+) (\w+), (\d+ s|as it was proved before)(?:; under way: (.*))?$", re.MULTILINE)
 LEVEL = "x86-64-v2"
 # Where the programs are once they are chosen, and where they are built.
 CHOSEN, BUILT = [f"bin/{it}" for it in TOOLS], [f"bin/{LEVEL}/{it}" for it in TOOLS]
@@ -35,8 +35,7 @@ APART = "command_tests", "test"
 # it lets no other run work in the crate and in what it stands on, keeps a library, and then says nothing.
 STAND_IN = f"#!{sys.executable} -IS" + r'''
 import fcntl, os, shutil, sys, time
-here, words = os.getcwd(), sys.argv[1:]
-crates, name = os.path.split(here)
+words, crates, name = sys.argv[1:], *os.path.split(os.getcwd())
 text_of = lambda path: open(path).read() if os.path.isfile(path) else ""
 def write(path, text):
     os.makedirs(os.path.dirname(path), exist_ok=True)
@@ -47,9 +46,8 @@ lines = [it.partition(":") for it in text_of(crates + "/../crates.txt").splitlin
 uses = {it.split()[0]: others.split() for it, _, others in lines}
 def below(crate):
     return {it for other in uses[crate] if other in uses for it in [other, *below(other)]}
-held = [os.open(f"{crates}/{it}", os.O_RDONLY) for it in below(name) | {name}]
-for it in held:
-    fcntl.flock(it, fcntl.LOCK_EX | fcntl.LOCK_NB)
+for it in sorted(below(name) | {name}):
+    fcntl.flock(os.open(f"{crates}/{it}", os.O_RDONLY), fcntl.LOCK_EX | fcntl.LOCK_NB)
 is_program, stamp = os.path.isfile("src/main.rt"), "out/rlib/stamp"
 source = text_of("src/main.rt") + text_of("src/lib.rt")
 libraries = [text_of(f"{crates}/{it}/{stamp}") for it in sorted(below(name))]
@@ -67,9 +65,7 @@ if "broken" in source:
     sys.exit(f"{name}::there: no proof")
 print("logic=proved")
 if words[0] == "lib":
-    write(stamp if is_library else f"out/lib{name}.a", text)
-if words[0] == "lib" and not is_library and os.environ.get("ARCHIVE"):
-    os.replace(shutil.copy(os.environ["ARCHIVE"], f"out/lib{name}.a.new"), f"out/lib{name}.a")
+    write(stamp, text) if is_library else shutil.copy(os.environ["ARCHIVE"], f"out/lib{name}.a")
 if words[0] == "run":
     write(f"out/{name}.o", f"#!/bin/sh\necho {name} {len(text)} in ${{PWD##*/}}\nexit\n")
     parts = [f"out/{name}.o", *(f"{os.path.dirname(__file__)}/../c/{it}" for it in ("libos_c.a", "liblibc_c.a"))]
@@ -78,54 +74,58 @@ if words[0] == "run":
 note("end")
 sys.exit(words[0] == "run")
 '''
-# Links files by putting their texts one after the other, and compiles the heap to a text; and what the kit links beside it.
+# The kit: it links files by putting their texts one after the other, and compiles the heap to a text; and what it links
+# beside that.
 KIT = {
+    "bin/rt": STAND_IN,
     "bin/rattle-link": '#!/bin/sh\nwhile test "$1" != -o; do shift; done\nto=$2\nshift 2\ncat "$@" >"$to" && chmod 755 "$to"\n',
     "toolchain/bin/clang": '#!/bin/sh\nwhile test "$1" != -o; do shift; done\necho "the heap" >"$2"\n',
     "c/libos_c.a": "calls of the system\n", "c/liblibc_c.a": "the heap of the kit\n",
 }
+# Words, input and a folder for the programs, and scripts that make check runs.
+FILES = {
+    "crates/argon_tool/args": "somesalt\n-e\n", "crates/argon_tool/stdin": "password",
+    "crates/argon2_verify_tool/args": "hash\n", "crates/argon2_verify_tool/stdin": "password",
+    "crates/argon2_verify_tool/data/file": "",
+    **dict.fromkeys(("tests/sources/sources.sh", "tests/sources/calls.py", "tests/pages/documents.py"), "#!/bin/sh\n"),
+}
+
+
+def put(path, text):
+    """Writes a file that may be run."""
+    path.parent.mkdir(parents=True, exist_ok=True)
+    path.write_text(text, encoding="utf-8")
+    path.chmod(0o755)
 
 
 class Tree:
     """A copy of the tree with one line of text in each of these crates."""
 
     def __init__(self, folder, crates):
-        self.top, self.journal = pathlib.Path(folder, "tree"), pathlib.Path(folder, "journal")
-        self.top.mkdir()
-        for name in ("Makefile", "VERSION"):
-            shutil.copy(TOP / name, self.top)
-        (self.top / "crates.txt").write_text(crates, encoding="utf-8")
+        self.top, self.journal, self.kit = (pathlib.Path(folder, it) for it in ("tree", "journal", "kit"))
+        self.journal.touch()
         shutil.copytree(TOP / "packaging", self.top / "packaging", ignore=shutil.ignore_patterns("__pycache__"))
+        for name in ("Makefile", "VERSION", "tests/build/changed.py"):
+            put(self.top / name, (TOP / name).read_text(encoding="utf-8"))
+        for folder, texts in (self.top, {**FILES, "crates.txt": crates}), (self.kit, KIT):
+            for name, text in texts.items():
+                put(folder / name, text)
         for name in re.findall(r"^\w+", crates, re.MULTILINE):
-            (self.top / "crates" / name / "src").mkdir(parents=True)
             self.write(name, "as it was\n")
-        for crate, words in (("argon_tool", "somesalt\n-e\n"), ("argon2_verify_tool", "hash\n")):
-            (self.top / "crates" / crate / "args").write_text(words)
-            (self.top / "crates" / crate / "stdin").write_text("password")
-        (self.top / "crates/argon2_verify_tool/data").mkdir()
-        for name in ("build", "pages", "sources"):
-            (self.top / "tests" / name).mkdir(parents=True)
-        shutil.copy(TOP / "tests/build/changed.py", self.top / "tests/build")
-        self.kit = pathlib.Path(folder, "kit")
-        stand_ins = {self.kit / it: text for it, text in {"bin/rt": STAND_IN, **KIT}.items()}
-        scripts = ("sources/sources.sh", "sources/calls.py", "pages/documents.py")
-        stand_ins.update({self.top / "tests" / it: "#!/bin/sh\n" for it in scripts})
-        for path, text in stand_ins.items():
-            path.parent.mkdir(parents=True, exist_ok=True)
-            path.write_text(text, encoding="utf-8")
-            path.chmod(0o755)
-        self.environment = {"PATH": f"{self.kit}/bin:{os.environ['PATH']}", "JOURNAL": str(self.journal), "HOME": str(folder)}
+        path = f"{self.kit}/bin:{os.environ['PATH']}"
+        self.environment = {"PATH": path, "JOURNAL": str(self.journal), "HOME": str(self.top.parent)}
+
+    def source(self, crate):
+        is_program = (TOP / "crates" / crate / "src/main.rt").is_file()
+        return self.top / "crates" / crate / "src" / ("main.rt" if is_program else "lib.rt")
 
     def write(self, crate, text):
-        is_program = (TOP / "crates" / crate / "src/main.rt").is_file()
-        (self.top / "crates" / crate / "src" / ("main.rt" if is_program else "lib.rt")).write_text(text)
+        put(self.source(crate), text)
 
     def older(self, names):
         """Puts older files where these are made."""
         for name in names:
-            (self.top / name).parent.mkdir(parents=True, exist_ok=True)
-            (self.top / name).write_text(f"older {name}", encoding="utf-8")
-            (self.top / name).chmod(0o755)
+            put(self.top / name, f"older {name}")
 
     def start(self, *words, umask=0o022, **environment):
         self.journal.write_text("")
@@ -166,38 +166,37 @@ class Tree:
 
 def look_at_order(checks, name, tree, crates, most):
     """Each crate was begun once, after the end of all that it stands on, and at most so many were under way."""
-    uses, ended, under_way, largest = prove.uses_of(), set(), 0, 0
+    uses, ended, early, under_way, largest = prove.uses_of(), set(), [], 0, 0
     checks.that(f"{name}: each crate, once", tree.begun(), sorted(crates))
     for what, crate, _ in tree.noted():
         if what == "begin":
-            checks.that(f"{name}: {crate} after what it stands on", ended.issuperset(uses[crate]), True)
-        ended.update([crate] if what != "begin" else [])
+            early += [crate] * (not ended.issuperset(uses[crate]))
+        else:
+            ended.add(crate)
         under_way += {"begin": 1, "end": -1}.get(what, 0)
         largest = max(largest, under_way)
+    checks.that(f"{name}: before what they stand on", early, [])
     checks.that(f"{name}: under way at a time", largest <= most, True)
 
 
 def look_at_lines(checks, name, said, total, kept=0):
-    """There is a line for each crate, numbered, and the last one has nothing under way."""
-    found = [it for it in map(LINE.fullmatch, said) if it]
-    checks.that(f"{name}: numbers", [int(it[1]) for it in found], list(range(1, total + 1)))
-    checks.that(f"{name}: of all", {int(it[2]) for it in found}, {total})
-    checks.that(f"{name}: kept", sum(it[4] == "as it was proved before" for it in found), kept)
-    checks.that(f"{name}: under way at the end", found[-1][5] if found else "", None)
-    named = {other for it in found for other in (it[5] or "").split(", ") if other}
-    checks.that(f"{name}: what is under way is named", bool(named) and named <= {it[3] for it in found}, True)
+    """There is a line for each crate, numbered, with what is under way, which is nothing at the end."""
+    numbers, crates, how, under_way = zip(*LINE.findall("\n".join(said)))
+    checks.that(f"{name}: numbers", [*numbers], [f"{at} of {total}" for at in range(1, total + 1)])
+    checks.that(f"{name}: kept", how.count("as it was proved before"), kept)
+    named = {it for line in under_way for it in line.split(", ") if it}
+    checks.that(f"{name}: what is under way", (bool(named), named <= {*crates}, under_way[-1]), (True, True, ""))
 
 
 def shares(checks):
     """A crate gets more processes the fewer others run or could, and the one that leads goes first."""
-    step, small, program = (prove.Step(it, it, [word], []) for it, word in (("romix", "lib"), ("counter", "lib"), ("scrypt_tool", "run")))
     for processors, found in (("1", [1, 1, 1, 1, 1]), ("2", [2, 1, 1, 1, 1]), ("4", [4, 2, 1, 1, 2]), ("64", [4, 4, 4, 4, 4])):
         os.environ["JOBS"] = processors
-        beside = [prove.jobs_for(step, *it) for it in ((0,), (1,), (2,), (3,), (3, 0.9))]
+        beside = [prove.jobs_for(*it) for it in ((0, 0), (1, 0), (2, 0), (3, 0), (3, 0.9))]
         checks.that(f"processes, of {processors}", beside, found)
-        checks.that(f"small crates and programs, of {processors}", [prove.jobs_for(it, 0, 1.0) for it in (small, program)], [1, 1])
-    checks.that("the one that leads", step.command(4, True), ["rt", "lib", "--jobs", "4"])
-    checks.that("one beside it", step.command(2, False), ["nice", "-n", "10", "rt", "lib", "--jobs", "2"])
+    step = prove.Step("scrypt_tool", ["run", "--", "-h"])
+    checks.that("the one that leads", step.command(4, True), ["rt", "run", "--jobs", "4", "--", "-h"])
+    checks.that("one beside it", step.command(2, False), ["nice", "-n", "10", "rt", "run", "--jobs", "2", "--", "-h"])
 
 
 def succeeds(checks, tree):
@@ -209,7 +208,7 @@ def succeeds(checks, tree):
     look_at_order(checks, "make run", tree, OF_PROGRAMS, 2)
     look_at_lines(checks, "make run", said, len(OF_PROGRAMS))
     words = {crate: words for _, crate, words in tree.noted("begin")}
-    checks.that("the level", words["scrypt_tool"][:3], ["run", "--cpu", LEVEL])
+    checks.that("the level", (words["scrypt_tool"][0], words["scrypt_tool"][3:5]), ("run", ["--cpu", LEVEL]))
     checks.that("no tests", any("test" in it for it in words.values()), False)
     checks.that("processes for a crate", words["romix"][:2], ["lib", "--jobs"])
     tree.make("run", f"CPU={LEVEL}")
@@ -262,12 +261,11 @@ def is_stopped(checks, tree):
 
 def checks_what_changed(checks, tree):
     """What differs from the last commit is proved, with what stands on it, and tested, also where its tests stand apart."""
-    git = ["git", "-c", "user.name=A", "-c", "user.email=a@localhost", "-c", "init.defaultBranch=main"]
-    (tree.top / ".gitignore").write_text("out/\n/bin/\n__pycache__/\n")
+    git = ["git", "-c", "user.name=A", "-c", "user.email=a@localhost"]
+    put(tree.top / ".gitignore", "out/\n/bin/\n__pycache__/\n")
     tree.write("host", "as it was\n")
-    tree.write("pikhsen_c", "as it was\n")
     tree.older(["crates/command_tests/src/tests/of_scrypt_command.rt"])
-    subprocess.run([*git, "init", "-q"], cwd=tree.top, env=tree.environment, check=True)
+    tree.run(*git, "init", "-q")
     programs = ["argon2_program", "argon2_verify_program"]
     touched = {**dict.fromkeys(["argon_text", "argon2_command", "argon2_verify", "command", *programs], "lib"),
                **dict.fromkeys(["argon_tool", "argon2_verify_tool", "pikhsen_c"], "check")}
@@ -279,15 +277,15 @@ def checks_what_changed(checks, tree):
         ("make check, tests alone", {"command_tests": "changed"}, [APART], "1 to test: command_tests."),
         ("make check fails", {"argon_text": "broken"}, [("argon_text", "lib")], "Failed: argon_text."),
     ):
-        for words in (["add", "-A"], ["commit", "-q", "-m", name]):
-            subprocess.run([*git, *words], cwd=tree.top, env=tree.environment, check=True)
+        tree.run(*git, "add", "-A")
+        tree.run(*git, "commit", "-q", "-m", name)
         for crate, text in texts.items():
             tree.write(crate, f"{text}\n")
         status, said = tree.make("check")
         checks.that(name, (status != 0, any(it.startswith(line) for it in said)), (name == "make check fails", True))
         checks.that(f"{name}: begun", sorted((it[1], it[2][0]) for it in tree.noted("begin")), sorted(begun))
         if name == "make check":
-            checks.that(f"{name}: the lines", len([it for it in said if LINE.fullmatch(it)]), 29)
+            checks.that(f"{name}: the lines", len(LINE.findall("\n".join(said))), 29)
 
 
 def main(checks, folder):

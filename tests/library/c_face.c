@@ -1,13 +1,14 @@
 /*
  * Calls libpikhsen from C, for tests/library/c_face.py, which gives it a stack of 64 KiB: the first vectors, a file
- * that is damaged, and, where REFUSE is defined, malloc that refuses each request in turn and counts the blocks that
- * are not freed and the bytes that are asked for. Ends with status 0 where all is right, and else names the line.
+ * that is damaged, and, where REFUSE is defined, each request for memory refused in turn. Ends with status 0 where all
+ * is right, and else names the line.
  */
 #include <stdio.h>
 #include <stdlib.h>
 #include <string.h>
 
 #include "pikhsen.h"
+#include "refusing.h"
 
 #define WANT(holds) \
 	do { \
@@ -17,57 +18,6 @@
 		} \
 	} while (0)
 #define TOLD(status, call) WANT((call) == PIKHSEN_##status)
-
-static long granted = -1; /* where it is not negative, so many further requests are granted */
-static long live = 0;     /* how many blocks are not freed; 0 where nothing counts them */
-static size_t asked = 0;  /* how many bytes were asked for since it was 0 last; 0 where nothing counts them */
-
-#ifdef REFUSE
-extern void *__libc_malloc(size_t);
-extern void *__libc_realloc(void *, size_t);
-extern void *__libc_memalign(size_t, size_t);
-extern void __libc_free(void *);
-
-/* Counts a request; whether it is refused. */
-static int refuses(size_t size)
-{
-	asked += size;
-	if (granted == 0)
-		return 1;
-	if (granted > 0)
-		--granted;
-	return 0;
-}
-
-static void *counted(void *block)
-{
-	live += block != NULL;
-	return block;
-}
-
-void *malloc(size_t size)
-{
-	return refuses(size) ? NULL : counted(__libc_malloc(size));
-}
-
-void *aligned_alloc(size_t alignment, size_t size)
-{
-	return refuses(size) ? NULL : counted(__libc_memalign(alignment, size));
-}
-
-void *realloc(void *at, size_t size)
-{
-	if (refuses(size))
-		return NULL;
-	return at ? __libc_realloc(at, size) : counted(__libc_realloc(at, size));
-}
-
-void free(void *at)
-{
-	live -= at != NULL;
-	__libc_free(at);
-}
-#endif
 
 static const char password[] = "password", somesalt[] = "somesalt", none[] = "";
 
@@ -82,7 +32,7 @@ static const char known_keyed[] =
     "$argon2id$v=19$m=32,t=3,p=4$AgICAgICAgICAgICAgICAg$DWQN9Y14dmwIwDejSotTydAe8EUtdbZetSUg6WsB5lk";
 static char ones[32];
 static unsigned char twos[16], threes[8], fours[12];
-static const unsigned char zeros[32];
+static const unsigned char zeros[128 + 5];
 
 /* Arguments that belong together: what is hashed, the costs of a key and of a file, and limits that refuse none. */
 #define PASSWORD password, 8
@@ -437,8 +387,7 @@ int main(void)
 	WANT(tag[0] == 0x77 && tag[1] == 0xd6 && tag[2] == 0x57 && tag[3] == 0x62);
 	WANT(strcmp(encoded, known) == 0 && strcmp(keyed, known_keyed) == 0);
 	WANT(len == 5 && memcmp(text, somesalt, 5) == 0);
-	for (i = 5; i < (int)sizeof text; ++i)
-		WANT(text[i] == 0);
+	WANT(memcmp(text + 5, zeros, sizeof text - 5) == 0);
 	WANT(costs.log_n == 4 && costs.r == 3 && costs.p == 2);
 	WANT(memcmp(place, file, sizeof file) == 0);
 	TOLD(OK, in_pieces(1, 300));
@@ -454,8 +403,7 @@ int main(void)
 	file[100] ^= 1;
 	memset(text, 1, sizeof text);
 	WANT(call(6, tag) == PIKHSEN_DAMAGED && len == 0);
-	for (i = 0; i < (int)sizeof text; ++i)
-		WANT(text[i] == 0);
+	WANT(memcmp(text, zeros, sizeof text) == 0);
 	null_with_length_0();
 	null_for_scrypt();
 	return 0;

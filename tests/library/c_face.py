@@ -33,9 +33,6 @@ from tree import TOP, below
 CRATE = "pikhsen_c"
 STRICT = ["-std=c89", "-pedantic", "-Wall", "-Wextra", "-Werror", "-D_POSIX_C_SOURCE=200112L"]
 CPP = ["-Wall", "-Wextra", "-pedantic", "-Werror", "-Wold-style-cast", "-Wconversion", "-Wsign-conversion"]
-# -z now: to bind a name at its first call would store vector registers, and a piece of a key may be in these
-STREAMS = ("to-pieces", "of-pieces", "pieces-freed")
-WRAPPED = ["-Wl,-z,now", "-Wl,--wrap=malloc,--wrap=realloc,--wrap=aligned_alloc,--wrap=free"]
 
 
 def is_of_sources(archive):
@@ -84,7 +81,7 @@ def from_c(checks, folder, lib, is_watched):
     empty, call = pathlib.Path(folder, "empty.c"), pathlib.Path(folder, "call.cpp")
     empty.write_text('#include "pikhsen.h"\n' * 2, encoding="utf-8")
     call.write_text(CALL, encoding="utf-8")
-    for words in (["gcc", *STRICT], *([["g++", "-Wall", "-Wextra", "-Werror", "-x", "c++"]] if has_cpp else [])):
+    for words in (["gcc", *STRICT], *([["g++", "-Wall", "-Wextra", "-Werror", "-x", "c++"]] * has_cpp)):
         checks.that(f"header under {words[0]}", ran(*words, *INCLUDE, "-fsyntax-only", empty), (0, ""))
     for name, body, warnings in (
         ("an answer that is ignored", "pikhsen_scrypt_info(file, 64, costs); return 0;", ["unused-result"]),
@@ -168,62 +165,46 @@ def first_blocks(kib, lanes, length):
     return pieces
 
 
-def says(checks, program, look, what, expected):
-    """What secrets.c finds on the stack ("painted"), in freed memory or in vector registers after a call."""
-    checks.that(f"{pathlib.Path(program).name}, {look}: {what}", said(program, look, what, check=False), expected)
-
-
 def secrets_from_c(checks, folder, lib):
-    """After a call no key is in writable memory, on the stack or elsewhere: none of the four pieces of the 64 derived
-    bytes, nor what they are made of. The memory that a call frees, but for texts of hashes, holds zeros alone; so do the
-    vector registers when it returns."""
-    program = f"{folder}/secrets"
-    checks.that("secrets.c, compiled", compile_c(TOP / "tests/library/secrets.c", lib, program, True, *STRICT, *WRAPPED), (0, ""))
-    levels = sorted(pathlib.Path(lib, "glibc-hwcaps").glob("*/libpikhsen.so.0"))
-    of_levels = [program, *(over_shared(folder, it.parent.name, it.read_bytes()) for it in levels)]
-    spoiled = over_shared(folder, "without-zeros", without_zeros(lib))
+    """After a call the stack and the vector registers hold zeros, and so does the memory that it frees, but for texts
+    of hashes. So no key is left: c_face.c counts what is not freed, and the library has no memory beside. And none is found
+    in writable memory: none of the four pieces of the 64 derived bytes, nor what they are made of."""
+    programs = []
+    for level in (pathlib.Path(lib), *sorted(pathlib.Path(lib, "glibc-hwcaps").glob("*"))):
+        programs.append(f"{folder}/secrets-{level.name}")
+        # to bind a name at its first call would store vector registers, and a piece of a key may be in these
+        flags = *STRICT, "-DREFUSE", "-Wl,-z,now"
+        made = compile_c(TOP / "tests/library/secrets.c", level, programs[-1], not programs[1:], *flags)
+        checks.that(f"secrets.c over {level.name}, compiled", made, (0, ""))
     # a matrix of 64 KiB; a table of 64 rows, or 16, of 1,024 bytes, and two rows, or three; the block of a stream; four
     # rows of 128 bytes, and two; and such of 8 MiB
-    frees = {**dict.fromkeys(("hash", "encoded", "verify", "keyed-text", "keyed-test"), 65536),
+    takes = {**dict.fromkeys(("hash", "encoded", "verify", "keyed-text", "keyed-test"), 65536),
              **dict.fromkeys(("key", "encrypt", "in-place", "decrypt", "wrong"), 67584),
-             **dict.fromkeys(STREAMS, 67584 + 2496),
+             **dict.fromkeys(("to-pieces", "of-pieces", "pieces-freed"), 67584 + 2496),
              "sparse": 19456, "small-key": 768, "large-hash": 8388608, "large-key": 8390656}
-    for what, freed in frees.items():
-        told = numbers_of_header()["WRONG_PASSPHRASE"][0] if what == "wrong" else 0
-        says(checks, program, "painted", what, f"told {told}, not wiped 0, touched deeper 0\n")
-        says(checks, program, "freed", what, f"told {told}, freed {freed}, not zero 0\n")
-        for of_level in of_levels:
-            says(checks, of_level, "registers", what, f"told {told}, not zero:\n")
-        for look, nothing in (("painted", " not wiped 0,"), ("registers", ":\n")) if told == 0 else ():
-            checks.that(f"{look}, without the zeros: {what}", nothing in said(spoiled, look, what, check=False), False)
-    says(checks, program, "registers", "three", "told 0, not zero: 3\n")
-    says(checks, program, "freed", "seven", "told 0, freed 1024, not zero 1024\n")
+    painted, freed = (looked_at(programs[0], it) for it in ("painted", "freed"))
+    registers = [looked_at(it, "registers") for it in programs]
+    for what, count in takes.items():
+        told = f"told {numbers_of_header()['WRONG_PASSPHRASE'][0] if what == 'wrong' else 0}"
+        checks.that(f"painted: {what}", painted[what], f"{told}, not wiped 0, touched deeper 0")
+        checks.that(f"freed: {what}", freed[what], f"{told}, asked for {count}, not freed 0, not zero 0")
+        for level in registers:
+            checks.that(f"registers: {what}", level[what], f"{told}, not zero:")
+    sizes = re.findall(r"\.(?:t?data|t?bss) +\w+ +\w+ \w+ (\w+)", said("readelf", "-SW", f"{lib}/libpikhsen.so.0"))
+    checks.that("memory of the library's own is too small for a key", sum(int(it, 16) for it in sizes) < 16, True)
+    # what is left is found
+    checks.that("painted: seven", " not wiped 0," in painted["seven"], False)
+    checks.that("freed: seven", freed["seven"], "told 0, asked for 1024, not freed 0, not zero 1024")
+    checks.that("registers: three", registers[0]["three"], "told 0, not zero: 3")
     try:
-        searches_from_c(checks, program)
+        searches_from_c(checks, programs[0])
     except PermissionError as why:
         print(f"the memory of a process may not be read here ({why}): keys are not looked for")
 
 
-def over_shared(folder, name, content):
-    """secrets.c over a shared library of these bytes."""
-    other = pathlib.Path(folder, name)
-    other.mkdir()
-    (other / "libpikhsen.so.0").write_bytes(content)
-    program = f"{folder}/secrets-{name}"
-    compile_c(TOP / "tests/library/secrets.c", str(other), program, False, *STRICT, *WRAPPED)
-    return program
-
-
-def without_zeros(lib):
-    """A library whose function that puts zeros over the stack answers at once: so the looks at the stack and at the
-    registers are seen to find what stays."""
-    code = said("objdump", "-d", f"{lib}/libpikhsen.so.0")
-    at = int(re.search(r"^([0-9a-f]+) <[^>]*wiping::wipe_stack[^>]*>:$", code, re.MULTILINE)[1], 16)
-    text = re.search(r" \.text +PROGBITS +([0-9a-f]+) ([0-9a-f]+) ", said("readelf", "-SW", f"{lib}/libpikhsen.so.0"))
-    spoiled = bytearray(pathlib.Path(lib, "libpikhsen.so.0").read_bytes())
-    place = at - int(text[1], 16) + int(text[2], 16)
-    spoiled[place:place + 3] = b"\x89\xf8\xc3"  # mov %edi,%eax; ret
-    return spoiled
+def looked_at(program, look):
+    """What secrets.c says of each call, by its name: of the stack, of freed memory or of vector registers."""
+    return dict(line.split(": ", 1) for line in said(program, look).splitlines())
 
 
 def searches_from_c(checks, program):
@@ -233,7 +214,7 @@ def searches_from_c(checks, program):
     rows, blocks, other_blocks = first_rows(), first_blocks(64, 2, 64), first_blocks(64, 2, 32)
     pieces = {**of_key, **rows, **blocks, **other_blocks}
     # the first two show that the search finds a key, on the stack too
-    for what in ("kept", "stack", "hash", "encoded", "verify", "key", "sparse", "encrypt", "decrypt", *STREAMS):
+    for what in ("kept", "stack", "hash", "encoded", "verify", "key", "sparse", "encrypt", "decrypt", "to-pieces", "of-pieces", "pieces-freed"):
         expected = sorted(of_key) if what in ("kept", "stack") else []
         searched(checks, [program, what], lambda process: kept_pieces(process, pieces), expected)
     # a row stands in its own order only before it is turned

@@ -5,8 +5,7 @@ the test program of the reference implementation of Argon2 (src/test.c), and the
     tests/library/clients.py FOLDER DIR      FOLDER has libpikhsen.so.0, as bin/lib
 
 Of tests in Python it shows what pytest says. Fails where a test fails but those of DIFFERENCES, or where one of these
-ends as it was written. In the test program the lines on an error message and on a null pointer say nothing of the
-library: the adapter answers them alone, since null is not allowed with a length above 0.
+ends as it was written. Those of Argon2 call libargon2.so.1 of compat/, but for two answers that the adapter makes.
 
 Takes the sources and packages that are unpacked in DIR, and the modules of the Python that runs it. It installs nothing
 and uses no network. Debian has them all, some of them in its newer suites alone:
@@ -20,7 +19,6 @@ Not in the gate, since none of this is there. It takes some minutes and 1.5 GB.
 """
 import os
 import pathlib
-import shutil
 import subprocess
 import sys
 import tempfile
@@ -72,10 +70,7 @@ def of_argon2_cffi(adapter, header, run):
 def main():
     if len(sys.argv) != 3:
         raise SystemExit(__doc__)
-    lib, sources = (pathlib.Path(it).resolve() for it in sys.argv[1:])
-    if not shutil.which("cc") or not (lib / "libpikhsen.so.0").is_file():
-        sys.exit(f"there is no C compiler, which the adapters need, or no libpikhsen.so.0 in {lib}")
-    right = {}
+    right, (lib, sources) = {}, (pathlib.Path(it).resolve() for it in sys.argv[1:])
     with tempfile.TemporaryDirectory() as work:
         work = pathlib.Path(work)
         link = ["-L", lib, "-l:libpikhsen.so.0", f"-Wl,-rpath,{lib}"]
@@ -91,12 +86,11 @@ def main():
             words = [sys.executable, ADAPTERS / "suites.py"]
             return lambda *more: subprocess.run([*words, *more], cwd=tree, env=environment).returncode
 
-        header, tree = next(sources.rglob("argon2.h"), None), tree_with(sources, "src/test.c", "include/argon2.h")
-        if header:
-            words = ["-shared", "-fPIC", "-I", header.parent, ADAPTERS / "argon2.c", *link]
-            adapter = compiled(words, work / "libargon2.so")
+        adapter = compiled(["-shared", "-fPIC", ADAPTERS / "argon2.c", *link], work / "libargon2.so")
+        tree = tree_with(sources, "src/test.c", "include/argon2.h")
         if begun("argon2's test program", tree, "sys"):
             right["argon2"] = of_test_program(tree, adapter, link, work)
+        header = next(sources.rglob("argon2.h"), None)
         tree = header and tree_with(sources, "tests/test_low_level.py", "src/argon2/low_level.py")
         if run := begun("argon2-cffi", tree, "cffi", "hypothesis", "pytest"):
             right["argon2-cffi"] = of_argon2_cffi(adapter, header, run)

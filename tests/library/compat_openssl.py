@@ -6,6 +6,7 @@ import re
 
 import binaries
 from checking import is_there, left_out, ran
+from tree import TOP
 
 # RFC 7914, section 12: password, salt, N, r, p and key; the fourth, of 1 GiB, is left out.
 VECTORS = (
@@ -32,6 +33,7 @@ print("ours" if "/pikhsen.so" in open("/proc/self/maps").read() else "OpenSSL's"
 CRYPTOGRAPHY = """from cryptography.hazmat.primitives.kdf.scrypt import Scrypt
 print(Scrypt(salt=b"NaCl", length=64, n=1024, r=8, p=16).derive(b"password").hex())
 """
+REFUSING = ["-DREFUSE", "-I", TOP / "tests/library"]
 # Refuses each request for memory in turn while parameters are set, and while a key is derived: each call is then refused, and no key is written.
 REFUSED = """#include <openssl/core_names.h>
 #include <openssl/evp.h>
@@ -39,15 +41,9 @@ REFUSED = """#include <openssl/core_names.h>
 #include <openssl/params.h>
 #include <openssl/provider.h>
 #include <string.h>
-extern void *__libc_malloc(size_t), *__libc_realloc(void *, size_t), *__libc_memalign(size_t, size_t);
-static long granted = -1, asked;
-static int refuses(void) { asked += 1; return granted == 0 || (granted > 0 && granted-- == 0); }
-void *malloc(size_t size) { return refuses() ? NULL : __libc_malloc(size); }
-void *aligned_alloc(size_t to, size_t size) { return refuses() ? NULL : __libc_memalign(to, size); }
-void *realloc(void *it, size_t size) { return refuses() ? NULL : __libc_realloc(it, size); }
+#include "refusing.h"
 static int call(EVP_KDF_CTX *of, const OSSL_PARAM *params, unsigned char *key, long grants)
 {
-    asked = 0;
     granted = grants;
     int is_done = params ? EVP_KDF_CTX_set_params(of, params) : EVP_KDF_derive(of, key, 32, NULL);
     granted = -1;
@@ -137,7 +133,8 @@ def openssl_of(checks, folder, compat):
     keys_in_files(checks, folder, configurations)
     source, program = pathlib.Path(folder, "refused_key.c"), f"{folder}/refused_key"
     source.write_text(REFUSED, encoding="utf-8")
-    checks.that("requests of the provider are refused, compiled", ran("gcc", "-std=gnu99", "-Wall", source, "-lcrypto", "-o", program), (0, ""))
+    made = ran("gcc", "-std=gnu99", "-Wall", *REFUSING, source, "-lcrypto", "-o", program)
+    checks.that("requests of the provider are refused, compiled", made, (0, ""))
     # r and p are those that are not given (EVP_KDF-SCRYPT(7))
     key = hashlib.scrypt(b"pw", salt=b"salt", n=1 << 14, r=8, p=1, dklen=32).hex()
     checks.that("each request of the provider refused in turn", ran(program, env=configurations["ours"]), (0, key))

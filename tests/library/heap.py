@@ -9,7 +9,6 @@ from checking import is_there, over_programs, ran
 from tree import TOP
 
 WARNED = ["-std=c99", "-pedantic", "-Wall", "-Wextra", "-Werror"]
-WRAPPED = "-Wl,--wrap=malloc,--wrap=realloc,--wrap=aligned_alloc,--wrap=free,--wrap=madvise"
 
 
 def main(checks, folder):
@@ -18,10 +17,12 @@ def main(checks, folder):
     heap, program = f"{folder}/heap.o", f"{folder}/heap"
     checks.that("heap.c, compiled", ran(TOP / "packaging/heap.sh", heap), (0, ""))
     checks.that("heap.c under gcc", ran("gcc", *WARNED, "-fsyntax-only", TOP / "packaging/heap.c"), (0, ""))
-    made = ran("gcc", *WARNED, "-D_DEFAULT_SOURCE", "-O1", WRAPPED, TOP / "tests/library/heap_calls.c", heap, "-o", program)
-    checks.that("heap_calls.c, compiled", made, (0, ""))
-    status, said = ran(program)
-    checks.that(f"heap_calls.c: {said.partition(chr(10))[0]}", (status, said), (0, ""))
+    for refuse in (["-DREFUSE"], []):
+        words = [*WARNED, "-D_DEFAULT_SOURCE", "-O1", "-Wl,--wrap=madvise", *refuse]
+        made = ran("gcc", *words, TOP / "tests/library/heap_calls.c", heap, "-o", program)
+        checks.that("heap_calls.c, compiled", made, (0, ""))
+        status, said = ran(program)
+        checks.that(f"heap_calls.c: {said.partition(chr(10))[0]}", (status, said), (0, ""))
     if is_there("valgrind", "the heap is not called under it"):
         # of refused sizes valgrind itself says that they are
         watched = ["valgrind", "-q", "--error-exitcode=9", "--leak-check=full", "--show-mismatched-frees=yes"]

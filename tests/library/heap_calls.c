@@ -1,15 +1,13 @@
 /*
  * Calls the functions of packaging/heap.c as the compiled code of programs and library does, for tests/library/heap.py.
- * The linker puts the functions below in the place of the C library's (--wrap): they look at what is asked of them, and
- * refuse it where they are told to. Says each condition that does not hold.
+ * The linker puts madvise below in the place of the C library's (--wrap). Says each condition that does not hold.
  */
 #include <errno.h>
-#include <malloc.h>
 #include <stdint.h>
 #include <stdio.h>
-#include <stdlib.h>
-#include <string.h>
 #include <sys/mman.h>
+
+#include "refusing.h"
 
 struct tried {
 	_Bool ok;
@@ -23,46 +21,13 @@ void rattle_dealloc(void *block);
 static const size_t sizes[] = {0, 1, 17, 4096, HUGE_PAGE - 1, HUGE_PAGE, HUGE_PAGE + 4097};
 enum { SIZES = sizeof sizes / sizeof sizes[0] };
 
-static int failed, blocks, advices, is_refused, is_advice_refused;
+static int failed, advices, is_advice_refused;
 static void *advised;
 static size_t advised_size;
 
 #define HOLDS(condition) ((condition) ? (void)0 : (void)(failed = 1, puts(#condition), fflush(stdout)))
 
-void *__real_malloc(size_t size);
-void *__real_realloc(void *old, size_t size);
-void *__real_aligned_alloc(size_t alignment, size_t size);
-void __real_free(void *block);
 int __real_madvise(void *block, size_t size, int advice);
-
-static void *counted(void *block)
-{
-	blocks += block != NULL;
-	return block;
-}
-
-void *__wrap_malloc(size_t size)
-{
-	HOLDS(size > 0);
-	return is_refused ? NULL : counted(__real_malloc(size));
-}
-
-void *__wrap_realloc(void *old, size_t size)
-{
-	HOLDS(size > 0);
-	return is_refused ? NULL : __real_realloc(old, size);
-}
-
-void *__wrap_aligned_alloc(size_t alignment, size_t size)
-{
-	return is_refused ? NULL : counted(__real_aligned_alloc(alignment, size));
-}
-
-void __wrap_free(void *block)
-{
-	blocks -= block != NULL;
-	__real_free(block);
-}
 
 int __wrap_madvise(void *block, size_t size, int advice)
 {
@@ -113,28 +78,30 @@ static void are_given(void)
 			HOLDS(is_filled(&moved, kept, 1));
 			memset(moved.block, 3, sizes[to]);
 			HOLDS(is_filled(&other, sizes[to], 2));
-			HOLDS(blocks == 2);
+			HOLDS(live == 2 * IS_COUNTED);
 			rattle_dealloc(other.block);
 			HOLDS(is_filled(&moved, sizes[to], 3));
 			rattle_dealloc(moved.block);
-			HOLDS(blocks == 0);
+			HOLDS(live == 0);
 		}
 }
 
-/* Where memory is refused, or is too large for any, the answer says so, and what was there stays. */
-static void are_refused(size_t size)
+/* Where memory is refused, after so many requests, or is too large, the answer says so, and what was there stays. */
+static void are_refused(size_t size, long requests)
 {
 	struct tried one = filled(4096, 1), none;
 
 	advices = 0;
+	granted = requests;
 	none = rattle_alloc(size, 16);
 	HOLDS(!none.ok && none.block != NULL);
 	HOLDS(advices == 0);
-	none = rattle_realloc(one.block, 4096, size, 16);
+	none = rattle_realloc(one.block, size < 4096 ? size : 4096, size, 16);
 	HOLDS(!none.ok && none.block != NULL);
 	HOLDS(is_filled(&one, 4096, 1));
+	granted = -1;
 	rattle_dealloc(one.block);
-	HOLDS(blocks == 0);
+	HOLDS(live == 0);
 }
 
 int main(void)
@@ -144,15 +111,9 @@ int main(void)
 	are_given();
 	is_advice_refused = 1;
 	rattle_dealloc(filled(HUGE_PAGE, 1).block);
-	are_refused(((size_t)1 << 63) - 1);
-	are_refused(((size_t)1 << 63) - HUGE_PAGE - 1);
-	for (at = 0; at < SIZES; ++at) {
-		struct tried none;
-
-		is_refused = 1;
-		none = rattle_alloc(sizes[at], 1);
-		HOLDS(!none.ok && none.block != NULL);
-		is_refused = 0;
-	}
+	are_refused(((size_t)1 << 63) - 1, -1);
+	are_refused(((size_t)1 << 63) - HUGE_PAGE - 1, -1);
+	for (at = 0; IS_COUNTED && at < SIZES; ++at)
+		are_refused(sizes[at], 0);
 	return failed;
 }

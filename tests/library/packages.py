@@ -220,7 +220,7 @@ def packages(checks, folder, lib):
     if not all(is_there(it, "packages are not made") for it in ("dpkg-deb", PROGRAMS / "scrypt")):
         return
     made = []
-    # of other bytes than the library in bin/lib, which deb.sh takes where none is named
+    # of other bytes than the library in bin/lib: deb.sh takes that which is named
     lib = shutil.copytree(lib, f"{folder}/library")
     with open(f"{lib}/libpikhsen.so.0", "ab") as shared:
         shared.write(bytes(1))

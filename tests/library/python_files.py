@@ -4,13 +4,14 @@ import concurrent.futures
 import contextlib
 import copy
 import errno
+import faulthandler
 import gc
 import io
+import itertools
 import os
 import pathlib
 import pickle
 import shutil
-import signal
 import socket
 import subprocess
 import sys
@@ -25,9 +26,11 @@ from checking import is_there
 from scrypt_files import F0, F5
 from shown import with_module
 
-CHEAP = {"log_n": 4, "r": 1, "p": 1}
+CHEAP, SALT = {"log_n": 4, "r": 1, "p": 1}, b"s" * 32
 # One less than files of these costs need.
 BELOW_CHEAP = ("MEMORY_LIMIT", {"max_bytes": 2047}), ("WORK_LIMIT", {"max_ops": 63})
+# Why no file is made.
+NOT_MADE = ("LOG_N", {"log_n": 0}), ("FILE_SALT", {"salt": SALT[1:]}), ("KEEP", {"keep": 3}), *BELOW_CHEAP
 
 
 def raised(call, *arguments, **named):
@@ -60,7 +63,7 @@ def lent_by(module):
         yield lent
 
 
-SALT, LENGTHS = b"s" * 32, (0, 1, 31, 32, 33, 63, 64, 95, 96, 97, 5000)
+LENGTHS = 0, 1, 31, 32, 33, 63, 64, 95, 96, 97, 5000
 EXISTS, FULL, NO_DATA = (os.strerror(it) for it in (errno.EEXIST, errno.ENOSPC, errno.EAGAIN))
 NO_LINKS = mock.Mock(side_effect=PermissionError(errno.EPERM, "no links"))
 
@@ -95,8 +98,7 @@ def damage_in_pieces(checks, pikhsen):
         for size in (7, 96, 200):
             found = [refusal(in_pieces, pikhsen.Decryptor(b"pw"), it, size) for it in files]
             checks.that(f"each byte {name}, in pieces of {size}", found, [refusal(pikhsen.decrypt, it, b"pw") for it in files])
-    rows = ("LOG_N", {"log_n": 0}), ("FILE_SALT", {"salt": b"s" * 31}), ("KEEP", {"keep": 3}), ("TypeError", {"passphrase": "pw"})
-    refused(checks, (*rows, *BELOW_CHEAP), pikhsen.Encryptor, **{"passphrase": b"pw", **CHEAP})
+    refused(checks, [*NOT_MADE, ("TypeError", {"passphrase": "pw"})], pikhsen.Encryptor, passphrase=b"pw", **CHEAP)
     for why, named in (("KEEP", {"keep": 3}), ("WRONG_PASSPHRASE", {"passphrase": b"PW"}), *BELOW_CHEAP):
         found = refusal(pikhsen.Decryptor(**{"passphrase": b"pw", **named}).update, file[:96])
         checks.that(f"Decryptor, {why}: at the 96th byte", found, why)
@@ -108,31 +110,32 @@ def left(stream):
         assert same is stream
 
 
-def streams_by_their_ends(pikhsen, file):
-    """Streams, each with what makes it, what ends it, and why that is refused."""
+def ends_of_streams(checks, pikhsen):
+    """After its end, whatever that was, a stream does nothing more and keeps nothing; before it, it is not doubled."""
+    file = pikhsen.encrypt(b"Dear Ada", b"pw", **CHEAP)
+
+    def encryptor():
+        return pikhsen.Encryptor(b"pw", **CHEAP)
+
     def decryptor(given=file):
         made = pikhsen.Decryptor(b"pw")
         made.update(given)
         return made
 
-    for name, end in (("finished", lambda it: it.finish()), ("closed", lambda it: it.close()), ("left", left)):
-        yield f"Encryptor, {name}", lambda: pikhsen.Encryptor(b"pw", **CHEAP), end, None
-        yield f"Decryptor, {name}", decryptor, end, None
-    yield "Decryptor, closed before it has a key", lambda: decryptor(b"scrypt"), lambda it: it.close(), None
-    yield "Decryptor of a damaged file", lambda: decryptor(file + b"x"), lambda it: it.finish(), "DAMAGED"
-    yield "Decryptor of a short file", lambda: decryptor(b"scrypt"), lambda it: it.finish(), "TOO_SHORT"
-    yield "Decryptor of no file", lambda: decryptor(b""), lambda it: it.update(bytes(96)), "MAGIC"
-
-
-def ends_of_streams(checks, pikhsen):
-    """After its end, whatever that was, a stream does nothing more and keeps nothing; before it, it is not doubled."""
-    file = pikhsen.encrypt(b"Dear Ada", b"pw", **CHEAP)
-    for name, make, end, why in streams_by_their_ends(pikhsen, file):
+    ends = {"finish": lambda it: it.finish(), "close": lambda it: it.close(), "with": left}
+    rows = [(f"{make.__name__}, {end}", make, end, None) for make in (encryptor, decryptor) for end in ends]
+    ends["update"] = lambda it: it.update(bytes(96))
+    for name, make, end, why in (
+        *rows, ("decryptor, closed before it has a key", lambda: decryptor(b"scrypt"), "close", None),
+        ("decryptor of a damaged file", lambda: decryptor(file + b"x"), "finish", "DAMAGED"),
+        ("decryptor of a short file", lambda: decryptor(b"scrypt"), "finish", "TOO_SHORT"),
+        ("decryptor of no file", lambda: decryptor(b""), "update", "MAGIC"),
+    ):
         stream = make()
         for double in (copy.copy, copy.deepcopy, pickle.dumps):
             checks.that(f"{name}: {double.__name__}", refusal(double, stream), "TypeError")
         checks.that(f"{name}: a text", (refusal(stream.update, "text"), refusal(stream.update, None)), ("TypeError",) * 2)
-        checks.that(f"{name}: its end", refusal(end, stream), why)
+        checks.that(f"{name}: its end", refusal(ends[end], stream), why)
         checks.that(f"{name}: what is kept after it", stream._stream.runs, 0)
         after = [refusal(call) for call in (lambda: stream.update(b""), lambda: stream.update(b"x"), stream.finish, stream.close)]
         checks.that(f"{name}: calls after it", after, ["ValueError"] * 3 + [None])
@@ -142,17 +145,13 @@ def ends_of_streams(checks, pikhsen):
         freed.append(stream._obj.runs != 0)
         return free(stream)
 
-    def unfinished():
-        decryptor = pikhsen.Decryptor(b"pw")
-        decryptor.update(file)
-
     with mock.patch.object(pikhsen._lib, "pikhsen_stream_free", noted):
-        for make in (lambda: pikhsen.Encryptor(b"pw", **CHEAP), unfinished, lambda: refusal(pikhsen.Encryptor, b"pw", log_n=0)):
+        for make in (encryptor, decryptor, lambda: refusal(pikhsen.Encryptor, b"pw", log_n=0)):
             make()
             gc.collect()
     checks.that("streams that nobody has any more", freed, [True, True, False])
     with lent_by(pikhsen._files) as lent:
-        unfinished()
+        decryptor()
     checks.that("what was lent for a text", [(len(it), it.raw.strip(b"\0")) for it in lent], [(len(file) - 96 + 32, b"")])
 
 
@@ -179,73 +178,67 @@ def threads_of_a_stream(checks, pikhsen):
 def handlers_of_a_stream(checks, pikhsen):
     """The handler of a signal runs between two lines of a call of a stream. At each it may close that: nothing waits for
     itself, and nothing is kept. No other call is made within one."""
-    file, ends = pikhsen.encrypt(b"Dear Ada", b"pw", **CHEAP), []
+    file, ends = pikhsen.encrypt(b"Dear Ada", b"pw", **CHEAP), set()
 
-    def waited(*_):
-        raise TimeoutError
-
-    def interrupted(call, at, handler):
-        """Why a call is refused where a handler runs before its line of this number; and whether it has as many."""
-        left = [at]
+    def closed_at(at, stream, call):
+        """Why a call is refused whose stream is closed before its line of this number; and whether it has as many."""
+        lines = itertools.count(1)
 
         def trace(frame, event, _):
-            if frame.f_code.co_filename != pikhsen._files.__file__:
-                return None
-            left[0] -= event == "line"
-            if event == "line" and left[0] == 0:
-                handler()
-            return trace
+            if frame.f_code.co_filename == pikhsen._files.__file__:
+                if event == "line" and next(lines) == at:
+                    stream.close()
+                return trace
 
+        faulthandler.dump_traceback_later(20, exit=True)  # where the call waits for itself
         sys.settrace(trace)
         try:
-            return refusal(call), left[0] <= 0
+            return refusal(call, stream), next(lines) > at
         finally:
             sys.settrace(None)
+            faulthandler.cancel_dump_traceback_later()
 
-    before = signal.signal(signal.SIGALRM, waited)
     for name, make, call in (
         ("Encryptor.update", lambda: pikhsen.Encryptor(b"pw", **CHEAP), lambda it: it.update(b"Dear Ada")),
         ("Encryptor.finish", lambda: pikhsen.Encryptor(b"pw", **CHEAP), lambda it: it.finish()),
         ("Decryptor.update", lambda: pikhsen.Decryptor(b"pw"), lambda it: it.update(file)),
     ):
-        at, is_there_more = 0, True
-        while is_there_more:
-            at, stream = at + 1, make()
-            signal.alarm(5)
-            why, is_there_more = interrupted(lambda: call(stream), at, stream.close)
-            signal.alarm(0)
-            ends.append(why)
-            if is_there_more:
-                after = why in (None, "ValueError", "STREAM"), stream._stream.runs, refusal(stream.update, b"x")
-                checks.that(f"{name}, closed before one of its lines", after, (True, 0, "ValueError"))
-    checks.that("what a call says that is closed in its midst", {*ends}, {None, "ValueError", "STREAM"})
-    signal.signal(signal.SIGALRM, before)
+        for at in itertools.count(1):
+            stream = make()
+            why, has_line = closed_at(at, stream, call)
+            ends.add(why)
+            if not has_line:
+                break
+            after = why in (None, "ValueError", "STREAM"), stream._stream.runs, refusal(stream.update, b"x")
+            checks.that(f"{name}, closed before one of its lines", after, (True, 0, "ValueError"))
+    checks.that("what a call says that is closed in its midst", ends, {None, "ValueError", "STREAM"})
     encryptor = pikhsen.Encryptor(b"pw", **CHEAP)
     with mock.patch.object(pikhsen._lib, "pikhsen_scrypt_encrypt_feed", lambda *_: len(encryptor.update(b"x"))):
         checks.that("a call within a call", refusal(encryptor.update, b"Dear Ada"), "RuntimeError")
 
 
-def streams_and_scrypt(checks, pikhsen, folder):
+def streams_and_scrypt(checks, pikhsen):
     """What is made in pieces, the program scrypt opens; and what that makes is opened in pieces."""
     if not is_there("scrypt", "no other program opens what is made in pieces", 6):
         return
-    ours, theirs = (f"{folder}/{it}.scrypt" for it in ("ours", "theirs"))
-    key = {"env": {**os.environ, "KEY": "a passphrase"}, "check": True, "stdout": subprocess.PIPE}
+
+    def scrypt(given, *words):
+        how = {"input": given, "stdout": subprocess.PIPE, "check": True, "env": {**os.environ, "KEY": "a passphrase"}}
+        return subprocess.run(["scrypt", *words, "--passphrase", "env:KEY", "-"], **how).stdout
+
     text = bytes(range(256)) * 300
     for size in (1000, 65536, 1 << 20):
-        pathlib.Path(ours).write_bytes(in_pieces(pikhsen.Encryptor(b"a passphrase", log_n=10), text, size))
-        opened = subprocess.run(["scrypt", "dec", "--passphrase", "env:KEY", ours], **key).stdout
-        checks.that(f"scrypt opens what was made in pieces of {size}", opened, text)
-        words = ["enc", "--logN", "10", "-r", "8", "-p", "1", "--passphrase", "env:KEY", "-", theirs]
-        subprocess.run(["scrypt", *words], input=text, **key)
-        found = in_pieces(pikhsen.Decryptor(b"a passphrase"), pathlib.Path(theirs).read_bytes(), size)
+        made = in_pieces(pikhsen.Encryptor(b"a passphrase", log_n=10), text, size)
+        checks.that(f"scrypt opens what was made in pieces of {size}", scrypt(made, "dec"), text)
+        made = scrypt(text, "enc", "--logN", "10", "-r", "8", "-p", "1")
+        found = in_pieces(pikhsen.Decryptor(b"a passphrase"), made, size)
         checks.that(f"what scrypt made, in pieces of {size}", found, text)
 
 
-def leaves(checks, why, file, content, call, *arguments, **named):
-    """A call is refused for this reason, and leaves a file with these bytes, or none, and nothing beside it."""
-    found = refusal(call, *arguments, **named), file.read_bytes() if file.exists() else None, parts(file.parent)
-    checks.that(f"{call.__name__}, {why}: {arguments[:1]} {named}", found, (why, content, []))
+def leaves(checks, name, target, why, content, call, *arguments, **named):
+    """A call is refused for this reason, or done, and leaves a file of these bytes, or none, and nothing beside it."""
+    found = refusal(call, *arguments, **named), target.read_bytes() if target.exists() else None, parts(target.parent)
+    checks.that(f"{call.__name__}, {name}", found, (why, content, []))
 
 
 def parts(folder):
@@ -264,9 +257,9 @@ def kept_files_from_python(checks, pikhsen, folder):
         pikhsen.decrypt_file(os.fsencode(file), again, b"pw", keep=4)
         checks.that(f"text of a file, {len(content)}", again.read_bytes(), content)
         checks.that("modes of new files", [it.stat().st_mode & 0o777 for it in (file, again)], [0o600] * 2)
-        leaves(checks, EXISTS, file, whole, pikhsen.encrypt_file, text, file, b"pw")
+        leaves(checks, "where there is a file", file, EXISTS, whole, pikhsen.encrypt_file, text, file, b"pw")
         # and nothing is tested before that
-        leaves(checks, EXISTS, again, content, pikhsen.decrypt_file, file, again, b"PW")
+        leaves(checks, "where there is a file", again, EXISTS, content, pikhsen.decrypt_file, file, again, b"PW")
         again.unlink()
         for why, given, named in (
             ("DAMAGED", whole[:-1], {}), ("DAMAGED", whole + b"x", {}), ("CHECKSUM", whole[:63] + b"x" * 65, {}),
@@ -274,48 +267,48 @@ def kept_files_from_python(checks, pikhsen, folder):
             *((why, whole, named) for why, named in BELOW_CHEAP), ("KEEP", whole, {"keep": 3}), ("MAGIC", b"x" * 200, {}),
         ):
             file.write_bytes(given)
-            leaves(checks, why, again, None, pikhsen.decrypt_file, file, again, **{"passphrase": b"pw", **named})
+            leaves(checks, why, again, why, None, pikhsen.decrypt_file, file, again, **{"passphrase": b"pw", **named})
             checks.that(f"decrypt_file, {why}: its source", file.read_bytes(), given)
         file.unlink()
-    for why, named in (("LOG_N", {"log_n": 0}), ("FILE_SALT", {"salt": b"s" * 31}), *BELOW_CHEAP):
-        leaves(checks, why, file, None, pikhsen.encrypt_file, text, file, b"pw", **{**CHEAP, **named})
+    for why, named in NOT_MADE:
+        leaves(checks, why, file, why, None, pikhsen.encrypt_file, text, file, b"pw", **{**CHEAP, **named})
     for call, costs, opened in (
         (pikhsen.encrypt_file, CHEAP, io.BytesIO()), (pikhsen.decrypt_file, {}, io.BytesIO(pikhsen.encrypt(b"text", b"pw", **CHEAP))),
     ):
-        leaves(checks, os.strerror(errno.EISDIR), file, None, call, folder, file, b"pw", **costs)
+        leaves(checks, "of a folder", file, os.strerror(errno.EISDIR), None, call, folder, file, b"pw", **costs)
         for source, target in ((5, file), (None, file), (text, 5), (io.StringIO("text"), file), (opened, io.StringIO())):
-            found = refusal(call, source, target, b"pw", **costs), file.exists(), parts(folder)
-            checks.that(f"{call.__name__} of what is no file: {type(source).__name__}, {type(target).__name__}", found, ("TypeError", False, []))
+            what = f"of what is no file: {type(source).__name__}, {type(target).__name__}"
+            leaves(checks, what, file, "TypeError", None, call, source, target, b"pw", **costs)
 
 
 def names_of_new_files(checks, pikhsen, folder):
     """A new file has its name when it is whole, and replaces none; also where a file has one name alone."""
-    source, target = (pathlib.Path(folder, it) for it in ("Dear", "Ada"))
-    content = bytes(range(256)) * 1000
+    source, target, beside = (pathlib.Path(folder, it) for it in ("Dear", "Ada", "beside"))
+    content, seen = bytes(range(256)) * 1000, set()
     source.write_bytes(pikhsen.encrypt(content, b"pw", **CHEAP))
-    seen = []
 
     def look(*_):
-        seen.append((target.exists(), [it.stat().st_mode & 0o777 for it in parts(folder)]))
+        seen.add((target.exists(), *(it.stat().st_mode & 0o777 for it in parts(folder))))
 
     for links in (os.link, NO_LINKS):
         with mock.patch.object(os, "link", links):
-            pikhsen.decrypt_file(source, target, b"pw", progress=look)
-            checks.that("a file that gets its name", (target.read_bytes(), parts(folder), {*map(str, seen)}), (content, [], {str((False, [0o600]))}))
+            leaves(checks, "a name", target, None, content, pikhsen.decrypt_file, source, target, b"pw", progress=look)
             target.unlink()
-            found = refusal(pikhsen.decrypt_file, source, target, b"pw", progress=lambda *_: target.write_bytes(b"of another"))
-            checks.that("a file that another made meanwhile", (found, target.exists() and target.read_bytes(), parts(folder)), (EXISTS, b"of another", []))
+            leaves(checks, "where another made a file meanwhile", target, EXISTS, b"of another", pikhsen.decrypt_file,
+                   source, target, b"pw", progress=lambda *_: target.write_bytes(b"of another"))
         target.unlink()
-    beside, found = target.with_suffix(".beside"), []
+    checks.that("files that have not got their names", seen, {(False, 0o600)})
+    found = []
     pikhsen.decrypt_file(source, target, b"pw", progress=lambda *_: found.append(refusal(pikhsen.decrypt_file, source, beside, b"pw")))
     checks.that("two new files at once", (found[0], beside.exists() and beside.read_bytes()), (None, content))
     target.unlink()
-    beside = pathlib.Path(folder, f".pikhsen-{bytes(8).hex()}")
-    beside.write_bytes(b"of another")
+    first = pathlib.Path(folder, f".pikhsen-{bytes(8).hex()}")
+    first.write_bytes(b"of another")
     with mock.patch.object(os, "urandom", bytes):
         found = refusal(pikhsen.decrypt_file, source, target, b"pw")
-    checks.that("a file that has another's first name", (found, beside.read_bytes(), target.exists()), (EXISTS, b"of another", False))
-    beside.unlink()
+    found = found, first.read_bytes(), target.exists()
+    checks.that("a file that has another's first name", found, (EXISTS, b"of another", False))
+    first.unlink()
 
 
 def names_that_fail(checks, pikhsen, folder):
@@ -337,9 +330,9 @@ def names_that_fail(checks, pikhsen, folder):
         ("is not replaced at Ctrl-C", KeyboardInterrupt(), "KeyboardInterrupt", None), ("is replaced at Ctrl-C", late, "KeyboardInterrupt", None),
     ):
         with mock.patch.object(os, "link", NO_LINKS), mock.patch.object(os, "replace", mock.Mock(side_effect=replacing)) as replaced:
-            found = refusal(pikhsen.encrypt_file, io.BytesIO(b"x"), target, b"pw", **CHEAP)
-        left = target.read_bytes() if target.exists() else None
-        checks.that(f"an empty file that {name}", (found, left, parts(folder), replaced.call_count), (why, content, [], 1))
+            leaves(checks, f"an empty file that {name}", target, why, content, pikhsen.encrypt_file, io.BytesIO(b"x"),
+                   target, b"pw", **CHEAP)
+        checks.that(f"an empty file that {name}: calls", replaced.call_count, 1)
         target.unlink(missing_ok=True)
 
 
@@ -491,7 +484,7 @@ def opened_files_from_python(checks, pikhsen, folder):
     found = refusal(pikhsen.encrypt_file, silent, silent, b"pw", salt=SALT, **CHEAP)
     checks.that("what is opened and ends too early", found, NO_DATA)
     checks.that("what says nothing of a write", bytes(taken), file[:-32])
-    leaves(checks, NO_DATA, new, None, pikhsen.encrypt_file, silent, new, b"pw", **CHEAP)
+    leaves(checks, "of what ends too early", new, NO_DATA, None, pikhsen.encrypt_file, silent, new, b"pw", **CHEAP)
     for count in (-1, len(file) + 1):
         # if such an answer were believed, and the rest written again: three calls at most
         target = mock.Mock(spec=["write"], **{"write.side_effect": [count] * 3})
@@ -559,10 +552,13 @@ def interrupted(checks, folder, lib):
 
 def files_of_python(checks, pikhsen, folder, lib):
     """All of this file: over the library in one folder, with files of its own in another."""
-    for part in (streams_from_python, damage_in_pieces, ends_of_streams, threads_of_a_stream, handlers_of_a_stream):
+    for part in (
+        streams_from_python, damage_in_pieces, ends_of_streams, threads_of_a_stream, handlers_of_a_stream,
+        streams_and_scrypt,
+    ):
         part(checks, pikhsen)
     for part in (
-        streams_and_scrypt, kept_files_from_python, names_of_new_files, names_that_fail, paths_of_new_files, parts_of_another,
+        kept_files_from_python, names_of_new_files, names_that_fail, paths_of_new_files, parts_of_another,
         synced_from_python, opened_files_from_python,
     ):
         part(checks, pikhsen, folder)

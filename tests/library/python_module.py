@@ -30,7 +30,7 @@ import values_table
 from binaries import V3, runs_v3
 from checking import compiled, is_there, over_library
 from encoded_texts import work_of
-from python_files import BELOW_CHEAP, CHEAP, files_of_python, lent_by, raised, refusal, refused
+from python_files import CHEAP, NOT_MADE, SALT, files_of_python, lent_by, raised, refusal, refused
 from scrypt_files import of_costs
 from shown import LIBRARY, STORED, with_module
 from tree import TOP, VERSION
@@ -45,24 +45,24 @@ TAGS = {
 REFERENCE = "$argon2i$v=19$m=65536,t=2,p=4$c29tZXNhbHQ$RdescudvJCsgt3ub+b+dWRWJTmaaJObG"
 
 
+# printf password | argon2 somesalt -t 2 -m 8 -v 10
+OLD = "$argon2i$v=16$m=256,t=2,p=1$c29tZXNhbHQ$/U3YPXYsSb3q9XxHvc0MLxur+GP960kN9j7emXX8zwY"
+SMALL = {"passes": 1, "memory_kib": 8, "lanes": 1}
+
+
 def from_python(checks, pikhsen):
     checks.that("version", pikhsen.version(), VERSION)
-    text = pikhsen.encode(b"password", salt=b"somesalt", passes=2, memory_kib=65536, lanes=4, length=24, kind=pikhsen.Kind.I)
-    checks.that("encoded text", text, REFERENCE)
-    # printf password | argon2 somesalt -t 2 -m 8 -v 10, with its version and without
-    old = "$argon2i$v=16$m=256,t=2,p=1$c29tZXNhbHQ$/U3YPXYsSb3q9XxHvc0MLxur+GP960kN9j7emXX8zwY"
-    found = pikhsen.encode(b"password", salt=b"somesalt", passes=2, memory_kib=256, lanes=1, kind=pikhsen.Kind.I, version=0x10)
-    checks.that("encoded text, version 0x10", found, old)
-    for told in (text, old, old.replace("v=16$", "")):
+    for text, settings in (
+        (REFERENCE, {"memory_kib": 65536, "lanes": 4, "length": 24}),
+        (OLD, {"memory_kib": 256, "lanes": 1, "version": 0x10}),
+    ):
+        found = pikhsen.encode(b"password", salt=b"somesalt", passes=2, kind=pikhsen.Kind.I, **settings)
+        checks.that(f"encoded text, {settings}", found, text)
+    for told in (REFERENCE, OLD, OLD.replace("v=16$", "")):
         checks.that(f"right password of {told[:20]}", pikhsen.verify(told, b"password"), True)
         checks.that(f"wrong password of {told[:20]}", pikhsen.verify(told, b"passwore"), False)
-    rows = ("MEMORY_LIMIT", {"max_kib": 65535}), ("WORK_LIMIT", {"max_ops": 1000})
-    refused(checks, rows, pikhsen.verify, text, b"password")
-    rows = ("MEMORY_LIMIT", {"memory_kib": 1024, "max_kib": 1023}), ("SALT_LENGTH", {"memory_kib": 32, "salt": b"saltsal"})
-    refused(checks, rows, pikhsen.hash, password=b"x", salt=b"saltsalt")
-    rows = ("MEMORY_LIMIT", {"max_kib": 1023}), ("WORK_LIMIT", {"max_ops": 1023})
-    refused(checks, rows, pikhsen.encode, password=b"x", memory_kib=1024)
-    longest = pikhsen.encode(b"x" * 127, passes=1, memory_kib=8, lanes=1, length=4096, salt=b"s" * 255)
+    refused(checks, [("SALT_LENGTH", {"salt": b"saltsal"})], pikhsen.hash, password=b"x")
+    longest = pikhsen.encode(b"x" * 127, length=4096, salt=b"s" * 255, **SMALL)
     checks.that("longest text", pikhsen.verify(longest, b"x" * 127), True)
 
 
@@ -76,7 +76,7 @@ LENGTHS = {
 
 def any_password_from_python(checks, pikhsen):
     """By the module, and by the library's functions without a secret, which it does not call."""
-    small, library = {"salt": b"somesalt", "passes": 1, "memory_kib": 8, "lanes": 1}, pikhsen._lib
+    small = {"salt": b"somesalt", **SMALL}
     for length, symbols in LENGTHS.items():
         text, password = f"$argon2id$v=19$m=8,t=1,p=1$c29tZXNhbHQ${symbols}", b"p" * length
         checks.that(f"hash, a password of {length}", pikhsen.hash(password, **small), base64.b64decode(symbols + "="))
@@ -85,10 +85,10 @@ def any_password_from_python(checks, pikhsen):
         checks.that(f"verify, a password of not {length}", pikhsen.verify(text, password + b"p"), False)
         out, settings = pikhsen._buffer(len(text) + 1), (pikhsen.Kind.ID, 0x13, 1, 8, 1)
         given = *settings, password, b"somesalt", 32, 8, 10, out, ctypes.byref(ctypes.c_size_t())
-        found = pikhsen._number(library.pikhsen_argon2_encoded, *given), out.value.decode()
+        found = pikhsen._number(pikhsen._lib.pikhsen_argon2_encoded, *given), out.value.decode()
         checks.that(f"encoded without a secret, a password of {length}", found, (pikhsen.Status.OK, text))
         for given, status in ((password, pikhsen.Status.OK), (password + b"p", pikhsen.Status.MISMATCH)):
-            found = pikhsen._number(library.pikhsen_argon2_verify, text.encode(), given, 8, 10)
+            found = pikhsen._number(pikhsen._lib.pikhsen_argon2_verify, text.encode(), given, 8, 10)
             checks.that(f"verified without a secret, {len(given)} bytes for {length}", found, status)
 
 
@@ -121,9 +121,8 @@ def texts_of_others(checks, pikhsen):
              re.findall(r"^\| .* \| `(m=(\d+),t=\d+,p=\d+)` \| ([\d,]+) \|$", LIBRARY, re.MULTILINE)}
     checks.that("settings of LIBRARY's table", sorted(table), sorted({it.split("$")[-3] for it in STORED}))
     for stored in STORED:
-        text, (kib, ops) = stored.removeprefix("argon2"), table[stored.split("$")[-3]]
+        text, (kib, ops), answers = stored.removeprefix("argon2"), table[stored.split("$")[-3]], []
         limits = {"max_kib": kib, "max_ops": ops}
-        answers = []
         why = refusal(lambda: answers.append(pikhsen.verify(text, b"correct horse", **limits)))
         checks.that(f"least limits: {text[:34]}", (why, answers), (None, [True]))
         less = ("MEMORY_LIMIT", {"max_kib": kib - 1}), ("WORK_LIMIT", {"max_ops": ops - 1})
@@ -157,11 +156,10 @@ def files_from_python(checks, pikhsen):
         file = pikhsen.encrypt(text, b"pw", **CHEAP)
         found = pikhsen.decrypt(file, b"pw", keep=4), refusal(pikhsen.decrypt, file, b"PW"), pikhsen.info(file)
         checks.that(f"file, {len(text)}", (len(file), *found), (len(text) + 128, text, "WRONG_PASSPHRASE", (4, 1, 1)))
-    checks.that("salt", refusal(pikhsen.encrypt, b"", b"", salt=b"s" * 31), "FILE_SALT")
-    salt = b"s" * 32
-    file, by_keep = (pikhsen.encrypt(b"hello", b"pw", salt=salt, keep=keep, **CHEAP) for keep in (1, 8))
+    checks.that("salt", refusal(pikhsen.encrypt, b"", b"", salt=SALT[1:]), "FILE_SALT")
+    file, by_keep = (pikhsen.encrypt(b"hello", b"pw", salt=SALT, keep=keep, **CHEAP) for keep in (1, 8))
     checks.that("file by every keep", file == by_keep, True)
-    checks.that("header", file[:64], of_costs(4, 1, 1, salt))
+    checks.that("header", file[:64], of_costs(4, 1, 1, SALT))
     changed = [file[:at] + bytes([file[at] ^ 1]) + file[at + 1:] for at in range(len(file))]
     whys = [refusal(pikhsen.decrypt, each, b"pw") for each in changed]
     expected = ["MAGIC"] * 6 + ["FORMAT_VERSION"] + ["CHECKSUM"] * 57 + ["WRONG_PASSPHRASE"] * 32 + ["DAMAGED"] * 37
@@ -171,7 +169,7 @@ def files_from_python(checks, pikhsen):
     heads = [refusal(pikhsen.info, file[:length]) for length in range(len(file) + 1)]
     checks.that("each cut, info", heads, ["TOO_SHORT"] * 64 + [None] * 70)
     rows = ("MEMORY_LIMIT", {"max_bytes": 1 << 20}), ("WORK_LIMIT", {"max_ops": 1 << 20}), ("KEEP", {"keep": 7})
-    refused(checks, rows, pikhsen.decrypt, of_costs(20, 8, 1, salt) + bytes(64), b"pw")
+    refused(checks, rows, pikhsen.decrypt, of_costs(20, 8, 1, SALT) + bytes(64), b"pw")
     refused(checks, [("KEEP_ABOVE_N", {"keep": 16})], pikhsen.decrypt, pikhsen.encrypt(b"", b"", log_n=3), b"")
     # of several reasons the first: wrong types, the length, the header, keep, the limits
     none = {"keep": 7, "max_bytes": 0, "max_ops": 0}
@@ -187,19 +185,15 @@ def files_from_python(checks, pikhsen):
 
 def in_place_from_python(checks, pikhsen):
     """The same file as `encrypt` makes, in the buffer of its text; or the text as it was."""
-    salt = b"s" * 32
     for text in (b"", b"Dear Ada", bytes(range(256)) * 300):
-        file = pikhsen.encrypt(text, b"pw", salt=salt, **CHEAP)
+        file = pikhsen.encrypt(text, b"pw", salt=SALT, **CHEAP)
         for form in (bytearray, lambda it: memoryview(bytearray(it)), mapped):
             buffer = form(text + b"x" * 128)
-            pikhsen.encrypt_in_place(buffer, b"pw", salt=salt, keep=4, **CHEAP)
+            pikhsen.encrypt_in_place(buffer, b"pw", salt=SALT, keep=4, **CHEAP)
             checks.that(f"in place, {len(text)} bytes", bytes(memoryview(buffer)), file)
     buffer = bytearray(b"Dear Ada" + bytes(128))
     before = bytes(buffer)
-    rows = (
-        ("FILE_SALT", {"salt": b"s" * 31}), ("LOG_N", {"log_n": 0}), ("KEEP", {"keep": 3}), *BELOW_CHEAP,
-        ("BUFFER", {"buffer": bytearray(127)}), ("TypeError", {"buffer": before}),
-    )
+    rows = *NOT_MADE, ("BUFFER", {"buffer": bytearray(127)})
     refused(checks, rows, pikhsen.encrypt_in_place, buffer=buffer, passphrase=b"pw", **CHEAP)
     checks.that("in place, refused", bytes(buffer), before)
     try:
@@ -227,15 +221,14 @@ for buffer in (bytearray(136), mmap.mmap(-1, 136), memoryview(bytearray(136)), b
 
 def in_place_from_pypy(checks, lib):
     """The same buffers are taken under PyPy, whose ctypes does not look at them."""
-    for python in (sys.executable, *["pypy3"] * is_there("pypy3", "the module is not called from it")):
-        found = with_module(lib, "-c", IN_PLACE, python=python)
-        checks.that(f"in place, by {python}", found, (0, "True True True True TypeError True TypeError "))
+    if is_there("pypy3", "the module is not called from it", 1):
+        found = with_module(lib, "-c", IN_PLACE, python="pypy3")
+        checks.that("in place, by pypy3", found, (0, "True True True True TypeError True TypeError "))
 
 
 def settings_from_python(checks, pikhsen):
     """What a text says of its settings, and whether its hash is to be made anew."""
-    text, cheap = REFERENCE, {"passes": 1, "memory_kib": 8, "lanes": 1}
-    told = pikhsen.settings(text)
+    text, told = REFERENCE, pikhsen.settings(REFERENCE)
     checks.that("settings", told, (pikhsen.Kind.I, 0x13, 2, 65536, 4, 8, 24))
     checks.that("settings of bytes", pikhsen.settings(text.encode()), told)
     checks.that("settings without a version", pikhsen.settings(text.replace("v=19$", "")).version, 0x10)
@@ -245,9 +238,9 @@ def settings_from_python(checks, pikhsen):
         for other in (value - 1, value + 1, -1, 1 << 70):
             checks.that(f"other settings: {name} {other}", pikhsen.needs_rehash(text, **{**same, name: other}), True)
     checks.that("settings of encode", pikhsen.needs_rehash(pikhsen.encode(b"password")), False)
-    stored = pikhsen.encode(b"password", **cheap)
+    stored = pikhsen.encode(b"password", **SMALL)
     checks.that("a cheap text", pikhsen.needs_rehash(stored), True)
-    checks.that("a cheap text that is wanted", pikhsen.needs_rehash(stored, **cheap), False)
+    checks.that("a cheap text that is wanted", pikhsen.needs_rehash(stored, **SMALL), False)
     for why, outside in (
         ("TEXT_VERSION", text.replace("v=19", "v=18")), ("TEXT_PASSES", text.replace("t=2", "t=4294967296")),
         ("TEXT_LANES", text.replace("p=4", "p=0")), ("TEXT_MEMORY", text.replace("m=65536", "m=31")),
@@ -281,7 +274,7 @@ def threads_from_python(checks, pikhsen):
     def work(number):
         password = b"%d" % number
         text = pikhsen.encode(password, salt=b"somesalt", memory_kib=256, lanes=2)
-        file = pikhsen.encrypt(password, password, log_n=6, salt=b"s" * 32)
+        file = pikhsen.encrypt(password, password, log_n=6, salt=SALT)
         return text, pikhsen.verify(text, password), pikhsen.decrypt(file, password) == password, file
 
     with concurrent.futures.ThreadPoolExecutor(8) as pool:
@@ -312,7 +305,7 @@ def arguments_from_python(checks, pikhsen):
     """All that holds bytes is taken for its bytes, and nothing else is."""
     # all have lengths that 4 divides, and so has the text
     salt, file_salt = b"salt" * 3, b"salt" * 8
-    small = {"passes": 1, "memory_kib": 8, "lanes": 1, "length": 30}
+    small = {"length": 30, **SMALL}
     tag, key = pikhsen.hash(b"password", salt, **small), pikhsen.scrypt(b"password", salt, log_n=4)
     text = pikhsen.encode(b"password", salt=salt, **small)
     file = pikhsen.encrypt(b"Dear Ada", b"password", log_n=4, salt=file_salt)
@@ -381,8 +374,6 @@ def limits_from_python(checks, pikhsen):
         for passes, kib, lanes in ((1, 8, 1), (2, 519, 1), (3, 1030, 2), (1, 1024, 2)):
             settings = {"kind": kind, "passes": passes, "memory_kib": kib, "lanes": lanes}
             most, blocks = work_of(kind, kib, passes, lanes), kib // (4 * lanes) * 4 * lanes
-            rows = (None, {}), ("WORK_LIMIT", {"max_ops": most - 1}), ("MEMORY_LIMIT", {"max_kib": blocks - 1})
-            refused(checks, rows, pikhsen.hash, b"x", b"saltsalt", max_ops=most, max_kib=blocks, **settings)
             text = pikhsen.encode(b"x", **settings)
             needs = [("the hash", "KiB", "max_kib", blocks), ("the hash", "block functions", "max_ops", most)]
             exact(checks, pikhsen, needs, pikhsen.hash, b"x", b"saltsalt", **settings)
@@ -428,7 +419,7 @@ def great_limits_from_python(checks, pikhsen):
         (pikhsen.hash, (b"", salt), {"memory_kib": great, "passes": great}, "max_kib", 2**32 - 16, None),
         (pikhsen.scrypt, (b"", b""), {"log_n": 33, "r": 1}, "max_bytes", 2**40, None),
         (pikhsen.scrypt, (b"", b""), {"log_n": 33, "r": 2}, "max_bytes", 2**41, 2**40),
-        (pikhsen.decrypt, (of_costs(63, 8, 2**26, b"s" * 32) + bytes(32), b""), {}, "max_bytes", 2**73, 2**40),
+        (pikhsen.decrypt, (of_costs(63, 8, 2**26, SALT) + bytes(32), b""), {}, "max_bytes", 2**73, 2**40),
     ):
         told = raised(call, *given, **named, **{parameter: needed - 1, "max_ops": 0})
         checks.that(f"{call.__name__}, {named}: {parameter}", (told.needed, told.allowed), (needed, allowed or needed - 1))
@@ -446,12 +437,11 @@ def signatures_from_python(checks, pikhsen):
     for name, short, result, about in re.findall(signature, pikhsen.__doc__, re.MULTILINE):
         rows.append((f"{name}({short}) -> {result}", about))
         whole = re.sub("[A-Z]{4,}", lambda it: words[it[0]], short)
-        told[name] = parameters_of(eval(f"lambda {whole}: 0", vars(pikhsen))), result
-    functions = {it: getattr(pikhsen, it) for it in pikhsen.__all__ if inspect.isfunction(getattr(pikhsen, it))}
-    annotated = {name: getattr(inspect.signature(it).return_annotation, "__name__", "None") for name, it in functions.items()}
-    streams = {it.__name__: it for it in (pikhsen.Encryptor, pikhsen.Decryptor)}
-    checks.that("signatures at the head of the module", told, {
-        name: (parameters_of(it), annotated.get(name, name)) for name, it in {**functions, **streams}.items()})
+        told[name] = *form_of(eval(f"lambda {whole}: 0", vars(pikhsen)))[:2], result
+    public = [getattr(pikhsen, it) for it in pikhsen.__all__]
+    streams = pikhsen.Encryptor, pikhsen.Decryptor
+    called = {it.__name__: form_of(it) for it in public if inspect.isfunction(it) or it in streams}
+    checks.that("signatures at the head of the module", told, called)
     lines = pydoc.plain(pydoc.render_doc(pikhsen)).splitlines()
     late = [it for it in told if not any(line.strip().startswith(f"{it}(") for line in lines[:60])]
     checks.that("functions that help does not show in its first 60 lines", late, [])
@@ -459,17 +449,19 @@ def signatures_from_python(checks, pikhsen):
     checks.that("LIBRARY's words of that table", dict(re.findall(r"^\| `([A-Z]+)` \| `(.*)` \|$", LIBRARY, re.MULTILINE)), words)
 
 
-def parameters_of(function):
-    """The parameters of a function that are given by their place, and those that are given by their name, with what they are if not."""
-    parameters = inspect.signature(function).parameters.values()
-    named = {it.name: it.default for it in parameters if it.kind == it.KEYWORD_ONLY}
-    return [it.name for it in parameters if it.name not in named], named
+def form_of(function):
+    """The parameters of a function that are given by their place, and those that are given by their name, with what
+    they are if not; and the name of its result."""
+    signature = inspect.signature(function)
+    named = {it.name: it.default for it in signature.parameters.values() if it.kind == it.KEYWORD_ONLY}
+    result = function if inspect.isclass(function) else signature.return_annotation
+    return [it for it in signature.parameters if it not in named], named, getattr(result, "__name__", str(result))
 
 
 def salts_from_python(checks, pikhsen):
     """A salt that is not given is what the system gave for it."""
     for name, length, made_by in (
-        ("text", 16, lambda: base64.b64decode(pikhsen.encode(b"password", passes=1, memory_kib=8, lanes=1).split("$")[4] + "==")),
+        ("text", 16, lambda: base64.b64decode(pikhsen.encode(b"password", **SMALL).split("$")[4] + "==")),
         ("file", 32, lambda: pikhsen.encrypt(b"Dear Ada", b"password", **CHEAP)[16:48]),
         ("file in pieces", 32, lambda: pikhsen.Encryptor(b"password", **CHEAP).finish()[16:48]),
     ):
@@ -525,19 +517,15 @@ with concurrent.futures.ProcessPoolExecutor(1, multiprocessing.get_context("spaw
 """
 
 
-def stub(out, version, names):
-    """A library of this version with these functions, which answer numbers that the module doesn't know, and 9."""
-    answers = {"pikhsen_version": version, "pikhsen_argon2_hash": "4000000000u", "pikhsen_scrypt_info": 9}
-    text = "".join(f"unsigned int {name}(void) {{ return {answers.get(name, 77)}; }}\n" for name in names)
-    compiled(text, out, "-shared", "-fPIC")
-
-
 def libraries_of_python(checks, pikhsen, folder, lib):
     """Libraries that the module must refuse to load, numbers that it doesn't know, and which library it loads."""
     right, other, newer, lacks = f"{lib}/libpikhsen.so.0", *(f"{folder}/{it}.so" for it in ("other", "newer", "lacks"))
     names = list(pikhsen._PARAMETERS)
     for out, number, has in ((other, 10203, names), (newer, 199, names), (lacks, 100, names[:-1])):
-        stub(out, number, has)
+        # numbers that the module doesn't know, and 9
+        answers = {"pikhsen_version": number, "pikhsen_argon2_hash": "4000000000u", "pikhsen_scrypt_info": 9}
+        text = "".join(f"unsigned int {name}(void) {{ return {answers.get(name, 77)}; }}\n" for name in has)
+        compiled(text, out, "-shared", "-fPIC")
     installed_for_levels(checks, pikhsen, folder, lib, newer)
     module = f"import sys; sys.path.insert(0, {str(TOP / 'python')!r}); import pikhsen; print(pikhsen.version())"
     for name, named, options, expected in (

@@ -1,24 +1,23 @@
 /*
- * What calls of libpikhsen leave in memory and in vector registers, for tests/library/c_face.py. CALL is one of the
- * table below.
+ * What each call of the table below leaves in memory and in vector registers, a line for each, for
+ * tests/library/c_face.py:
+ *
+ *     secrets painted      paints the stack below the frame of a function, makes the call from there, and looks at the
+ *                          paint
+ *     secrets freed        looks at each block of memory when it is freed, or, where the call also frees the text of a
+ *                          hash, which is no secret, at each of 1,024 bytes and more
+ *     secrets registers    puts zeros into all vector registers that the processor has, makes the call, and says which
+ *                          of them are not 0 as soon as it returns: of the sixteen of 16 bytes, or of 32 with AVX, or
+ *                          of the thirty-two of 64 bytes with AVX-512
+ *
+ * or keeps one call's process, so that its memory can be searched:
  *
  *     secrets CALL            makes the call, says "0" where it was told PIKHSEN_OK, wipes the key that it gave, and
- *                             waits for the end of standard input, so that its memory can be searched for what is
- *                             left
+ *                             waits for the end of standard input
  *     secrets kept            the same of a key by scrypt, which stays where the call wrote it
  *     secrets stack           the same, in an array on the stack
  *     secrets again CALL      says the same, and makes the call again and again, for a minute if nobody ends the
  *                             process before, so that what a key is made of can be found while it is still there
- *     secrets painted CALL    paints the stack below the frame of a function, makes the call from there, and looks at
- *                             the paint
- *     secrets freed CALL      looks at each block of memory when the library frees it, or, where the call also frees
- *                             the text of a hash, which is no secret, at each of 1,024 bytes and more: the linker
- *                             puts the functions below in the place of the C library's (--wrap)
- *     secrets registers CALL  puts zeros into all vector registers that the processor has, makes the call, and says
- *                             which of them are not 0 as soon as it returns: of the sixteen of 16 bytes, or of 32
- *                             with AVX, or of the thirty-two of 64 bytes with AVX-512
- *
- * Any other words end it with status 2.
  */
 #include <stdio.h>
 #include <stdlib.h>
@@ -26,6 +25,7 @@
 #include <unistd.h>
 
 #include "pikhsen.h"
+#include "refusing.h"
 
 #define NOINLINE __attribute__((noinline))
 
@@ -96,72 +96,6 @@ static unsigned int free_seven(void), leave_key_in_three(void);
 	DO("three", three, NULL, leave_key_in_three())
 #define FUNCTION(name, call, before, answer) static unsigned int call(void) { return answer; }
 CALLS(FUNCTION)
-
-/* How many bytes were freed in blocks of this size and more, and how many of these bytes were not 0. */
-static size_t least = 1, freed, not_zero;
-
-/* What stands in the 16 bytes before a block, which stands as the C library's do: its size, and where it was taken from. */
-struct before {
-	size_t size;
-	void *start;
-};
-
-void *__real_malloc(size_t size);
-void *__real_aligned_alloc(size_t alignment, size_t size);
-void __real_free(void *block);
-
-/* The block of this size that begins so far behind a start; null where that is null. */
-static void *block_behind(void *start, size_t distance, size_t size)
-{
-	struct before *before;
-
-	if (start == NULL)
-		return NULL;
-	before = (void *)((unsigned char *)start + distance - sizeof *before);
-	before->size = size;
-	before->start = start;
-	return before + 1;
-}
-
-void *__wrap_malloc(size_t size)
-{
-	return block_behind(__real_malloc(sizeof(struct before) + size), sizeof(struct before), size);
-}
-
-void *__wrap_aligned_alloc(size_t alignment, size_t size)
-{
-	return block_behind(__real_aligned_alloc(alignment, alignment + size), alignment, size);
-}
-
-void __wrap_free(void *block)
-{
-	const unsigned char *bytes = block;
-	const struct before *before = block;
-	size_t at;
-
-	if (block == NULL)
-		return;
-	--before;
-	if (before->size >= least) {
-		freed += before->size;
-		for (at = 0; at < before->size; ++at)
-			not_zero += bytes[at] != 0;
-	}
-	__real_free(before->start);
-}
-
-void *__wrap_realloc(void *block, size_t size)
-{
-	void *moved = __wrap_malloc(size);
-	size_t before = 0;
-
-	if (block != NULL && moved != NULL) {
-		before = ((struct before *)block)[-1].size;
-		memcpy(moved, block, before < size ? before : size);
-		__wrap_free(block);
-	}
-	return moved;
-}
 
 static unsigned int free_seven(void)
 {
@@ -274,7 +208,7 @@ static NOINLINE int others(size_t from, size_t to, unsigned char byte)
  * The library wipes 32 KiB of the stack after a call, and so all that the call used must be in these 32 KiB. Zeros are
  * wanted in their place, and deeper the paint, untouched. Between the two is what the wiping needs for itself.
  */
-static NOINLINE int painted(call_t call)
+static NOINLINE void painted(call_t call)
 {
 	const size_t frame = (size_t)__builtin_frame_address(0);
 	unsigned int told;
@@ -285,17 +219,17 @@ static NOINLINE int painted(call_t call)
 	not_wiped = others(frame - WIPED, frame - NEAR, 0);
 	touched = others(frame - FAR, frame - REACHED, PAINT);
 	printf("told %u, not wiped %d, touched deeper %d\n", told, not_wiped, touched);
-	return 0;
 }
 
-static int look_at_freed(call_t call)
+static void look_at_freed(call_t call)
 {
+	const long before = live;
 	unsigned int told;
 
-	freed = not_zero = 0;
+	asked = not_zero = 0;
 	told = call();
-	printf("told %u, freed %lu, not zero %lu\n", told, (unsigned long)freed, (unsigned long)not_zero);
-	return 0;
+	printf("told %u, asked for %lu, not freed %ld, not zero %lu\n", told, (unsigned long)asked, live - before,
+	    (unsigned long)not_zero);
 }
 
 enum { REGISTERS = 32, WIDTH = 64 };
@@ -332,7 +266,7 @@ static unsigned int leave_key_in_three(void)
 	return told;
 }
 
-static int look_at_registers(call_t call)
+static void look_at_registers(call_t call)
 {
 	static const unsigned char zeros[WIDTH];
 	unsigned int told, number;
@@ -344,25 +278,33 @@ static int look_at_registers(call_t call)
 		if (memcmp(registers[number], zeros, WIDTH) != 0)
 			printf(" %u", number);
 	printf("\n");
-	return 0;
 }
 
 int main(int count, char **words)
 {
 	static const struct {
 		const char *name;
-		int (*look)(call_t);
-	} looks[] = {{"again", again}, {"painted", painted}, {"registers", look_at_registers}, {"freed", look_at_freed}};
+		void (*look)(call_t);
+	} looks[] = {{"painted", painted}, {"freed", look_at_freed}, {"registers", look_at_registers}};
+	void (*look)(call_t) = NULL;
 	call_t call;
 	size_t at;
 
+	for (at = 0; at < sizeof looks / sizeof looks[0]; ++at)
+		if (count == 2 && strcmp(words[1], looks[at].name) == 0)
+			look = looks[at].look;
 	memset(salt, 7, sizeof salt);
-	if (count == 2)
+	if (count == 3 && strcmp(words[1], "again") == 0)
+		return (call = call_of(words[2])) == NULL ? 2 : again(call);
+	if (count == 2 && look == NULL)
 		return wait_after_call(words[1]);
-	call = count == 3 ? call_of(words[2]) : NULL;
-	least = call == encode || call == verify || call == encode_keyed || call == verify_keyed ? 1024 : 1;
-	for (at = 0; call != NULL && at < sizeof looks / sizeof looks[0]; ++at)
-		if (strcmp(words[1], looks[at].name) == 0)
-			return looks[at].look(call);
-	return 2;
+	for (at = 0; look != NULL && at < sizeof calls / sizeof calls[0]; ++at) {
+		call = calls[at].call;
+		if (calls[at].before != NULL && calls[at].before() != PIKHSEN_OK)
+			return 1;
+		least = call == encode || call == verify || call == encode_keyed || call == verify_keyed ? 1024 : 1;
+		printf("%s: ", calls[at].name);
+		look(call);
+	}
+	return 0;
 }

@@ -3,8 +3,7 @@ import re
 
 from checking import is_there, ran
 from tree import TOP, read
-from values_table import COMMANDS, PROGRAMS, options
-from written import RANGE, found
+from values_table import COMMANDS, PROGRAMS, RANGE, found, options
 
 ASKING = [("scrypt-ask", "enc"), ("scrypt-ask", "dec")]
 # Words that are typed, before a bar where nothing is, and all that bash offers for the last one in include/.

@@ -11,7 +11,7 @@ from tree import prove
 
 TESTS = {"tests", "tests.rt", "testing.rt", "fixtures.rt"}
 TYPE = re.compile(r"(?:pub(?:\([a-z]+\))? )?(struct|enum|trait|const|static) (\w+)")
-CLAUSE = re.compile(r"(?m)^ +(?:requires|ensures)\*? (\w+) \{")
+CLAUSE = re.compile(r"(?m)^ +(requires|ensures)\*? (\w+) \{")
 
 
 class Item:
@@ -37,20 +37,14 @@ class Item:
         return imports(self.path.read_text(encoding="utf-8"))
 
     @property
-    def comment(self):
-        return "\n".join(re.findall(r"(?m)^ */// ?(.*)$", self.above))
-
-    @property
     def clauses(self):
-        """The clauses of a function: the name and the text of each."""
+        """The clauses of a function: of each whether it requires or ensures, its name, and its text."""
         parts = CLAUSE.split(self.text) if self.what == "fn" else ()
-        return [*zip(parts[1::2], parts[2::2])]
+        return [*zip(parts[1::3], parts[2::3], parts[3::3])]
 
-    @property
-    def fault(self):
-        """The type of the faults that a function answers."""
-        found = re.search(r"(?s)-> Result<.*, (\w+)>[\s{};]*$", re.sub("//.*", "", CLAUSE.split(self.text)[0]))
-        return found[1] if found and self.what == "fn" else None
+    def names(self, kind):
+        """The names of the clauses that require, or that ensure."""
+        return [name for of, name, _ in self.clauses if of == kind]
 
     def prover_path(self, crate):
         """The path of a function, as the prover prints it."""

@@ -13,7 +13,6 @@ import sys
 
 sys.path += map(str, pathlib.Path(__file__).resolve().parents[1].iterdir())  # the other folders of tests/
 import contracts
-import edited
 import figures
 import pages
 import promises
@@ -57,8 +56,8 @@ def sources_of(crate):
 def libraries_that_are_listed():
     """What a crate stands on, with what its tests alone name: rt ci would miss it only after all below is proved."""
     known = {*CRATES, *sum(CRATES.values(), [])}
-    for name in sorted(known - {*CRATES} - TRUSTED - CITED):
-        yield f"crates.txt: {name} among the libraries of the toolchain that may be used"
+    yield from (f"crates.txt: {name} among the libraries of the toolchain that may be used"
+                for name in sorted(known - {*CRATES} - TRUSTED - CITED))
     for crate, listed in CRATES.items():
         code = re.sub(r"//.*", "", sources_of(crate))
         proved = re.sub(r"--.*", "", text_of(crate, "specs/**/*.antt") + "\n" + text_of(crate, "proofs/**/*.antt"))
@@ -115,25 +114,14 @@ def names_of(document, text):
 
 
 def names_in_documents():
-    for document in DOCUMENTS:
-        for name in names_of(document, document.read_text(encoding="utf-8")):
-            yield f"{document.name}: {name}"
+    for it in DOCUMENTS:
+        yield from (f"{it.name}: {name}" for name in names_of(it, it.read_text(encoding="utf-8")))
 
 
 def figures_of_speed():
     for name, sentences in figures.sentences().items():
         text = " ".join(read(name).split())
-        for sentence in sentences:
-            if sentence not in text:
-                yield f"{name}: '{sentence}', as docs/benchmarks.tsv has it"
-
-
-def the_heap():
-    """The heap is trusted: pages name it with its lines."""
-    lines = len(read("packaging/heap.c").splitlines())
-    for name in ("README.md", "docs/GATE.md"):
-        if f"`packaging/heap.c`, {lines} lines" not in read(name):
-            yield f"{name}: the {lines} lines of packaging/heap.c"
+        yield from (f"{name}: '{it}' (tests/pages/figures.py)" for it in sentences if it not in text)
 
 
 def definitions():
@@ -142,12 +130,10 @@ def definitions():
         if crate in CRATES and cells[0] != "definition":
             names, files = (IN_BACKTICKS.findall(cells[column]) for column in (0, 2))
             defined = {it: DEFINED.get(f"{crate}.specs.{it.replace('/', '.')}", set()) for it in files}
-            for name in names:
-                if not any(name in it for it in defined.values()):
-                    yield f"DEFINITIONS.md: {crate}: {name} in {cells[2]}"
-            for file, there in defined.items():
-                if not there & {*names}:
-                    yield f"DEFINITIONS.md: {crate}: one of {cells[0]} in {file}"
+            yield from (f"DEFINITIONS.md: {crate}: {name} in {cells[2]}"
+                        for name in names if not any(name in it for it in defined.values()))
+            yield from (f"DEFINITIONS.md: {crate}: one of {cells[0]} in {file}"
+                        for file, there in defined.items() if not there & {*names})
 
 
 def tests_of_examples():
@@ -157,16 +143,15 @@ def tests_of_examples():
             named = [name for name in IN_BACKTICKS.findall(part) if " " not in name]
             owner = named.pop(0) if named and named[0] in CRATES else "command"
             code = "".join(sources_of(f"{owner}{tests}") for tests in ("", "_tests"))
-            for name in named:
-                if not re.search(rf"\bfn {re.escape(name)}\b", code):
-                    yield f"EXAMPLES.md: row {cells[0]}: {name}"
+            yield from (f"EXAMPLES.md: row {cells[0]}: {name}"
+                        for name in named if not re.search(rf"\bfn {re.escape(name)}\b", code))
 
 
 def goals():
     """Edits that must fail: what each replaces stands in its place once, and the goal that refuses it is there."""
-    once, clauses = "the text that it replaces, once", {"steps"}  # of Iterator::next
-    for crate in CRATES:
-        clauses.update(re.findall(r"\b(?:ensures|requires)\*? (\w+)", sources_of(crate)))
+    once = "the text that it replaces, once"
+    sources = "".join(map(sources_of, CRATES))
+    clauses = {"steps", *re.findall(r"\b(?:ensures|requires)\*? (\w+)", sources)}  # the first of Iterator::next
     for crate in CRATES:
         for edit in edits_of(crate, BODIES):
             if not edit.texts:
@@ -176,17 +161,12 @@ def goals():
             if not told or clause and clause[1] not in clauses:
                 yield f"{edit.name}: refused: {edit.goal}: the goal that refuses it " \
                       f"(tests/edits/refusals.py --told {edit.name} writes it)"
-        for edit in wrong_definitions_of(crate, DEFINITIONS):
-            if edit.wrong:
-                yield f"{edit.name}: {edit.wrong}"
+        yield from (f"{it.name}: {it.wrong}" for it in wrong_definitions_of(crate, DEFINITIONS) if it.wrong)
     for edit in edits_in(LINES):
         if not edit.texts:
             yield f"{edit.name}: {once}"
         if not edit.goal:
             yield f"{edit.name}: what finds it (tests/edits/wrong_lines.py --told {edit.name} writes it)"
-    for crate in contracts.libraries():
-        for name in edited.without_edit(crate):
-            yield f"crates/{crate}/wrong-bodies: a wrong body of {name}, or of what BY_ANOTHER names"
 
 
 def words_by_hand():
@@ -203,9 +183,8 @@ def made_parts():
         made += [name for name, _ in pages.MADE.findall(text)]
         if pages.page(text) != text:
             yield f"{document.name}: the tables that tests/pages/pages.py makes (each run of it writes them)"
-    for name in sorted(pages.PARTS):
-        if made.count(name) != 1:
-            yield f"docs: the table '{name}', which tests/pages/pages.py makes, once"
+    yield from (f"docs: the table '{it}', which tests/pages/pages.py makes, once"
+                for it in sorted(pages.PARTS) if made.count(it) != 1)
     if words_by_hand() > MOST_WORDS:
         yield f"pages: at most {MOST_WORDS:,} words"
     readme = read("README.md")
@@ -242,16 +221,14 @@ def carriers():
     of_run = [names for module, names in DEFINED.items() if module.startswith(of)]
     for heading, cells in pages.tables("PROMISES.md"):
         if heading == "scrypt" and len(cells) == 3 and cells[0] != "the run":
-            for name in IN_BACKTICKS.findall(cells[2]):
-                if not any(name in it for it in of_run):
-                    yield f"PROMISES.md: {name}"
+            yield from (f"PROMISES.md: {name}"
+                        for name in IN_BACKTICKS.findall(cells[2]) if not any(name in it for it in of_run))
 
 
 def comments():
     for crate in contracts.libraries():
-        for name, it in contracts.exported(crate).items():
-            if not it.comment:
-                yield f"a comment of {crate}::{name} (make doc shows them)"
+        yield from (f"a comment of {crate}::{name} (make doc shows them)"
+                    for name, it in contracts.exported(crate).items() if "///" not in it.above)
 
 
 def manuals():
@@ -266,18 +243,15 @@ def manuals():
 
 
 PARTS = (
-    libraries_that_are_listed, programs_that_are_listed, names_in_documents, figures_of_speed, the_heap, definitions,
+    libraries_that_are_listed, programs_that_are_listed, names_in_documents, figures_of_speed, definitions,
     tests_of_examples, goals, made_parts, pictures, carriers, comments, manuals,
 )
 
 
 def main():
-    missing = [it for part in PARTS for it in part()]
     print(f"pages: {words_by_hand():,} words by hand outside tables, of {MOST_WORDS:,}")
-    for line in missing:
-        print(f"not there: {line}", file=sys.stderr)
-    return 1 if missing else 0
+    sys.exit("\n".join(f"not there: {it}" for part in PARTS for it in part()) or None)
 
 
 if __name__ == "__main__":
-    sys.exit(main())
+    main()

@@ -1,11 +1,10 @@
-"""Figures of speed as pages say them: of docs/benchmarks.tsv, which `make bench` writes, and of the tables that stand
-in docs/BENCHMARKS.md by hand.
+"""Figures as pages say them: of docs/benchmarks.tsv, which `make bench` writes, and of the tables that stand in
+docs/BENCHMARKS.md by hand; and how many lines the heap has, which is trusted.
 """
 import re
 import sys
 
-from markdown_tables import tables
-from tree import TOP, read
+from tree import TOP, read, tables
 
 sys.path.append(str(TOP / "bench"))
 import ratios  # noqa: E402
@@ -92,8 +91,11 @@ def sentences():
     backups = {level: " and ".join(ratios_of("backups", level)) for level in (V2, V3)}
     of_files = {level: " and ".join(PRINTED[f"{it}, --logN 14, MiB", "100", level]["ratio"] for it in ("enc", "dec"))
                 for level in (V2, V3)}
+    heap = f"`packaging/heap.c`, {len(read('packaging/heap.c').splitlines())} lines"
     return {
+        "docs/GATE.md": [heap],
         "README.md": [
+            heap,
             f"hashes {times('hashes')}, keys {times('keys')}",
             f"{of_g[0]} to {of_g[-1]} without SHA instructions, {with_sha} with",
             f"hashes from 4 MiB on, `-p 4` | 1 (threads) | {least:.1f} to {most:.1f} |",

@@ -4,28 +4,27 @@
     tests/pages/pages.py
 
 tests/pages/documents.py compares each with what would be written now, and looks at how many words are written by hand.
-The data are docs/values.tsv (messages and ranges), docs/programs/, docs/benchmarks.tsv, which `make bench` writes, and
-the sources, from which come the faults of the libraries.
+The data are docs/values.tsv (messages and ranges), docs/programs/, and docs/benchmarks.tsv, which `make bench` writes.
 """
 import pathlib
 import re
 import sys
 
 sys.path += map(str, pathlib.Path(__file__).resolve().parents[1].iterdir())  # the other folders of tests/
-import contracts
 import figures
 import values_table
-from markdown_tables import table, tables  # noqa: F401: the second for others
-from tree import TOP, read
+from tree import TOP, read, tables  # noqa: F401: the last for others
 
 PAGES = [TOP / "README.md", TOP / "CONTRIBUTING.md", *sorted((TOP / "docs").glob("*.md"))]
 MADE = re.compile(r"^<!-- made by tests/pages/pages.py: ([^\n]*) -->\n(.*?)^<!-- end -->\n", re.MULTILINE | re.DOTALL)
-# What the faults of the toolchain's libraries say.
-OF_THE_TOOLCHAIN = {
-    "AllocError": "a request for memory was refused",
-    "DecodeAllocError": "the symbols are no base64, or a request for memory was refused",
-}
-TRAITS = ("host::Host", "tools::System")  # whose calls are told together
+
+
+def table(head, rows):
+    """A table as Markdown has it; a column that has numbers alone stands to the right."""
+    shown = ["|" + "".join(f" {it} |" if it else " |" for it in cells) + "\n" for cells in (head, *rows)]
+    is_number = re.compile(r"[\d.,^/ ]*\d").fullmatch
+    sides = ["---:|" if all(map(is_number, column)) else "---|" for column in zip(*rows)]
+    return "".join([shown[0], "|", *sides, "\n", *shown[1:]])
 
 
 def as_read(number):
@@ -45,39 +44,6 @@ def refusals(program):
         bars = " (with plain bars)" if "|" in it.line else ""
         lines.append([it.number, it.when.replace("|", "\\|"), f"`{line}`{bars}"])
     return table(["no.", "when", "line"], lines)
-
-
-def faults():
-    """The faults of the libraries, from the sources, each type of them once: what each of its values says, and which
-    calls answer it. Of the refusals of whole runs the tables above have more.
-    """
-    types, calls = {}, {}
-    for crate in contracts.libraries():
-        for name, it in contracts.exported(crate).items():
-            types[name] = crate, it
-            if it.fault:
-                owner, _, call = f"{crate}::{name}".rpartition("::")
-                calls.setdefault(it.fault, {}).setdefault(owner, []).append(call)
-    rows = []
-    for name, owners in calls.items():
-        crate, fault = types.get(name, ("", None))
-        called = [it for owner, names in owners.items() for it in (
-            [f"calls of `{owner}`"] if owner in TRAITS else [f"`{owner}::{name}`" for name in names])]
-        said = ", ".join(called) if len(called) < 13 else "many, by their signatures (`make doc`)"
-        rows.append([f"`{crate}::{name}`" if crate else f"`{name}`", meaning(name, fault), said])
-    return table(["fault", "what it says", "calls"], rows)
-
-
-def meaning(name, fault):
-    """What the values of a type of faults say, each in its comment; or the type itself, in its first sentence."""
-    if name.endswith("Refusal"):
-        return f"a row of the table of {name.removesuffix('Refusal').lower()}"
-    if not fault:
-        return OF_THE_TOOLCHAIN[name]
-    text = re.sub(r"(?m)^ *#\[.*\n", "", fault.text)
-    values = re.findall(r"((?:^    /// .*\n)+)    \w+,", text, re.MULTILINE) or [fault.comment]
-    said = [" ".join(it.replace("///", "").split()).removesuffix(".") for it in values]
-    return "; ".join(said) if len(said) > 1 else said[0].partition(". ")[0]
 
 
 def ranges():
@@ -101,7 +67,7 @@ def times():
 
 
 PARTS = {
-    **{f"refusals of {it}": lambda it=it: refusals(it) for it in values_table.PROGRAMS}, "faults of the libraries": faults,
+    **{f"refusals of {it}": lambda it=it: refusals(it) for it in values_table.PROGRAMS},
     "ranges": ranges, "times of the programs": times,
     "a program in Rattle": lambda: program("accounts.txt", "rust"), "a program in C": lambda: program("login.c", "c"),
     "a program in Python": lambda: program("login.py", "python"),

@@ -1,57 +1,49 @@
-#!/usr/bin/env python3
-"""The calls and clauses that carry the promises of docs/PROMISES.md, looked for in the sources.
-
-    tests/pages/promises.py    prints the clauses that are the goal of no wrong body, and that no edit takes from a proof
+"""The calls and clauses that carry the promises of docs/PROMISES.md, looked for in the sources; and whether each of
+these clauses, and each exported function that has one, has a wrong body, so that no contract that a caller relies on is
+one that nothing broke. An edit counts at its function, or where it takes a clause from another one's proof.
 """
-import pathlib
 import re
-import sys
 
-sys.path += map(str, pathlib.Path(__file__).resolve().parents[1].iterdir())  # the other folders of tests/
 import contracts
-import pages
 import prove
-from edited import ALONE
+import specs
 from edits import BODIES, edits_of
 from functions import function_at, text_of
-from pages import TOP
+from tree import tables
 
+# Exported functions that pass on what another one does, which has the wrong body.
+BY_ANOTHER = {
+    "aes_ctr": {"block_cipher::Aes256::key_planes": "key_planes::key_planes"},
+    "argon": {"lanes::Lanes::reserve": "lanes::reserve_from", "matrix::Matrix::reserve": "matrix::reserve_from"},
+}
+# Those whose type has no other value, or whose result has no bytes.
+ALONE = {
+    "counter": {"Count::new", "Count::plus_one"},
+    "encfile": {"header::Header::costs"},
+    "tools": {"run::Run::system", "system_host::SystemHost::system"},
+}
 # Clauses that no body breaks which the types let through: the counts come with the system, and nothing else makes any.
 BY_TYPES = {f"{crate} run fails" for crate in ("scrypt_program", "argon2_program", "argon2_verify_program")}
 IN_BACKTICKS = re.compile(r"`([^`]+)`")
 ONLY = "the only one"
-SAID = re.compile(r"(?m)^ +(ensures|requires)\*? (\w+) \{")
-
-
-def records(crate):
-    """The names of the fields of each record that a crate defines."""
-    texts = "\n".join(file.read_text(encoding="utf-8") for file in (TOP / "crates" / crate / "specs").rglob("*.antt"))
-    found = re.findall(r"^pub record (\w+)[^=]*? where\n((?:  .*\n)+)", texts + "\n", re.MULTILINE)
-    return {name: re.findall(r"^  pub (\w+) :", fields, re.MULTILINE) for name, fields in found}
+# The fields of the records that each crate defines.
+FIELDS = {(module.split(".")[0], name, field) for module, file in specs.all_files().items()
+          for name, lines in file.items.items() for field in re.findall(r"(?m)^  pub (\w+) :", "\n".join(lines))}
 
 
 def functions(crate):
-    """The clauses of each function of a crate, by its name, after that of its type or trait; and its types. A clause that
-    cites a record has its fields, as `first.memory`; the only one that a function ensures or requires is there as
-    `ensures.key`, too. Where functions of several modules have one name, each is told by its path."""
-    found, free, fields = {}, {}, records(crate)
-    for it in contracts.without_tests(crate):
+    """The functions of a crate, by their names: behind that of their type or trait, or, where several modules have one
+    of this name, of their module. And its types, which are none.
+    """
+    found, items = {}, contracts.without_tests(crate)
+    free = [it.name for it in items if it.what == "fn" and not it.block]
+    for it in items:
         if it.what in ("impl", "trait", "struct"):
-            found.setdefault(it.name, set())
+            found.setdefault(it.name, [])
         elif it.what == "fn":
             module = "::".join(it.path.relative_to(contracts.CRATES / crate / "src").with_suffix("").parts)
-            name = f"{it.block.name if it.block else module}::{it.name}"
-            named = found.setdefault(name, set())
-            for clause, said in it.clauses:
-                cited = (field for word in re.findall(r"\w+", said) for field in fields.get(word, ()))
-                named.update([clause, *(f"{clause}.{field}" for field in cited)])
-            said = SAID.findall(it.text)
-            named.update(f"{word}.{clause}" for word, clause in said if [other for other, _ in said].count(word) == 1)
-            if not it.block:
-                free.setdefault(it.name, []).append(name)
-    for name, (path, *others) in free.items():
-        if not others:
-            found[name] = found.pop(path)
+            above = it.block.name if it.block else module if free.count(it.name) > 1 else ""
+            found.setdefault(f"{above}::{it.name}".lstrip(":"), []).append(it)
     return found
 
 
@@ -64,7 +56,7 @@ for each, below in CRATES.items():
             FUNCTIONS[each][name] = FUNCTIONS[owner][name]
     if each.removesuffix("_tests") in CRATES:  # program_tests are of several
         FUNCTIONS[each.removesuffix("_tests")].update(FUNCTIONS[each])
-    FUNCTIONS[each].update({trait: set() for owner, trait in (("host", "Host"), ("tools", "System")) if owner in below})
+    FUNCTIONS[each].update({trait: [] for owner, trait in (("host", "Host"), ("tools", "System")) if owner in below})
 
 
 def calls_named(name, crate, owner=""):
@@ -96,7 +88,7 @@ def parts(crate, promise, cell):
 
 def rows():
     """The crate of each row of docs/PROMISES.md, what it promises, and its last cell."""
-    for heading, cells in pages.tables("PROMISES.md"):
+    for heading, cells in tables("PROMISES.md"):
         if cells[0] in ("promise", "crate", "law", "the run"):
             continue
         if heading == "The headline":
@@ -107,18 +99,45 @@ def rows():
             yield next((each for each in CRATES if cells[0].strip("`") in FUNCTIONS[each]), "command"), "", f"law: {cells[0]}"
 
 
+def has(items, clause):
+    """Whether functions have a clause, or one with this field of a record that it cites, as `first.memory`."""
+    clause, _, field = clause.partition(".")
+    cited = [(it.path.relative_to(contracts.CRATES).parts[0], word) for it in items for _, name, text in it.clauses
+             if name == clause for word in re.findall(r"\w+", text)]
+    return bool(cited) and (not field or any((*it, field) in FIELDS for it in cited))
+
+
 def wrong():
-    """What docs/PROMISES.md names that the sources lack; and the clauses that no edit holds, where the types don't."""
+    """What docs/PROMISES.md names that the sources lack; and the clauses and functions that no edit holds, where the
+    types don't.
+    """
     lost = {*unheld()}
-    yield from (f"PROMISES.md: a wrong body at {it}, or an edit that takes it from a proof" for it in sorted(lost - BY_TYPES))
+    for it in sorted(lost - BY_TYPES):
+        yield f"PROMISES.md: a wrong body at {it}, or an edit that takes it from a proof"
     yield from (f"tests/pages/promises.py: {it} is not held otherwise" for it in sorted(BY_TYPES - lost))
     for crate, *row in rows():
         for lost, found, clauses in parts(crate, *row):
             yield from (f"PROMISES.md: {crate} has no {name}" for name in lost)
             for clause in clauses:
                 is_type = clause[0].isupper() and clause in FUNCTIONS[crate]
-                if not is_type and not any(clause in FUNCTIONS[crate][name] for name in found):
+                if not is_type and not any(has(FUNCTIONS[crate][name], clause) for name in found):
                     yield f"PROMISES.md: {crate}: {', '.join(found)} has no clause {clause}"
+    for crate in contracts.libraries():
+        for name in without_edit(crate):
+            yield f"crates/{crate}/wrong-bodies: a wrong body of {name}, or of what BY_ANOTHER names"
+
+
+def without_edit(crate):
+    """The exported functions that have no wrong body and should, and names in the tables that stand for nothing."""
+    found, by, alone = set(), BY_ANOTHER.get(crate, {}), ALONE.get(crate, set())
+    for edit in edits_of(crate, BODIES):
+        for file, old, _ in edit.pairs:
+            text = text_of(edit.folder, file, {})
+            found.add(function_at(edit.folder, file, text, text.count("\n", 0, text.find(old))))
+    exported = contracts.exported(crate).values()
+    promising = {it.prover_path(crate) for it in exported if it.is_public and it.clauses}
+    yield from sorted(it for it in promising - found - alone if it not in by or by[it] not in found)
+    yield from sorted(it for it in {*by, *alone} if it not in promising or it in found)
 
 
 def refused_at():
@@ -147,26 +166,22 @@ def taken_away(edit):
         at = edit.folder, file, text, text.count("\n", 0, begin)
         path, clauses = function_at(*at), contracts.CLAUSE.findall(text[: begin + len(old)])
         if path not in (None, edit.within, function_at(*at, body=True)) and clauses:
-            yield path, clauses[-1]
+            yield path, clauses[-1][1]
 
 
 def unheld():
     """The clauses of docs/PROMISES.md that no wrong body or edit holds: they could be lost with nothing that notices."""
     at, conditions = refused_at()
-    alone = {f"{crate} {name}" for crate, names in ALONE.items() for name in names}
     for crate, *row in rows():
-        for _, found, clauses in parts(crate, *row):
-            for name in found:
-                *above, last = name.split("::")
-                owner, own = "".join(above[-1:]), FUNCTIONS[crate][name]
-                of_it = [goals for (where, kind, method), goals in at.items() if method == last and (
-                    FUNCTIONS[where].get(name) is own and owner in ("", kind) or owner and kind != owner and kind.endswith(owner))]
-                for clause in {it.split(".")[0] for it in clauses} & own:
-                    ensured, required = ({clause, ONLY} if f"{word}.{clause}" in own else {clause} for word in ("ensures", "requires"))
-                    is_held = any(ensured & goals for goals in of_it) or any((last, it) in conditions for it in required)
-                    if not is_held and f"{crate} {name}" not in alone:
-                        yield f"{crate} {name} {clause}"
-
-
-if __name__ == "__main__":
-    print(*dict.fromkeys(unheld()), sep="\n")
+        for name, clauses in ((name, clauses) for _, found, clauses in parts(crate, *row) for name in found):
+            *above, last = name.split("::")
+            owner, items = "".join(above[-1:]), FUNCTIONS[crate][name]
+            goals = {goal for (where, kind, method), goals in at.items() for goal in goals if method == last and (
+                FUNCTIONS[where].get(name) is items and owner in ("", kind)
+                or owner and kind != owner and kind.endswith(owner))}
+            for clause in {it.split(".")[0] for it in clauses if has(items, it.split(".")[0])}:
+                ensured, required = ({clause, *[ONLY] * any(it.names(kind) == [clause] for it in items)}
+                                     for kind in ("ensures", "requires"))
+                is_held = ensured & goals or any((last, it) in conditions for it in required)
+                if not is_held and name not in ALONE.get(crate, ()):
+                    yield f"{crate} {name} {clause}"

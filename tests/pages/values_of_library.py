@@ -5,8 +5,7 @@ import re
 import library_texts
 import roff
 from tree import VERSION, read
-from values_table import PROGRAMS, options, rows
-from written import all_known, flowing, found, normal, number
+from values_table import PROGRAMS, all_known, flowing, found, normal, number, options, rows
 
 
 def of_status(that):

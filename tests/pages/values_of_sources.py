@@ -3,8 +3,7 @@ import re
 
 import specs
 from tree import read
-from values_table import messages, options, ranges
-from written import found, number
+from values_table import found, messages, number, options, ranges
 
 # What a word of argon2 may be, as its sources test it.
 TAKEN = {

@@ -26,24 +26,22 @@ TEXT = "$argon2d$v=19$m=8,t=1,p=1$c29tZXNhbHQ$"
 TAG = "xRnmA6xgPsGutbcexEpheePzl1sUwMl+ORTHnmNj4Xg"
 
 UNCOUNTED = "valgrind", "the instructions of comparisons are not counted"
+VALGRIND = "valgrind --tool=callgrind --callgrind-out-file=/dev/null --log-file=log".split()
 VERIFIES = """
 #include "pikhsen.h"
 #include <string.h>
 int main(int count, char **words) {
-    const unsigned char password[] = "password";
-    const unsigned char *text = (const unsigned char *)words[count - 1];
-    return (int)pikhsen_argon2_verify(text, strlen(words[count - 1]), password, 8, 8, 99);
+    const unsigned char *text = (const unsigned char *)words[1];
+    return (int)pikhsen_argon2_verify(text, strlen(words[1]), (const unsigned char *)"password", 8, 8, 99);
 }
 """
 
 
-def counted(words, folder, given=subprocess.DEVNULL):
-    """Status, standard error and the count of instructions of a run, which sees no variable."""
-    log = os.path.join(folder, "log")
-    words = ["valgrind", "--tool=callgrind", "--callgrind-out-file=/dev/null", f"--log-file={log}", *words]
-    streams = {"stdin": given, "stdout": subprocess.DEVNULL, "stderr": subprocess.PIPE}
-    ran = subprocess.run(words, cwd=folder, env={"PATH": os.environ["PATH"]}, **streams)
-    found = re.search(r"Collected : (\d+)", pathlib.Path(log).read_text(encoding="utf-8"))
+def counted(folder, *words):
+    """Status, standard error and the count of instructions of a run with this password, which sees no variable."""
+    how = {"cwd": folder, "env": {"PATH": os.environ["PATH"]}, "input": b"password", "capture_output": True}
+    ran = subprocess.run([*VALGRIND, *words], **how)
+    found = re.search(r"Collected : (\d+)", pathlib.Path(folder, "log").read_text(encoding="utf-8"))
     return ran.returncode, ran.stderr, int(found[1]) if found else None
 
 
@@ -58,22 +56,6 @@ def changed(text, place):
     return text[:place] + bytes([text[place] ^ 1]) + text[place + 1:]
 
 
-def tags_of_texts(checks, library, folder):
-    """The tags of texts of hashes, by the library in this folder."""
-    if not is_there(*UNCOUNTED, 4):
-        return
-    source, program = pathlib.Path(folder, "verifies.c"), os.path.join(folder, "verifies")
-    source.write_text(VERIFIES, encoding="utf-8")
-    checks.that("verifies.c, compiled", compile_c(source, library, program, True), (0, ""))
-    checks.that("the right tag", counted([program, TEXT + TAG], folder)[0], 0)
-    # one symbol is another small letter
-    runs, small = [], [it for it in range(len(TAG) - 1) if TAG[it].islower()]
-    for place in (small[0], small[len(small) // 2], small[-1]):
-        letter = "a" if TAG[place] != "a" else "b"
-        runs.append(counted([program, TEXT + TAG[:place] + letter + TAG[place + 1:]], folder))
-    same(checks, "the tag of a text", runs, 16)
-
-
 def kind(symbol):
     """What symbols are read alike."""
     return next(it for it in (str.islower, str.isupper, str.isdigit, str.isprintable) if it(symbol))
@@ -86,36 +68,40 @@ def tag_with_another(place):
     return next(it for it in made if it != TAG and [*map(kind, it)] == [*map(kind, TAG)])
 
 
-def tags_of_files(checks, program, folder):
-    """All bytes of the tag of a hash, by argon2-verify."""
-    checks.put("password", b"password")
-    runs = []
-    for tag in (TAG, *map(tag_with_another, range(32))):
-        checks.put("hash", f"{TEXT}{tag}\n".encode())
-        with open(os.path.join(folder, "password"), "rb") as password:
-            runs.append(counted([program, "hash"], folder, password))
-    checks.that("the right tag", runs[0][:2], (0, b""))
-    same(checks, "the tag of a hash", runs[1:], 1)
+def tags_of_texts(checks, library, folder):
+    """The tags of texts of hashes, by the library in this folder."""
+    if not is_there(*UNCOUNTED, 4):
+        return
+    source, program = pathlib.Path(folder, "verifies.c"), f"{folder}/verifies"
+    source.write_text(VERIFIES, encoding="utf-8")
+    checks.that("verifies.c, compiled", compile_c(source, library, program, True), (0, ""))
+    checks.that("the right tag", counted(folder, program, TEXT + TAG)[0], 0)
+    same(checks, "the tag of a text", [counted(folder, program, TEXT + tag_with_another(it)) for it in PLACES], 16)
 
 
-def main(checks, folder, program, verify):
+def over_files(checks, contents, *words):
+    """What runs with these words come to, over a file of each of these contents."""
+    for content in contents:
+        checks.put("file", content)
+        yield counted(checks.folder, *words)
+
+
+def main(checks, _, program, verify):
     if not is_there(*UNCOUNTED, 8):
         return
-    tags_of_files(checks, verify, folder)
+    tags = [f"{TEXT}{it}\n".encode() for it in (TAG, *map(tag_with_another, range(32)))]
+    right, *others = over_files(checks, tags, verify, "file")
+    checks.that("the right tag", right[:2], (0, b""))
+    same(checks, "the tag of a hash", others, 1)
     checks.put("pw", b"pw\n")
     for name, begin, line in (("header", 64, "S10"), ("file", len(F5) - 32, "S11")):
-        runs = []
-        for place in PLACES:
-            checks.put("file", changed(F5, begin + place))
-            runs.append(counted([program, "dec", *FROM_PW.split(), "file"], folder))
+        files = (changed(F5, begin + it) for it in PLACES)
+        runs = [*over_files(checks, files, program, "dec", *FROM_PW.split(), "file")]
         same(checks, f"the code of a {name}", runs, 1, LINES[line])
     # cmp stops at the first word that differs, so its counts are seen to differ
-    checks.put("left", bytes(32))
-    counts = set()
-    for place in PLACES:
-        checks.put("right", changed(bytes(32), place))
-        counts.add(counted(["cmp", "-s", "left", "right"], folder)[2])
-    checks.that("counts of a comparison that stops", len(counts) > 1, True)
+    checks.put("zeros", bytes(32))
+    runs = over_files(checks, (changed(bytes(32), it) for it in PLACES), "cmp", "-s", "zeros", "file")
+    checks.that("counts of a comparison that stops", len({it[2] for it in runs}) > 1, True)
 
 
 if __name__ == "__main__":

@@ -4,16 +4,15 @@
        HOSTILE_LARGEST=BYTES        each request for more bytes is refused
        HOSTILE_CALLS=FIRST-LAST     the calls with these numbers, from 1,
        HOSTILE_ONLY=TEXT            of those alone whose line in the log begins so,
-       HOSTILE_WAY=NUMBER           fail with this error,
-       HOSTILE_WAY=short            or read or write one byte, where they read or write
+       HOSTILE_WAY=NUMBER           fail with this error, or, if it is 0, read or write one byte, where they do that
        HOSTILE_LOG=DESCRIPTOR       a line for each call and the count of requests for memory go there
-       HOSTILE_FREED=BYTES          before that a line for each block of as many bytes, or more, that is freed: of
-                                    zeros, or not
+       HOSTILE_FREED=BYTES          and a line for each block of as many bytes, or more, that is freed: of zeros, or not
    What the loader does before `main` is not counted. Blocks of 128 KiB and more are mapped one by one and come zeroed,
    so other bytes in one were written by the program. */
 #define _GNU_SOURCE
 #include <errno.h>
 #include <fcntl.h>
+#include <limits.h>
 #include <malloc.h>
 #include <stdarg.h>
 #include <stdint.h>
@@ -30,41 +29,35 @@ void *__libc_realloc(void *, size_t);
 void *__libc_memalign(size_t, size_t);
 void __libc_free(void *);
 
-static struct range { long first, last; } refused_requests, bad_calls;
-static int error; /* 0: short */
+static struct range { long first, last; } refused_requests, bad_calls, error = {EIO, 0}, log_descriptor = {-1, 0},
+    largest_request = {LONG_MAX, 0}, told_when_freed = {LONG_MAX, 0};
 static long requests, calls;
 static int is_bad; /* the last call */
 static const char *only = "";
-static size_t largest_request = SIZE_MAX, told_when_freed = SIZE_MAX;
-static int log_descriptor = -1;
 static char names[16][64] = {"standard input", "standard output", "standard error"};
 
-static struct range range_of(const char *variable) {
-    struct range range = {0, 0};
+/* Takes a variable's range, or its number as the range's first, where it is there. */
+static void take(const char *variable, struct range *range) {
     const char *text = getenv(variable);
-    if (text && sscanf(text, "%ld-%ld", &range.first, &range.last) != 2)
+    if (text && sscanf(text, "%ld-%ld", &range->first, &range->last) == 0)
         _exit(99);
-    return range;
-}
-
-static size_t number_of(const char *variable, size_t otherwise) {
-    const char *text = getenv(variable);
-    return text ? strtoull(text, NULL, 10) : otherwise;
 }
 
 __attribute__((constructor)) static void begin(void) {
-    refused_requests = range_of("HOSTILE_MEMORY");
-    bad_calls = range_of("HOSTILE_CALLS");
+    take("HOSTILE_MEMORY", &refused_requests);
+    take("HOSTILE_LARGEST", &largest_request);
+    take("HOSTILE_CALLS", &bad_calls);
+    take("HOSTILE_WAY", &error);
+    take("HOSTILE_LOG", &log_descriptor);
+    take("HOSTILE_FREED", &told_when_freed);
     only = getenv("HOSTILE_ONLY") ? getenv("HOSTILE_ONLY") : "";
-    error = (int)number_of("HOSTILE_WAY", EIO);
-    largest_request = number_of("HOSTILE_LARGEST", SIZE_MAX);
-    told_when_freed = number_of("HOSTILE_FREED", SIZE_MAX);
-    log_descriptor = (int)number_of("HOSTILE_LOG", -1);
     requests = calls = 0;
 }
 
 static int is_within(struct range range, long number) { return range.first <= number && number <= range.last; }
-static int is_refused(size_t size) { return is_within(refused_requests, ++requests) || size > largest_request; }
+static int is_refused(size_t size) {
+    return is_within(refused_requests, ++requests) || size > (size_t)largest_request.first;
+}
 
 void *malloc(size_t size) { return is_refused(size) ? NULL : __libc_malloc(size); }
 
@@ -80,14 +73,14 @@ void *aligned_alloc(size_t alignment, size_t size) { return is_refused(size) ? N
 static int tell(const char *call, const char *name) {
     char line[128];
     int length = snprintf(line, sizeof line, "%s %s\n", call, name);
-    if (log_descriptor >= 0)
-        syscall(SYS_write, log_descriptor, line, length);
+    if (log_descriptor.first >= 0)
+        syscall(SYS_write, log_descriptor.first, line, length);
     return strncmp(line, only, strlen(only)) == 0;
 }
 
 void free(void *block) {
     size_t size = block ? malloc_usable_size(block) : 0, at = 0;
-    if (size >= told_when_freed) {
+    if (size >= (size_t)told_when_freed.first) {
         while (at < size && ((unsigned char *)block)[at] == 0)
             ++at;
         tell("free", at < size ? "what is there" : "zeros");
@@ -98,15 +91,14 @@ void free(void *block) {
 /* Whether this call is made: if not, errno says why. */
 static int goes_on(const char *call, const char *name) {
     is_bad = tell(call, name) && is_within(bad_calls, ++calls);
-    if (!is_bad || !error)
-        return 1;
-    errno = error;
-    return 0;
+    if (is_bad)
+        errno = error.first;
+    return !is_bad || !error.first;
 }
 
 static const char *name_of(int descriptor) { return descriptor < 0 || descriptor >= 16 ? "a file" : names[descriptor]; }
 
-static size_t cut(size_t size) { return !error && is_bad && size > 1 ? 1 : size; }
+static size_t cut(size_t size) { return !error.first && is_bad && size > 1 ? 1 : size; }
 
 int open(const char *path, int flags, ...) {
     va_list rest;

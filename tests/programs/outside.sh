@@ -5,6 +5,6 @@
 set -eu
 cd "$(dirname "$0")/../.."
 echo "the programs in $1"
-for test in argon2 argon2_verify scrypt scrypt_ask damage hostile stack comparisons story; do
+for test in argon2 scrypt scrypt_ask hostile stack comparisons story; do
     "tests/programs/$test.py" "$1"
 done

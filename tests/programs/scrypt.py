@@ -1,22 +1,29 @@
 #!/usr/bin/env python3
-"""Runs the built scrypt from the outside: words, files, pipes, the environment, standard streams, statuses, and Debian's
-scrypt where it is installed.
+"""Runs the built scrypt from the outside: words, files, pipes, the environment, standard streams, statuses, Debian's
+scrypt where it is installed, and a small file in every damaged form: cut to each length, with each of its bits changed,
+and with 1 to 100 bytes more.
 
     tests/programs/scrypt.py FOLDER      in which the programs lie
 """
+import concurrent.futures
+import fcntl
 import hashlib
+import itertools
 import os
+import pathlib
 import re
 import shlex
 import shutil
+import socket
 import stat
 import subprocess
 import sys
 import tempfile
-import pathlib
+import termios
+import time
 
 sys.path += map(str, pathlib.Path(__file__).resolve().parents[1].iterdir())  # the other folders of tests/
-from checking import is_there, left_out, over_programs
+from checking import TIME_LIMIT, is_there, left_out, over_programs
 from scrypt_ask import Terminal
 from scrypt_files import COSTS, ENVIRONMENT, F0, F5, FILES, FIXED, FROM_PW, LINES, PASSPHRASE_OF_BYTES, SALT
 
@@ -33,163 +40,125 @@ SILENT = (1, b"", b"")
 INFO = b"N = 16; r = 1; p = 1; memory = 2048; cores = 64\n"
 # The text of the larger files: 1,000,003 bytes.
 LARGE = b"".join(hashlib.sha256(i.to_bytes(4, "big")).digest() for i in range(31251))[:1000003]
-# name, words, standard input, (status, standard output, standard error)
-TABLE = [
+ENC, DEC = f"enc {FIXED} {FROM_PW}", f"dec {FROM_PW}"
+# Words, standard input, and what is written where that is all.
+WRITTEN = [
     # files and what opens them
-    ("an empty file encrypted", f"enc {FIXED} {FROM_PW} empty", b"", done(F0)),
-    ("an empty standard input encrypted", f"enc {FIXED} {FROM_PW} -", b"", done(F0)),
-    ("five bytes encrypted", f"enc {FIXED} {FROM_PW} hello", b"", done(F5)),
-    ("standard input encrypted", f"enc {FIXED} {FROM_PW} -", b"hello", done(F5)),
-    ("an empty file decrypted", f"dec {FROM_PW} F0", b"", done()),
-    ("five bytes decrypted", f"dec {FROM_PW} F5", b"", done(b"hello")),
-    ("standard input decrypted", f"dec {FROM_PW} -", F5, done(b"hello")),
-    ("info", "info F5", b"", done(INFO)),
-    ("info of standard input", "info -", F5, done(INFO)),
-    ("info of the greatest N", "info huge", b"", done(
-        b"N = 9223372036854775808; r = 1; p = 1; memory = 1180591620717411303424; cores = 36893488147419103232\n")),
-    # headers; damage.py has every damaged form of a file
-    ("r of 0", f"dec {FROM_PW} no-r", b"", refused("S6")),
-    ("log2 N of 0", "info no-log-n", b"", refused("S6")),
-    ("info of a version 1", "info F5-version-1", b"", refused("S7")),
-    ("info of a cut header", "info F5-cut-95", b"", refused("S6")),
-    # limits, whose ends the tests of scrypt_command have
-    ("limits met", f"dec -M 2048 --maxops 64 {FROM_PW} F5", b"", done(b"hello")),
-    ("memory above its limit", f"dec -M 2047 --maxops 64 {FROM_PW} F5", b"", refused("S8")),
-    ("work above its limit", f"dec -M 2048 --maxops 63 {FROM_PW} F5", b"", refused("S9")),
-    ("limits before the passphrase", "dec --passphrase file:missing huge", b"", refused("S8")),
-    ("the memory limit where none is given", f"dec {FROM_PW} 4-gib-and-more", b"", refused("S8")),
-    ("the work limit where none is given", f"dec {FROM_PW} much-work", b"", refused("S9")),
-    ("the costs of a new file are limited", f"enc {FIXED} -M 2047 {FROM_PW} hello", b"", refused("S8")),
-    ("and its work", f"enc {FIXED} --maxops 63 {FROM_PW} hello", b"", refused("S9")),
-    # a part of the table
-    ("a quarter of the table, its limits met", f"dec --keep 4 -M 512 --maxops 160 {FROM_PW} F5", b"", done(b"hello")),
-    ("one row, its limits met", f"dec --keep 16 -M 128 --maxops 544 {FROM_PW} F5", b"", done(b"hello")),
-    ("more than N", f"dec --keep 32 {FROM_PW} F5", b"", refused("S16b")),
-    ("no row", f"dec --keep 0 {FROM_PW} F5", b"", refused("S16a")),
-    ("an empty file over half of the table", f"enc {FIXED} --keep 2 {FROM_PW} empty", b"", done(F0)),
-    ("five bytes over half of the table", f"enc {FIXED} --keep 2 {FROM_PW} hello", b"", done(F5)),
-    ("five bytes over a quarter, its limits met", f"enc {FIXED} --keep 4 -M 512 --maxops 160 {FROM_PW} hello", b"", done(F5)),
-    ("the costs where none are given", f"enc -M 134217727 {FROM_PW} hello", b"", refused("S8")),
-    ("memory past 64 bits for a new file", f"enc --logN 63 -r 8 -p 1 {FROM_PW} hello", b"", refused("S8")),
-    ("more memory than there is", f"enc --logN 50 -r 8 -p 1 {FROM_PW} hello", b"", refused("S8")),
-    ("the work where no costs are given", f"enc --maxops 4194303 {FROM_PW} hello", b"", refused("S9")),
-    # passphrases
-    ("a passphrase before CR LF", "dec --passphrase file:pw-cr-lf F5", b"", done(b"hello")),
-    ("a passphrase without a line end", "dec --passphrase file:pw-alone F5", b"", done(b"hello")),
-    ("a passphrase from a variable", "dec --passphrase env:PW F5", b"", done(b"hello")),
-    ("a passphrase before the line end of a variable", "dec --passphrase env:PW_LINE F5", b"", done(b"hello")),
-    ("a passphrase from standard input", "dec -P F5", b"pw\nmore", done(b"hello")),
-    ("a passphrase from dev:stdin-once", "dec --passphrase dev:stdin-once F5", b"pw", done(b"hello")),
-    ("encrypted under a passphrase from standard input", f"enc {FIXED} -P hello", b"pw\nmore", done(F5)),
-    ("encrypted under one from dev:stdin-once", f"enc {FIXED} --passphrase dev:stdin-once hello", b"pw", done(F5)),
-    ("encrypted under one from a variable", f"enc {FIXED} --passphrase env:PW hello", b"", done(F5)),
-    ("an empty passphrase", "dec --passphrase file:empty F5", b"", refused("S10")),
-    ("a passphrase of 2048 bytes", "dec --passphrase file:pw-2048 F5", b"", refused("S10")),
-    ("a first line of 2048 bytes", "dec --passphrase file:pw-2048-line F5", b"", refused("S10")),
-    ("a passphrase of 2049 bytes", "dec --passphrase file:pw-2049 F5", b"", refused("S4b")),
-    ("2049 bytes of a variable", "dec --passphrase env:PW_2049 F5", b"", refused("S4b")),
-    ("a long variable with a line end", "dec --passphrase env:PW_LONG F5", b"", done(b"hello")),
-    ("2049 bytes of standard input", "dec -P F5", b"p" * 2049, refused("S4b")),
-    ("no such secret file", "dec --passphrase file:missing F5", b"", refused("S4a")),
-    ("a folder as a secret file", "dec --passphrase file:folder F5", b"", refused("S4a")),
-    ("no such variable", "dec --passphrase env:UNSET F5", b"", refused("S4a")),
-    # words, one row for each line that scrypt_ask.py has not; crates/scrypt_words/src/vectors.rt has all others
-    ("no words", "", b"", refused("S1")),
-    ("a number with a sign", f"dec -M +2048 {FROM_PW} F5", b"", refused("S1")),
-    ("two uses of standard input by -P", "enc -P - out", b"hello", refused("S2c")),
-    ("no passphrase source", "dec F5", b"", refused("S3")),
-    ("a short salt", f"enc {COSTS} --salt 00 {FROM_PW} hello", b"", refused("S5a")),
-    # names
-    ("no such infile to decrypt", f"dec {FROM_PW} missing", b"", refused("S12")),
-    ("no such infile for info", "info missing", b"", refused("S12")),
-    ("a folder as infile to decrypt", f"dec {FROM_PW} folder", b"", refused("S12")),
-    ("the infile before the passphrase", "dec --passphrase file:missing missing", b"", refused("S12")),
-    ("an outfile in a missing folder", f"dec {FROM_PW} F5 missing/out", b"", refused("S13")),
-    ("a folder as outfile", f"dec {FROM_PW} F5 folder", b"", refused("S13")),
+    *((words, b"", F0) for words in (f"{ENC} empty", f"{ENC} -", f"{ENC} --keep 2 empty")),
+    *((words, b"", F5) for words in (
+        f"{ENC} hello", f"{ENC} --keep 2 hello", f"{ENC} --keep 4 -M 512 --maxops 160 hello",
+        f"enc {FIXED} --passphrase env:PW hello")),
+    (f"{ENC} -", b"hello", F5), (f"enc {FIXED} -P hello", b"pw\nmore", F5),
+    (f"enc {FIXED} --passphrase dev:stdin-once hello", b"pw", F5),
+    (f"{DEC} F0", b"", b""), (f"{DEC} -", F5, b"hello"), ("info F5", b"", INFO), ("info -", F5, INFO),
+    ("info huge", b"",
+     b"N = 9223372036854775808; r = 1; p = 1; memory = 1180591620717411303424; cores = 36893488147419103232\n"),
+    # limits that are met, also those of a part of the table; each source of a passphrase, and what ends one
+    *((f"dec {it} F5", b"", b"hello") for it in (
+        FROM_PW, f"-M 2048 --maxops 64 {FROM_PW}", f"--keep 4 -M 512 --maxops 160 {FROM_PW}",
+        f"--keep 16 -M 128 --maxops 544 {FROM_PW}", "--passphrase file:pw-cr-lf", "--passphrase file:pw-alone",
+        *(f"--passphrase env:{name}" for name in ("PW", "PW_LINE", "PW_LONG")))),
+    ("dec -P F5", b"pw\nmore", b"hello"), ("dec --passphrase dev:stdin-once F5", b"pw", b"hello"),
 ]
+# Words, by their refusal.
+REFUSED = {
+    # one for each line that scrypt_ask.py has not; crates/scrypt_words/src/vectors.rt has all others
+    "S1": ["", f"dec -M +2048 {FROM_PW} F5"], "S2c": ["enc -P - out"], "S3": ["dec F5"],
+    "S5a": [f"enc {COSTS} --salt 00 {FROM_PW} hello"],
+    "S16a": [f"{DEC} --keep 0 F5"], "S16b": [f"{DEC} --keep 32 F5"],
+    "S4a": [f"dec --passphrase {it} F5" for it in ("file:missing", "file:folder", "env:UNSET")],
+    "S4b": [f"dec --passphrase {it} F5" for it in ("file:pw-2049", "env:PW_2049")],
+    "S10": [f"dec --passphrase file:{it} F5" for it in ("empty", "pw-2048", "pw-2048-line")],
+    # headers; damaged() has every damaged form of a file
+    "S6": [f"{DEC} no-r", "info no-log-n", "info F5-cut-95"], "S7": ["info F5-version-1"],
+    # limits, whose ends the tests of scrypt_command have: before the passphrase is read, where no limits are given,
+    # where no costs are, of a new file, and where memory is past 64 bits, or more than there is
+    "S8": [f"dec -M 2047 --maxops 64 {FROM_PW} F5", "dec --passphrase file:missing huge", f"{DEC} 4-gib-and-more",
+           f"{ENC} -M 2047 hello", f"enc -M 134217727 {FROM_PW} hello",
+           *(f"enc --logN {it} -r 8 -p 1 {FROM_PW} hello" for it in (63, 50))],
+    "S9": [f"dec -M 2048 --maxops 63 {FROM_PW} F5", f"{DEC} much-work", f"{ENC} --maxops 63 hello",
+           f"enc --maxops 4194303 {FROM_PW} hello"],
+    # names
+    "S12": [f"{DEC} missing", "info missing", f"{DEC} folder", "dec --passphrase file:missing missing"],
+    "S13": [f"{DEC} F5 missing/out", f"{DEC} F5 folder"],
+}
 
 SLOWLY = "{ printf p; sleep 0.1; printf 'w\\nmore'; }"
-# name, a shell's line in which the program is $0, (status, standard output, standard error)
+# A shell's line in which the program is $0, and (status, standard output, standard error).
 IN_A_SHELL = [
     # standard streams that are closed, that are folders, and that are full
-    ("a closed standard input", f'"$0" dec {FROM_PW} - <&-', refused("S12")),
-    ("a folder as standard input", f'"$0" dec {FROM_PW} - </', refused("S12")),
-    ("a passphrase from a closed standard input", '"$0" dec -P F5 <&-', refused("S4a")),
-    ("a passphrase from a folder", '"$0" dec -P F5 </', refused("S4a")),
-    ("a closed standard output", f'"$0" dec {FROM_PW} F5 >&-', refused("S13")),
-    ("a full device", f'"$0" dec {FROM_PW} F5 >/dev/full', refused("S13")),
-    ("a full device for info", '"$0" info F5 >/dev/full', refused("S13")),
-    ("a full device as outfile", f'"$0" dec {FROM_PW} F5 /dev/full', refused("S13")),
-    ("a full device for no bytes", f'"$0" dec {FROM_PW} F0 >/dev/full', done()),
-    ("a closed standard error", '"$0" info F5-cut-95 2>&-', SILENT),
-    ("a full device as standard error", '"$0" info F5-cut-95 2>/dev/full', SILENT),
-    ("all streams closed", f'"$0" dec {FROM_PW} F5 <&- >&- 2>&-', SILENT),
-    # what comes in pieces, or from another program
-    ("through two programs", f'"$0" enc {COSTS} {FROM_PW} large | "$0" dec {FROM_PW} - | cmp - large', done()),
-    ("an output closed early", f'{{ "$0" dec {FROM_PW} large.enc; echo $? >&2; }} | head -c 5',
-     (0, LARGE[:5], LINES["S13"] + b"1\n")),
-    ("pieces of a passphrase from a pipe", f'{SLOWLY} | "$0" dec -P F5', done(b"hello")),
-    ("pieces from a pipe under a name", f'{SLOWLY} | "$0" enc {FIXED} --passphrase file:/dev/stdin hello', done(F5)),
-    ("pieces from a named pipe", f'mkfifo it; {SLOWLY} >it & "$0" dec --passphrase file:it F5; rm it', done(b"hello")),
+    *((f'"$0" {DEC} - {it}', refused("S12")) for it in ("<&-", "</")),
+    *((f'"$0" dec -P F5 {it}', refused("S4a")) for it in ("<&-", "</")),
+    *((f'"$0" {DEC} F5 {it}', refused("S13")) for it in (">&-", ">/dev/full", "/dev/full")),
+    ('"$0" info F5 >/dev/full', refused("S13")),
+    (f'"$0" {DEC} F0 >/dev/full', done()),
+    *((f'"$0" {it}', SILENT) for it in ("info F5-cut-95 2>&-", "info F5-cut-95 2>/dev/full", f"{DEC} F5 <&- >&- 2>&-")),
+    # what comes in pieces, or from another program, or is not read to its end
+    (f'"$0" enc {COSTS} {FROM_PW} large | "$0" {DEC} - | cmp - large', done()),
+    (f'{{ "$0" {DEC} large.enc; echo $? >&2; }} | head -c 5', (0, LARGE[:5], LINES["S13"] + b"1\n")),
+    (f'{SLOWLY} | "$0" dec -P F5', done(b"hello")),
+    (f'{SLOWLY} | "$0" enc {FIXED} --passphrase file:/dev/stdin hello', done(F5)),
+    (f'mkfifo it; {SLOWLY} >it & "$0" dec --passphrase file:it F5; rm it', done(b"hello")),
     # a run that reads neither its input nor its passphrase from standard input leaves that to others
-    ("enc leaves standard input", f'printf left | {{ "$0" enc {FIXED} {FROM_PW} hello out; cat; }}', done(b"left")),
-    ("dec leaves standard input", f'printf left | {{ "$0" dec {FROM_PW} F5 out; cat; rm out; }}', done(b"left")),
-    ("info leaves standard input", 'printf left | { "$0" info F5; cat; }', done(INFO + b"left")),
+    (f'printf left | {{ "$0" {ENC} hello out; cat; }}', done(b"left")),
+    (f'printf left | {{ "$0" {DEC} F5 out; cat; rm out; }}', done(b"left")),
+    ('printf left | { "$0" info F5; cat; }', done(INFO + b"left")),
     # info reads a header and no more, and so does a run that its costs end
-    ("info leaves the rest of a file", '{ "$0" info -; cat; } <F5', done(INFO + F5[96:])),
-    ("info leaves the rest of a pipe", 'cat F5 | { "$0" info -; cat; }', done(INFO + F5[96:])),
-    ("dec leaves the rest after costs above a limit", f'{{ "$0" dec -M 2047 {FROM_PW} -; cat; }} <F5', (0, F5[96:], LINES["S8"])),
+    ('{ "$0" info -; cat; } <F5', done(INFO + F5[96:])), ('cat F5 | { "$0" info -; cat; }', done(INFO + F5[96:])),
+    (f'{{ "$0" dec -M 2047 {FROM_PW} -; cat; }} <F5', (0, F5[96:], LINES["S8"])),
     # outputs that are no regular files
-    ("a device", f'"$0" enc {FIXED} {FROM_PW} /dev/null /dev/stdout', done(F0)),
-    ("the same device", f'"$0" enc {FIXED} {FROM_PW} /dev/null /dev/../dev/null', done()),
-    ("a device as both standard streams", f'"$0" enc {FIXED} {FROM_PW} - </dev/null >/dev/null', done()),
-    ("a device as the input and standard output", f'"$0" enc {FIXED} {FROM_PW} /dev/null >/dev/null', done()),
-    ("a named pipe", f'mkfifo pipe; cat pipe & "$0" enc {FIXED} {FROM_PW} hello pipe; wait; rm pipe', done(F5)),
-    # permissions of an outfile
-    ("a new one", f'umask 027; "$0" dec {FROM_PW} F5 out && stat -c %a out; rm out', done(b"640\n")),
-    ("one that is there", f'>out; chmod 604 out; "$0" dec {FROM_PW} F5 out && stat -c %a out; rm out', done(b"604\n")),
+    (f'"$0" {ENC} /dev/null /dev/stdout', done(F0)), (f'"$0" {ENC} /dev/null /dev/../dev/null', done()),
+    (f'"$0" {ENC} - </dev/null >/dev/null', done()), (f'"$0" {ENC} /dev/null >/dev/null', done()),
+    (f'mkfifo pipe; cat pipe & "$0" {ENC} hello pipe; wait; rm pipe', done(F5)),
+    # permissions of a new outfile, and of one that is there
+    (f'umask 027; "$0" {DEC} F5 out && stat -c %a out; rm out', done(b"640\n")),
+    (f'>out; chmod 604 out; "$0" {DEC} F5 out && stat -c %a out; rm out', done(b"604\n")),
 ]
 
-# name, words, what stood in the outfile before (None: there was none), (status, standard output, standard error), and
-# what stands there after
+# A shell's words after the program, what stood in the file `out` before (None: there was none), (status, standard
+# output, standard error), and what stands there after.
 OUTFILES = [
-    ("a new outfile", f"dec {FROM_PW} F5 out", None, done(), b"hello"),
-    ("an outfile that is emptied", f"dec {FROM_PW} F5 out", b"a longer text", done(), b"hello"),
-    ("an encrypted outfile", f"enc {FIXED} {FROM_PW} hello out", None, done(), F5),
-    ("an outfile of no bytes", f"dec {FROM_PW} F0 out", b"before", done(), b""),
-    ("cut in the last code to its first byte", f"dec {FROM_PW} F5-cut-127 out", b"before", refused("S11"), b""),
-    ("cut in the last code", f"dec {FROM_PW} F5-cut-130 out", None, refused("S11"), b"he"),
-    ("another passphrase", "dec --passphrase file:other-pw F5 out", b"before", refused("S10"), b"before"),
-    ("another passphrase and no outfile", "dec --passphrase file:other-pw F5 out", None, refused("S10"), None),
-    ("no such infile", f"enc {FIXED} {FROM_PW} missing out", b"before", refused("S12"), b"before"),
-    ("a folder as infile", f"enc {FIXED} {FROM_PW} folder out", b"before", refused("S12"), b"before"),
+    (f"{DEC} F5 out", None, done(), b"hello"), (f"{DEC} F5 out", b"a longer text", done(), b"hello"),
+    (f"{ENC} hello out", None, done(), F5), (f"{DEC} F0 out", b"before", done(), b""),
+    # cut in the last code, to its first byte, too
+    (f"{DEC} F5-cut-127 out", b"before", refused("S11"), b""), (f"{DEC} F5-cut-130 out", None, refused("S11"), b"he"),
+    *(("dec --passphrase file:other-pw F5 out", it, refused("S10"), it) for it in (b"before", None)),
+    *((f"{ENC} {it} out", b"before", refused("S12"), b"before") for it in ("missing", "folder")),
+    # none is opened before a standard input that is closed, and none takes the place of a stream that is closed
+    *((f"{ENC} - out {it}", b"before", refused("S12"), b"before") for it in ("<&-", "</", "<folder")),
+    *((f"{DEC} F5-cut-130 out {it}", None, SILENT, b"he") for it in ("2>&-", "<&- 2>&-", "<&- >&- 2>&-", ">&- 2>&-")),
+    (f"enc {FIXED} -P hello out <&-", None, refused("S4a"), None),
+    (f"enc {FIXED} -P hello out <&- >&- 2>&-", None, SILENT, None),
+    (f"{DEC} F5 out <&- >&- 2>&-", None, done(), b"hello"),
 ]
 
-# What stands in the file `read`, a shell's words after the program, how they end, and what stands there after. A
-# standard stream is not written where it is a file that is read: it would be read again, or would stand in that file.
+# What stands in the file `kept`, and a shell's words after the program, of which it is read and would be written: by a
+# name, or as a standard stream, which would be read again, or would stand in that file. It stays as it is.
+KEPT = [
+    *((b"kept", f"enc {COSTS} {FROM_PW} {it}") for it in (
+        "kept ./kept", "kept symbolic-link", "symbolic-link kept", "- kept <kept", "kept >>kept",
+        "symbolic-link >>kept", "kept 1<>kept", "- <kept >>kept", "- <kept 1<>kept")),
+    *((F5, f"{DEC} {it}") for it in ("kept ./kept", "- kept <kept", "kept >>kept", "- <kept >>kept")),
+    (F5, "info kept >>kept"),
+    (F5[:-1], f"{DEC} kept ./kept"),
+    *((b"pw\n", words) for words in (
+        *(f"enc {COSTS} --passphrase file:kept hello {it}" for it in ("./kept", "symbolic-link", ">>kept")),
+        f"enc {COSTS} -P hello ./kept <kept", f"enc {COSTS} -P hello <kept >>kept", "dec -P F5 <kept >>kept")),
+]
+# The same, and how they end, and what stands there after.
 READ_AND_WRITTEN = [
-    (b"kept", f"enc {COSTS} {FROM_PW} read >>read", refused("S13"), b"kept"),
-    (b"kept", f"enc {COSTS} {FROM_PW} read-link >>read", refused("S13"), b"kept"),
-    (b"kept", f"enc {COSTS} {FROM_PW} read 1<>read", refused("S13"), b"kept"),
-    (b"lost", f"enc {COSTS} {FROM_PW} read >read", refused("S13"), b""),
-    (b"kept", f"enc {COSTS} {FROM_PW} - <read >>read", refused("S13"), b"kept"),
-    (F5, f"dec {FROM_PW} read >>read", refused("S13"), F5),
-    (F5, f"dec {FROM_PW} - <read >>read", refused("S13"), F5),
-    (F5, "info read >>read", refused("S13"), F5),
-    (b"pw\n", f"enc {COSTS} --passphrase file:read hello >>read", refused("S13"), b"pw\n"),
-    (b"pw\n", "dec -P F5 <read >>read", refused("S13"), b"pw\n"),
+    *((content, words, refused("S13"), content) for content, words in KEPT),
+    (b"lost", f"enc {COSTS} {FROM_PW} kept >kept", refused("S13"), b""),
     # a line is left out where standard error is such a file
-    (F5, "dec --passphrase file:other-pw read out 2>>read", SILENT, F5),
-    (F5, "dec --passphrase file:other-pw read out 2<>read", SILENT, F5),
-    (F5, "dec --passphrase file:other-pw read-link out 2>>read", SILENT, F5),
-    (F5, "dec --passphrase file:other-pw - out <read 2>>read", SILENT, F5),
-    (b"kept", f"enc {COSTS} {FROM_PW} read /dev/full 2>>read", SILENT, b"kept"),
-    (b"pv\n", "dec --passphrase file:read F5 out 2>>read", SILENT, b"pv\n"),
-    (b"pv\n", "dec -P F5 out <read 2>>read", SILENT, b"pv\n"),
+    *((F5, f"dec --passphrase file:other-pw {it}", SILENT, F5) for it in (
+        "kept out 2>>kept", "kept out 2<>kept", "symbolic-link out 2>>kept", "- out <kept 2>>kept")),
+    (b"kept", f"enc {COSTS} {FROM_PW} kept /dev/full 2>>kept", SILENT, b"kept"),
+    (b"pv\n", "dec --passphrase file:kept F5 out 2>>kept", SILENT, b"pv\n"),
+    (b"pv\n", "dec -P F5 out <kept 2>>kept", SILENT, b"pv\n"),
     # another file is written after what it holds, and so is one that is not opened yet
-    (b"before", f"enc {FIXED} {FROM_PW} hello >>read", done(), b"before" + F5),
-    (b"before\n", "dec --passphrase file:other-pw F5 out 2>>read", SILENT, b"before\n" + LINES["S10"]),
-    (F5, "dec read out 2>>read", SILENT, F5 + LINES["S3"]),
+    (b"before", f"enc {FIXED} {FROM_PW} hello >>kept", done(), b"before" + F5),
+    (b"before\n", "dec --passphrase file:other-pw F5 out 2>>kept", SILENT, b"before\n" + LINES["S10"]),
+    (F5, "dec kept out 2>>kept", SILENT, F5 + LINES["S3"]),
 ]
 
 
@@ -199,45 +168,30 @@ def leaves(checks, name, words, expected, file, content):
     checks.that(name, (found, checks.content(file)), (expected, content))
 
 
-def closed_streams_and_files(checks):
-    """No file is opened before a standard input that is closed, and none takes the place of a stream that is closed."""
-    for given in ("<&-", "</", "<folder"):
-        checks.put("out", b"before")
-        name = f"an outfile beside a standard input by {given}"
-        leaves(checks, name, f"enc {FIXED} {FROM_PW} - out {given}", refused("S12"), "out", b"before")
-    for closed in ("2>&-", "<&- 2>&-", "<&- >&- 2>&-", ">&- 2>&-"):
-        checks.put("out", None)
-        leaves(checks, f"no line in the outfile with {closed}", f"dec {FROM_PW} F5-cut-130 out {closed}", SILENT, "out", b"he")
-    checks.put("out", None)
-    for closed, expected in (("<&-", refused("S4a")), ("<&- >&- 2>&-", SILENT)):
-        leaves(checks, f"no passphrase from the infile with {closed}", f"enc {FIXED} -P hello out {closed}", expected, "out", None)
-    leaves(checks, "named files with all streams closed", f"dec {FROM_PW} F5 out <&- >&- 2>&-", done(), "out", b"hello")
-
-
 def without_the_root_folder(checks):
-    """Nor does one where the root folder, which else stands in the stream's place, may not be opened."""
+    """No file takes the place of a closed stream where the root folder, which else stands there, may not be opened."""
     if os.geteuid() != 0 or shutil.which("ldd") is None:
         left_out("root alone can make it", "a root folder that may not be opened", 4)
         return
-    with tempfile.TemporaryDirectory() as root:
-        linked = checks.run([checks.program], program="ldd")[1].decode()
-        for path in [checks.program, *re.findall(r"/\S+", linked)]:
-            os.makedirs(root + os.path.dirname(path), exist_ok=True)
-            shutil.copy(path, root + path)
-        os.mkdir(f"{root}/files")
-        for name in ("pw", "hello", "F5", "F5-cut-130"):
-            pathlib.Path(root, "files", name).write_bytes(FILES[name])
-        os.chmod(f"{root}/files", 0o777)
-        os.chmod(root, 0o711)
-        from_pw = "--passphrase file:files/pw"
-        for name, words, expected in (
-            ("all streams open", f"dec {from_pw} files/F5", done(b"hello")),
-            ("no passphrase from the infile", f"enc {FIXED} -P files/hello files/out <&-", refused("S12")),
-            ("no infile as standard error", f"dec {from_pw} files/F5-cut-130 files/out 2>&-", SILENT),
-            ("no file with all streams closed", f"dec {from_pw} files/F5-cut-130 files/out <&- >&- 2>&-", SILENT),
-        ):
-            found = checks.shell(f'chroot --userspec=65534:65534 {root} "$0" {words}')
-            checks.that(name, (found, os.path.exists(f"{root}/files/out")), (expected, False))
+    root = f"{checks.folder}/root"
+    linked = checks.run([checks.program], program="ldd")[1].decode()
+    for path in [checks.program, *re.findall(r"/\S+", linked)]:
+        os.makedirs(root + os.path.dirname(path), exist_ok=True)
+        shutil.copy(path, root + path)
+    os.mkdir(f"{root}/files")
+    for name in ("pw", "hello", "F5", "F5-cut-130"):
+        checks.put(f"root/files/{name}", FILES[name])
+    os.chmod(f"{root}/files", 0o777)
+    os.chmod(root, 0o711)
+    from_pw = "--passphrase file:files/pw"
+    for name, words, expected in (
+        ("all streams open", f"dec {from_pw} files/F5", done(b"hello")),
+        ("no passphrase from the infile", f"enc {FIXED} -P files/hello files/out <&-", refused("S12")),
+        ("no infile as standard error", f"dec {from_pw} files/F5-cut-130 files/out 2>&-", SILENT),
+        ("no file with all streams closed", f"dec {from_pw} files/F5-cut-130 files/out <&- >&- 2>&-", SILENT),
+    ):
+        found = checks.shell(f'chroot --userspec=65534:65534 {root} "$0" {words}')
+        checks.that(name, (found, checks.content("root/files/out")), (expected, None))
 
 
 def pipes(checks):
@@ -247,24 +201,24 @@ def pipes(checks):
     checks.that("a pipe that nobody reads", found, (1, LINES["S13"]))
     checks.that("a file in pieces", checks.slowly(f"dec {FROM_PW} -".split(), F5, 0.002), done(b"hello"))
     checks.that("a passphrase in pieces", checks.slowly("dec -P F5".split(), b"pw\nmore", 0.02), done(b"hello"))
-    for name, given, status, out, line in (
-        ("all", b"pw\nmore", 0, b"hello", b""),
-        ("2049 bytes with a line end", b"pw\n".ljust(2049, b"x") + b"left", 0, b"helloleft", b""),
-        ("2049 bytes without one", b"p" * 2049 + b"left", 1, b"left", LINES["S4b"]),
+    for name, given, expected in (
+        ("all", b"pw\nmore", done(b"hello")),
+        ("2049 bytes with a line end", b"pw\n".ljust(2049, b"x") + b"left", done(b"helloleft")),
+        ("2049 bytes without one", b"p" * 2049 + b"left", refused("S4b", b"left")),
     ):
         checks.put("typed", given)
         for way, text in (("a pipe", 'cat typed | { "$0" dec -P F5; s=$?; cat; exit $s; }'),
                           ("a file", '{ "$0" dec -P F5; s=$?; cat; exit $s; } <typed')):
-            checks.that(f"-P takes {name} of {way}", checks.shell(text), (status, out, line))
+            checks.that(f"-P takes {name} of {way}", checks.shell(text), expected)
 
 
 def outputs_that_are_read(checks):
     """An output that is the input, or the secret's file, under another name stays as it is."""
     checks.put("kept", b"kept")
-    os.link(os.path.join(checks.folder, "kept"), os.path.join(checks.folder, "hard-link"))
-    os.symlink("kept", os.path.join(checks.folder, "symbolic-link"))
-    os.symlink("not-there", os.path.join(checks.folder, "dangling-link"))
-    for name in ("./kept", "folder/../kept", os.path.join(checks.folder, "kept"), "hard-link", "symbolic-link"):
+    os.link(f"{checks.folder}/kept", f"{checks.folder}/hard-link")
+    os.symlink("kept", f"{checks.folder}/symbolic-link")
+    os.symlink("not-there", f"{checks.folder}/dangling-link")
+    for name in ("./kept", "folder/../kept", f"{checks.folder}/kept", "hard-link", "symbolic-link"):
         for way, words in (
             ("the input", f"enc {COSTS} {FROM_PW} kept {name}"),
             ("the input by its other name", f"enc {COSTS} {FROM_PW} {name} kept"),
@@ -279,15 +233,11 @@ def outputs_that_are_read(checks):
     found = checks.shell(f'"$0" enc {FIXED} {FROM_PW} kept dangling-link')
     checks.that("a link to nothing", (found, len(checks.content("not-there"))), (done(), 128 + 4))
     leaves(checks, "a link to another file", f"enc {FIXED} {FROM_PW} hello symbolic-link", done(), "kept", F5)
-
-
-def standard_streams_that_are_read(checks):
-    os.symlink("read", os.path.join(checks.folder, "read-link"))
     for content, words, expected, after in READ_AND_WRITTEN:
-        checks.put("read", content)
-        leaves(checks, f"a standard stream that is read: {words}", words, expected, "read", after)
+        checks.put("kept", content)
+        leaves(checks, f"a file that is read: {words}", words, expected, "kept", after)
     # a terminal is written, also where it is read
-    terminal = Terminal(f"{shlex.quote(checks.program)} dec -P F5", checks.folder, dict(os.environ), os.getuid())
+    terminal = Terminal(f"exec {shlex.quote(checks.program)} dec -P F5", checks.folder, dict(os.environ))
     terminal.types("pw\n\4")
     checks.that("a terminal", terminal.ends()[:2], (0, "pw\r\nhello"))
 
@@ -298,25 +248,25 @@ def block_devices(checks):
         return
     content = LARGE[:65536]
     checks.put("disk", content)
-    made = subprocess.run(["losetup", "--find", "--show", "disk"], cwd=checks.folder, capture_output=True, text=True)
-    device = made.stdout.strip()
-    other = f"{device}-{os.getpid()}"
-    if made.returncode != 0:
+    status, device, _ = checks.run("--find --show disk".split(), program="losetup")
+    if status != 0:
         left_out("root alone can make one of a file", "a block device", 7)
         return
+    device = device.decode().strip()
+    other = f"{device}-{os.getpid()}"
     try:
         os.mknod(other, 0o600 | stat.S_IFBLK, os.stat(device).st_rdev)
-        for words in (
-            f"enc {COSTS} {FROM_PW} {device} {device.replace('dev/', 'dev/./')}",
-            f"enc {COSTS} {FROM_PW} {device} {other}",
-            f"enc {COSTS} {FROM_PW} - {other} <{device}",
-            f"enc {COSTS} {FROM_PW} {other} >{device}",
-            f"enc {COSTS} --passphrase file:{other} hello {device}",
+        for words, expected, after in (
+            *((words, refused("S13"), content) for words in (
+                f"enc {COSTS} {FROM_PW} {device} {device.replace('dev/', 'dev/./')}",
+                f"enc {COSTS} {FROM_PW} {device} {other}",
+                f"enc {COSTS} {FROM_PW} - {other} <{device}",
+                f"enc {COSTS} {FROM_PW} {other} >{device}",
+                f"enc {COSTS} --passphrase file:{other} hello {device}")),
+            (f"info {other} 2>{device}", SILENT, content),
+            (f"enc {FIXED} {FROM_PW} hello {device}", done(), F5 + content[len(F5):]),
         ):
-            leaves(checks, f"a block device: {words}", words, refused("S13"), device, content)
-        leaves(checks, "a block device as standard error", f"info {other} 2>{device}", SILENT, device, content)
-        written = F5 + content[len(F5):]
-        leaves(checks, "a block device that is written", f"enc {FIXED} {FROM_PW} hello {device}", done(), device, written)
+            leaves(checks, f"a block device: {words}", words, expected, device, after)
     finally:
         pathlib.Path(other).unlink(missing_ok=True)
         subprocess.run(["losetup", "--detach", device], check=True)
@@ -326,74 +276,49 @@ def folders_that_are_kept(checks):
     """The folder of a file is brought to the disk, too; of a link, that of the link."""
     if not is_there("strace", "which folders are brought to the disk is not looked at", 6):
         return
-    os.makedirs(os.path.join(checks.folder, "folder/below"))
-    os.symlink("below/out", os.path.join(checks.folder, "folder/link"))
+    os.mkdir(f"{checks.folder}/folder/below")
+    os.symlink("below/out", f"{checks.folder}/folder/link")
     for name, kept in (
-        ("new", ""), ("./new", ""), ("folder/new", "/folder"), ("folder//below/../new", "/folder/below/.."), ("folder/link", "/folder"),
-        (os.path.join(checks.folder, "folder/new"), "/folder"),
+        ("new", ""), ("./new", ""), ("folder/new", "/folder"), ("folder//below/../new", "/folder/below/.."),
+        ("folder/link", "/folder"), (f"{checks.folder}/folder/new", "/folder"),
     ):
         found = checks.shell(f'strace -qqy -e trace=fsync -o calls "$0" enc {FIXED} {FROM_PW} hello {name}')
         folders = [os.path.realpath(it) for it in re.findall(r"<(.*)>", checks.content("calls").decode())][1:]
         checks.that(f"the folder of {name}", (found, folders), (done(), [os.path.realpath(checks.folder + kept)]))
 
 
-def output_by_a_bind_mount(checks):
-    """The same where a bind mount gives the input another name, which root alone can make."""
-    checks.put("kept", b"kept")
-    checks.put("mounted", b"")
-    if checks.shell("unshare -m sh -c 'mount --bind kept mounted'")[0] != 0:
-        left_out("root alone can make one", "a bind mount", 1)
-        return
-    text = f'mount --bind kept mounted; "$0" enc {COSTS} {FROM_PW} kept mounted'
-    found = checks.shell(f"unshare -m sh -c '{text}' \"$0\"")
-    checks.that("the input by a bind mount", (found, checks.content("kept")), (refused("S13"), b"kept"))
+BIND = ">mounted; mount --bind kept mounted"
+# In this file system a file that is opened to be written is copied, and each descriptor of it, also one that was opened
+# before, tells from then on the numbers of the copy. Without an index that is another file than its hard link.
+LAYERS = """mkdir below above work merged; mv kept hello pw F5 below
+ln below/kept below/hard-link; ln -s kept below/symbolic-link
+mount -t overlay overlay -o lowerdir=below,upperdir=above,workdir=work,index=off merged && cd merged"""
 
 
-def over_layers(checks, content, text):
-    """What a shell's line does in a file system of layers, in whose lower layer the file `kept` has this content and two names, and
-    what `kept` holds after it. None where there can be no such file system."""
+def mounted(checks, mount, content, line):
+    """What a shell's line does in a folder in which `kept` has this content, after this mount, and what `kept` holds
+    then. None where it cannot be mounted."""
     folder = tempfile.mkdtemp(dir=checks.folder)
     checks.put(f"{folder}/kept", content)
-    prepare = "mkdir below above work merged; mv kept below; cp ../hello ../pw below; cd below; ln kept hard-link; ln -s kept symbolic-link"
-    mount = "mount -t overlay overlay -o lowerdir=below,upperdir=above,workdir=work,index=off merged"
-    line = f"cd {folder}; {prepare}; cd ..; {mount} || exit 99; cd merged; {text}; s=$?; cp kept ../after; exit $s"
-    found = checks.shell(f"unshare -m --propagation private sh -c '{line}' \"$0\"")
+    text = f"cp hello pw F5 {folder}; cd {folder}; {mount} || exit 99; {line}; s=$?; cp kept {folder}/after; exit $s"
+    found = checks.shell(f"unshare -m --propagation private sh -c '{text}' \"$0\"")
     after = checks.content(f"{folder}/after")
     return None if after is None else (found, after)
 
 
-def outputs_over_layers(checks):
-    """The same on overlayfs: there a file that is opened to be written is copied, and each descriptor of it, also one that was opened
-    before, tells from then on the numbers of the copy."""
-    if over_layers(checks, b"kept", "true") != (done(), b"kept"):
-        left_out("root alone can mount one, and not over each other one", "a file system of layers", 19)
-        return
-    from_secret = "--passphrase file:kept"
-    for content, words in (
-        (b"kept", f"enc {COSTS} {FROM_PW} kept ./kept"),
-        (b"kept", f"enc {COSTS} {FROM_PW} kept symbolic-link"),
-        (b"kept", f"enc {COSTS} {FROM_PW} symbolic-link kept"),
-        (b"kept", f"enc {COSTS} {FROM_PW} - kept <kept"),
-        (b"kept", f"enc {COSTS} {FROM_PW} kept >>kept"),
-        (b"kept", f"enc {COSTS} {FROM_PW} kept 1<>kept"),
-        (b"kept", f"enc {COSTS} {FROM_PW} - <kept >>kept"),
-        (b"kept", f"enc {COSTS} {FROM_PW} - <kept 1<>kept"),
-        (F5, f"dec {FROM_PW} kept ./kept"),
-        (F5, f"dec {FROM_PW} - kept <kept"),
-        (F5, f"dec {FROM_PW} kept >>kept"),
-        (F5[:-1], f"dec {FROM_PW} kept ./kept"),
-        (b"pw\n", f"enc {COSTS} {from_secret} hello ./kept"),
-        (b"pw\n", f"enc {COSTS} {from_secret} hello symbolic-link"),
-        (b"pw\n", f"enc {COSTS} {from_secret} hello >>kept"),
-        (b"pw\n", f"enc {COSTS} -P hello ./kept <kept"),
-        (b"pw\n", f"enc {COSTS} -P hello <kept >>kept"),
+def outputs_over_mounts(checks):
+    """The same where a mount gives the input another name, or other numbers."""
+    over_layers = [*READ_AND_WRITTEN[:len(KEPT)], (b"kept", f"enc {FIXED} {FROM_PW} hello kept", done(), F5),
+                   (b"kept", f"enc {FIXED} {FROM_PW} hello hard-link", done(), b"kept")]
+    for name, mount, rows in (
+        ("a bind mount", BIND, [(b"kept", f"enc {COSTS} {FROM_PW} kept mounted", refused("S13"), b"kept")]),
+        ("a file system of layers", LAYERS, over_layers),
     ):
-        found = over_layers(checks, content, f'"$0" {words}')
-        checks.that(f"over layers: {words}", found, (refused("S13"), content))
-    # Without an index the copy is another file than its hard link, and what is not read is written.
-    for words, out in ((f"enc {FIXED} {FROM_PW} hello kept", F5), (f"enc {FIXED} {FROM_PW} hello hard-link", b"kept")):
-        found = over_layers(checks, b"kept", f'"$0" {words}')
-        checks.that(f"over layers: {words}", found, (done(), out))
+        if mounted(checks, mount, b"kept", "true") != (done(), b"kept"):
+            left_out("root alone can mount one, and layers not over each file system", name, len(rows))
+            continue
+        for content, words, expected, after in rows:
+            checks.that(f"{name}: {words}", mounted(checks, mount, content, f'"$0" {words}'), (expected, after))
 
 
 def words_of_bytes(checks):
@@ -406,7 +331,7 @@ def words_of_bytes(checks):
     checks.that("a program's name that is no text", found, done(INFO))
     checks.that("an empty infile", checks.run(["dec", "--passphrase", "file:pw", ""]), refused("S12"))
     checks.put("-dashed", F5)
-    checks.that("a name after two dashes", checks.run(["dec", "--passphrase", "file:pw", "--", "-dashed"]), done(b"hello"))
+    checks.that("a name after two dashes", checks.run(f"dec {FROM_PW} -- -dashed".split()), done(b"hello"))
     # a variable, a file and standard input give the same bytes of a passphrase, text or not
     made = checks.run(f"enc {COSTS} --passphrase env:PW_BYTES hello".split())[1]
     checks.that("bytes of a file", checks.run("dec --passphrase file:pw-bytes -".split(), made), done(b"hello"))
@@ -464,26 +389,83 @@ def beside_the_installed(checks):
             checks.that(f"ours opens {other}'s {name}", (made[0], found), (0, done(text)))
 
 
+# ---- damaged files
+
+
+def damaged():
+    """A small file in every damaged form, with its name, the line that is said of it, what the output begins with,
+    which held something before, and its length: what bytes more come to is not known without the cipher."""
+    for length in range(len(F5)):
+        text = b"before" if length < 96 else b"hello"[:max(length - 128, 0)]
+        yield f"cut to {length} bytes", F5[:length], "S6" if length < 96 else "S11", text, len(text)
+    for place, bit in itertools.product(range(len(F5)), range(8)):
+        file, text = bytearray(F5), bytearray(b"hello" if place >= 96 else b"before")
+        file[place] ^= 1 << bit
+        if 96 <= place < 101:
+            text[place - 96] ^= 1 << bit
+        line = "S7" if place == 6 else "S6" if place < 64 else "S10" if place < 96 else "S11"
+        yield f"bit {bit} of byte {place} changed", file, line, text, len(text)
+    for more in range(1, 101):
+        yield f"{more} bytes more", F5 + bytes(more), "S11", b"hello", 5 + more
+
+
+def decrypted(checks, file, size):
+    """Status, line and what stands in the output, where the file comes in pieces of this size: each is sent when the one
+    before was read."""
+    with tempfile.TemporaryDirectory(dir=checks.folder) as own:
+        out = pathlib.Path(own, "out")
+        out.write_bytes(b"before")
+        ours, theirs = socket.socketpair()
+        words = [checks.program, *"dec --passphrase file:../pw - out".split()]
+        running = subprocess.Popen(words, stdin=theirs, stderr=subprocess.PIPE, cwd=own, env={})
+        for begin in range(0, len(file), size):
+            latest = time.monotonic() + TIME_LIMIT
+            while running.poll() is None and any(fcntl.ioctl(theirs, termios.FIONREAD, bytes(4))):
+                if time.monotonic() > latest:
+                    running.kill()
+                time.sleep(0)
+            ours.send(file[begin:begin + size])
+        ours.close()
+        _, said = running.communicate(timeout=TIME_LIMIT)
+        theirs.close()
+        return running.returncode, said, out.read_bytes()
+
+
+def damaged_files(checks):
+    """Each comes byte by byte, in pieces of 31 bytes, and whole."""
+    with concurrent.futures.ThreadPoolExecutor(os.cpu_count()) as threads:
+        for size in (1, 31, len(F5) + 100):
+            ran = [(*it, threads.submit(decrypted, checks, it[1], size)) for it in damaged()]
+            for name, _, line, front, length, ended in ran:
+                status, said, text = ended.result()
+                found = status, said, text[:len(front)], len(text)
+                checks.that(f"{name}, in pieces of {size}", found, (1, LINES[line], front, length))
+            checks.that(f"the whole file, in pieces of {size}", decrypted(checks, F5, size), (0, b"", b"hello"))
+
+
 def main(checks, folder, _):
     checks.environment = {**ENVIRONMENT, "PATH": os.environ.get("PATH", "")}
     for name, content in FILES.items():
         checks.put(name, content)
     checks.put("large", LARGE)
-    os.mkdir(os.path.join(folder, "folder"))
+    os.mkdir(f"{folder}/folder")
     checks.put("large.enc", checks.run(f"enc {COSTS} {FROM_PW} large".split())[1])
-    for name, words, given, expected in TABLE:
-        checks.that(name, checks.run(words.split(), given), expected)
-    for name, line, expected in IN_A_SHELL:
-        checks.that(name, checks.shell(line), expected)
-    for name, words, before, expected, after in OUTFILES:
+    for words, given, expected in WRITTEN:
+        checks.that(f"{words}, given {given[:9]}", checks.run(words.split(), given), done(expected))
+    for number, lines in REFUSED.items():
+        for words in lines:
+            checks.that(words, checks.run(words.split()), refused(number))
+    checks.that("2049 bytes of standard input", checks.run("dec -P F5".split(), b"p" * 2049), refused("S4b"))
+    for line, expected in IN_A_SHELL:
+        checks.that(line, checks.shell(line), expected)
+    for words, before, expected, after in OUTFILES:
         checks.put("out", before)
-        checks.that(f"outfile: {name}", (checks.run(words.split()), checks.content("out")), (expected, after))
-    leaves(checks, "a dash is a plain outfile", f"dec {FROM_PW} F5 -", done(), "-", b"hello")
+        leaves(checks, f"an outfile: {words}", words, expected, "out", after)
+    leaves(checks, "a dash is a plain outfile", f"{DEC} F5 -", done(), "-", b"hello")
     checks.put("-", None)
     for part in (
-        closed_streams_and_files, without_the_root_folder, pipes, outputs_that_are_read,
-        standard_streams_that_are_read, block_devices, folders_that_are_kept, output_by_a_bind_mount,
-        outputs_over_layers, words_of_bytes, from_enc_and_back, beside_the_installed,
+        without_the_root_folder, pipes, outputs_that_are_read, block_devices, folders_that_are_kept,
+        outputs_over_mounts, words_of_bytes, from_enc_and_back, beside_the_installed, damaged_files,
     ):
         part(checks)
 

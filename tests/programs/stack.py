@@ -1,7 +1,7 @@
 #!/usr/bin/env python3
-"""Runs the built programs with a stack of 64 KiB, argon2-verify of 48, and with one of 8 MiB: status, output and line are the same, and no
-run ends by a signal. No contract sees the stack, so a body that takes 64 MiB of it at one length of the password would
-be proved.
+"""Runs the built programs with a stack of 64 KiB, argon2-verify of 48, and with one of 8 MiB: status, output and line
+are the same, and no run ends by a signal. No contract sees the stack, so a body that takes 64 MiB of it at one length
+of the password would be proved.
 
     tests/programs/stack.py FOLDER      in which the programs lie
 
@@ -28,13 +28,13 @@ SMALL, LARGE = {"argon2": 64, "argon2-verify": 48, "scrypt": 64}, 8192
 # In bytes. The largest is that of a run of scrypt, into which the compiler puts what it calls.
 LARGEST_FRAME = 32768
 CHEAP = "--logN 1 -r 1 -p 1"
+NEW = f"enc {CHEAP} --salt {SALT}"
 # Two passphrases of them are too long.
-LENGTHS = range(2051)
+LENGTHS, SOME = range(2051), (*range(0, 2051, 50), 2047, 2048, 2049)
 PIECES = (*range(301), 4095, 4096, 4097, 8191, 8192, 8193)
 CUTS = (*range(0, 140, 3), 4224, 8320)
-
-
-# Texts of hashes: of each type, of one pass, of several lanes, and of the longest salt and tag; by their tags no password is right.
+# Texts of hashes: of each type, of one pass, of several lanes, and of the longest salt and tag; by their tags no
+# password is right.
 HASHES = {
     "hash": "$argon2d$v=19$m=8,t=1,p=1$c29tZXNhbHQ$" + "A" * 43,
     **{f"hash-{kind}-{lanes}": f"$argon2{kind}$v=19$m={8 * lanes},t=2,p={lanes}$c29tZXNhbHQ$" + "A" * 43
@@ -43,111 +43,79 @@ HASHES = {
     "hash-longest": "$argon2id$v=19$m=8,t=1,p=1$" + "A" * 340 + "$" + "A" * 5462,
     "hash-too-long": "$argon2id$v=19$m=8,t=1,p=1$" + "A" * 4096 + "$" + "A" * 4090,
 }
+# What is run: a program, its words as a shell reads them, the file on its standard input, and the variable PW.
+Run = collections.namedtuple("Run", "program words given variable", defaults=("/dev/null", ""))
+# Words, of which a program gets the first 0 to 40, and words in which 100,000 bytes stand.
+WORDS = {"argon2": "somesalt -e" + " -t 1 -k 8 -d" * 8, "argon2-verify": "--maxmem 4096 --maxops 99 " * 10,
+         "scrypt": f"{NEW} -M 4096 --maxops 99 --keep 1 -P hello" + " x" * 40}
+LONG = {
+    "argon2": ("{} -e", "somesalt -e -t {}", "somesalt -e {}"),
+    "argon2-verify": ("{}", "--maxmem {} hash", "--{} 1 hash"),
+    "scrypt": ("{}", f"enc --logN {{}} {FROM_PW} hello", "enc --{} hello", "dec --passphrase file:{} hello",
+               "dec --passphrase env:{} hello", f"enc {CHEAP} --salt {{}} {FROM_PW} hello", f"dec {FROM_PW} {{}}",
+               f"dec {FROM_PW} file {{}}", f"dec {FROM_PW} file out {{}}"),
+}
+COSTS = ("2 1 1", "4 1 1", "4 2 3", "4 8 1", "7 8 2", "5 9 1", "5 33 1", "4 128 2", "10 1 1", "10 8 1")
+TAGS = (*range(3, 131), 255, 256, 257, 1023, 1024, 1025, 2048, 4032, 4095, 4096, 4097)
+KINDS = "-d", "-i", "-id"
+PASSWORDS = [Run("argon2", f"somesalt {kind} -t 1 -k 8 -e", f"p-{it}") for kind in KINDS for it in range(131)]
 
 
-# What is run: a program, its words as a shell reads them, the file on its standard input, variables before it, and how
-# many bytes these have beyond some hundred.
-Run = collections.namedtuple("Run", "name program words given variables more", defaults=("/dev/null", "", 0))
+def text_of(length):
+    return Run("scrypt", f"{NEW} {FROM_PW} p-{length}")
 
 
-def variable(program):
-    """The name of the variable that has the program's path."""
-    return program.replace("-", "_")
+def under(length):
+    return Run("scrypt", f"{NEW} --passphrase file:p-{length} /dev/null")
+
+
+RUNS = [
+    *((Run(program, " ".join(text.split()[:count]), "p-8") for program in WORDS for count in range(41)
+       for text in (WORDS[program], "y " * 40))),
+    *(Run(program, words.format("1" * 100000), "p-8") for program in LONG for words in LONG[program]),
+    *PASSWORDS,
+    *(Run("argon2", f"'{'s' * it}' -t 1 -k 8 -e", "p-8") for it in range(258)),
+    *(Run("argon2", f"somesalt -t 1 -k 8 -l {it} {form}", "p-8") for it in TAGS for form in ("-e", "-r")),
+    *(Run("argon2", f"somesalt {kind} -t 2 -k {8 * lanes + 3} -p {lanes} -v {version} -e", "p-127")
+      for lanes in (1, 2, 3, 4, 5, 8, 16, 64) for kind in KINDS for version in (10, 13)),
+    *(Run("argon2", f"somesalt -id -t 1 -k {it} -e", "p-8") for it in (1024, 4096)),
+    *(Run("argon2-verify", "hash", f"p-{it}") for it in range(4099)),
+    *(Run("argon2-verify", name, f"p-{it}") for name in HASHES for it in (0, 8, 4096)),
+    *(Run("argon2-verify", f"p-{it}", "p-8") for it in PIECES),
+    *(Run("argon2-verify", " ".join([*WORDS["argon2-verify"].split()[:it], "hash"]), "p-8") for it in range(41)),
+    *map(under, LENGTHS),
+    *(Run("scrypt", f"{NEW} -P /dev/null", f"p-{it}") for it in SOME),
+    *(Run("scrypt", f"{NEW} --passphrase env:PW /dev/null", variable="p" * it) for it in SOME),
+    Run("scrypt", "dec --passphrase env:PW file", variable="p" * 100000),
+    *map(text_of, PIECES),
+    *(Run("scrypt", f"{NEW} {FROM_PW} -", f"p-{it}") for it in PIECES),
+    *(Run("scrypt", f"enc --logN {log_n} -r {r} -p {p} --keep {keep} --salt {SALT} {FROM_PW} hello")
+      for log_n, r, p in map(str.split, COSTS) for keep in (1, 2, 4, 16)),
+    Run("scrypt", f"enc {CHEAP} {FROM_PW} hello >own"),
+]
+# Over files that runs before made, and over damaged ones.
+OPENED = {it: Run("scrypt", f"dec --passphrase file:p-{it} under-{it}") for it in LENGTHS}
+OVER_FILES = [
+    *OPENED.values(),
+    *(Run("scrypt", f"dec {FROM_PW} file-{it}") for it in PIECES),
+    *(Run("scrypt", f"dec {FROM_PW} -", f"file-{it}") for it in PIECES),
+    *(Run("scrypt", f"{words} cut-{it}") for it in CUTS for words in (f"dec {FROM_PW}", "info")),
+    Run("scrypt", "dec --passphrase file:p-3 file-8"),
+]
 
 
 def line_of(run, number, small):
-    """A line of a shell, which itself keeps the stack that it has."""
-    limit = (SMALL[run.program] if small else LARGE) + -(-run.more // 1024)
-    export = f"export {run.variables}; " if run.variables else ""
-    command = f'ulimit -Ss {limit}; {export}exec "${variable(run.program)}" {run.words} <{run.given}'
+    """A line of a shell, which itself keeps the stack that it has. Of words and variable 300 bytes are not added."""
+    more = max(len(run.words) + len(run.variable) - 300, 0)
+    limit = (SMALL[run.program] if small else LARGE) + -(-more // 1024)
+    export = f"export PW={run.variable}; " if run.variable else ""
+    command = f'ulimit -Ss {limit}; {export}exec "${run.program.replace("-", "_")}" {run.words} <{run.given}'
     return f"({command}); printf '\\nended {number} %s\\n' $?\n"
 
 
-def runs_of_argon2():
-    for length, kind in itertools.product(range(131), ("-d", "-i", "-id")):
-        yield Run(f"a password of {length} bytes, {kind}", "argon2", f"somesalt {kind} -t 1 -k 8 -e", f"p-{length}")
-    for length in range(258):
-        yield Run(f"a salt of {length} bytes", "argon2", f"'{'s' * length}' -t 1 -k 8 -e", "p-8")
-    for length in (*range(3, 131), 255, 256, 257, 1023, 1024, 1025, 2048, 4032, 4095, 4096, 4097):
-        form = "-er"[length % 2 + 1]
-        yield Run(f"a tag of {length} bytes", "argon2", f"somesalt -t 1 -k 8 -l {length} -{form}", "p-8")
-    for lanes, kind, version in itertools.product((1, 2, 3, 4, 5, 8, 16, 64), ("-d", "-i", "-id"), (10, 13)):
-        words = f"somesalt {kind} -t 2 -k {8 * lanes + 3} -p {lanes} -v {version} -e"
-        yield Run(words, "argon2", words, "p-127")
-    for memory in (1024, 4096):
-        yield Run(f"{memory} KiB", "argon2", f"somesalt -id -t 1 -k {memory} -e", "p-8")
-    for count in range(41):
-        words = " ".join(["somesalt", "-e", *["-t 1", "-k 8", "-d"] * 14][: count + 1]) if count else ""
-        yield Run(f"{count} words for argon2", "argon2", " ".join(words.split()[:count]), "p-8")
-        yield Run(f"{count} unknown words for argon2", "argon2", " ".join(["x"] * count), "p-8")
-    for place, words in (("the salt", "{} -e"), ("a number", "somesalt -e -t {}"), ("a word", "somesalt -e {}")):
-        long = words.format("1" * 100000)
-        yield Run(f"100,000 bytes for {place} of argon2", "argon2", long, "p-8", more=100000)
-
-
-def runs_of_argon2_verify():
-    for length in range(4099):
-        yield Run(f"a password of {length} bytes for a hash", "argon2-verify", "hash", f"p-{length}")
-    for name in HASHES:
-        for length in (0, 8, 4096):
-            yield Run(f"a password of {length} bytes for {name}", "argon2-verify", name, f"p-{length}")
-    for length in PIECES:
-        yield Run(f"a first line of {length} bytes", "argon2-verify", f"p-{length}", "p-8")
-    for count in range(41):
-        words = " ".join(" ".join(["--maxmem 4096 --maxops 99"] * 11).split()[:count])
-        yield Run(f"{count} words for argon2-verify", "argon2-verify", words, "p-8")
-        yield Run(f"{count} words for argon2-verify, and a name", "argon2-verify", f"{words} hash", "p-8")
-    for place, words in (("the name", "{}"), ("a number", "--maxmem {} hash"), ("a word", "--{} 1 hash")):
-        yield Run(f"100,000 bytes for {place} of argon2-verify", "argon2-verify", words.format("1" * 100000), "p-8", more=100000)
-
-
-def runs_of_scrypt():
-    new = f"enc {CHEAP} --salt {SALT}"
-    for length in LENGTHS:
-        yield Run(f"a passphrase of {length} bytes", "scrypt", f"{new} --passphrase file:p-{length} /dev/null")
-    for length in (*range(0, 2051, 50), 2047, 2048, 2049):
-        yield Run(f"{length} bytes on standard input", "scrypt", f"{new} -P /dev/null", f"p-{length}")
-        yield Run(f"{length} bytes of a variable", "scrypt", f"{new} --passphrase env:PW /dev/null",
-                  variables=f"PW={'p' * length}", more=length)
-    for length in PIECES:
-        yield Run(f"a text of {length} bytes", "scrypt", f"{new} {FROM_PW} p-{length}")
-        yield Run(f"a text of {length} bytes from a pipe", "scrypt", f"{new} {FROM_PW} -", f"p-{length}")
-    costs = ((2, 1, 1), (4, 1, 1), (4, 2, 3), (4, 8, 1), (7, 8, 2), (5, 9, 1), (5, 33, 1), (4, 128, 2), (10, 1, 1), (10, 8, 1))
-    for (log_n, r, p), keep in itertools.product(costs, (1, 2, 4, 16)):
-        words = f"enc --logN {log_n} -r {r} -p {p} --keep {keep} --salt {SALT} {FROM_PW} hello"
-        yield Run(words, "scrypt", words)
-    yield Run("a salt of its own", "scrypt", f"enc {CHEAP} {FROM_PW} hello >own")
-    for count in range(41):
-        yield Run(f"{count} unknown words for scrypt", "scrypt", " ".join(["x"] * count))
-        words = [new, "-M 4096", "--maxops 99", "--keep 1", "-P", "hello", *["x"] * 40]
-        yield Run(f"{count} words for scrypt", "scrypt", " ".join(" ".join(words).split()[:count]))
-    for place, words in (
-        ("the command", "{}"), ("a cost", f"enc --logN {{}} {FROM_PW} hello"), ("an option", "enc --{} hello"),
-        ("a secret's name", "dec --passphrase file:{} hello"), ("a variable's name", "dec --passphrase env:{} hello"),
-        ("the salt", f"enc {CHEAP} --salt {{}} {FROM_PW} hello"), ("the infile", f"dec {FROM_PW} {{}}"),
-        ("the outfile", f"dec {FROM_PW} file {{}}"), ("a word too many", f"dec {FROM_PW} file out {{}}"),
-    ):
-        yield Run(f"100,000 bytes for {place}", "scrypt", words.format("7" * 100000), more=100000)
-    yield Run("100,000 bytes of a variable", "scrypt", "dec --passphrase env:PW file",
-              variables=f"PW={'p' * 100000}", more=100000)
-
-
-def runs_over_files():
-    """Files that `text`, a run before, made, and that are damaged."""
-    for length in PIECES:
-        yield Run(f"a file of a text of {length} bytes", "scrypt", f"dec {FROM_PW} file-{length}")
-        yield Run(f"such a file of {length} bytes from a pipe", "scrypt", f"dec {FROM_PW} -", f"file-{length}")
-    for length in LENGTHS:
-        yield Run(f"a file under a passphrase of {length} bytes", "scrypt", f"dec --passphrase file:p-{length} under-{length}")
-    for length in CUTS:
-        yield Run(f"a file cut to {length} bytes", "scrypt", f"dec {FROM_PW} cut-{length}")
-        yield Run(f"info of a file cut to {length} bytes", "scrypt", f"info cut-{length}")
-    yield Run("another passphrase", "scrypt", "dec --passphrase file:p-3 file-8")
-
-
 def run_all(runs, folder, programs, small):
-    """What each run ends with, status and output, by its name; the shells that run them go side by side."""
-    count, paths = len(os.sched_getaffinity(0)), {variable(name): path for name, path in programs.items()}
+    """What each run ends with, status and output; the shells that run them go side by side."""
+    count, paths = len(os.sched_getaffinity(0)), {name.replace("-", "_"): path for name, path in programs.items()}
 
     def part(chosen):
         text = "".join(line_of(run, number, small) for number, run in chosen)
@@ -158,28 +126,25 @@ def run_all(runs, folder, programs, small):
 
     numbered = [*enumerate(runs)]
     with concurrent.futures.ThreadPoolExecutor(count) as pool:
-        parts = pool.map(part, [numbered[turn::count] for turn in range(count)])
-        found = {number: ended for some in parts for number, ended in some.items()}
-    return [found.get(number) for number, _ in numbered]
+        found = collections.ChainMap(*pool.map(part, [numbered[turn::count] for turn in range(count)]))
+    return {run: found.get(number) for number, run in numbered}
 
 
 def compare(runs, folder, programs):
-    """The runs that end otherwise with a small stack, or by a signal; and what each ends with."""
+    """The runs that end otherwise with a small stack, or by a signal, with both ends; and what each run ends with."""
     large, small = (run_all(runs, folder, programs, it) for it in (False, True))
-    wrong = [(run.name, few, many) for run, few, many in zip(runs, small, large)
-             if few != many or few is None or few[0] not in (0, 1, 2)]
-    return wrong, large
+    return {it: (small[it], large[it]) for it in large
+            if small[it] != large[it] or not large[it] or large[it][0] not in (0, 1, 2)}, large
 
 
 # Takes 64 MiB of the stack at one length of what it reads, and writes nothing.
 DEEP = """
 #include <unistd.h>
-static int deep(void) {
-    volatile char room[64 << 20];
-    for (unsigned long at = sizeof room; at > 4096; at -= 4096) room[at - 1] = 1;
-    return room[8191] - 1;
+int main(void) {
+    char room[256];
+    volatile char deep[read(0, room, sizeof room) == 77 ? 64 << 20 : 1];
+    return deep[0] = 0;
 }
-int main(void) { char room[256]; return read(0, room, sizeof room) == 77 ? deep() : 0; }
 """
 
 
@@ -187,67 +152,41 @@ def finds_what_is_deep(checks, folder):
     """A program that is as wrong as this can find: so the comparison is seen to fail."""
     if not is_there("cc", "no program that takes 64 MiB of stack is looked at", 1):
         return
-    program = os.path.join(folder, "deep")
-    compiled(DEEP, program, "-O0")
-    runs = [it for it in runs_of_argon2() if it.name.startswith("a password of ")]
-    wrong, _ = compare(runs, folder, {"argon2": program})
-    checks.that("64 MiB of stack at one length of the password", [it[0] for it in wrong],
-                [f"a password of 77 bytes, {it}" for it in ("-d", "-i", "-id")])
+    compiled(DEEP, f"{folder}/deep", "-O0")
+    wrong, _ = compare(PASSWORDS, folder, {"argon2": f"{folder}/deep"})
+    expected = [it for it in PASSWORDS if it.given == "p-77"]
+    checks.that("64 MiB of stack at one length of the password", [*wrong], expected)
 
 
 # A function takes a large frame in parts, and writes to each; a larger one in a loop, down to what r11 says.
-PART = re.compile(r"\tsub +\$0x([0-9a-f]{1,8}),%rsp$")
-IN_A_LOOP = re.compile(r"\tsub +\$0x([0-9a-f]{1,8}),%r11$|\tlea +-0x([0-9a-f]{1,8})\(%rsp\),%r11$")
-BETWEEN = re.compile(r"\t(?:movq +\$0x0|orq +\$0x0),(?:0x[0-9a-f]+)?\(%rsp\)$|\tcmp +%r11,%rsp$|\tjne ")
+PART = re.compile(r"\t(?:sub +\$|lea +-)0x([0-9a-f]{1,8})(?:,%rsp|(?:\(%rsp\))?,%r11\n.*\tsub +\$.*,%rsp)$", re.M)
 
 
 def largest_frame(program):
-    """The largest frame of a program's functions in bytes, and whose it is."""
-    found, function, taken, is_loop = [], None, 0, False
-    for line in said("objdump", "-d", "--no-show-raw-insn", program).splitlines():
-        if begins := re.match(r"^[0-9a-f]+ <(.+)>:$", line):
-            function, taken = begins[1], 0
-        elif whole := IN_A_LOOP.search(line):
-            taken, is_loop = int(whole[1] or whole[2], 16), True
-        elif part := PART.search(line):
-            taken += 0 if is_loop else int(part[1], 16)
-        elif BETWEEN.search(line):
-            is_loop = is_loop and "\tjne" not in line
-        else:
-            taken, is_loop = 0, False
-        found.append((taken, function or ""))
-    return max(found)
+    """The most bytes that a function of a program takes for frames, all its parts together, and which one."""
+    code = re.split(r"^[0-9a-f]+ <(.+)>:$", said("objdump", "-d", "--no-show-raw-insn", program), flags=re.MULTILINE)
+    return max((sum(int(it, 16) for it in PART.findall(body)), name) for name, body in zip(code[1::2], code[2::2]))
 
 
 def main(checks, folder, argon2, verify, scrypt):
     programs = {"argon2": argon2, "argon2-verify": verify, "scrypt": scrypt}
-    for length in {*range(4099), *PIECES}:
-        checks.put(f"p-{length}", b"p" * length)
-    for name, text in HASHES.items():
+    texts = {**{f"p-{it}": "p" * it for it in {*range(4099), *PIECES}}, **HASHES, "pw": "pw\n", "hello": "hello"}
+    for name, text in texts.items():
         checks.put(name, text.encode())
-    checks.put("pw", b"pw\n")
-    checks.put("hello", b"hello")
-    runs = [*runs_of_argon2(), *runs_of_argon2_verify(), *runs_of_scrypt()]
-    wrong, ended = compare(runs, folder, programs)
-    # the files of texts, as runs wrote them, and parts of one
-    made = {run.name: out for run, (_, out) in zip(runs, ended)}
-    for length in PIECES:
-        checks.put(f"file-{length}", made[f"a text of {length} bytes"])
-    for length in LENGTHS:
-        checks.put(f"under-{length}", made[f"a passphrase of {length} bytes"] if length < 2049 else made["a text of 5 bytes"])
+    wrong, ended = compare(RUNS, folder, programs)
+    made = {f"file-{it}": text_of(it) for it in PIECES}
+    made.update({f"under-{it}": under(it) if it < 2049 else text_of(5) for it in LENGTHS}, file=text_of(5))
+    for name, run in made.items():
+        checks.put(name, ended[run][1])
     for length in CUTS:
-        checks.put(f"cut-{length}", made["a text of 8193 bytes"][:length])
-    checks.put("file", made["a text of 5 bytes"])
-    over_files = [*runs_over_files()]
-    more, opened = compare(over_files, folder, programs)
-    wrong += more
-    opens = [run.name for run, (status, _) in zip(over_files, opened) if status == 0 and " under " in run.name]
-    checks.that("passphrases under which files are opened", opens, [f"a file under a passphrase of {it} bytes" for it in range(2049)])
-    checks.passed += len(runs) + len(over_files) - len(wrong)
-    for name, small, large in wrong:
-        checks.that(f"with a small stack: {name}", small, large if large and large[0] in (0, 1, 2) else "no signal")
-    statuses = [it[0] for it in ended if it]
-    checks.that("some runs end well, and some do not", (0 in statuses, 1 in statuses), (True, True))
+        checks.put(f"cut-{length}", ended[text_of(8193)][1][:length])
+    more, opened = compare(OVER_FILES, folder, programs)
+    opens = [it for it, run in OPENED.items() if opened[run] and opened[run][0] == 0]
+    checks.that("lengths of passphrases under which files are opened", opens, [*range(2049)])
+    checks.passed += len(ended) + len(opened) - len(wrong) - len(more)
+    for run, ends in {**wrong, **more}.items():
+        checks.that(f"with a small stack: {run}"[:200], ends, "the same end with a large one, by no signal")
+    checks.that("some runs end well, and some do not", {0, 1} <= {it[0] for it in ended.values() if it}, True)
     finds_what_is_deep(checks, folder)
     for name, program in programs.items() if is_there("objdump", "the largest frames are not looked at", 2) else ():
         size, function = largest_frame(program)

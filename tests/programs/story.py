@@ -25,18 +25,13 @@ from shown import GREAT, LIBRARY, STORED
 from tree import TOP, read
 
 README = read("README.md")
-END = "-- end of the command --"
+END = "== end of the command ==\n"
 
 
-def section_of_readme(heading):
-    return README.split(f"\n## {heading}\n")[1].split("\n## ")[0]
-
-
-def story():
-    """The commands below the heading "A story", in their order, each with what it prints."""
-    lines = "".join(f"{line}\n" for line in re.findall(r"^    (.*)$", section_of_readme("A story"), re.MULTILINE))
-    found = re.findall(r"^\$ (.*\n(?:> .*\n)*)((?:(?!\$ ).*\n)*)", lines, re.MULTILINE)
-    return [(command.rstrip("\n").replace("\n> ", "\n"), answer) for command, answer in found]
+def blocks_of_readme(heading):
+    """The blocks of code below a heading of README."""
+    section = README.split(f"\n## {heading}\n")[1].split("\n## ")[0]
+    return [textwrap.dedent(it) for it in re.findall(r"(?:^    .*\n)+", section, re.MULTILINE)]
 
 
 def examples(page, heading="EXAMPLES"):
@@ -52,7 +47,7 @@ def examples(page, heading="EXAMPLES"):
 class Shell:
     """A shell with the programs on its path, in an empty folder, in which what a page says is tried."""
 
-    def __init__(self, checks, name, programs, room, page="README"):
+    def __init__(self, checks, name, programs, room, page):
         self.checks, self.name, self.room, self.page = checks, name, pathlib.Path(room), page.removesuffix(".md")
         path = f"{os.path.abspath(programs)}:{TOP}/packaging:{os.environ['PATH']}"
         self.environment = {**os.environ, "PATH": path, "LC_ALL": "C"}
@@ -66,81 +61,68 @@ class Shell:
     def expect(self, name, found, expected):
         self.checks.that(f"{self.page} in {self.name}: {name}", found, expected)
 
+    def says(self, name, text, expected, **how):
+        """A text ends with this status, and prints this."""
+        self.expect(name, self.run(text, **how), expected)
 
-def in_shells(checks, programs, names, page, run):
-    """Runs what is for these shells in each, in an empty folder."""
-    for name in names:
-        if is_there(name, f"the examples of {page} are not tried in it"):
-            with tempfile.TemporaryDirectory() as room:
-                run(Shell(checks, name, programs, room, page))
-
-
-def blocks_of_readme(heading):
-    """The blocks of code below a heading of README."""
-    return [textwrap.dedent(it) for it in re.findall(r"(?:^    .*\n)+", section_of_readme(heading), re.MULTILINE)]
+    def fails(self, name, text, kept, status=1):
+        """A text ends with this status, and by this line all is as it was."""
+        self.expect(f"{name} fails", (self.run(text)[0], self.run(kept)), (status, (0, "")))
 
 
-def costs_timed(shell, loop):
-    """The loop that times costs, for small ones."""
-    status, said = shell.run("set -e\n" + loop.replace("14 15 16 17 18 19 20", "4 5"))
-    shell.expect("costs are timed", (status, re.findall(r"^--logN \d+$", said, re.MULTILINE)), (0, ["--logN 4", "--logN 5"]))
+def costs_are_timed(shell):
+    """The loops that time costs, for small ones."""
+    for page, loop in (("README", *blocks_of_readme("Which costs")), ("scrypt.1", examples("scrypt.1", "COSTS")[0][0])):
+        status, said = shell.run("set -e\n" + loop.replace("14 15 16 17 18 19 20", "4 5"))
+        timed = re.findall(r"^--logN \d+$", said, re.MULTILINE)
+        shell.expect(f"costs are timed, {page}", (status, timed), (0, ["--logN 4", "--logN 5"]))
 
 
 def scrypt_examples(shell):
-    backup, look, opened, whole, again, _, small, keep = examples("scrypt.1")
-    guard_of_a_file, guard = examples("scrypt.1", "SECURITY")
-    (costs,) = examples("scrypt.1", "COSTS")
-    expect = shell.expect
-    costs_timed(shell, costs[0])
-    status, _ = shell.run(backup[0])
-    expect("a backup of what is not there fails", status != 0, True)
+    (backup, _), look, (opened, _), (whole, _), (again, _), _, small, (keep, _) = examples("scrypt.1")
+    (guard_of_a_file, _), (guard, _) = examples("scrypt.1", "SECURITY")
+    says, fails = shell.says, shell.fails
+    fails("a backup of what is not there", backup, "", 2)
     for name in ("head", "base64"):
-        shell.run("rm -f letters.enc backup-key")
-        status, _ = shell.run(f"{name}() {{ return 1; }}; {backup[0]}")
-        expect(f"a backup without a key, since {name} fails, is none", (status != 0, shell.run("ls letters.enc")[0] != 0), (True, True))
+        line = f"rm -f letters.enc backup-key; {name}() {{ return 1; }}; {backup}"
+        fails(f"a backup without a key, as {name} does,", line, "test ! -e letters.enc")
     shell.run("rm -f backup-key; mkdir letters; echo 'Dear Ada' >letters/to-ada; head -c 32 /dev/urandom | base64 >new-key")
-    expect("a backup", shell.run(backup[0]), (0, ""))
-    status, _ = shell.run("cp letters.enc saved\n" + backup[0].replace("letters |", "letters nothere |"))
-    kept = shell.run("cmp letters.enc saved; rm saved letters.new")
-    expect("a backup of which a part is not there fails, and the older one stays", (status != 0, kept), (True, (0, "")))
-    status, said = shell.run(f"cp backup-key first; {backup[0]}cmp backup-key first && rm first")
-    expect("a backup again keeps the key", (status, "backup-key" in said), (0, True))
-    expect("look at it", shell.run(look[0]), (0, look[1]))
-    expect("open it", shell.run(opened[0]), (0, ""))
-    expect("what was opened", shell.run("tar -tf letters.tar"), (0, "letters/\nletters/to-ada\n"))
-    expect("is it whole", shell.run(whole[0]), (0, "whole\n"))
-    shell.run("cp letters.enc saved; head -c 500 saved >letters.enc; cp letters.enc cut")
-    status, _ = shell.run(again[0])
-    kept = shell.run("cmp cut letters.enc; test ! -e letters.new && mv saved letters.enc")
-    expect("a new passphrase for a damaged file fails, and the file stays", (status != 0, kept), (True, (0, "")))
-    expect("a new passphrase", shell.run(again[0]), (0, ""))
-    expect("with it", shell.run(whole[0].replace("backup-key", "new-key")), (0, "whole\n"))
-    expect("without it", shell.run(whole[0]), (1, "scrypt: wrong passphrase\n"))
-    expect("no text was left", shell.run("ls")[1].split(), ["backup-key", "cut", "letters", "letters.enc", "letters.tar", "new-key"])
+    says("a backup", backup, (0, ""))
+    line = "cp letters.enc saved\n" + backup.replace("letters |", "letters nothere |")
+    fails("a backup of which a part is not there", line, "cmp letters.enc saved && rm saved letters.new", 2)
+    status, said = shell.run(f"cp backup-key first; {backup}cmp backup-key first && rm first")
+    shell.expect("a backup again keeps the key", (status, "backup-key" in said), (0, True))
+    says("look at it", look[0], (0, look[1]))
+    says("open it", opened, (0, ""))
+    says("what was opened", "tar -tf letters.tar", (0, "letters/\nletters/to-ada\n"))
+    says("is it whole", whole, (0, "whole\n"))
+    line = f"cp letters.enc saved; head -c 500 saved >letters.enc; cp letters.enc cut\n{again}"
+    kept = "cmp cut letters.enc && test ! -e letters.new && mv saved letters.enc"
+    fails("a new passphrase for a damaged file", line, kept)
+    says("a new passphrase", again, (0, ""))
+    says("with it", whole.replace("backup-key", "new-key"), (0, "whole\n"))
+    says("without it", whole, (1, "scrypt: wrong passphrase\n"))
+    says("no text was left", "ls", (0, "backup-key\ncut\nletters\nletters.enc\nletters.tar\nnew-key\n"))
     shell.run("echo Dear >in")
+    same = "scrypt dec --passphrase file:new-key letters.enc | cmp - letters.tar && test ! -e letters.new"
     for held in ("", r"\n", r"\nwords", r"\r\n", r"\rwords", r"\0", r"\0\0\n"):
-        for name, of, given in (("a file", guard_of_a_file, f"printf '{held}' >key"), ("a command", guard, f"pass() {{ printf '{held}'; }}")):
-            found = shell.run(f"{given}; {of[0]}s=$?; ls out; exit $s")
-            expect(f"the guard and {name} of '{held}'", (found[0], "No such file" in found[1]), (1, True))
-        status, said = shell.run(f"printf '{held}' >new-key.empty; " + again[0].replace("new-key", "new-key.empty"))
-        kept = shell.run("scrypt dec --passphrase file:new-key letters.enc | cmp - letters.tar; test ! -e letters.new")
-        expect(f"a new passphrase of '{held}' fails, and the file stays", (status, said, kept), (1, "", (0, "")))
-    for name, command in (("fails", "false"), ("prints and fails", "{ echo words; false; }")):
-        found = shell.run(f"pass() {{ {command}; }}; {guard[0]}s=$?; ls out; exit $s")
-        expect(f"the guard and a command that {name}", (found[0], "No such file" in found[1]), (1, True))
-    for name, of, given in (("a file", guard_of_a_file, "echo words >key"), ("a command", guard, "pass() { echo words; }")):
-        line = f"{given}; {of[0]}echo words | scrypt dec -P out && rm out"
-        expect(f"the guard of {name}", shell.run(line), (0, "Dear\n"))
+        fails(f"the guard of a file of '{held}'", f"printf '{held}' >key; {guard_of_a_file}", "test ! -e out")
+        fails(f"the guard of a command of '{held}'", f"pass() {{ printf '{held}'; }}; {guard}", "test ! -e out")
+        text = f"printf '{held}' >new-key.empty; " + again.replace("new-key", "new-key.empty")
+        shell.expect(f"a new passphrase of '{held}'", (shell.run(text), shell.run(same)), ((1, ""), (0, "")))
+    for command in ("false", "{ echo words; false; }"):
+        fails(f"the guard of a command that is {command}", f"pass() {{ {command}; }}; {guard}", "test ! -e out")
+    for given, text in (("echo words >key", guard_of_a_file), ("pass() { echo words; }", guard)):
+        says(f"the guard after {given}", f"{given}; {text}echo words | scrypt dec -P out && rm out", (0, "Dear\n"))
     shell.run("rm -f key new-key.empty")
-    expect("an empty passphrase after a pipe", shell.run("false | scrypt enc -P in open; scrypt dec -P open </dev/null"), (0, "Dear\n"))
-    key = {"KEY": "words of ours"}
-    expect("a small machine", shell.run(small[0], **key), (0, small[1]))
-    status, _ = shell.run(small[0].splitlines(keepends=True)[1] + small[0].splitlines(keepends=True)[2])
-    expect("a small machine without the variable fails", status, 1)
-    expect("what it made", shell.run("scrypt info small.enc; scrypt dec --passphrase env:KEY small.enc | cmp - letters.tar", **key),
-           (0, "N = 32768; r = 8; p = 2; memory = 33554432; cores = 2097152\n"))
+    line = "false | scrypt enc -P in open; scrypt dec -P open </dev/null"
+    says("an empty passphrase after a pipe", line, (0, "Dear\n"))
+    says("a small machine", small[0], (0, small[1]), KEY="words of ours")
+    fails("a small machine without the variable", "".join(small[0].splitlines(keepends=True)[1:3]), "")
+    says("what it made", "scrypt info small.enc; scrypt dec --passphrase env:KEY small.enc | cmp - letters.tar",
+         (0, "N = 32768; r = 8; p = 2; memory = 33554432; cores = 2097152\n"), KEY="words of ours")
     made = "scrypt enc --passphrase env:KEY letters.tar letters.enc; "
-    expect("rows kept in part", shell.run(made + keep[0] + "cmp letters.part letters.tar", **key), (0, ""))
+    says("rows kept in part", f"{made}{keep}cmp letters.part letters.tar", (0, ""), KEY="words of ours")
 
 
 def argon2_examples(shell):
@@ -151,38 +133,35 @@ def argon2_examples(shell):
     prompts = [re.search(asks, it, re.MULTILINE)[1] + "\n" for it in (enrol, check)]
     if shell.name == "dash":
         enrol, check, prompts = *(re.sub(asks, "", it, flags=re.MULTILINE) for it in (enrol, check)), ["", ""]
-    (new, asked), expect = prompts, shell.expect
+    (new, asked), right = prompts, "correct horse"
 
-    def enter(text, password):
-        if shell.name == "dash":
-            return shell.run(text, password=password)
-        return shell.run(text, password.encode() + b"\n")
+    def enter(name, text, password, expected):
+        given = {"password": password} if shell.name == "dash" else {"given": password.encode() + b"\n"}
+        shell.says(name, text, expected, **given)
 
-    right = "correct horse"
-    expect("a hash to keep", enter(enrol, right), (0, new))
-    for password in ("", "x" * 128):
-        status, said = enter("cp stored before; " + enrol, password)
-        kept = shell.run("cmp before stored")
-        expect(f"a hash of {len(password)} bytes is refused, and what was stored stays", (status, kept), (1, (0, "")))
-    expect("the right password", enter(check, right), (0, f"{asked}welcome\n"))
+    enter("a hash to keep", enrol, right, (0, new))
+    for password, refusal in (("", "is empty"), ("x" * 128, "is longer than 127 bytes")):
+        line = f"cp stored before; {enrol}s=$?; cmp before stored && exit $s"
+        name = f"a hash of {len(password)} bytes is refused, and what was stored stays"
+        enter(name, line, password, (1, f"{new}argon2: password {refusal}\n"))
+    enter("the right password", check, right, (0, f"{asked}welcome\n"))
     for password in ("battery staple", "correct horse ", " correct horse", "correct\\\\horse", "", "x" * 200):
-        expect(f"the password '{password}'", enter(check, password), (1, f"{asked}not you\n"))
+        enter(f"the password '{password}'", check, password, (1, f"{asked}not you\n"))
     if shell.name != "dash":
         left = 'echo "<$password$salt>"'
-        expect("nothing stays in the shell", enter(f"{enrol}{left}", right), (0, f"{new}<>\n"))
-        expect("nothing stays after a check", enter(f"{check}{left}", right), (0, f"{asked}welcome\n<>\n"))
+        enter("nothing stays in the shell", f"{enrol}{left}", right, (0, f"{new}<>\n"))
+        enter("nothing stays after a check", f"{check}{left}", right, (0, f"{asked}welcome\n<>\n"))
     for words in ("'s,l$t = \u00e4' -i -t 2 -k 100 -p 3 -l 30 -v 10", "'ends in a line\n\n' -d -t 1 -k 8 -l 64"):
-        found = enter(f"printf %s other | argon2 {words} -e >stored\n{check}", "other")
-        expect(f"a text of {words}", found, (0, f"{asked}welcome\n"))
-    enter(enrol, right)
-    for name, stored in (("empty", ": >stored"), ("of a line feed", "echo >stored"), ("that is missing", "rm stored")):
-        shell.run(stored)
+        line = f"printf %s other | argon2 {words} -e >stored\n{check}"
+        enter(f"a text of {words}", line, "other", (0, f"{asked}welcome\n"))
+    refused = "the file's first line is no encoded hash"
+    for made, line in ((": >stored", refused), ("echo >stored", refused), ("rm -f stored", "file cannot be read")):
         for password in ("anything", "correct horse", ""):
-            status, said = enter(check, password)
-            expect(f"a stored text {name}, and the password '{password}'", (status != 0, "welcome" in said), (True, False))
+            expected = 1, f"{asked}argon2-verify: {line}\nnot you\n"
+            enter(f"the password '{password}' after {made}", f"{made}; {check}", password, expected)
     status, said = shell.run(key, salt="a salt that is kept", password=right)
-    expect("a key", (status, len(bytes.fromhex(said))), (0, 64))
-    expect("a key without a salt", shell.run(key, password=right), (1, "argon2: salt length out of range\n"))
+    shell.expect("a key", (status, len(bytes.fromhex(said))), (0, 64))
+    shell.says("a key without a salt", key, (1, "argon2: salt length out of range\n"), password=right)
 
 
 def argon2_verify_examples(shell):
@@ -191,25 +170,26 @@ def argon2_verify_examples(shell):
     shell.run("printf %s 'correct horse' | argon2 somesalt -id -t 1 -k 8 -e >stored; cp stored other")
     for password, said in (("correct horse", "welcome\n"), ("correct horse\n", "not you\n"), ("x", "not you\n"), ("", "not you\n")):
         for text in (plain, told):
-            shell.expect(f"the password {password!r}", shell.run(text, password=password), (0, said))
+            shell.says(f"the password {password!r}", text, (0, said), password=password)
     refused = "argon2-verify: the file's first line is no encoded hash\n"
     for text, said in ((plain, "not you\n"), (told, "try again later\n")):
-        shell.expect("an empty file", shell.run(f": >stored\n{text}", password="correct horse"), (0, refused + said))
+        shell.says("an empty file", f": >stored\n{text}", (0, refused + said), password="correct horse")
     alone = f"set -e\n{re.search('printf .* stored', plain)[0]}\necho after it"
-    shell.expect("a refusal alone", shell.run(alone, password="x"), (2, refused))
-    shell.expect("a wrong password alone", shell.run(f"cp other stored\n{alone}", password="x"), (1, ""))
+    shell.says("a refusal alone", alone, (2, refused), password="x")
+    shell.says("a wrong password alone", f"cp other stored\n{alone}", (1, ""), password="x")
 
 
-def typed(shell, text):
-    """Status, what is shown, and the questions, where a passphrase is typed at each question of these lines, at lower costs."""
+def typed(shell, name, text, before="", after="", status=0):
+    """These lines, at lower costs, end with this status, and show but this and the questions, at each of which a
+    passphrase is typed."""
     cheap = re.sub(r"scrypt-ask enc( --logN \d+ -r 8 -p 1)?", f"scrypt-ask enc {CHEAP}", text)
-    terminal, asked = Terminal(f"{shell.name} -c {shlex.quote(cheap)}", shell.room, shell.environment, os.getuid()), ""
+    terminal, asked = Terminal(f"exec {shell.name} -c {shlex.quote(cheap)}", shell.room, shell.environment), before
     for command in re.findall(r"scrypt-ask (enc|dec) ", text):
         for prompt in (ASKED, AGAIN)[: 1 + (command == "enc")]:
             terminal.sees(asked + prompt)
             terminal.types("words\n")
             asked += f"{prompt}\r\n"
-    return *terminal.ends()[:2], asked
+    shell.expect(name, terminal.ends()[:2], (status, asked + after))
 
 
 def typed_folder(shell):
@@ -217,23 +197,22 @@ def typed_folder(shell):
     made, opened, again = blocks_of_readme("Typing a passphrase")
     shell.run("mkdir letters; echo 'Dear Ada' >letters/to-ada; cp -r letters kept")
     for name, text in (("a folder", made), ("got back", "rm -r letters\n" + opened), ("encrypted again", again), ("and got back", opened)):
-        status, said, asked = typed(shell, text)
-        shell.expect(name, (status, said), (0, asked))
-    shell.expect("what is there", shell.run("diff -r letters kept; ls"), (0, "kept\nletters\nletters.tar.scrypt\n"))
+        typed(shell, name, text)
+    shell.says("what is there", "diff -r letters kept; ls", (0, "kept\nletters\nletters.tar.scrypt\n"))
     shell.run("cp letters.tar.scrypt before")
-    status, *_ = typed(shell, made.replace("tar -cf - letters |", "tar -cf - leters 2>/dev/null |"))
-    shell.expect("a folder that is not there", (status != 0, shell.run("cmp before letters.tar.scrypt")), (True, (0, "")))
+    text = made.replace("tar -cf - letters |", "tar -cf - leters 2>/dev/null |")
+    typed(shell, "a folder that is not there", text, status=2)
+    shell.says("a folder that is not there: the older file", "cmp before letters.tar.scrypt", (0, ""))
 
 
 def first_screen(shell):
     """The commands of README's first screen after the first, which installs, pasted as they stand into an empty folder; at
     lower costs, with a passphrase typed at each question. No line follows one that asks, which would read it."""
     install, *commands = re.findall(r"^    (.*)$", README.partition("\n[^speed]:")[0], re.MULTILINE)
-    status, said, asked = typed(shell, "\n".join(commands))
-    found = install.startswith("make run && make install "), status, said
-    shell.expect("the first screen", found, (True, 0, f"welcome\r\n{asked}"))
+    shell.expect("the line that installs", install.startswith("make run && make install "), True)
+    typed(shell, "the first screen", "\n".join(commands), before="welcome\r\n")
     shell.expect("lines of the first screen that ask", [it for it in commands if "scrypt-ask" in it], commands[-1:])
-    shell.expect("what was opened", shell.run("cat opened; cmp letter opened; cmp -s letter letter.scrypt"), (1, "Dear Ada\n"))
+    shell.says("what was opened", "cat opened; cmp letter opened; cmp -s letter letter.scrypt", (1, "Dear Ada\n"))
 
 
 def asking_examples(shell):
@@ -241,22 +220,9 @@ def asking_examples(shell):
     shell.run("mkdir letters; echo 'Dear Ada' >letters/to-ada; tar -cf letters.tar letters; cp letters.tar kept")
     texts = [text for page in ("scrypt-ask.1", "scrypt.1") for text, _ in examples(page) if "scrypt-ask" in text]
     for text in texts:
-        status, said, asked = typed(shell, text)
-        listed = "letters/\r\nletters/to-ada\r\n" if "tar -tf" in text else ""
-        shell.expect(text, (status, said, shell.run("cmp letters.tar kept")), (0, asked + listed, (0, "")))
+        typed(shell, text, text, after="letters/\r\nletters/to-ada\r\n" if "tar -tf" in text else "")
+        shell.says(f"what is there after {text}", "cmp letters.tar kept", (0, ""))
     shell.expect("examples of scrypt-ask", len(texts), 6)
-
-
-def compare_recipes(checks, programs):
-    for page, part in (("README.md", first_screen), ("README.md", typed_folder), ("scrypt-ask.1", asking_examples)):
-        in_shells(checks, programs, ("bash", "zsh"), page, part)
-    for page, part in (("argon2.1", argon2_examples), ("argon2-verify.1", argon2_verify_examples)):
-        in_shells(checks, programs, ("bash", "dash", "zsh"), page, part)
-
-
-def parts_of_readme(shell):
-    """The loop that times costs."""
-    costs_timed(shell, *blocks_of_readme("Which costs"))
 
 
 def texts_of_others(shell):
@@ -282,20 +248,19 @@ def functions(text):
     return {found[2]: found[1] for found in re.finditer(r"^(fn (\w+)\(.*?^\}\n)", text, re.MULTILINE | re.DOTALL)}
 
 
-def compare_library(checks, folder):
+def library_is_tested(shell):
     """The Rust program's functions are those of a test, and the first line that it prints is what the program argon2
     makes of the password, salt and settings that stand there."""
     files = [it for it in sorted(TOP.glob("crates/*/src/**/*.rt")) if "tests" in it.parts[-2:] or it.name == "tests.rt"]
     tested, (program, shown) = functions("".join(it.read_text(encoding="utf-8") for it in files)), rust_program()
     of_program = functions(program)
-    checks.that("LIBRARY's login is a test's", "may_enter" in of_program and "may_enter" in tested, True)
+    shell.expect("LIBRARY's login is a test's", "may_enter" in of_program and "may_enter" in tested, True)
     for name in sorted(of_program.keys() & tested.keys() - {"main"}):
-        checks.that(f"LIBRARY's {name} is that of a test", of_program[name], tested[name])
+        shell.expect(f"LIBRARY's {name} is that of a test", of_program[name], tested[name])
     password, salt = re.findall(r'enrol\(alloc, b"(.*)", b"(.*)"\)', program)[0]
     passes, lanes, memory = re.findall(r"0x13,\s+(\d+),\s+(\d+),\s+([\d_]+),\s+32,", program)[0]
-    words = [salt, "-id", "-t", passes, "-p", lanes, "-k", memory.replace("_", ""), "-e"]
-    found = checks.run(words, password.encode(), program=os.path.abspath(os.path.join(folder, "argon2")))
-    checks.that("LIBRARY's enrolled text", found, (0, shown.splitlines(keepends=True)[0].encode(), b""))
+    line = f"argon2 {shlex.quote(salt)} -id -t {passes} -p {lanes} -k {memory.replace('_', '')} -e"
+    shell.says("LIBRARY's enrolled text", line, (0, shown.splitlines(keepends=True)[0]), given=password.encode())
 
 
 def prove():
@@ -311,22 +276,32 @@ def prove():
         raise SystemExit(f"LIBRARY's program prints {ran.stdout!r}")
 
 
-def story_is_told(checks, programs):
+def story_is_told(shell):
     """README's story, command by command. Its login lets nobody in where the stored text is empty."""
-    typed = story()
-    with tempfile.TemporaryDirectory() as room:
-        script = "".join(f"{command}\necho '{END}'\n" for command, _ in typed)
-        found = Shell(checks, "bash", programs, room).run(script)[1].split(END + "\n")[:-1]
-    checks.that("as many answers as commands", len(found), len(typed))
-    for (command, expected), answer in zip(typed, found):
-        checks.that(f"README: {command}", answer, expected)
-    (login,) = [command for command, answer in typed if answer == "welcome\n"]
-    with tempfile.TemporaryDirectory() as room:
-        shell = Shell(checks, "bash", programs, room)
-        for stored in (": >stored", "echo >stored", "rm stored"):
-            for password in ("''", "$(printf %200d 0)", "'correct horse'"):
-                status, said = shell.run(f"{stored}\n" + login.replace("'correct horse'", password))
-                checks.that(f"README: {password} after {stored}", (status, "welcome" in said), (2, False))
+    told = re.findall(r"^\$ (.*\n(?:> .*\n)*)((?:(?!\$ ).*\n)*)", "".join(blocks_of_readme("A story")), re.MULTILINE)
+    story = [(command.rstrip("\n").replace("\n> ", "\n"), answer) for command, answer in told]
+    found = shell.run("".join(f"{command}\nprintf '{END}'\n" for command, _ in story))[1].split(END)[:-1]
+    shell.expect("as many answers as commands", len(found), len(story))
+    for (command, expected), answer in zip(story, found):
+        shell.expect(command, answer, expected)
+    (login,) = [command for command, answer in story if answer == "welcome\n"]
+    for stored in (": >stored", "echo >stored", "rm stored"):
+        for password in ("''", "$(printf %200d 0)", "'correct horse'"):
+            status, said = shell.run(f"touch stored; {stored}\n" + login.replace("'correct horse'", password))
+            shell.expect(f"{password} after {stored}", (status, "welcome" in said), (2, False))
+
+
+# A page, the shells that its examples are for, and what tries them.
+RECIPES = [
+    ("README.md", ("bash", "zsh"), first_screen), ("README.md", ("bash", "zsh"), typed_folder),
+    ("scrypt-ask.1", ("bash", "zsh"), asking_examples), ("argon2.1", ("bash", "dash", "zsh"), argon2_examples),
+    ("argon2-verify.1", ("bash", "dash", "zsh"), argon2_verify_examples),
+]
+OTHERS = [
+    ("README.md", ("bash",), library_is_tested), ("README.md", ("bash",), story_is_told),
+    ("README.md", ("bash",), texts_of_others), ("README.md", ("bash", "zsh"), costs_are_timed),
+    ("scrypt.1", ("bash", "zsh"), scrypt_examples),
+]
 
 
 def main():
@@ -336,14 +311,11 @@ def main():
     if programs == "none" or option not in ([], ["--recipes"]):
         raise SystemExit(__doc__)
     checks = Checks(os.path.join(programs, "scrypt"))
-    if not option:
-        compare_library(checks, programs)
-        story_is_told(checks, programs)
-        in_shells(checks, programs, ("bash", "zsh"), "README.md", parts_of_readme)
-        in_shells(checks, programs, ("bash",), "README.md", texts_of_others)
-    compare_recipes(checks, programs)
-    if not option:
-        in_shells(checks, programs, ("bash", "zsh"), "scrypt.1", scrypt_examples)
+    for page, shells, part in RECIPES if option else [*RECIPES, *OTHERS]:
+        for name in shells:
+            if is_there(name, f"the examples of {page} are not tried in it"):
+                with tempfile.TemporaryDirectory() as room:
+                    part(Shell(checks, name, programs, room, page))
     checks.end()
 
 

@@ -140,21 +140,25 @@ class Code:
         named = self.keep("written", name, None, lambda: written(self.at(name)["body"]))
         return self.keep("calls", name, bounds, lambda: tuple(self.callee(it, bounds) for it in named))
 
-    @functools.lru_cache(maxsize=None)
-    def beyond(self, instance):
-        """What an instance of the toolchain's comes to: functions of C, methods of bounds, and functions of ours that it is given."""
-        found, left = set(), [instance]
-        seen = {instance}
+    def through(self, instance):
+        """The instances of the toolchain's functions that one comes to through no function of ours, itself first; and
+        what these come to: functions of C, methods of bounds, and functions of ours.
+        """
+        inside, ends = {instance: None}, set()
+        left = [instance]
         while left:
             for it in self.calls(left.pop()):
-                if it[0] in ("C", "?"):
-                    found.add(it)
-                elif self.is_own(it[0]):
-                    found.add((it[0], ()))
-                elif it not in seen:
-                    seen.add(it)
+                if it[0] in ("C", "?") or self.is_own(it[0]):
+                    ends.add(it if it[0] in ("C", "?") else (it[0], ()))
+                elif it not in inside:
+                    inside[it] = None
                     left.append(it)
-        return frozenset(found)
+        return [*inside], ends
+
+    @functools.lru_cache(maxsize=None)
+    def beyond(self, instance):
+        """What an instance of the toolchain's comes to: no other of its functions."""
+        return frozenset(self.through(instance)[1])
 
     def reached(self, name):
         """What a function of ours comes to, each with the number of places: functions of C and methods of bounds, be it through the
@@ -167,17 +171,7 @@ class Code:
 
     def passed(self, name):
         """The functions of the toolchain's that a function of ours comes to through no other of ours."""
-        seen, left = set(), [self.open(name)]
-        while left:
-            for it in self.calls(left.pop()):
-                if it[0] not in ("C", "?") and not self.is_own(it[0]) and it not in seen:
-                    seen.add(it)
-                    left.append(it)
-        return sorted({name for name, _ in seen})
-
-    def operations(self, name):
-        """The operations of a function."""
-        return [it[kind][0] for it in nodes(self.at(name)["body"]) for kind in ("Op1", "Op2", "Vec1", "Vec2") if kind in it]
+        return {it for it, _ in self.through(self.open(name))[0][1:]}
 
     def most(self, name, wanted):
         """How often a run of a function of ours comes to some of these, on that way through its branches on which it does so

@@ -1,5 +1,6 @@
-"""The tree that the tests look at: its crates, and what git says of it."""
+"""The tree that the tests look at: its crates, its pages, and what git says of it."""
 import pathlib
+import re
 import subprocess
 import sys
 
@@ -13,6 +14,16 @@ below = prove.uses_of
 def read(name):
     """The text of a file of the tree."""
     return (TOP / name).read_text(encoding="utf-8")
+
+
+def tables(page):
+    """The rows of the tables of a page of docs/ as lists of cells, each with the heading that it stands under."""
+    heading = ""
+    for line in read(f"docs/{page}").splitlines():
+        if line.startswith("#"):
+            heading = line.lstrip("# ")
+        elif line.startswith("|") and not line.startswith("|---"):
+            yield heading, [cell.strip() for cell in re.split(r"(?<!\\)\|", line)[1:-1]]
 
 
 VERSION = read("VERSION").strip()

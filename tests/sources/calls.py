@@ -33,11 +33,9 @@ import re
 import sys
 
 sys.path += map(str, pathlib.Path(__file__).resolve().parents[1].iterdir())  # the other folders of tests/
+import contracts
 from compiled import Code, nodes, types_in
-from tree import TOP
-
-sys.path.append(str(TOP / "packaging"))
-import prove  # noqa: E402
+from tree import TOP, prove
 
 EXCEPTED = TOP / "tests/sources/calls.tsv"
 OTHERS = re.compile(r"\w+_tests|memory_host|memory_system|command")  # have no part in a program
@@ -56,18 +54,18 @@ SHOWS = re.compile(r"(Debug|Display)::fmt$|PartialEq::eq$")  # derived, of value
 RAW = re.compile(r".*::(forget|leak|into_raw\w*|from_raw\w*|ManuallyDrop::\w+)$|pikhsen_c::(stream::PikhsenStream::begin|heap::Heap::take)$")
 FOR_C, WIPES = re.compile(r"pikhsen_c::.*::pikhsen_\w+$"), "pikhsen_c::wiping::wipe_stack"
 DEEP, LONG = 72 << 10, 1 << 20
+NEVER = {"system", "counter", "begins", "stack"}  # the rules from which nothing is excepted
 
 
 @functools.lru_cache(maxsize=None)
 def wants_of_memory():
     """What speaks of want of memory: types, each with the number of its case."""
     found = {"core::alloc::AllocError": None}
-    for file in sorted(TOP.glob("crates/*/src/**/*.rt")):
-        for name, cases in re.findall(r"^pub(?:\(crate\))? enum (\w+) \{\n(.*?)^\}", file.read_text(encoding="utf-8"), re.M | re.S):
-            cases = re.findall(r"^    (\w+)", cases, re.M)
-            if "OutOfMemory" in cases:
-                path = file.relative_to(TOP / "crates").with_suffix("").parts
-                found["::".join([path[0], *(it for it in path[2:] if it != "lib"), name])] = cases.index("OutOfMemory")
+    for crate, it in ((crate, it) for crate in prove.listed() for it in contracts.items(crate)):
+        cases = re.findall(r"^    (\w+)", it.text, re.M)
+        if it.what == "enum" and "OutOfMemory" in cases:
+            module = it.path.relative_to(contracts.CRATES / crate / "src").with_suffix("").parts
+            found["::".join([crate, *(it for it in module if it != "lib"), it.name])] = cases.index("OutOfMemory")
     return found
 
 
@@ -133,6 +131,16 @@ def compares_bytes(code, name):
     return any(all("Copy" in it for it in pair) and any(is_of_bytes(it["Copy"]) for it in pair) for pair in pairs)
 
 
+def all_called(names, called):
+    """These functions, and all that they come to."""
+    found, left = {*names}, [*names]
+    while left:
+        new = {*called(left.pop())} - found
+        found |= new
+        left += new
+    return found
+
+
 class Rules:
     """What the rules find in some code, of all functions of ours or of these: what is excepted, if a row says so, and what
     never is."""
@@ -142,32 +150,28 @@ class Rules:
         self.names = [it for it in sorted(names or code.ours) if code.is_own(it) and not it.startswith(SYSTEM)]
         self.called = functools.lru_cache(maxsize=None)(lambda name: {it for it, _ in code.reached(name) if it in code.ours})
 
-    def except_(self, rule, name, *said):
-        self.rows += ["\t".join([rule, name, ", ".join(said)])] if said else []
-
     def memory(self, name, function, reached):
         taking = [it for it in self.code.calls(self.code.open(name))
                   if it in TAKES or not self.code.is_own(it[0]) and TAKES & self.code.beyond(it)]
         is_source = "Memory::" in self.code.traits_of.get(name, "")
-        if taking and not (is_source and len(taking) == 1 and "Loop" not in function["body"] and not SPARE.search(taking[0][0])):
-            self.except_("memory", name, *sorted({kind if kind not in ("C", "?") else of for kind, of in taking}))
+        if not (is_source and len(taking) == 1 and "Loop" not in function["body"] and not SPARE.search(taking[0][0])):
+            yield from sorted({kind if kind not in ("C", "?") else of for kind, of in taking})
 
     def heap(self, name, function, reached):
         if any(HEAP in types_in(it["ty"]) for it in function["locals"]):
-            twice = [it for (it, _), times in reached.items() if it in self.code.ours and times > 1]
-            self.except_("heap", name, *sorted(twice), *["a loop"] * ("Loop" in function["body"]))
+            yield from sorted(it for (it, _), times in reached.items() if it in self.code.ours and times > 1)
+            yield from ["a loop"] * ("Loop" in function["body"])
 
     def system(self, name, function, reached):
-        for kind, other in {*reached} - HEAP_OF_C:
-            if kind == "C" or kind == "?" and other.startswith("dyn "):
-                self.wrong.append(f"system\t{name}\tcomes to {other}")
+        yield from sorted(f"comes to {other}" for kind, other in {*reached} - HEAP_OF_C
+                          if kind == "C" or kind == "?" and other.startswith("dyn "))
         if any("CallV" in it for it in nodes(function["body"])):
-            self.wrong.append(f"system\t{name}\tcalls what no name says")
+            yield "calls what no name says"
 
     def counter(self, name, function, reached):
         tick = frozenset({f"{name.split('::')[0]}::ticks::Ticks::tick"})
         if self.first(name, COUNTS) or tick & self.called(name) and self.first(name, tick):
-            self.wrong.append(f"counter\t{name}\tmakes a second counter, or ticks twice")
+            yield "makes a second counter, or ticks twice"
 
     def first(self, name, wanted):
         """Whether a function comes to some of these twice, and nothing that it calls does."""
@@ -175,72 +179,59 @@ class Rules:
 
     def begins(self, name, function, reached):
         if any(self.first(name, it) for it in BEGINS):
-            self.wrong.append(f"begins\t{name}\tbegins a hash or a derivation twice")
+            yield "begins a hash or a derivation twice"
 
     def bytes(self, name, function, reached):
         if not SHOWS.search(name):
             by = [it for it in by_bytes(function, self.returning) if it in ("branches", "answers")]
-            by += ["a loop"] * ("branches" in by and "Loop" in function["body"])
-            self.except_("bytes", name, *by, *["compares"] * any(compares_bytes(self.code, it) for it in self.code.passed(name)))
+            yield from by + ["a loop"] * ("branches" in by and "Loop" in function["body"])
+            yield from ["compares"] * any(compares_bytes(self.code, it) for it in self.code.passed(name))
 
     def makes(self, name, function, reached):
         made = collections.Counter()
         for it in nodes(function["body"]):
-            if "Assign" in it and isinstance(it["Assign"][1], dict) and "Aggregate" in it["Assign"][1] and not it["Assign"][0]["steps"]:
-                kind = next(types_in(function["locals"][it["Assign"][0]["local"]]["ty"]), None)
-                parts = it["Assign"][1]["Aggregate"]
+            to, value = it.get("Assign", (None, None))
+            if isinstance(value, dict) and "Aggregate" in value and not to["steps"]:
+                kind, parts = next(types_in(function["locals"][to["local"]]["ty"]), None), value["Aggregate"]
                 case = int(parts[0]["Int"]["value"]) if parts and "Int" in parts[0] else None
                 made[kind] += kind in self.wants and self.wants[kind] in (case, None)
-        self.except_("makes", name, *(f"{kind} {times}" for kind, times in made.items() if times))
+        yield from (f"{kind} {times}" for kind, times in made.items() if times)
 
     def raw(self, name, function, reached):
         if name.endswith("::drop"):
-            self.except_("raw", name, hashlib.sha256(json.dumps(function["body"], sort_keys=True).encode()).hexdigest()[:16])
+            yield hashlib.sha256(json.dumps(function["body"], sort_keys=True).encode()).hexdigest()[:16]
         kept = collections.Counter(it for it, _ in self.code.calls(self.code.open(name)) if RAW.match(it))
-        self.except_("raw", name, *(f"{it} {kept[it]}" for it in sorted(kept)))
+        yield from (f"{it} {kept[it]}" for it in sorted(kept))
 
     def stack(self, name, function, reached):
-        if self.leads(self.called(name), {name}, self.called):
-            self.wrong.append(f"stack\t{name}\tcalls itself")
+        if name in all_called(self.called(name), self.called):
+            yield "calls itself"
         deep, names = self.code.deepest(self.code.open(name))
         if DEEP <= deep < DEEP + int(names[0].split()[-1]):  # the first from which it is too deep
-            self.wrong.append(f"stack\t{name}\t{deep} bytes: {', '.join(names)}")
+            yield f"{deep} bytes: {', '.join(names)}"
 
     def turns(self, name, function, reached):
         numbers = [int(it["Int"]["value"]) for it in nodes(function["body"]) if isinstance(it.get("Int"), dict)]
         if "Loop" in function["body"] and max(numbers, default=0) >= LONG:
-            self.except_("turns", name, str(max(numbers)))
+            yield str(max(numbers))
 
     def last(self, name, function, reached):
         if FOR_C.match(name):
-            self.except_("last", name, *(it for it in sorted(self.code.last(name)) if it != WIPES and not FOR_C.match(it)))
+            yield from (it for it in sorted(self.code.last(name)) if it != WIPES and not FOR_C.match(it))
 
     def work(self):
         """What does the work that is counted, and can be called by another way than through what ticks."""
         for crate in ("argon", "romix"):
             ours = {it: self.called(it) for it in self.code.ours if it.startswith(f"{crate}::") and self.code.is_own(it)}
             ticking = {it for it, to in ours.items() if f"{crate}::ticks::Ticks::tick" in to}
-            mixing = {it for it in ours if any(MIXES.search(json.dumps(op)) for op in self.code.operations(it))}
-            past = set(ours) - ticking
-            below = {it for tick in ticking for it in ours[tick]}  # what is called by it alone
-            while more := {to for it in below - ticking for to in ours.get(it, ())} - below:
-                below |= more
-            for name in sorted(past - below):
+            mixing = {it for it in ours if MIXES.search(json.dumps(self.code.ours[it]["body"]))}
+            # what is called by these alone
+            past = {**ours, **dict.fromkeys(ticking, ())}
+            below = all_called({it for tick in ticking for it in ours[tick]}, lambda name: past.get(name, ()))
+            for name in sorted(set(ours) - ticking - below):
                 for it in sorted(ours[name] & (below - ticking) | {name} & mixing):
-                    if self.leads({it}, mixing, lambda name: ours.get(name, ())):
+                    if mixing & all_called({it}, lambda name: ours.get(name, ())):
                         self.wrong.append(f"counter\t{name}\tdoes by {it} what is counted, and does not tick")
-
-    @staticmethod
-    def leads(names, to, called):
-        """Whether one of these is among some functions, or comes to one."""
-        seen, left = set(), [*names]
-        while left:
-            if (it := left.pop()) in to:
-                return True
-            if it not in seen:
-                seen.add(it)
-                left += called(it)
-        return False
 
     @functools.cached_property
     def returning(self):
@@ -257,7 +248,9 @@ class Rules:
             function, reached = self.code.ours[name], self.code.reached(name)
             for rule in (self.memory, self.heap, self.system, self.counter, self.begins, self.bytes, self.makes, self.raw,
                          self.stack, self.turns, self.last):
-                rule(name, function, reached)
+                if said := [*rule(name, function, reached)]:
+                    found = self.wrong if rule.__name__ in NEVER else self.rows
+                    found.append("\t".join([rule.__name__, name, ", ".join(said)]))
         self.work()
         return self
 

@@ -41,10 +41,9 @@ def assign(to, value):
     return {"Assign": [place(to), value]}
 
 
-def first(*steps, **locals_of):
-    """Puts steps at the beginning of a body, over locals of these types; a number of a new local is below 0."""
+def first(*steps):
+    """Puts steps at the beginning of a body."""
     def put(function):
-        function["locals"] += [{"ty": it, "home": "ValueLocal"} for it in locals_of.get("kinds", ())]
         for it in reversed(steps):
             function["body"][:0] = ["Seq", *it] if isinstance(it, list) else ["Seq", it]
     return put
@@ -135,7 +134,7 @@ TRIALS = [
     ("stack", "scrypt_run::decrypt::open", array(1 << 16)),
     ("stack", "argon::matrix::Matrix::hash", first(call("argon::matrix::Matrix::hash"))),
     ("turns", "argon::matrix::Matrix::hash", turns(1 << 64)),
-    ("turns", "argon2_command::run::read_and_make_output", turns(10**9)),
+    ("turns", "argon2_command::run::run_without_report", turns(10**9)),
     ("last", "pikhsen_c::scrypt::pikhsen_scrypt", at_end(call("romix::costs::Costs::p"))),
     ("last", "pikhsen_c::streaming::pikhsen_scrypt_encrypt_finish", at_end(call("pikhsen_c::streaming::finish_encryption"))),
 ]

@@ -1,16 +1,17 @@
 #!/usr/bin/env python3
 """Which texts near an encoded text are encoded texts, by a regular expression and Python's base64.
 
-Prints the tables of crates/argon_text_tests/src/tests/near_misses.rt: for each byte of the known text, what reading
+Compares the tables of crates/argon_text_tests/src/tests/near_misses.rt: for each byte of the known text, what reading
 answers where another byte stands in its place; of that and of the short text, where a byte is left out, where it
-comes twice, and of each prefix. 0: it is read; 1: it is not in the grammar; 2: a value is out of range. With that
-file's name it prints nothing, and fails where the file has other answers.
+comes twice, and of each prefix. 0: it is read; 1: it is not in the grammar; 2: a value is out of range. Where that file
+has other answers it prints these.
 """
 import base64
 import pathlib
 import re
 import sys
 
+FILE = pathlib.Path("crates/argon_text_tests/src/tests/near_misses.rt")
 KNOWN = "$argon2i$v=19$m=256,t=2,p=1$c29tZXNhbHQ$iekCn0Y3spW+sCcFanM2xBT63UP2sghkUoHLIUpWRS8"
 SHORT = "$argon2i$m=256,t=2,p=1$c29tZXNhbHQ$/U3YPXYsSb3q9XxHvc0MLxur+GP960kN9j7emXX8zwY"
 NUMBER = "(0|[1-9][0-9]*)"
@@ -44,24 +45,19 @@ def work_of(kind, memory, passes, lanes):
     return passes * 4 * lanes * segment - 2 * lanes + 2 * -(-segment // 128) * independent
 
 
-# What stands in the place of a text, at each of its places.
-NEAR = {
-    "left_out": lambda known, at: known[:at] + known[at + 1:], "twice": lambda known, at: known[:at + 1] + known[at:],
-    "prefixes": lambda known, at: known[:at],
-}
-
-
 def row(known, near):
+    """What reading answers where a text stands in the place of this one, at each of its places."""
     return "".join(read(near(known, at)) for at in range(len(known)))
 
 
 def main():
-    rows = [(repr(byte), row(KNOWN, lambda known, at: known[:at] + byte + known[at + 1:])) for byte in "$,=+/06A-.\n"]
-    rows += [(f"{name} {how}", row(known, near)) for name, known in (("known", KNOWN), ("short", SHORT)) for how, near in NEAR.items()]
-    if len(sys.argv) == 1:
-        print(*(f"{name:16} {answers}" for name, answers in rows), sep="\n")
-    elif re.findall('"([012]+)"', pathlib.Path(sys.argv[1]).read_text(encoding="utf-8")) != [answers for _, answers in rows]:
-        sys.exit(f"{sys.argv[1]} has other answers than this program")
+    rows = [row(KNOWN, lambda known, at: known[:at] + byte + known[at + 1:]) for byte in "$,=+/06A-.\n"]
+    for known in (KNOWN, SHORT):
+        rows.append(row(known, lambda known, at: known[:at] + known[at + 1:]))
+        rows.append(row(known, lambda known, at: known[:at + 1] + known[at:]))
+        rows.append(row(known, lambda known, at: known[:at]))
+    if re.findall('"([012]+)"', FILE.read_text(encoding="utf-8")) != rows:
+        sys.exit("\n".join([f"{FILE} has other answers than this program", *rows]))
 
 
 if __name__ == "__main__":

@@ -31,5 +31,5 @@ for file in crates/system_calls/src/* $(find crates/*/src -path '*_tests/*' -pru
     grep -qF "  $file" $whole || fail "a file is compared with nothing: $file"
 done
 
-tests/sources/encoded_texts.py crates/argon_text_tests/src/tests/near_misses.rt || status=1
+tests/sources/encoded_texts.py || status=1
 exit $status

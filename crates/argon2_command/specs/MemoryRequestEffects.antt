@@ -1,5 +1,5 @@
 -- What is asked of a source of memory: the tag, its line and one matrix, in this order, each once.
-use Rattle.std.specs.Prelude.{◌≡◌, ◌⊎◌, Bool, true, false, ℕ}
+use Rattle.std.specs.Prelude.{◌≡◌, ◌⊎◌, Bool, true, false, ℕ, Result, MatchResult}
 use Rattle.argon.specs.Argon2.{Parameters}
 use Rattle.argon2_words.specs.Request.{Request}
 
@@ -9,11 +9,6 @@ pub record MemoryRequestEffects (Source : Type 0) : Type 0 where
   pub after_zeros : Source → ℕ → Bool → Source
   pub after_line : Source → Request → ℕ → Bool → Source
   pub after_matrix : Source → Parameters → Bool → Source
-
--- the three functions that say what requests leave of a source, as one value
-abbrev pub memory_request_effects : {Source : Type 0} → (Source → ℕ → Bool → Source) → (Source → Request → ℕ → Bool → Source)
-    → (Source → Parameters → Bool → Source) → MemoryRequestEffects Source
-memory_request_effects zeros line matrix = record { after_zeros = zeros; after_line = line; after_matrix = matrix }
 
 -- the source once the memory of the tag was granted
 abbrev pub after_tag_request : {Source : Type 0} → MemoryRequestEffects Source → Parameters → Source → Source
@@ -33,3 +28,9 @@ OneRequestRefused ask request p before after =
     (after ≡ ask.after_zeros before p.tag_len false)
     ⊎ (after ≡ ask.after_line (after_tag_request ask p before) request p.tag_len false)
     ⊎ (after ≡ ask.after_matrix (after_line_request ask request p before) p false)
+
+-- a hash of these parameters that was made, or for which memory was refused, and the source before and after it: all
+-- three requests were granted, or one of them was refused
+abbrev pub RequestsMemoryForHash : {Source A E : Type 0} → MemoryRequestEffects Source → Request → Parameters → Result A E → Source → Source → Type 0
+RequestsMemoryForHash ask request p result before after =
+    MatchResult result (λ _. after ≡ after_all_requests ask request p before) (λ _. OneRequestRefused ask request p before after)

@@ -16,7 +16,7 @@ pub use Rattle.argon2_words.specs.Request.{Request}
 use Rattle.argon2_words.specs.Request.{argon2_request}
 use Rattle.argon2_words.specs.Settings.{version_number}
 use Rattle.argon2_words.specs.declared.items.Form.{Form}
-use Rattle.argon2_words.specs.declared.items.Form.TheVariants.{Encoded, Hex}
+pub use Rattle.argon2_words.specs.declared.items.Form.TheVariants.{Encoded, Hex}
 use Rattle.argon2_words.specs.declared.refusal.Argon2Refusal.{Argon2Refusal}
 use Rattle.argon2_words.specs.declared.refusal.Argon2Refusal.TheVariants as refusal
 

@@ -1,5 +1,5 @@
 -- A whole run of argon2: what stands at its end.
-use Rattle.std.specs.Prelude.{◌≡◌, ◌⊎◌, ℕ, Bool, List, Option, None, Result, Ok, Err, IfErr, IsErrOf, IsOk, IsTrue, MatchResult, is_ok, if◌then◌else◌}
+use Rattle.std.specs.Prelude.{◌≡◌, ◌≢◌, ◌⊎◌, ◌+◌, ℕ, Bool, List, Option, None, Result, Ok, Err, IfOk, IfErr, IsOk, IsTrue, MatchResult, is_ok, if◌then◌else◌}
 use Rattle.host.specs.Output.{IsOutputCutShort, after_writing}
 use Rattle.host.specs.HostState.{HostState, Text, after_ask_secret, after_ask_output, stdin_once}
 use Rattle.host.specs.Faults.{Faults}
@@ -7,7 +7,7 @@ use Rattle.host.specs.Lines.{SaysOneLine}
 use Rattle.argon2_words.specs.Refusal.{IsEarly, IsMemoryOrOutputRefusal, faults_after_refusal, line_of}
 pub use Rattle.argon2_words.specs.Request.{argon2_request}
 pub use Rattle.argon2_command.specs.Output.{argon2_command_output}
-use Rattle.argon2_command.specs.Output.{output_for}
+use Rattle.argon2_command.specs.Output.{output_for, request_work}
 use Rattle.argon2_words.specs.declared.refusal.Argon2Refusal.{Argon2Refusal}
 use Rattle.argon2_words.specs.declared.refusal.Argon2Refusal.TheVariants as refusal
 
@@ -58,10 +58,6 @@ EndsRefused words result before after = IfErr result (λ r. IsRefused r words be
 
 -- ---- of every host, also one that tells nothing
 
--- a run with this result, on these words: words that have a refusal end it with that
-abbrev pub RefusesFaultyCommandLine : {A : Type 0} → List Text → Result A Argon2Refusal → Type 0
-RefusesFaultyCommandLine words result = (refusal : Argon2Refusal) → argon2_request words ≡ Err refusal → IsErrOf result refusal
-
 -- for these words some standard input gives an output
 abbrev pub SucceedsForSomeInput : List Text → Type 0
 SucceedsForSomeInput words = (stdin : Option (List ℕ)) × IsOk (output_for words stdin)
@@ -74,6 +70,23 @@ IsReportedForSomeInput words r = (stdin : Option (List ℕ)) × ((output_for wor
 -- a run with this result, on these words: some standard input leads to it
 abbrev pub EndsSoForSomeInput : {A : Type 0} → List Text → Result A Argon2Refusal → Type 0
 EndsSoForSomeInput words result = MatchResult result (λ _. SucceedsForSomeInput words) (IsReportedForSomeInput words)
+
+-- ---- work
+
+-- the count of block functions went on by the work of the words' request
+abbrev pub CountsRequestWork : List Text → ℕ → ℕ → Type 0
+CountsRequestWork words before after = IfOk (argon2_request words) (λ request. after ≡ before + request_work request)
+
+-- the count before and after a run that ended with this refusal: that of the output comes after the hash, and every
+-- other before it
+pub record CountsWorkBeforeRefusal (words : List Text) (r : Argon2Refusal) (before after : ℕ) : Type 0 where
+  pub no_work : r ≢ refusal.OutputFault → after ≡ before
+  pub count : r ≡ refusal.OutputFault → CountsRequestWork words before after
+
+-- a run with this result, on these words, and the count of block functions before and after it
+abbrev pub CountsRunWork : {A : Type 0} → List Text → Result A Argon2Refusal → ℕ → ℕ → Type 0
+CountsRunWork words result before after =
+    MatchResult result (λ _. CountsRequestWork words before after) (λ r. CountsWorkBeforeRefusal words r before after)
 
 -- ---- the end with a refusal
 

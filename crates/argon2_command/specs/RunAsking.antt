@@ -1,10 +1,11 @@
 -- What a run asks of its source of memory. The parameters are those that the words and some password ask for, and the
 -- words' limits admit them.
-use Rattle.std.specs.Prelude.{◌≡◌, ℕ, List, Result, Ok, IfErr}
+use Rattle.std.specs.Prelude.{◌≡◌, ℕ, List, Result, Ok, MatchResult}
 use Rattle.argon.specs.Argon2.{Parameters}
 use Rattle.host.specs.HostState.{Text}
 use Rattle.argon2_command.specs.MemoryRequestEffects.{MemoryRequestEffects, OneRequestRefused, after_all_requests}
 use Rattle.argon2_command.specs.Output.{admitted_parameters}
+use Rattle.argon2_words.specs.Refusal.{IsEarly}
 use Rattle.argon2_words.specs.Request.{Request, argon2_request}
 use Rattle.argon2_words.specs.declared.refusal.Argon2Refusal.{Argon2Refusal}
 use Rattle.argon2_words.specs.declared.refusal.Argon2Refusal.TheVariants as refusal
@@ -27,7 +28,15 @@ pub record RunMemoryRefused {Source : Type 0} (ask : MemoryRequestEffects Source
   pub admitted : admitted_parameters request password ≡ Ok parameters
   pub asked : OneRequestRefused ask request parameters before after
 
--- a run with this result, on these words, and the source before and after it: where the refusal is that of memory, one
--- of the requests was refused
-abbrev pub HasRefusedRequestIfOutOfMemory : {Source A : Type 0} → MemoryRequestEffects Source → List Text → Result A Argon2Refusal → Source → Source → Type 0
-HasRefusedRequestIfOutOfMemory ask words result before after = IfErr result (λ r. r ≡ refusal.OutOfMemory → RunMemoryRefused ask words before after)
+-- the source before and after a run that ended with this refusal: that of memory comes where one of the requests was
+-- refused, that of the output once all were granted, and every other before any is made
+pub record RequestsMemoryBeforeRefusal {Source : Type 0} (ask : MemoryRequestEffects Source) (words : List Text) (r : Argon2Refusal)
+    (before after : Source) : Type 0 where
+  pub unasked : IsEarly r → after ≡ before
+  pub refused : r ≡ refusal.OutOfMemory → RunMemoryRefused ask words before after
+  pub granted : r ≡ refusal.OutputFault → RunGranted ask words before after
+
+-- a run with this result, on these words, and the source before and after it: one that does all was granted each request
+abbrev pub RequestsRunMemory : {Source A : Type 0} → MemoryRequestEffects Source → List Text → Result A Argon2Refusal → Source → Source → Type 0
+RequestsRunMemory ask words result before after =
+    MatchResult result (λ _. RunGranted ask words before after) (λ r. RequestsMemoryBeforeRefusal ask words r before after)

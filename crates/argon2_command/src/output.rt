@@ -1,7 +1,7 @@
 //! What a run writes: the hash, as an encoded text or in hexadecimal.
-ghost use Rattle.std.specs.Prelude.{◌≡◌, ◌+◌, IfOk, IfErr, OnOk, OnErr, Ok, length};
+ghost use Rattle.std.specs.Prelude.{◌≡◌, ◌+◌, IfOk, IfErr, Ok, length};
 ghost use Rattle.argon.specs.Counts.{work};
-ghost use Rattle.argon2_command.specs.MemoryRequestEffects.{OneRequestRefused, memory_request_effects, after_all_requests};
+ghost use Rattle.argon2_command.specs.MemoryRequestEffects.{RequestsMemoryForHash};
 ghost use Rattle.argon2_command.specs.Output.{admitted_parameters, output_line, parameters_of, tag_line};
 ghost use Rattle.argon2_words.specs.Refusal.{IsEarly};
 ghost use Rattle.argon2_words.specs.RequestView.{argon2_request_view};
@@ -75,10 +75,8 @@ pub fn output<R: RunMemory>(
     ensures line { IfOk result (λ line.
         line.list.items ≡ output_line (argon2_request_view request.now) password.now params.now) }
     // Memory is asked for the tag, the line and one matrix, up to the first that is refused.
-    ensures memory_granted { OnOk result (memory.new ≡ after_all_requests (memory_request_effects R.after_zeros R.after_line R.after_matrix)
-        (argon2_request_view request.now) params.now memory.old) }
-    ensures memory_refused { OnErr result (OneRequestRefused (memory_request_effects R.after_zeros R.after_line R.after_matrix)
-        (argon2_request_view request.now) params.now memory.old memory.new) }
+    ensures memory { RequestsMemoryForHash R.effects (argon2_request_view request.now) params.now result
+        memory.old memory.new }
     // No hash begins before every refusal is ruled out, that of memory too.
     ensures no_work { KeepsOnErr result ticks.old ticks.new }
     ensures count { IfOk result (λ _. ticks.new ≡ ticks.old + work params.now) }

@@ -1,18 +1,15 @@
 //! A whole run of `argon2`.
-ghost use Rattle.std.specs.Prelude.{◌≡◌, ◌≢◌, ◌≤◌, ◌+◌, ◌^◌, Ok, Err, true, IfOk, IfErr, IsOk, OnOk, IsTrue, map, string_bytes};
-ghost use Rattle.host.specs.Faults.{AreBelow, CountsNoFailure};
-ghost use Rattle.host.specs.CallsGrantedByHost.{GrantsAllHostCalls, with_secret_asked};
+ghost use Rattle.std.specs.Prelude.{◌≡◌, ◌≤◌, ◌^◌, Err, IsOk, OnOk, IsTrue, map, string_bytes};
+ghost use Rattle.host.specs.Faults.{AreBelow};
+ghost use Rattle.host.specs.CallsGrantedByHost.{GrantsAllHostCalls};
 ghost use Rattle.host.specs.Lines.{SaysOneLine};
-ghost use Rattle.host.specs.HostState.{IsUnasked, KeepsOnErr};
-ghost use Rattle.argon2_command.specs.MemoryRequestEffects.{memory_request_effects};
-ghost use Rattle.argon2_command.specs.RunAsking.{RunGranted, HasRefusedRequestIfOutOfMemory};
-ghost use Rattle.argon2_command.specs.Output.{argon2_command_output, request_work};
-ghost use Rattle.argon2_words.specs.Refusal.{IsEarly, faults_after_refusal, line_of, CountsFault};
+ghost use Rattle.host.specs.HostState.{IsUnasked};
+ghost use Rattle.argon2_command.specs.RunAsking.{RequestsRunMemory};
+ghost use Rattle.argon2_command.specs.Run.{Refuses, Succeeds, SucceedsForSomeInput, EndsSoForSomeInput, EndsRefused, CountsRunWork};
+ghost use Rattle.argon2_words.specs.Refusal.{CountsFault, faults_after_refusal, line_of};
 ghost use Rattle.argon2_words.specs.Request.{argon2_request};
-ghost use Rattle.argon2_command.specs.Run.{Refuses, Succeeds, SucceedsForSomeInput, after_password_asked, EndsSoForSomeInput, EndsRefused, RefusesFaultyCommandLine};
 ghost use Rattle.argon2_words.specs.declared.refusal.Argon2Refusal.{Argon2Refusal};
 
-use crate::bytes::Bytes;
 use crate::output::{output, parameters};
 use crate::password::read_password;
 use crate::run_memory::RunMemory;
@@ -20,46 +17,6 @@ use argon::Ticks;
 use argon2_words::{Argon2Refusal, read_request};
 use host::{Host, refuse, write_output};
 use std::alloc::Global;
-
-// Reads the words and the password, and makes the whole output.
-fn read_and_make_output<R: RunMemory, H: Host>(
-    memory: &mut R,
-    words: &[String],
-    host: &mut H,
-    ticks: &mut Ticks,
-) -> Result<Bytes, Argon2Refusal>
-    requires room { AreBelow (2 ^ 63) (H.faults host.old) }
-    requires unasked { (H.grants host.old).secret ≡ true }
-    ensures counts { CountsFault result (H.faults host.old) (H.faults host.new) }
-    ensures granted { OnOk result (H.grants host.new ≡ with_secret_asked (H.grants host.old)) }
-    ensures asks { IsTrue H.tells →
-        H.seen host.new ≡ after_password_asked (map string_bytes words.now) (H.seen host.old) }
-    ensures words { IfOk result (λ _. IsOk (argon2_request (map string_bytes words.now))) }
-    ensures words_refused { RefusesFaultyCommandLine (map string_bytes words.now) result }
-    ensures some_input { EndsSoForSomeInput (map string_bytes words.now) result }
-    ensures due { IsTrue H.tells → IfOk result (λ line.
-        argon2_command_output (map string_bytes words.now) (H.seen host.old) ≡ Ok line.list.items) }
-    ensures refused { IsTrue H.tells →
-        EndsRefused (map string_bytes words.now) result (H.seen host.old) (H.seen host.new) }
-    // Nothing is asked of the source of memory before every other refusal is ruled out.
-    ensures unasked_for_memory { IfErr result (λ r. r ≢ Argon2Refusal.OutOfMemory → memory.new ≡ memory.old) }
-    // Memory is asked for the tag, the line and one matrix, with parameters that the limits admit.
-    ensures memory_granted { OnOk result (RunGranted
-        (memory_request_effects R.after_zeros R.after_line R.after_matrix) (map string_bytes words.now) memory.old memory.new) }
-    ensures memory_refused { HasRefusedRequestIfOutOfMemory (memory_request_effects R.after_zeros R.after_line R.after_matrix)
-        (map string_bytes words.now) result memory.old memory.new }
-    // No hash begins before every refusal is ruled out, that of memory too.
-    ensures no_work { KeepsOnErr result ticks.old ticks.new }
-    ensures count { IfOk result (λ _. IfOk (argon2_request (map string_bytes words.now))
-        (λ request. ticks.new ≡ ticks.old + request_work request)) }
-    ensures before_output { IfErr result (λ r. r ≢ Argon2Refusal.OutputFault) }
-{
-    let request = read_request(words)?;
-    let password = read_password(host)?;
-    let params = parameters(&request, &password)?;
-    let line = output(memory, &request, &password, &params, ticks)?;
-    Ok(line)
-}
 
 /// Does a run of `argon2` with memory from `memory`: all of it but the line of a refusal, which is not
 /// said. `words` leaves out the program's name. Nothing was asked of the host yet, and its sources and
@@ -85,33 +42,20 @@ pub fn run_without_report<R: RunMemory, H: Host>(
     requires room { AreBelow (2 ^ 63) (H.faults host.old) }
     requires fresh { IsTrue H.tells → IsUnasked (H.seen host.old) }
     requires granted { GrantsAllHostCalls (H.grants host.old) }
-    ensures counts { CountsNoFailure result (H.faults host.old) (H.faults host.new) }
-    ensures counted { IfErr result (λ r. H.faults host.new ≡ faults_after_refusal r (H.faults host.old)) }
-    ensures words { OnOk result (IsOk (argon2_request (map string_bytes words.now))) }
-    ensures words_refused { RefusesFaultyCommandLine (map string_bytes words.now) result }
+    ensures counts { CountsFault result (H.faults host.old) (H.faults host.new) }
+    // of every host, also one that tells nothing
     ensures some_input { EndsSoForSomeInput (map string_bytes words.now) result }
     ensures succeeds { IsTrue H.tells →
         OnOk result (Succeeds (map string_bytes words.now) (H.seen host.old) (H.seen host.new)) }
     ensures refused { IsTrue H.tells →
         EndsRefused (map string_bytes words.now) result (H.seen host.old) (H.seen host.new) }
-    // Nothing is asked of the source of memory before every other refusal but the output's is ruled out.
-    ensures unasked_for_memory { IfErr result (λ r. IsEarly r → memory.new ≡ memory.old) }
-    // Memory is asked for the tag, the line and one matrix, with parameters that the limits admit.
-    ensures memory_granted { OnOk result (RunGranted
-        (memory_request_effects R.after_zeros R.after_line R.after_matrix) (map string_bytes words.now) memory.old memory.new) }
-    ensures memory_refused { HasRefusedRequestIfOutOfMemory (memory_request_effects R.after_zeros R.after_line R.after_matrix)
-        (map string_bytes words.now) result memory.old memory.new }
-    ensures memory_granted_for_output { IfErr result (λ r. r ≡ Argon2Refusal.OutputFault → RunGranted
-        (memory_request_effects R.after_zeros R.after_line R.after_matrix) (map string_bytes words.now) memory.old memory.new) }
-    // The output's refusal is the one that comes after the hash, of which nothing is left to be done.
-    ensures no_work { IfErr result (λ r. r ≢ Argon2Refusal.OutputFault → ticks.new ≡ ticks.old) }
-    ensures count { OnOk result (IfOk (argon2_request (map string_bytes words.now))
-        (λ request. ticks.new ≡ ticks.old + request_work request)) }
-    ensures count_of_output { IfErr result (λ r. r ≡ Argon2Refusal.OutputFault
-        → IfOk (argon2_request (map string_bytes words.now))
-        (λ request. ticks.new ≡ ticks.old + request_work request)) }
+    ensures memory { RequestsRunMemory R.effects (map string_bytes words.now) result memory.old memory.new }
+    ensures work { CountsRunWork (map string_bytes words.now) result ticks.old ticks.new }
 {
-    let line = read_and_make_output(memory, words, host, ticks)?;
+    let request = read_request(words)?;
+    let password = read_password(host)?;
+    let params = parameters(&request, &password)?;
+    let line = output(memory, &request, &password, &params, ticks)?;
     let Ok(()) = write_output(host, line.as_slice()) else {
         return Err(Argon2Refusal::OutputFault);
     };

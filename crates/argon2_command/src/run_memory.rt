@@ -1,8 +1,9 @@
 //! Where the memory of a run comes from: the heap, or what a caller puts in its place.
-ghost use Rattle.std.specs.Prelude.{◌≡◌, ℕ, Bool, Ok, IfOk, is_ok, length, true};
+ghost use Rattle.std.specs.Prelude.{◌≡◌, Ok, IfOk, is_ok, length, true};
 ghost use Rattle.argon.specs.Range.{admission};
 ghost use Rattle.argon_text.specs.Value.{is_in_range};
-ghost use Rattle.argon2_command.specs.Output.{Parameters, Request, tag_line, value_of_request_and_tag};
+ghost use Rattle.argon2_command.specs.MemoryRequestEffects.{MemoryRequestEffects};
+ghost use Rattle.argon2_command.specs.Output.{tag_line, value_of_request_and_tag};
 ghost use Rattle.argon2_words.specs.RequestView.{argon2_request_view};
 
 use crate::bytes::Bytes;
@@ -16,41 +17,35 @@ use std::alloc::{AllocError, Global};
 /// Contracts see how many there are, of what, and which of them are granted. What is given cannot grow,
 /// and hands on no heap.
 pub trait RunMemory {
-    // What a request for so many bytes leaves of the source, granted or refused.
-    ghost after_zeros: { Self → ℕ → Bool → Self };
-
-    // The same of the line of a tag of so many bytes.
-    ghost after_line: { Self → Request → ℕ → Bool → Self };
-
-    // The same of the matrix of a hash with these parameters.
-    ghost after_matrix: { Self → Parameters → Bool → Self };
+    // What each request leaves of the source, granted or refused.
+    ghost effects: { MemoryRequestEffects Self };
 
     /// So many bytes, whatever they are: the heap gives zeros.
     fn zeros(&mut self, count: usize) -> Result<Bytes, AllocError>
         ensures size { IfOk result (λ bytes. length bytes.list.items ≡ count) }
-        ensures asked { self.new ≡ after_zeros self.old count (is_ok result) };
+        ensures asked { self.new ≡ effects.after_zeros self.old count (is_ok result) };
 
     /// The line of a tag.
     fn line(&mut self, request: &Request<'_>, tag: &[u8]) -> Result<Bytes, AllocError>
         requires in_range { is_in_range (value_of_request_and_tag (argon2_request_view request.now) tag.now) ≡ true }
         ensures line { IfOk result (λ line. line.list.items ≡ tag_line (argon2_request_view request.now) tag.now) }
         ensures asked { self.new
-            ≡ after_line self.old (argon2_request_view request.now) (length tag.now) (is_ok result) };
+            ≡ effects.after_line self.old (argon2_request_view request.now) (length tag.now) (is_ok result) };
 
     /// The matrix of a hash with these parameters, which the settings' limits admit: so none is asked
     /// for before the limits are tested.
     fn matrix(&mut self, params: &Params, settings: &Settings) -> Result<Matrix, AllocError>
         requires admitted { admission params.now settings.now.max_memory_kib settings.now.max_ops ≡ Ok tt }
         ensures parameters { IfOk result (λ matrix. matrix.parameters ≡ params.now) }
-        ensures asked { self.new ≡ after_matrix self.old params.now (is_ok result) };
+        ensures asked { self.new ≡ effects.after_matrix self.old params.now (is_ok result) };
 }
 
 impl RunMemory for Global {
-    ghost after_zeros = { λ memory _ _. memory };
-
-    ghost after_line = { λ memory _ _ _. memory };
-
-    ghost after_matrix = { λ memory _ _. memory };
+    ghost effects = { record {
+      after_zeros = λ memory _ _. memory;
+      after_line = λ memory _ _ _. memory;
+      after_matrix = λ memory _ _. memory;
+    } };
 
     fn zeros(&mut self, count: usize) -> Result<Bytes, AllocError> {
         Bytes::zeros(*self, count)

@@ -1,20 +1,18 @@
 //! The definitions of argon2's output, run on what the reference program gives.
-ghost use Rattle.std.specs.Prelude.{◌≡◌, ◌+◌, [], ◌∷◌, ◌++◌, Ok, Err, None, Some, codes, false, is_ok, map, replicate, true};
-ghost use Rattle.argon.specs.Argon2.{argon2_tag};
+ghost use Rattle.std.specs.Prelude.{◌≡◌, ◌+◌, ℕ, List, [], ◌∷◌, ◌++◌, Ok, Err, None, Some, codes, false, is_ok, map, replicate, true};
 ghost use Rattle.argon_text.specs.Vectors.{sample_encoded_text, sample_encoded_value};
-ghost use Rattle.argon2_command.specs.MemoryRequestEffects.{after_all_requests, memory_request_effects};
-ghost use Rattle.argon2_command.specs.Output.{argon2_command_output, output_for, parameters_of, password_in, request_work, tag_line};
+ghost use Rattle.argon2_command.specs.MemoryRequestEffects.{after_all_requests};
+ghost use Rattle.argon2_command.specs.Output.{Encoded, Hex, argon2_command_output, output_for, parameters_of, password_in, request_work, tag_line, tag_of};
 ghost use Rattle.argon2_command.specs.Run.{after_password_asked};
 ghost use Rattle.host.specs.HostState.{placeholder_host_state, stdin_once};
 ghost use Rattle.argon2_words.specs.Settings.{defaults};
 ghost use Rattle.argon.specs.declared.kind.Kind.TheVariants.{Id};
 ghost use Rattle.argon2_words.specs.declared.settings.Version.TheVariants.{V10};
-ghost use Rattle.argon2_words.specs.declared.items.Form.TheVariants.{Encoded, Hex};
 ghost use Rattle.argon2_words.specs.declared.refusal.Argon2Refusal.TheVariants.{EmptyPassword, LongPassword, MemoryLimit, OneForm, Passes, PasswordFault, SaltLength, WorkLimit};
 
 // printf password | argon2 somesalt -d -t 1 -k 8 -e, by the tag that it has with -r
 fn output_of_one_pass()
-    ensures output { argon2_tag
+    ensures output { tag_of (codes "somesalt") (codes "password")
         (record {
           kind = 0;
           version = 0x13;
@@ -24,12 +22,6 @@ fn output_of_one_pass()
           tag_len = 32;
           salt_len = 8;
           password_len = 8;
-        })
-        (record {
-          password = codes "password";
-          salt = codes "somesalt";
-          secret = [];
-          associated = [];
         }) ≡ sample_encoded_value.tag →
         argon2_command_output
         (codes "somesalt" ∷ codes "-d" ∷ codes "-t" ∷ codes "1" ∷ codes "-k" ∷ codes "8" ∷ codes "-e" ∷ [])
@@ -89,7 +81,12 @@ fn parameters_of_requests()
 
 // The memory of the tag is asked for first, then that of its line, then the matrix: here each request leaves its number.
 fn requests_of_a_run()
-    ensures all { after_all_requests (memory_request_effects (λ asked bytes granted. bytes ∷ asked) (λ asked request bytes granted. (bytes + request.settings.passes) ∷ asked) (λ asked parameters granted. parameters.memory_kib ∷ asked))
+    ensures all { after_all_requests {Source = List ℕ}
+        (record {
+          after_zeros = λ asked bytes granted. bytes ∷ asked;
+          after_line = λ asked request bytes granted. (bytes + request.settings.passes) ∷ asked;
+          after_matrix = λ asked parameters granted. parameters.memory_kib ∷ asked;
+        })
         (record { salt = codes "somesalt"; settings = defaults; form = Hex }) (record { kind = 1; version = 0x13; passes = 3; lanes = 1; memory_kib = 4096; tag_len = 32; salt_len = 8; password_len = 2 }) []
         ≡ 4096 ∷ 35 ∷ 32 ∷ [] }
 {}

@@ -1,17 +1,14 @@
 -- The ends of a run, by what its steps told.
-use Rattle.std.proofs.Common.{◌≡◌, ℕ, Bool, true, false, List, Result, Ok, Err, IfOk, IfErr, sym, ◌∙◌, subst}
+use Rattle.std.proofs.Common.{◌≡◌, ℕ, Bool, true, false, List, Result, Ok, Err, MatchResult, refl, sym, ◌∙◌, subst}
 use Rattle.argon.specs.Argon2.{Parameters}
 use Rattle.host.specs.HostState.{HostState, Text}
 use Rattle.argon2_verify.specs.Run.{Answers, Differs, Verifies}
 
--- what follows from a result's fact
-pub if_ok : {A E : Type 0} {P Q : A → Type 0} (r : Result A E) → ((a : A) → P a → Q a) → IfOk r P → IfOk r Q
-if_ok (Ok a) f h = f a h
-if_ok (Err e) f h = h
-
-pub if_err : {A E : Type 0} {P Q : E → Type 0} (r : Result A E) → ((e : E) → P e → Q e) → IfErr r P → IfErr r Q
-if_err (Ok a) f h = h
-if_err (Err e) f h = f e h
+-- a fact of a result, by what it is
+pub by_result : {A E : Type 0} {P : A → Type 0} {Q : E → Type 0} (r : Result A E) → ((a : A) → r ≡ Ok a → P a) → ((e : E) → r ≡ Err e → Q e)
+    → MatchResult r P Q
+by_result (Ok a) f g = f a refl
+by_result (Err e) f g = g e refl
 
 abbrev IsWrong : Bool → Type 0
 IsWrong true = ⊥

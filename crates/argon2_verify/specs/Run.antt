@@ -1,19 +1,20 @@
 -- A whole run of argon2-verify: what stands at its end.
-use Rattle.std.specs.Prelude.{◌≡◌, ◌⊎◌, ◌+◌, ◌↔◌, ◌≤◌, ℕ, Bool, true, List, Some, None, Result, Ok, Err, IsErrOf, IsTrue, length}
+use Rattle.std.specs.Prelude.{◌≡◌, ◌⊎◌, ◌+◌, ◌↔◌, ◌≤◌, ℕ, Bool, true, List, Some, None, Result, Ok, Err, IsErrOf, IsTrue, MatchResult, length}
 use Rattle.argon.specs.Argon2.{Parameters}
 use Rattle.argon.specs.Counts.{work}
 use Rattle.argon_text.specs.Reading.{fields_at}
 use Rattle.argon_text.specs.Value.{Value}
-use Rattle.argon_text.specs.Verifying.{parameters_of_value, tag_of_password}
+pub use Rattle.argon_text.specs.Verifying.{tag_of_password}
+use Rattle.argon_text.specs.Verifying.{parameters_of_value}
 use Rattle.host.specs.FirstLine.{first_line}
 use Rattle.host.specs.HostState.{HostState, Text}
 use Rattle.host.specs.Faults.{Faults}
 use Rattle.host.specs.Lines.{SaysOneLine}
-use Rattle.argon2_verify.specs.Hash.{Says, limits_refusal}
+pub use Rattle.argon2_verify.specs.Hash.{Says, limits_refusal}
 use Rattle.argon2_verify.specs.Memory.{IsLeftWithHash, IsLeftWithoutHash, after_matrix, after_text}
 use Rattle.argon2_verify.specs.Reading.{IsFileRefused, IsPasswordRefused, after_file_read, after_password_asked, password_in}
-use Rattle.argon2_verify.specs.Refusal.{faults_after_refusal, line_of}
-use Rattle.argon2_verify.specs.Request.{Request, verify_request}
+pub use Rattle.argon2_verify.specs.Refusal.{faults_after_refusal, line_of}
+pub use Rattle.argon2_verify.specs.Request.{Request, verify_request}
 use Rattle.argon2_verify.specs.declared.refusal.VerifyRefusal.{VerifyRefusal}
 
 -- what a password is tested by: what the words ask for; the value that a line says, whose hash the limits admit; and a
@@ -125,3 +126,18 @@ pub record LeavesMemory {Source : Type 0} (decoded : Source → List ℕ → Boo
   pub line : List ℕ
   pub line_read : IsTrue tells → line ≡ first_line seen.input
   pub left : IsLeftWithoutHash decoded line r before after ⊎ LeavesMemoryWithHash decoded matrix words line r before after
+
+-- the run ended with this refusal, with no block function done: how it left the host, and the source of memory
+pub record EndsRefused {Source : Type 0} (decoded : Source → List ℕ → Bool → Source) (matrix : Source → Parameters → ℕ → ℕ → Bool → Source)
+    (tells : Bool) (words : List Text) (r : VerifyRefusal) (before after : HostState) (works_before works_after : ℕ)
+    (memory_before memory_after : Source) : Type 0 where
+  pub refused : IsTrue tells → IsRefused r words before after
+  pub no_work : works_after ≡ works_before
+  pub memory : LeavesMemory decoded matrix tells words r before memory_before memory_after
+
+-- a run with this result, before the line of a refusal is said: it gave an answer, or was refused
+abbrev pub Ends : {Source : Type 0} → (Source → List ℕ → Bool → Source) → (Source → Parameters → ℕ → ℕ → Bool → Source) → Bool → List Text
+    → Result Bool VerifyRefusal → HostState → HostState → ℕ → ℕ → Source → Source → Type 0
+Ends decoded matrix tells words result before after works_before works_after memory_before memory_after =
+    MatchResult result (λ same. Answers decoded matrix tells words same before after works_before works_after memory_before memory_after)
+    (λ r. EndsRefused decoded matrix tells words r before after works_before works_after memory_before memory_after)

@@ -36,8 +36,8 @@ pub(crate) fn read_hash<R: DecodeMemory, H: Host>(
     requires unopened { (H.grants host.old).input ≡ true }
     ensures counts { CountsFault result (H.faults host.old) (H.faults host.new) }
     ensures granted { OnOk result (GrantsAllButPullsAsBefore (with_input_opened (H.grants host.old)) (H.grants host.new)) }
-    ensures hash { IfOk result (λ hash. ReadsHash R.after_decoded H.tells (H.seen host.old) (value_of hash) memory.old memory.new) }
-    ensures read { IsTrue H.tells → OnOk result (H.seen host.new ≡ after_file_read file.now (H.seen host.old)) }
+    ensures hash { IfOk result (λ hash. ReadsHash R.after_decoded H.tells file.now
+        (H.seen host.old) (H.seen host.new) (value_of hash) memory.old memory.new) }
     ensures refused { IsTrue H.tells → IfErr result (λ r. IsFileRefused file.now r (H.seen host.old) (H.seen host.new)) }
     ensures memory { IfErr result (λ r. LeavesMemoryWithoutHash R.after_decoded H.tells (H.seen host.old) r memory.old memory.new) }
 {

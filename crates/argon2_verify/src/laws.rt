@@ -2,12 +2,9 @@
 ghost use Rattle.std.specs.Prelude.{◌≡◌, ◌≢◌, ◌≤◌, ℕ, List, None, Some, Ok, true, length};
 ghost use Rattle.argon_text.specs.Grammar.{IsEncodedTextInRange};
 ghost use Rattle.argon_text.specs.Value.{Value};
-ghost use Rattle.argon_text.specs.Verifying.{tag_of_password};
 ghost use Rattle.host.specs.FirstLine.{first_line};
 ghost use Rattle.host.specs.HostState.{HostState, Text};
-ghost use Rattle.argon2_verify.specs.Hash.{Says, limits_refusal};
-ghost use Rattle.argon2_verify.specs.Request.{Request, verify_request};
-ghost use Rattle.argon2_verify.specs.Run.{Differs, Inputs, IsRefused, Verifies};
+ghost use Rattle.argon2_verify.specs.Run.{Differs, Inputs, IsRefused, Request, Says, Verifies, limits_refusal, tag_of_password, verify_request};
 ghost use Rattle.argon2_verify.specs.Laws.{IsFromInside};
 ghost use Rattle.argon2_verify.specs.declared.refusal.VerifyRefusal.{VerifyRefusal};
 

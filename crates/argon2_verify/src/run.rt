@@ -1,11 +1,10 @@
 //! A whole run of `argon2-verify`.
-ghost use Rattle.std.specs.Prelude.{◌≡◌, ◌≤◌, ◌^◌, Err, IfOk, IfErr, IsTrue, map, string_bytes};
+ghost use Rattle.std.specs.Prelude.{◌≡◌, ◌≤◌, ◌^◌, Err, IsTrue, map, string_bytes};
 ghost use Rattle.host.specs.Faults.{AreBelow};
 ghost use Rattle.host.specs.CallsGrantedByHost.{GrantsAllHostCalls};
 ghost use Rattle.host.specs.HostState.{IsUnasked};
 ghost use Rattle.argon2_verify.specs.Refusal.{CountsFault};
-ghost use Rattle.argon2_verify.specs.Request.{verify_request};
-ghost use Rattle.argon2_verify.specs.Run.{Answers, Differs, IsRefused, LeavesMemory, Refuses, RefusesFaultyWords, Verifies};
+ghost use Rattle.argon2_verify.specs.Run.{Differs, Ends, Refuses, RefusesFaultyWords, Verifies, verify_request};
 ghost use Rattle.argon2_verify.specs.declared.refusal.VerifyRefusal.{VerifyRefusal};
 
 use crate::hash::{read_hash, test_limits};
@@ -35,14 +34,8 @@ pub fn run_without_report<R: DecodeMemory + HashMemory, H: Host>(
     requires granted { GrantsAllHostCalls (H.grants host.old) }
     ensures counts { CountsFault result (H.faults host.old) (H.faults host.new) }
     ensures words { RefusesFaultyWords (map string_bytes words.now) result }
-    ensures answers { IfOk result (λ same. Answers R.after_decoded R.after_matrix H.tells (map string_bytes words.now) same
-        (H.seen host.old) (H.seen host.new) ticks.old ticks.new memory.old memory.new) }
-    ensures refused { IsTrue H.tells → IfErr result (λ r.
-        IsRefused r (map string_bytes words.now) (H.seen host.old) (H.seen host.new)) }
-    // Want of memory is told only where a request was refused, and the matrix is requested last.
-    ensures memory { IfErr result (λ r. LeavesMemory R.after_decoded R.after_matrix H.tells (map string_bytes words.now) r
-        (H.seen host.old) memory.old memory.new) }
-    ensures no_work { IfErr result (λ _. ticks.new ≡ ticks.old) }
+    ensures ends { Ends R.after_decoded R.after_matrix H.tells (map string_bytes words.now) result
+        (H.seen host.old) (H.seen host.new) ticks.old ticks.new memory.old memory.new }
 {
     let request = read_request(words)?;
     let hash = read_hash(memory, host, request.file)?;

@@ -1,16 +1,13 @@
 //! What the checker computes of the definitions in specs/: words, files, passwords, limits; and a whole run.
 ghost use Rattle.std.specs.Prelude.{◌≡◌, ◌≢◌, [], ◌∷◌, ◌++◌, ◌+◌, true, Ok, Err, None, Some, codes, length, replicate};
 ghost use Rattle.argon_text.specs.Vectors.{sample_encoded_fields, sample_encoded_text, sample_encoded_value};
-ghost use Rattle.argon_text.specs.Verifying.{tag_of_password};
 ghost use Rattle.argon_text.specs.declared.fault.ReadFault.TheVariants as reading;
 ghost use Rattle.host.specs.Faults.{no_faults};
 ghost use Rattle.host.specs.HostState.{placeholder_host_state, stdin_once};
-ghost use Rattle.argon2_verify.specs.Hash.{limits_refusal, read_refusal};
+ghost use Rattle.argon2_verify.specs.Hash.{read_refusal};
 ghost use Rattle.argon2_verify.specs.Memory.{after_matrix, after_text};
 ghost use Rattle.argon2_verify.specs.Reading.{after_file_read, after_password_asked, after_reading, password_in};
-ghost use Rattle.argon2_verify.specs.Refusal.{faults_after_refusal, line_of};
-ghost use Rattle.argon2_verify.specs.Request.{verify_request};
-ghost use Rattle.argon2_verify.specs.Run.{Differs, Verifies};
+ghost use Rattle.argon2_verify.specs.Run.{Differs, Verifies, faults_after_refusal, limits_refusal, line_of, tag_of_password, verify_request};
 ghost use Rattle.argon2_verify.specs.declared.refusal.VerifyRefusal.TheVariants as refusal;
 
 // The limits where no option sets them, which are those of argon2; those of both options, with leading zeros and at their

@@ -1,12 +1,13 @@
 -- What is proved of the definitions of a whole run of scrypt alone.
 use Rattle.std.specs.Prelude.{◌≡◌, ◌<◌, ◌^◌, ◌⊎◌, ℕ, List, Ok, length}
-use Rattle.romix.specs.Allowance.{Admits}
-use Rattle.romix.specs.Costs.{IsInRange}
+pub use Rattle.romix.specs.Allowance.{Admits}
+pub use Rattle.romix.specs.Costs.{IsInRange, Parameters}
 use Rattle.host.specs.HostState.{HostState, Text}
-use Rattle.scrypt_run.specs.Encrypting.{salt_used}
+pub use Rattle.scrypt_run.specs.Encrypting.{salt_used}
 use Rattle.scrypt_run.specs.Laws.{IsRefusedFromOutside as RefusesFromOutside}
-use Rattle.scrypt_run.specs.Passphrase.{HasPassphrase, first_line_of_source}
-use Rattle.scrypt_request.specs.Request.{Encryption, Request, allowance_of}
+pub use Rattle.scrypt_run.specs.Laws.{AreOneEnd, CanBeOpened}
+pub use Rattle.scrypt_run.specs.Passphrase.{HasPassphrase, first_line_of_source}
+pub use Rattle.scrypt_request.specs.Request.{Encryption, Request, Task, allowance_of, decrypt, encrypt, inspect}
 use Rattle.scrypt_request.specs.declared.refusal.ScryptRefusal.{ScryptRefusal}
 use Rattle.scrypt_request.specs.declared.refusal.ScryptRefusal.TheVariants as refusal
 use Rattle.scrypt_words.specs.Request.{scrypt_request}

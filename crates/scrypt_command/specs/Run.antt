@@ -2,13 +2,13 @@
 use Rattle.std.specs.Prelude.{◌≡◌, ◌⊎◌, Bool, List, Ok, Err, IsTrue}
 use Rattle.host.specs.Faults.{Faults}
 use Rattle.host.specs.Lines.{SaysOneLine}
-use Rattle.host.specs.HostState.{HostState, Text}
+pub use Rattle.host.specs.HostState.{HostState, Text}
 use Rattle.scrypt_request.specs.Refusal.{faults_after_refusal, line_of}
 use Rattle.scrypt_request.specs.Request.{Request}
 use Rattle.scrypt_run.specs.Run.{ScryptRequestRefused, ScryptRequestSucceeds}
-use Rattle.scrypt_request.specs.declared.refusal.ScryptRefusal.{ScryptRefusal}
+pub use Rattle.scrypt_request.specs.declared.refusal.ScryptRefusal.{ScryptRefusal}
 use Rattle.scrypt_request.specs.declared.refusal.ScryptRefusal.TheVariants as refusal
-use Rattle.scrypt_words.specs.Request.{scrypt_request}
+pub use Rattle.scrypt_words.specs.Request.{scrypt_request}
 
 -- the run ended with status 0: it did what its words ask for
 pub record Succeeds (words : List Text) (before after : HostState) : Type 0 where

@@ -1,20 +1,11 @@
 //! Laws of the definitions: each function has no body, and its clauses are the law.
 ghost use Rattle.std.specs.Prelude.{◌≡◌, ◌≤◌, ◌<◌, ◌^◌, ◌++◌, ◌⊎◌, ℕ, List, Option, Some, Ok, length};
-ghost use Rattle.romix.specs.Allowance.{Admits};
-ghost use Rattle.romix.specs.Costs.{IsInRange, Parameters};
 ghost use Rattle.encfile.specs.EncryptedFile.{IsEncryptionOf, encrypted_file};
 ghost use Rattle.encfile.specs.Header.{costs_of};
 ghost use Rattle.host.specs.FirstLine.{first_line};
-ghost use Rattle.host.specs.HostState.{HostState, Text};
-ghost use Rattle.scrypt_command.specs.Laws.{CanBeEncrypted, IsRefusedFromOutside};
-ghost use Rattle.scrypt_command.specs.Run.{IsRefused, Succeeds};
-ghost use Rattle.scrypt_run.specs.Encrypting.{salt_used};
+ghost use Rattle.scrypt_command.specs.Laws.{Admits, AreOneEnd, CanBeEncrypted, CanBeOpened, Encryption, HasPassphrase, IsInRange, IsRefusedFromOutside, Parameters, Task, allowance_of, decrypt, encrypt, first_line_of_source, inspect, salt_used};
+ghost use Rattle.scrypt_command.specs.Run.{HostState, IsRefused, ScryptRefusal, Succeeds, Text, scrypt_request};
 ghost use Rattle.scrypt_run.specs.Inspecting.{costs_line};
-ghost use Rattle.scrypt_run.specs.Laws.{AreOneEnd, CanBeOpened};
-ghost use Rattle.scrypt_run.specs.Passphrase.{HasPassphrase, first_line_of_source};
-ghost use Rattle.scrypt_request.specs.Request.{Encryption, Task, allowance_of, decrypt, encrypt, inspect};
-ghost use Rattle.scrypt_request.specs.declared.refusal.ScryptRefusal.{ScryptRefusal};
-ghost use Rattle.scrypt_words.specs.Request.{scrypt_request};
 
 // Words and a host come to one end, but for refusals from outside: to one success, beside which every
 // refusal is from outside, or to one refusal, which leaves one state.

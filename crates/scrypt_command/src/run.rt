@@ -1,14 +1,11 @@
 //! A whole run of `scrypt`.
-ghost use Rattle.std.specs.Prelude.{◌≡◌, ◌≤◌, ◌+◌, ◌^◌, Err, MatchResult, IfOk, IfErr, IsOk, OnOk, IsTrue, map, string_bytes};
+ghost use Rattle.std.specs.Prelude.{◌≡◌, ◌≤◌, ◌^◌, Err, IsOk, IsTrue, map, string_bytes};
 ghost use Rattle.host.specs.Faults.{AreBelow};
 ghost use Rattle.host.specs.CallsGrantedByHost.{GrantsAllHostCalls};
 ghost use Rattle.host.specs.HostState.{IsUnasked};
-ghost use Rattle.scrypt_request.specs.Refusal.{CountsFault, CountsNoEarlyWork};
-ghost use Rattle.scrypt_run.specs.Run.{most_salsa20_cores};
-ghost use Rattle.scrypt_run.specs.Work.{EndsAfterWork, CountsRequestWork, CountsNoWorkIfRefusedEarly};
-ghost use Rattle.scrypt_request.specs.declared.refusal.ScryptRefusal.{ScryptRefusal};
-ghost use Rattle.scrypt_words.specs.Request.{scrypt_request};
-ghost use Rattle.scrypt_command.specs.Run.{IsRefused, Refuses, Succeeds, ReportsCommandLineRefusal, IsDueOrOutOfMemory};
+ghost use Rattle.scrypt_request.specs.Refusal.{CountsFault};
+ghost use Rattle.scrypt_command.specs.Inside.Endings.{Ends};
+ghost use Rattle.scrypt_command.specs.Run.{Refuses, ReportsCommandLineRefusal, ScryptRefusal, Succeeds, scrypt_request};
 
 use host::{Host, refuse};
 use romix::Ticks;
@@ -17,7 +14,7 @@ use scrypt_run::run;
 use scrypt_words::read_request;
 use std::alloc::Global;
 
-// All of a run but the line of a refusal.
+// All of a run but the line of a refusal. `ticks` counts the Salsa20/8 cores.
 fn run_without_report<H: Host>(
     alloc: Global,
     words: &[String],
@@ -28,26 +25,8 @@ fn run_without_report<H: Host>(
     requires fresh { IsTrue H.tells → IsUnasked (H.seen host.old) }
     requires granted { GrantsAllHostCalls (H.grants host.old) }
     ensures counts { CountsFault result (H.faults host.old) (H.faults host.new) }
-    ensures words { OnOk result (IsOk (scrypt_request (map string_bytes words.now))) }
-    ensures words_refused { (refusal : ScryptRefusal)
-        → scrypt_request (map string_bytes words.now) ≡ Err refusal → (r : ScryptRefusal) × (result ≡ Err r)
-        × IsDueOrOutOfMemory r refusal × (H.faults host.new ≡ H.faults host.old)
-        × (IsTrue H.tells → H.seen host.new ≡ H.seen host.old) }
-    ensures succeeds { IsTrue H.tells →
-        OnOk result (Succeeds (map string_bytes words.now) (H.seen host.old) (H.seen host.new)) }
-    ensures refused { IsTrue H.tells → IfErr result (λ r.
-        IsRefused r (map string_bytes words.now) (H.seen host.old) (H.seen host.new)) }
-    // Words that are refused cost no core, and others no more than their limit.
-    ensures work_bound { MatchResult (scrypt_request (map string_bytes words.now))
-        (λ request. ticks.new ≤ ticks.old + most_salsa20_cores request) (λ _. ticks.new ≡ ticks.old) }
-    ensures no_work { CountsNoEarlyWork result ticks.old ticks.new }
-    // What ends well, or is refused after the derivation, counts exactly one.
-    ensures count { IsTrue H.tells → OnOk result (IfOk (scrypt_request (map string_bytes words.now))
-        (λ request. CountsRequestWork request (H.seen host.old) ticks.old ticks.new)) }
-    ensures worked { IsTrue H.tells → IfErr result (λ r. EndsAfterWork r (H.seen host.new)
-        → IfOk (scrypt_request (map string_bytes words.now))
-        (λ request. CountsRequestWork request (H.seen host.old) ticks.old ticks.new)) }
-    ensures unworked { IsTrue H.tells → CountsNoWorkIfRefusedEarly result (H.seen host.new) ticks.old ticks.new }
+    ensures ends { Ends H.tells (map string_bytes words.now) result
+        (H.seen host.old) (H.seen host.new) ticks.old ticks.new }
 {
     let mut memory = alloc;
     match read_request(alloc, words) {

@@ -4,3 +4,4 @@ pub mod Words
 pub mod SystemState
 pub mod Failures
 pub mod RunState
+pub mod Steps

@@ -1,12 +1,13 @@
 //! A run over a system: the system, and how far the run has come.
-ghost use Rattle.std.specs.Prelude.{◌≡◌, ◌<◌, ℕ, List, None, [], length, option_map, take, IfOk, OnOk, OnErr, IsTrue, true, false};
-ghost use Rattle.host.specs.AskedSource.{asked_source};
-ghost use Rattle.host.specs.CallsGrantedByHost.{GrantsAllButPullsAsBefore, nothing_asked, with_input_opened, with_output_asked, with_output_opened, with_salt_asked, with_secret_asked};
-ghost use Rattle.host.specs.Secret.{IsBeginning, secret_of_source, source_of};
-ghost use Rattle.host.specs.HostState.{after_ask_secret, after_ask_output, after_open_input, after_open_output, after_pull, after_push, after_salt, after_say, env, FitsWithin, KeepsOnErr, TakesSome};
+ghost use Rattle.std.specs.Prelude.{◌≡◌, ◌<◌, None, option_map, OnOk, OnErr, IsTrue, true, false};
+ghost use Rattle.host.specs.CallsGrantedByHost.{nothing_asked};
+ghost use Rattle.host.specs.Secret.{source_of};
+ghost use Rattle.host.specs.HostState.{FitsWithin, KeepsOnErr, TakesSome};
 ghost use Rattle.tools.specs.Failures.{AreNoFewer};
-ghost use Rattle.tools.specs.RunState.{GoesOn, Leaves, host_seen, rest_of_secret_stream};
-ghost use Rattle.tools.specs.SystemState.{HasSeparateErrorStream, IsLineAskedUnlessReading, IsOutputSeparate, IsOutputSynced, IsOutputUnsynced, IsUnused, MayAskForLine, after_line};
+ghost use Rattle.tools.specs.RunState.{Leaves, host_seen};
+ghost use Rattle.tools.specs.Steps.{AsksSalt, AsksSecret, FailsEarlyByRead, FailsInUseByOutput, IsSystemOf, OpensInput, OpensOutput, Pulls, Pushes, SaysLine, TakesNoMoreOfSecret};
+ghost use Rattle.tools.specs.SystemState.{HasSeparateErrorStream, IsLineAskedUnlessReading, IsOutputSeparate, IsOutputSynced, IsOutputUnsynced, IsUnused};
+ghost use Rattle.tools.specs.declared.system.Reading.TheVariants as reading;
 
 use crate::inputs::{read_salt, read_secret};
 use crate::lines::say_if_stderr_is_separate;
@@ -120,9 +121,7 @@ impl<S: System> Run<S> {
 
     /// The system, as the run left it, at the end of the run.
     pub fn into_system(self) -> S
-        ensures same { S.state result ≡ self.state }
-        ensures same_failures { S.failures result ≡ self.failures }
-        ensures same_files { S.files result ≡ self.system_files }
+        ensures same { IsSystemOf self (S.state result) (S.failures result) (S.files result) }
         ensures leaves { IsTrue S.tells → Leaves (S.state result) (host_seen self) }
         ensures asks { IsTrue S.tells → self.told ≡ true → IsLineAskedUnlessReading (S.state result) }
     {
@@ -169,17 +168,8 @@ impl<S: System> Run<S> {
     pub fn open_input(&mut self, name: Option<&str>) -> Result<(), HostFault>
         requires unopened { self.old.grants.input ≡ true }
         ensures early { OnOk result (self.old.grants.output ≡ true) }
-        ensures kept { IsTrue S.tells → KeepsOnErr result (host_seen self.old) (host_seen self.new) }
-        ensures opened { IsTrue S.tells → OnOk result (host_seen self.new
-            ≡ after_open_input (option_map (λ n. n.now) name.entry) (host_seen self.old)) }
-        ensures granted { OnOk result (self.new.grants ≡ with_input_opened self.old.grants) }
-        ensures granted_as_before { KeepsOnErr result self.old.grants self.new.grants }
-        ensures told { self.new.told ≡ self.old.told }
-        ensures unopened_before { IsTrue S.tells → self.old.state.input.opened ≡ None }
-        ensures before_output { IsTrue S.tells → OnOk result (self.old.state.output_asked ≡ None) }
-        ensures goes_on { IsTrue S.tells → GoesOn self.old self.new }
-        ensures failed { IsTrue S.tells → OnErr result
-            (self.old.state.output_asked ≡ None → self.old.failures.input < self.new.failures.input) }
+        ensures opened { OpensInput S.tells (option_map (λ n. n.now) name.entry) result self.old self.new }
+        ensures failed { IsTrue S.tells → FailsEarlyByRead reading.Input result self.old self.new }
     {
         if self.output != OutputStage::Unasked {
             return Err(HostFault);
@@ -193,17 +183,9 @@ impl<S: System> Run<S> {
     /// by its name; not where it is refused.
     pub fn open_output(&mut self, name: Option<&str>) -> Result<(), HostFault>
         requires unasked { self.old.grants.output ≡ true }
-        ensures asks { IsTrue S.tells → OnErr result (host_seen self.new
-            ≡ after_ask_output (option_map (λ n. n.now) name.entry) (host_seen self.old)) }
-        ensures opened { IsTrue S.tells → OnOk result (host_seen self.new
-            ≡ after_open_output (option_map (λ n. n.now) name.entry) (host_seen self.old)) }
+        ensures asks { OpensOutput S.tells (option_map (λ n. n.now) name.entry) result self.old self.new }
         ensures untouched { IsTrue S.tells →
             KeepsOnErr result self.old.state.is_emptied self.new.state.is_emptied }
-        ensures granted { OnOk result (self.new.grants ≡ with_output_opened self.old.grants) }
-        ensures granted_no_other { OnErr result (self.new.grants ≡ with_output_asked self.old.grants) }
-        ensures told { self.new.told ≡ self.old.told }
-        ensures before_output { IsTrue S.tells → self.old.state.output_asked ≡ None }
-        ensures goes_on { IsTrue S.tells → GoesOn self.old self.new }
         ensures failed { IsTrue S.tells → OnErr result (IsOutputSeparate self.new.system_files →
             self.old.failures.output < self.new.failures.output) }
     {
@@ -220,18 +202,7 @@ impl<S: System> Run<S> {
     /// The next bytes of the input. Once its end was found, the system is not asked again.
     pub fn pull(&mut self, buf: &mut [u8]) -> Result<usize, HostFault>
         ensures bound { FitsWithin result buf.old }
-        ensures kept { IsTrue S.tells → KeepsOnErr result (host_seen self.old) (host_seen self.new) }
-        ensures within { IsTrue S.tells → FitsWithin result self.old.state.input.left }
-        ensures bytes { IsTrue S.tells →
-            IfOk result (λ n. take n buf.new ≡ take n self.old.state.input.left) }
-        ensures taken { IsTrue S.tells →
-            IfOk result (λ n. host_seen self.new ≡ after_pull n (host_seen self.old)) }
-        ensures progress { IsTrue S.tells → IfOk result (λ n.
-            0 < length buf.old → n ≡ 0 → self.old.state.input.left ≡ []) }
-        ensures granted { IfOk result (λ n. 0 < n → self.new.grants ≡ self.old.grants) }
-        ensures granted_all_but_pulls { OnOk result (GrantsAllButPullsAsBefore self.old.grants self.new.grants) }
-        ensures told { self.new.told ≡ self.old.told }
-        ensures goes_on { IsTrue S.tells → GoesOn self.old self.new }
+        ensures taken { Pulls S.tells buf.old buf.new result self.old self.new }
         ensures failed { IsTrue S.tells → self.old.grants.readable ≡ true →
             OnErr result (self.old.failures.input < self.new.failures.input) }
     {
@@ -252,14 +223,8 @@ impl<S: System> Run<S> {
     pub fn push(&mut self, bytes: &[u8]) -> Result<usize, HostFault>
         ensures bound { FitsWithin result bytes.now }
         ensures progress { TakesSome result bytes.now }
-        ensures kept { IsTrue S.tells → KeepsOnErr result (host_seen self.old) (host_seen self.new) }
-        ensures put { IsTrue S.tells → IfOk result (λ n.
-            host_seen self.new ≡ after_push (take n bytes.now) (host_seen self.old)) }
-        ensures granted { self.new.grants ≡ self.old.grants }
-        ensures told { self.new.told ≡ self.old.told }
-        ensures goes_on { IsTrue S.tells → GoesOn self.old self.new }
-        ensures failed { IsTrue S.tells → self.old.grants.writable ≡ true → self.old.state.sync_asked ≡ false →
-            OnErr result (self.old.failures.output < self.new.failures.output) }
+        ensures put { Pushes S.tells bytes.now result self.old self.new }
+        ensures failed { IsTrue S.tells → FailsInUseByOutput result self.old self.new }
     {
         match self.output {
             OutputStage::Opened | OutputStage::Kept => write_some(&mut self.system, bytes),
@@ -278,8 +243,7 @@ impl<S: System> Run<S> {
         ensures told { self.new.told ≡ self.old.told }
         ensures no_fewer { IsTrue S.tells → AreNoFewer self.old.failures self.new.failures }
         ensures same_files { IsTrue S.tells → self.new.system_files ≡ self.old.system_files }
-        ensures failed { IsTrue S.tells → self.old.grants.writable ≡ true → self.old.state.sync_asked ≡ false →
-            OnErr result (self.old.failures.output < self.new.failures.output) }
+        ensures failed { IsTrue S.tells → FailsInUseByOutput result self.old self.new }
     {
         match self.output {
             OutputStage::Opened | OutputStage::Synced => Ok(()),
@@ -299,19 +263,10 @@ impl<S: System> Run<S> {
         requires unasked { self.old.grants.secret ≡ true }
         ensures early { OnOk result (self.old.grants.output ≡ true) }
         ensures bound { FitsWithin result buf.old }
-        ensures asks { IsTrue S.tells →
-            host_seen self.new ≡ after_ask_secret (source_of source.entry) (host_seen self.old) }
-        ensures bytes { IsTrue S.tells → IfOk result (λ n.
-            IsBeginning (secret_of_source source.entry (host_seen self.old)) n buf.new) }
-        ensures left { IsTrue S.tells → IfOk result (λ n. self.new.state.secret.left
-            ≡ rest_of_secret_stream (source_of source.entry) n self.old.state) }
-        ensures variable { (name : List ℕ) → source_of source.entry ≡ env name → IsTrue S.tells →
-            self.new.state ≡ self.old.state }
-        ensures granted { self.new.grants ≡ with_secret_asked self.old.grants }
-        ensures told { self.new.told ≡ self.old.told }
-        ensures goes_on { IsTrue S.tells → GoesOn self.old self.new }
-        ensures failed { IsTrue S.tells → OnErr result
-            (self.old.state.output_asked ≡ None → self.old.failures.secrets < self.new.failures.secrets) }
+        ensures asks { AsksSecret S.tells (source_of source.entry) result buf.new self.old self.new }
+        ensures left { IsTrue S.tells →
+            TakesNoMoreOfSecret (source_of source.entry) result self.old.state self.new.state }
+        ensures failed { IsTrue S.tells → FailsEarlyByRead reading.Secret result self.old self.new }
     {
         self.asked = Some(AskedSource::of(&source));
         if self.output != OutputStage::Unasked {
@@ -324,13 +279,8 @@ impl<S: System> Run<S> {
     pub fn salt(&mut self, out: &mut [u8; 32]) -> Result<(), HostFault>
         requires unsalted { self.old.grants.salt ≡ true }
         ensures early { OnOk result (self.old.grants.output ≡ true) }
-        ensures salts { IsTrue S.tells → host_seen self.new ≡ after_salt (host_seen self.old) }
-        ensures bytes { IsTrue S.tells → OnOk result (out.new ≡ (host_seen self.old).salt) }
-        ensures granted { self.new.grants ≡ with_salt_asked self.old.grants }
-        ensures told { self.new.told ≡ self.old.told }
-        ensures goes_on { IsTrue S.tells → GoesOn self.old self.new }
-        ensures failed { IsTrue S.tells → OnErr result
-            (self.old.state.output_asked ≡ None → self.old.failures.salt < self.new.failures.salt) }
+        ensures salts { AsksSalt S.tells result out.new self.old self.new }
+        ensures failed { IsTrue S.tells → FailsEarlyByRead reading.Random result self.old self.new }
     {
         self.salted = true;
         if self.output != OutputStage::Unasked {
@@ -341,16 +291,7 @@ impl<S: System> Run<S> {
 
     /// Says a line, if none was said, and standard error is no file that is read.
     pub fn say(&mut self, line: &str) -> Result<(), HostFault>
-        ensures kept { IsTrue S.tells → KeepsOnErr result (host_seen self.old) (host_seen self.new) }
-        ensures said { IsTrue S.tells →
-            OnOk result (host_seen self.new ≡ after_say line.now (host_seen self.old)) }
-        ensures kept_system { IsTrue S.tells → OnErr result (MayAskForLine self.old.state self.new.state) }
-        ensures said_by_system { IsTrue S.tells →
-            OnOk result (self.new.state ≡ after_line line.now self.old.state) }
-        ensures granted { self.new.grants ≡ self.old.grants }
-        ensures told { self.new.told ≡ true }
-        ensures goes_on { IsTrue S.tells → GoesOn self.old self.new }
-        ensures same_files { IsTrue S.tells → self.new.system_files ≡ self.old.system_files }
+        ensures said { SaysLine S.tells line.now result self.old self.new }
         ensures failed { IsTrue S.tells → self.old.told ≡ false → OnErr result
             (HasSeparateErrorStream self.new.system_files → self.old.failures.lines < self.new.failures.lines) }
     {

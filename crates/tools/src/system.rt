@@ -51,8 +51,8 @@ pub enum StreamRole {
 /// Contracts see whether the system tells its bytes (`tells`); its bytes, names and lines (`state`);
 /// which regular files and block devices its streams are (`files`), which may change when a file is opened,
 /// as where a file system of layers copies a file that is opened to be written; how often a read or a write
-/// was asked for (`tries`); how often each kind of call has failed (`failures`); and the words of the process (`words`). Of a system that tells nothing only the
-/// bounds on lengths are said.
+/// was asked for (`tries`); how often each kind of call has failed (`failures`); and the words of the process
+/// (`words`). Of a system that tells nothing only the bounds on lengths are said.
 ///
 /// What must never happen is a condition of a call: each stream is opened once, and none once an output
 /// was asked for; an output is asked for once; it is emptied and written only while it is no file that is

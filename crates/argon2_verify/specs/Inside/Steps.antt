@@ -6,18 +6,19 @@ use Rattle.argon_text.specs.Reading.{fields_at}
 use Rattle.argon_text.specs.Value.{Value}
 use Rattle.argon_text.specs.Verifying.{parameters_of_value, tag_of_password}
 use Rattle.host.specs.FirstLine.{first_line}
-use Rattle.host.specs.HostState.{HostState}
+use Rattle.host.specs.HostState.{HostState, Text}
 use Rattle.argon2_verify.specs.Hash.{Says}
 use Rattle.argon2_verify.specs.Memory.{IsLeftWithoutHash, after_matrix, after_text}
-use Rattle.argon2_verify.specs.Reading.{password_in}
+use Rattle.argon2_verify.specs.Reading.{after_file_read, password_in}
 use Rattle.argon2_verify.specs.declared.refusal.VerifyRefusal.{VerifyRefusal}
 use Rattle.argon2_verify.specs.declared.request.Limits.{Limits}
 
--- a line was read, and says this value; on a host that tells its bytes it is the first of the file
-pub record ReadsHash {Source : Type 0} (decoded : Source → List ℕ → Bool → Source) (tells : Bool) (before : HostState) (v : Value)
-    (memory_before memory_after : Source) : Type 0 where
+-- a line was read, and says this value; on a host that tells its bytes it is the first of the file, and so the host is left
+pub record ReadsHash {Source : Type 0} (decoded : Source → List ℕ → Bool → Source) (tells : Bool) (file : Text) (before after : HostState)
+    (v : Value) (memory_before memory_after : Source) : Type 0 where
   pub line : List ℕ
   pub is : IsTrue tells → line ≡ first_line before.input
+  pub left : IsTrue tells → after ≡ after_file_read file before
   pub says : Says line v
   pub memory : memory_after ≡ after_text decoded (fields_at line) memory_before
 

@@ -7,10 +7,10 @@ use Rattle.argon2_verify.proofs.Ends.{differs, verifies}
 use Rattle.argon2_verify.proofs.run.argon2_verify.Goals as goal
 
 pub returns-in-Ok-true-clause-verifies : goal.returns-in-Ok-true-clause-verifies
-returns-in-Ok-true-clause-verifies g c = λ _. verifies c.in-Ok-true.ensures.answers c.in-Ok-true.field-0-test
+returns-in-Ok-true-clause-verifies g c = λ _. verifies c.in-Ok-true.ensures.ends c.in-Ok-true.field-0-test
 
 pub returns-in-Ok-false-clause-differs : goal.returns-in-Ok-false-clause-differs
-returns-in-Ok-false-clause-differs g c = λ _. differs c.in-Ok-false.ensures.answers c.in-Ok-false.field-0-test
+returns-in-Ok-false-clause-differs g c = λ _. differs c.in-Ok-false.ensures.ends c.in-Ok-false.field-0-test
 
 pub returns-in-Err-clause-refuses : goal.returns-in-Err-clause-refuses
 returns-in-Err-clause-refuses g c = λ _.
@@ -21,5 +21,5 @@ returns-in-Err-clause-refuses g c = λ _.
       told = c.in-Err.refusal;
       unsaid = unsaid;
       says = subst (λ line. says line counted) c.line.ensures.line (subst (says c.line.result.now) c.in-Err.ensures.counts c.refuse.ensures.says);
-      refused = c.in-Err.ensures.refused;
+      refused = c.in-Err.ensures.ends.refused;
     }

@@ -38,11 +38,11 @@ impl Refusing {
 }
 
 impl RunMemory for Refusing {
-    ghost after_zeros = { λ memory _ _. record memory { left = memory.left - 1; last = Some asked.Zeros } };
-
-    ghost after_line = { λ memory _ _ _. record memory { left = memory.left - 1; last = Some asked.Line } };
-
-    ghost after_matrix = { λ memory _ _. record memory { left = memory.left - 1; last = Some asked.Matrix } };
+    ghost effects = { record {
+      after_zeros = λ memory _ _. record memory { left = memory.left - 1; last = Some asked.Zeros };
+      after_line = λ memory _ _ _. record memory { left = memory.left - 1; last = Some asked.Line };
+      after_matrix = λ memory _ _. record memory { left = memory.left - 1; last = Some asked.Matrix };
+    } };
 
     fn zeros(&mut self, count: usize) -> Result<Bytes, AllocError> {
         if !self.grants(Asked::Zeros) {

@@ -1,0 +1,2 @@
+-- Definitions that private contracts and proofs cite; no public contract reaches them.
+pub mod Endings
