@@ -49,7 +49,7 @@ WHY = {
     **{("host.specs.Secret", name): SEEN for name in ("source_of", "secret_of_source")},
     ("argon_text.specs.View", "encoded_value_of_hash_view"): SEEN,
     **{("scrypt_request.specs.Request", f"{name}_view"): SEEN for name in ("scrypt_request", "encryption", "task")},
-    ("scrypt_request.specs.Request", "text_of"): SEEN,
+    ("scrypt_request.specs.Request", "name_view"): SEEN,
     **{("pikhsen_c.specs.Heap", f"after_{name}_request"): "`one_more` of one field of a record"
        for name in ("matrix", "text", "workspace", "state", "reading")},
     ("pikhsen_c.specs.Stream", "Of"): "a type of statements",

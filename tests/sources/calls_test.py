@@ -116,7 +116,7 @@ TRIALS = [
     ("counter", "argon::segment::fill_next_block", first(call("argon::compression::permute_rows"))),
     ("counter", "romix::romix::romix", first(call("romix::salsa20::column_round"))),  # a core without its tick
     ("counter", "romix::salsa20::core_by_diagonals", first(call("romix::ticks::Ticks::tick"))),
-    ("begins", "argon_text::verify_password::write_tag", first(call("argon::matrix::Matrix::start"))),
+    ("begins", "argon_text::verify_password::verify_keyed", first(call("argon::matrix::Matrix::start"))),
     ("begins", "scrypt_run::encrypt::start", first(["Loop", call("encfile::enc::Enc::start")])),
     ("begins", "argon::matrix::Matrix::start", first(call("argon::first_columns::first_hash"))),
     ("begins", "argon::matrix::Matrix::start", first(call("argon::first_columns::fill_first_two_columns"))),

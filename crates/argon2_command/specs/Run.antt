@@ -92,7 +92,7 @@ CountsRunWork words result before after =
 
 -- the run ended with a refusal: of the counts only the one that it names rose, if it names one; then its line was
 -- said, or could not be said and `lines` rose. `told` is the refusal, and `unsaid` the host before the line
-pub record Refuses (tells : Bool) (words : List Text) (before after : HostState) (faults_before faults_after : Faults)
+pub record EndsWithRefusal (tells : Bool) (words : List Text) (before after : HostState) (faults_before faults_after : Faults)
     : Type 0 where
   pub told : Argon2Refusal
   pub unsaid : HostState

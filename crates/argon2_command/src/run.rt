@@ -5,7 +5,7 @@ ghost use Rattle.host.specs.CallsGrantedByHost.{GrantsAllHostCalls};
 ghost use Rattle.host.specs.Lines.{SaysOneLine};
 ghost use Rattle.host.specs.HostState.{IsUnasked};
 ghost use Rattle.argon2_command.specs.RunAsking.{RequestsRunMemory};
-ghost use Rattle.argon2_command.specs.Run.{Refuses, Succeeds, SucceedsForSomeInput, EndsSoForSomeInput, EndsRefused, CountsRunWork};
+ghost use Rattle.argon2_command.specs.Run.{EndsWithRefusal, Succeeds, SucceedsForSomeInput, EndsSoForSomeInput, EndsRefused, CountsRunWork};
 ghost use Rattle.argon2_words.specs.Refusal.{CountsFault, faults_after_refusal, line_of};
 ghost use Rattle.argon2_words.specs.Request.{argon2_request};
 ghost use Rattle.argon2_words.specs.declared.refusal.Argon2Refusal.{Argon2Refusal};
@@ -87,7 +87,7 @@ pub fn argon2<H: Host>(alloc: Global, words: &[String], host: &mut H) -> u8
     ensures some_input { result ≡ 0 → SucceedsForSomeInput (map string_bytes words.now) }
     ensures succeeds { IsTrue H.tells → result ≡ 0 →
         Succeeds (map string_bytes words.now) (H.seen host.old) (H.seen host.new) }
-    ensures refuses { result ≡ 1 → Refuses H.tells (map string_bytes words.now)
+    ensures refuses { result ≡ 1 → EndsWithRefusal H.tells (map string_bytes words.now)
         (H.seen host.old) (H.seen host.new) (H.faults host.old) (H.faults host.new) }
 {
     let mut memory = alloc;

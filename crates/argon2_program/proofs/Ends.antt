@@ -2,12 +2,12 @@
 use Rattle.std.proofs.Common.{◌≡◌, ◌∙◌, ◌≤◌, ◌⊎◌, inl, inr, ℕ, zero, suc, arith, Bool, true, false, List, None, if◌then◌else◌, is_ok, IsTrue, ap, sym, refl, subst}
 use Rattle.host.specs.Faults.{Faults, no_faults}
 use Rattle.host.specs.HostState.{HostState, Text, after_ask_secret, stdin_once}
-use Rattle.argon2_command.specs.Run.{IsRefused, Refuses, after_password_asked}
+use Rattle.argon2_command.specs.Run.{IsRefused, EndsWithRefusal, after_password_asked}
 use Rattle.argon2_words.specs.Request.{argon2_request}
 use Rattle.argon2_words.specs.Refusal.{faults_after_refusal, line_of}
 use Rattle.argon2_words.specs.declared.refusal.Argon2Refusal.{Argon2Refusal}
 use Rattle.argon2_words.specs.declared.refusal.Argon2Refusal.TheVariants as refusal
-use Rattle.tools.specs.Failures.{AreFaultsOfHost, AreFaultsOfSystem}
+use Rattle.tools.specs.Failures.{AreFaultsOfHost, AreFaultsWithinFailures}
 use Rattle.tools.specs.RunState.{Leaves}
 use Rattle.tools.specs.SystemState.{Files, SystemState}
 use Rattle.tools.proofs.Ends.{LeavesOutput, before-output, faults-left, faults-none, leaves-line, output-alone}
@@ -32,25 +32,25 @@ of-words r words before seen none (inr (inr (inr fails))) = output-alone (after_
     (ap (λ q. (after_refusal q).input) fails.is) (ap (λ q. (after_refusal q).secrets) fails.is) (ap (λ q. (after_refusal q).salt) fails.is)
 
 refused : (tells : Bool) (words : List Text) (before seen : HostState) (counts : Faults) → IsTrue tells → before.output_asked ≡ None
-    → Refuses tells words before seen no_faults counts → LeavesOutput seen counts
+    → EndsWithRefusal tells words before seen no_faults counts → LeavesOutput seen counts
 refused tells words before seen counts told none refuses = leaves-line tells (line_of refuses.told) refuses.unsaid seen (after_refusal refuses.told) counts
     refuses.says told (of-words refuses.told words before refuses.unsaid none (refuses.refused told))
 
 -- the faults of a run that was refused
 faults-refused : (tells : Bool) (words : List Text) (start before seen : HostState) (nothing counts all failures : Faults) (w : SystemState) (f : Files)
-    → IsTrue tells → before ≡ start → start.output_asked ≡ None → nothing ≡ no_faults → Refuses tells words before seen nothing counts → all ≡ counts
-    → Leaves w seen → AreFaultsOfHost all failures w f → AreFaultsOfSystem all failures f
+    → IsTrue tells → before ≡ start → start.output_asked ≡ None → nothing ≡ no_faults → EndsWithRefusal tells words before seen nothing counts → all ≡ counts
+    → Leaves w seen → AreFaultsOfHost all failures w f → AreFaultsWithinFailures all failures f
 faults-refused tells words start before seen nothing counts all failures w f told same none unfailed refuses counted leaves faults =
     faults-left all failures w f seen leaves
     (subst (λ c. LeavesOutput seen c) (sym counted)
     (refused tells words before seen counts told (ap (λ (h : HostState). h.output_asked) same ∙ none)
-    (subst (λ n. Refuses tells words before seen n counts) unfailed refuses))) faults
+    (subst (λ n. EndsWithRefusal tells words before seen n counts) unfailed refuses))) faults
 
 -- the faults of a run
 pub faults-ended : (status : ℕ) (tells : Bool) (words : List Text) (start before seen : HostState) (nothing counts all failures : Faults) (w : SystemState) (f : Files)
     → IsTrue tells → status ≤ 1 → (status ≡ 0 → counts ≡ nothing) → before ≡ start → start.output_asked ≡ None → nothing ≡ no_faults
-    → (status ≡ 1 → Refuses tells words before seen nothing counts) → all ≡ counts → Leaves w seen → AreFaultsOfHost all failures w f
-    → AreFaultsOfSystem all failures f
+    → (status ≡ 1 → EndsWithRefusal tells words before seen nothing counts) → all ≡ counts → Leaves w seen → AreFaultsOfHost all failures w f
+    → AreFaultsWithinFailures all failures f
 faults-ended zero tells words start before seen nothing counts all failures w f told bound ok same none unfailed refuses counted leaves faults =
     faults-none all failures w f (counted ∙ ok refl ∙ unfailed) faults
 faults-ended (suc n) tells words start before seen nothing counts all failures w f told bound ok same none unfailed refuses counted leaves faults =

@@ -3,7 +3,7 @@ use Rattle.std.specs.Prelude.{◌⊎◌, ◌<◌, Bool, List, drop}
 use Rattle.host.specs.Faults.{Faults, no_faults}
 use Rattle.host.specs.Lines.{SaysOneLine}
 use Rattle.host.specs.HostState.{HostState, Text}
-use Rattle.argon2_command.specs.Run.{Refuses, Succeeds}
+use Rattle.argon2_command.specs.Run.{EndsWithRefusal, Succeeds}
 use Rattle.argon2_words.specs.Refusal.{line_of}
 use Rattle.argon2_words.specs.declared.refusal.Argon2Refusal.TheVariants as refusal
 use Rattle.tools.specs.RunState.{Leaves, host_over}
@@ -25,7 +25,7 @@ pub record ProgramSucceeds (words : List Text) (before after : SystemState) : Ty
 pub record ProgramRefuses (tells : Bool) (words : List Text) (before after : SystemState) (faults : Faults) : Type 0 where
   pub seen : HostState
   pub leaves : Leaves after seen
-  pub refuses : Refuses tells (drop 1 words) (host_over before) seen no_faults faults
+  pub refuses : EndsWithRefusal tells (drop 1 words) (host_over before) seen no_faults faults
       ⊎ (HasNonUtf8WordIfNotText words_fault.NotText words × SaysOneLine tells (line_of refusal.Usage) (host_over before) seen no_faults faults)
       ⊎ SaysOneLine tells (line_of refusal.OutOfMemory) (host_over before) seen no_faults faults
   pub asks : 0 < faults.lines → IsLineAskedUnlessReading after

@@ -5,7 +5,7 @@ ghost use Rattle.host.specs.Lines.{faults_after_line};
 ghost use Rattle.argon2_words.specs.Refusal.{faults_after_refusal};
 ghost use Rattle.argon2_words.specs.declared.refusal.Argon2Refusal.{Argon2Refusal};
 ghost use Rattle.argon2_program.specs.Program.{ProgramRefuses, ProgramSucceeds};
-ghost use Rattle.tools.specs.Failures.{AreFaultsOfSystem};
+ghost use Rattle.tools.specs.Failures.{AreFaultsWithinFailures};
 ghost use Rattle.tools.specs.SystemState.{IsUnused};
 
 use argon2_command::{Argon2Refusal, argon2};
@@ -30,7 +30,7 @@ pub fn run<S: System>(alloc: Global, system: S) -> (u8, S, RunFailureCounts<S>)
     // if it names one, and that of lines if its line could not be said.
     ensures counts_refusal { result.0 ≡ 1 → (told : Argon2Refusal) × (said : Bool)
         × (result.2 ≡ faults_after_line said (faults_after_refusal told no_faults)) }
-    ensures fails { IsTrue S.tells → AreFaultsOfSystem result.2 (S.failures result.1) (S.files result.1) }
+    ensures fails { IsTrue S.tells → AreFaultsWithinFailures result.2 (S.failures result.1) (S.files result.1) }
 {
     let read = words(&system, alloc);
     let mut host = SystemHost::new(system);

@@ -4,7 +4,7 @@ ghost use Rattle.host.specs.Faults.{AreBelow};
 ghost use Rattle.host.specs.CallsGrantedByHost.{GrantsAllHostCalls};
 ghost use Rattle.host.specs.HostState.{IsUnasked};
 ghost use Rattle.argon2_verify.specs.Refusal.{CountsFault};
-ghost use Rattle.argon2_verify.specs.Run.{Differs, Ends, Refuses, RefusesFaultyWords, Verifies, verify_request};
+ghost use Rattle.argon2_verify.specs.Run.{Differs, Ends, EndsWithRefusal, RefusesFaultyWords, Verifies, verify_request};
 ghost use Rattle.argon2_verify.specs.declared.refusal.VerifyRefusal.{VerifyRefusal};
 
 use crate::hash::{read_hash, test_limits};
@@ -57,7 +57,7 @@ pub fn argon2_verify<H: Host>(alloc: Global, words: &[String], host: &mut H) -> 
     ensures words { (refusal : VerifyRefusal) → verify_request (map string_bytes words.now) ≡ Err refusal → result ≡ 2 }
     ensures verifies { result ≡ 0 → Verifies H.tells (map string_bytes words.now) (H.seen host.old) (H.seen host.new) }
     ensures differs { result ≡ 1 → Differs H.tells (map string_bytes words.now) (H.seen host.old) (H.seen host.new) }
-    ensures refuses { result ≡ 2 → Refuses H.tells (map string_bytes words.now)
+    ensures refuses { result ≡ 2 → EndsWithRefusal H.tells (map string_bytes words.now)
         (H.seen host.old) (H.seen host.new) (H.faults host.old) (H.faults host.new) }
 {
     let mut memory = alloc;

@@ -4,9 +4,9 @@ use Rattle.host.specs.Faults.{Faults, no_faults}
 use Rattle.host.specs.HostState.{HostState, Text}
 use Rattle.argon2_verify.specs.Reading.{IsFileRefused}
 use Rattle.argon2_verify.specs.Refusal.{faults_after_refusal, line_of}
-use Rattle.argon2_verify.specs.Run.{IsRefused, Refuses}
+use Rattle.argon2_verify.specs.Run.{IsRefused, EndsWithRefusal}
 use Rattle.argon2_verify.specs.declared.refusal.VerifyRefusal.{VerifyRefusal}
-use Rattle.tools.specs.Failures.{AreFaultsOfHost, AreFaultsOfSystem}
+use Rattle.tools.specs.Failures.{AreFaultsOfHost, AreFaultsWithinFailures}
 use Rattle.tools.specs.RunState.{Leaves}
 use Rattle.tools.specs.SystemState.{Files, SystemState}
 use Rattle.tools.proofs.Ends.{LeavesOutput, before-output, faults-left, faults-none, leaves-line}
@@ -25,15 +25,15 @@ of-words r counts words before seen none (inr (inr (inl limits))) = before-outpu
 of-words r counts words before seen none (inr (inr (inr password))) = before-output counts _ seen password.left none
 
 refused : (tells : Bool) (words : List Text) (before seen : HostState) (nothing counts : Faults) → IsTrue tells → before.output_asked ≡ None
-    → Refuses tells words before seen nothing counts → LeavesOutput seen counts
+    → EndsWithRefusal tells words before seen nothing counts → LeavesOutput seen counts
 refused tells words before seen nothing counts told none refuses =
     leaves-line tells (line_of refuses.told) refuses.unsaid seen (faults_after_refusal refuses.told nothing) counts refuses.says told
     (of-words refuses.told _ words before refuses.unsaid none (refuses.refused told))
 
 -- the faults of a run that was refused
 faults-refused : (tells : Bool) (words : List Text) (start before seen : HostState) (nothing counts all failures : Faults) (w : SystemState) (f : Files)
-    → IsTrue tells → before ≡ start → start.output_asked ≡ None → Refuses tells words before seen nothing counts → all ≡ counts
-    → Leaves w seen → AreFaultsOfHost all failures w f → AreFaultsOfSystem all failures f
+    → IsTrue tells → before ≡ start → start.output_asked ≡ None → EndsWithRefusal tells words before seen nothing counts → all ≡ counts
+    → Leaves w seen → AreFaultsOfHost all failures w f → AreFaultsWithinFailures all failures f
 faults-refused tells words start before seen nothing counts all failures w f told same none refuses counted leaves faults =
     faults-left all failures w f seen leaves
     (subst (λ c. LeavesOutput seen c) (sym counted)
@@ -42,8 +42,8 @@ faults-refused tells words start before seen nothing counts all failures w f tol
 -- the faults of a run
 pub faults-ended : (status : ℕ) (tells : Bool) (words : List Text) (start before seen : HostState) (nothing counts all failures : Faults) (w : SystemState) (f : Files)
     → IsTrue tells → status ≤ 2 → (status ≤ 1 → counts ≡ nothing) → before ≡ start → start.output_asked ≡ None → nothing ≡ no_faults
-    → (status ≡ 2 → Refuses tells words before seen nothing counts) → all ≡ counts → Leaves w seen → AreFaultsOfHost all failures w f
-    → AreFaultsOfSystem all failures f
+    → (status ≡ 2 → EndsWithRefusal tells words before seen nothing counts) → all ≡ counts → Leaves w seen → AreFaultsOfHost all failures w f
+    → AreFaultsWithinFailures all failures f
 faults-ended zero tells words start before seen nothing counts all failures w f told bound ok same none unfailed refuses counted leaves faults =
     faults-none all failures w f (counted ∙ ok (omega arith) ∙ unfailed) faults
 faults-ended (suc zero) tells words start before seen nothing counts all failures w f told bound ok same none unfailed refuses counted leaves faults =

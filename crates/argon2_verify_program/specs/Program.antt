@@ -4,7 +4,7 @@ use Rattle.host.specs.Faults.{Faults, no_faults}
 use Rattle.host.specs.Lines.{SaysOneLine}
 use Rattle.host.specs.HostState.{HostState, Text}
 use Rattle.argon2_verify.specs.Refusal.{line_of}
-use Rattle.argon2_verify.specs.Run.{Differs, Refuses, Verifies}
+use Rattle.argon2_verify.specs.Run.{Differs, EndsWithRefusal, Verifies}
 use Rattle.argon2_verify.specs.declared.refusal.VerifyRefusal.TheVariants as refusal
 use Rattle.tools.specs.RunState.{Leaves, host_over}
 use Rattle.tools.specs.Words.{HasNonUtf8WordIfNotText}
@@ -31,7 +31,7 @@ pub record ProgramDiffers (tells : Bool) (words : List Text) (before after : Sys
 pub record ProgramRefuses (tells : Bool) (words : List Text) (before after : SystemState) (faults : Faults) : Type 0 where
   pub seen : HostState
   pub leaves : Leaves after seen
-  pub refuses : Refuses tells (drop 1 words) (host_over before) seen no_faults faults
+  pub refuses : EndsWithRefusal tells (drop 1 words) (host_over before) seen no_faults faults
       ⊎ (HasNonUtf8WordIfNotText words_fault.NotText words × SaysOneLine tells (line_of refusal.Usage) (host_over before) seen no_faults faults)
       ⊎ SaysOneLine tells (line_of refusal.OutOfMemory) (host_over before) seen no_faults faults
   pub asks : 0 < faults.lines → IsLineAskedUnlessReading after

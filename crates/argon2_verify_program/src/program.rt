@@ -5,7 +5,7 @@ ghost use Rattle.host.specs.Lines.{faults_after_line};
 ghost use Rattle.argon2_verify.specs.Refusal.{faults_after_refusal, line_of};
 ghost use Rattle.argon2_verify.specs.declared.refusal.VerifyRefusal.{VerifyRefusal};
 ghost use Rattle.argon2_verify_program.specs.Program.{ProgramDiffers, ProgramRefuses, ProgramVerifies};
-ghost use Rattle.tools.specs.Failures.{AreFaultsOfHost, AreFaultsOfSystem};
+ghost use Rattle.tools.specs.Failures.{AreFaultsOfHost, AreFaultsWithinFailures};
 ghost use Rattle.tools.specs.RunState.{EndsWithLine};
 ghost use Rattle.tools.specs.SystemState.{IsUnused};
 
@@ -34,7 +34,7 @@ pub fn run<S: System>(alloc: Global, system: S) -> (u8, S, RunFailureCounts<S>)
     // if it names one, and that of lines if its line could not be said.
     ensures counts_refusal { result.0 ≡ 2 → (told : VerifyRefusal) × (said : Bool)
         × (result.2 ≡ faults_after_line said (faults_after_refusal told no_faults)) }
-    ensures fails { IsTrue S.tells → AreFaultsOfSystem result.2 (S.failures result.1) (S.files result.1) }
+    ensures fails { IsTrue S.tells → AreFaultsWithinFailures result.2 (S.failures result.1) (S.files result.1) }
 {
     let read = words(&system, alloc);
     let mut host = SystemHost::new(system);

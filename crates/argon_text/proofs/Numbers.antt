@@ -1,5 +1,5 @@
 -- The digits of a number: one form for each value.
-use Rattle.std.proofs.Common.{◌≡◌, ◌∙◌, ◌+◌, ◌*◌, ◌^◌, ◌<◌, ◌≤◌, ◌&&◌, ℕ, true, suc, zero, List, [], ◌∷◌, length, get_or, take, refl, sym, ap, ap₂, arith}
+use Rattle.std.proofs.Common.{◌≡◌, ◌∙◌, ◌+◌, ◌-◌, ◌*◌, ◌^◌, ◌<◌, ◌≤◌, ◌&&◌, ℕ, true, suc, zero, List, [], ◌∷◌, length, get_or, take, refl, sym, ap, ap₂, arith}
 use Rattle.std.specs.List.{list_all}
 use Rattle.std.specs.Char.{is_ascii_digit, digit_value}
 use Rattle.std.specs.Str.{all_ascii_digits}
@@ -52,7 +52,7 @@ decimal_is_number n h =
 
 -- one digit more
 pub value_more : (ds : List ℕ) (i number digit : ℕ) → i < length ds → is_ascii_digit (get_or ds i 0) ≡ true → number ≡ number_value (take i ds)
-    → digit + 48 ≡ get_or ds i 0 → number * 10 + digit ≡ number_value (take (i + 1) ds)
+    → digit ≡ get_or ds i 0 - 48 → number * 10 + digit ≡ number_value (take (i + 1) ds)
 value_more ds i number digit within here before is_digit =
     let range : (48 ≤ get_or ds i 0) × (get_or ds i 0 ≤ 57) = grind (arith, common_steps) in
     let exact = digit_value_digit (get_or ds i 0) range in

@@ -6,7 +6,7 @@ use Rattle.std.proofs.lemmas.Grind.{common_steps}
 use Rattle.base64.specs.GeneralPurpose.{IsBytes}
 use Rattle.argon_text.specs.Base64.{base64_bytes, is_base64}
 use Rattle.argon_text.specs.EncodedText.{IsEncodedTextOf, base64_text, encoded_text, short_text}
-use Rattle.argon_text.specs.Grammar.{AreNumbers, Fields, HasFields, IsEncodedTextInRange, fields_of_value, fields_with_version, is_number, number_value, value_of_fields, value_with_salt_and_tag, version_said}
+use Rattle.argon_text.specs.Grammar.{AreNumbers, Fields, HasFields, IsEncodedTextInRange, fields_of_value, fields_of_value_with_version, is_number, number_value, value_of_fields, value_with_salt_and_tag, version_said}
 use Rattle.argon_text.specs.Reading.{fields_at}
 use Rattle.argon_text.specs.Value.{Value, IsEncodableValue, is_in_range}
 use Rattle.argon_text.proofs.Numbers.{decimal_is_number, decimal_of_value, value_of_decimal}
@@ -64,7 +64,7 @@ module _ (v : Value) (is : IsEncodableValue v) where
   small : AreSmall v
   small = are_small v is.in_range
 
-  numbers_with : (version : Option (List ℕ)) → IfSome version (λ digits. is_number digits ≡ true) → AreNumbers (fields_with_version version v)
+  numbers_with : (version : Option (List ℕ)) → IfSome version (λ digits. is_number digits ≡ true) → AreNumbers (fields_of_value_with_version version v)
   numbers_with version number = record {
     version = number;
     memory = decimal_is_number v.memory small.memory;
@@ -80,7 +80,7 @@ module _ (v : Value) (is : IsEncodableValue v) where
     tag = base64_form v.tag is.tag;
   }
 
-  fields_of_short : HasFields (short_text v) (fields_with_version None v)
+  fields_of_short : HasFields (short_text v) (fields_of_value_with_version None v)
   fields_of_short = record {
     text = refl;
     numbers = numbers_with None tt;
@@ -88,7 +88,7 @@ module _ (v : Value) (is : IsEncodableValue v) where
     tag = base64_form v.tag is.tag;
   }
 
-  value_with_version : (version : Option (List ℕ)) → version_said version ≡ v.version → value_of_fields (fields_with_version version v) ≡ v
+  value_with_version : (version : Option (List ℕ)) → version_said version ≡ v.version → value_of_fields (fields_of_value_with_version version v) ≡ v
   value_with_version version said =
       let memory = value_of_decimal v.memory small.memory in
       let passes = value_of_decimal v.passes small.passes in
@@ -104,7 +104,7 @@ module _ (v : Value) (is : IsEncodableValue v) where
 
   fields_of_its_text : (s : List ℕ) → IsEncodedTextOf v s → IsSaid s
   fields_of_its_text s (inl whole) = subst IsSaid (sym whole) (fields_of_value v, fields_of_encoded, value_of_its_fields)
-  fields_of_its_text s (inr short) = subst IsSaid (sym short.1) (fields_with_version None v, fields_of_short, value_with_version None (sym short.0))
+  fields_of_its_text s (inr short) = subst IsSaid (sym short.1) (fields_of_value_with_version None v, fields_of_short, value_with_version None (sym short.0))
 
   -- a text of a value is in the grammar and in range
   pub text_in_range : (s : List ℕ) → IsEncodedTextOf v s → IsEncodedTextInRange s
@@ -129,7 +129,7 @@ one_value v w s is_v is_w text_v text_w =
 pub one_form : (v w : Value) → IsEncodableValue v → IsEncodableValue w → short_text v ≢ encoded_text w
 one_form v w is_v is_w e =
     let P : List ℕ → Type 0 = λ s. HasFields s (fields_of_value w) in
-    let same = one_reading (short_text v) (fields_with_version None v) (fields_of_value w) (fields_of_short v is_v) (subst P (sym e) (fields_of_encoded w is_w)) in
+    let same = one_reading (short_text v) (fields_of_value_with_version None v) (fields_of_value w) (fields_of_short v is_v) (subst P (sym e) (fields_of_encoded w is_w)) in
     let both : None ≡ Some (decimal w.version) = ap (λ (x : Fields). x.version) same in
     cc both
 

@@ -10,7 +10,7 @@ use Rattle.std.specs.Str.{bytes_eq}
 use Rattle.argon.specs.declared.kind.Kind.{Kind}
 use Rattle.argon.specs.declared.kind.Kind.TheVariants.{D, I, Id}
 use Rattle.argon_text.specs.EncodedText.{kind_name, text_of_fields}
-use Rattle.argon_text.specs.Grammar.{AreNumbers, Fields, is_number, text_of, version_part}
+use Rattle.argon_text.specs.Grammar.{AreNumbers, Fields, is_number, fields_text, version_part}
 use Rattle.argon_text.specs.Reading.{◌>>=◌, after, cut, fields_at, kind_at, kind_named, number_at, version_at}
 use Rattle.argon_text.proofs.Cutting.{IsFree, free_by, not_mark, after_gives, after_at, cut_gives, cut_at}
 
@@ -149,7 +149,7 @@ unfolding text_of_fields nested version_before
 regrouped kind None memory passes lanes salt tag = simp append_assoc
 regrouped kind (Some digits) memory passes lanes salt tag = simp append_assoc
 
-pub fields_again : (fields : Fields) → AreNumbers fields → IsFree 36 fields.salt → fields_at (text_of fields) ≡ Some fields
+pub fields_again : (fields : Fields) → AreNumbers fields → IsFree 36 fields.salt → fields_at (fields_text fields) ≡ Some fields
 unfolding fields_at nested
 fields_again fields numbers free =
     let whole = regrouped (kind_name fields.kind) fields.version fields.memory fields.passes fields.lanes fields.salt fields.tag in
@@ -175,7 +175,7 @@ composed : (s kind s1 : List ℕ) (version : Option (List ℕ)) (s2 memory s3 pa
 unfolding nested
 composed s kind s1 version s2 memory s3 passes s4 lanes s5 salt tag e0 e1 e2 e3 e4 e5 = rw (e0, e1, e2, e3, e4, e5) refl
 
-pub fields_give : (s : List ℕ) (fields : Fields) → fields_at s ≡ Some fields → (s ≡ text_of fields) × AreNumbers fields
+pub fields_give : (s : List ℕ) (fields : Fields) → fields_at s ≡ Some fields → (s ≡ fields_text fields) × AreNumbers fields
 unfolding fields_at nested
 fields_give s fields e =
     let kind = bind_some (kind_at s) _ fields e in
@@ -203,7 +203,7 @@ fields_give s fields e =
     let text : s ≡ nested (kind_name found.kind) found.version found.memory found.passes found.lanes found.salt found.tag =
     composed s (kind_name found.kind) kind.0.1 found.version version.0.1 found.memory memory.0.1 found.passes passes.0.1 found.lanes lanes.0.1
     found.salt found.tag e0 e1.0 e2.0 e3.0 e4.0 e5 in
-    let whole : s ≡ text_of found =
+    let whole : s ≡ fields_text found =
     text ∙ sym (regrouped (kind_name found.kind) found.version found.memory found.passes found.lanes found.salt found.tag) in
-    let P : Fields → Type 0 = λ x. (s ≡ text_of x) × AreNumbers x in
+    let P : Fields → Type 0 = λ x. (s ≡ fields_text x) × AreNumbers x in
     subst P same (whole, record { version = e1.1; memory = e2.1; passes = e3.1; lanes = e4.1 })

@@ -38,8 +38,8 @@ version_part None = []
 version_part (Some digits) = version_field digits
 
 -- the text that fields make
-abbrev pub text_of : Fields → List ℕ
-text_of fields =
+abbrev pub fields_text : Fields → List ℕ
+fields_text fields =
     text_of_fields (kind_name fields.kind) (version_part fields.version) fields.memory fields.passes fields.lanes
     fields.salt fields.tag
 
@@ -52,7 +52,7 @@ pub record AreNumbers (fields : Fields) : Type 0 where
 
 -- s is the text of these fields, each has its form, and nothing follows them
 pub record HasFields (s : List ℕ) (fields : Fields) : Type 0 where
-  pub text : s ≡ text_of fields
+  pub text : s ≡ fields_text fields
   pub numbers : AreNumbers fields
   pub salt : is_base64 fields.salt ≡ true
   pub tag : is_base64 fields.tag ≡ true
@@ -63,7 +63,7 @@ IsEncodedText s = (fields : Fields) × HasFields s fields
 
 -- s is the text of some fields whose numbers have their form, whatever stands for salt and tag
 abbrev pub HasWellFormedNumbers : List ℕ → Type 0
-HasWellFormedNumbers s = (fields : Fields) × (s ≡ text_of fields) × AreNumbers fields
+HasWellFormedNumbers s = (fields : Fields) × (s ≡ fields_text fields) × AreNumbers fields
 
 -- the version that a text says, by its digits: 0x10 where it has none
 abbrev pub version_said : Option (List ℕ) → ℕ
@@ -91,8 +91,8 @@ abbrev pub IsEncodedTextInRange : List ℕ → Type 0
 IsEncodedTextInRange s = (fields : Fields) × HasFields s fields × (is_in_range (value_of_fields fields) ≡ true)
 
 -- the fields of a value's text with these digits of the version, its other numbers in decimal
-abbrev pub fields_with_version : Option (List ℕ) → Value → Fields
-fields_with_version version v = record {
+abbrev pub fields_of_value_with_version : Option (List ℕ) → Value → Fields
+fields_of_value_with_version version v = record {
   kind = v.kind;
   version = version;
   memory = decimal v.memory;
@@ -104,4 +104,4 @@ fields_with_version version v = record {
 
 -- the fields as which a value is written, with its version
 abbrev pub fields_of_value : Value → Fields
-fields_of_value v = fields_with_version (Some (decimal v.version)) v
+fields_of_value v = fields_of_value_with_version (Some (decimal v.version)) v

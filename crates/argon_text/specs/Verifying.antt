@@ -67,6 +67,14 @@ IsToldFault first OutOfMemory = first ≡ None
 abbrev pub TellsSame : Result Bool VerifyFault → List ℕ → List ℕ → Type 0
 TellsSame result tag expected = IfOk result (λ same. IsTrue same ↔ (tag ≡ expected))
 
+-- what the test of a password of 1 to 127 bytes tells, with no secret and no associated data: where its length and both
+-- limits are kept, whether it gives the tag; else the first fault that holds, and that of memory where none does
+pub record IsResultOfVerifying (v : Value) (password : List ℕ) (max_kib max_ops : ℕ) (result : Result Bool VerifyFault)
+    : Type 0 where
+  pub answer : TellsSame result (tag_of_password v password) v.tag
+  pub admitted : IfOk result (λ _. verify_fault v password max_kib max_ops ≡ None)
+  pub fault : IfErr result (IsToldFault (verify_fault v password max_kib max_ops))
+
 -- ---- what a test of a password with this result asks of its source of memory, and its work
 
 -- memory is asked for last: no refusal but that of memory changes the source; where there is an answer, the matrix of the

@@ -1,5 +1,5 @@
 //! The fields of an encoded text, taken from its bytes one after another, without memory.
-ghost use Rattle.std.specs.Prelude.{◌≡◌, ◌==◌, MatchOption, codes, option_map};
+ghost use Rattle.std.specs.Prelude.{◌≡◌, ◌==◌, MatchOption, option_map};
 ghost use Rattle.std.specs.List.{list_all, position};
 ghost use Rattle.std.specs.Char.{is_ascii_digit};
 ghost use Rattle.argon_text.specs.Grammar.{is_number};
@@ -94,41 +94,6 @@ impl<'a> Reader<'a> {
             Some(None)
         }
     }
-
-    // The digits of the memory.
-    fn memory(&mut self) -> Option<&'a [u8]>
-        ensures found { Steps (λ digits. digits.now) result self.new (number_at (codes "m=") 44 self.old) }
-    {
-        self.number(b"m=", b',')
-    }
-
-    // The digits of the passes.
-    fn passes(&mut self) -> Option<&'a [u8]>
-        ensures found { Steps (λ digits. digits.now) result self.new (number_at (codes "t=") 44 self.old) }
-    {
-        self.number(b"t=", b',')
-    }
-
-    // The digits of the lanes.
-    fn lanes(&mut self) -> Option<&'a [u8]>
-        ensures found { Steps (λ digits. digits.now) result self.new (number_at (codes "p=") 36 self.old) }
-    {
-        self.number(b"p=", b'$')
-    }
-
-    // The symbols of the salt.
-    fn salt(&mut self) -> Option<&'a [u8]>
-        ensures found { Steps (λ symbols. symbols.now) result self.new (cut 36 self.old) }
-    {
-        self.until(b'$')
-    }
-
-    // The symbols of the tag: all that is left.
-    fn tag(&self) -> &'a [u8]
-        ensures left { result.now ≡ self.now }
-    {
-        self.left
-    }
 }
 
 // The place of the first byte `mark`.
@@ -183,10 +148,10 @@ pub(crate) fn fields_in(text: &[u8]) -> Option<Fields<'_>>
     Some(Fields {
         kind: reader.kind()?,
         version: reader.version()?,
-        memory: reader.memory()?,
-        passes: reader.passes()?,
-        lanes: reader.lanes()?,
-        salt: reader.salt()?,
-        tag: reader.tag(),
+        memory: reader.number(b"m=", b',')?,
+        passes: reader.number(b"t=", b',')?,
+        lanes: reader.number(b"p=", b'$')?,
+        salt: reader.until(b'$')?,
+        tag: reader.left,
     })
 }

@@ -35,11 +35,11 @@ pub enum RangeFault {
     SaltLength,
 }
 
-/// The first part of an encoded text that is out of range, or None where all of it is in range. It takes no memory. Of
-/// bytes that are no encoded text it tells nothing.
+/// The first part of an encoded text that is out of range, or None where all of it is in range: so one is told of each text
+/// for which `Encoded::read` says that a value is out of range. It takes no memory. Of bytes that are no encoded text it
+/// tells nothing.
 pub fn first_encoded_range_fault(text: &[u8]) -> Option<RangeFault>
     ensures first { IsFirstFault text.now result }
-    // So one is told of each text for which `Encoded::read` says that a value is out of range.
     ensures found { IsEncodedText text.now → (IsEncodedTextInRange text.now → ⊥) → IsSome result }
 {
     let fields = fields_in(text)?;

@@ -1,6 +1,5 @@
 //! How an encoded text is read.
-ghost use Rattle.std.specs.Prelude.{◌≡◌, ◌≤◌, ◌+◌, ◌^◌, true, false, length, None, IfSome, IfOk, IfErr, OnOk, IsErrOf, MatchOption, MatchResult};
-ghost use Rattle.std.specs.Char.{is_ascii_digit};
+ghost use Rattle.std.specs.Prelude.{◌≡◌, ◌≤◌, ◌^◌, true, false, length, None, IfSome, IfOk, IfErr, OnOk, IsErrOf, MatchOption, MatchResult};
 ghost use Rattle.base64.specs.GeneralPurpose.{IsBytes};
 ghost use Rattle.argon_text.specs.Answer.{IsResultOfReading};
 ghost use Rattle.argon_text.specs.Inside.Base64Fault.{IsBase64Fault, had_memory};
@@ -129,21 +128,13 @@ pub(crate) fn number_value(digits: &[u8]) -> Option<u32>
 {
     let mut number = 0u32;
     for byte in digits {
-        let more = u64::from(number) * 10 + u64::from(digit_value(*byte));
+        let more = u64::from(number) * 10 + u64::from(*byte - b'0');
         if more > u64::from(u32::MAX) {
             return None;
         }
         number = more as u32;
     }
     Some(number)
-}
-
-// The value of a digit.
-fn digit_value(byte: u8) -> u8
-    requires digit { is_ascii_digit byte ≡ true }
-    ensures value { result + 48 ≡ byte }
-{
-    byte - b'0'
 }
 
 // The ranges of an `Encoded`.

@@ -1,8 +1,6 @@
 //! Whether a password gives the tag of a value.
-ghost use Rattle.std.specs.Prelude.{◌≡◌, ◌+◌, ◌<◌, ◌^◌, None, Ok, true, false, nat_le, length, IfOk, IfErr, OnOk, OnErr};
-ghost use Rattle.argon.specs.Counts.{work};
-ghost use Rattle.argon.specs.Range.{admission};
-ghost use Rattle.argon_text.specs.Verifying.{IsToldFault, keyed_verify_fault, keyed_tag, parameters_of_value, tag_of_password, verify_fault, RequestsMemoryLast, HashesOnce, TellsSame};
+ghost use Rattle.std.specs.Prelude.{◌≡◌, None, true, false, nat_le, length, IfOk, IfErr};
+ghost use Rattle.argon_text.specs.Verifying.{IsResultOfVerifying, IsToldFault, keyed_verify_fault, keyed_tag, parameters_of_value, RequestsMemoryLast, HashesOnce, TellsSame};
 ghost use Rattle.argon_text.specs.View.{encoded_value_of_hash_view};
 
 use crate::fault::VerifyFault;
@@ -11,7 +9,6 @@ use crate::hash_view::HashView;
 use crate::range::is_between;
 use argon::{Inputs, ParamFault, Params, Ticks};
 use comparison::are_same;
-use std::alloc::AllocError;
 
 /// Whether the password gives the tag of the view, under its parameters, with no secret and no associated data. The
 /// tags are compared over all their bytes before it decides.
@@ -19,8 +16,8 @@ use std::alloc::AllocError;
 /// `max_kib` is the greatest number of blocks of 1 KiB, and `max_ops` of block functions, that the
 /// hash may take: a text from a stranger can ask for 4 TiB and for days. Both are tested before
 /// memory is asked for. Where nothing else refuses, `source` is asked once, for the matrix, and `ticks` counts the
-/// block functions of the one hash. The faults, by their numbers, the first that holds: 6 where the password has not 1
-/// to 127 bytes, 7 where `max_kib` is too little, 8 where `max_ops` is, 9 where memory was refused.
+/// block functions of the one hash, and stays at any refusal. The faults, by their numbers, the first that holds: 6 where
+/// the password has not 1 to 127 bytes, 7 where `max_kib` is too little, 8 where `max_ops` is, 9 where memory was refused.
 pub fn verify<R: HashMemory>(
     source: &mut R,
     view: &HashView<'_>,
@@ -29,16 +26,9 @@ pub fn verify<R: HashMemory>(
     max_ops: u64,
     ticks: &mut Ticks,
 ) -> Result<bool, VerifyFault>
-    ensures answer { TellsSame result (tag_of_password (encoded_value_of_hash_view view.now) password.now) view.now.tag.now }
-    // There is an answer only where the password's length and both limits are kept.
-    ensures admitted { IfOk result (λ _. verify_fault (encoded_value_of_hash_view view.now) password.now max_kib max_ops ≡ None) }
-    // What is told is the first that holds, and memory was asked for where none does.
-    ensures fault { IfErr result (IsToldFault (verify_fault (encoded_value_of_hash_view view.now) password.now max_kib max_ops)) }
-    // Nothing is asked of the source of memory before every other refusal is ruled out, and then the matrix alone, under
-    // the caller's own limits; want of memory is told where that was refused.
+    ensures told { IsResultOfVerifying (encoded_value_of_hash_view view.now) password.now max_kib max_ops result }
     ensures asked { RequestsMemoryLast R.after_matrix (encoded_value_of_hash_view view.now) password.now max_kib max_ops
         result source.old source.new }
-    // No block function is run before every refusal is ruled out, that of memory too, and then those of one hash.
     ensures works { HashesOnce (encoded_value_of_hash_view view.now) password.now result ticks.old ticks.new }
 {
     if !is_between(1, password.len() as u64, 127) {
@@ -89,19 +79,20 @@ pub fn verify_keyed<R: HashMemory>(
         Err(ParamFault::MemoryLimit) => return Err(VerifyFault::MemoryLimit),
         Err(_) => return Err(VerifyFault::WorkLimit),
     }
-    // the longest tag
-    let mut room_for_tag = [0; 4096];
-    let tag = &mut room_for_tag[..view.tag.len()];
+    let Ok(mut matrix) = source.matrix(&params, max_kib, max_ops) else {
+        return Err(VerifyFault::OutOfMemory);
+    };
     let inputs = Inputs {
         password,
         salt: view.salt,
         secret,
         associated,
     };
-    match write_tag(source, &params, view, &inputs, max_kib, max_ops, tag, ticks) {
-        Ok(()) => Ok(are_same(tag, view.tag)),
-        Err(_) => Err(VerifyFault::OutOfMemory),
-    }
+    // the longest tag
+    let mut room_for_tag = [0; 4096];
+    let tag = &mut room_for_tag[..view.tag.len()];
+    matrix.hash(&inputs, tag, ticks);
+    Ok(are_same(tag, view.tag))
 }
 
 // The parameters of the hash. All but the password's length are in range.
@@ -124,33 +115,4 @@ fn params_of_hash(view: &HashView<'_>, password: &[u8]) -> Result<Params, Verify
         Ok(params) => Ok(params),
         Err(_) => Err(VerifyFault::PasswordLength),
     }
-}
-
-// Writes the tag of these inputs, under parameters that the limits admit.
-fn write_tag<R: HashMemory>(
-    source: &mut R,
-    params: &Params,
-    view: &HashView<'_>,
-    inputs: &Inputs<'_>,
-    max_kib: u32,
-    max_ops: u64,
-    out: &mut [u8],
-    ticks: &mut Ticks,
-) -> Result<(), AllocError>
-    requires admitted { admission params.now max_kib max_ops ≡ Ok tt }
-    requires parameters { params.now ≡ parameters_of_value (encoded_value_of_hash_view view.now) inputs.now.password.now }
-    requires salt { inputs.now.salt.now ≡ view.now.salt.now }
-    requires secret { length inputs.now.secret.now < 2 ^ 32 }
-    requires associated { length inputs.now.associated.now < 2 ^ 32 }
-    requires size { length out.old ≡ length view.now.tag.now }
-    ensures tag { OnOk result (out.new ≡ keyed_tag (encoded_value_of_hash_view view.now) inputs.now.password.now
-        inputs.now.secret.now inputs.now.associated.now) }
-    ensures asked { OnOk result (source.new ≡ R.after_matrix source.old params.now max_kib max_ops true) }
-    ensures refused { OnErr result (source.new ≡ R.after_matrix source.old params.now max_kib max_ops false) }
-    ensures no_work { IfErr result (λ _. ticks.new ≡ ticks.old) }
-    ensures count { IfOk result (λ _. ticks.new ≡ ticks.old + work params.now) }
-{
-    let mut matrix = source.matrix(params, max_kib, max_ops)?;
-    matrix.hash(inputs, out, ticks);
-    Ok(())
 }

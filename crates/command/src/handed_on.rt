@@ -16,7 +16,7 @@ fn run_argon2_command<H: Host>(alloc: Global, words: &[String], host: &mut H) ->
     requires granted { GrantsAllHostCalls (H.grants host.old) }
     ensures succeeds { IsTrue H.tells → result ≡ 0 →
         argon2_run.Succeeds (map string_bytes words.now) (H.seen host.old) (H.seen host.new) }
-    ensures refuses { result ≡ 1 → argon2_run.Refuses H.tells (map string_bytes words.now)
+    ensures refuses { result ≡ 1 → argon2_run.EndsWithRefusal H.tells (map string_bytes words.now)
         (H.seen host.old) (H.seen host.new) (H.faults host.old) (H.faults host.new) }
 {
     argon2(alloc, words, host)
@@ -29,7 +29,7 @@ fn run_scrypt_command<H: Host>(alloc: Global, words: &[String], host: &mut H) ->
     requires granted { GrantsAllHostCalls (H.grants host.old) }
     ensures succeeds { IsTrue H.tells → result ≡ 0 →
         scrypt_run.Succeeds (map string_bytes words.now) (H.seen host.old) (H.seen host.new) }
-    ensures refuses { result ≡ 1 → scrypt_run.Refuses H.tells (map string_bytes words.now)
+    ensures refuses { result ≡ 1 → scrypt_run.EndsWithRefusal H.tells (map string_bytes words.now)
         (H.seen host.old) (H.seen host.new) (H.faults host.old) (H.faults host.new) }
 {
     scrypt(alloc, words, host)

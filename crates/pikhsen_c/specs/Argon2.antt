@@ -1,19 +1,19 @@
 -- What a caller gives to the functions for Argon2, and what they answer.
 use Rattle.std.specs.Prelude.{◌≡◌, ◌==◌, ◌||◌, ◌≢◌, ◌⊎◌, ◌+◌, ◌<◌, ◌≤◌, ℕ, not, nat_lt, nat_le, List, [], length, replicate, Result, Ok, Err, Option, Some, None, if◌then◌else◌}
-use Rattle.argon.specs.Argon2.{argon2_tag}
-use Rattle.argon.specs.Counts.{work}
-use Rattle.argon.specs.Parameters.{Inputs, Parameters}
+pub use Rattle.argon.specs.Argon2.{argon2_tag}
+pub use Rattle.argon.specs.Counts.{work}
+pub use Rattle.argon.specs.Parameters.{Inputs, Parameters}
 use Rattle.argon.specs.Range.{admission, checked_with_any_password_length, is_version}
 use Rattle.argon.specs.declared.fault.ParamFault.{ParamFault}
 use Rattle.argon.specs.declared.kind.Kind.{Kind}
 use Rattle.argon.specs.declared.kind.Kind.TheVariants.{D, I, Id}
 use Rattle.argon_text.specs.EncodedText.{IsEncodedTextOf, encoded_text}
 use Rattle.argon_text.specs.Grammar.{HasWellFormedNumbers, IsEncodedText, IsEncodedTextInRange}
-use Rattle.argon_text.specs.Value.{IsEncodableValue, Value}
+pub use Rattle.argon_text.specs.Value.{IsEncodableValue, Value}
 use Rattle.argon_text.specs.Verifying.{keyed_verify_fault, keyed_tag, parameters_of_value}
 use Rattle.argon_text.specs.declared.fault.VerifyFault.{VerifyFault}
 use Rattle.argon_text.specs.declared.fault.VerifyFault.TheVariants as verify
-use Rattle.pikhsen_c.specs.Status.{first_nonzero_status, long_input_status, long_password_status, mismatch_status, above_memory_limit_status, above_work_limit_status, no_kind_status, unknown_version_status, not_encoded_status, out_of_memory_status, out_of_range_status, param_fault_status, wrong_buffer_status}
+use Rattle.pikhsen_c.specs.Status.{first_nonzero_status, long_input_status, long_password_status, mismatch_status, above_memory_limit_status, above_work_limit_status, no_kind_status, unknown_version_status, not_encoded_status, out_of_memory_status, out_of_range_status, param_fault_status, wrong_buffer_status, IsUnchangedIfRefused, ReturnsNoLengthIfRefused}
 
 -- the parameters of these numbers (RFC 9106, 3.1)
 abbrev pub parameters_of_numbers : ℕ → ℕ → ℕ → ℕ → ℕ → ℕ → ℕ → ℕ → Parameters
@@ -112,6 +112,16 @@ encoded_keyed_status parameters salt secret_len associated_len max_kib max_ops o
 -- the same with no secret and no associated data
 abbrev pub hash_to_encoded_status : Parameters → List ℕ → ℕ → ℕ → ℕ → ℕ
 hash_to_encoded_status parameters salt = encoded_keyed_status parameters salt 0 0
+
+-- with a secret and associated data of these lengths, a text is refused by the first number that holds, the last being
+-- that of the room, and memory is refused where nothing before that is; at any refusal there is no text
+pub record RefusesEncoding (parameters : Parameters) (salt : List ℕ) (secret_len associated_len max_kib max_ops status len : ℕ)
+    (before after : List ℕ) : Type 0 where
+  pub fault : status ≢ out_of_memory_status
+      → status ≡ encoded_keyed_status parameters salt secret_len associated_len max_kib max_ops (length before)
+  pub memory : status ≡ out_of_memory_status → hash_status parameters secret_len associated_len max_kib max_ops ≡ 0
+  pub untouched : IsUnchangedIfRefused status before after
+  pub nothing : ReturnsNoLengthIfRefused status len
 
 -- ---- the test of a password
 

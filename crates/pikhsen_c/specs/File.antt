@@ -1,12 +1,13 @@
 -- What a caller gives to the functions for encrypted files, and what they answer.
-use Rattle.std.specs.Prelude.{ℕ, ◌==◌, not, ◌+◌, ◌^◌, nat_lt, nat_le, List, length, take, Option, Some, None, if◌then◌else◌}
-use Rattle.encfile.specs.Header.{costs_of, salt_of}
-use Rattle.encfile.specs.HeaderFaults.{header_fault}
+use Rattle.std.specs.Prelude.{◌≡◌, ◌≢◌, ℕ, ◌==◌, not, ◌+◌, ◌-◌, ◌^◌, ◌<◌, ◌≤◌, nat_lt, nat_le, List, length, replicate, take, drop, Option, Some, None, if◌then◌else◌}
+pub use Rattle.encfile.specs.EncryptedFile.{HasRightHeaderHmac, IsEncryptionOf, encrypted_file, released_text}
+pub use Rattle.encfile.specs.Header.{costs_of, salt_of}
+pub use Rattle.encfile.specs.HeaderFaults.{header_fault}
 use Rattle.encfile.specs.declared.fault.HeaderFault.{HeaderFault}
-use Rattle.romix.specs.Costs.{Parameters}
+pub use Rattle.romix.specs.Costs.{Parameters}
 use Rattle.romix.specs.Sparse.{sparse_table_core_count}
 use Rattle.pikhsen_c.specs.Scrypt.{costs_status, limits_status, costs_with_keep}
-use Rattle.pikhsen_c.specs.Status.{first_nonzero_status, header_fault_status, long_text_status, short_file_status, wrong_buffer_status, wrong_salt_status}
+use Rattle.pikhsen_c.specs.Status.{first_nonzero_status, damaged_status, header_fault_status, long_text_status, short_file_status, wrong_buffer_status, wrong_passphrase_status, wrong_salt_status, ReturnsNoLengthIfRefused}
 
 -- ---- an encryption
 
@@ -55,3 +56,22 @@ front_status file keep max_bytes max_ops out_len =
 abbrev pub salsa20_cores_to_open : List ℕ → List ℕ → ℕ → ℕ
 salsa20_cores_to_open passphrase file keep =
     sparse_table_core_count passphrase (salt_of (take 64 file)) (costs_with_keep (costs_of (take 64 file)) keep)
+
+-- ---- what comes of a file that is opened
+
+-- what each number says of the file, under a passphrase; there is none above 29
+pub record IsFileVerdict (file passphrase : List ℕ) (status : ℕ) : Type 0 where
+  pub wrong : status ≡ wrong_passphrase_status → HasRightHeaderHmac (take 96 file) passphrase → ⊥
+  pub right : wrong_passphrase_status < status → HasRightHeaderHmac (take 96 file) passphrase
+  pub damaged : status ≡ damaged_status → IsEncryptionOf file passphrase (released_text file passphrase) → ⊥
+  pub too_long : status ≡ long_text_status → 2 ^ 60 + 128 ≤ length file
+  pub high : status ≤ 29
+
+-- a buffer gets the text of a whole file, of this length, and then zeros; zeros alone where the file is opened and is not
+-- whole; and otherwise stays as it was
+pub record WritesTextOfWholeFile (file passphrase old new : List ℕ) (len status : ℕ) : Type 0 where
+  pub whole : status ≡ 0 → IsEncryptionOf file passphrase (take len new)
+  pub rest : status ≡ 0 → drop len new ≡ replicate (length old - len) 0
+  pub nothing : ReturnsNoLengthIfRefused status len
+  pub zeros : wrong_passphrase_status < status → new ≡ replicate (length old) 0
+  pub untouched : status ≢ 0 → status ≤ wrong_passphrase_status → new ≡ old

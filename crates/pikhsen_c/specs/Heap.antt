@@ -1,9 +1,11 @@
 -- What a call asked of the heap, and how much work it did, by the number that it answers. Each call of `HashMemory` or
 -- `CallMemory` is one request: how many of each kind were granted, and refused.
 use Rattle.std.specs.Prelude.{◌≡◌, ◌≢◌, ◌⊎◌, ℕ, ◌+◌, Bool, true, false, List, None}
+use Rattle.argon.specs.Counts.{work}
+use Rattle.argon.specs.Parameters.{Parameters}
 use Rattle.argon_text.specs.EncodedText.{IsEncodedTextOf}
 use Rattle.argon_text.specs.Value.{IsEncodableValue, Value}
-use Rattle.pikhsen_c.specs.Argon2.{HasKeyedVerifyFault}
+use Rattle.pikhsen_c.specs.Argon2.{CountsWorkToVerify, HasKeyedVerifyFault}
 use Rattle.pikhsen_c.specs.Status.{mismatch_status, out_of_memory_status, wrong_buffer_status, wrong_passphrase_status}
 use Rattle.pikhsen_c.specs.declared.heap.Heap.{Heap}
 use Rattle.pikhsen_c.specs.declared.heap.RequestCounts.{RequestCounts}
@@ -108,3 +110,54 @@ pub record CountsWorkUnlessEarly (IsLate : Type 0) (work status before after : �
   pub no_work : status ≢ 0 → (IsLate → ⊥) → after ≡ before
   pub count : status ≡ 0 → after ≡ before + work
   pub count_if_late : IsLate → after ≡ before + work
+
+-- ---- what a call did with the machine that it was handed: what it asked of the heap, and which work it did
+
+-- a derivation, for the memory of one and with its cores alone
+pub record DerivesAtMostOnce (cores status : ℕ) (before after : Machine) : Type 0 where
+  pub asked : RequestsMemoryAtMostOnce (after_workspace_request before.heap) status before.heap after.heap
+  pub no_blocks : after.blocks ≡ before.blocks
+  pub works : CountsWorkOnce cores status before.cores after.cores
+
+-- the same where a file is opened and some numbers are told late
+pub record OpensAtMostOnce (IsLate : Type 0) (cores status : ℕ) (before after : Machine) : Type 0 where
+  pub asked : RequestsMemoryUnlessEarly IsLate (after_workspace_request before.heap) status before.heap after.heap
+  pub no_blocks : after.blocks ≡ before.blocks
+  pub works : CountsWorkUnlessEarly IsLate cores status before.cores after.cores
+
+-- the same where a stream begins to encrypt, for whose state memory is asked before
+pub record BeginsEncryptionAtMostOnce (cores status : ℕ) (before after : Machine) : Type 0 where
+  pub asked : RequestsMemoryToStart status before.heap after.heap
+  pub no_blocks : after.blocks ≡ before.blocks
+  pub works : CountsWorkOnce cores status before.cores after.cores
+
+-- the same where it begins to decrypt: that the passphrase is wrong is told after the derivation
+pub record BeginsDecryptionAtMostOnce (cores status : ℕ) (before after : Machine) : Type 0 where
+  pub asked : RequestsMemoryToStart status before.heap after.heap
+  pub no_blocks : after.blocks ≡ before.blocks
+  pub works : CountsWorkUnlessEarly (status ≡ wrong_passphrase_status) cores status before.cores after.cores
+
+-- a hash, for the memory of one and with its block functions alone
+pub record HashesAtMostOnce (parameters : Parameters) (status : ℕ) (before after : Machine) : Type 0 where
+  pub asked : RequestsMemoryAtMostOnce (after_matrix_request before.heap) status before.heap after.heap
+  pub no_cores : after.cores ≡ before.cores
+  pub works : CountsWorkOnce (work parameters) status before.blocks after.blocks
+
+-- the same of an encoded text, for which memory is asked before; `first` is the number of what refuses it, or 0
+pub record EncodesAtMostOnce (parameters : Parameters) (first status : ℕ) (before after : Machine) : Type 0 where
+  pub asked : RequestsMemoryForTextAndHash (after_text_request before.heap) after_matrix_request first status before.heap after.heap
+  pub no_cores : after.cores ≡ before.cores
+  pub works : CountsWorkOnce (work parameters) status before.blocks after.blocks
+
+-- the test of a password against a text, with a secret and associated data of these lengths
+pub record TestsAtMostOnce (text password : List ℕ) (secret_len associated_len max_kib max_ops status : ℕ) (before after : Machine)
+    : Type 0 where
+  pub asked : RequestsMemoryToVerify (after_reading_request before.heap) (λ heap _ granted. after_matrix_request heap granted)
+      text password secret_len associated_len max_kib max_ops status after.heap
+  pub no_cores : after.cores ≡ before.cores
+  pub works : CountsWorkToVerify text password max_ops status before.blocks after.blocks
+
+-- the reading of a text's settings, without work
+pub record ReadsOnce (status : ℕ) (before after : Machine) : Type 0 where
+  pub asked : RequestsMemoryToRead status before.heap after.heap
+  pub no_work : DoesNoWork before after

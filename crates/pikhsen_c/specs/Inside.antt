@@ -2,3 +2,4 @@
 pub mod Numbers
 pub mod StreamState
 pub mod Settings
+pub mod File

@@ -127,12 +127,14 @@ abbrev pub first_nonzero_status : ℕ → ℕ → ℕ
 first_nonzero_status first second = if first == 0 then second else first
 
 -- the number is that of the first refusal, or 0 where nothing is refused; or memory was refused, which was asked for
--- where nothing else is refused
-pub record ReturnsFirstStatus (first status : ℕ) : Type 0 where
+-- where nothing else is refused. At any refusal what a caller handed in stays as it was
+pub record RefusesByFirst {T : Type 0} (first status : ℕ) (before after : T) : Type 0 where
   pub fault : status ≢ out_of_memory_status → status ≡ first
   pub memory : status ≡ out_of_memory_status → first ≡ 0
+  pub untouched : IsUnchangedIfRefused status before after
 
--- the same of a file that is opened, where some numbers are told late, after memory was granted
+-- the number is that of the first refusal of a file that is opened, where some numbers are told late, after memory was
+-- granted
 pub record ReturnsFirstOrLateStatus (IsLate : Type 0) (first status : ℕ) : Type 0 where
   pub fault : status ≢ out_of_memory_status → (IsLate → ⊥) → status ≡ first
   pub memory : status ≡ out_of_memory_status → first ≡ 0

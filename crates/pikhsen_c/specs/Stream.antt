@@ -1,11 +1,11 @@
 -- What contracts see of a stream between calls, and what the calls make of it.
-use Rattle.std.specs.Prelude.{◌≡◌, ◌==◌, ℕ, ◌+◌, ◌^◌, ◌<◌, ◌++◌, not, nat_lt, List, length, Option, Some, None, if◌then◌else◌}
+use Rattle.std.specs.Prelude.{◌≡◌, ◌≢◌, ◌==◌, ℕ, ◌+◌, ◌^◌, ◌<◌, ◌≤◌, ◌++◌, not, nat_lt, List, [], length, take, drop, Option, Some, None, if◌then◌else◌}
 use Rattle.romix.specs.Costs.{Parameters}
-use Rattle.encfile.specs.EncryptedFile.{IsEncryptionOf, body, encrypted_file, released_text}
+pub use Rattle.encfile.specs.EncryptedFile.{HasRightHeaderHmac, IsEncryptionOf, body, encrypted_file, released_text}
 use Rattle.encfile.specs.Encrypting.{HasEncrypted}
-use Rattle.encfile.specs.Decrypting.{DecryptionHasRead}
+use Rattle.encfile.specs.Decrypting.{DecryptionHasRead, HasHeldBytesAfter}
 use Rattle.pikhsen_c.specs.File.{encrypt_status, header_and_limits_status}
-use Rattle.pikhsen_c.specs.Status.{wrong_stream_state_status, short_file_status}
+use Rattle.pikhsen_c.specs.Status.{damaged_status, short_file_status, wrong_passphrase_status, wrong_stream_state_status, IsUnchangedIfRefused, ReturnsNoLengthIfRefused}
 use Rattle.pikhsen_c.specs.declared.stream.StreamState.{StreamState}
 use Rattle.pikhsen_c.specs.declared.stream.StreamState.TheVariants as running
 use Rattle.pikhsen_c.specs.declared.stream.PikhsenStream.{PikhsenStream}
@@ -60,6 +60,30 @@ decrypt_start_status runs front keep max_bytes max_ops =
     else if nat_lt (length front) 96 then short_file_status
     else header_and_limits_status front keep max_bytes max_ops
 
+-- a stream has begun to read the file of these first bytes, whose passphrase is right; or it is told that this is wrong
+pub record BeginsToRead (stream : PikhsenStream) (passphrase front : List ℕ) (status : ℕ) : Type 0 where
+  pub begun : status ≡ 0 → StreamHasRead stream passphrase (take 96 front)
+  pub nothing : status ≡ 0 → released_text (take 96 front) passphrase ≡ []
+  pub right : status ≡ 0 → HasRightHeaderHmac (take 96 front) passphrase
+  pub wrong : status ≡ wrong_passphrase_status → HasRightHeaderHmac (take 96 front) passphrase → ⊥
+
+-- ---- what the other calls tell of a stream
+
+-- where what runs is not wanted, the number says so; any other refusal has one number
+pub record TellsOfStream (wanted runs refusal status : ℕ) : Type 0 where
+  pub other : runs ≢ wanted → status ≡ wrong_stream_state_status
+  pub late : runs ≡ wanted → status ≢ 0 → status ≡ refusal
+
+-- nothing runs, and nothing is kept
+pub record IsOver (stream : PikhsenStream) : Type 0 where
+  pub idle : stream.runs ≡ 0
+  pub empty : stream.kept.value ≡ None
+
+-- the stream has ended, or is left as it was
+pub record EndsStream (IsEnd IsRefusal : Type 0) (before after : PikhsenStream) : Type 0 where
+  pub over : IsEnd → IsOver after
+  pub unchanged : IsRefusal → after ≡ before
+
 -- ---- what the calls make of an encryption, of which a predicate says what it has encrypted so far
 
 abbrev Of : Type 1
@@ -80,6 +104,13 @@ AreNextFileBytes Had piece bytes = (passphrase salt : List ℕ) (costs : Paramet
 abbrev pub EncryptsUnlessTextTooLong : Of → ℕ → ℕ → Type 0
 EncryptsUnlessTextTooLong Had more status = (passphrase salt : List ℕ) (costs : Parameters) (text : List ℕ)
     → Had passphrase salt costs text → length text + more < 2 ^ 60 → status ≡ 0
+
+-- a piece of the text is encrypted in place, to the next bytes of the file; where it would be too long, it stays
+pub record EncryptsPiece (Had Has : Of) (before after : List ℕ) (status : ℕ) : Type 0 where
+  pub fed : status ≡ 0 → EncryptsNextPiece Had Has before
+  pub written : status ≡ 0 → AreNextFileBytes Had before after
+  pub fits : EncryptsUnlessTextTooLong Had (length before) status
+  pub untouched : IsUnchangedIfRefused status before after
 
 -- these bytes are the last of the file
 abbrev pub AreLastFileBytes : Of → List ℕ → Type 0
@@ -103,12 +134,30 @@ abbrev pub ReadsUnlessFileTooLong : (List ℕ → List ℕ → Type 0) → ℕ �
 ReadsUnlessFileTooLong Had more status = (passphrase file : List ℕ) → Had passphrase file
     → length file + more < 2 ^ 60 + 128 → status ≡ 0
 
+-- a piece of the file is read, which releases so many bytes of text, the first of a buffer; after them come those that
+-- are held, and then what stood there before. Where the file would be too long, the buffer stays
+pub record ReadsPiece (Had Has : List ℕ → List ℕ → Type 0) (piece old new : List ℕ) (count status : ℕ) : Type 0 where
+  pub read : status ≡ 0 → ReadsNextPiece Had Has piece
+  pub released : status ≡ 0 → IsNextReleasedText Had piece (take count new)
+  pub held : status ≡ 0
+      → (passphrase file : List ℕ) → Had passphrase file → HasHeldBytesAfter count (file ++ piece) old new
+  pub within : status ≡ 0 → count ≤ length piece
+  pub rest : status ≡ 0 → drop (length piece + 32) new ≡ drop (length piece + 32) old
+  pub fits : length piece + 32 ≤ length old → ReadsUnlessFileTooLong Had (length piece) status
+  pub untouched : IsUnchangedIfRefused status old new
+  pub nothing : ReturnsNoLengthIfRefused status count
+
 -- the file is an encryption of the text that was released
 abbrev pub IsEncryptionOfReleasedText : (List ℕ → List ℕ → Type 0) → Type 0
 IsEncryptionOfReleasedText Had = (passphrase file : List ℕ) → Had passphrase file
     → IsEncryptionOf file passphrase (released_text file passphrase)
 
 -- the file is no encryption of the text that was released
-abbrev pub IsDamaged : (List ℕ → List ℕ → Type 0) → Type 0
-IsDamaged Had = (passphrase file : List ℕ) → Had passphrase file
+abbrev pub IsNoEncryptionOfReleasedText : (List ℕ → List ℕ → Type 0) → Type 0
+IsNoEncryptionOfReleasedText Had = (passphrase file : List ℕ) → Had passphrase file
     → IsEncryptionOf file passphrase (released_text file passphrase) → ⊥
+
+-- the number says whether the file is an encryption of the text that was released
+pub record JudgesFile (Had : List ℕ → List ℕ → Type 0) (status : ℕ) : Type 0 where
+  pub whole : status ≡ 0 → IsEncryptionOfReleasedText Had
+  pub damaged : status ≡ damaged_status → IsNoEncryptionOfReleasedText Had

@@ -1,15 +1,13 @@
 //! Hashes by Argon2.
-ghost use Rattle.std.specs.Prelude.{◌≡◌, ◌^◌, ◌<◌, length, Ok, IfSome, IfOk, IfErr, OnOk, None};
-ghost use Rattle.argon.specs.Argon2.{argon2_tag};
-ghost use Rattle.argon.specs.Counts.{work};
+ghost use Rattle.std.specs.Prelude.{◌≡◌, ◌^◌, ◌<◌, length, Ok, IfSome, IfOk, OnOk, None};
 ghost use Rattle.argon.specs.Inputs.{inputs_of};
 ghost use Rattle.argon.specs.Kind.{type_number};
 ghost use Rattle.argon.specs.Range.{IsInRangeWithAnyPassword, admission};
-ghost use Rattle.pikhsen_c.specs.Argon2.{hash_status, inputs_given, kind_numbered, limits_status, parameters_of_numbers, params_status};
-ghost use Rattle.pikhsen_c.specs.Heap.{RequestsMemoryAtMostOnce, CountsWorkOnce, after_matrix_request};
-ghost use Rattle.pikhsen_c.specs.Inside.Numbers.{IsEarly, status_of_result};
+ghost use Rattle.pikhsen_c.specs.Argon2.{argon2_tag, hash_status, inputs_given, kind_numbered, limits_status, parameters_of_numbers, params_status, work};
+ghost use Rattle.pikhsen_c.specs.Heap.{CountsWorkOnce, HashesAtMostOnce, RequestsMemoryAtMostOnce};
+ghost use Rattle.pikhsen_c.specs.Inside.Numbers.{RefusesEarly};
 ghost use Rattle.pikhsen_c.specs.Inside.Settings.{hash_refusal, parameters_of};
-ghost use Rattle.pikhsen_c.specs.Status.{ReturnsFirstStatus, IsUnchangedIfRefused};
+ghost use Rattle.pikhsen_c.specs.Status.{RefusesByFirst};
 
 use crate::call_memory::CallMemory;
 use crate::machine::Machine;
@@ -85,8 +83,7 @@ pub(crate) fn kind_of(number: u32) -> Option<Kind>
 fn params_of(settings: &Settings, tag_len: usize, inputs: &Inputs<'_>) -> Result<Params, u32>
     ensures parameters { IfOk result (λ params. params ≡ parameters_of settings.now tag_len inputs.now) }
     ensures in_range { IfOk result IsInRangeWithAnyPassword }
-    ensures status { params_status (parameters_of settings.now tag_len inputs.now) ≡ status_of_result result }
-    ensures early { IfErr result IsEarly }
+    ensures refusal { RefusesEarly (params_status (parameters_of settings.now tag_len inputs.now)) result }
 {
     let Some(kind) = kind_of(settings.kind) else {
         return Err(status::KIND);
@@ -112,8 +109,7 @@ fn params_of(settings: &Settings, tag_len: usize, inputs: &Inputs<'_>) -> Result
 // Whether the limits admit the parameters, or the number of the first fault.
 fn admitted(params: &Params, limits: &HashLimits) -> Result<(), u32>
     ensures admitted { OnOk result (admission params.now limits.now.max_kib limits.now.max_ops ≡ Ok tt) }
-    ensures status { limits_status params.now limits.now.max_kib limits.now.max_ops ≡ status_of_result result }
-    ensures early { IfErr result IsEarly }
+    ensures refusal { RefusesEarly (limits_status params.now limits.now.max_kib limits.now.max_ops) result }
 {
     match params.admitted(limits.max_kib, limits.max_ops) {
         Ok(()) => Ok(()),
@@ -133,8 +129,7 @@ pub(crate) fn checked_argon2_params(
         admission params settings.now.limits.max_kib settings.now.limits.max_ops ≡ Ok tt) }
     ensures secret { OnOk result (length inputs.now.secret.now < 2 ^ 32) }
     ensures associated { OnOk result (length inputs.now.associated.now < 2 ^ 32) }
-    ensures status { hash_refusal settings.now tag_len inputs.now ≡ status_of_result result }
-    ensures early { IfErr result IsEarly }
+    ensures refusal { RefusesEarly (hash_refusal settings.now tag_len inputs.now) result }
 {
     let params = match params_of(settings, tag_len, inputs) {
         Ok(params) => params,
@@ -160,8 +155,7 @@ fn hash_in<S: CallMemory>(
 ) -> u32
     ensures tag { result ≡ 0
         → out.new ≡ argon2_tag (parameters_of settings.now (length out.old) inputs.now) (inputs_of inputs.now) }
-    ensures first { ReturnsFirstStatus (hash_refusal settings.now (length out.old) inputs.now) result }
-    ensures untouched { IsUnchangedIfRefused result out.old out.new }
+    ensures refusal { RefusesByFirst (hash_refusal settings.now (length out.old) inputs.now) result out.old out.new }
     // Nothing is asked of the source before every other refusal is ruled out, and then the matrix alone, under the
     // caller's own limits; want of memory is told where that was refused, and only there.
     ensures asked { RequestsMemoryAtMostOnce (S.after_matrix source.old (parameters_of settings.now (length out.old) inputs.now)
@@ -204,17 +198,11 @@ pub extern "C" fn pikhsen_argon2_hash(
         (length out.old) (length salt.now) (length password.now))
         (inputs_given password.now salt.now secret.now associated.now) }
     // Memory is asked for, and refused, only where nothing else is.
-    ensures first { ReturnsFirstStatus (hash_status (parameters_of_numbers kind version passes lanes memory_kib
+    ensures refusal { RefusesByFirst (hash_status (parameters_of_numbers kind version passes lanes memory_kib
         (length out.old) (length salt.now) (length password.now))
-        (length secret.now) (length associated.now) max_kib max_ops) result.status }
-    ensures untouched { IsUnchangedIfRefused result.status out.old out.new }
-    // What was asked of the heap.
-    ensures asked { RequestsMemoryAtMostOnce (after_matrix_request machine.heap) result.status machine.heap result.machine.heap }
-    ensures no_cores { result.machine.cores ≡ machine.cores }
-    // No hash begins before every refusal is ruled out, and then one.
-    ensures works { CountsWorkOnce (work (parameters_of_numbers kind version passes lanes memory_kib
-        (length out.old) (length salt.now) (length password.now)))
-        result.status machine.blocks result.machine.blocks }
+        (length secret.now) (length associated.now) max_kib max_ops) result.status out.old out.new }
+    ensures machine { HashesAtMostOnce (parameters_of_numbers kind version passes lanes memory_kib
+        (length out.old) (length salt.now) (length password.now)) result.status machine result.machine }
 {
     let mut machine = machine;
     let settings = Settings::new(kind, version, passes, memory_kib, lanes, max_kib, max_ops);
@@ -224,12 +212,12 @@ pub extern "C" fn pikhsen_argon2_hash(
         secret,
         associated,
     };
-    let told = hash_in(
+    let status = hash_in(
         &mut machine.heap,
         &settings,
         &inputs,
         out,
         &mut machine.blocks,
     );
-    wipe_stack(told, machine)
+    wipe_stack(status, machine)
 }

@@ -1,13 +1,11 @@
 //! Where memory comes from: the heap, or any other source, for which the functions that do the work are proved too.
 ghost use Rattle.std.specs.Prelude.{◌≡◌, ◌^◌, ℕ, Bool, true, List, is_ok, length, IfOk, IfErr, OnOk, IsErrOf};
-ghost use Rattle.argon.specs.Parameters.{Parameters};
 ghost use Rattle.argon.specs.Range.{IsInRangeWithAnyPassword};
 ghost use Rattle.argon_text.specs.EncodedText.{IsEncodedTextOf};
 ghost use Rattle.argon_text.specs.Grammar.{HasWellFormedNumbers, IsEncodedText, IsEncodedTextInRange};
-ghost use Rattle.argon_text.specs.Value.{IsEncodableValue};
 ghost use Rattle.argon_text.specs.View.{value_of};
 ghost use Rattle.romix.specs.SparseCosts.{SparseFitsMemory, CostsAndKeep};
-ghost use Rattle.pikhsen_c.specs.Argon2.{encoded_text_with_zero_tag};
+ghost use Rattle.pikhsen_c.specs.Argon2.{IsEncodableValue, Parameters, encoded_text_with_zero_tag};
 ghost use Rattle.pikhsen_c.specs.Inside.Numbers.{had_memory_to_read};
 ghost use Rattle.pikhsen_c.specs.Scrypt.{limits_status};
 

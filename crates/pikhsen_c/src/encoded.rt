@@ -1,12 +1,10 @@
 //! Encoded texts of hashes by Argon2.
-ghost use Rattle.std.specs.Prelude.{◌≡◌, ◌≢◌, ◌+◌, ◌++◌, ◌<◌, ◌≤◌, ◌∷◌, [], length, take, drop};
-ghost use Rattle.argon.specs.Counts.{work};
+ghost use Rattle.std.specs.Prelude.{◌≡◌, ◌+◌, ◌<◌, ◌≤◌, length};
 ghost use Rattle.argon.specs.Inputs.{InputsFitParameters, inputs_of};
-ghost use Rattle.pikhsen_c.specs.Argon2.{encoded_hash, encoded_keyed_hash, encoded_keyed_status, hash_to_encoded_status, hash_status, parameters_of_numbers, encoded_text_with_zero_tag};
-ghost use Rattle.pikhsen_c.specs.Heap.{RequestsMemoryForTextAndHash, CountsWorkOnce, after_matrix_request, after_text_request};
-ghost use Rattle.pikhsen_c.specs.Inside.Settings.{encoded_text_of, encoding_refusal, hash_refusal, parameters_of};
+ghost use Rattle.pikhsen_c.specs.Argon2.{RefusesEncoding, encoded_hash, encoded_keyed_hash, encoded_keyed_status, encoded_text_with_zero_tag, hash_to_encoded_status, parameters_of_numbers, work};
+ghost use Rattle.pikhsen_c.specs.Heap.{CountsWorkOnce, EncodesAtMostOnce, RequestsMemoryForTextAndHash};
+ghost use Rattle.pikhsen_c.specs.Inside.Settings.{encoded_text_of, encoding_refusal, parameters_of};
 ghost use Rattle.pikhsen_c.specs.Message.{IsWrittenAsCString};
-ghost use Rattle.pikhsen_c.specs.Status.{out_of_memory_status, IsUnchangedIfRefused, ReturnsNoLengthIfRefused};
 
 use crate::argon2::{Settings, checked_argon2_params};
 use crate::call_memory::CallMemory;
@@ -41,9 +39,7 @@ fn hash_into(
 /// Copies a text to the front, and a byte 0 after it.
 pub(crate) fn copy_text(text: &[u8], out: &mut [u8])
     requires room { length text.now < length out.old }
-    ensures text { take (length text.now) out.new ≡ text.now }
-    ensures end { take (length text.now + 1) out.new ≡ text.now ++ 0 ∷ [] }
-    ensures rest { drop (length text.now + 1) out.new ≡ drop (length text.now + 1) out.old }
+    ensures written { IsWrittenAsCString text.now (length text.now) out.old out.new }
 {
     out[..text.len()].copy_from_slice(text);
     out[text.len()] = 0;
@@ -62,10 +58,9 @@ pub(crate) fn encode_in<S: CallMemory>(
 ) -> u32
     ensures written { result ≡ 0 → IsWrittenAsCString (encoded_text_of (parameters_of settings.now tag_len inputs.now) inputs.now)
         text_len.new out.old out.new }
-    ensures status { result ≢ out_of_memory_status → result ≡ encoding_refusal settings.now tag_len inputs.now (length out.old) }
-    ensures memory { result ≡ out_of_memory_status → hash_refusal settings.now tag_len inputs.now ≡ 0 }
-    ensures untouched { IsUnchangedIfRefused result out.old out.new }
-    ensures nothing { ReturnsNoLengthIfRefused result text_len.new }
+    ensures refusal { RefusesEncoding (parameters_of settings.now tag_len inputs.now) inputs.now.salt.now
+        (length inputs.now.secret.now) (length inputs.now.associated.now)
+        settings.now.limits.max_kib settings.now.limits.max_ops result text_len.new out.old out.new }
     // Nothing is asked of the source before settings, lengths and limits are tested. That the buffer is too small is
     // told after the text alone was asked for, and granted; otherwise the matrix alone, under the caller's own
     // limits.
@@ -117,23 +112,13 @@ pub extern "C" fn pikhsen_argon2_encoded(
     ensures written { result.status ≡ 0 → IsWrittenAsCString (encoded_hash (parameters_of_numbers kind version passes lanes
         memory_kib tag_len (length salt.now) (length password.now))
         password.now salt.now) text_len.new out.old out.new }
-    ensures status { result.status ≢ out_of_memory_status → result.status
-        ≡ hash_to_encoded_status (parameters_of_numbers kind version passes lanes memory_kib
-        tag_len (length salt.now) (length password.now)) salt.now max_kib max_ops (length out.old) }
-    // Memory is asked for, and refused, only where the settings are not.
-    ensures memory { result.status ≡ out_of_memory_status → hash_status (parameters_of_numbers kind version passes lanes
-        memory_kib tag_len (length salt.now) (length password.now)) 0 0 max_kib max_ops ≡ 0 }
-    ensures untouched { IsUnchangedIfRefused result.status out.old out.new }
-    ensures nothing { ReturnsNoLengthIfRefused result.status text_len.new }
-    // What was asked of the heap.
-    ensures asked { RequestsMemoryForTextAndHash (after_text_request machine.heap) after_matrix_request
-        (hash_to_encoded_status (parameters_of_numbers kind version passes lanes memory_kib
-        tag_len (length salt.now) (length password.now)) salt.now max_kib max_ops (length out.old))
-        result.status machine.heap result.machine.heap }
-    ensures no_cores { result.machine.cores ≡ machine.cores }
-    // No hash begins before every refusal is ruled out, and then one.
-    ensures works { CountsWorkOnce (work (parameters_of_numbers kind version passes lanes memory_kib
-        tag_len (length salt.now) (length password.now))) result.status machine.blocks result.machine.blocks }
+    ensures refusal { RefusesEncoding (parameters_of_numbers kind version passes lanes memory_kib
+        tag_len (length salt.now) (length password.now)) salt.now 0 0 max_kib max_ops
+        result.status text_len.new out.old out.new }
+    ensures machine { let parameters = parameters_of_numbers kind version passes lanes memory_kib
+        tag_len (length salt.now) (length password.now) in
+        EncodesAtMostOnce parameters (hash_to_encoded_status parameters salt.now max_kib max_ops (length out.old))
+        result.status machine result.machine }
 {
     pikhsen_argon2_encoded_keyed(
         machine,
@@ -177,26 +162,14 @@ pub extern "C" fn pikhsen_argon2_encoded_keyed(
     ensures written { result.status ≡ 0 → IsWrittenAsCString (encoded_keyed_hash (parameters_of_numbers kind version passes lanes
         memory_kib tag_len (length salt.now) (length password.now))
         password.now salt.now secret.now associated.now) text_len.new out.old out.new }
-    ensures status { result.status ≢ out_of_memory_status → result.status
-        ≡ encoded_keyed_status (parameters_of_numbers kind version passes lanes memory_kib
-        tag_len (length salt.now) (length password.now)) salt.now
-        (length secret.now) (length associated.now) max_kib max_ops (length out.old) }
-    // Memory is asked for, and refused, only where nothing but the buffer is refused.
-    ensures memory { result.status ≡ out_of_memory_status → hash_status (parameters_of_numbers kind version passes lanes
-        memory_kib tag_len (length salt.now) (length password.now))
-        (length secret.now) (length associated.now) max_kib max_ops ≡ 0 }
-    ensures untouched { IsUnchangedIfRefused result.status out.old out.new }
-    ensures nothing { ReturnsNoLengthIfRefused result.status text_len.new }
-    // What was asked of the heap.
-    ensures asked { RequestsMemoryForTextAndHash (after_text_request machine.heap) after_matrix_request
-        (encoded_keyed_status (parameters_of_numbers kind version passes lanes memory_kib
-        tag_len (length salt.now) (length password.now)) salt.now
-        (length secret.now) (length associated.now) max_kib max_ops (length out.old))
-        result.status machine.heap result.machine.heap }
-    ensures no_cores { result.machine.cores ≡ machine.cores }
-    // No hash begins before every refusal is ruled out, and then one.
-    ensures works { CountsWorkOnce (work (parameters_of_numbers kind version passes lanes memory_kib
-        tag_len (length salt.now) (length password.now))) result.status machine.blocks result.machine.blocks }
+    ensures refusal { RefusesEncoding (parameters_of_numbers kind version passes lanes memory_kib
+        tag_len (length salt.now) (length password.now)) salt.now (length secret.now) (length associated.now) max_kib max_ops
+        result.status text_len.new out.old out.new }
+    ensures machine { let parameters = parameters_of_numbers kind version passes lanes memory_kib
+        tag_len (length salt.now) (length password.now) in
+        EncodesAtMostOnce parameters
+        (encoded_keyed_status parameters salt.now (length secret.now) (length associated.now) max_kib max_ops (length out.old))
+        result.status machine result.machine }
 {
     let mut machine = machine;
     let settings = Settings::new(kind, version, passes, memory_kib, lanes, max_kib, max_ops);
@@ -206,7 +179,7 @@ pub extern "C" fn pikhsen_argon2_encoded_keyed(
         secret,
         associated,
     };
-    let told = encode_in(
+    let status = encode_in(
         &mut machine.heap,
         &settings,
         &inputs,
@@ -215,5 +188,5 @@ pub extern "C" fn pikhsen_argon2_encoded_keyed(
         text_len,
         &mut machine.blocks,
     );
-    wipe_stack(told, machine)
+    wipe_stack(status, machine)
 }

@@ -1,17 +1,13 @@
 //! scrypt's encrypted files, whole in memory.
-ghost use Rattle.std.specs.Prelude.{◌≡◌, ◌≢◌, ℕ, ◌+◌, ◌-◌, ◌^◌, ◌<◌, ◌≤◌, List, [], length, replicate, take, drop, IfOk, IfErr, OnOk, OnErr};
-ghost use Rattle.romix.specs.Costs.{Parameters};
-ghost use Rattle.encfile.specs.Decrypting.{DecryptionHasRead};
-ghost use Rattle.encfile.specs.EncryptedFile.{HasRightHeaderHmac, IsEncryptionOf, encrypted_file, released_text};
+ghost use Rattle.std.specs.Prelude.{◌≡◌, ℕ, ◌+◌, ◌-◌, ◌^◌, ◌<◌, ◌≤◌, List, [], length, take, drop, IfOk, IfErr, OnOk, OnErr};
 ghost use Rattle.encfile.specs.Encrypting.{HasEncrypted};
-ghost use Rattle.encfile.specs.Header.{IsHeaderOf, costs_of, salt_of};
-ghost use Rattle.encfile.specs.HeaderFaults.{header_fault};
-ghost use Rattle.pikhsen_c.specs.File.{salsa20_cores_to_open, encrypt_status, front_status, header_status, lengths_status, number_of};
-ghost use Rattle.pikhsen_c.specs.Heap.{RequestsMemoryAtMostOnce, RequestsMemoryUnlessEarly, CountsWorkOnce, CountsWorkUnlessEarly, after_workspace_request};
-ghost use Rattle.pikhsen_c.specs.Inside.Numbers.{IsEarly, status_of_result, IsRefusalStatus};
-ghost use Rattle.pikhsen_c.specs.Inside.Settings.{source_after_workspace_request, salsa20_cores_of_settings, costs_of_settings, encryption_refusal, front_refusal, length_of_text_to_encrypt, header_and_limits_status_of_settings, text_to_encrypt, HasFront};
+ghost use Rattle.pikhsen_c.specs.File.{HasRightHeaderHmac, IsEncryptionOf, IsFileVerdict, Parameters, WritesTextOfWholeFile, costs_of, encrypt_status, encrypted_file, front_status, header_fault, header_status, lengths_status, number_of, salsa20_cores_to_open};
+ghost use Rattle.pikhsen_c.specs.Heap.{CountsWorkOnce, CountsWorkUnlessEarly, DerivesAtMostOnce, OpensAtMostOnce};
+ghost use Rattle.pikhsen_c.specs.Inside.File.{BeginsWithHeader, FitsFile, HasFront, IsOpened, length_of_text_to_encrypt, text_to_encrypt};
+ghost use Rattle.pikhsen_c.specs.Inside.Numbers.{IsRefusalStatus, RefusesEarly, RefusesEarlyOrMemory, status_of_result};
+ghost use Rattle.pikhsen_c.specs.Inside.Settings.{RequestsWorkspaceAtMostOnce, RequestsWorkspaceToOpen, costs_of_settings, encryption_refusal, front_refusal, header_and_limits_status_of_settings, salsa20_cores_of_settings};
 ghost use Rattle.pikhsen_c.specs.Scrypt.{costs_of_numbers, costs_with_keep, salsa20_cores_of_numbers};
-ghost use Rattle.pikhsen_c.specs.Status.{ReturnsFirstStatus, ReturnsFirstOrLateStatus, damaged_status, long_text_status, wrong_passphrase_status, IsUnchangedIfRefused, ReturnsNoLengthIfRefused};
+ghost use Rattle.pikhsen_c.specs.Status.{IsUnchangedIfRefused, RefusesByFirst, ReturnsFirstOrLateStatus, wrong_passphrase_status};
 
 use crate::call_memory::CallMemory;
 use crate::machine::Machine;
@@ -33,9 +29,7 @@ pub struct PikhsenScryptCosts {
 // The header of a file of at least 64 bytes, or the number of the first fault.
 fn read_file_header(file: &[u8]) -> Result<Header, u32>
     requires long { 64 ≤ length file.now }
-    ensures header { IfOk result (λ header. IsHeaderOf (take 64 file.now) header) }
-    ensures costs { IfOk result (λ header. header.costs ≡ costs_of (take 64 file.now)) }
-    ensures salt { IfOk result (λ header. header.salt ≡ salt_of (take 64 file.now)) }
+    ensures header { IfOk result (λ header. BeginsWithHeader file.now header) }
     ensures status { number_of (header_fault (take 64 file.now)) ≡ status_of_result result }
     ensures at_least_22 { IfErr result (λ status. 22 ≤ status) }
     ensures below { IfErr result (λ status. status ≤ 25) }
@@ -74,11 +68,9 @@ pub extern "C" fn pikhsen_scrypt_info(file: &[u8], costs: &mut PikhsenScryptCost
 
 // Whether salt, text and file have lengths that fit, or the number of the first fault.
 fn check_lengths(salt: &[u8], text_len: usize, out_len: usize) -> Result<(), u32>
-    ensures status { lengths_status (length salt.now) text_len out_len ≡ status_of_result result }
+    ensures refusal { RefusesEarly (lengths_status (length salt.now) text_len out_len) result }
     ensures salt { OnOk result (length salt.now ≡ 32) }
-    ensures text { OnOk result (text_len < 2 ^ 60) }
-    ensures room { OnOk result (out_len ≡ text_len + 128) }
-    ensures early { IfErr result IsEarly }
+    ensures fits { OnOk result (FitsFile text_len out_len) }
 {
     if salt.len() != 32 {
         return Err(status::FILE_SALT);
@@ -99,8 +91,7 @@ pub(crate) fn check_encryption(
     text_len: usize,
     out_len: usize,
 ) -> Result<(), u32>
-    ensures status { encryption_refusal settings.now (length salt.now) text_len out_len ≡ status_of_result result }
-    ensures early { IfErr result IsEarly }
+    ensures refusal { RefusesEarly (encryption_refusal settings.now (length salt.now) text_len out_len) result }
 {
     let costs = costs_of(settings.log_n, settings.r, settings.p)?;
     check_lengths(salt, text_len, out_len)?;
@@ -120,14 +111,9 @@ pub(crate) fn start_encryption<S: CallMemory>(
     ticks: &mut Ticks,
 ) -> Result<Enc, u32>
     ensures begun { IfOk result (λ enc. HasEncrypted enc passphrase.now salt.now (costs_of_settings settings.now) []) }
-    ensures text { OnOk result (text_len < 2 ^ 60) }
-    ensures room { OnOk result (out_len ≡ text_len + 128) }
-    ensures first { ReturnsFirstStatus (encryption_refusal settings.now (length salt.now) text_len out_len)
-        (status_of_result result) }
-    ensures at_least_1 { IfErr result IsRefusalStatus }
-    // Nothing is asked of the source before every other refusal is ruled out, and then it is asked once.
-    ensures asked { RequestsMemoryAtMostOnce (source_after_workspace_request S.after_workspace settings.now.limits
-        (costs_of_settings settings.now) source.old)
+    ensures fits { OnOk result (FitsFile text_len out_len) }
+    ensures refusal { RefusesEarlyOrMemory (encryption_refusal settings.now (length salt.now) text_len out_len) result }
+    ensures asked { RequestsWorkspaceAtMostOnce S.after_workspace settings.now.limits (costs_of_settings settings.now)
         (status_of_result result) source.old source.new }
     // No derivation begins before every refusal is ruled out, and then one.
     ensures works { CountsWorkOnce (salsa20_cores_of_settings settings.now passphrase.now salt.now)
@@ -196,12 +182,9 @@ fn encrypt_in<S: CallMemory>(
 ) -> u32
     ensures file { result ≡ 0 → out.new
         ≡ encrypted_file passphrase.now salt.now (costs_of_settings settings.now) (text_to_encrypt text.entry out.old) }
-    ensures first { ReturnsFirstStatus (encryption_refusal settings.now (length salt.now)
-        (length_of_text_to_encrypt text.entry (length out.old)) (length out.old)) result }
-    ensures untouched { IsUnchangedIfRefused result out.old out.new }
-    // Nothing is asked of the source before every other refusal is ruled out, and then it is asked once.
-    ensures asked { RequestsMemoryAtMostOnce (source_after_workspace_request S.after_workspace settings.now.limits
-        (costs_of_settings settings.now) source.old)
+    ensures refusal { RefusesByFirst (encryption_refusal settings.now (length salt.now)
+        (length_of_text_to_encrypt text.entry (length out.old)) (length out.old)) result out.old out.new }
+    ensures asked { RequestsWorkspaceAtMostOnce S.after_workspace settings.now.limits (costs_of_settings settings.now)
         result source.old source.new }
     // No derivation begins before every refusal is ruled out, and then one.
     ensures works { CountsWorkOnce (salsa20_cores_of_settings settings.now passphrase.now salt.now) result ticks.old ticks.new }
@@ -238,19 +221,14 @@ pub extern "C" fn pikhsen_scrypt_encrypt(
     ensures file { result.status ≡ 0
         → out.new ≡ encrypted_file passphrase.now salt.now (costs_of_numbers log_n r p) text.now }
     // Memory is asked for, and refused, only where nothing else is.
-    ensures first { ReturnsFirstStatus (encrypt_status (costs_of_numbers log_n r p) keep max_bytes max_ops
-        (length salt.now) (length text.now) (length out.old)) result.status }
-    ensures untouched { IsUnchangedIfRefused result.status out.old out.new }
-    // What was asked of the heap.
-    ensures asked { RequestsMemoryAtMostOnce (after_workspace_request machine.heap) result.status machine.heap result.machine.heap }
-    ensures no_blocks { result.machine.blocks ≡ machine.blocks }
-    // No derivation begins before every refusal is ruled out, and then one.
-    ensures works { CountsWorkOnce (salsa20_cores_of_numbers passphrase.now salt.now log_n r p keep) result.status
-        machine.cores result.machine.cores }
+    ensures refusal { RefusesByFirst (encrypt_status (costs_of_numbers log_n r p) keep max_bytes max_ops
+        (length salt.now) (length text.now) (length out.old)) result.status out.old out.new }
+    ensures machine { DerivesAtMostOnce (salsa20_cores_of_numbers passphrase.now salt.now log_n r p keep) result.status
+        machine result.machine }
 {
     let mut machine = machine;
     let settings = ScryptCostsAndLimits::new(log_n, r, p, keep, max_bytes, max_ops);
-    let told = encrypt_in(
+    let status = encrypt_in(
         &mut machine.heap,
         &settings,
         passphrase,
@@ -259,7 +237,7 @@ pub extern "C" fn pikhsen_scrypt_encrypt(
         out,
         &mut machine.cores,
     );
-    wipe_stack(told, machine)
+    wipe_stack(status, machine)
 }
 
 /// The file of the text that is all of `out` but its last 128 bytes, which need not be set. The file takes its place.
@@ -278,18 +256,15 @@ pub extern "C" fn pikhsen_scrypt_encrypt_in_place(
 ) -> Answer
     ensures file { result.status ≡ 0 → out.new ≡ encrypted_file passphrase.now salt.now (costs_of_numbers log_n r p)
         (take (length out.old - 128) out.old) }
-    ensures first { ReturnsFirstStatus (encrypt_status (costs_of_numbers log_n r p) keep max_bytes max_ops
-        (length salt.now) (length out.old - 128) (length out.old)) result.status }
     // The text stays where it is not encrypted.
-    ensures untouched { IsUnchangedIfRefused result.status out.old out.new }
-    ensures asked { RequestsMemoryAtMostOnce (after_workspace_request machine.heap) result.status machine.heap result.machine.heap }
-    ensures no_blocks { result.machine.blocks ≡ machine.blocks }
-    ensures works { CountsWorkOnce (salsa20_cores_of_numbers passphrase.now salt.now log_n r p keep) result.status
-        machine.cores result.machine.cores }
+    ensures refusal { RefusesByFirst (encrypt_status (costs_of_numbers log_n r p) keep max_bytes max_ops
+        (length salt.now) (length out.old - 128) (length out.old)) result.status out.old out.new }
+    ensures machine { DerivesAtMostOnce (salsa20_cores_of_numbers passphrase.now salt.now log_n r p keep) result.status
+        machine result.machine }
 {
     let mut machine = machine;
     let settings = ScryptCostsAndLimits::new(log_n, r, p, keep, max_bytes, max_ops);
-    let told = encrypt_in(
+    let status = encrypt_in(
         &mut machine.heap,
         &settings,
         passphrase,
@@ -298,7 +273,7 @@ pub extern "C" fn pikhsen_scrypt_encrypt_in_place(
         out,
         &mut machine.cores,
     );
-    wipe_stack(told, machine)
+    wipe_stack(status, machine)
 }
 
 // The first 96 bytes of a file.
@@ -314,8 +289,7 @@ fn front_of(file: &[u8]) -> [u8; 96]
 /// What a file is refused for before memory is asked for, if it is, by its number.
 pub(crate) fn check_header_and_limits(file: &[u8], limits: &ScryptLimits) -> Result<(), u32>
     requires long { HasFront file.now }
-    ensures status { header_and_limits_status_of_settings limits.now file.now ≡ status_of_result result }
-    ensures early { IfErr result IsEarly }
+    ensures refusal { RefusesEarly (header_and_limits_status_of_settings limits.now file.now) result }
 {
     let header = match read_file_header(file) {
         Ok(header) => header,
@@ -332,16 +306,12 @@ fn header_and_workspace<S: CallMemory>(
     file: &[u8],
 ) -> Result<(Header, Workspace), u32>
     requires long { HasFront file.now }
-    ensures header { IfOk result (λ both. IsHeaderOf (take 64 file.now) both.0) }
-    ensures costs { IfOk result (λ both. both.0.costs ≡ costs_of (take 64 file.now)) }
-    ensures salt { IfOk result (λ both. both.0.salt ≡ salt_of (take 64 file.now)) }
+    ensures header { IfOk result (λ both. BeginsWithHeader file.now both.0) }
     ensures sparse { IfOk result (λ both.
         both.1.sparse ≡ costs_with_keep (costs_of (take 64 file.now)) limits.now.keep) }
-    ensures first { ReturnsFirstStatus (header_and_limits_status_of_settings limits.now file.now) (status_of_result result) }
-    ensures at_least_1 { IfErr result IsRefusalStatus }
+    ensures refusal { RefusesEarlyOrMemory (header_and_limits_status_of_settings limits.now file.now) result }
     ensures below { IfErr result (λ status. status ≤ 25) }
-    // Nothing is asked of the source before header and limits are tested, and then it is asked once.
-    ensures asked { RequestsMemoryAtMostOnce (source_after_workspace_request S.after_workspace limits.now (costs_of (take 64 file.now)) source.old)
+    ensures asked { RequestsWorkspaceAtMostOnce S.after_workspace limits.now (costs_of (take 64 file.now))
         (status_of_result result) source.old source.new }
 {
     let header = match read_file_header(file) {
@@ -363,19 +333,15 @@ pub(crate) fn start_decryption<S: CallMemory>(
     ticks: &mut Ticks,
 ) -> Result<Dec, u32>
     requires long { HasFront file.now }
-    ensures opened { IfOk result (λ dec. DecryptionHasRead dec passphrase.now (take 96 file.now)) }
-    ensures nothing { OnOk result (released_text (take 96 file.now) passphrase.now ≡ []) }
-    ensures right { OnOk result (HasRightHeaderHmac (take 96 file.now) passphrase.now) }
+    ensures opened { IfOk result (λ dec. IsOpened file.now passphrase.now dec) }
     ensures wrong { IfErr result (λ status. status ≡ wrong_passphrase_status
         → HasRightHeaderHmac (take 96 file.now) passphrase.now → ⊥) }
     ensures first { ReturnsFirstOrLateStatus (status_of_result result ≡ wrong_passphrase_status)
         (header_and_limits_status_of_settings limits.now file.now) (status_of_result result) }
     ensures at_least_1 { IfErr result IsRefusalStatus }
     ensures below { IfErr result (λ status. status ≤ 27) }
-    // Nothing is asked of the source before header and limits are tested, and then it is asked once.
-    ensures asked { RequestsMemoryUnlessEarly (status_of_result result ≡ wrong_passphrase_status)
-        (source_after_workspace_request S.after_workspace limits.now (costs_of (take 64 file.now)) source.old)
-        (status_of_result result) source.old source.new }
+    ensures asked { RequestsWorkspaceToOpen (status_of_result result ≡ wrong_passphrase_status) S.after_workspace limits.now
+        file.now (status_of_result result) source.old source.new }
     // There is one derivation, after which the passphrase alone is refused.
     ensures works { CountsWorkUnlessEarly (status_of_result result ≡ wrong_passphrase_status)
         (salsa20_cores_to_open passphrase.now file.now limits.now.keep) (status_of_result result) ticks.old ticks.new }
@@ -395,22 +361,15 @@ pub(crate) fn start_decryption<S: CallMemory>(
 }
 
 // The text of a file whose first 96 bytes are read, at the front of `out`, if the file is whole.
-fn text_of(dec: Dec, file: &[u8], out: &mut [u8]) -> Result<usize, u32>
+fn decrypt_rest(dec: Dec, file: &[u8], out: &mut [u8]) -> Result<usize, u32>
     requires long { HasFront file.now }
     requires room { length file.now ≤ length out.old }
-    ensures whole { IfOk result (λ n. (passphrase : List ℕ) → DecryptionHasRead dec passphrase (take 96 file.now)
-        → released_text (take 96 file.now) passphrase ≡ []
+    ensures whole { IfOk result (λ n. (passphrase : List ℕ) → IsOpened file.now passphrase dec
         → IsEncryptionOf file.now passphrase (take n out.new)) }
-    ensures not_whole { IfErr result (λ status. status ≡ damaged_status
-        → (passphrase : List ℕ) → DecryptionHasRead dec passphrase (take 96 file.now)
-        → IsEncryptionOf file.now passphrase (released_text file.now passphrase) → ⊥) }
-    ensures too_long { IfErr result (λ status. status ≡ long_text_status
-        → (passphrase : List ℕ) → DecryptionHasRead dec passphrase (take 96 file.now)
-        → 2 ^ 60 + 128 ≤ length file.now) }
+    ensures verdict { IfErr result (λ status. (passphrase : List ℕ) → IsOpened file.now passphrase dec
+        → IsFileVerdict file.now passphrase status) }
     ensures at_least_28 { IfErr result (λ status. 28 ≤ status) }
-    ensures at_most_29 { IfErr result (λ status. status ≤ 29) }
     ensures within { IfOk result (λ n. n ≤ length out.new) }
-    ensures len { length out.new ≡ length out.old }
 {
     let mut dec = dec;
     let Ok(len) = dec.feed(&file[96..], out) else {
@@ -420,15 +379,6 @@ fn text_of(dec: Dec, file: &[u8], out: &mut [u8]) -> Result<usize, u32>
         Ok(()) => Ok(len),
         Err(_) => Err(status::DAMAGED),
     }
-}
-
-// Puts zeros after the first `len` bytes.
-fn zero_bytes_after_length(len: usize, out: &mut [u8])
-    requires within { len ≤ length out.old }
-    ensures front { take len out.new ≡ take len out.old }
-    ensures rest { drop len out.new ≡ replicate (length out.old - len) 0 }
-{
-    out[len..].fill(0);
 }
 
 // The text of a file, with memory from `source`: one request.
@@ -442,24 +392,12 @@ fn decrypt_in<S: CallMemory>(
     text_len: &mut usize,
     ticks: &mut Ticks,
 ) -> u32
-    ensures whole { result ≡ 0 → IsEncryptionOf file.now passphrase.now (take text_len.new out.new) }
-    ensures rest { result ≡ 0 → drop text_len.new out.new ≡ replicate (length out.old - text_len.new) 0 }
-    ensures nothing { ReturnsNoLengthIfRefused result text_len.new }
+    ensures text { WritesTextOfWholeFile file.now passphrase.now out.old out.new text_len.new result }
+    ensures verdict { IsFileVerdict file.now passphrase.now result }
     ensures first { ReturnsFirstOrLateStatus (wrong_passphrase_status ≤ result)
         (front_refusal limits.now file.now (length out.old)) result }
-    ensures wrong { result ≡ wrong_passphrase_status → HasRightHeaderHmac (take 96 file.now) passphrase.now → ⊥ }
-    ensures right { wrong_passphrase_status < result → HasRightHeaderHmac (take 96 file.now) passphrase.now }
-    ensures damaged { result ≡ damaged_status
-        → IsEncryptionOf file.now passphrase.now (released_text file.now passphrase.now) → ⊥ }
-    ensures too_long { result ≡ long_text_status → 2 ^ 60 + 128 ≤ length file.now }
-    ensures high { result ≤ 29 }
-    ensures zeros { wrong_passphrase_status < result → out.new ≡ replicate (length out.old) 0 }
-    ensures untouched { result ≢ 0 → result ≤ wrong_passphrase_status → out.new ≡ out.old }
-    // Nothing is asked of the source before buffer, header and limits are tested, and then it is asked once; want of
-    // memory is told where that was refused, and only there.
-    ensures asked { RequestsMemoryUnlessEarly (wrong_passphrase_status ≤ result)
-        (source_after_workspace_request S.after_workspace limits.now (costs_of
-        (take 64 file.now)) source.old) result source.old source.new }
+    ensures asked { RequestsWorkspaceToOpen (wrong_passphrase_status ≤ result) S.after_workspace limits.now file.now
+        result source.old source.new }
     // No derivation begins before these refusals are ruled out, and then one.
     ensures works { CountsWorkUnlessEarly (wrong_passphrase_status ≤ result)
         (salsa20_cores_to_open passphrase.now file.now limits.now.keep)
@@ -476,14 +414,14 @@ fn decrypt_in<S: CallMemory>(
         Ok(dec) => dec,
         Err(status) => return status,
     };
-    match text_of(dec, file, out) {
+    match decrypt_rest(dec, file, out) {
         Ok(len) => {
-            zero_bytes_after_length(len, out);
+            out[len..].fill(0);
             *text_len = len;
             status::OK
         }
         Err(status) => {
-            zero_bytes_after_length(0, out);
+            out.fill(0);
             status
         }
     }
@@ -502,32 +440,17 @@ pub extern "C" fn pikhsen_scrypt_decrypt(
     out: &mut [u8],
     text_len: &mut usize,
 ) -> Answer
-    ensures whole { result.status ≡ 0 → IsEncryptionOf file.now passphrase.now (take text_len.new out.new) }
-    ensures rest { result.status ≡ 0 → drop text_len.new out.new ≡ replicate (length out.old - text_len.new) 0 }
-    ensures nothing { ReturnsNoLengthIfRefused result.status text_len.new }
+    ensures text { WritesTextOfWholeFile file.now passphrase.now out.old out.new text_len.new result.status }
+    ensures verdict { IsFileVerdict file.now passphrase.now result.status }
     // What is refused whatever the passphrase is told by the first fault, and nothing else is then told.
     ensures first { ReturnsFirstOrLateStatus (wrong_passphrase_status ≤ result.status)
         (front_status file.now keep max_bytes max_ops (length out.old)) result.status }
-    ensures wrong { result.status ≡ wrong_passphrase_status → HasRightHeaderHmac (take 96 file.now) passphrase.now → ⊥ }
-    ensures right { wrong_passphrase_status < result.status → HasRightHeaderHmac (take 96 file.now) passphrase.now }
-    ensures damaged { result.status ≡ damaged_status
-        → IsEncryptionOf file.now passphrase.now (released_text file.now passphrase.now) → ⊥ }
-    ensures too_long { result.status ≡ long_text_status → 2 ^ 60 + 128 ≤ length file.now }
-    ensures high { result.status ≤ 29 }
-    // No text is left of a file that is not whole.
-    ensures zeros { wrong_passphrase_status < result.status → out.new ≡ replicate (length out.old) 0 }
-    ensures untouched { result.status ≢ 0 → result.status ≤ wrong_passphrase_status → out.new ≡ out.old }
-    // What was asked of the heap.
-    ensures asked { RequestsMemoryUnlessEarly (wrong_passphrase_status ≤ result.status) (after_workspace_request machine.heap)
-        result.status machine.heap result.machine.heap }
-    ensures no_blocks { result.machine.blocks ≡ machine.blocks }
-    // No derivation begins before these refusals are ruled out, and then one.
-    ensures works { CountsWorkUnlessEarly (wrong_passphrase_status ≤ result.status) (salsa20_cores_to_open passphrase.now file.now keep)
-        result.status machine.cores result.machine.cores }
+    ensures machine { OpensAtMostOnce (wrong_passphrase_status ≤ result.status) (salsa20_cores_to_open passphrase.now file.now keep)
+        result.status machine result.machine }
 {
     let mut machine = machine;
     let limits = ScryptLimits::new(keep, max_bytes, max_ops);
-    let told = decrypt_in(
+    let status = decrypt_in(
         &mut machine.heap,
         &limits,
         passphrase,
@@ -536,5 +459,5 @@ pub extern "C" fn pikhsen_scrypt_decrypt(
         text_len,
         &mut machine.cores,
     );
-    wipe_stack(told, machine)
+    wipe_stack(status, machine)
 }

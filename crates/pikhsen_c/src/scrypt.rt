@@ -2,11 +2,11 @@
 ghost use Rattle.std.specs.Prelude.{◌≡◌, ◌≤◌, ◌^◌, length, IfOk, IfErr};
 ghost use Rattle.romix.specs.Scrypt.{scrypt};
 ghost use Rattle.romix.specs.SparseCosts.{SparseFitsMemory};
-ghost use Rattle.pikhsen_c.specs.Heap.{RequestsMemoryAtMostOnce, CountsWorkOnce, after_workspace_request};
-ghost use Rattle.pikhsen_c.specs.Inside.Numbers.{IsEarly, status_of_result, IsRefusalStatus};
-ghost use Rattle.pikhsen_c.specs.Inside.Settings.{source_after_workspace_request, salsa20_cores_of_settings, limits_refusal, costs_of_settings, derivation_refusal};
+ghost use Rattle.pikhsen_c.specs.Heap.{CountsWorkOnce, DerivesAtMostOnce};
+ghost use Rattle.pikhsen_c.specs.Inside.Numbers.{RefusesEarly, RefusesEarlyOrMemory, status_of_result};
+ghost use Rattle.pikhsen_c.specs.Inside.Settings.{RequestsWorkspaceAtMostOnce, costs_of_settings, derivation_refusal, limits_refusal, salsa20_cores_of_settings};
 ghost use Rattle.pikhsen_c.specs.Scrypt.{costs_of_numbers, costs_status, scrypt_status, costs_with_keep, salsa20_cores_of_numbers};
-ghost use Rattle.pikhsen_c.specs.Status.{ReturnsFirstStatus, IsUnchangedIfRefused};
+ghost use Rattle.pikhsen_c.specs.Status.{RefusesByFirst};
 
 use crate::call_memory::CallMemory;
 use crate::machine::Machine;
@@ -69,8 +69,7 @@ impl ScryptCostsAndLimits {
 /// The costs of these numbers, or the number of the first fault.
 pub(crate) fn costs_of(log_n: u32, r: u32, p: u32) -> Result<Costs, u32>
     ensures costs { IfOk result (λ costs. costs ≡ costs_of_numbers log_n r p) }
-    ensures status { costs_status (costs_of_numbers log_n r p) ≡ status_of_result result }
-    ensures early { IfErr result IsEarly }
+    ensures refusal { RefusesEarly (costs_status (costs_of_numbers log_n r p)) result }
 {
     if log_n > 63 {
         return Err(status::cost_fault_status(romix::CostFault::LogN));
@@ -86,8 +85,7 @@ pub(crate) fn costs_of(log_n: u32, r: u32, p: u32) -> Result<Costs, u32>
 pub(crate) fn admitted(costs: &Costs, limits: &ScryptLimits) -> Result<Sparse, u32>
     ensures sparse { IfOk result (λ sparse. sparse ≡ costs_with_keep costs.now limits.now.keep) }
     ensures fits { IfOk result (λ sparse. SparseFitsMemory sparse (2 ^ 40)) }
-    ensures status { limits_refusal limits.now costs.now ≡ status_of_result result }
-    ensures early { IfErr result IsEarly }
+    ensures refusal { RefusesEarly (limits_refusal limits.now costs.now) result }
     ensures below { IfErr result (λ status. status ≤ 21) }
 {
     let sparse = match Sparse::new(costs, u64::from(limits.keep)) {
@@ -112,13 +110,10 @@ pub(crate) fn workspace<S: CallMemory>(
 ) -> Result<Workspace, u32>
     ensures sparse { IfOk result (λ workspace. workspace.sparse ≡ costs_with_keep costs.now limits.now.keep) }
     ensures costs { IfOk result (λ workspace. workspace.sparse.costs ≡ costs.now) }
-    ensures first { ReturnsFirstStatus (limits_refusal limits.now costs.now) (status_of_result result) }
-    ensures at_least_1 { IfErr result IsRefusalStatus }
+    ensures refusal { RefusesEarlyOrMemory (limits_refusal limits.now costs.now) result }
     ensures below { IfErr result (λ status. status ≤ 21) }
-    // Nothing is asked of the source before `keep` and the caller's own limits are tested, and then it is asked once,
-    // under these; want of memory is told where that was refused, and only there.
-    ensures asked { RequestsMemoryAtMostOnce (source_after_workspace_request S.after_workspace limits.now costs.now source.old)
-        (status_of_result result) source.old source.new }
+    ensures asked { RequestsWorkspaceAtMostOnce S.after_workspace limits.now costs.now (status_of_result result)
+        source.old source.new }
 {
     let sparse = admitted(costs, limits)?;
     match source.workspace(&sparse, limits.max_bytes, limits.max_ops) {
@@ -139,10 +134,8 @@ fn derive_in<S: CallMemory>(
 ) -> u32
     ensures key { result ≡ 0 → out.new
         ≡ scrypt password.now salt.now (2 ^ settings.now.log_n) settings.now.r settings.now.p (length out.old) }
-    ensures first { ReturnsFirstStatus (derivation_refusal settings.now (length out.old)) result }
-    ensures untouched { IsUnchangedIfRefused result out.old out.new }
-    ensures asked { RequestsMemoryAtMostOnce (source_after_workspace_request S.after_workspace settings.now.limits
-        (costs_of_settings settings.now) source.old)
+    ensures refusal { RefusesByFirst (derivation_refusal settings.now (length out.old)) result out.old out.new }
+    ensures asked { RequestsWorkspaceAtMostOnce S.after_workspace settings.now.limits (costs_of_settings settings.now)
         result source.old source.new }
     // No derivation begins before every refusal is ruled out, and then one.
     ensures works { CountsWorkOnce (salsa20_cores_of_settings settings.now password.now salt.now) result ticks.old ticks.new }
@@ -181,19 +174,14 @@ pub extern "C" fn pikhsen_scrypt(
 ) -> Answer
     ensures key { result.status ≡ 0 → out.new ≡ scrypt password.now salt.now (2 ^ log_n) r p (length out.old) }
     // Memory is asked for, and refused, only where nothing else is.
-    ensures first { ReturnsFirstStatus (scrypt_status (costs_of_numbers log_n r p) keep max_bytes max_ops (length out.old))
-        result.status }
-    ensures untouched { IsUnchangedIfRefused result.status out.old out.new }
-    // What was asked of the heap.
-    ensures asked { RequestsMemoryAtMostOnce (after_workspace_request machine.heap) result.status machine.heap result.machine.heap }
-    ensures no_blocks { result.machine.blocks ≡ machine.blocks }
-    // No derivation begins before every refusal is ruled out, and then one.
-    ensures works { CountsWorkOnce (salsa20_cores_of_numbers password.now salt.now log_n r p keep) result.status
-        machine.cores result.machine.cores }
+    ensures refusal { RefusesByFirst (scrypt_status (costs_of_numbers log_n r p) keep max_bytes max_ops (length out.old))
+        result.status out.old out.new }
+    ensures machine { DerivesAtMostOnce (salsa20_cores_of_numbers password.now salt.now log_n r p keep) result.status
+        machine result.machine }
 {
     let mut machine = machine;
     let settings = ScryptCostsAndLimits::new(log_n, r, p, keep, max_bytes, max_ops);
-    let told = derive_in(
+    let status = derive_in(
         &mut machine.heap,
         &settings,
         password,
@@ -201,5 +189,5 @@ pub extern "C" fn pikhsen_scrypt(
         out,
         &mut machine.cores,
     );
-    wipe_stack(told, machine)
+    wipe_stack(status, machine)
 }

@@ -1,8 +1,8 @@
 //! The settings that an encoded text says, and whether a hash is to be made anew.
-ghost use Rattle.std.specs.Prelude.{◌≡◌, ◌≤◌, ◌<◌, true};
+ghost use Rattle.std.specs.Prelude.{◌≡◌, ◌≤◌, ◌<◌};
 ghost use Rattle.argon_text.specs.Grammar.{IsEncodedText, IsEncodedTextInRange};
 ghost use Rattle.argon_text.specs.View.{value_of};
-ghost use Rattle.pikhsen_c.specs.Heap.{RequestsMemoryToRead, DoesNoWork};
+ghost use Rattle.pikhsen_c.specs.Heap.{ReadsOnce};
 ghost use Rattle.pikhsen_c.specs.Inside.Numbers.{was_memory_granted, had_memory_to_read};
 ghost use Rattle.pikhsen_c.specs.Settings.{HasSettings, ComparesSettings, IsOutOfRange, IsStatusOfReading, c_settings_of_value};
 ghost use Rattle.pikhsen_c.specs.Status.{not_encoded_status, out_of_memory_status, IsUnchangedIfRefused};
@@ -116,13 +116,11 @@ pub extern "C" fn pikhsen_argon2_settings(
     ensures found { result.status ≡ 0 → HasSettings text.now settings.new }
     ensures reading { IsStatusOfReading text.now result.status }
     ensures untouched { IsUnchangedIfRefused result.status settings.old settings.new }
-    // What was asked of the heap.
-    ensures asked { RequestsMemoryToRead result.status machine.heap result.machine.heap }
-    ensures no_work { DoesNoWork machine result.machine }
+    ensures machine { ReadsOnce result.status machine result.machine }
 {
     let mut machine = machine;
-    let told = read_encoded_settings_with_memory(&mut machine.heap, text, settings);
-    wipe_stack(told, machine)
+    let status = read_encoded_settings_with_memory(&mut machine.heap, text, settings);
+    wipe_stack(status, machine)
 }
 
 /// Whether the hash of an encoded text was made by other settings than these, and is to be made anew: 1 goes to `needs`
@@ -137,16 +135,14 @@ pub extern "C" fn pikhsen_argon2_needs_rehash(
     ensures compared { result.status ≡ 0 → ComparesSettings text.now wanted.now needs.new }
     ensures reading { IsStatusOfReading text.now result.status }
     ensures untouched { IsUnchangedIfRefused result.status needs.old needs.new }
-    // What was asked of the heap.
-    ensures asked { RequestsMemoryToRead result.status machine.heap result.machine.heap }
-    ensures no_work { DoesNoWork machine result.machine }
+    ensures machine { ReadsOnce result.status machine result.machine }
 {
     let mut machine = machine;
     // Only a place: what is compared is what the text's settings are written over it.
     let mut said = *wanted;
-    let told = read_encoded_settings_with_memory(&mut machine.heap, text, &mut said);
-    if told == status::OK {
+    let status = read_encoded_settings_with_memory(&mut machine.heap, text, &mut said);
+    if status == status::OK {
         *needs = differs(&said, wanted);
     }
-    wipe_stack(told, machine)
+    wipe_stack(status, machine)
 }

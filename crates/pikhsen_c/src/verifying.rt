@@ -1,12 +1,10 @@
 //! The test of a password against an encoded text.
-ghost use Rattle.std.specs.Prelude.{◌≡◌, ◌≢◌, ◌≤◌, ◌<◌, [], None, length};
-ghost use Rattle.argon.specs.Counts.{work};
+ghost use Rattle.std.specs.Prelude.{◌≡◌, ◌≢◌, [], length};
 ghost use Rattle.argon_text.specs.Verifying.{parameters_of_value};
 ghost use Rattle.argon_text.specs.View.{encoded_value_of_hash_view};
-ghost use Rattle.pikhsen_c.specs.Argon2.{IsVerdict, IsVerifyNumber, CountsWorkToVerify};
-ghost use Rattle.pikhsen_c.specs.Heap.{RequestsMemoryUnlessEarly, RequestsMemoryToVerify, CountsWorkUnlessEarly, after_matrix_request, after_reading_request};
-ghost use Rattle.pikhsen_c.specs.Inside.Numbers.{IsStatusOfFirstFault};
-ghost use Rattle.pikhsen_c.specs.Inside.Settings.{fault_of_keyed, tag_of_keyed};
+ghost use Rattle.pikhsen_c.specs.Argon2.{CountsWorkToVerify, IsVerdict, IsVerifyNumber, work};
+ghost use Rattle.pikhsen_c.specs.Heap.{CountsWorkUnlessEarly, TestsAtMostOnce};
+ghost use Rattle.pikhsen_c.specs.Inside.Settings.{IsVerdictOnText, IsVerdictOnValue, RequestsMatrixLast, RequestsReadingAndMatrix};
 ghost use Rattle.pikhsen_c.specs.Status.{long_input_status, mismatch_status};
 
 use crate::argon2::HashLimits;
@@ -33,17 +31,8 @@ fn verify_view<S: CallMemory>(
     limits: &HashLimits,
     ticks: &mut Ticks,
 ) -> u32
-    ensures admitted { result ≡ 0 → fault_of_keyed (encoded_value_of_hash_view view.now) keyed.now limits.now ≡ None }
-    ensures right { result ≡ 0 → tag_of_keyed (encoded_value_of_hash_view view.now) keyed.now ≡ view.now.tag.now }
-    ensures admitted_if_wrong { result ≡ mismatch_status → fault_of_keyed (encoded_value_of_hash_view view.now) keyed.now limits.now ≡ None }
-    ensures wrong { result ≡ mismatch_status → tag_of_keyed (encoded_value_of_hash_view view.now) keyed.now ≡ view.now.tag.now → ⊥ }
-    ensures first_fault { IsStatusOfFirstFault result (fault_of_keyed (encoded_value_of_hash_view view.now) keyed.now limits.now) }
-    ensures number { IsVerifyNumber result }
-    ensures known { long_input_status < result → mismatch_status ≤ result }
-    // Nothing is asked of the source before every other refusal is ruled out, and then the matrix alone, under the
-    // caller's own limits; want of memory is told where that was refused.
-    ensures asked { RequestsMemoryUnlessEarly (result ≡ mismatch_status) (S.after_matrix source.old
-        (parameters_of_value (encoded_value_of_hash_view view.now) keyed.now.password.now) limits.now.max_kib limits.now.max_ops)
+    ensures verdict { IsVerdictOnValue (encoded_value_of_hash_view view.now) keyed.now limits.now result }
+    ensures asked { RequestsMatrixLast S.after_matrix (encoded_value_of_hash_view view.now) keyed.now limits.now
         result source.old source.new }
     // No block function is run before every refusal is ruled out, and then those of one hash.
     ensures works { CountsWorkUnlessEarly (result ≡ mismatch_status)
@@ -74,16 +63,10 @@ pub(crate) fn verify_in<S: CallMemory>(
     limits: &HashLimits,
     ticks: &mut Ticks,
 ) -> u32
-    ensures verdict { IsVerdict text.now keyed.now.password.now keyed.now.secret.now keyed.now.associated.now
-        limits.now.max_kib limits.now.max_ops result }
+    ensures verdict { IsVerdictOnText text.now keyed.now limits.now result }
     ensures number { IsVerifyNumber result }
-    // The text is read once. Nothing more is asked for where it or the test is refused for another reason than
-    // memory, and otherwise the matrix of one hash, under the caller's own limits; want of memory is told where one
-    // was refused.
-    ensures asked { RequestsMemoryToVerify (S.after_reading source.old text.now) (λ source value.
-        S.after_matrix source (parameters_of_value value keyed.now.password.now) limits.now.max_kib limits.now.max_ops)
-        text.now keyed.now.password.now (length keyed.now.secret.now) (length keyed.now.associated.now)
-        limits.now.max_kib limits.now.max_ops result source.new }
+    ensures asked { RequestsReadingAndMatrix S.after_reading S.after_matrix text.now keyed.now limits.now
+        result source.old source.new }
     ensures works { CountsWorkToVerify text.now keyed.now.password.now limits.now.max_ops result ticks.old ticks.new }
 {
     let reading = match source.read(text) {
@@ -108,12 +91,7 @@ pub extern "C" fn pikhsen_argon2_verify(
     // There is no other number.
     ensures number { IsVerifyNumber result.status }
     ensures no_input { result.status ≢ long_input_status }
-    // What was asked of the heap.
-    ensures asked { RequestsMemoryToVerify (after_reading_request machine.heap) (λ heap _ granted. after_matrix_request heap granted)
-        text.now password.now 0 0 max_kib max_ops result.status result.machine.heap }
-    ensures no_cores { result.machine.cores ≡ machine.cores }
-    ensures works { CountsWorkToVerify text.now password.now max_ops result.status machine.blocks
-        result.machine.blocks }
+    ensures machine { TestsAtMostOnce text.now password.now 0 0 max_kib max_ops result.status machine result.machine }
 {
     pikhsen_argon2_verify_keyed(machine, text, password, &[], &[], max_kib, max_ops)
 }
@@ -134,13 +112,8 @@ pub extern "C" fn pikhsen_argon2_verify_keyed(
     ensures verdict { IsVerdict text.now password.now secret.now associated.now max_kib max_ops result.status }
     // There is no other number.
     ensures number { IsVerifyNumber result.status }
-    // What was asked of the heap.
-    ensures asked { RequestsMemoryToVerify (after_reading_request machine.heap) (λ heap _ granted. after_matrix_request heap granted)
-        text.now password.now (length secret.now) (length associated.now) max_kib max_ops
-        result.status result.machine.heap }
-    ensures no_cores { result.machine.cores ≡ machine.cores }
-    ensures works { CountsWorkToVerify text.now password.now max_ops result.status machine.blocks
-        result.machine.blocks }
+    ensures machine { TestsAtMostOnce text.now password.now (length secret.now) (length associated.now) max_kib max_ops
+        result.status machine result.machine }
 {
     let mut machine = machine;
     let keyed = KeyedPassword {
@@ -149,12 +122,12 @@ pub extern "C" fn pikhsen_argon2_verify_keyed(
         associated,
     };
     let limits = HashLimits { max_kib, max_ops };
-    let told = verify_in(
+    let status = verify_in(
         &mut machine.heap,
         text,
         &keyed,
         &limits,
         &mut machine.blocks,
     );
-    wipe_stack(told, machine)
+    wipe_stack(status, machine)
 }

@@ -5,7 +5,7 @@ ghost use Rattle.host.specs.CallsGrantedByHost.{GrantsAllHostCalls};
 ghost use Rattle.host.specs.HostState.{IsUnasked};
 ghost use Rattle.scrypt_request.specs.Refusal.{CountsFault};
 ghost use Rattle.scrypt_command.specs.Inside.Endings.{Ends};
-ghost use Rattle.scrypt_command.specs.Run.{Refuses, ReportsCommandLineRefusal, ScryptRefusal, Succeeds, scrypt_request};
+ghost use Rattle.scrypt_command.specs.Run.{EndsWithRefusal, ReportsCommandLineRefusal, ScryptRefusal, Succeeds, scrypt_request};
 
 use host::{Host, refuse};
 use romix::Ticks;
@@ -57,7 +57,7 @@ pub fn scrypt<H: Host>(alloc: Global, words: &[String], host: &mut H) -> u8
         (H.faults host.old) (H.faults host.new) }
     ensures succeeds { IsTrue H.tells → result ≡ 0 →
         Succeeds (map string_bytes words.now) (H.seen host.old) (H.seen host.new) }
-    ensures refuses { result ≡ 1 → Refuses H.tells (map string_bytes words.now)
+    ensures refuses { result ≡ 1 → EndsWithRefusal H.tells (map string_bytes words.now)
         (H.seen host.old) (H.seen host.new) (H.faults host.old) (H.faults host.new) }
 {
     match run_without_report(alloc, words, host, &mut Ticks::new(alloc)) {

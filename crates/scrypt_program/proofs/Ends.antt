@@ -3,7 +3,7 @@
 use Rattle.std.proofs.Common.{◌≡◌, ◌∙◌, ◌≤◌, ◌⊎◌, inl, inr, ℕ, Bool, List, Option, None, Some, IsTrue, ap, sym, refl, subst}
 use Rattle.host.specs.Faults.{Faults, no_faults}
 use Rattle.host.specs.HostState.{HostState, Text}
-use Rattle.scrypt_command.specs.Run.{IsRefused, Refuses}
+use Rattle.scrypt_command.specs.Run.{IsRefused, EndsWithRefusal}
 use Rattle.scrypt_request.specs.Refusal.{faults_after_refusal, line_of}
 use Rattle.scrypt_request.specs.Request.{Encryption, Request, Task, encrypt, decrypt, inspect}
 use Rattle.scrypt_request.specs.declared.refusal.ScryptRefusal.{ScryptRefusal}
@@ -14,7 +14,7 @@ use Rattle.scrypt_run.specs.Front.{FrontNotRead}
 use Rattle.scrypt_run.specs.Inspecting.{InspectRefused}
 use Rattle.scrypt_run.specs.Run.{ScryptRequestRefused}
 use Rattle.scrypt_run.specs.Text.{RefusesDuringText}
-use Rattle.tools.specs.Failures.{AreFaultsOfHost, AreFaultsOfSystem}
+use Rattle.tools.specs.Failures.{AreFaultsOfHost, AreFaultsWithinFailures}
 use Rattle.tools.specs.RunState.{Leaves}
 use Rattle.tools.specs.SystemState.{Files, SystemState}
 use Rattle.tools.proofs.Ends.{LeavesOutput, before-output, faults-left, leaves-line, with-input}
@@ -88,16 +88,16 @@ of-words r words before seen none (inl (is, same)) = before-output (after_refusa
 of-words r words before seen none (inr refused) = of-request r refused.request before seen none refused.refused
 
 refused : (tells : Bool) (words : List Text) (before seen : HostState) (counts : Faults) → IsTrue tells → before.output_asked ≡ None
-    → Refuses tells words before seen no_faults counts → LeavesOutput seen counts
+    → EndsWithRefusal tells words before seen no_faults counts → LeavesOutput seen counts
 refused tells words before seen counts told none refuses = leaves-line tells (line_of refuses.told) refuses.unsaid seen (after_refusal refuses.told) counts
     refuses.says told (of-words refuses.told words before refuses.unsaid none (refuses.refused told))
 
 -- the faults of a run that was refused
 pub faults-refused : (tells : Bool) (words : List Text) (start before seen : HostState) (nothing counts all failures : Faults) (w : SystemState) (f : Files)
-    → IsTrue tells → before ≡ start → start.output_asked ≡ None → nothing ≡ no_faults → Refuses tells words before seen nothing counts → all ≡ counts
-    → Leaves w seen → AreFaultsOfHost all failures w f → AreFaultsOfSystem all failures f
+    → IsTrue tells → before ≡ start → start.output_asked ≡ None → nothing ≡ no_faults → EndsWithRefusal tells words before seen nothing counts → all ≡ counts
+    → Leaves w seen → AreFaultsOfHost all failures w f → AreFaultsWithinFailures all failures f
 faults-refused tells words start before seen nothing counts all failures w f told same none unfailed refuses counted leaves faults =
     faults-left all failures w f seen leaves
     (subst (λ c. LeavesOutput seen c) (sym counted)
     (refused tells words before seen counts told (ap (λ (h : HostState). h.output_asked) same ∙ none)
-    (subst (λ n. Refuses tells words before seen n counts) unfailed refuses))) faults
+    (subst (λ n. EndsWithRefusal tells words before seen n counts) unfailed refuses))) faults

@@ -51,8 +51,8 @@ IsAllowed (inspect infile) = ⊤
 -- ---- what contracts see of the code's request: its names as texts
 
 -- the text that is lent, if it is there
-abbrev pub text_of : Option (Bor Text) → Option Text
-text_of = option_map (λ s. s.now)
+abbrev pub name_view : Option (Bor Text) → Option Text
+name_view = option_map (λ s. s.now)
 
 -- a task of the code, with its names as texts
 abbrev pub task_view : TaskInCode → Task
@@ -60,8 +60,8 @@ task_view t = record {
   limits = t.limits;
   keep = t.keep;
   source = source_of t.source;
-  infile = text_of t.infile;
-  outfile = text_of t.outfile;
+  infile = name_view t.infile;
+  outfile = name_view t.outfile;
 }
 
 -- an encryption of the code, with its names as texts
@@ -72,7 +72,7 @@ encryption_view e = record { costs = e.costs; salt = e.salt; task = task_view e.
 abbrev pub scrypt_request_view : RequestInCode → Request
 scrypt_request_view (in_code.Encrypt e) = encrypt (encryption_view e)
 scrypt_request_view (in_code.Decrypt t) = decrypt (task_view t)
-scrypt_request_view (in_code.Inspect infile) = inspect (text_of infile)
+scrypt_request_view (in_code.Inspect infile) = inspect (name_view infile)
 
 -- a request of the code has limits that can be asked for
 abbrev pub RequestHasAllowedLimits : RequestInCode → Type 0

@@ -1,5 +1,5 @@
 -- The beginnings of an encrypted file, as a run writes them.
-use Rattle.std.proofs.Common.{◌≡◌, ◌≤◌, ◌<◌, ◌+◌, ◌^◌, ◌++◌, ◌==◌, ◌∙◌, inl, inr, ℕ, Bool, true, false, List, [], take, length, if◌then◌else◌, ap, sym, refl, subst, arith, length-append}
+use Rattle.std.proofs.Common.{◌≡◌, ◌≤◌, ◌<◌, ◌+◌, ◌^◌, ◌++◌, ◌==◌, ◌∙◌, ◌⊎◌, inl, inr, ℕ, Bool, true, false, List, [], None, IsTrue, take, length, if◌then◌else◌, ap, sym, refl, subst, arith, length-append}
 use Rattle.std.proofs.lemmas.Grind.{common_steps}
 use Rattle.std.proofs.lemmas.List.{append-nil}
 use Rattle.romix.specs.Costs.{Parameters}
@@ -8,13 +8,15 @@ use Rattle.encfile.specs.Encrypting.{HasEncrypted}
 use Rattle.encfile.specs.Inside.Lengths.{bytes_encrypted_so_far}
 use Rattle.encfile.specs.declared.enc.Enc.{Enc}
 use Rattle.encfile.proofs.Files.{length-body, length-encrypted_file, bytes_encrypted_so_far-is}
-use Rattle.host.specs.HostState.{HostState, after_open_input, after_pull, after_push}
-use Rattle.scrypt_run.specs.Encrypting.{decided, salt_used}
-use Rattle.scrypt_run.specs.Passphrase.{HasPassphrase, first_line_of_source}
+use Rattle.host.specs.HostState.{HostState, after_ask_secret, after_open_input, after_pull, after_push}
+use Rattle.scrypt_run.specs.Encrypting.{EncryptRefused, after_salt_asked, after_salting, costs_refusal_of, decided, salt_used}
+use Rattle.scrypt_run.specs.Inside.Encrypting.{EncryptRefusedFromOutputOn, IsStarted, SaltRefused, StartRefused}
+use Rattle.scrypt_run.specs.Passphrase.{HasPassphrase, PassphraseRefused, first_line_of_source}
 use Rattle.scrypt_request.specs.Request.{Encryption}
 use Rattle.scrypt_run.specs.Steps.{after_pull_and_push}
 use Rattle.scrypt_run.specs.Text.{RefusesDuringText, FailsWriting}
 use Rattle.scrypt_request.specs.declared.refusal.ScryptRefusal.{ScryptRefusal}
+use Rattle.scrypt_request.specs.declared.refusal.ScryptRefusal.TheVariants as refusal
 use Rattle.host.proofs.Pulls.{begun_on}
 use Rattle.host.proofs.Pushes.{push_push}
 use Rattle.scrypt_run.proofs.Ends.{first_line_of_source-reading, salt_used-opening}
@@ -22,13 +24,37 @@ use Rattle.scrypt_run.proofs.Ends.{first_line_of_source-reading, salt_used-openi
 -- ---- the passphrase and the salt
 
 -- an encryption that was started after the input's opening has the passphrase and the salt of the run
-pub started_before : (asked : Encryption) (enc : Enc) (s t : HostState) → t ≡ after_open_input asked.task.infile s
-    → (passphrase : List ℕ) × HasPassphrase (first_line_of_source asked.task.source t) passphrase × HasEncrypted enc passphrase (salt_used asked.salt t) asked.costs []
+pub started_before : (tells : Bool) (asked : Encryption) (enc : Enc) (s t u : HostState) → IsTrue tells → t ≡ after_open_input asked.task.infile s → IsStarted tells asked t u enc
     → (passphrase : List ℕ) × HasPassphrase (first_line_of_source asked.task.source s) passphrase × HasEncrypted enc passphrase (salt_used asked.salt s) asked.costs []
-started_before asked enc s t opened started =
+    × (u ≡ after_salt_asked asked s)
+started_before tells asked enc s t u told opened started =
     let line = ap (first_line_of_source asked.task.source) opened ∙ first_line_of_source-reading asked.task.source asked.task.infile 0 s in
-    let salt = ap (salt_used asked.salt) opened ∙ salt_used-opening asked.salt asked.task.infile s in
-    (started.0, subst (λ l. HasPassphrase l started.0) line started.1, subst (λ xs. HasEncrypted enc started.0 xs asked.costs []) salt started.2)
+    let salt = started.salted told ∙ ap (salt_used asked.salt) opened ∙ salt_used-opening asked.salt asked.task.infile s in (
+      started.passphrase,
+      subst (λ l. HasPassphrase l started.passphrase) line (started.given told),
+      subst (λ xs. HasEncrypted enc started.passphrase xs asked.costs []) salt started.begun,
+      started.asks told ∙ ap (λ w. after_salting asked.salt (after_ask_secret asked.task.source w)) opened,
+    )
+
+-- no salt, or no memory
+salt_or_memory : (asked : Encryption) (before after : HostState) (passphrase : List ℕ) (r : ScryptRefusal) → SaltRefused asked.salt r ⊎ (r ≡ refusal.OutOfMemory)
+    → after ≡ after_salt_asked asked before
+    → ((r ≡ refusal.SaltFault) × (asked.salt ≡ None) × (after ≡ after_salt_asked asked before))
+    ⊎ ((r ≡ refusal.OutOfMemory) × (after ≡ after_salt_asked asked before))
+    ⊎ EncryptRefusedFromOutputOn r passphrase (salt_used asked.salt before) asked.costs asked.task.outfile (after_salt_asked asked before) after
+salt_or_memory asked before after passphrase r (inl (is, none)) left = inl (is, none, left)
+salt_or_memory asked before after passphrase r (inr is) left = inr (inl (is, left))
+
+-- what refused its start refuses the run
+pub start_ends : (asked : Encryption) (before opened after : HostState) (r : ScryptRefusal) → costs_refusal_of asked ≡ None → opened ≡ after_open_input asked.task.infile before
+    → StartRefused r asked opened after → EncryptRefused r asked before after
+start_ends asked before opened after r passes opens (inl (refused, same)) =
+    let line = ap (first_line_of_source asked.task.source) opens ∙ first_line_of_source-reading asked.task.source asked.task.infile 0 before in
+    inr (passes, inr (inl (subst (λ l. PassphraseRefused r l) line refused, same ∙ ap (after_ask_secret asked.task.source) opens)))
+start_ends asked before opened after r passes opens (inr (same, (passphrase, given), why)) =
+    let line = ap (first_line_of_source asked.task.source) opens ∙ first_line_of_source-reading asked.task.source asked.task.infile 0 before in
+    let left : after ≡ after_salt_asked asked before = same ∙ ap (λ w. after_salting asked.salt (after_ask_secret asked.task.source w)) opens in
+    inr (passes, inr (inr (passphrase, subst (λ l. HasPassphrase l passphrase) line given, salt_or_memory asked before after passphrase r why left)))
 
 -- ---- the text so far
 

@@ -1,18 +1,21 @@
 -- The first 96 bytes of a file, and what refuses them.
-use Rattle.std.proofs.Common.{◌≡◌, ◌<◌, ◌≤◌, ℕ, List, Option, Some, None, inl, inr, length, take, drop, codes, ◌++◌, ◌^◌, arith, refl, ap, sym, ◌∙◌}
+use Rattle.std.proofs.Common.{◌≡◌, ◌<◌, ◌≤◌, ℕ, List, Option, Some, None, inl, inr, length, take, drop, codes, ◌++◌, ◌^◌, arith, refl, ap, sym, subst, ◌∙◌}
 use Rattle.std.specs.Prelude.{option_map}
-use Rattle.std.proofs.lemmas.List.{append_assoc, drop_all}
+use Rattle.std.proofs.lemmas.List.{append_assoc, drop_all, take_all}
 use Rattle.std.proofs.lemmas.Option.{none-some}
 use Rattle.std.specs.Fmt.{decimal}
 use Rattle.romix.specs.Allowance.{Allowance}
 use Rattle.romix.specs.Costs.{Parameters, cores, table_bytes}
-use Rattle.encfile.specs.Front.{FrontRefusal, allowance_refusal, format_refusal, file_refusal_before_passphrase}
-use Rattle.encfile.specs.Header.{costs_of, salt_of}
-use Rattle.encfile.proofs.Fronts.{format_refusal-short, format_refusal-take, file_refusal_before_passphrase-costs, file_refusal_before_passphrase-format, file_refusal_before_passphrase-take}
+use Rattle.encfile.specs.Front.{FrontRefusal, allowance_refusal, format_refusal, file_refusal_before_passphrase, header_refusal}
+use Rattle.encfile.specs.Header.{CostsAndSalt, costs_of, salt_of}
+use Rattle.encfile.specs.HeaderFaults.{header_fault}
+use Rattle.encfile.specs.declared.fault.HeaderFault.{HeaderFault}
+use Rattle.encfile.proofs.Fronts.{format_refusal-fault, format_refusal-short, format_refusal-take, file_refusal_before_passphrase-costs, file_refusal_before_passphrase-format}
 use Rattle.encfile.proofs.Headers.{costs_of-take}
 use Rattle.encfile.proofs.Pieces.{bytes_at-take}
 use Rattle.host.specs.HostState.{HostState, Text, after_open_input, after_pull}
 use Rattle.scrypt_run.specs.Front.{FrontRefused}
+use Rattle.scrypt_run.specs.Inside.Front.{IsFrontOf}
 use Rattle.scrypt_run.specs.Inspecting.{costs_line}
 use Rattle.scrypt_run.specs.Refusal.{refusal_of}
 use Rattle.scrypt_run.specs.Steps.{after_reading_first_bytes}
@@ -49,16 +52,45 @@ costs_front n front file costs long first is = is ∙ ap costs_of first ∙ cost
 pub salt_front : (n : ℕ) (front file salt : List ℕ) → 48 ≤ n → front ≡ take n file → salt ≡ salt_of front → salt ≡ salt_of file
 salt_front n front file salt long first is = is ∙ ap salt_of first ∙ bytes_at-take n 16 32 file (omega (arith, long))
 
+-- ---- 96 bytes that were pulled
+
+pub pulled_front : (n : ℕ) (bytes : List ℕ) (infile : Option Text) (s t : HostState) → n ≡ 96 → length bytes ≡ 96 → t ≡ after_open_input infile s
+    → take n bytes ≡ take n t.input → bytes ≡ take 96 s.input
+pulled_front n bytes infile s t is long opened same =
+    sym (take_all 96 bytes (omega (arith, long))) ∙ subst (λ k. take k bytes ≡ take k t.input) is same ∙ ap (λ (w : HostState). take 96 w.input) opened
+
+-- with a header
+pub front_is : (n : ℕ) (bytes : List ℕ) (infile : Option Text) (s t : HostState) (said : CostsAndSalt) → n ≡ 96 → length bytes ≡ 96 → t ≡ after_open_input infile s
+    → n ≤ length t.input → take n bytes ≡ take n t.input → header_fault bytes ≡ None → said.costs ≡ costs_of bytes → said.salt ≡ salt_of bytes → IsFrontOf s.input bytes said
+front_is n bytes infile s t said is long opened within same none costs salt =
+    let enough : 96 ≤ length s.input = omega (arith, is, within, ap (λ (w : HostState). length w.input) opened) in
+    let first = pulled_front n bytes infile s t is long opened same in
+    record {
+      valid = sym (format_front bytes s.input enough first) ∙ format_refusal-fault bytes (omega (arith, long)) ∙ ap (option_map header_refusal) none;
+      long = enough;
+      bytes = first;
+      costs = costs_front 96 bytes s.input said.costs (omega arith) first costs;
+      salt = salt_front 96 bytes s.input said.salt (omega arith) first salt;
+    }
+
+-- with a fault
+pub front_refused : (n : ℕ) (bytes : List ℕ) (infile : Option Text) (s t u : HostState) (fault : HeaderFault) (r : ScryptRefusal) → n ≡ 96 → length bytes ≡ 96 → t ≡ after_open_input infile s
+    → n ≤ length t.input → take n bytes ≡ take n t.input → u ≡ after_pull n t → header_fault bytes ≡ Some fault → r ≡ refusal_of (header_refusal fault)
+    → FrontRefused r (format_refusal s.input) infile s u
+front_refused n bytes infile s t u fault r is long opened within same pulled told refusal =
+    let enough : 96 ≤ length s.input = omega (arith, is, within, ap (λ (w : HostState). length w.input) opened) in
+    let first = pulled_front n bytes infile s t is long opened same in
+    refused_front r (format_refusal s.input) (format_refusal bytes) infile s u (subst (λ k. u ≡ after_pull k t) is pulled ∙ ap (after_pull 96) opened)
+    (format_front bytes s.input enough first)
+    (ap (option_map refusal_of) (format_refusal-fault bytes (omega (arith, long)) ∙ ap (option_map header_refusal) told) ∙ ap Some (sym refusal))
+
 -- ---- the costs
 
-pub limits_front : (front file : List ℕ) (allowed : Allowance) → 96 ≤ length file → front ≡ take 96 file
-    → file_refusal_before_passphrase front allowed ≡ file_refusal_before_passphrase file allowed
-limits_front front file allowed long first = ap (λ f. file_refusal_before_passphrase f allowed) first ∙ file_refusal_before_passphrase-take file allowed long
-
--- what refuses costs refuses the file that has them
-pub limits_told : (front : List ℕ) (costs : Parameters) (allowed : Allowance) → format_refusal front ≡ None → costs ≡ costs_of front
-    → file_refusal_before_passphrase front allowed ≡ allowance_refusal costs allowed
-limits_told front costs allowed valid same = file_refusal_before_passphrase-costs front allowed valid ∙ ap (λ (c : Parameters). allowance_refusal c allowed) (sym same)
+-- what refuses the costs that a header says refuses the input
+pub costs_told : (input front : List ℕ) (said : CostsAndSalt) (costs : Parameters) (allowed : Allowance) → IsFrontOf input front said → costs ≡ said.costs
+    → allowance_refusal costs allowed ≡ file_refusal_before_passphrase input allowed
+costs_told input front said costs allowed is same =
+    ap (λ (c : Parameters). allowance_refusal c allowed) (same ∙ is.costs) ∙ sym (file_refusal_before_passphrase-costs input allowed is.valid)
 
 -- a refusal stays where another test goes on from it
 goes_on : (first later : Option FrontRefusal) (r : ScryptRefusal) → ((x : FrontRefusal) → first ≡ Some x → later ≡ Some x)

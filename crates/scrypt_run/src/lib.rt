@@ -3,14 +3,14 @@
 //! | file | what |
 //! |---|---|
 //! | `admission` | the costs held against S and the limits |
-//! | `encrypt` | the steps of `enc`, in the order of its refusals |
-//! | `decrypt` | those of `dec` after the first 96 bytes, likewise |
+//! | `encrypt` | the steps of `enc` once its costs are admitted and the input is opened |
+//! | `decrypt` | those of `dec` once the first 96 bytes are read and their costs admitted |
 //! | `front` | the first 96 bytes of a file, for `dec` and `info` |
 //! | `inspect` | `info` |
 //! | `run_memory` | the requests for memory of a run |
 //! | `line` | the line of `info` |
 //! | `passphrase` | the first line of a secret source |
-//! | `run_request` | the run of a request, whichever of the three it is |
+//! | `run_request` | the run of a request: the steps of each of the three, in the order of its refusals |
 //!
 //! A text there and back, over a host in memory; a run asks a host for an input once, so there are two:
 //!

@@ -1,12 +1,10 @@
 //! The passphrase of a run: the first line of its source.
 ghost use Rattle.std.specs.Prelude.{◌≡◌, ◌≤◌, ◌^◌, ℕ, List, take, IfOk, IfErr, IsTrue};
-ghost use Rattle.host.specs.Faults.{AreBelow};
 ghost use Rattle.host.specs.CallsGrantedByHost.{with_secret_asked};
 ghost use Rattle.host.specs.Secret.{source_of};
 ghost use Rattle.host.specs.HostState.{after_ask_secret};
-ghost use Rattle.scrypt_run.specs.Inside.Steps.{IsNotOutOfMemory, MayPrecedeWork};
+ghost use Rattle.scrypt_run.specs.Inside.Steps.{AreBelow, EndsBeforeWork, IsNotOutOfMemory};
 ghost use Rattle.scrypt_run.specs.Passphrase.{HasPassphrase, PassphraseRefused, first_line_of_source};
-ghost use Rattle.scrypt_request.specs.Refusal.{CountsFault};
 
 use host::{Host, Source, first_line_length};
 use scrypt_request::ScryptRefusal;
@@ -44,7 +42,7 @@ pub(crate) fn read_passphrase<H: Host>(
 ) -> Result<Passphrase, ScryptRefusal>
     requires room { AreBelow (2 ^ 63) (H.faults host.old) }
     requires unasked { IsTrue (H.grants host.old).secret }
-    ensures counts { CountsFault result (H.faults host.old) (H.faults host.new) }
+    ensures ends { EndsBeforeWork result (H.faults host.old) (H.faults host.new) }
     ensures granted { H.grants host.new ≡ with_secret_asked (H.grants host.old) }
     ensures asks { IsTrue H.tells →
         H.seen host.new ≡ after_ask_secret (source_of source.entry) (H.seen host.old) }
@@ -52,7 +50,6 @@ pub(crate) fn read_passphrase<H: Host>(
         (HasPassphrase (first_line_of_source (source_of source.entry) (H.seen host.old))) }
     ensures refused { IsTrue H.tells → IfErr result (λ r.
         PassphraseRefused r (first_line_of_source (source_of source.entry) (H.seen host.old))) }
-    ensures early { IfErr result MayPrecedeWork }
     ensures not_out_of_memory { IfErr result IsNotOutOfMemory }
 {
     let mut buf = [0u8; 2049];

@@ -9,7 +9,8 @@ ghost use Rattle.scrypt_request.specs.Request.{IsAllowed, scrypt_request_view};
 ghost use Rattle.scrypt_run.specs.Run.{StoresWholeTable, ScryptRequestRefused, ScryptRequestSucceeds, salsa20_cores_of_request, most_salsa20_cores};
 ghost use Rattle.scrypt_run.specs.Work.{EndsAfterWork, CountsRequestWork, CountsNoWorkIfRefusedEarly, CountsWorkWithin};
 
-use crate::front::open_input_and_test_limits;
+use crate::admission::admit;
+use crate::front::read_front;
 use crate::inspect::inspect;
 use crate::run_memory::RunMemory;
 use crate::{decrypt, encrypt};
@@ -68,13 +69,17 @@ pub fn run<R: RunMemory, H: Host>(
 {
     match request {
         Request::Encrypt(asked) => {
-            let sparse = encrypt::check_costs_and_open_input(host, asked)?;
-            let enc = encrypt::start(memory, host, asked, &sparse, ticks)?;
-            encrypt::write_encrypted_file(host, asked, enc)
+            let admitted = admit(&asked.costs, &asked.task)?;
+            let Ok(()) = host.open_input(asked.task.infile) else {
+                return Err(ScryptRefusal::InputFault);
+            };
+            let enc = encrypt::start(memory, host, asked, &admitted, ticks)?;
+            encrypt::write_encrypted_file(host, asked.task.outfile, enc)
         }
         Request::Decrypt(task) => {
-            let (front, header, sparse) = open_input_and_test_limits(host, task)?;
-            let dec = decrypt::open(memory, host, task, &front, header, &sparse, ticks)?;
+            let front = read_front(host, task.infile)?;
+            let admitted = admit(front.costs(), task)?;
+            let dec = decrypt::open(memory, host, task.source, front, &admitted, ticks)?;
             decrypt::finish(host, task.outfile, dec)
         }
         Request::Inspect(infile) => inspect(memory, host, *infile),

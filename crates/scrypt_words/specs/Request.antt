@@ -62,15 +62,15 @@ costs_from_words rows = do
 -- ---- the passphrase's source: S2c, S2d, S3
 
 -- whether a text is `prefix` and then a name that is not empty
-abbrev pub has_name : Text → Text → Bool
-has_name prefix text = starts_with nat_eq text prefix && nat_lt (length prefix) (length text)
+abbrev pub has_name_after : Text → Text → Bool
+has_name_after prefix text = starts_with nat_eq text prefix && nat_lt (length prefix) (length text)
 
 -- the secret source that the value of --passphrase names, if it names one
 abbrev pub source_named : Text → Option SecretSource
 source_named text =
     if bytes_eq text (codes "dev:stdin-once") then Some stdin_once
-    else if has_name (codes "env:") text then Some (env (drop 4 text))
-    else if has_name (codes "file:") text then Some (file (drop 5 text))
+    else if has_name_after (codes "env:") text then Some (env (drop 4 text))
+    else if has_name_after (codes "file:") text then Some (file (drop 5 text))
     else None
 
 -- the one source of the passphrase: standard input by -P, or what --passphrase names, and not both

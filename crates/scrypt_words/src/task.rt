@@ -7,7 +7,7 @@ ghost use Rattle.command_words.specs.Number.{number_in};
 ghost use Rattle.host.specs.Secret.{source_of};
 ghost use Rattle.romix.specs.SparseCosts.{is_valid_keep};
 ghost use Rattle.scrypt_request.specs.Refusal.{RaisesNoCount};
-ghost use Rattle.scrypt_request.specs.Request.{text_of};
+ghost use Rattle.scrypt_request.specs.Request.{name_view};
 ghost use Rattle.scrypt_words.specs.Request.{required_infile, infile_named, checked_keep, limits_from_words, number_from_words, one_source, source_from_words, source_named, wants_stdin};
 ghost use Rattle.scrypt_words.specs.Words.{is_set, rows_of_arg_matches};
 ghost use Rattle.clap.specs.Words.{first_of as argument_value};
@@ -29,7 +29,7 @@ pub fn required_infile<'a>(matches: &ArgMatches<'a>) -> Result<&'a str, ScryptRe
 
 /// The input's name that a word gives; `-` is standard input.
 pub fn infile_named<'a>(word: &'a str) -> Option<&'a str>
-    ensures name { text_of result ≡ infile_named word.entry.now }
+    ensures name { name_view result ≡ infile_named word.entry.now }
 {
     if word == "-" { None } else { Some(word) }
 }

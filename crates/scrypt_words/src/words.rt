@@ -2,7 +2,7 @@
 ghost use Rattle.std.specs.Prelude.{◌≡◌, ◌≢◌, ◌⊎◌, None, IfErr, IfOk, map, string_bytes};
 ghost use Rattle.clap.specs.Words.{first_of as argument_value, kind_of, subcommand_rows_of};
 ghost use Rattle.scrypt_request.specs.Refusal.{RaisesNoCount};
-ghost use Rattle.scrypt_request.specs.Request.{text_of};
+ghost use Rattle.scrypt_request.specs.Request.{name_view};
 ghost use Rattle.scrypt_words.specs.Words.{is_set, rows_of_arg_matches, scrypt_words};
 
 use crate::command_line::build_scrypt_command;
@@ -13,7 +13,7 @@ use std::alloc::Global;
 
 /// The value of an argument, if it has one.
 pub fn argument_value<'a>(matches: &ArgMatches<'a>, name: &str) -> Option<&'a str>
-    ensures value { text_of result ≡ argument_value name.now (rows_of_arg_matches matches.now) }
+    ensures value { name_view result ≡ argument_value name.now (rows_of_arg_matches matches.now) }
 {
     matches.get_str(name)
 }

@@ -4,7 +4,7 @@ use Rattle.std.proofs.lemmas.Option.{none-some}
 use Rattle.host.specs.Faults.{Faults, no_faults, with_output_failure_counted}
 use Rattle.host.specs.HostState.{HostState, Text}
 use Rattle.host.specs.Lines.{SaysOneLine, after_line, faults_after_line}
-use Rattle.tools.specs.Failures.{AreFaultsOfHost, AreFaultsOfSystem}
+use Rattle.tools.specs.Failures.{AreFaultsOfHost, AreFaultsWithinFailures}
 use Rattle.tools.specs.RunState.{EndsWithLine, Leaves}
 use Rattle.tools.specs.SystemState.{Files, SystemState}
 
@@ -25,7 +25,7 @@ none-more n m none = omega (arith, none)
 
 -- no output was asked for
 pub faults-before_output : (counts failures : Faults) (w : SystemState) (f : Files) → w.output_asked ≡ None → AreFaultsOfHost counts failures w f
-    → AreFaultsOfSystem counts failures f
+    → AreFaultsWithinFailures counts failures f
 faults-before_output counts failures w f none faults = record {
   input = faults.input (λ _. none);
   output = λ apart. faults.output (λ _. apart);
@@ -35,7 +35,7 @@ faults-before_output counts failures w f none faults = record {
 
 -- the input is opened, and neither a secret nor a salt has failed
 pub faults-of_output : (counts failures : Faults) (w : SystemState) (f : Files) → (w.input.opened ≡ None → ⊥) → counts.secrets ≡ 0 → counts.salt ≡ 0
-    → AreFaultsOfHost counts failures w f → AreFaultsOfSystem counts failures f
+    → AreFaultsOfHost counts failures w f → AreFaultsWithinFailures counts failures f
 faults-of_output counts failures w f opened secrets salt faults = record {
   input = faults.input (λ none. absurd (opened none));
   output = λ apart. faults.output (λ _. apart);
@@ -45,7 +45,7 @@ faults-of_output counts failures w f opened secrets salt faults = record {
 
 -- the output alone has failed, and lines
 pub faults-output_alone : (counts failures : Faults) (w : SystemState) (f : Files) → counts.input ≡ 0 → counts.secrets ≡ 0 → counts.salt ≡ 0
-    → AreFaultsOfHost counts failures w f → AreFaultsOfSystem counts failures f
+    → AreFaultsOfHost counts failures w f → AreFaultsWithinFailures counts failures f
 faults-output_alone counts failures w f input secrets salt faults = record {
   input = none-more counts.input failures.input input;
   output = λ apart. faults.output (λ _. apart);
@@ -116,7 +116,7 @@ leaves-line tells line unsaid seen counts all says told (inr (inr input, secrets
 )
 
 pub faults-left : (counts failures : Faults) (w : SystemState) (f : Files) (seen : HostState) → Leaves w seen → LeavesOutput seen counts
-    → AreFaultsOfHost counts failures w f → AreFaultsOfSystem counts failures f
+    → AreFaultsOfHost counts failures w f → AreFaultsWithinFailures counts failures f
 unfolding LeavesOutput
 faults-left counts failures w f seen leaves (inl none) faults = faults-before_output counts failures w f (unasked-left w seen leaves none) faults
 faults-left counts failures w f seen leaves (inr (inl opened, secrets, salt)) faults =
@@ -125,7 +125,7 @@ faults-left counts failures w f seen leaves (inr (inr input, secrets, salt)) fau
 
 -- the run ended with a line alone
 pub faults-line : (tells : Bool) (line : Text) (before : HostState) (none counts failures : Faults) (w : SystemState) (f : Files) → none ≡ no_faults
-    → EndsWithLine tells line before none w counts → AreFaultsOfHost counts failures w f → AreFaultsOfSystem counts failures f
+    → EndsWithLine tells line before none w counts → AreFaultsOfHost counts failures w f → AreFaultsWithinFailures counts failures f
 faults-line tells line before none counts failures w f unfailed ends faults = faults-output_alone counts failures w f
     (input-after_line ends.says.said none counts ends.says.counts (ap (λ (h : Faults). h.input) unfailed))
     (secrets-after_line ends.says.said none counts ends.says.counts (ap (λ (h : Faults). h.secrets) unfailed))
@@ -133,14 +133,14 @@ faults-line tells line before none counts failures w f unfailed ends faults = fa
     faults
 
 -- nothing has failed
-pub faults-none : (counts failures : Faults) (w : SystemState) (f : Files) → counts ≡ no_faults → AreFaultsOfHost counts failures w f → AreFaultsOfSystem counts failures f
+pub faults-none : (counts failures : Faults) (w : SystemState) (f : Files) → counts ≡ no_faults → AreFaultsOfHost counts failures w f → AreFaultsWithinFailures counts failures f
 faults-none counts failures w f none faults = faults-output_alone counts failures w f
     (ap (λ (h : Faults). h.input) none) (ap (λ (h : Faults). h.secrets) none) (ap (λ (h : Faults). h.salt) none) faults
 
 -- the run brought its output to the disk, or failed to
 pub faults-synced : (status : ℕ) (tells : Bool) (line : Text) (before : HostState) (counts all failures : Faults) (w : SystemState) (f : Files) → status ≤ 1
     → (status ≡ 0 → all ≡ counts) → (status ≡ 1 → EndsWithLine tells line before (with_output_failure_counted counts) w all) → counts ≡ no_faults
-    → AreFaultsOfHost all failures w f → AreFaultsOfSystem all failures f
+    → AreFaultsOfHost all failures w f → AreFaultsWithinFailures all failures f
 faults-synced zero tells line before counts all failures w f bound ok err none faults = faults-none all failures w f (ok refl ∙ none) faults
 faults-synced (suc n) tells line before counts all failures w f bound ok err none faults =
     let one : suc n ≡ 1 = omega (arith, bound) in

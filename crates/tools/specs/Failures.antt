@@ -56,7 +56,7 @@ pub record AreFaultsOfHost (counts failures : Faults) (w : SystemState) (f : Fil
 
 -- the faults of a program over a system whose calls have failed so often, and of whose streams these are the files, are no
 -- more than such failures; but for an output that is one of the files that are read
-pub record AreFaultsOfSystem (counts failures : Faults) (f : Files) : Type 0 where
+pub record AreFaultsWithinFailures (counts failures : Faults) (f : Files) : Type 0 where
   pub input : counts.input ≤ failures.input
   pub output : IsOutputSeparate f → counts.output ≤ failures.output
   pub secrets : counts.secrets ≤ failures.secrets

@@ -85,8 +85,8 @@ salt_in None = []
 salt_in (Some bytes) = take 32 bytes
 
 -- the salt of the host over a system: its first 32 random bytes
-abbrev pub salt_of : SystemState → List ℕ
-salt_of w = salt_in (lookup w.files (codes "/dev/urandom"))
+abbrev pub random_salt_of : SystemState → List ℕ
+random_salt_of w = salt_in (lookup w.files (codes "/dev/urandom"))
 
 -- the bytes of a secret source of a system, if it is there
 abbrev pub secret_bytes_in_system : SystemState → SecretSource → Option (List ℕ)
@@ -126,7 +126,7 @@ host_seen h = record {
   stdin = h.state.stdin;
   variables = lookup h.state.variables;
   files = lookup h.state.files;
-  salt = salt_of h.state;
+  salt = random_salt_of h.state;
 }
 
 -- what is seen of the host over a system that was not used yet

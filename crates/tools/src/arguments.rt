@@ -64,7 +64,7 @@ fn word<S: System>(system: &S, alloc: Global, place: usize) -> Result<Option<Str
         match system.word(place, &mut buf) {
             Ok(n) => {
                 buf.truncate(n);
-                return text_of(buf);
+                return string_of(buf);
             }
             Err(WordFault::Missing) => return Ok(None),
             Err(WordFault::TooLong) => {}
@@ -77,7 +77,7 @@ fn word<S: System>(system: &S, alloc: Global, place: usize) -> Result<Option<Str
 }
 
 // Bytes as a text.
-fn text_of(bytes: Vec<u8>) -> Result<Option<String>, WordsFault>
+fn string_of(bytes: Vec<u8>) -> Result<Option<String>, WordsFault>
     ensures text { IfOk result (λ text. option_map string_bytes text ≡ Some bytes.items) }
     ensures refused { IfErr result (λ fault. IsNonUtf8WordIfNotText fault (Some bytes.items)) }
 {

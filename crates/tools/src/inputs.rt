@@ -3,7 +3,7 @@ ghost use Rattle.std.specs.Prelude.{◌≡◌, ◌<◌, ℕ, List, IfOk, OnOk, O
 ghost use Rattle.host.specs.Secret.{IsBeginning, source_of};
 ghost use Rattle.host.specs.HostState.{env, FitsWithin};
 ghost use Rattle.tools.specs.Failures.{AreNoFewer};
-ghost use Rattle.tools.specs.RunState.{name_opened_for_secret, salt_of, secret_bytes_in_system, rest_of_secret_stream};
+ghost use Rattle.tools.specs.RunState.{name_opened_for_secret, random_salt_of, secret_bytes_in_system, rest_of_secret_stream};
 ghost use Rattle.tools.specs.SystemState.{LeavesAllBut, OpensNoOther, IsBeforeOutput, IsNotYetOpened};
 ghost use Rattle.tools.specs.declared.system.Reading.TheVariants as reading;
 
@@ -61,7 +61,7 @@ pub fn read_salt<S: System>(system: &mut S, out: &mut [u8; 32]) -> Result<(), Ho
     requires early { IsTrue S.tells → IsBeforeOutput (S.state system.old) }
     ensures kept { IsTrue S.tells →
         LeavesAllBut reading.Random (S.state system.old) (S.state system.new) }
-    ensures random { IsTrue S.tells → OnOk result (out.new ≡ salt_of (S.state system.old)) }
+    ensures random { IsTrue S.tells → OnOk result (out.new ≡ random_salt_of (S.state system.old)) }
     ensures no_other { IsTrue S.tells →
         OpensNoOther (Some (Some (codes "/dev/urandom"))) (S.state system.new).random }
     ensures no_fewer { IsTrue S.tells → AreNoFewer (S.failures system.old) (S.failures system.new) }

@@ -7,7 +7,7 @@ ghost use Rattle.host.specs.Faults.{no_faults};
 ghost use Rattle.host.specs.HostState.{env, file, stdin_once};
 ghost use Rattle.tools.specs.Failures.{after_read_counted, after_write_counted, read_failure_count, with_file_failure_counted, with_read_failure_counted};
 ghost use Rattle.tools.specs.Identity.{is_regular};
-ghost use Rattle.tools.specs.RunState.{bytes_or_empty, granted_calls_at_stage, host_over, host_seen, is_before_sync, is_input_open, is_input_unopened, is_output_opened, is_output_unasked, name_opened_for_salt, name_opened_for_secret, rest_of_secret_stream, salt_in, salt_of, secret_bytes_in_system};
+ghost use Rattle.tools.specs.RunState.{bytes_or_empty, granted_calls_at_stage, host_over, host_seen, is_before_sync, is_input_open, is_input_unopened, is_output_opened, is_output_unasked, name_opened_for_salt, name_opened_for_secret, rest_of_secret_stream, salt_in, random_salt_of, secret_bytes_in_system};
 ghost use Rattle.tools.specs.SystemState.{after_ask_line, after_ask_output, after_ask_sync, after_empty, after_line, after_open_output, after_read, after_sync, after_write, gives, identity_of_stream, is_to_be_emptied, is_to_be_synced, opened_source, placeholder_files, placeholder_state, placeholder_stream, stands_at, state_of_read_stream, with_read_stream_state};
 ghost use Rattle.tools.specs.Words.{word_at};
 ghost use Rattle.tools.specs.declared.identity.FileIdentity.TheVariants as identity;
@@ -54,7 +54,7 @@ fn secrets_and_salts()
     ensures rest_of_no_file { rest_of_secret_stream (file (codes "pw")) 1 placeholder_state ≡ [] }
     ensures some_or_none { map bytes_or_empty (None ∷ Some (codes "ab") ∷ []) ≡ [] ∷ codes "ab" ∷ [] }
     ensures no_salt { salt_in None ≡ [] }
-    ensures salt { salt_of (record placeholder_state { files = record { name = codes "/dev/random"; bytes = codes "x" } ∷ record { name = codes "/dev/urandom"; bytes = range_with_len 0 40 } ∷ [] })
+    ensures salt { random_salt_of (record placeholder_state { files = record { name = codes "/dev/random"; bytes = codes "x" } ∷ record { name = codes "/dev/urandom"; bytes = range_with_len 0 40 } ∷ [] })
         ≡ range_with_len 0 32 }
 {}
 

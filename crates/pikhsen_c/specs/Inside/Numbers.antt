@@ -1,5 +1,5 @@
 -- What private functions say of the numbers that they answer.
-use Rattle.std.specs.Prelude.{◌≡◌, ◌≢◌, ◌≤◌, ◌==◌, ℕ, Bool, true, false, not, Option, Some, None, Result, Ok, Err}
+use Rattle.std.specs.Prelude.{◌≡◌, ◌≢◌, ◌≤◌, ◌==◌, ℕ, Bool, true, false, not, Option, Some, None, Result, Ok, Err, IfErr}
 use Rattle.pikhsen_c.specs.Status.{long_input_status, long_password_status, above_memory_limit_status, above_work_limit_status, not_encoded_status, out_of_memory_status, out_of_range_status, wrong_passphrase_status}
 use Rattle.argon_text.specs.declared.fault.VerifyFault.{VerifyFault}
 use Rattle.argon_text.specs.declared.fault.VerifyFault.TheVariants as verify
@@ -21,6 +21,17 @@ pub record IsEarly (status : ℕ) : Type 0 where
   pub some : 1 ≤ status
   pub not_memory : status ≢ out_of_memory_status
   pub not_passphrase : status ≢ wrong_passphrase_status
+
+-- a result is refused by the first number that holds, before memory is asked for
+pub record RefusesEarly {A : Type 0} (first : ℕ) (result : Result A ℕ) : Type 0 where
+  pub status : first ≡ status_of_result result
+  pub early : IfErr result IsEarly
+
+-- the same, or memory was refused, which was asked for where nothing else is refused
+pub record RefusesEarlyOrMemory {A : Type 0} (first : ℕ) (result : Result A ℕ) : Type 0 where
+  pub fault : status_of_result result ≢ out_of_memory_status → status_of_result result ≡ first
+  pub memory : status_of_result result ≡ out_of_memory_status → first ≡ 0
+  pub at_least_1 : IfErr result IsRefusalStatus
 
 -- the number of what the test of a password against a text is refused for; those of parameters are the numbers that
 -- they have there

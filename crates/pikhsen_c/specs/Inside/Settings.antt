@@ -1,11 +1,10 @@
 -- The settings and the inputs of a hash, a test of a password, a derivation or an encryption, as private functions pass them
 -- on.
-use Rattle.std.specs.Prelude.{ℕ, ◌-◌, ◌≤◌, Bool, List, Option, Some, None, length, take}
-use Rattle.std.specs.Borrow.{Bor}
+use Rattle.std.specs.Prelude.{◌≡◌, ◌<◌, ◌≤◌, ℕ, Bool, List, Option, None, length, take}
 use Rattle.argon.specs.Parameters.{Parameters}
 use Rattle.argon.specs.declared.inputs.Inputs.{Inputs}
 use Rattle.argon_text.specs.Value.{Value}
-use Rattle.argon_text.specs.Verifying.{keyed_verify_fault, keyed_tag}
+use Rattle.argon_text.specs.Verifying.{keyed_verify_fault, keyed_tag, parameters_of_value}
 use Rattle.argon_text.specs.declared.fault.VerifyFault.{VerifyFault}
 use Rattle.romix.specs.Costs.{Parameters as Costs}
 use Rattle.romix.specs.Sparse.{sparse_table_core_count}
@@ -15,9 +14,12 @@ use Rattle.pikhsen_c.specs.declared.argon2.Settings.{Settings}
 use Rattle.pikhsen_c.specs.declared.scrypt.ScryptLimits.{ScryptLimits}
 use Rattle.pikhsen_c.specs.declared.scrypt.ScryptCostsAndLimits.{ScryptCostsAndLimits}
 use Rattle.pikhsen_c.specs.declared.verifying.KeyedPassword.{KeyedPassword}
-use Rattle.pikhsen_c.specs.Argon2.{encoded_keyed_hash, encoded_keyed_status, hash_status, parameters_of_numbers}
-use Rattle.pikhsen_c.specs.File.{encrypt_status, front_status, header_and_limits_status}
+use Rattle.pikhsen_c.specs.Argon2.{IsVerdict, IsVerifyNumber, encoded_keyed_hash, encoded_keyed_status, hash_status, parameters_of_numbers}
+use Rattle.pikhsen_c.specs.File.{costs_of, encrypt_status, front_status, header_and_limits_status}
+use Rattle.pikhsen_c.specs.Heap.{RequestsMemoryAtMostOnce, RequestsMemoryToVerify, RequestsMemoryUnlessEarly}
+use Rattle.pikhsen_c.specs.Inside.Numbers.{IsStatusOfFirstFault}
 use Rattle.pikhsen_c.specs.Scrypt.{costs_of_numbers, limits_status, scrypt_status, costs_with_keep}
+use Rattle.pikhsen_c.specs.Status.{long_input_status, mismatch_status}
 use Rattle.pikhsen_c.specs.Stream.{decrypt_start_status, encrypt_start_status}
 
 -- the parameters of these settings, of a tag of this length and of these inputs
@@ -42,6 +44,19 @@ salsa20_cores_of_settings s password salt = sparse_table_core_count password sal
 abbrev pub source_after_workspace_request : {Source : Type 0} → (Source → CostsAndKeep → ℕ → ℕ → Bool → Source) → ScryptLimits → Costs
     → Source → Bool → Source
 source_after_workspace_request after_workspace l costs before = after_workspace before (costs_with_keep costs l.keep) l.max_bytes l.max_ops
+
+-- nothing is asked of the source before every other refusal is ruled out, and then once the memory of a derivation of these
+-- costs, under the caller's own limits; want of memory is told where that was refused, and only there
+abbrev pub RequestsWorkspaceAtMostOnce : {Source : Type 0} → (Source → CostsAndKeep → ℕ → ℕ → Bool → Source) → ScryptLimits → Costs
+    → ℕ → Source → Source → Type 0
+RequestsWorkspaceAtMostOnce after_workspace l costs status before after =
+    RequestsMemoryAtMostOnce (source_after_workspace_request after_workspace l costs before) status before after
+
+-- the same of the costs that a file says, where some numbers are told after the derivation
+abbrev pub RequestsWorkspaceToOpen : {Source : Type 0} → Type 0 → (Source → CostsAndKeep → ℕ → ℕ → Bool → Source) → ScryptLimits → List ℕ
+    → ℕ → Source → Source → Type 0
+RequestsWorkspaceToOpen IsLate after_workspace l file status before after =
+    RequestsMemoryUnlessEarly IsLate (source_after_workspace_request after_workspace l (costs_of (take 64 file)) before) status before after
 
 -- ---- what is refused by them before memory is asked for, by its number; or 0
 
@@ -98,17 +113,33 @@ abbrev pub fault_of_keyed : Value → KeyedPassword → HashLimits → Option Ve
 fault_of_keyed v keyed l =
     keyed_verify_fault v keyed.password.now (length keyed.secret.now) (length keyed.associated.now) l.max_kib l.max_ops
 
--- ---- the text of an encryption: the one that is given, or else all of the file's buffer but its last 128 bytes
+-- what each number of its test says of the value; there is no 14 or 15
+pub record IsVerdictOnValue (value : Value) (keyed : KeyedPassword) (l : HashLimits) (status : ℕ) : Type 0 where
+  pub admitted : status ≡ 0 → fault_of_keyed value keyed l ≡ None
+  pub right : status ≡ 0 → tag_of_keyed value keyed ≡ value.tag
+  pub admitted_if_wrong : status ≡ mismatch_status → fault_of_keyed value keyed l ≡ None
+  pub wrong : status ≡ mismatch_status → tag_of_keyed value keyed ≡ value.tag → ⊥
+  pub first_fault : IsStatusOfFirstFault status (fault_of_keyed value keyed l)
+  pub number : IsVerifyNumber status
+  pub known : long_input_status < status → mismatch_status ≤ status
 
-abbrev pub text_to_encrypt : Option (Bor (List ℕ)) → List ℕ → List ℕ
-text_to_encrypt None out = take (length out - 128) out
-text_to_encrypt (Some text) out = text.now
+-- what each number of its test says of the text
+abbrev pub IsVerdictOnText : List ℕ → KeyedPassword → HashLimits → ℕ → Type 0
+IsVerdictOnText text keyed l = IsVerdict text keyed.password.now keyed.secret.now keyed.associated.now l.max_kib l.max_ops
 
--- its length
-abbrev pub length_of_text_to_encrypt : Option (Bor (List ℕ)) → ℕ → ℕ
-length_of_text_to_encrypt None out_len = out_len - 128
-length_of_text_to_encrypt (Some text) out_len = length text.now
+-- nothing is asked of the source before every other refusal is ruled out, and then the matrix alone, under the caller's own
+-- limits; want of memory is told where that was refused
+abbrev pub RequestsMatrixLast : {Source : Type 0} → (Source → Parameters → ℕ → ℕ → Bool → Source) → Value → KeyedPassword → HashLimits
+    → ℕ → Source → Source → Type 0
+RequestsMatrixLast after_matrix value keyed l status before after =
+    RequestsMemoryUnlessEarly (status ≡ mismatch_status)
+    (after_matrix before (parameters_of_value value keyed.password.now) l.max_kib l.max_ops) status before after
 
--- the file has the first 96 bytes
-abbrev pub HasFront : List ℕ → Type 0
-HasFront file = 96 ≤ length file
+-- the text is read once. Nothing more is asked for where it or the test is refused for another reason than memory, and
+-- otherwise the matrix of one hash, under the caller's own limits; want of memory is told where one was refused
+abbrev pub RequestsReadingAndMatrix : {Source : Type 0} → (Source → List ℕ → Bool → Source)
+    → (Source → Parameters → ℕ → ℕ → Bool → Source) → List ℕ → KeyedPassword → HashLimits → ℕ → Source → Source → Type 0
+RequestsReadingAndMatrix after_reading after_matrix text keyed l status before after =
+    RequestsMemoryToVerify (after_reading before text)
+    (λ source value. after_matrix source (parameters_of_value value keyed.password.now) l.max_kib l.max_ops)
+    text keyed.password.now (length keyed.secret.now) (length keyed.associated.now) l.max_kib l.max_ops status after

@@ -1,14 +1,15 @@
 -- What the steps of a run share: how they may end, and what they leave, at every refusal or where there is none.
-use Rattle.std.specs.Prelude.{◌≡◌, ◌≤◌, ℕ, Bool, true, List, Option, Result, IfErr, MatchResult, OnOk, IsTrue, IsFalse, length, take}
-use Rattle.romix.specs.Costs.{Parameters}
+use Rattle.std.specs.Prelude.{◌≡◌, ◌+◌, ℕ, Bool, true, false, List, Option, Result, IfErr, MatchResult, OnOk, IsTrue, IsFalse}
+use Rattle.romix.specs.Costs.{Parameters, cores}
 use Rattle.romix.specs.SparseCosts.{CostsAndKeep}
-use Rattle.encfile.specs.Front.{FrontRefusal}
-use Rattle.host.specs.CallsGrantedByHost.{CallsGrantedByHost, with_input_opened}
-use Rattle.host.specs.HostState.{HostState, Text}
-use Rattle.scrypt_run.specs.Asking.{RequestsMemoryBeforeRefusal, source_after_workspace_request}
-use Rattle.scrypt_run.specs.Front.{FrontRefused, after_front}
+use Rattle.encfile.specs.EncryptedFile.{CountsWithinBound}
+use Rattle.host.specs.CallsGrantedByHost.{CallsGrantedByHost}
+use Rattle.host.specs.Faults.{Faults}
+pub use Rattle.host.specs.Faults.{AreBelow}
+use Rattle.scrypt_run.specs.Asking.{RequestsHeaderMemoryBeforeRefusal, RequestsMemoryBeforeRefusal, WasGranted}
+use Rattle.scrypt_run.specs.Work.{DerivesOnce}
 use Rattle.scrypt_request.specs.Refusal.{comes_only_after_work, is_out_of_memory, may_follow_work}
-use Rattle.scrypt_request.specs.Request.{Task}
+pub use Rattle.scrypt_request.specs.Refusal.{CountsFault, CountsNoEarlyWork}
 use Rattle.scrypt_request.specs.declared.refusal.ScryptRefusal.{ScryptRefusal}
 
 -- ---- which refusals a step may end with
@@ -25,39 +26,53 @@ MayPrecedeWork r = IsFalse (comes_only_after_work r)
 abbrev pub IsNotOutOfMemory : ScryptRefusal → Type 0
 IsNotOutOfMemory r = IsFalse (is_out_of_memory r)
 
--- ---- the first 96 bytes of the input
+-- a step before the derivation, with this result, and the counts of the host's failures before and after it: a refusal
+-- raises its own count, and may come there
+pub record EndsBeforeWork {A : Type 0} (result : Result A ScryptRefusal) (before after : Faults) : Type 0 where
+  pub counts : CountsFault result before after
+  pub early : IfErr result MayPrecedeWork
 
--- the input has at least 96 bytes, and these are its first 96
-abbrev pub IsFrontOf : List ℕ → List ℕ → Type 0
-IsFrontOf input front = (96 ≤ length input) × (front ≡ take 96 input)
+-- ---- what a host grants
 
--- a step with this result, and what the host granted before and after it: where it ends well, the input was opened
-abbrev pub OpensInput : {A : Type 0} → Result A ScryptRefusal → CallsGrantedByHost → CallsGrantedByHost → Type 0
-OpensInput result before after = OnOk result (after ≡ with_input_opened before)
-
--- a step with this result, and the host before and after it: where it ends well, the input was opened and its first 96
--- bytes were pulled; where it is refused, the run ended at these bytes, and `first` is the reason why they are refused
-abbrev pub ReadsFront : {A : Type 0} → Result A ScryptRefusal → Option FrontRefusal → Option Text → HostState → HostState → Type 0
-ReadsFront result first infile before after =
-    MatchResult result (λ _. after ≡ after_front infile before) (λ r. FrontRefused r first infile before after)
-
--- ---- the output
+-- the passphrase's source may still be asked, and a salt asked for
+abbrev pub AwaitsSecretAndSalt : CallsGrantedByHost → Type 0
+AwaitsSecretAndSalt granted = IsTrue granted.secret × IsTrue granted.salt
 
 -- an output may still be opened, and the input pulled from
 abbrev pub AwaitsOutput : CallsGrantedByHost → Type 0
 AwaitsOutput granted = IsTrue granted.output × IsTrue granted.readable
 
--- ---- the memory of a derivation
+-- a step with this result, and what the host granted before and after it: where it ends well, pulls and the opening of
+-- an output are granted as before
+abbrev pub KeepsFiles : {A : Type 0} → Result A ScryptRefusal → CallsGrantedByHost → CallsGrantedByHost → Type 0
+KeepsFiles result before after = OnOk result ((after.readable ≡ before.readable) × (after.output ≡ before.output))
 
--- a step with this result, and the source before and after it: where it ends well, the memory of its derivation was
--- granted
-abbrev pub WorkspaceGranted : {Source A : Type 0} → (Source → CostsAndKeep → Bool → Source) → Task → Parameters
-    → Result A ScryptRefusal → Source → Source → Type 0
-WorkspaceGranted after_workspace task costs result before after =
-    OnOk result (after ≡ source_after_workspace_request after_workspace before task costs true)
+-- ---- the memory of a run. `ask granted` is what its one request leaves of the source, granted or refused
 
--- a step with this result, and the source before and after it: what it asked for where it is refused
-abbrev pub RequestsWorkspaceBeforeRefusal : {Source A : Type 0} → (Source → CostsAndKeep → Bool → Source) → Task → Parameters
-    → Result A ScryptRefusal → Source → Source → Type 0
-RequestsWorkspaceBeforeRefusal after_workspace task costs result before after =
-    IfErr result (λ r. RequestsMemoryBeforeRefusal (source_after_workspace_request after_workspace before task costs) r before after)
+-- a step with this result, and the source before and after it: where it ends well, its request was granted
+abbrev pub AsksMemoryOnce : {Source A : Type 0} → (Bool → Source) → Result A ScryptRefusal → Source → Source → Type 0
+AsksMemoryOnce ask result before after =
+    MatchResult result (λ _. after ≡ ask true) (λ r. RequestsMemoryBeforeRefusal ask r before after)
+
+-- the same of a request by the costs of a header; where the host tells its bytes, they are the costs of the input
+abbrev pub AsksHeaderMemoryOnce : {Source A : Type 0} → Bool → List ℕ → (Parameters → Bool → Source) → Result A ScryptRefusal
+    → Source → Source → Type 0
+AsksHeaderMemoryOnce tells input ask result before after =
+    MatchResult result (λ _. WasGranted tells input ask after) (λ r. RequestsHeaderMemoryBeforeRefusal tells input ask r before after)
+
+-- ---- the work of a run
+
+-- the counter of Salsa20/8 cores went on by one derivation with these costs and this S: where the host tells its
+-- bytes, of the passphrase in this line with this salt; with S = 1 by the cores of the costs; and within their bound
+pub record CountsOneDerivation (tells : Bool) (line : Option (List ℕ)) (salt : List ℕ) (sparse : CostsAndKeep) (before after : ℕ)
+    : Type 0 where
+  pub once : IsTrue tells → DerivesOnce line salt sparse before after
+  pub whole : sparse.keep ≡ 1 → after ≡ before + cores sparse.costs
+  pub within : CountsWithinBound sparse before after
+
+-- a step with this result, and the count before and after it: its work is done where it ends well, or with a refusal
+-- that comes only after it; any other refusal leaves the count
+pub record WorksOnce {A : Type 0} (result : Result A ScryptRefusal) (work : Type 0) (before after : ℕ) : Type 0 where
+  pub done : OnOk result work
+  pub worked : IfErr result (λ r. comes_only_after_work r ≡ true → work)
+  pub unworked : IfErr result (λ r. comes_only_after_work r ≡ false → after ≡ before)

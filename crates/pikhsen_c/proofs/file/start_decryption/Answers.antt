@@ -8,4 +8,4 @@ open-dec-requires-clause-header g c =
     let file : List ℕ = c.args.file.now in
     let same : take 64 file ≡ take 64 c.front_of-front.result =
     sym (take-take 64 96 file (omega arith)) ∙ ap (λ (front : List ℕ). take 64 front) (sym c.front_of-front.ensures.front) in
-    subst (λ (bytes : List ℕ). IsHeaderOf bytes c.in-Ok.both.0) same c.in-Ok.ensures.header
+    subst (λ (bytes : List ℕ). IsHeaderOf bytes c.in-Ok.both.0) same c.in-Ok.ensures.header.bytes

@@ -1,9 +1,14 @@
-use Rattle.std.proofs.Common.{subst}
+use Rattle.std.proofs.Common.{refl, subst}
 use Rattle.pikhsen_c.specs.Stream.{StreamStateHasEncrypted}
 use Rattle.pikhsen_c.specs.declared.stream.StreamState.{StreamState}
 use Rattle.pikhsen_c.proofs.streaming.encrypted.Goals as goal
 
-pub returns-in-Ok-clause-fed : goal.returns-in-Ok-clause-fed
-returns-in-Ok-clause-fed c =
-    λ _ passphrase salt costs text h. c.in-Ok.ensures.fed passphrase salt costs text
-    (subst (λ (run : StreamState). StreamStateHasEncrypted run passphrase salt costs text) c.in-Enc.is h)
+pub returns-in-Ok-clause-piece : goal.returns-in-Ok-clause-piece
+returns-in-Ok-clause-piece c = record {
+  fed = λ _ passphrase salt costs text h. c.in-Ok.ensures.fed passphrase salt costs text
+      (subst (λ (run : StreamState). StreamStateHasEncrypted run passphrase salt costs text) c.in-Enc.is h);
+  written = λ _ passphrase salt costs text h. c.in-Ok.ensures.written passphrase salt costs text
+      (subst (λ (run : StreamState). StreamStateHasEncrypted run passphrase salt costs text) c.in-Enc.is h);
+  fits = λ _ _ _ _ _ _. refl;
+  untouched = λ some. absurd (some refl);
+}

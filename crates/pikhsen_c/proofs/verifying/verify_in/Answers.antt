@@ -40,21 +40,21 @@ returns-clause-verdict g c =
     let valid : IsEncodableValue value = subst IsEncodableValue (sym c.hash_view-view.ensures.value) c.in-Ok.ensures.value in
     let written : IsEncodedTextOf value c.args.text.now =
     subst (λ (v : Value). IsEncodedTextOf v c.args.text.now) (sym c.hash_view-view.ensures.value) c.in-Ok.ensures.found in
-    let first = c.verify_view.ensures.first_fault in
+    let first = c.verify_view.ensures.verdict.first_fault in
     record {
       right = λ told. record {
         value = value;
         valid = valid;
         written = written;
-        admitted = c.verify_view.ensures.admitted told;
-        same = c.verify_view.ensures.right told;
+        admitted = c.verify_view.ensures.verdict.admitted told;
+        same = c.verify_view.ensures.verdict.right told;
       };
       wrong = λ told. record {
         value = value;
         valid = valid;
         written = written;
-        admitted = c.verify_view.ensures.admitted_if_wrong told;
-        other = c.verify_view.ensures.wrong told;
+        admitted = c.verify_view.ensures.verdict.admitted_if_wrong told;
+        other = c.verify_view.ensures.verdict.wrong told;
       };
       not_in_grammar = λ told. absurd (omega (arith, told));
       outside = λ told. absurd (omega (arith, told));
@@ -71,7 +71,7 @@ returns-clause-asked g c =
     let valid : IsEncodableValue value = subst IsEncodableValue (sym c.hash_view-view.ensures.value) c.in-Ok.ensures.value in
     let written : IsEncodedTextOf value c.args.text.now =
     subst (λ (v : Value). IsEncodedTextOf v c.args.text.now) (sym c.hash_view-view.ensures.value) c.in-Ok.ensures.found in
-    let first = c.verify_view.ensures.first_fault in
+    let first = c.verify_view.ensures.verdict.first_fault in
     record {
       asked = λ told. (
         value,
@@ -115,13 +115,13 @@ returns-clause-works g c =
         valid = valid;
         written = written;
         counted = c.verify_view.ensures.works.count told;
-        admitted = within (c.verify_view.ensures.admitted told);
+        admitted = within (c.verify_view.ensures.verdict.admitted told);
       };
       count_if_wrong = λ told. record {
         value = value;
         valid = valid;
         written = written;
         counted = c.verify_view.ensures.works.count_if_late told;
-        admitted = within (c.verify_view.ensures.admitted_if_wrong told);
+        admitted = within (c.verify_view.ensures.verdict.admitted_if_wrong told);
       };
     }

@@ -16,19 +16,19 @@ pub loop-n-init : goal.loop-n-init
 loop-n-init g c =
     let s = g.H.Host.seen c.args.host.now in
     let dec = c.args.dec.now in
-    let none = sym c.requires.new in record {
+    let none = sym c.requires.begun.none in record {
       buf_long = search rules;
       out_long = search rules;
-      read = c.requires.read;
+      read = c.requires.begun.read;
       grants = refl;
       same = search rules;
-      below = omega (arith, c.requires.new);
-      within = λ t. omega (arith, c.requires.new);
+      below = omega (arith, c.requires.begun.none);
+      within = λ t. omega (arith, c.requires.begun.none);
       left = λ t. ap (λ k. drop k s.input) none;
       holds = λ t passphrase front h. subst (λ k. DecryptionHasRead dec passphrase (front ++ take k s.input)) none
           (subst (λ file. DecryptionHasRead dec passphrase file) (sym (append-nil front)) h);
       passes = λ t passphrase front h. subst (λ k. s ≡ after_pull_and_push (released_text_of_header_and_rest passphrase front) k s) none
-          (starts (released_text_of_header_and_rest passphrase front) s (released_text_of_header_and_rest-nil passphrase front (length-first dec passphrase front h c.requires.new)));
+          (starts (released_text_of_header_and_rest passphrase front) s (released_text_of_header_and_rest-nil passphrase front (length-first dec passphrase front h c.requires.begun.none)));
     }
 
 pub returns-then-n-eq0-clause-read : goal.returns-then-n-eq0-clause-read
