@@ -24,8 +24,7 @@ export SOURCE_DATE_EPOCH="${SOURCE_DATE_EPOCH:-$(git log -1 --format=%ct 2>/dev/
 work=$(mktemp -d)
 # A run that does not end well leaves no package, older ones of these names neither.
 trap 'status=$?; rm -rf "$work"; test $status = 0 || rm -f "$out"/*pikhsen*_"$version"[_+]*.deb' EXIT
-trap 'exit 130' INT
-trap 'exit 143' HUP TERM
+trap 'exit 1' HUP INT TERM
 # One that this run does not make would be of older sources.
 rm -f "$out/pikhsen_$version"+*.deb
 libraries=lib/x86_64-linux-gnu
@@ -49,9 +48,7 @@ contents() {
 }
 
 # The package on the newest version of the C library that these files of it ask for.
-libc() {
-    echo "libc6 (>= $(objdump -T "$@" | grep -o 'GLIBC_[0-9.]*' | sort -Vu | tail -n 1 | cut -d_ -f2))"
-}
+libc() { echo "libc6 (>= $(objdump -T "$@" | grep -o 'GLIBC_[0-9.]*' | sort -Vu | tail -n 1 | cut -d_ -f2))"; }
 
 # What a folder takes, in KiB, as Debian counts it: each file rounded up, and 1 for all else. Every file system says so.
 size() {
@@ -70,15 +67,11 @@ build() {
     root=$work/$1
     documents=$root/usr/share/doc/$1
     install -D -m 644 -t "$documents" CHANGELOG.md
+    printf '%s\n' "pikhsen ($told) unstable; urgency=medium" '' '  * CHANGELOG.md says what changed.' '' \
+        " -- $maintainer  $(LC_ALL=C date -Rud "@$SOURCE_DATE_EPOCH")" | gzip -9n >"$documents/changelog.gz"
     {
-        printf 'pikhsen (%s) unstable; urgency=medium\n\n' "$told"
-        printf '  * CHANGELOG.md says what changed.\n\n'
-        printf ' -- %s  %s\n' "$maintainer" "$(LC_ALL=C date -Rud "@$SOURCE_DATE_EPOCH")"
-    } | gzip -9n >"$documents/changelog.gz"
-    {
-        printf 'Package: %s\nSource: pikhsen\nVersion: %s\nArchitecture: %s\n' "$1" "$told" "$2"
-        printf 'Maintainer: %s\nPriority: optional\n' "$maintainer"
-        printf 'Installed-Size: %s\n' "$(size "$root/usr")"
+        printf '%s: %s\n' Package "$1" Source pikhsen Version "$told" Architecture "$2" Maintainer "$maintainer" \
+            Priority optional Installed-Size "$(size "$root/usr")"
         cat
     } >"$root/DEBIAN/control"
     (cd "$root" && find usr -type f | LC_ALL=C sort | xargs md5sum) >"$root/DEBIAN/md5sums"

@@ -1,8 +1,7 @@
 #!/bin/sh
 # Puts the programs, their manual pages, completions and documents below a folder, or takes them away from there.
 #
-#     packaging/install.sh install FOLDER PROGRAMS      FOLDER as /usr/local, from the folder with the programs
-#     packaging/install.sh install FOLDER PROGRAMS LIBRARY      also the library for C, from that with libpikhsen.a
+#     packaging/install.sh install FOLDER PROGRAMS [LIBRARY]    below FOLDER, as /usr/local, what these folders have
 #     packaging/install.sh uninstall FOLDER
 #     packaging/install.sh check FOLDER      refuses what both would refuse, and does nothing
 #
@@ -75,8 +74,7 @@ real=$(realpath -m "$below")
 work=$(mktemp -d)
 making=$work/none # the file that is being put into its place
 trap 'rm -rf "$work"; rm -f "$making"' EXIT
-trap 'exit 130' INT
-trap 'exit 143' HUP TERM
+trap 'exit 1' HUP INT TERM
 { inside "$list" && cat "$below/$list"; } >"$work/older" 2>/dev/null || test "$what" = install ||
     refuse "no list of what was installed: $below/$list"
 if test "$what" = uninstall; then
@@ -117,23 +115,21 @@ if test -n "$library"; then
     place 644 "$library/libpikhsen.so.0" "$lib"
     # The linker's name for it is a link, which is made here alone: the gate refuses links at the top.
     ln -s libpikhsen.so.0 "$work/new/$lib/libpikhsen.so"
-    # That for a higher level of processors, where it was built: the loader looks there by itself.
-    hwcaps=glibc-hwcaps/x86-64-v3
-    test ! -f "$library/$hwcaps/libpikhsen.so.0" || place 644 "$library/$hwcaps/libpikhsen.so.0" "$lib/$hwcaps"
     place 644 include/pikhsen.h include
     page man/pikhsen.3 share/man/man3
     # py.typed tells checkers that the module has types. It counts in a folder of the module's own alone.
-    for name in __init__.py _files.py; do
-        place 644 "python/pikhsen/$name" "$python/pikhsen"
-    done
+    place 644 python/pikhsen/__init__.py "$python/pikhsen"
+    place 644 python/pikhsen/_files.py "$python/pikhsen"
     place 644 /dev/null "$python/pikhsen" py.typed
     sed "s|@PREFIX@|$(escaped "$prefix")|; s|@LIB@|$(escaped "$lib")|; s|@VERSION@|$(cat VERSION)|" \
         packaging/pikhsen.pc.in >"$work/pc"
     place 644 "$work/pc" "$lib/pkgconfig" pikhsen.pc
-    # What stands in place of other libraries, where make compat built it: in a folder where no program looks by itself.
+    # Where they were built: that for a higher level of processors, for which the loader looks there by itself; and what
+    # stands in place of other libraries (make compat), in a folder where no program looks by itself.
+    hwcaps=glibc-hwcaps/x86-64-v3
     compat=pikhsen/compat
-    for file in libargon2.so.1 pikhsen.so; do
-        test ! -f "$library/$compat/$file" || place 644 "$library/$compat/$file" "$lib/$compat"
+    for file in $hwcaps/libpikhsen.so.0 $compat/libargon2.so.1 $compat/pikhsen.so; do
+        test ! -f "$library/$file" || place 644 "$library/$file" "$lib/${file%/*}"
     done
     if test -f "$library/$compat/pikhsen.so"; then
         sed "s|@FOLDER@|$(escaped "$prefix/$lib/$compat")|" compat/openssl/openssl.cnf >"$work/openssl.cnf"

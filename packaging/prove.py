@@ -73,19 +73,6 @@ class Step:
         made = not self.makes or (CRATES / self.crate / self.makes).is_file()
         return made and (status == 0 or self.words[0] == "run")
 
-    def sample(self):
-        """What a program that was just built prints, or else its status, over the words, input and files that its crate
-        has for it, if any."""
-        folder = CRATES / self.crate
-        if self.words[0] != "run" or not (folder / "args").is_file():
-            return None
-        words = (folder / "args").read_text(encoding="utf-8").splitlines()
-        with open(folder / "stdin", "rb") as given:
-            there = folder / "data" if (folder / "data").is_dir() else folder
-            ran = subprocess.run([folder / self.makes, *words], stdin=given, stdout=subprocess.PIPE, text=True, cwd=there)
-        came = f"prints: {ran.stdout.strip()}" if ran.stdout else f"ends with status {ran.returncode}"
-        return f"{' '.join([self.crate, *words])} {came}"
-
     def why(self):
         """The last lines of what a run said that did not end well, and where the others are."""
         last = [f"| {it}" for it in self.log.read_text(encoding="utf-8", errors="replace").splitlines()[-20:]]
@@ -244,8 +231,6 @@ def run_all(steps, running, told):
             # a library that is as it was proved before has nothing to say
             took = f"{step.seconds:.0f} s" if step.log.stat().st_size else "as it was proved before"
             came = f"{len(proved):2d} of {len(steps)} {step.crate}, {took}"
-            if shown := step.sample():
-                say(shown)
         else:
             failed.append(step.crate)
             came = step.why()

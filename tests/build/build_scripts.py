@@ -40,9 +40,6 @@ PACKAGES = [f"bin/{name.format(VERSION)}.deb" for name in NAMES.split()]
 ARCHIVE = "crates/pikhsen_c/out/libpikhsen_c.a"
 # The programs as rt leaves them, and all that build.sh takes away where it fails.
 OUTS, OF_BUILD = [f"crates/{it}/out/{it}" for it in TOOLS.values()], [*PROGRAMS, *OTHERS, "bin/level", PACKAGE]
-# The library in C: the names of the header, over the heap, whose names are not to be seen outside.
-HEAP = "struct tried { _Bool ok; void *block; } rattle_alloc(unsigned long, unsigned long);\n"
-BODY = "unsigned int {}(void) {{ return rattle_alloc(1, 1).ok; }}\n"
 # What is installed, by the folder in which it is then; and the source of each file by its place.
 TOLD = [*TOOLS, "scrypt-ask"]
 FOLDERS = {
@@ -84,9 +81,11 @@ class Room(Tree):
             shutil.copy(TOP / name, self.top)
 
     def compile_library(self):
-        """Makes the static library, as rt has it: with a name of its own, and for any place. gcc is the kit's compiler."""
-        functions = [HEAP, "int own(void);\nint own(void) { return 1; }\n", *(BODY.format(it) for it in sorted(prototypes(HEADER)))]
-        (self.folder / "text.c").write_text("".join(functions), encoding="utf-8")
+        """Makes the static library, as rt has it: the names of the header, over the heap, whose names are not to be seen
+        outside, with a name of its own, and for any place. gcc is the kit's compiler."""
+        heap = "struct tried { _Bool ok; void *block; } rattle_alloc(unsigned long, unsigned long);\n"
+        bodies = [f"unsigned int {it}(void) {{ return rattle_alloc(1, 1).ok; }}\n" for it in sorted(prototypes(HEADER))]
+        put(self.folder / "text.c", "".join([heap, "int own(void);\nint own(void) { return 1; }\n", *bodies]))
         for words in (["gcc", "-fPIC", "-O1", "-c", "text.c", "-o", "text.o"], ["ar", "rcs", "functions.a", "text.o"]):
             subprocess.run(words, cwd=self.folder, check=True)
         (self.kit / "toolchain/bin/clang").write_text('#!/bin/sh\nexec gcc "$@"\n')
@@ -104,16 +103,18 @@ class Room(Tree):
     def modes(self, names):
         return [mode(self.top / it) for it in names if (self.top / it).exists()]
 
-    def left(self):
-        """What scripts left where they work."""
-        return [it.name for it in (self.folder / "tmp").iterdir()]
-
     def texts(self, *names):
         return [it.read_text(encoding="utf-8", errors="replace") if it.exists() else None for it in map(self.top.joinpath, names)]
 
 
 def mode(path):
     return oct(path.stat().st_mode & 0o7777)
+
+
+def below(folder):
+    """What lies below a folder: by each path what a file holds, or where a link leads; nothing of a folder."""
+    paths = {str(it.relative_to(folder)): it for it in folder.rglob("*")}
+    return {name: os.readlink(it) if it.is_symlink() else it.read_bytes() if it.is_file() else None for name, it in paths.items()}
 
 
 def programs_are_built(checks, room, level):
@@ -126,8 +127,8 @@ def programs_are_built(checks, room, level):
     checks.that(f"build.sh {level}: the programs", room.texts(*built), outs)
     checks.that(f"build.sh {level}: those in bin/ stay", room.texts("bin/level", *CHOSEN), here)
     begun = {(room.top / it).stat().st_mtime for it in [*built, f"bin/{level}/began"]}
-    checks.that(f"build.sh {level}: as old as the beginning of the proof", len(begun), 1)
-    checks.that(f"build.sh {level}: no older than its beginning", before - 2 <= begun.pop() <= time.time(), True)
+    found = [before - 2 <= it <= time.time() for it in begun]
+    checks.that(f"build.sh {level}: as old as the beginning of the proof", found, [True])
     levels = {words[words.index("--cpu") + 1] for _, crate, words in room.noted("begin") if crate in TOOLS.values()}
     checks.that(f"build.sh {level}: the level", levels, {level})
     status, _ = room.run("packaging/chosen.sh", level, umask=0o077)
@@ -193,7 +194,7 @@ def what_fails_leaves_nothing(checks, room, has_gcc):
         mended.append((["packaging/lib.sh", "bin/lib", LEVEL], LIBRARIES[:2]))
     for words, made in mended:
         checks.that(f"{words[0]}, mended", (room.run(*words)[0], room.there(made)), (0, made))
-    checks.that("folders that are left", room.left(), [])
+    checks.that("folders that are left", os.listdir(room.folder / "tmp"), [])
 
 
 def is_stopped(checks, room):
@@ -219,42 +220,27 @@ def library_is_made(checks, room):
     """The library has the names of the header alone, is bound and protected as it should be, the same each time."""
     room.compile_library()
     made = []
-    for folder, umask in (("bin/lib", 0o077), ("bin/another folder", 0o022)):
-        status, said = room.run("packaging/lib.sh", folder, *([OTHER, LEVEL] if not made else []), umask=umask)
-        checks.that(f"lib.sh into {folder}", status, 0)
-        files = [room.top / folder / it for it in ("libpikhsen.a", "libpikhsen.so.0")]
-        if not all(it.is_file() for it in files):
-            print(said)
-            return
+    for folder, umask, proved in (("bin/lib", 0o077, [OTHER, LEVEL]), ("bin/another folder", 0o022, [])):
+        status, said = room.run("packaging/lib.sh", folder, *proved, umask=umask)
+        checks.that(f"lib.sh into {folder}", (status, said if status else ""), (0, ""))
         levels = [words[words.index("--cpu") + 1] for _, crate, words in room.noted("begin") if crate == "pikhsen_c"]
-        checks.that("lib.sh: the levels", levels, [] if made else [OTHER, LEVEL])
-        made.append([it.read_bytes() for it in files])
-    checks.that("lib.sh: the same bytes in another folder", made[0] == made[1], True)
+        checks.that("lib.sh: the levels", levels, proved)
+        made.append(below(room.top / folder))
+    both, lower = made
     # the stand-in for rt has one library for all levels
-    higher = room.top / LIBRARIES[2]
-    checks.that("lib.sh: the higher level", higher.is_file() and higher.read_bytes() == made[0][1], True)
-    beside = sorted(it.name for it in higher.parent.iterdir()) if higher.parent.is_dir() else []
-    checks.that("lib.sh: what is made for the higher level", beside, ["libpikhsen.so.0"])
-    checks.that("lib.sh, of the static library as it is", (room.top / "bin/another folder/glibc-hwcaps").exists(), False)
-    shared, static = str(room.top / LIBRARIES[1]), str(room.top / LIBRARIES[0])
+    higher, of_other = {it: both.pop(it) for it in [*both] if it.startswith("glibc-hwcaps")}, f"glibc-hwcaps/{OTHER}"
+    expected = {"glibc-hwcaps": None, of_other: None, f"{of_other}/libpikhsen.so.0": both.get("libpikhsen.so.0")}
+    checks.that("lib.sh: the same bytes in another folder", both == lower, True)
+    checks.that("lib.sh: the higher level", higher == expected, True)
+    static, shared, _ = (str(room.top / it) for it in LIBRARIES)
     binaries.library(checks, shared, static, sorted(prototypes(HEADER)))
-    checks.that("lib.sh: folders that it leaves", room.left(), [])
-
-
-# ---- what is installed, and taken away
-
-
-def below(folder):
-    """What lies below a folder: by each path what a file holds, or where a link leads; nothing of a folder."""
-    paths = {str(it.relative_to(folder)): it for it in folder.rglob("*")}
-    return {name: os.readlink(it) if it.is_symlink() else it.read_bytes() if it.is_file() else None for name, it in paths.items()}
+    checks.that("lib.sh: folders that it leaves", os.listdir(room.folder / "tmp"), [])
 
 
 def is_installed(checks, room):
     """Each file is there with its bytes and its permissions, whatever the umask is, and no other is; and all is listed."""
     to, another = room.folder / "this & that|other", room.folder / "another"
-    for folder in ("lib", "bin"):
-        (to / folder).mkdir(parents=True)
+    (to / "bin").mkdir(parents=True)
     another.write_text("another's")
     (to / "bin/scrypt").symlink_to(another)
     room.older([*CHOSEN, "bin/level", *LIBRARIES, *COMPAT])
@@ -290,15 +276,14 @@ def is_taken_away(checks, room):
     checks.that("make install, into DESTDIR", room.run("make", "install", *words, PIKHSEN_LIB=lib)[0], 0)
     flags = (to / lib / "pkgconfig/pikhsen.pc").read_text(encoding="utf-8")
     checks.that("a prefix with signs of sed's", flags, FLAGS.format(prefix, lib, VERSION))
-    changed, link = ["bin/scrypt", "share/doc/pikhsen/README.md"], f"{lib}/libpikhsen.so"
-    gone = "share/man/man1/scrypt.1"
+    changed, link, gone = ["bin/scrypt", "share/doc/pikhsen/README.md"], f"{lib}/libpikhsen.so", "share/man/man1/scrypt.1"
     for name in (link, gone):
         (to / name).unlink()
     (to / link).symlink_to("libpikhsen.so.7")
-    left = {link: "libpikhsen.so.7", **dict.fromkeys([*changed, "share/zsh/another"], b"another's")}
-    left.update(dict.fromkeys(["bin", "include", "lib", lib, "share", "share/doc", "share/doc/pikhsen", "share/zsh"]))
     for name in [*changed, "share/zsh/another"]:
         (to / name).write_bytes(b"another's")
+    left = {link: "libpikhsen.so.7", **dict.fromkeys([*changed, "share/zsh/another"], b"another's"),
+            **dict.fromkeys(["bin", "include", "lib", lib, "share", "share/doc", "share/doc/pikhsen", "share/zsh"])}
     for name in ("__init__", "_files"):
         put(to / f"share/pikhsen/pikhsen/__pycache__/{name}.cpython-39.pyc", "")
     why = {**dict.fromkeys([*changed, link], "was changed since"), gone: "is not there"}

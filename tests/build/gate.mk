@@ -10,25 +10,22 @@ export RT_JOBS := $(shell cd packaging && python3 -B -c 'import prove; print(pro
 export PIKHSEN_LEFT_OUT := $(CURDIR)/bin/left_out
 step = @{ t=$$({ TIMEFORMAT='%0R %0U %0S'; time $(1) >&3 2>&4; } 2>&1); r=$$?; } 3>&1 4>&2; set -- $$t; \
 	said="$$1"$$'\t'"$$(($$2 + $$3))"$$'\t'"$(1)"; echo "== $$said"; echo "$$said" >>bin/gate.tsv; exit $$r
+# The steps before `rt ci`, and those over compiled code, each a script.
+before := tests/sources/sources.sh tests/pages/documents.py tests/pages/values.py tests/pages/definitions_told.py \
+	tests/edits/choice_test.py tests/build/first_run.py tests/build/build_scripts.py tests/library/heap.py
+of_code := tests/sources/calls.py tests/sources/calls_test.py tests/sources/as_compiled.py
 outside := $(foreach it,$(LEVELS),$(if $(filter x86-64-v2,$(it))$(wildcard bin/$(it)/scrypt),outside-$(it)))
 
-gate: refusals c_face lines calls calls_test as_compiled
+gate: refusals c_face lines $(of_code)
 	@awk -F '\t' -v now=$$(date +%s) 'NR == 1 {begun = $$2} NR > 1 {all += $$2} END {print now - begun "\t" all "\tall"}' \
 		bin/gate.tsv >bin/gate.all && cat bin/gate.all >>bin/gate.tsv && rm bin/gate.all
 	@cat bin/gate.tsv
 	@touch $(PIKHSEN_LEFT_OUT) && sort -u $(PIKHSEN_LEFT_OUT)
 	@! test "$$PIKHSEN_ALL" = 1 || ! grep -q 'is not installed' $(PIKHSEN_LEFT_OUT)
 
-.PHONY: gate calls calls_test as_compiled sources documents values told choice first_run scripts heap proved linked archive refusals c_face lines
-sources:   ; $(call step,tests/sources/sources.sh)
-documents: ; $(call step,tests/pages/documents.py)
-values:    ; $(call step,tests/pages/values.py)
-told:      ; $(call step,tests/pages/definitions_told.py)
-choice:    ; $(call step,tests/edits/choice_test.py)
-first_run: ; $(call step,tests/build/first_run.py)
-scripts:   ; $(call step,tests/build/build_scripts.py)
-heap:      ; $(call step,tests/library/heap.py)
-proved: sources documents values told choice first_run scripts heap
+.PHONY: gate $(before) $(of_code) proved linked archive refusals c_face lines
+$(before):        ; $(call step,$@)
+proved: $(before)
 	@rm -rf crates/*/out/*_tool.o crates/*/out/rlib bin/*.rlib # rt ci leaves what it finds, be it of older sources
 	+$(call step,rt ci)
 linked: proved
@@ -36,9 +33,7 @@ linked: proved
 	@packaging/link.sh x86-64-v2
 	@test -f bin/level && test "$$(cat bin/level)" != x86-64-v2 || packaging/chosen.sh x86-64-v2
 archive: proved   ; $(call step,tests/library/archive.py)
-calls: archive    ; $(call step,tests/sources/calls.py bin/pikhsen_c.rlib)
-calls_test: archive ; $(call step,tests/sources/calls_test.py bin/pikhsen_c.rlib)
-as_compiled: archive ; $(call step,tests/sources/as_compiled.py bin/pikhsen_c.rlib)
+$(of_code): archive ; $(call step,$@ bin/pikhsen_c.rlib)
 refusals: proved  ; $(call step,tests/edits/refusals.py)
 outside-%: linked ; $(call step,tests/programs/outside.sh bin/$*)
 c_face lines: archive $(outside)

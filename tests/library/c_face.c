@@ -10,13 +10,7 @@
 #include "pikhsen.h"
 #include "refusing.h"
 
-#define WANT(holds) \
-	do { \
-		if (!(holds)) { \
-			fprintf(stderr, "%s:%d: %s\n", __FILE__, __LINE__, #holds); \
-			exit(1); \
-		} \
-	} while (0)
+#define WANT(holds) ((holds) ? (void)0 : (fprintf(stderr, "%s:%d: %s\n", __FILE__, __LINE__, #holds), exit(1)))
 #define TOLD(status, call) WANT((call) == PIKHSEN_##status)
 
 static const char password[] = "password", somesalt[] = "somesalt", none[] = "";
@@ -52,11 +46,6 @@ static const unsigned char zeros[128 + 5];
 #define COSTS 4, 3, 2
 #define WIDE 1 << 20, 1 << 20
 
-static unsigned int hash(unsigned char *out)
-{
-	return pikhsen_argon2_hash(ARGON2D, PASSWORD, SALT, EMPTY, EMPTY, 8, 100, out, 32);
-}
-
 static char keyed[PIKHSEN_ENCODED_ROOM(16, 32)], encoded[PIKHSEN_ENCODED_ROOM(8, 32)];
 static unsigned char file[128 + 5], text[128 + 5], place[128 + 5];
 static struct pikhsen_scrypt_costs costs;
@@ -66,7 +55,7 @@ static size_t len;
 
 /* Pieces of one size make the file that pikhsen_scrypt_encrypt makes, and give its text again. */
 enum { LONGEST = 1000103 };
-static unsigned char long_text[LONGEST], whole[LONGEST + 128], pieces[LONGEST + 128], released[LONGEST + 32];
+static unsigned char long_text[LONGEST], whole[LONGEST + 128], pieces[LONGEST + 128], released[LONGEST + 64];
 
 static unsigned int in_pieces(size_t size, size_t length)
 {
@@ -81,25 +70,22 @@ static unsigned int in_pieces(size_t size, size_t length)
 	if (told != PIKHSEN_OK)
 		return told;
 	memcpy(pieces + 96, long_text, length);
+	memset(released, 0, sizeof released);
 	told = pikhsen_scrypt_encrypt_start(PASSWORD, FILE_SALT, KEY, 1, WIDE, &stream, pieces, PIKHSEN_FILE_HEAD);
 	WANT(stream.runs == (told == PIKHSEN_OK));
 	if (told != PIKHSEN_OK)
 		return told;
-	for (at = 0; at < length; at += piece) {
-		piece = length - at < size ? length - at : size;
-		TOLD(OK, pikhsen_scrypt_encrypt_feed(&stream, pieces + 96 + at, piece));
-	}
+	for (at = 0; at < length; at += size)
+		TOLD(OK, pikhsen_scrypt_encrypt_feed(&stream, pieces + 96 + at, length - at < size ? length - at : size));
 	TOLD(OK, pikhsen_scrypt_encrypt_finish(&stream, pieces + 96 + length, PIKHSEN_FILE_CODE));
 	WANT(stream.runs == 0 && memcmp(pieces, whole, length + 128) == 0);
 	told = pikhsen_scrypt_decrypt_start(PASSWORD, 1, WIDE, whole, PIKHSEN_FILE_HEAD, &stream);
 	WANT(stream.runs == 2 * (told == PIKHSEN_OK));
 	if (told != PIKHSEN_OK)
 		return told;
-	for (at = 0; at < rest; at += piece) {
+	for (at = 0; at < rest; at += size, got += len) {
 		piece = rest - at < size ? rest - at : size;
-		TOLD(OK, pikhsen_scrypt_decrypt_feed(&stream, whole + 96 + at, piece, pieces, piece + 32, &len));
-		memcpy(released + got, pieces, len);
-		got += len;
+		TOLD(OK, pikhsen_scrypt_decrypt_feed(&stream, whole + 96 + at, piece, released + got, piece + 32, &len));
 	}
 	TOLD(OK, pikhsen_scrypt_decrypt_finish(&stream));
 	WANT(stream.runs == 0 && got == length && memcmp(released, long_text, length) == 0);
@@ -110,7 +96,7 @@ static unsigned int one(int call, unsigned char *tag)
 {
 	unsigned int told;
 	switch (call) {
-	case 0: return hash(tag);
+	case 0: return pikhsen_argon2_hash(ARGON2D, PASSWORD, SALT, EMPTY, EMPTY, 8, 100, tag, 32);
 	case 1: return pikhsen_argon2_encoded(ARGON2D, PASSWORD, SALT, 32, 8, 100, ENCODED);
 	case 2: return pikhsen_argon2_verify(encoded, strlen(encoded), PASSWORD, 8, 100);
 	case 3: return pikhsen_scrypt(EMPTY, EMPTY, KEY, 4, WIDE, tag, 32);
@@ -130,19 +116,10 @@ static unsigned int one(int call, unsigned char *tag)
 	}
 }
 
-/* What a call is told; it frees all that it takes. */
-static unsigned int call(int number, unsigned char *tag)
-{
-	const long before = live;
-	const unsigned int told = one(number, tag);
-
-	WANT(live == before);
-	return told;
-}
-
-/* Refuses the first request of a call, and then, each time, one later. */
+/* Refuses the first request of a call, and then, each time, one later. It frees all that it takes. */
 static void refused_in_turn(int number, unsigned char *tag)
 {
+	const long taken = live;
 	unsigned char before[32];
 	unsigned int told;
 	long requests = 0;
@@ -151,15 +128,14 @@ static void refused_in_turn(int number, unsigned char *tag)
 	do {
 		granted = requests++;
 		len = 7;
-		told = call(number, tag);
+		told = one(number, tag);
 		granted = -1;
+		WANT(live == taken);
 		WANT(told == PIKHSEN_OK || (told == PIKHSEN_OUT_OF_MEMORY && memcmp(before, tag, 32) == 0));
 		WANT(told == PIKHSEN_OK || (number != 1 && number != 6 && number != 10) || len == 0);
 	} while (told != PIKHSEN_OK);
-#ifdef REFUSE
 	/* the costs of a file take no memory */
-	WANT(number == 5 || requests > 1);
-#endif
+	WANT(number == 5 || requests > 1 || !IS_COUNTED);
 }
 
 /* Limits that are enough, but for one that is too low by one: that of the memory, or that of the work. */
@@ -188,9 +164,7 @@ static void refused_by_limits(int is_work)
 	WANT(pikhsen_argon2_verify(encoded, encoded_len, PASSWORD, BELOW(8, 6)) == told);
 	WANT(pikhsen_argon2_verify_keyed(keyed, keyed_len, ones, 32, SECRET, DATA, BELOW(32, 104)) == told);
 	WANT(asked < 2 * (encoded_len + keyed_len));
-#ifdef REFUSE
-	WANT(hash(tag) == PIKHSEN_OK && asked >= 8192);
-#endif
+	WANT(one(0, tag) == PIKHSEN_OK && (asked >= 8192 || !IS_COUNTED));
 }
 
 /* Null with length 0, for all bytes that a function takes: it is refused, or not, as "" is. */
@@ -370,6 +344,7 @@ static void long_inputs(void)
 
 int main(void)
 {
+	const long taken = live;
 	unsigned char tag[32];
 	int i;
 
@@ -402,8 +377,8 @@ int main(void)
 	refused_by_limits(1);
 	file[100] ^= 1;
 	memset(text, 1, sizeof text);
-	WANT(call(6, tag) == PIKHSEN_DAMAGED && len == 0);
-	WANT(memcmp(text, zeros, sizeof text) == 0);
+	TOLD(DAMAGED, one(6, tag));
+	WANT(len == 0 && live == taken && memcmp(text, zeros, sizeof text) == 0);
 	null_with_length_0();
 	null_for_scrypt();
 	return 0;

@@ -64,25 +64,16 @@ def build(checks, folder):
     return f"{folder}/lib"
 
 
-def warned_of(checks, folder, name, body, warnings):
-    """The compiler warns of this in the body of a function, and of nothing else; or of nothing, and keeps a test of a pointer."""
-    source, made = pathlib.Path(folder, "body.c"), pathlib.Path(folder, "body.s")
-    head = '#include "pikhsen.h"\nunsigned int f(const void *file, struct pikhsen_scrypt_costs *costs)\n'
-    source.write_text(f"{head}{{\n    {body}\n}}\n", encoding="utf-8")
-    status, says = ran("gcc", *STRICT, "-O2", "-Wno-unused-parameter", *INCLUDE, "-S", source, "-o", made)
-    found = re.findall(r"\[-W(?:error=)?([\w-]+)\]$", says, re.MULTILINE)
-    is_kept = status == 0 and "$77" in made.read_text(encoding="utf-8")
-    checks.that(f"warned of: {name}", (says != "", found, is_kept), (warnings != [], warnings, warnings == []))
-
-
 def from_c(checks, folder, lib, is_watched):
     has_cpp = is_there("g++", "the header is not compiled as C++, and nothing is called from it")
     has_valgrind = is_watched and is_there("valgrind", "nothing runs under it")
-    empty, call = pathlib.Path(folder, "empty.c"), pathlib.Path(folder, "call.cpp")
-    empty.write_text('#include "pikhsen.h"\n' * 2, encoding="utf-8")
+    call, head = pathlib.Path(folder, "call.cpp"), '#include "pikhsen.h"\n'
     call.write_text(CALL, encoding="utf-8")
-    for words in (["gcc", *STRICT], *([["g++", "-Wall", "-Wextra", "-Werror", "-x", "c++"]] * has_cpp)):
-        checks.that(f"header under {words[0]}", ran(*words, *INCLUDE, "-fsyntax-only", empty), (0, ""))
+    for words in (["gcc", *STRICT, "-x", "c"], *([["g++", "-Wall", "-Wextra", "-Werror", "-x", "c++"]] * has_cpp)):
+        checks.that(f"header under {words[0]}", ran(*words, *INCLUDE, "-fsyntax-only", "-", input=head * 2), (0, ""))
+    # the compiler warns of what is wrong in a body, and of nothing else; or of nothing, and keeps a test of a pointer
+    head += "unsigned int f(const void *file, struct pikhsen_scrypt_costs *costs)\n"
+    words = ["gcc", *STRICT, "-O2", "-Wno-unused-parameter", *INCLUDE, "-S", "-x", "c", "-", "-o", "-"]
     for name, body, warnings in (
         ("an answer that is ignored", "pikhsen_scrypt_info(file, 64, costs); return 0;", ["unused-result"]),
         ("a null pointer without a length", "return pikhsen_scrypt_info(file, 64, 0);", ["nonnull"]),
@@ -90,7 +81,9 @@ def from_c(checks, folder, lib, is_watched):
         ("null with length 0", "unsigned int told = pikhsen_scrypt_info(file, 0, costs); return file ? told : 77;", []),
         ("null itself", "return pikhsen_scrypt_info(0, 0, costs) + 77;", []),
     ):
-        warned_of(checks, folder, name, body, warnings)
+        status, says = ran(*words, input=f"{head}{{\n    {body}\n}}\n")
+        found = status == 0, re.findall(r"\[-W(?:error=)?([\w-]+)\]$", says, re.MULTILINE), "$77" in says
+        checks.that(f"warned of: {name}", found, (warnings == [], warnings, warnings == []))
     program, valgrind = f"{folder}/program", ["valgrind", "-q", "--error-exitcode=9", "--leak-check=full", "--track-origins=yes"]
     for static in (True, False):
         kind = "static" if static else "shared"
@@ -130,7 +123,7 @@ def kept_pieces(process, pieces):
             memory.seek(int(start, 16))
             content = memory.read(int(end, 16) - int(start, 16))
             found |= {name for name, piece in pieces.items() if piece in content}
-    return sorted(found)
+    return found
 
 
 def pieces_of(name, content):
@@ -215,30 +208,24 @@ def searches_from_c(checks, program):
     pieces = {**of_key, **rows, **blocks, **other_blocks}
     # the first two show that the search finds a key, on the stack too
     for what in ("kept", "stack", "hash", "encoded", "verify", "key", "sparse", "encrypt", "decrypt", "to-pieces", "of-pieces", "pieces-freed"):
-        expected = sorted(of_key) if what in ("kept", "stack") else []
-        searched(checks, [program, what], lambda process: kept_pieces(process, pieces), expected)
+        searched(checks, [program, what], pieces, {*of_key} if what in ("kept", "stack") else set())
     # a row stands in its own order only before it is turned
     turned = {name: piece for name, piece in rows.items() if "table" in name}
     for what, wanted in (("hash", blocks), ("encoded", other_blocks), ("key", turned), ("sparse", turned)):
-        searched(checks, [program, "again", what], lambda process: pieces_during(process, wanted), sorted(wanted))
+        searched(checks, [program, "again", what], wanted, {*wanted}, seconds=30)  # which are enough for all
 
 
-def searched(checks, words, search, expected):
-    """What a search finds in the memory of a process that made a call."""
+def searched(checks, words, pieces, expected, seconds=0):
+    """Which of these bytes stand in the memory of a process that made a call, at one time or another of so many seconds."""
     with subprocess.Popen(words, stdin=subprocess.PIPE, stdout=subprocess.PIPE) as process:
         try:
             checks.that(f"answer of: {' '.join(words[1:])}", process.stdout.readline(), b"0\n")
-            checks.that(f"found in memory: {' '.join(words[1:])}", search(process), expected)
+            found, end = kept_pieces(process, pieces), time.monotonic() + seconds
+            while len(found) < len(pieces) and time.monotonic() < end:
+                found |= kept_pieces(process, pieces)
+            checks.that(f"found in memory: {' '.join(words[1:])}", found, expected)
         finally:
             process.kill()
-
-
-def pieces_during(process, wanted):
-    """Which of these bytes stand in the memory of a process at one time or another; 30 seconds are enough for all."""
-    found, end = set(), time.monotonic() + 30
-    while len(found) < len(wanted) and time.monotonic() < end:
-        found.update(kept_pieces(process, wanted))
-    return sorted(found)
 
 
 def main():

@@ -4,8 +4,9 @@ the test program of the reference implementation of Argon2 (src/test.c), and the
 
     tests/library/clients.py FOLDER DIR      FOLDER has libpikhsen.so.0, as bin/lib
 
-Of tests in Python it shows what pytest says. Fails where a test fails but those of DIFFERENCES, or where one of these
-ends as it was written. Those of Argon2 call libargon2.so.1 of compat/, but for two answers that the adapter makes.
+Of tests in Python it shows what pytest says. Fails where one of the three is not there, where a test fails but those of
+DIFFERENCES, or where one of these ends as it was written. Those of Argon2 call libargon2.so.1 of compat/, but for two
+answers that the adapter makes.
 
 Takes the sources and packages that are unpacked in DIR, and the modules of the Python that runs it. It installs nothing
 and uses no network. Debian has them all, some of them in its newer suites alone:
@@ -33,10 +34,11 @@ DIFFERENCES = {"tests/test_low_level.py::test_argument_ranges": "a salt of more 
 LEFT_OUT = {"tests/test_packaging.py": "it reads what pip notes of an installed package"}
 
 
-def tree_with(sources, file, *others):
-    """Of the folders below this one that have all these files the one with the last name: the newest version."""
-    trees = [it.parents[file.count("/")] for it in sources.rglob(file)]
-    return max((it for it in trees if all((it / other).is_file() for other in others)), default=None)
+def tree_with(sources, *files):
+    """Of the folders below this one that have these files the one with the last name: the newest version."""
+    trees = [it.parents[files[0].count("/")] for it in sources.rglob(files[0])]
+    trees = [it for it in trees if all((it / file).is_file() for file in files)]
+    return max(trees) if trees else sys.exit(f"{files[0]} is not below {sources}")
 
 
 def compiled(words, out):
@@ -57,48 +59,40 @@ def of_test_program(tree, adapter, link, work):
     return tests and not failed and not rest.strip() and not ran.returncode
 
 
-def of_argon2_cffi(adapter, header, run):
+def of_argon2_cffi(adapter, header, suite, tree):
     """Whether all its tests pass but those that differ, and these do within the limits alone."""
     print(f"left out: {LEFT_OUT}; they differ, and then pass within the limits: {DIFFERENCES}", flush=True)
     others = [f"--ignore={it}" for it in LEFT_OUT] + [f"--deselect={it}" for it in DIFFERENCES]
     runs = [("whole", 0, "tests", *others)]
     for it in DIFFERENCES:
         runs += [("whole", 1, it), ("within", 0, it)]
-    return all(run("argon2-cffi", adapter, header, how, *words) == status for how, status, *words in runs)
+    return all(suite(tree, "argon2-cffi", adapter, header, how, *words) == status for how, status, *words in runs)
 
 
 def main():
     if len(sys.argv) != 3:
         raise SystemExit(__doc__)
-    right, (lib, sources) = {}, (pathlib.Path(it).resolve() for it in sys.argv[1:])
+    lib, sources = (pathlib.Path(it).resolve() for it in sys.argv[1:])
     with tempfile.TemporaryDirectory() as work:
         work = pathlib.Path(work)
         link = ["-L", lib, "-l:libpikhsen.so.0", f"-Wl,-rpath,{lib}"]
         environment = {**os.environ, "PYTHONPATH": ":".join(map(str, sources.rglob("dist-packages"))),
                        "PYTHONDONTWRITEBYTECODE": "1", "HYPOTHESIS_STORAGE_DIRECTORY": str(work / "hypothesis")}
 
-        def begun(name, tree, *modules):
-            """What runs the tests of this name, where they are there, and the modules that they need; else None."""
-            has = subprocess.run([sys.executable, "-c", f"import {', '.join(modules)}"], env=environment)
-            if not tree or has.returncode:
-                return print(f"{name}: left out, without its sources, or without {', '.join(modules)}")
-            print(f"{name}: {tree.name}", flush=True)
-            words = [sys.executable, ADAPTERS / "suites.py"]
-            return lambda *more: subprocess.run([*words, *more], cwd=tree, env=environment).returncode
+        def suite(tree, *words):
+            """The status of a client's tests in Python, over an adapter."""
+            return subprocess.run([sys.executable, ADAPTERS / "suites.py", *words], cwd=tree, env=environment).returncode
 
         adapter = compiled(["-shared", "-fPIC", ADAPTERS / "argon2.c", *link], work / "libargon2.so")
         tree = tree_with(sources, "src/test.c", "include/argon2.h")
-        if begun("argon2's test program", tree, "sys"):
-            right["argon2"] = of_test_program(tree, adapter, link, work)
-        header = next(sources.rglob("argon2.h"), None)
-        tree = header and tree_with(sources, "tests/test_low_level.py", "src/argon2/low_level.py")
-        if run := begun("argon2-cffi", tree, "cffi", "hypothesis", "pytest"):
-            right["argon2-cffi"] = of_argon2_cffi(adapter, header, run)
-        if run := begun("python-scrypt", tree_with(sources, "scrypt/tests/test_scrypt.py"), "pytest"):
-            adapter = compiled(["-shared", "-fPIC", ADAPTERS / "scrypt.c", *link], work / "_scrypt.so")
-            right["python-scrypt"] = run("python-scrypt", adapter, "scrypt/tests") == 0
-    failed = [name for name, it in right.items() if not it]
-    sys.exit(f"FAILED: {', '.join(failed)}" if failed else None if right else "nothing was run")
+        right = {tree.name: of_test_program(tree, adapter, link, work)}
+        header, tree = tree / "include/argon2.h", tree_with(sources, "tests/test_low_level.py", "src/argon2/low_level.py")
+        right[tree.name] = of_argon2_cffi(adapter, header, suite, tree)
+        adapter = compiled(["-shared", "-fPIC", ADAPTERS / "scrypt.c", *link], work / "_scrypt.so")
+        tree = tree_with(sources, "scrypt/tests/test_scrypt.py")
+        right[tree.name] = suite(tree, "python-scrypt", adapter, "scrypt/tests") == 0
+    print(f"passed: {right}")
+    sys.exit(not all(right.values()))
 
 
 if __name__ == "__main__":

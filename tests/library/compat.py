@@ -10,8 +10,6 @@ import os
 import pathlib
 import random
 import re
-import shutil
-import subprocess
 import sys
 
 sys.path += map(str, pathlib.Path(__file__).resolve().parents[1].iterdir())  # the other folders of tests/
@@ -28,14 +26,23 @@ NAMES = sorted([
     *(f"argon2_{it}" for it in ("ctx", "encodedlen", "error_message", "hash", "type2string", "verify", "verify_ctx")),
     *(f"{kind}_{it}" for kind in KINDS for it in ("ctx", "hash_encoded", "hash_raw", "verify", "verify_ctx")),
 ])
+# What is built: the names that it shows, its soname, and the libraries that it needs.
+SHOWN = {
+    "libargon2.so.1": (NAMES, ["libargon2.so.1"], "libc.so.6"),
+    "pikhsen.so": (["OSSL_provider_init"], [], "libcrypto.so.3", "libc.so.6"),
+}
 # The numbers of argon2.h that are named below.
 OK, OUTPUT_TOO_LONG, SALT_TOO_LONG, MEMORY_ALLOCATION_ERROR, INCORRECT_PARAMETER, ENCODING_FAIL, DECODING_FAIL, VERIFY_MISMATCH = (
     0, -3, -7, -22, -25, -31, -32, -35)
 # Words of the header that are none.
 NO_NUMBERS = {"ARGON2_LOCAL", "ARGON2_MIN", "ARGON2_OF_TYPE", "ARGON2_PUBLIC"}
-CALLS = 10000
-GIVE = ctypes.CFUNCTYPE(ctypes.c_int, ctypes.POINTER(ctypes.c_void_p), ctypes.c_size_t)
-TAKE = ctypes.CFUNCTYPE(None, ctypes.c_void_p, ctypes.c_size_t)
+# How many random calls are made, and how many bytes their outputs have room for.
+CALLS, ROOM = 10000, 8000
+SIZE = ctypes.c_size_t
+GIVE = ctypes.CFUNCTYPE(ctypes.c_int, ctypes.POINTER(ctypes.c_void_p), SIZE)
+TAKE = ctypes.CFUNCTYPE(None, ctypes.c_void_p, SIZE)
+# The numbers of a random call that come first.
+COSTS = "t_cost", "m_cost", "lanes"
 
 
 class Context(ctypes.Structure):
@@ -49,25 +56,25 @@ class Context(ctypes.Structure):
 
 
 def loaded(file):
-    """A library with these names. Each is given the types of its parameters by what it is called with."""
+    """A library with these names, of whose parameters those of 64 bits are told by what they are given."""
     library = ctypes.CDLL(str(file))
     library.argon2_error_message.restype = library.argon2_type2string.restype = ctypes.c_char_p
-    library.argon2_encodedlen.restype = ctypes.c_size_t
+    library.argon2_encodedlen.restype = SIZE
     return library
 
 
 def built(checks, folder, lib):
-    """The library, built twice, and what it shows of itself."""
+    """Library and provider, built twice, and what each shows of itself."""
     for it in ("compat", "again"):
         checks.that(f"compat.sh: {it}", ran(TOP / "packaging/compat.sh", lib, f"{folder}/{it}"), (0, ""))
-    file = pathlib.Path(folder, "compat/libargon2.so.1")
-    checks.that("libargon2.so.1, built twice", file.read_bytes() == pathlib.Path(folder, "again", file.name).read_bytes(), True)
-    binaries.names_in(checks, ["nm", "-D", "--defined-only", str(file)], NAMES)
-    checks.that("libargon2.so.1: soname", re.findall(r"\(SONAME\).*\[(.*)\]", said("readelf", "-d", str(file))), [file.name])
-    checks.that("libargon2.so.1: nothing of this machine", "Build ID" in said("readelf", "-nW", str(file)), False)
-    binaries.hardened(checks, "libargon2.so.1", file, False)
-    binaries.level(checks, "libargon2.so.1", file, False)
-    return file
+    for file in sorted(pathlib.Path(folder, "compat").glob("*.so*")):
+        name, (names, soname, *needed) = file.name, SHOWN[file.name]
+        checks.that(f"{name}, built twice", file.read_bytes() == pathlib.Path(folder, "again", name).read_bytes(), True)
+        binaries.names_in(checks, ["nm", "-D", "--defined-only", str(file)], names)
+        checks.that(f"{name}: soname", re.findall(r"\(SONAME\).*\[(.*)\]", said("readelf", "-d", str(file))), soname)
+        checks.that(f"{name}: nothing of this machine", "Build ID" in said("readelf", "-nW", str(file)), False)
+        binaries.hardened(checks, name, file, False, needed)
+        binaries.level(checks, name, file, False)
 
 
 def header(checks, folder):
@@ -83,23 +90,17 @@ def header(checks, folder):
         return
     found = {}
     for name, file in (("ours", HEADER), ("Debian's", debians)):
-        shutil.copy(file, f"{folder}/argon2.h")
         plain = re.sub(r"/\*.*?\*/", "", file.read_text(encoding="utf-8"), flags=re.DOTALL)
         numbers = {*re.findall(r"\b(?:ARGON2_[A-Z]\w+|Argon2_(?:d|i|id)\b)", plain)} - NO_NUMBERS
         lines = [f'printf("{it} %lld\\n", (long long)({it}));' for it in sorted(numbers)]
         lines += [f'printf("{it} %zu %zu\\n", offsetof(argon2_context, {it}), sizeof of.{it});' for it, _ in Context._fields_]
         lines += [f'printf("{it} %zu\\n", sizeof({it}));' for it in ("argon2_context", "argon2_type")]
         compiled("#include <limits.h>\n#include <stddef.h>\n#include <stdio.h>\n#include <argon2.h>\n"
-                 f"int main(void) {{ argon2_context of; {' '.join(lines)} }}", f"{folder}/numbers", "-I", folder)
+                 f"int main(void) {{ argon2_context of; {' '.join(lines)} }}", f"{folder}/numbers", "-I", str(file.parent))
         found[name] = set(said(f"{folder}/numbers").splitlines())
     checks.that("numbers and sizes of argon2.h", found["ours"], found["Debian's"])
     both = f"#include <stddef.h>\n#include <argon2.h>\n{declared}"
-    made = subprocess.run(["gcc", "-I", folder, "-x", "c", "-fsyntax-only", "-"], input=both, text=True, capture_output=True)
-    checks.that("functions of argon2.h beside Debian's", (made.returncode, made.stderr), (0, ""))
-
-
-# What is called with random arguments, and what is left in each buffer.
-ROOM = 8000
+    checks.that("functions of argon2.h beside Debian's", ran("gcc", "-x", "c", "-fsyntax-only", "-", input=both), (0, ""))
 
 
 def hashed_in(library, it, which):
@@ -114,9 +115,8 @@ def hashed_in(library, it, which):
         return 0
 
     of = Context(**{name: ctypes.addressof(buffers[name]) for name in buffers if name != it["null"]},
-                 **{f"{name}len": len(it[name]) for name in buffers if name != "out"}, outlen=it["tag_len"],
-                 **{name: it[name] for name in ("lanes", "threads", "version", "flags")},
-                 t_cost=it["passes"], m_cost=it["kib"])
+                 **{f"{name}len": len(it[name]) for name in buffers if name != "out"},
+                 **{name: it[name] for name in (*COSTS, "outlen", "threads", "version", "flags")})
     if "give" in it["callbacks"]:
         of.allocate_cbk = GIVE(give)
     if "take" in it["callbacks"]:
@@ -134,17 +134,16 @@ def hashed_in(library, it, which):
 def encoded_by(library, it):
     """The answer of argon2_hash, or of a function of the type, and its buffers after the call."""
     tag, text = (ctypes.create_string_buffer(b"\xa5" * ROOM, ROOM) for _ in range(2))
-    size = ctypes.c_size_t
-    given = [ctypes.c_uint32(it[name]) for name in ("passes", "kib", "lanes")]
-    given += [None if it["null"] == "pwd" else it["pwd"], size(len(it["pwd"])), None if it["null"] == "salt" else it["salt"], size(len(it["salt"]))]
-    wanted = it["wanted"]
+    given, wanted = [it[name] for name in COSTS], it["wanted"]
+    for name in ("pwd", "salt"):
+        given += [None if it["null"] == name else it[name], SIZE(len(it[name]))]
+    tag_len, room = SIZE(it["outlen"]), SIZE(it["room"])
     if it["kind"] < 3 and it["version"] == 0x13 and it["by_name"] and wanted != "both":
-        last = [tag, size(it["tag_len"])] if wanted == "tag" else [size(it["tag_len"]), text, size(it["room"])]
-        name = "hash_raw" if wanted == "tag" else "hash_encoded"
+        name, *last = ("hash_raw", tag, tag_len) if wanted == "tag" else ("hash_encoded", tag_len, text, room)
         answer = getattr(library, f"{KINDS[it['kind']]}_{name}")(*given, *last)
     else:
-        answer = library.argon2_hash(*given, None if wanted == "text" else tag, size(it["tag_len"]), None if wanted == "tag" else text,
-                                     size(it["room"]), it["kind"], ctypes.c_uint32(it["version"]))
+        given += [None if wanted == "text" else tag, tag_len, None if wanted == "tag" else text, room]
+        answer = library.argon2_hash(*given, it["kind"], it["version"])
     return answer, [], [tag.raw, text.raw]
 
 
@@ -153,21 +152,19 @@ def some_call(of, library):
     def number(usual, *others):
         return of.choice(others) if of.random() < 0.05 else usual
 
-    def some(length):
-        return of.randbytes(length)
-
     lanes = number(of.randint(1, 4), 0, 200, 0x1000000, 0xffffffff)
     it = {
-        "passes": number(of.randint(1, 3), 0, 5), "lanes": lanes, "kib": number(8 * min(lanes, 300) + of.randrange(60), 0, 1, 7, 8, 15, 16),
+        "t_cost": number(of.randint(1, 3), 0, 5), "lanes": lanes,
+        "m_cost": number(8 * min(lanes, 300) + of.randrange(60), 0, 1, 7, 8, 15, 16),
         "version": number(of.choice((0x10, 0x13, 0x13)), 0, 0x11, 0x12, 0x14), "threads": number(lanes, 0, 1, 2, 0x1000000),
-        "kind": number(of.randrange(3), 3, 7), "tag_len": number(of.randint(4, 104), 0, 3, 4096, 4097, 5000),
-        "pwd": some(number(of.randrange(200), 0, 1, 5000)), "salt": some(number(of.randint(8, 108), 0, 7, 255, 256, 300)),
-        "secret": some(of.choice((0, of.randrange(60)))), "ad": some(of.choice((0, of.randrange(60)))),
+        "kind": number(of.randrange(3), 3, 7), "outlen": number(of.randint(4, 104), 0, 3, 4096, 4097, 5000),
+        "pwd": of.randbytes(number(of.randrange(200), 0, 1, 5000)),
+        "salt": of.randbytes(number(of.randint(8, 108), 0, 7, 255, 256, 300)),
+        **{name: of.randbytes(of.choice((0, of.randrange(60)))) for name in ("secret", "ad")},
         "null": number(None, "out", "pwd", "salt", "secret", "ad"), "callbacks": number((), ("give", "take"), ("give",), ("take",)),
         "flags": of.choice((0, 0, 1, 2, 3)), "by_name": of.random() < 0.5, "wanted": of.choice(("tag", "text", "both")),
     }
-    exact = library.argon2_encodedlen(*(ctypes.c_uint32(it[name]) for name in ("passes", "kib", "lanes")),
-                                      ctypes.c_uint32(len(it["salt"])), ctypes.c_uint32(it["tag_len"]), min(it["kind"], 2))
+    exact = library.argon2_encodedlen(*(it[name] for name in COSTS), len(it["salt"]), it["outlen"], min(it["kind"], 2))
     it["room"] = max(0, min(ROOM, of.choice((ROOM, exact, number(exact, exact - 1, 20, 0)))))
     return it
 
@@ -175,7 +172,7 @@ def some_call(of, library):
 def listed_of(it, is_context):
     """The answers by which a call is refused that Debian's library does not refuse."""
     return {
-        *([OUTPUT_TOO_LONG] if it["tag_len"] > 4096 else []), *([SALT_TOO_LONG] if len(it["salt"]) > 255 else []),
+        *([OUTPUT_TOO_LONG] if it["outlen"] > 4096 else []), *([SALT_TOO_LONG] if len(it["salt"]) > 255 else []),
         *([INCORRECT_PARAMETER] if it["version"] not in (0x10, 0x13) else []),
         *([MEMORY_ALLOCATION_ERROR] if is_context and it["callbacks"] == ("give", "take") else []),
     }
@@ -194,11 +191,6 @@ def changed(of, text):
     ))
 
 
-def is_small(text):
-    """Whether a hash of this text, if it is one, is soon made."""
-    return all(int(it) < 2000 or int(it) > 0xffffffff for it in re.findall(rb"[mt]=(\d+)", text))
-
-
 def out_of_range(text):
     """Whether a text is one of a hash, but for the range of some value."""
     found = re.fullmatch(rb"\$argon2(?:d|i|id)(?:\$v=(\d+))?\$m=(\d+),t=(\d+),p=(\d+)\$([A-Za-z0-9+/]*)\$([A-Za-z0-9+/]*)", text)
@@ -212,40 +204,35 @@ def out_of_range(text):
 
 def beside_debians(checks, file):
     """Random calls, of which each ends as over Debian's library, or in one of the ways that the page lists."""
-    if not DEBIANS.exists():
-        left_out("libargon2-1 is not installed", "no calls are made beside it", CALLS)
-        return
     ours, theirs, of = loaded(file), loaded(DEBIANS), random.Random(1)
     wrong, seen = [], dict.fromkeys(("worked", "refused", "listed", "no room", "text"), 0)
 
     def compare(name, it, listed, ours_said, theirs_said, refused):
-        answer, theirs_answer = ours_said[0], theirs_said[0]
+        answer, theirs_answer, is_unchanged = ours_said[0], theirs_said[0], ours_said[1:] == refused
         if listed and theirs_answer in (OK, VERIFY_MISMATCH, ENCODING_FAIL):
-            seen["listed"] += 1
-            same = answer in listed and ours_said[1:] == refused
+            kind, same = "listed", answer in listed and is_unchanged
         elif answer in (OK, VERIFY_MISMATCH):
-            seen["worked"] += 1
-            same = not listed and ours_said == theirs_said
+            kind, same = "worked", not listed and ours_said == theirs_said
         else:
-            seen["no room" if answer == ENCODING_FAIL else "refused"] += 1
-            same = answer == theirs_answer and ours_said[1:] == refused
+            kind, same = "no room" if answer == ENCODING_FAIL else "refused", answer == theirs_answer and is_unchanged
+        seen[kind] += 1
         if not same:
             wrong.append((name, answer, theirs_answer, it))
 
     for code in range(-40, 4):
-        known = [it.argon2_error_message(code) != it.argon2_error_message(1) for it in (ours, theirs)]
-        checks.that(f"a sentence of {code}", known[0], known[1])
+        known = (it.argon2_error_message(code) != it.argon2_error_message(1) for it in (ours, theirs))
+        checks.that(f"a sentence of {code}", *known)
     for kind in range(-1, 5):
         for case in range(3):
             checks.that(f"the name of {kind}, {case}", *(it.argon2_type2string(kind, case) for it in (ours, theirs)))
     for _ in range(CALLS):
         it, which = some_call(of, theirs), of.choice(("hash", "verify", "text", "text"))
-        before = [[len(it["pwd"]), len(it["salt"]), len(it["secret"]), len(it["ad"]), it["tag_len"]],
-                  [it[name] or b"\0" for name in ("pwd", "salt", "secret", "ad")] + [b"\xa5" * ROOM]]
+        inputs = it["pwd"], it["salt"], it["secret"], it["ad"]
+        before = [*map(len, inputs), it["outlen"]], [*(each or b"\0" for each in inputs), b"\xa5" * ROOM]
         if which == "text":
             if it["kind"] < 3:
-                lengths = [each.argon2_encodedlen(*(ctypes.c_uint32(it[name]) for name in ("passes", "kib", "lanes")), len(it["salt"]),
-                                                  it["tag_len"], it["kind"]) for each in (ours, theirs)]
+                given = *(it[name] for name in COSTS), len(it["salt"]), it["outlen"], it["kind"]
+                lengths = [each.argon2_encodedlen(*given) for each in (ours, theirs)]
                 wrong += [("encodedlen", *lengths, it)] if lengths[0] != lengths[1] else []
             both = [encoded_by(each, it) for each in (ours, theirs)]
             compare("argon2_hash", it, listed_of(it, False), *both, ([], [b"\xa5" * ROOM] * 2))
@@ -253,8 +240,9 @@ def beside_debians(checks, file):
             if both[0][0] == OK and text[:1] == b"$":
                 text, password = changed(of, text), of.choice((it["pwd"], it["pwd"], b"x" + it["pwd"]))
                 kind = of.choice((it["kind"],) * 5 + (0, 1, 2, 3))
-                if is_small(text):
-                    told = [each.argon2_verify(text, password, ctypes.c_size_t(len(password)), kind) for each in (ours, theirs)]
+                # a hash of it, if it is a text of one, is soon made
+                if all(int(it) < 2000 or int(it) > 0xffffffff for it in re.findall(rb"[mt]=(\d+)", text)):
+                    told = [each.argon2_verify(text, password, SIZE(len(password)), kind) for each in (ours, theirs)]
                     is_read = told[1] in (OK, VERIFY_MISMATCH)
                     if told[0] == DECODING_FAIL != told[1] and (not is_read or out_of_range(text) or not text.isascii()):
                         seen["text"] += 1
@@ -262,11 +250,11 @@ def beside_debians(checks, file):
                         wrong.append(("argon2_verify", *told, text))
         else:
             if which == "verify":
-                it["tag"] = hashed_in(theirs, {**it, "flags": 0}, "hash")[2][-1][:ROOM]
-                at = of.randrange(max(1, min(it["tag_len"], 4096)))
+                it["tag"] = hashed_in(theirs, {**it, "flags": 0}, "hash")[2][-1]
+                at = of.randrange(max(1, min(it["outlen"], 4096)))
                 it["tag"] = it["tag"] if of.random() < 0.5 else it["tag"][:at] + bytes([it["tag"][at] ^ 4]) + it["tag"][at + 1:]
             both = [hashed_in(each, it, which) for each in (ours, theirs)]
-            compare(f"argon2_ctx to {which}", it, listed_of(it, True), *both, tuple(before))
+            compare(f"argon2_ctx to {which}", it, listed_of(it, True), *both, before)
     checks.that("calls beside Debian's library", wrong[:3], [])
     checks.that("kinds of answers that were seen", [name for name, count in seen.items() if count < 20], [])
     print(f"{CALLS} calls beside Debian's library: {seen}")
@@ -335,10 +323,9 @@ int main(void)
 
 
 def calls_of_c(checks, folder, file):
-    source, program = pathlib.Path(folder, "calls.c"), f"{folder}/calls"
-    source.write_text(CALLS_OF_C.replace("TEXT", STORED[0]), encoding="utf-8")
-    words = ["-std=gnu99", "-O1", "-w", *REFUSING, "-I", HEADER.parent, f"-Wl,-rpath,{file.parent},-z,now"]
-    checks.that("calls.c, compiled", ran("gcc", *words, source, file, "-o", program), (0, ""))
+    program, source = f"{folder}/calls", CALLS_OF_C.replace("TEXT", STORED[0])
+    words = ["-std=gnu99", "-O1", "-w", *REFUSING, "-I", HEADER.parent, f"-Wl,-rpath,{file.parent},-z,now", "-o", program]
+    checks.that("calls.c, compiled", ran("gcc", *words, "-x", "c", "-", "-x", "none", file, input=source), (0, ""))
     checks.that("memory refused in turn, and the stack after each call", ran(program), (0, ""))
 
 
@@ -346,8 +333,8 @@ def answers(checks, file):
     """What the interface promises beyond the calls beside Debian's: flags clear what they name, and an output may lie over an input."""
     library = loaded(file)
     # RFC 9106, 5.3
-    it = {"passes": 3, "kib": 32, "lanes": 4, "threads": 4, "version": 0x13, "kind": 2, "tag_len": 32, "pwd": b"\1" * 32, "salt": b"\2" * 16,
-          "secret": b"\3" * 8, "ad": b"\4" * 12, "null": None, "callbacks": (), "flags": 0, "by_name": False}
+    it = {"t_cost": 3, "m_cost": 32, "lanes": 4, "threads": 4, "version": 0x13, "kind": 2, "outlen": 32, "null": None,
+          "pwd": b"\1" * 32, "salt": b"\2" * 16, "secret": b"\3" * 8, "ad": b"\4" * 12, "callbacks": (), "by_name": False}
     expected = bytes.fromhex("0d640df58d78766c08c037a34a8b53c9d01ef0452d75b65eb52520e96b01e659")
     for flags, password, secret in ((0, 32, 8), (1, 0, 8), (2, 32, 0), (3, 0, 0)):
         answer, lengths, (found, _, found_secret, _, tag) = hashed_in(library, {**it, "flags": flags}, "hash")
@@ -356,12 +343,12 @@ def answers(checks, file):
         checks.that(f"password and secret after flags {flags}", kept, (True, True))
     for lanes, expected_answer in ((1, OK), (2, OK), (0, -16)):
         tag = ctypes.create_string_buffer(32)
-        answer = library.argon2id_hash_raw(1, 64, lanes, b"pw", ctypes.c_size_t(2), b"somesalt", ctypes.c_size_t(8), tag, ctypes.c_size_t(32))
+        answer = library.argon2id_hash_raw(1, 64, lanes, b"pw", SIZE(2), b"somesalt", SIZE(8), tag, SIZE(32))
         checks.that(f"{lanes} lanes", (answer, tag.raw != bytes(32)), (expected_answer, expected_answer == OK))
     over, apart = (ctypes.create_string_buffer(b"the password, over which the tag is written", 64) for _ in range(2))
     tag = ctypes.create_string_buffer(64)
-    for to in (tag, over):
-        found = library.argon2id_hash_raw(1, 64, 1, over if to is over else apart, ctypes.c_size_t(43), b"somesalt", ctypes.c_size_t(8), to, ctypes.c_size_t(64))
+    for password, to in ((apart, tag), (over, over)):
+        found = library.argon2id_hash_raw(1, 64, 1, password, SIZE(43), b"somesalt", SIZE(8), to, SIZE(64))
         checks.that("a tag over its password, and beside it", found, OK)
     checks.that("a tag over its password", over.raw, tag.raw)
 
@@ -387,37 +374,35 @@ print(json.dumps([is_right("secret"), is_right("no"), os.environ["OURS"] in open
 
 def of_passwords(checks, folder, file, name, *words):
     """A program makes a hash over each library, and verifies what it made over the other."""
+    text = pathlib.Path(folder, "text")
     for maker, other in ((file, None), (None, file)):
-        made, status = ran(*words, env={**with_library(maker), "OURS": str(file)})[::-1]
-        expected = f"[true,false,{'true' if maker else 'false'}]"
-        checks.that(f"{name}, {'ours' if maker else 'Debian'}", (status, made.partition("$")[0]), (0, expected))
-        text = pathlib.Path(folder, "text")
-        text.write_text("".join(made.partition("$")[1:]), encoding="utf-8")
-        found = ran(*words, text, env={**with_library(other), "OURS": str(file)})
-        checks.that(f"{name}, of the other", (found[0], found[1].partition("$")[0]), (0, f"[true,false,{'true' if other else 'false'}]"))
+        for which, how, given in ((maker, "makes", []), (other, "verifies", [text])):
+            status, found = ran(*words, *given, env={**with_library(which), "OURS": str(file)})
+            told, *rest = found.partition("$")
+            expected = f"[true,false,{'true' if which else 'false'}]"
+            checks.that(f"{name} {how}, {'ours' if which else 'Debian'}", (status, told), (0, expected))
+            text.write_text("".join(rest), encoding="utf-8")
 
 
 def volumes(checks, folder, file):
     """cryptsetup makes a volume in a file over each library, and opens it over the other."""
     if not is_there("cryptsetup", "no volume is made", 8):
         return
-    key, wrong = pathlib.Path(folder, "key"), pathlib.Path(folder, "wrong")
-    key.write_bytes(b"passphrase")
-    wrong.write_bytes(b"other")
+    costs = ["--pbkdf", "argon2id", "--pbkdf-memory", "1024", "--pbkdf-parallel", "2", "--pbkdf-force-iterations", "4"]
     for maker, other in ((file, None), (None, file)):
         volume = f"{folder}/volume-{'ours' if maker else 'Debian'}"
-        pathlib.Path(volume).write_bytes(b"")
-        os.truncate(volume, 24 << 20)
-        made = ran("cryptsetup", "luksFormat", "--batch-mode", "--type", "luks2", "--pbkdf", "argon2id", "--pbkdf-memory", "1024", "--pbkdf-parallel",
-                   "2", "--pbkdf-force-iterations", "4", "--key-file", key, volume, env=with_library(maker))
+        ran("truncate", "-s", "24M", volume)
+        words = ["luksFormat", "--batch-mode", "--type", "luks2", *costs, "--key-file", "-", volume]
+        made = ran("cryptsetup", *words, env=with_library(maker), input="passphrase")
         if made[0] != 0 and maker is file and "ice" in made[1]:
             left_out(f"cryptsetup makes no volume here ({made[1].strip()[:60]})", "none is opened", 8)
             return
         checks.that(f"cryptsetup luksFormat: {volume[-6:]}", made, (0, ""))
         for which in (maker, other):
-            for word, expected in ((key, 0), (wrong, 2)):
-                status, _ = ran("cryptsetup", "open", "--test-passphrase", "--key-file", word, volume, env=with_library(which))
-                checks.that(f"cryptsetup opens {volume[-6:]}, {'ours' if which else 'Debian'}, {word.name}", status, expected)
+            for key, expected in (("passphrase", 0), ("other", 2)):
+                words = ["open", "--test-passphrase", "--key-file", "-", volume]
+                status, _ = ran("cryptsetup", *words, env=with_library(which), input=key)
+                checks.that(f"cryptsetup opens {volume[-6:]}, {'ours' if which else 'Debian'}, {key}", status, expected)
 
 
 def safes(checks, folder, file):
@@ -427,8 +412,7 @@ def safes(checks, folder, file):
     at_home = {"HOME": folder, "QT_QPA_PLATFORM": "offscreen", "LC_ALL": "C.UTF-8"}
 
     def command(given, which, *words):
-        done = subprocess.run(["keepassxc-cli", *words], input=given, capture_output=True, env={**with_library(which), **at_home}, text=True)
-        return done.returncode
+        return ran("keepassxc-cli", *words, input=given, env={**with_library(which), **at_home})[0]
 
     for maker, other in ((file, None), (None, file)):
         safe = f"{folder}/{'ours' if maker else 'Debian'}.kdbx"
@@ -439,9 +423,6 @@ def safes(checks, folder, file):
 
 def programs(checks, folder, file):
     """Programs of Debian, over Debian's library and this one."""
-    if not DEBIANS.exists():
-        left_out("libargon2-1 is not installed", "no program runs over both libraries")
-        return
     if is_there("php", "no hash is made by it", 4):
         of_passwords(checks, folder, file, "php", "php", "-n", "-r", PHP, "--")
     if ran("/usr/bin/python3", "-c", "import argon2")[0] == 0:
@@ -453,13 +434,17 @@ def programs(checks, folder, file):
 
 
 def all_of(checks, folder, lib):
-    file = built(checks, folder, lib)
+    built(checks, folder, lib)
+    file = pathlib.Path(folder, "compat/libargon2.so.1")
     header(checks, folder)
     answers(checks, file)
     calls_of_c(checks, folder, file)
     openssl_of(checks, folder, file.parent)
-    programs(checks, folder, file)
-    beside_debians(checks, file)
+    if DEBIANS.exists():
+        programs(checks, folder, file)
+        beside_debians(checks, file)
+    else:
+        left_out("libargon2-1 is not installed", "no program runs over both libraries, and no calls are made beside it", CALLS)
 
 
 if __name__ == "__main__":

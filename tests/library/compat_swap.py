@@ -6,12 +6,10 @@ system that is gone afterwards: PHP verifies hashes that were made before, crypt
 """
 import os
 import pathlib
-import subprocess
 import sys
-import tempfile
 
 sys.path += map(str, pathlib.Path(__file__).resolve().parents[1].iterdir())  # the other folders of tests/
-from checking import Checks, is_there, left_out
+from checking import is_there, left_out, over_programs, ran
 
 # Mounts, in a space of its own, a system over this one, which stays as it is; and runs there what follows.
 OVERLAY = """mount -t tmpfs -o size=1g none "$ROOM" && mkdir "$ROOM/upper" "$ROOM/work" "$ROOM/all" &&
@@ -51,22 +49,23 @@ volume open --test-passphrase
 
 def swapped(checks, folder, package):
     """What is said on the way is who owns the library, and what goes wrong."""
+    without = f"{os.path.basename(package)} is not installed in an overlay"
     if os.geteuid() != 0:
-        left_out("this is not root", f"{package.name} is not installed in an overlay", 1)
+        left_out("this is not root", without, 1)
         return
-    if not all(is_there(it, f"{package.name} is not installed in an overlay", 1) for it in ("unshare", "apt-get", "chroot")):
+    if not all(is_there(it, without, 1) for it in ("unshare", "apt-get", "chroot")):
         return
     if not pathlib.Path("/usr/lib/x86_64-linux-gnu/libargon2.so.1").exists():
-        left_out("libargon2-1 is not installed", f"{package.name} does not come into its place", 1)
+        left_out("libargon2-1 is not installed", without, 1)
         return
     room = pathlib.Path(folder, "room")
     room.mkdir()
-    done = subprocess.run(["unshare", "-m", "sh", "-c", OVERLAY], stdout=subprocess.PIPE, stderr=subprocess.STDOUT, text=True,
-                          env={**os.environ, "ROOM": str(room), "PACKAGE": str(package), "INSIDE": INSIDE})
-    if done.returncode == 77:
-        left_out("no overlay can be mounted here", f"{package.name} is not installed in one", 1)
+    variables = {"ROOM": str(room), "PACKAGE": package, "INSIDE": INSIDE}
+    status, said = ran("unshare", "-m", "sh", "-c", OVERLAY, env={**os.environ, **variables})
+    if status == 77:
+        left_out("no overlay can be mounted here", without, 1)
         return
-    lines = done.stdout.splitlines()
+    lines = said.splitlines()
     there = ["before: libargon2-1", "swapped: pikhsen-libargon2"]
     if "apt-get install libargon2-1: 100" in lines and any("Could not resolve" in it or "Failed to fetch" in it for it in lines):
         left_out("Debian's archive cannot be reached", "libargon2-1 is not installed again", 1)
@@ -76,7 +75,4 @@ def swapped(checks, folder, package):
 
 
 if __name__ == "__main__":
-    CHECKS = Checks("none")
-    with tempfile.TemporaryDirectory() as FOLDER:
-        swapped(CHECKS, FOLDER, pathlib.Path(sys.argv[1]).resolve())
-    CHECKS.end()
+    over_programs(swapped, __doc__, "")

@@ -105,17 +105,12 @@ def kinds():
     return [{name.upper(): int(it) for it, name in sources}, *({name: int(it) for name, it in each} for each in (header, module))]
 
 
-def sentences():
-    """What each number says, and what others say: in the definition that the contracts cite."""
+def compare_texts(that):
     defined = read("crates/pikhsen_c/specs/Message.antt")
     table = re.findall(r'if status == (\d+) then codes "(.*)"$', defined, re.MULTILINE)
     others = re.findall(r'^    else codes "(.*)"$', defined, re.MULTILINE)
-    return {int(number): says.replace('\\"', '"') for number, says in table}, others
-
-
-def compare_texts(that):
-    of_header = dict(numbers_of_header().values())
-    that("sentences of the contracts", sentences(), (of_header, ["unknown number"]))
+    of_contracts = {int(number): says.replace('\\"', '"') for number, says in table}
+    that("sentences of the contracts", (of_contracts, others), (dict(numbers_of_header().values()), ["unknown number"]))
     room = re.search(r"\n#define PIKHSEN_MESSAGE_ROOM (\d+)\n", HEADER)[1]
     short = f"    ensures room {{ {room} ≤ length out.old → result ≡ 0 }}\n"
     that("room of a sentence, of the header and the contract", short in SOURCES["message"], True)
@@ -123,15 +118,12 @@ def compare_texts(that):
     must_check = {name: [int(place) for place in re.findall(r"\d+", attributes)] for attributes, name in found}
     that("answers that must be looked at", sorted([*must_check, *ALWAYS_DONE]), sorted(exports()))
     declared = prototypes(HEADER)
-    for name, places in must_check.items():
-        that(f"header: what may not be null of {name}", places, never_null(declared[name][1]))
-    that("names of header and exports", sorted(declared), sorted(exports()))
-    for name, form in exports().items():
-        that(f"header: {name}", declared.get(name), form)
-    for name, parameters, result in declared_exports():
-        # `wipe_stack` alone makes an `Answer`, of a machine
-        expected = (0, "u32") if name in NO_MACHINE else (1, "Answer")
-        that(f"{name}: machines, and what it returns", (parameters.count(": Machine"), result), expected)
+    that("header: what may not be null", must_check, {it: never_null(declared[it][1]) for it in must_check})
+    that("functions of the header", declared, exports())
+    # `wipe_stack` alone makes an `Answer`, of a machine
+    machines = {name: (parameters.count(": Machine"), result) for name, parameters, result in declared_exports()}
+    expected = {it: (0, "u32") if it in NO_MACHINE else (1, "Answer") for it in machines}
+    that("machines of exports, and what they return", machines, expected)
     that("prototypes of the manual page", prototypes(re.sub(r"\n +", " ", PAGE.split("\n.SH ")[2])), declared)
     overheads = (r"\n#define PIKHSEN_FILE_OVERHEAD (\d+)\n", HEADER), (r"PIKHSEN_FILE_OVERHEAD ,\n(\d+), bytes longer", PAGE)
     that("overhead of a file, of the header and the manual page", [re.findall(*it) for it in overheads], [["128"]] * 2)

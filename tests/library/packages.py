@@ -82,8 +82,8 @@ def installed(checks, folder, lib):
     checks.that("uninstall, and what is left", (found, [*below.iterdir()]), ((0, ""), []))
 
 
-LOADED = """import ctypes
-ctypes.CDLL("libpikhsen.so.0")
+# Prints which library is loaded after this import.
+LOADED = """import %s
 with open("/proc/self/maps") as maps:
     print(next(it.split(maxsplit=5)[-1] for it in maps if "libpikhsen" in it), end="")
 """
@@ -95,10 +95,10 @@ def which_is_loaded(checks, lib):
         left_out("the library is not built for x86-64-v3", "which one the loader takes is not looked at", 3)
         return
     lower, loader = "libpikhsen.so.0", ["/lib64/ld-linux-x86-64.so.2", "--glibc-hwcaps-mask"]
-    highest = HIGHER if binaries.runs_v3() else lower
+    highest, program = HIGHER if binaries.runs_v3() else lower, LOADED % 'ctypes; ctypes.CDLL("libpikhsen.so.0")'
     for name, words, wanted in (("", [], highest), (", told of no level", [*loader, "x86-64-v2"], lower),
                                 (", told of the higher", [*loader, "x86-64-v3"], highest)):
-        _, said_there = ran(*words, sys.executable, "-c", LOADED, env={"LD_LIBRARY_PATH": str(lib)})
+        _, said_there = ran(*words, sys.executable, "-c", program, env={"LD_LIBRARY_PATH": str(lib)})
         checks.that(f"the library that is loaded{name}", said_there.rstrip("\n"), str(lib / wanted))
 
 
@@ -117,14 +117,6 @@ def module_installed(checks, folder, modules):
         checks.that("types of the installed module", found, (0, ""))
 
 
-def listed(part, file):
-    """What tar lists of a part of a package: by each path its permissions, its owner and its group."""
-    packed = subprocess.run(["dpkg-deb", part, file], stdout=subprocess.PIPE, check=True).stdout
-    text = subprocess.run(["tar", "-tv"], input=packed, stdout=subprocess.PIPE, check=True).stdout.decode()
-    rows = [line.split(maxsplit=5) for line in text.splitlines()]
-    return {path.removeprefix("./").rstrip("/"): (mode, owner) for mode, owner, _, _, _, path in rows}
-
-
 def mode_of(path):
     """The permissions of a file of a package: programs and scripts can be run, and a link says nothing of it."""
     return "rwxrwxrwx" if " -> " in path else "rwxr-xr-x" if "bin/" in path or path in ("postinst", "prerm") else "rw-r--r--"
@@ -135,7 +127,8 @@ def paths(checks, package, file):
     documents = [f"usr/share/doc/{package}/{it}" for it in ("CHANGELOG.md", "changelog.gz")]
     for name, part, wanted in (("files", "--fsys-tarfile", [*FILES[package], *documents]),
                                ("control", "--ctrl-tarfile", ["control", "md5sums", *CONTROL[package]])):
-        found = listed(part, file)
+        rows = [line.split(maxsplit=5) for line in said("sh", "-c", 'dpkg-deb "$0" "$1" | tar -tv', part, file).splitlines()]
+        found = {path.removeprefix("./").rstrip("/"): (mode, owner) for mode, owner, _, _, _, path in rows}
         there = {path: mode[1:] for path, (mode, _) in found.items() if mode[0] != "d"}
         checks.that(f"{package}: {name}", there, {it: mode_of(it) for it in wanted})
         folders = {mode for mode, _ in found.values() if mode[0] == "d"}
@@ -149,20 +142,16 @@ def newest_libc(files):
     return max(asked, key=lambda it: [int(part) for part in it.split(".")])
 
 
-def kib_of(folder):
-    """What a folder takes, as Debian counts it: each file in whole KiB, and one for each folder and each link."""
-    paths_there = [folder, *folder.rglob("*")]
-    plain = [it for it in paths_there if it.is_file() and not it.is_symlink()]
-    return sum(-(-it.stat().st_size // 1024) for it in plain) + len(paths_there) - len(plain)
-
-
 def fields(checks, package, root, control, version=VERSION, level="x86-64-v2"):
-    """What the package says of itself."""
+    """What the package says of itself; and the sums that dpkg --verify compares are those of all files."""
+    there = [root / "usr", *(root / "usr").rglob("*")]
+    plain = [it for it in there if it.is_file() and not it.is_symlink()]
+    # as Debian counts it: each file in whole KiB, and one for each folder and each link
+    kib = sum(-(-it.stat().st_size // 1024) for it in plain) + len(there) - len(plain)
     found = dict(re.findall(r"^([\w-]+): (.*)$", control, re.MULTILINE))
     files = [root / it for it in FILES[package] if it.removeprefix("usr/bin/") in TOOLS or re.search(r"\.so(\.\d)?$", it)]
-    wanted = dict(FIELDS[package])
-    wanted.update({"Package": package, "Source": "pikhsen", "Version": version, "Priority": "optional",
-                   "Installed-Size": f"{kib_of(root / 'usr')}", "Maintainer": "The authors of Pikhsen <pikhsen@localhost>"})
+    wanted = {**FIELDS[package], "Package": package, "Source": "pikhsen", "Version": version, "Priority": "optional",
+              "Installed-Size": f"{kib}", "Maintainer": "The authors of Pikhsen <pikhsen@localhost>"}
     checks.that(f"{package}: its description", len(found.pop("Description", "")) in range(10, 80), True)
     if "LIBC" in wanted["Depends"]:
         wanted["Depends"] = wanted["Depends"].replace("LIBC", newest_libc(files))
@@ -172,13 +161,8 @@ def fields(checks, package, root, control, version=VERSION, level="x86-64-v2"):
     changes = gzip.decompress((root / f"usr/share/doc/{package}/changelog.gz").read_bytes()).decode()
     first, last = changes.splitlines()[0], changes.splitlines()[-1]
     checks.that(f"{package}: its changes", (first, last.partition("  ")[2]), (f"pikhsen ({version}) unstable; urgency=medium", DAY))
-
-
-def sums(checks, package, root):
-    """The sums that dpkg --verify compares are those of all files."""
-    plain = sorted(str(it.relative_to(root)) for it in (root / "usr").rglob("*") if it.is_file() and not it.is_symlink())
-    wanted = [f"{hashlib.md5((root / it).read_bytes()).hexdigest()}  {it}" for it in plain]
-    checks.that(f"{package}: sums", (root / "DEBIAN/md5sums").read_text(encoding="utf-8").splitlines(), wanted)
+    sums = [f"{hashlib.md5(it.read_bytes()).hexdigest()}  {it.relative_to(root)}" for it in sorted(plain, key=str)]
+    checks.that(f"{package}: sums", (root / "DEBIAN/md5sums").read_text(encoding="utf-8").splitlines(), sums)
 
 
 def scripts(checks, root):
@@ -249,7 +233,6 @@ def packages(checks, folder, lib):
         subprocess.run(["dpkg-deb", "-R", file, root], check=True)
         paths(checks, package, file)
         fields(checks, package, root, (root / "DEBIAN/control").read_text(encoding="utf-8"), *of)
-        sums(checks, package, root)
         if package == "pikhsen":
             programs_built(checks, root, of[1])
         if of[0] == VERSION:

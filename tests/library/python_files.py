@@ -63,7 +63,6 @@ def lent_by(module):
         yield lent
 
 
-LENGTHS = 0, 1, 31, 32, 33, 63, 64, 95, 96, 97, 5000
 EXISTS, FULL, NO_DATA = (os.strerror(it) for it in (errno.EEXIST, errno.ENOSPC, errno.EAGAIN))
 NO_LINKS = mock.Mock(side_effect=PermissionError(errno.EPERM, "no links"))
 
@@ -75,7 +74,7 @@ def in_pieces(stream, content, size):
 
 def streams_from_python(checks, pikhsen):
     """In pieces of any length a file and its text are those that go through the library whole."""
-    for length in LENGTHS:
+    for length in (0, 1, 31, 32, 33, 63, 64, 95, 96, 97, 5000):
         text = bytes(it * 7 % 251 for it in range(length))
         file = pikhsen.encrypt(text, b"pw", salt=SALT, **CHEAP)
         for size in (1, 16, 31, 32, 33, 96, 97, 6000):
@@ -90,6 +89,10 @@ def streams_from_python(checks, pikhsen):
         checks.that(f"{text}, of what OpenSSL makes", in_pieces(pikhsen.Decryptor(b"pw"), file, 50), text)
 
 
+def decrypted_in_pieces(pikhsen, file, passphrase=b"pw", **named):
+    return pikhsen.Decryptor(passphrase, **named).update(file)
+
+
 def damage_in_pieces(checks, pikhsen):
     """Each byte changed, each cut, costs and limits: a stream is refused for the reason of the whole file."""
     file = pikhsen.encrypt(b"hello", b"pw", salt=SALT, **CHEAP)
@@ -99,9 +102,8 @@ def damage_in_pieces(checks, pikhsen):
             found = [refusal(in_pieces, pikhsen.Decryptor(b"pw"), it, size) for it in files]
             checks.that(f"each byte {name}, in pieces of {size}", found, [refusal(pikhsen.decrypt, it, b"pw") for it in files])
     refused(checks, [*NOT_MADE, ("TypeError", {"passphrase": "pw"})], pikhsen.Encryptor, passphrase=b"pw", **CHEAP)
-    for why, named in (("KEEP", {"keep": 3}), ("WRONG_PASSPHRASE", {"passphrase": b"PW"}), *BELOW_CHEAP):
-        found = refusal(pikhsen.Decryptor(**{"passphrase": b"pw", **named}).update, file[:96])
-        checks.that(f"Decryptor, {why}: at the 96th byte", found, why)
+    rows = ("KEEP", {"keep": 3}), ("WRONG_PASSPHRASE", {"passphrase": b"PW"}), *BELOW_CHEAP
+    refused(checks, rows, decrypted_in_pieces, pikhsen, file[:96])
     refused(checks, [("TypeError", {"passphrase": "pw"}), ("TypeError", {"keep": "x"})], pikhsen.Decryptor, passphrase=b"pw")
 
 
@@ -123,19 +125,17 @@ def ends_of_streams(checks, pikhsen):
         return made
 
     ends = {"finish": lambda it: it.finish(), "close": lambda it: it.close(), "with": left}
-    rows = [(f"{make.__name__}, {end}", make, end, None) for make in (encryptor, decryptor) for end in ends]
-    ends["update"] = lambda it: it.update(bytes(96))
-    for name, make, end, why in (
-        *rows, ("decryptor, closed before it has a key", lambda: decryptor(b"scrypt"), "close", None),
-        ("decryptor of a damaged file", lambda: decryptor(file + b"x"), "finish", "DAMAGED"),
-        ("decryptor of a short file", lambda: decryptor(b"scrypt"), "finish", "TOO_SHORT"),
-        ("decryptor of no file", lambda: decryptor(b""), "update", "MAGIC"),
+    rows = [(f"{make.__name__}, {name}", make(), end, None) for make in (encryptor, decryptor) for name, end in ends.items()]
+    for name, stream, end, why in (
+        *rows, ("decryptor, closed before it has a key", decryptor(b"scrypt"), ends["close"], None),
+        ("decryptor of a damaged file", decryptor(file + b"x"), ends["finish"], "DAMAGED"),
+        ("decryptor of a short file", decryptor(b"scrypt"), ends["finish"], "TOO_SHORT"),
+        ("decryptor of no file", decryptor(b""), lambda it: it.update(bytes(96)), "MAGIC"),
     ):
-        stream = make()
         for double in (copy.copy, copy.deepcopy, pickle.dumps):
             checks.that(f"{name}: {double.__name__}", refusal(double, stream), "TypeError")
         checks.that(f"{name}: a text", (refusal(stream.update, "text"), refusal(stream.update, None)), ("TypeError",) * 2)
-        checks.that(f"{name}: its end", refusal(ends[end], stream), why)
+        checks.that(f"{name}: its end", refusal(end, stream), why)
         checks.that(f"{name}: what is kept after it", stream._stream.runs, 0)
         after = [refusal(call) for call in (lambda: stream.update(b""), lambda: stream.update(b"x"), stream.finish, stream.close)]
         checks.that(f"{name}: calls after it", after, ["ValueError"] * 3 + [None])
@@ -192,11 +192,10 @@ def handlers_of_a_stream(checks, pikhsen):
 
         faulthandler.dump_traceback_later(20, exit=True)  # where the call waits for itself
         sys.settrace(trace)
-        try:
-            return refusal(call, stream), next(lines) > at
-        finally:
-            sys.settrace(None)
-            faulthandler.cancel_dump_traceback_later()
+        why = refusal(call, stream)
+        sys.settrace(None)
+        faulthandler.cancel_dump_traceback_later()
+        return why, next(lines) > at
 
     for name, make, call in (
         ("Encryptor.update", lambda: pikhsen.Encryptor(b"pw", **CHEAP), lambda it: it.update(b"Dear Ada")),
@@ -311,22 +310,26 @@ def names_of_new_files(checks, pikhsen, folder):
     first.unlink()
 
 
+def lose(path, is_replaced):
+    """A file is gone, or another stands in its place, and then there is no room."""
+    path.unlink()
+    if is_replaced:
+        path.write_bytes(b"of another")
+    raise OSError(errno.ENOSPC, FULL)
+
+
 def names_that_fail(checks, pikhsen, folder):
     """Where a file has one name alone, and gets no other: it is gone, and so is the empty file that has that name for it,
     but not what stands there instead."""
     target, replace = pathlib.Path(folder, "target"), os.replace
-
-    def of_another(*_, **__):
-        target.unlink()
-        target.write_bytes(b"of another")
-        raise OSError(errno.ENOSPC, FULL)
 
     def late(*given, **named):
         replace(*given, **named)
         raise KeyboardInterrupt
 
     for name, replacing, why, content in (
-        ("is not replaced", OSError(errno.ENOSPC, FULL), FULL, None), ("is of another", of_another, FULL, b"of another"),
+        ("is not replaced", OSError(errno.ENOSPC, FULL), FULL, None),
+        ("is of another", lambda *_, **__: lose(target, True), FULL, b"of another"),
         ("is not replaced at Ctrl-C", KeyboardInterrupt(), "KeyboardInterrupt", None), ("is replaced at Ctrl-C", late, "KeyboardInterrupt", None),
     ):
         with mock.patch.object(os, "link", NO_LINKS), mock.patch.object(os, "replace", mock.Mock(side_effect=replacing)) as replaced:
@@ -379,16 +382,9 @@ def paths_of_new_files(checks, pikhsen, folder):
 def parts_of_another(checks, pikhsen, folder):
     """What stands in the place of a part that is gone is not removed."""
     target = pathlib.Path(folder, "target")
-
-    def meanwhile(instead):
-        for it in parts(folder):
-            it.unlink()
-            if instead:
-                it.write_bytes(b"of another")
-        raise OSError(errno.ENOSPC, FULL)
-
     for instead in (False, True):
-        found = refusal(pikhsen.encrypt_file, io.BytesIO(b"x"), target, b"pw", progress=lambda *_: meanwhile(instead), **CHEAP)
+        found = refusal(pikhsen.encrypt_file, io.BytesIO(b"x"), target, b"pw", **CHEAP,
+                        progress=lambda *_: lose(*parts(folder), instead))
         left = [it.read_bytes() for it in parts(folder)]
         checks.that(f"a part that is gone, {instead}", (found, target.exists(), left), (FULL, False, [b"of another"] * instead))
     parts(folder)[0].unlink()
@@ -399,21 +395,20 @@ def synced_from_python(checks, pikhsen, folder):
     failure."""
     target, synced, opening = pathlib.Path(folder, "target"), [], os.open
 
-    def noted(opened, number):
+    def noted(opened):
         synced.append(os.path.basename(os.readlink(f"/proc/self/fd/{opened}"))[:9])
         if number and len(synced) == 2:
             raise OSError(number, os.strerror(number))
 
     def unreadable(name, flags, *mode, **of_folder):
-        # as a folder that may be written, and not read
-        if flags & os.O_DIRECTORY and not flags & os.O_PATH:
+        if flags & os.O_DIRECTORY and not flags & os.O_PATH:  # as a folder that may be written, and not read
             raise PermissionError
         return opening(name, flags, *mode, **of_folder)
 
     for number, instead in ((0, opening), (errno.EINVAL, opening), (errno.EIO, opening), (0, unreadable)):
         why = os.strerror(number) if number == errno.EIO else None
         synced.clear()
-        with mock.patch.object(os, "fsync", lambda opened: noted(opened, number)), mock.patch.object(os, "open", instead):
+        with mock.patch.object(os, "fsync", noted), mock.patch.object(os, "open", instead):
             found = refusal(pikhsen.encrypt_file, io.BytesIO(), target, b"pw", **CHEAP)
         names = [".pikhsen-", os.path.basename(folder)[:9]][:1 if instead is unreadable else 2]
         checks.that(f"synced, {number} {instead.__name__}", (found, target.exists(), parts(folder), synced), (why, why is None, [], names))
@@ -435,12 +430,10 @@ class Narrow(io.RawIOBase):
         return len(taken) or None
 
 
-def pipe_ends():
-    reading, writing = os.pipe()
-    return open(reading, "rb"), open(writing, "wb")
-
-
-def socket_ends():
+def ends_of(kind):
+    """The end of a pipe, or of a pair of sockets, that is read, and the other."""
+    if kind == "pipe":
+        return map(open, os.pipe(), ("rb", "wb"))
     reading, writing = socket.socketpair()
     with reading, writing:
         return reading.makefile("rb"), writing.makefile("wb")
@@ -452,18 +445,17 @@ def opened_files_from_python(checks, pikhsen, folder):
     file = pikhsen.encrypt(text, b"pw", salt=SALT, **CHEAP)
     path = pathlib.Path(folder, "opened")
     path.write_bytes(b"before" + text)
-
     for call, given, expected, named in (
         (pikhsen.encrypt_file, text, file, {"salt": SALT, **CHEAP}), (pikhsen.decrypt_file, file, text, {}),
     ):
-        for ends in (pipe_ends, socket_ends):
-            source, to = ends()
-            target, told = io.BytesIO(), []
+        for kind in ("pipe", "socket"):
+            (source, to), target, told = ends_of(kind), io.BytesIO(), []
             with source:
                 threading.Thread(target=lambda: (to.write(given), to.close()), daemon=True).start()
                 call(source, target, b"pw", progress=lambda *it: told.append(it), **named)
-                checks.that(f"{call.__name__}, {ends.__name__}", (target.getvalue(), source.closed, target.closed), (expected, False, False))
-            checks.that(f"{call.__name__}, {ends.__name__}: progress", (told[-1], {it for _, it in told}), ((len(given), None), {None}))
+                found = target.getvalue(), source.closed, target.closed
+            checks.that(f"{call.__name__}, {kind}", found, (expected, False, False))
+            checks.that(f"{call.__name__}, {kind}: progress", (told[-1], {it for _, it in told}), ((len(given), None), {None}))
     for source in (open(path, "rb"), open(path, "rb", buffering=0)):
         with source:
             told, target = [], Narrow()
@@ -498,11 +490,10 @@ def opened_files_from_python(checks, pikhsen, folder):
         checks.that(f"of {name}", target.getvalue(), pikhsen.encrypt(pathlib.Path(name).read_bytes(), b"pw", salt=SALT, **CHEAP))
 
 
-LARGE = """import pathlib, pikhsen, resource, sys
+LARGE = """import pathlib, pikhsen, re, resource, sys
 text, file, again = sys.argv[1:]
 def most():
-    lines = pathlib.Path("/proc/self/status").read_text().splitlines()
-    return next(int(it.split()[1]) for it in lines if it.startswith("VmHWM"))
+    return int(re.search(r"VmHWM:\\s+(\\d+)", pathlib.Path("/proc/self/status").read_text())[1])
 before = most()
 pikhsen.encrypt_file(text, file, b"pw", log_n=4)
 pikhsen.decrypt_file(file, again, b"pw")
@@ -546,8 +537,7 @@ def interrupted(checks, folder, lib):
     names = [f"{folder}/{it}" for it in ("short", "short.scrypt")]
     pathlib.Path(names[0]).write_bytes(b"Dear Ada")
     found = with_module(lib, "-c", INTERRUPTED, *names, timeout=120)
-    zeros = bytes(6)
-    checks.that("Ctrl-C during a call", found, (0, f"False False {zeros}\nFalse False {b'scrypt'}\n"))
+    checks.that("Ctrl-C during a call", found, (0, f"False False {bytes(6)}\nFalse False {b'scrypt'}\n"))
 
 
 def files_of_python(checks, pikhsen, folder, lib):

@@ -30,7 +30,7 @@ import values_table
 from binaries import V3, runs_v3
 from checking import compiled, is_there, over_library
 from encoded_texts import work_of
-from python_files import CHEAP, NOT_MADE, SALT, files_of_python, lent_by, raised, refusal, refused
+from python_files import CHEAP, NOT_MADE, SALT, decrypted_in_pieces, files_of_python, lent_by, raised, refusal, refused
 from scrypt_files import of_costs
 from shown import LIBRARY, STORED, with_module
 from tree import TOP, VERSION
@@ -43,8 +43,6 @@ TAGS = {
 }
 # the README of the reference implementation
 REFERENCE = "$argon2i$v=19$m=65536,t=2,p=4$c29tZXNhbHQ$RdescudvJCsgt3ub+b+dWRWJTmaaJObG"
-
-
 # printf password | argon2 somesalt -t 2 -m 8 -v 10
 OLD = "$argon2i$v=16$m=256,t=2,p=1$c29tZXNhbHQ$/U3YPXYsSb3q9XxHvc0MLxur+GP960kN9j7emXX8zwY"
 SMALL = {"passes": 1, "memory_kib": 8, "lanes": 1}
@@ -248,9 +246,8 @@ def settings_from_python(checks, pikhsen):
         ("NOT_ENCODED", text + "\0"), ("NOT_ENCODED", text + "\n"), ("NOT_ENCODED", "\ud800"),
     ):
         verified = "NOT_ENCODED" if why == "NOT_ENCODED" else "OUT_OF_RANGE"
-        found = [refusal(call, outside) for call in (pikhsen.settings, pikhsen.needs_rehash)]
-        checks.that(f"settings of {outside!r}", found, [why] * 2)
-        checks.that(f"verify of {outside!r}", refusal(pikhsen.verify, outside, b"x"), verified)
+        found = refusal(pikhsen.settings, outside), refusal(pikhsen.needs_rehash, outside), refusal(pikhsen.verify, outside, b"x")
+        checks.that(f"settings, and verify, of {outside!r}", found, (why, why, verified))
 
 
 def large_from_python(checks, pikhsen, folder):
@@ -393,10 +390,6 @@ def limits_from_python(checks, pikhsen):
         exact(checks, pikhsen, needs, pikhsen.decrypt, file, b"pw", keep=keep)
         exact(checks, pikhsen, needs, decrypted_in_pieces, pikhsen, file, keep=keep)
     great_limits_from_python(checks, pikhsen)
-
-
-def decrypted_in_pieces(pikhsen, file, **named):
-    return pikhsen.Decryptor(b"pw", **named).update(file)
 
 
 def exact(checks, pikhsen, needs, call, *given, **named):

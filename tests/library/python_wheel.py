@@ -17,7 +17,7 @@ import zipfile
 sys.path += map(str, pathlib.Path(__file__).resolve().parents[1].iterdir())  # the other folders of tests/
 from binaries import runs_v3
 from checking import left_out, over_library, ran, said
-from packages import EPOCH, HIGHER, newest_libc
+from packages import EPOCH, HIGHER, LOADED, newest_libc
 from shown import shown
 from tree import TOP, VERSION
 
@@ -26,10 +26,7 @@ GLIBC = (2, 17)
 TAG = f"py3-none-manylinux_{GLIBC[0]}_{GLIBC[1]}_x86_64"
 NAME = f"pikhsen-{VERSION}-{TAG}.whl"
 ABOUT = f"pikhsen-{VERSION}.dist-info"
-LOADED = """import importlib.metadata, pikhsen
-with open("/proc/self/maps") as maps:
-    print(next(it.split(maxsplit=5)[-1] for it in maps if "libpikhsen" in it) + importlib.metadata.version("pikhsen"))
-"""
+LIBRARY_AND_VERSION = LOADED % "importlib.metadata, pikhsen" + 'print(importlib.metadata.version("pikhsen"))'
 
 
 def made(lib, out, umask):
@@ -87,7 +84,7 @@ def installed(checks, folder, wheel, lib):
     is_higher = pathlib.Path(lib, HIGHER).is_file() and runs_v3()
     inside, named = site / "pikhsen" / (HIGHER if is_higher else "libpikhsen.so.0"), f"{lib}/libpikhsen.so.0"
     for name, variables, library in (("inside", {}, inside), ("that is named", {"PIKHSEN_LIBRARY": named}, named)):
-        found = ran(python, "-c", LOADED, env=variables, cwd=folder)
+        found = ran(python, "-c", LIBRARY_AND_VERSION, env=variables, cwd=folder)
         checks.that(f"a wheel, installed: the library {name}", found, (0, f"{library}\n{VERSION}\n"))
     program, _, printed = shown("python")
     checks.that("LIBRARY's login.py, over the wheel", ran(python, "-c", program, env={}, cwd=folder), (0, printed))

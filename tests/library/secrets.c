@@ -1,14 +1,10 @@
 /*
- * What each call of the table below leaves in memory and in vector registers, a line for each, for
- * tests/library/c_face.py:
+ * What each call of the table below leaves, a line for each, for tests/library/c_face.py:
  *
- *     secrets painted      paints the stack below the frame of a function, makes the call from there, and looks at the
- *                          paint
- *     secrets freed        looks at each block of memory when it is freed, or, where the call also frees the text of a
- *                          hash, which is no secret, at each of 1,024 bytes and more
- *     secrets registers    puts zeros into all vector registers that the processor has, makes the call, and says which
- *                          of them are not 0 as soon as it returns: of the sixteen of 16 bytes, or of 32 with AVX, or
- *                          of the thirty-two of 64 bytes with AVX-512
+ *     secrets painted      on the stack below the frame of a function, which is painted before
+ *     secrets freed        in each block of memory that is freed, or, where the call also frees the text of a hash,
+ *                          which is no secret, in each of 1,024 bytes and more
+ *     secrets registers    in all vector registers that the processor has, which hold zeros before
  *
  * or keeps one call's process, so that its memory can be searched:
  *
@@ -117,7 +113,7 @@ static const struct {
 	call_t call, before;
 } calls[] = {CALLS(ROW)};
 
-/* The call of this name, once what it needs is made; null where there is none. */
+/* The call of this name, once what it needs is made; where there is none, the process ends with status 2. */
 static call_t call_of(const char *name)
 {
 	size_t at;
@@ -125,7 +121,7 @@ static call_t call_of(const char *name)
 	for (at = 0; at < sizeof calls / sizeof calls[0]; ++at)
 		if (strcmp(name, calls[at].name) == 0 && (calls[at].before == NULL || calls[at].before() == PIKHSEN_OK))
 			return calls[at].call;
-	return NULL;
+	exit(2);
 }
 
 /* Says "0" where a call was told PIKHSEN_OK; whether that could be said. */
@@ -152,17 +148,13 @@ static NOINLINE int wait_with_key_on_stack(void)
 
 static int wait_after_call(const char *what)
 {
-	call_t call;
 	unsigned int told;
 
 	if (strcmp(what, "kept") == 0)
 		return wait_after(derive());
 	if (strcmp(what, "stack") == 0)
 		return wait_with_key_on_stack();
-	call = call_of(what);
-	if (call == NULL)
-		return 2;
-	told = call();
+	told = call_of(what)();
 	memset(key, 0, sizeof key);
 	return wait_after(told);
 }
@@ -282,23 +274,19 @@ static void look_at_registers(call_t call)
 
 int main(int count, char **words)
 {
-	static const struct {
-		const char *name;
-		void (*look)(call_t);
-	} looks[] = {{"painted", painted}, {"freed", look_at_freed}, {"registers", look_at_registers}};
-	void (*look)(call_t) = NULL;
+	const char *what = words[1];
+	void (*look)(call_t);
 	call_t call;
 	size_t at;
 
-	for (at = 0; at < sizeof looks / sizeof looks[0]; ++at)
-		if (count == 2 && strcmp(words[1], looks[at].name) == 0)
-			look = looks[at].look;
 	memset(salt, 7, sizeof salt);
-	if (count == 3 && strcmp(words[1], "again") == 0)
-		return (call = call_of(words[2])) == NULL ? 2 : again(call);
-	if (count == 2 && look == NULL)
-		return wait_after_call(words[1]);
-	for (at = 0; look != NULL && at < sizeof calls / sizeof calls[0]; ++at) {
+	if (count == 3)
+		return again(call_of(words[2]));
+	look = strcmp(what, "painted") == 0 ? painted : strcmp(what, "freed") == 0 ? look_at_freed
+	    : strcmp(what, "registers") == 0 ? look_at_registers : NULL;
+	if (look == NULL)
+		return wait_after_call(what);
+	for (at = 0; at < sizeof calls / sizeof calls[0]; ++at) {
 		call = calls[at].call;
 		if (calls[at].before != NULL && calls[at].before() != PIKHSEN_OK)
 			return 1;

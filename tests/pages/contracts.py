@@ -100,8 +100,7 @@ def root_of(crate):
 @functools.lru_cache(maxsize=None)
 def exported(crate):
     """The public items of a crate, by how each is called: by the name that lib.rt hands out, or with its module's, where
-    that is public; a function of a type, or of a trait, behind its name.
-    """
+    that is public; a function of a type, or of a trait, behind its name."""
     (text, names, _), called, found = root_of(crate), {}, {}
     for it in items(crate):
         if it.is_public and not it.block:

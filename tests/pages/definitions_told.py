@@ -30,20 +30,15 @@ from functions import text_of
 from specs import CRATES, TOP, WORD, File, reached
 
 # The calls whose definitions have to be told: of programs, commands, a login, and the functions for C.
-OURS = [
-    "scrypt_program::run", "argon2_program::run", "command::scrypt", "command::argon2", "scrypt_run::run",
-    "argon_text::verify",
+CALLS = [
+    "scrypt_program::run", "argon2_program::run", "command::scrypt", "command::argon2", "scrypt_run::run", "argon_text::verify",
+    *(f"pikhsen_c::{it}" for it in sorted(contracts.root_of("pikhsen_c")[1]) if re.match("pikhsen_(?!version$)", it)),
 ]
-FOR_C = sorted(it for it in contracts.root_of("pikhsen_c")[1] if it.startswith("pikhsen_") and it != "pikhsen_version")
-CALLS = [*OURS, *(f"pikhsen_c::{name}" for name in FOR_C)]
 TRAITS = [("host", "Host"), ("tools", "System")]  # what calls are for
 WORDS = TOP / "docs" / "words.tsv"
 # The standard library of the toolchain, under its several names.
 STANDARD = {"core", "std", "std_alloc", "std_heap", "std_io", "std_collections", "io", "logic"}
 ALL = specs.all_files()
-OPENED = re.compile(r"(?m)^unfolding (.*)$")
-# Quantified clauses are laws, and tell no value.
-LAW = re.compile(r"\((?:\w+ )+: ")
 SEEN = "the value of the code as contracts see it: field by field"
 WHY = {
     **{("host.specs.Secret", name): SEEN for name in ("source_of", "secret_of_source")},
@@ -58,8 +53,7 @@ WHY = {
 
 def with_toolchain():
     """The files of definitions here, and those of the toolchain's libraries, where it is here, that they name, and that
-    those name, but for its standard library.
-    """
+    those name, but for its standard library."""
     found, left, command = dict(ALL), [*ALL.values()], shutil.which("rt")
     while left and command:
         for crate in {at.split(".")[0] for at, _ in left.pop().imports.values()} - STANDARD:
@@ -93,13 +87,11 @@ def public(crate):
 
 def contract(crate, named):
     """A public function, or a trait: of the crate, or of that from which it hands the function on."""
-    for it in public(crate):
-        if it.name == named and not it.trait:
-            return it
-    for owner, name in contracts.root_of(crate)[2]:
-        if name == named:
-            return contract(owner, named)
-    sys.exit(f"no public function or trait {crate}::{named}")
+    found = [it for it in public(crate) if it.name == named and not it.trait]
+    owners = [owner for owner, name in contracts.root_of(crate)[2] if name == named]
+    if not found + owners:
+        sys.exit(f"no public function or trait {crate}::{named}")
+    return found[0] if found else contract(owners[0], named)
 
 
 def contracts_of(call):
@@ -113,15 +105,9 @@ def texts_of(items):
     return [(it.text, it.imports) for it in items]
 
 
-def reached_by(call):
-    """The items that a call's contract reaches, with those of the host that it is for."""
-    return reached(texts_of(contracts_of(call)), ALL)
-
-
 def misplaced():
     """What stands in specs/Inside/ though it is public, and what stands outside though it isn't."""
-    crates = sorted(path.name for path in CRATES.iterdir() if path.is_dir())
-    found = {*reached([it for crate in crates for it in texts_of(public(crate))], ALL)}
+    found = {*reached([it for path in CRATES.iterdir() if path.is_dir() for it in texts_of(public(path.name))], ALL)}
     for module, file in ALL.items():
         inside = module.split(".")[2] == "Inside"
         for item in filter(None, file.items):
@@ -133,7 +119,7 @@ def opened(folder, vector):
     """The definitions that the answer of a vector opens."""
     answer = text_of(folder, f"proofs/vectors/{vector}/Answers.antt", {})
     names = specs.imports(answer)
-    words = " ".join(OPENED.findall(answer)).split()
+    words = " ".join(re.findall(r"(?m)^unfolding (.*)$", answer)).split()
     return {item for word in words if word in names for item in specs.items_of(ALL, *names[word])}
 
 
@@ -148,7 +134,8 @@ def nearest():
         for _, name, clauses in VECTOR.findall(text):
             left = closed - opened(path.parents[1], name)
             for clause, said in CLAUSE.findall(clauses):
-                items = [] if LAW.match(said) else reached([(said, names)], ALL, left)
+                is_law = re.match(r"\((?:\w+ )+: ", said)  # it is quantified, and tells no value
+                items = [] if is_law else reached([(said, names)], ALL, left)
                 for item in items:
                     there = len(items), crate, f"`{name}`: `{clause}`"
                     found[item] = min(found.get(item, there), there, key=lambda it: it[0])
@@ -167,7 +154,7 @@ def is_value(lines):
 def told():
     """By each definition that the calls reach what tells it; None is nothing."""
     by, found = nearest(), {}
-    for module, name in dict.fromkeys(it for call in CALLS for it in reached_by(call) if it[1]):
+    for module, name in dict.fromkeys(it for call in CALLS for it in reached(texts_of(contracts_of(call)), ALL) if it[1]):
         why = WHY.get((module, name)) if is_value(ALL[module].items[name]) else "a form or a statement"
         found[module, name] = "reached by {1}: {2}".format(*by[module, name]) if (module, name) in by else why
     return found
@@ -177,20 +164,19 @@ def unknown():
     """The words of the calls' contracts and definitions that no line of docs/words.tsv explains."""
     meanings = dict(values_table.rows("word", WORDS, "-"))
     for call in CALLS:
-        items = [("\n".join(ALL[at].items[item]), ALL[at].imports) for at, item in reached_by(call)]
-        words = {*words_in(texts_of(contracts_of(call)) + items)} - {*meanings}
+        texts = texts_of(contracts_of(call))
+        texts += [("\n".join(ALL[at].items[item]), ALL[at].imports) for at, item in reached(texts, ALL)]
+        words = {*words_in(texts)} - {*meanings}
         yield from (f"docs/words.tsv: a line for {it}, of {call}" for it in sorted(words))
 
 
 def wrong():
     for module, file in ALL.items():
         yield from (f"{module}: a line of no item: {line}" for line in file.strange)
-    for (module, item), told_by in told().items():
-        if not told_by:
-            yield f"{module}: {item}: an equation, or why there is none (tests/pages/definitions_told.py)"
-    for module, item in WHY:
-        if (told().get((module, item)) or "").startswith("reached by "):
-            yield f"{module}: {item} has an equation, and a reason why there is none"
+    yield from (f"{module}: {item}: an equation, or why there is none (tests/pages/definitions_told.py)"
+                for (module, item), told_by in told().items() if not told_by)
+    yield from (f"{module}: {item} has an equation, and a reason why there is none"
+                for module, item in WHY if (told().get((module, item)) or "").startswith("reached by "))
     yield from misplaced()
     yield from unknown()
 

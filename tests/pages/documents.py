@@ -86,8 +86,7 @@ def anchors(text):
 
 def links_of(document, text):
     """Links, to files and to headings. What is installed, README, CHANGELOG and docs/, links to what is installed
-    alone, and README to manual pages, which are installed elsewhere.
-    """
+    alone, and README to manual pages, which are installed elsewhere."""
     for path, anchor in re.findall(r"\]\((?!https?:)([^)#\s]*)(?:#([^)\s]*))?\)", text):
         target = (document.parent / path).resolve() if path else document
         is_installed = target.parent == TOP / "docs" or target.name in ("README.md", "CHANGELOG.md")
@@ -100,8 +99,7 @@ def links_of(document, text):
 
 def names_of(document, text):
     """Files; the text that a merge decides on; lines that fit a screen, but for tables in docs/, whose rows cannot be
-    cut; and links.
-    """
+    cut; and links."""
     for path in re.findall(r"\b(?:crates|docs|tests|bench|man|packaging|completions)/[\w./]*[\w]\.\w+", text):
         if not (TOP / path).exists():
             yield path
@@ -113,12 +111,9 @@ def names_of(document, text):
     yield from links_of(document, text)
 
 
-def names_in_documents():
+def names_and_figures():
     for it in DOCUMENTS:
         yield from (f"{it.name}: {name}" for name in names_of(it, it.read_text(encoding="utf-8")))
-
-
-def figures_of_speed():
     for name, sentences in figures.sentences().items():
         text = " ".join(read(name).split())
         yield from (f"{name}: '{it}' (tests/pages/figures.py)" for it in sentences if it not in text)
@@ -149,24 +144,19 @@ def tests_of_examples():
 
 def goals():
     """Edits that must fail: what each replaces stands in its place once, and the goal that refuses it is there."""
-    once = "the text that it replaces, once"
-    sources = "".join(map(sources_of, CRATES))
+    sources, lines = "".join(map(sources_of, CRATES)), edits_in(LINES)
+    bodies = [it for crate in CRATES for it in edits_of(crate, BODIES)]
     clauses = {"steps", *re.findall(r"\b(?:ensures|requires)\*? (\w+)", sources)}  # the first of Iterator::next
+    yield from (f"{it.name}: the text that it replaces, once" for it in [*bodies, *lines] if not it.texts)
+    for edit in bodies:
+        told, clause = GOAL.fullmatch(edit.goal), re.search(r"-clause-(\w+)`", edit.goal)
+        if not told or clause and clause[1] not in clauses:
+            yield f"{edit.name}: refused: {edit.goal}: the goal that refuses it " \
+                  f"(tests/edits/refusals.py --told {edit.name} writes it)"
     for crate in CRATES:
-        for edit in edits_of(crate, BODIES):
-            if not edit.texts:
-                yield f"{edit.name}: {once}"
-            told = GOAL.fullmatch(edit.goal)
-            clause = told and re.search(r"-clause-(\w+)`", edit.goal)
-            if not told or clause and clause[1] not in clauses:
-                yield f"{edit.name}: refused: {edit.goal}: the goal that refuses it " \
-                      f"(tests/edits/refusals.py --told {edit.name} writes it)"
         yield from (f"{it.name}: {it.wrong}" for it in wrong_definitions_of(crate, DEFINITIONS) if it.wrong)
-    for edit in edits_in(LINES):
-        if not edit.texts:
-            yield f"{edit.name}: {once}"
-        if not edit.goal:
-            yield f"{edit.name}: what finds it (tests/edits/wrong_lines.py --told {edit.name} writes it)"
+    yield from (f"{it.name}: what finds it (tests/edits/wrong_lines.py --told {it.name} writes it)"
+                for it in lines if not it.goal)
 
 
 def words_by_hand():
@@ -196,17 +186,14 @@ def made_parts():
 
 def pictures():
     """The picture of figures; the map, where each crate stands once, and above all that it stands on, in its own column
-    or the middle one, or in any where it is in that itself.
-    """
+    or the middle one, or in any where it is in that itself."""
     if read("docs/benchmarks.svg") != figures.ratios.drawn(TOP / "docs/benchmarks.tsv"):
         yield "docs/benchmarks.svg: as it would be drawn now (bench/ratios.py)"
-    box = r'translate\((\d+) (\d+)\)"><rect.*class="name">([a-z]\w*)<'
-    found = [(crate, int(x) // 260, int(y)) for x, y, crate in re.findall(box, read("docs/proof-map.svg"))]
-    boxes, crates = [crate for crate, *_ in found], {it for it in CRATES if not it.endswith("_tests")}
-    for name in sorted({*boxes} | crates):
-        if boxes.count(name) != (name in crates):
-            yield f"proof-map.svg: a box of {name}, if it is a crate, once"
-    places = {crate: place for crate, *place in found}
+    found = re.findall(r'translate\((\d+) (\d+)\)"><rect.*class="name">([a-z]\w*)<', read("docs/proof-map.svg"))
+    boxes, crates = [crate for *_, crate in found], {it for it in CRATES if not it.endswith("_tests")}
+    yield from (f"proof-map.svg: a box of {name}, if it is a crate, once"
+                for name in sorted({*boxes} | crates) if boxes.count(name) != (name in crates))
+    places = {crate: (int(x) // 260, int(y)) for x, y, crate in found}
     for crate, (column, y) in places.items():
         for other in filter(places.get, CRATES.get(crate, ())):
             beside, lower = places[other]
@@ -233,9 +220,8 @@ def comments():
 
 def manuals():
     """The type of the manual pages, and one version, of the other pages, too."""
-    for manual in MANUALS:
-        if is_there("mandoc", f"{manual.name} is not looked at", 1):
-            yield from said("mandoc", "-T", "lint", str(manual), check=False).splitlines()
+    if is_there("mandoc", "the manual pages are not looked at", len(MANUALS)):
+        yield from said("mandoc", "-T", "lint", *map(str, MANUALS), check=False).splitlines()
     heads = {f"man/{it.name}": f'"Pikhsen {VERSION}"' for it in MANUALS}
     for name, text in {**heads, "CHANGELOG.md": f"\n## {VERSION}", "README.md": f"pikhsen_{VERSION}_amd64.deb"}.items():
         if text not in (read(name).splitlines()[0] if name in heads else read(name)):
@@ -243,8 +229,8 @@ def manuals():
 
 
 PARTS = (
-    libraries_that_are_listed, programs_that_are_listed, names_in_documents, figures_of_speed, definitions,
-    tests_of_examples, goals, made_parts, pictures, carriers, comments, manuals,
+    libraries_that_are_listed, programs_that_are_listed, names_and_figures, definitions, tests_of_examples, goals, made_parts,
+    pictures, carriers, comments, manuals,
 )
 
 

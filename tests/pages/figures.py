@@ -12,23 +12,14 @@ import ratios  # noqa: E402
 PRINTED = ratios.read(TOP / "docs/benchmarks.tsv")[1]
 V2, V3 = "x86-64-v2", "x86-64-v3"
 KEY, LOGIN = "key, -r 8 -p 1, --logN", "argon2 -id -t 3 -p 4 -m"
-# Kinds of work that pages speak of: how their names in the table begin, and their sizes, if not all.
+# Kinds of work that pages speak of: the form of their names and sizes in the table.
 KINDS = {
-    "hashes": ("argon2 ", ("16", "18")), "keys": ("key",),
-    "files": (("enc", "dec"),), "backups": (("enc", "dec"), ("100",)),
-    "hashes of lanes": (tuple(f"argon2 -{kind} -t {passes} -p 4" for kind in ("d", "i", "id") for passes in (1, 3)),
-                        ("12", "16", "18")),
-    "libsodium": ("libsodium -id",), "keys of libsodium": ("libsodium, -r",), "OpenSSL": ("OpenSSL",),
+    "hashes": r"argon2 .* (16|18)$", "hashes of lanes": r"argon2 .* -p 4 .* (12|16|18)$", "keys": "key", "files": "enc|dec",
+    "libsodium": "libsodium -id", "keys of libsodium": "libsodium, -r", "OpenSSL": "OpenSSL",
 }
-
-
-def ratio(ours, theirs):
-    return f"{float(ours) / float(theirs):.2f}"
-
-
 # beside the ratio to the other's time that to our own time for x86-64-v2
 for (WORK, SIZE, _), ROW in PRINTED.items():
-    ROW["to_v2"] = ratio(ROW["ours"], PRINTED[WORK, SIZE, V2]["ours"])
+    ROW["to_v2"] = f"{float(ROW['ours']) / float(PRINTED[WORK, SIZE, V2]['ours']):.2f}"
 
 
 def span(found):
@@ -37,9 +28,8 @@ def span(found):
 
 def ratios_of(kind, level="", column="ratio"):
     """The ratios of a kind of work, the least first."""
-    works, *sizes = KINDS[kind]
     return sorted((row[column] for (work, size, at), row in PRINTED.items()
-                   if work.startswith(works) and (not sizes or size in sizes[0]) and level in at), key=float)
+                   if re.match(KINDS[kind], f"{work} {size}") and level in at), key=float)
 
 
 def times(kind, level="", column="ratio"):
@@ -71,7 +61,7 @@ def off(work):
 def from_python(other):
     """Of which part of the time of another library to which one hashes took, or keys beside hashlib.scrypt."""
     rows = by_hand("The library for C, from Python")[1:]
-    return span(sorted(ratio(ours, theirs) for work, by, ours, theirs, _ in rows
+    return span(sorted(f"{float(ours) / float(theirs):.2f}" for work, by, ours, theirs, _ in rows
                        if by == other and (work.startswith("Argon2") or by == "`hashlib.scrypt`")))
 
 
@@ -88,7 +78,6 @@ def sentences():
     (with_sha,) = re.findall(r"on all such machines ours took (\S+ to \S+) times as long", page)
     of_g = sorted(it for name, *_, files in by_hand("How it is measured") if name == "G" for it in files.split(" and "))
     loads = sorted(float(row["load"]) for row in PRINTED.values())
-    backups = {level: " and ".join(ratios_of("backups", level)) for level in (V2, V3)}
     of_files = {level: " and ".join(PRINTED[f"{it}, --logN 14, MiB", "100", level]["ratio"] for it in ("enc", "dec"))
                 for level in (V2, V3)}
     heap = f"`packaging/heap.c`, {len(read('packaging/heap.c').splitlines())} lines"
@@ -118,7 +107,7 @@ def sentences():
             f"`argon2` took {times('hashes', V2)} of the time of Debian's if built for {V2}, "
             f"and {times('hashes', V3)} if built for {V3}",
             f"{times('keys', V2)} for {V2}, and {times('keys', V3)} for {V3}",
-            f"{backups[V2]} for {V2}, {backups[V3]} for {V3}",
+            f"{of_files[V2]} for {V2}, {of_files[V3]} for {V3}",
             *(f"{times(it, V2)} of the time of {it} for {V2}, and {times(it, V3)} for {V3}" for it in ratios.LIBRARIES),
             f"has all {len(PRINTED)} rows", f"**Memory**: {less[0]:.1f} to {less[-1]:.1f} MiB less",
             f"hashes took {from_python('argon2-cffi')} of the time of argon2-cffi and {from_python('libsodium')} "

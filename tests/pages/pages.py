@@ -60,15 +60,10 @@ def program(name, language):
     return f"```{language}\n{read(f'docs/programs/{name}')}```\n"
 
 
-def times():
-    """What a reader asks for first, of the table of make bench."""
-    head = ["work, in seconds", "other", "x86-64-v2", "ratio", "x86-64-v3", "ratio", "MiB", "MiB, other"]
-    return table(head, [*figures.rows_of_programs()])
-
-
+HEAD_OF_TIMES = ["work, in seconds", "other", "x86-64-v2", "ratio", "x86-64-v3", "ratio", "MiB", "MiB, other"]
 PARTS = {
     **{f"refusals of {it}": lambda it=it: refusals(it) for it in values_table.PROGRAMS},
-    "ranges": ranges, "times of the programs": times,
+    "ranges": ranges, "times of the programs": lambda: table(HEAD_OF_TIMES, [*figures.rows_of_programs()]),
     "a program in Rattle": lambda: program("accounts.txt", "rust"), "a program in C": lambda: program("login.c", "c"),
     "a program in Python": lambda: program("login.py", "python"),
 }

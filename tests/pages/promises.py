@@ -33,8 +33,7 @@ FIELDS = {(module.split(".")[0], name, field) for module, file in specs.all_file
 
 def functions(crate):
     """The functions of a crate, by their names: behind that of their type or trait, or, where several modules have one
-    of this name, of their module. And its types, which are none.
-    """
+    of this name, of their module. And its types, which are none."""
     found, items = {}, contracts.without_tests(crate)
     free = [it.name for it in items if it.what == "fn" and not it.block]
     for it in items:
@@ -109,11 +108,9 @@ def has(items, clause):
 
 def wrong():
     """What docs/PROMISES.md names that the sources lack; and the clauses and functions that no edit holds, where the
-    types don't.
-    """
+    types don't."""
     lost = {*unheld()}
-    for it in sorted(lost - BY_TYPES):
-        yield f"PROMISES.md: a wrong body at {it}, or an edit that takes it from a proof"
+    yield from (f"PROMISES.md: a wrong body at {it}, or an edit that takes it from a proof" for it in sorted(lost - BY_TYPES))
     yield from (f"tests/pages/promises.py: {it} is not held otherwise" for it in sorted(BY_TYPES - lost))
     for crate, *row in rows():
         for lost, found, clauses in parts(crate, *row):
@@ -122,9 +119,8 @@ def wrong():
                 is_type = clause[0].isupper() and clause in FUNCTIONS[crate]
                 if not is_type and not any(has(FUNCTIONS[crate][name], clause) for name in found):
                     yield f"PROMISES.md: {crate}: {', '.join(found)} has no clause {clause}"
-    for crate in contracts.libraries():
-        for name in without_edit(crate):
-            yield f"crates/{crate}/wrong-bodies: a wrong body of {name}, or of what BY_ANOTHER names"
+    yield from (f"crates/{crate}/wrong-bodies: a wrong body of {name}, or of what BY_ANOTHER names"
+                for crate in contracts.libraries() for name in without_edit(crate))
 
 
 def without_edit(crate):

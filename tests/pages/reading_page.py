@@ -9,7 +9,6 @@ The page of a call has all that its reader has to judge: its contract, the defin
 toolchain (tests/pages/definitions_told.py), the types that they name, and what notation and words mean
 (docs/words.tsv). The page of a library has its public items. All stands as in its source.
 """
-import functools
 import hashlib
 import pathlib
 import re
@@ -27,7 +26,6 @@ FILES = with_toolchain()
 PROGRAMS = ["argon2_program::run", "argon2_verify_program::run", "scrypt_program::run"]
 # A module of a type of the sources: its crate, its file, and its name.
 DECLARED = re.compile(r"(\w+)\.specs\.declared\.([a-z_0-9.]*?)\.?([A-Z]\w*)")
-SIGN = "read and found right by: ____________________________ date: ______________ (sum {})"
 ABOUT = """Pikhsen {version}. This page has all of this repository's text that a reader has to find right to
 believe the call: its contract, and the definitions that it reaches, in the order in which they are first cited:
 {ours}. Those of the toolchain's libraries that it reaches, {kit}, follow. That the
@@ -39,25 +37,21 @@ needs. Contracts do not see the heap, nor a byte of Linux: what that leaves open
 A signature stands as long as the sum of its section does."""
 
 
-@functools.lru_cache(maxsize=None)
-def standards():
-    """By each definition, as docs/DEFINITIONS.md has it, the section of the standard; a name's first row counts."""
-    found = {}
-    for crate, cells in tables("DEFINITIONS.md"):
-        for name in re.findall(r"`([^`]+)`", cells[0]) if cells[3:] and cells[3] else ():
-            found.setdefault((crate, name), cells[3])
-    return found
+# By each definition, as docs/DEFINITIONS.md has it, the section of the standard; a name's first row counts.
+STANDARDS = {(crate, name): cells[3] for crate, cells in [*tables("DEFINITIONS.md")][::-1] if cells[3:] and cells[3]
+             for name in re.findall(r"`([^`]+)`", cells[0])}
 
 
 def section(title, texts):
     """A section with its line to sign, and the sum of what stands in it."""
     body = "\n\n".join(texts)
-    return f"== {title}\n\n{body}\n\n{SIGN.format(hashlib.sha256(body.encode()).hexdigest()[:8])}"
+    sign = "read and found right by: ____________________________ date: ______________"
+    return f"== {title}\n\n{body}\n\n{sign} (sum {hashlib.sha256(body.encode()).hexdigest()[:8]})"
 
 
 def definition(module, name):
     """A definition, with the section of the standard and what tells it."""
-    sources = standards().get((module.split(".")[0], name)), told().get((module, name))
+    sources = STANDARDS.get((module.split(".")[0], name)), told().get((module, name))
     return "\n".join([*FILES[module].shown[name], *(f"    [{it}]" for it in sources if it)])
 
 
@@ -84,23 +78,20 @@ def call_page(call):
     reached = [it for it in specs.reached(texts, FILES) if it[1]]
     ours = [it for it in reached if (CRATES / it[0].split(".")[0]).is_dir()]
     kit = [it for it in reached if it not in ours]
-    notation = [f"{form}\n    {means}" for form, means in values_table.rows("notation", WORDS, "-")]
-    parts = [
-        f"What {call} is proved to do", ABOUT.format(version=VERSION, ours=size(ours), kit=size(kit)),
-        section("The contract", [f"// {it.path.relative_to(TOP)}\n{it.above}{it.text}" for it in found]),
-        section("Notation", notation),
-    ]
+    parts = {
+        "The contract": [f"// {it.path.relative_to(TOP)}\n{it.above}{it.text}" for it in found],
+        "Notation": [f"{form}\n    {means}" for form, means in values_table.rows("notation", WORDS, "-")],
+    }
     for module in dict.fromkeys(module for module, _ in ours + kit):
         # what it imports under another name, and the items that are reached, the nearest first
         named = re.findall(r"(?m)^ *use .* as .*$", FILES[module].text)
-        parts.append(section(module, [*named, *(definition(*it) for it in reached if it[0] == module)]))
+        parts[module] = [*named, *(definition(*it) for it in reached if it[0] == module)]
     texts += [("\n".join(FILES[module].items[name]), FILES[module].imports) for module, name in ours]
-    used = {*words_in(texts)}
-    words = [f"{word.replace('◌', ' .. ').strip()}\n    {means}"
-             for word, means in values_table.rows("word", WORDS, "-") if word in used]
-    return [
-        *parts, section("Types of the sources", types_in(texts)), section("Words of the toolchain's libraries", words),
-    ]
+    used, words = {*words_in(texts)}, values_table.rows("word", WORDS, "-")
+    shown = [f"{word.replace('◌', ' .. ').strip()}\n    {means}" for word, means in words if word in used]
+    parts.update({"Types of the sources": types_in(texts), "Words of the toolchain's libraries": shown})
+    about = ABOUT.format(version=VERSION, ours=size(ours), kit=size(kit))
+    return [f"What {call} is proved to do", about, *(section(*it) for it in parts.items())]
 
 
 def crate_page(crate):

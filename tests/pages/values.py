@@ -60,8 +60,7 @@ def manual_page(that, program):
         that(f"{name}: the synopsis of {command}, with its options", shown, expected)
     text = roff.plain("\n".join(roff.section(page, it) for it in ("OPTIONS", "DIAGNOSTICS")))
     if program == "argon2":
-        kind = found(r"The type: (\w+) \(the default\)", flowing(text))
-        that(f"{name}: the type where none is given", kind, "Argon2i")
+        that(f"{name}: the type where none is given", found(r"The type: (\w+) \(the default\)", flowing(text)), "Argon2i")
     unknown = {*re.findall(r"(?<![\w-])--[A-Za-z]+", text)} - {*table, "--help", "--version"}
     that(f"{name}: options that the table has not", sorted(unknown), [])
     all_known(that, f"{name}: numbers", re.sub(r"-[rp]8|=4|\d+[KMG]iB|\d+M\b", "", normal(text)))
@@ -113,8 +112,7 @@ def of_ranges(that):
 
 def of_scrypt_ask(that):
     """scrypt-ask takes the options of scrypt, with a command in place of a source of the passphrase; its lines and the
-    costs that it chooses are those of its page; its help, zsh and README have these costs, too.
-    """
+    costs that it chooses are those of its page; its help, zsh and README have these costs, too."""
     script, page, table = read("packaging/scrypt-ask"), roff.plain(read("man/scrypt-ask.1")), options("scrypt-ask")
     of_scrypt = sorted({*options("scrypt"), "--passcommand"} - {"-P", "--passphrase"})
     with_value = [line for line in script.splitlines() if re.search("takes='?(value|command)", line)]

@@ -60,8 +60,7 @@ def of_module(that):
               *(("max_ops", options(it)["--maxops"].default) for it in PROGRAMS)}
     of_table = {(it, value) for _, it, value in rows("default") if it.startswith("max_")}
     that("limits of the module and of the programs", of_table, limits)
-    major = found(r"^_MAJOR = (\d+)$", library_texts.MODULE)
-    that("the version that the module is for", major, VERSION.split(".")[0])
+    that("the version that the module is for", found(r"^_MAJOR = (\d+)$", library_texts.MODULE), VERSION.split(".")[0])
 
 
 def of_phrases(that):

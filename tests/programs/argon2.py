@@ -26,10 +26,8 @@ FIRST = b"$argon2d$v=19$m=8,t=1,p=1$c29tZXNhbHQ$xRnmA6xgPsGutbcexEpheePzl1sUwMl+
 I_256 = b"$argon2i$v=19$m=256,t=2,p=1$c29tZXNhbHQ$iekCn0Y3spW+sCcFanM2xBT63UP2sghkUoHLIUpWRS8"
 # nothing given but a form of output, and salts of s alone, of type id, one pass and 8 KiB, by their lengths
 PLAIN = b"$argon2i$v=19$m=4096,t=3,p=1$c29tZXNhbHQ$iWh06vD8Fy27wf9npn6FXWiCX4K6pW6Ue1Bnzz07Z8A\n"
-SALTS = {16: "T9G7F4ntvjOCgttwF4CMKEmjm52g0bFKQltH+leQhf8", 17: "cNrRQY3sLbHe38u+cfPZ8lRrKB9qhrEoELxcr/UZxGk",
-         254: "M1Y/xPAYtlm+iCGxd13+wHo7+WEkKtY9WCLfsviUeCg", 255: "4pUw72Sr9mwLVDS/SAA6Pgh1LDwJc0ra6eTcp0ku8xE"}
-# more than 64 MiB, and the longest tag
-D_64_MIB = b"6c51226ce388e165ceaa1c9b5e0646e1bd532392cbf72680d8a8e71c00a35c2f\n"
+SALTS = {16: b"T9G7F4ntvjOCgttwF4CMKEmjm52g0bFKQltH+leQhf8", 17: b"cNrRQY3sLbHe38u+cfPZ8lRrKB9qhrEoELxcr/UZxGk",
+         254: b"M1Y/xPAYtlm+iCGxd13+wHo7+WEkKtY9WCLfsviUeCg", 255: b"4pUw72Sr9mwLVDS/SAA6Pgh1LDwJc0ra6eTcp0ku8xE"}
 LONGEST_TAG = (b"11164024bbb98e6e90b14957a1d51417df657057e0c245f9359366d794eb5f63",
                b"b4e4162facc1fd3b88e73741e49c9fa04069973a7ee3fb65bcfef1cd394250e0\n")
 RIGHT, WRONG = (0, b"", b""), (1, b"", b"")
@@ -41,6 +39,10 @@ def refused(number):
 
 def hashed(text):
     return (0, text, b"")
+
+
+def text_of(numbers, salt, tag):
+    return b"$argon2id$v=19$%s$%s$%s" % (numbers, base64.b64encode(salt).rstrip(b"="), tag)
 
 
 # Words, standard input, and (status, standard output, standard error).
@@ -58,29 +60,20 @@ TABLE = [
         ("somesalt -k 15 -p 2 -e", "A6.3"), ("somesalt -l 3 -e", "A6.4"), ("seven77 -e", "A6.5"), (f"{'s' * 256} -e", "A6.5"))),
     ("somesalt -e", b"", refused("A8b")), ("somesalt -e", b"p" * 128, refused("A8c")),
     # more than 64 MiB, and long salts
-    ("somesalt -d -t 1 -k 65540 -r", b"password", hashed(D_64_MIB)),
-    *((f"{'s' * length} -id -t 1 -k 8 -e", b"password", hashed(
-        b"$argon2id$v=19$m=8,t=1,p=1$%s$%s\n" % (base64.b64encode(b"s" * length).rstrip(b"="), tag.encode())))
+    ("somesalt -d -t 1 -k 65540 -r", b"password", hashed(b"6c51226ce388e165ceaa1c9b5e0646e1bd532392cbf72680d8a8e71c00a35c2f\n")),
+    *((f"{'s' * length} -id -t 1 -k 8 -e", b"password", hashed(text_of(b"m=8,t=1,p=1", b"s" * length, tag + b"\n")))
       for length, tag in SALTS.items()),
 ]
 
 # what is compared with the installed program, with the password of each
 COMPARED = [
-    ("somesalt -d -t 1 -k 8 -l 4096 -e", b"password"),
-    ("somesalt -id -t 1 -k 262144 -p 2 -v 10 -e", b"password"),
-    ("somesalt -d -t 1 -k 8 -r", b"password"),
-    ("somesalt -i -t 3 -m 12 -r", b"password\n"),
-    ("somesalt -id -t 2 -k 1000 -p 3 -e", b"p" * 127),
-    ("somesalt -d -t 4 -k 77 -p 2 -l 65 -e", b"\x00\xff password"),
-    ("saltsaltsaltsalt -id -t 1 -m 16 -p 4 -l 64 -e", b"x"),
-    ("somesalt -i -t 1 -k 2100 -l 4 -r", b"password"),
+    ("somesalt -d -t 1 -k 8 -l 4096 -e", b"password"), ("somesalt -id -t 1 -k 262144 -p 2 -v 10 -e", b"password"),
+    ("somesalt -d -t 1 -k 8 -r", b"password"), ("somesalt -i -t 1 -k 2100 -l 4 -r", b"password"),
+    ("somesalt -i -t 3 -m 12 -r", b"password\n"), ("somesalt -id -t 2 -k 1000 -p 3 -e", b"p" * 127),
+    ("somesalt -d -t 4 -k 77 -p 2 -l 65 -e", b"\x00\xff password"), ("saltsaltsaltsalt -id -t 1 -m 16 -p 4 -l 64 -e", b"x"),
     *((f"somesalt -{kind} -t {passes} -k {memory} -p {lanes} -v 10 {form}", b"password") for kind in ("i", "d", "id")
       for passes, memory, form in ((1, 64, "-e"), (2, 1000, "-r"), (3, 77, "-e"), (4, 40, "-r")) for lanes in (1, 2, 3, 4)),
 ]
-
-
-def text_of(salt, tag, numbers):
-    return b"$argon2id$v=19$%s$%s$%s" % (numbers, *(base64.b64encode(it).rstrip(b"=") for it in (salt, tag)))
 
 
 # Of argon2-verify: words before the file, its text, the password, and what is expected.
@@ -101,7 +94,7 @@ VERIFIED = [
     ("--maxmem 1", I_256.replace(b"m=256", b"m=7"), b"p" * 4097, refused("V5")),
     ("--maxmem 255", I_256, b"p" * 4097, refused("V6a")),
     # salt, tag and numbers at their ends, but memory and passes: no text in range is longer by 20 bytes
-    ("", text_of(b"s" * 255, b"t" * 4096, b"m=128,t=1,p=16"), b"password", WRONG),
+    ("", text_of(b"m=128,t=1,p=16", b"s" * 255, b"dHR0" * 1365 + b"dA"), b"password", WRONG),
     # no hash: nothing, an empty line, spaces, padding, a symbol left out, other lengths, another type, a zero before a
     # number, a NUL, Django's first word, a bcrypt text, bytes that are no text
     *(("", it, b"password", refused("V4")) for it in (
@@ -167,9 +160,8 @@ def streams(checks, lines, left, read):
 
 def examples(checks):
     """The rows of docs/EXAMPLES.md that are one command with one line of output."""
-    rows = [cells for heading, cells in pages.tables("EXAMPLES.md") if "argon2" in heading and cells[0] != "no."]
     found = [(number, re.fullmatch(r"`argon2 ([^`]*)`", command), re.fullmatch(r"`([^` ]*)`(?:, status 0|: the first run)?", said))
-             for number, command, said, _ in rows]
+             for heading, (number, command, said, _) in pages.tables("EXAMPLES.md") if "argon2" in heading]
     run = [(number, command[1], said[1]) for number, command, said in found if command and said]
     checks.that("examples that are one command", [number for number, *_ in run], ["1", "2", "3", "12", "40"])
     for number, words, said in run:

@@ -25,12 +25,10 @@ from dataclasses import dataclass
 
 sys.path += map(str, pathlib.Path(__file__).resolve().parents[1].iterdir())  # the other folders of tests/
 from checking import compiled, is_there, over_programs
-from scrypt_files import COSTS, ENVIRONMENT, F0, F5, FILES, FIXED, FROM_PW, HEADER, LINES, SALT, header_of
+from scrypt_files import COSTS, ENVIRONMENT, F0, F5, FILES, FIXED, FROM_PW, HEADER, LINES, SALT, of_costs
 
 # The status of a refusal, and that of want of memory.
 REFUSED = {"argon2": (1, "A10"), "argon2-verify": (2, "V8"), "scrypt": (1, "S15")}
-
-
 STREAMS = ["standard input", "standard output", "standard error"]
 
 
@@ -72,17 +70,12 @@ class Run:
         return (status, b"", line, front) if self.to_file else (status, front or b"", line, None)
 
     def plain(self):
-        is_opened = any(written is not None for _, _, written in self.calls)
+        is_opened = self.refusal == "none" or any(written is not None for _, _, written in self.calls)
         return self.after(self.refusal, len(self.output) if is_opened else None)
 
     def where_it_fails(self, refusal, written):
-        """The same where a call fails of which this comes."""
-        if refusal == "none":
-            return self.plain()
-        if refusal == "line":
-            status, out, _, content = self.plain()
-            return status, out, b"", content
-        return self.after(refusal, written)
+        """The same where a call fails of which this comes; with its line, also where none is said then."""
+        return self.plain() if refusal in ("none", "line") else self.after(refusal, written)
 
     def without_memory(self):
         return self.after(REFUSED[self.program][1], None)
@@ -165,9 +158,7 @@ class System:
     """The programs, over a system that may be hostile, each thread in a folder of its own below this one."""
 
     def __init__(self, programs, below, library):
-        self.programs = programs
-        self.below = below
-        self.library = library
+        self.programs, self.below, self.library = programs, below, library
         self.threads = threading.local()
 
     def folder(self):
@@ -204,21 +195,15 @@ def memory(system, run):
     """Each request for memory is refused, alone and from there on: whether there is one, and what was found where it is not the
     line of want of memory."""
     _, _, requests = system.logged(run)
-    wrong = []
-    for number in range(1, requests + 1):
-        for last in (number, 1 << 40):
-            found = system.run(run, {"HOSTILE_MEMORY": f"{number}-{last}"})
-            if found != run.without_memory():
-                wrong.append((number, last, found))
-    past = system.run(run, {"HOSTILE_MEMORY": f"{requests + 1}-{1 << 40}"})
-    if past != run.plain():
-        wrong.append(("past the last", past))
-    return requests > 0, wrong
+    rows = [(f"{number}-{last}", run.without_memory()) for number in range(1, requests + 1) for last in (number, 1 << 40)]
+    rows.append((f"{requests + 1}-{1 << 40}", run.plain()))
+    ended = [(numbers, system.run(run, {"HOSTILE_MEMORY": numbers}), expected) for numbers, expected in rows]
+    return requests > 0, [(numbers, found) for numbers, found, expected in ended if found != expected]
 
 
 def file_of_no_text(log_n):
     """The file of no text under the passphrase pw, with r and p of 1, by Python's hashlib and hmac."""
-    front = header_of(log_n, 1, 1)[:64]
+    front = of_costs(log_n, 1, 1)
     keys = hashlib.scrypt(b"pw", salt=bytes(range(32)), n=1 << log_n, r=1, p=1, maxmem=1 << 26, dklen=64)
     head = front + hmac.digest(keys[32:], front, "sha256")
     return head + hmac.digest(keys[32:], head, "sha256")
@@ -248,11 +233,10 @@ INFO = Run("scrypt", "info -", F_MIB, b"N = 8192; r = 1; p = 1; memory = 1048576
 def largest_requests(checks, system):
     """No request is for more than 65,536 bytes above those of the matrix or the table, and one is for no fewer, that of a matrix
     the last; `info` of a file asks for no table."""
-    found = system.run(INFO, {"HOSTILE_LARGEST": "65536"})
-    checks.that(f"no table: {INFO.name}", found, (0, INFO.output, b"", None))
-    for run, size in LARGE_REQUESTS:
+    for run, size in [(INFO, 0), *LARGE_REQUESTS]:
         found = system.run(run, {"HOSTILE_LARGEST": str(size + 65536)})
-        checks.that(f"no larger request: {run.name}", found, (0, run.output, b"", None))
+        checks.that(f"no larger request: {run.name}", found, run.plain())
+    for run, size in LARGE_REQUESTS:
         found = system.run(run, {"HOSTILE_LARGEST": str(size - 1)})
         checks.that(f"a request as large: {run.name}", found, run.without_memory())
         if run.program != "scrypt":
@@ -268,10 +252,8 @@ def freed_blocks(checks, system):
     """Matrix and table hold zeros when they are freed, after a refusal, too."""
     for run, size in [*LARGE_REQUESTS, WRONG_PASSPHRASE]:
         done, called, _ = system.logged(run, HOSTILE_FREED=str(size))
-        expected = (0, run.output, b"", None) if run.refusal == "none" else run.plain()
-        checks.that(f"over a system that looks: {run.name}", done, expected)
-        found = [call for call in called if call.startswith("free ")]
-        checks.that(f"freed: {run.name}", found, ["free zeros"])
+        checks.that(f"over a system that looks: {run.name}", done, run.plain())
+        checks.that(f"freed: {run.name}", [it for it in called if it.startswith("free ")], ["free zeros"])
     # a program that frees what it holds as it is: so the look at a block sees more than zeros
     system.programs["python"] = sys.executable
     _, called, _ = system.logged(Run("python", "-c b=b'7'*(1<<20);del(b)"), HOSTILE_FREED=str(1 << 20))
@@ -309,6 +291,8 @@ def failing_calls(system, run):
         return [("what it does", done, called)]
     for number, (call, refusal, written) in enumerate(run.calls, 1):
         failed = run.where_it_fails(refusal, written)
+        if refusal == "line":  # which is not said
+            failed = (*failed[:2], b"", failed[3])
         expected = [(errno.EIO, 1, failed)]
         for table, ended in ((HARMLESS, run.plain()), (FAULTS, failed)):
             expected += [(error, 1, ended) for start, error in table if call.startswith(start)]
@@ -344,7 +328,7 @@ def refused_looks(system, run, only, error):
     if at == len(run.calls):
         return found, run.plain()
     _, refusal, written = run.calls[at]
-    status, out, said, content = run.plain() if refusal == "line" else run.after(refusal, written)
+    status, out, said, content = run.where_it_fails(refusal, written)
     return found, (status, out, b"" if is_read else said, content)
 
 

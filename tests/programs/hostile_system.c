@@ -59,14 +59,11 @@ static int is_refused(size_t size) {
     return is_within(refused_requests, ++requests) || size > (size_t)largest_request.first;
 }
 
-void *malloc(size_t size) { return is_refused(size) ? NULL : __libc_malloc(size); }
-
 void *calloc(size_t count, size_t size) {
     return is_refused(size && count > SIZE_MAX / size ? SIZE_MAX : count * size) ? NULL : __libc_calloc(count, size);
 }
-
+void *malloc(size_t size) { return is_refused(size) ? NULL : __libc_malloc(size); }
 void *realloc(void *old, size_t size) { return is_refused(size) ? NULL : __libc_realloc(old, size); }
-
 void *aligned_alloc(size_t alignment, size_t size) { return is_refused(size) ? NULL : __libc_memalign(alignment, size); }
 
 /* Whether the line of this call in the log begins as HOSTILE_ONLY says. */
@@ -97,7 +94,6 @@ static int goes_on(const char *call, const char *name) {
 }
 
 static const char *name_of(int descriptor) { return descriptor < 0 || descriptor >= 16 ? "a file" : names[descriptor]; }
-
 static size_t cut(size_t size) { return !error.first && is_bad && size > 1 ? 1 : size; }
 
 int open(const char *path, int flags, ...) {

@@ -25,7 +25,7 @@ import time
 sys.path += map(str, pathlib.Path(__file__).resolve().parents[1].iterdir())  # the other folders of tests/
 from checking import TIME_LIMIT, is_there, left_out, over_programs
 from scrypt_ask import Terminal
-from scrypt_files import COSTS, ENVIRONMENT, F0, F5, FILES, FIXED, FROM_PW, LINES, PASSPHRASE_OF_BYTES, SALT
+from scrypt_files import COSTS, ENVIRONMENT, F0, F5, FILES, FIXED, FROM_PW, LINES, SALT
 
 
 def done(out=b""):
@@ -96,7 +96,6 @@ IN_A_SHELL = [
     # what comes in pieces, or from another program, or is not read to its end
     (f'"$0" enc {COSTS} {FROM_PW} large | "$0" {DEC} - | cmp - large', done()),
     (f'{{ "$0" {DEC} large.enc; echo $? >&2; }} | head -c 5', (0, LARGE[:5], LINES["S13"] + b"1\n")),
-    (f'{SLOWLY} | "$0" dec -P F5', done(b"hello")),
     (f'{SLOWLY} | "$0" enc {FIXED} --passphrase file:/dev/stdin hello', done(F5)),
     (f'mkfifo it; {SLOWLY} >it & "$0" dec --passphrase file:it F5; rm it', done(b"hello")),
     # a run that reads neither its input nor its passphrase from standard input leaves that to others
@@ -110,6 +109,9 @@ IN_A_SHELL = [
     (f'"$0" {ENC} /dev/null /dev/stdout', done(F0)), (f'"$0" {ENC} /dev/null /dev/../dev/null', done()),
     (f'"$0" {ENC} - </dev/null >/dev/null', done()), (f'"$0" {ENC} /dev/null >/dev/null', done()),
     (f'mkfifo pipe; cat pipe & "$0" {ENC} hello pipe; wait; rm pipe', done(F5)),
+    # an empty infile, and one of a name that begins as an option; a dash is a plain outfile
+    (f'"$0" {DEC} ""', refused("S12")), (f'cp F5 ./-dashed; "$0" {DEC} -- -dashed', done(b"hello")),
+    (f'"$0" {DEC} F5 - && cat ./-; rm ./-', done(b"hello")),
     # permissions of a new outfile, and of one that is there
     (f'umask 027; "$0" {DEC} F5 out && stat -c %a out; rm out', done(b"640\n")),
     (f'>out; chmod 604 out; "$0" {DEC} F5 out && stat -c %a out; rm out', done(b"604\n")),
@@ -120,6 +122,8 @@ IN_A_SHELL = [
 OUTFILES = [
     (f"{DEC} F5 out", None, done(), b"hello"), (f"{DEC} F5 out", b"a longer text", done(), b"hello"),
     (f"{ENC} hello out", None, done(), F5), (f"{DEC} F0 out", b"before", done(), b""),
+    # a link to it, or to nothing
+    *((f"{ENC} hello link-to-out", it, done(), F5) for it in (b"before", None)),
     # cut in the last code, to its first byte, too
     (f"{DEC} F5-cut-127 out", b"before", refused("S11"), b""), (f"{DEC} F5-cut-130 out", None, refused("S11"), b"he"),
     *(("dec --passphrase file:other-pw F5 out", it, refused("S10"), it) for it in (b"before", None)),
@@ -132,22 +136,28 @@ OUTFILES = [
     (f"{DEC} F5 out <&- >&- 2>&-", None, done(), b"hello"),
 ]
 
+
+def under(*names):
+    """What reads `kept` as the input or as the secret's file, and would write it under one of these names."""
+    return [(b"kept", f"enc {COSTS} {words}") for it in names for words in (
+        f"{FROM_PW} kept {it}", f"{FROM_PW} {it} kept", f"{FROM_PW} - {it} <kept", f"--passphrase file:kept hello {it}",
+        f"-P hello {it} <kept")]
+
+
 # What stands in the file `kept`, and a shell's words after the program, of which it is read and would be written: by a
 # name, or as a standard stream, which would be read again, or would stand in that file. It stays as it is.
 KEPT = [
-    *((b"kept", f"enc {COSTS} {FROM_PW} {it}") for it in (
-        "kept ./kept", "kept symbolic-link", "symbolic-link kept", "- kept <kept", "kept >>kept",
-        "symbolic-link >>kept", "kept 1<>kept", "- <kept >>kept", "- <kept 1<>kept")),
+    *under("./kept", '"$PWD"/kept', "symbolic-link"),
+    *((b"kept", f"enc {COSTS} {it}") for it in (
+        *(f"{FROM_PW} {it}" for it in (
+            "kept >>kept", "symbolic-link >>kept", "kept 1<>kept", "- <kept >>kept", "- <kept 1<>kept")),
+        *(f"--passphrase file:kept hello {it}" for it in ("kept", ">>kept")), "-P hello <kept >>kept")),
     *((F5, f"{DEC} {it}") for it in ("kept ./kept", "- kept <kept", "kept >>kept", "- <kept >>kept")),
-    (F5, "info kept >>kept"),
-    (F5[:-1], f"{DEC} kept ./kept"),
-    *((b"pw\n", words) for words in (
-        *(f"enc {COSTS} --passphrase file:kept hello {it}" for it in ("./kept", "symbolic-link", ">>kept")),
-        f"enc {COSTS} -P hello ./kept <kept", f"enc {COSTS} -P hello <kept >>kept", "dec -P F5 <kept >>kept")),
+    (F5, "info kept >>kept"), (F5[:-1], f"{DEC} kept ./kept"), (b"pw\n", "dec -P F5 <kept >>kept"),
 ]
 # The same, and how they end, and what stands there after.
 READ_AND_WRITTEN = [
-    *((content, words, refused("S13"), content) for content, words in KEPT),
+    *((content, words, refused("S13"), content) for content, words in (*KEPT, *under("folder/../kept", "hard-link"))),
     (b"lost", f"enc {COSTS} {FROM_PW} kept >kept", refused("S13"), b""),
     # a line is left out where standard error is such a file
     *((F5, f"dec --passphrase file:other-pw {it}", SILENT, F5) for it in (
@@ -173,16 +183,8 @@ def without_the_root_folder(checks):
     if os.geteuid() != 0 or shutil.which("ldd") is None:
         left_out("root alone can make it", "a root folder that may not be opened", 4)
         return
-    root = f"{checks.folder}/root"
-    linked = checks.run([checks.program], program="ldd")[1].decode()
-    for path in [checks.program, *re.findall(r"/\S+", linked)]:
-        os.makedirs(root + os.path.dirname(path), exist_ok=True)
-        shutil.copy(path, root + path)
-    os.mkdir(f"{root}/files")
-    for name in ("pw", "hello", "F5", "F5-cut-130"):
-        checks.put(f"root/files/{name}", FILES[name])
-    os.chmod(f"{root}/files", 0o777)
-    os.chmod(root, 0o711)
+    checks.shell("""mkdir -p root/files; cp -L --parents "$0" $(ldd "$0" | grep -o '/[^ ]*') root
+        cp pw hello F5 F5-cut-130 root/files; chmod -R a+rX root; chmod 777 root/files; chmod 711 root""")
     from_pw = "--passphrase file:files/pw"
     for name, words, expected in (
         ("all streams open", f"dec {from_pw} files/F5", done(b"hello")),
@@ -190,16 +192,15 @@ def without_the_root_folder(checks):
         ("no infile as standard error", f"dec {from_pw} files/F5-cut-130 files/out 2>&-", SILENT),
         ("no file with all streams closed", f"dec {from_pw} files/F5-cut-130 files/out <&- >&- 2>&-", SILENT),
     ):
-        found = checks.shell(f'chroot --userspec=65534:65534 {root} "$0" {words}')
+        found = checks.shell(f'chroot --userspec=65534:65534 root "$0" {words}')
         checks.that(name, (found, checks.content("root/files/out")), (expected, None))
 
 
 def pipes(checks):
     """Nobody reads the output any more: a fault like any other, and no signal. The file, or the passphrase, comes byte
     by byte. What holds the passphrase is read to its end, or 2,049 bytes of it."""
-    found = checks.unread_pipe(f"dec {FROM_PW} F5".split())
-    checks.that("a pipe that nobody reads", found, (1, LINES["S13"]))
-    checks.that("a file in pieces", checks.slowly(f"dec {FROM_PW} -".split(), F5, 0.002), done(b"hello"))
+    checks.that("a pipe that nobody reads", checks.unread_pipe(f"{DEC} F5".split()), (1, LINES["S13"]))
+    checks.that("a file in pieces", checks.slowly(f"{DEC} -".split(), F5, 0.002), done(b"hello"))
     checks.that("a passphrase in pieces", checks.slowly("dec -P F5".split(), b"pw\nmore", 0.02), done(b"hello"))
     for name, given, expected in (
         ("all", b"pw\nmore", done(b"hello")),
@@ -214,25 +215,7 @@ def pipes(checks):
 
 def outputs_that_are_read(checks):
     """An output that is the input, or the secret's file, under another name stays as it is."""
-    checks.put("kept", b"kept")
-    os.link(f"{checks.folder}/kept", f"{checks.folder}/hard-link")
-    os.symlink("kept", f"{checks.folder}/symbolic-link")
-    os.symlink("not-there", f"{checks.folder}/dangling-link")
-    for name in ("./kept", "folder/../kept", f"{checks.folder}/kept", "hard-link", "symbolic-link"):
-        for way, words in (
-            ("the input", f"enc {COSTS} {FROM_PW} kept {name}"),
-            ("the input by its other name", f"enc {COSTS} {FROM_PW} {name} kept"),
-            ("standard input", f"enc {COSTS} {FROM_PW} - {name} <kept"),
-            ("the secret's file", f"enc {COSTS} --passphrase file:kept hello {name}"),
-            ("the secret on standard input", f"enc {COSTS} -P hello {name} <kept"),
-        ):
-            leaves(checks, f"{way} as {name}", words, refused("S13"), "kept", b"kept")
-    leaves(checks, "the secret's own name", f"enc {COSTS} --passphrase file:kept hello kept", refused("S13"), "kept", b"kept")
-    leaves(checks, "a file to be decrypted", f"dec {FROM_PW} F5 ./F5", refused("S13"), "F5", F5)
-    # names of another file
-    found = checks.shell(f'"$0" enc {FIXED} {FROM_PW} kept dangling-link')
-    checks.that("a link to nothing", (found, len(checks.content("not-there"))), (done(), 128 + 4))
-    leaves(checks, "a link to another file", f"enc {FIXED} {FROM_PW} hello symbolic-link", done(), "kept", F5)
+    checks.shell(">kept; ln kept hard-link; ln -s kept symbolic-link")
     for content, words, expected, after in READ_AND_WRITTEN:
         checks.put("kept", content)
         leaves(checks, f"a file that is read: {words}", words, expected, "kept", after)
@@ -257,12 +240,9 @@ def block_devices(checks):
     try:
         os.mknod(other, 0o600 | stat.S_IFBLK, os.stat(device).st_rdev)
         for words, expected, after in (
-            *((words, refused("S13"), content) for words in (
-                f"enc {COSTS} {FROM_PW} {device} {device.replace('dev/', 'dev/./')}",
-                f"enc {COSTS} {FROM_PW} {device} {other}",
-                f"enc {COSTS} {FROM_PW} - {other} <{device}",
-                f"enc {COSTS} {FROM_PW} {other} >{device}",
-                f"enc {COSTS} --passphrase file:{other} hello {device}")),
+            *((f"enc {COSTS} {it}", refused("S13"), content) for it in (
+                f"{FROM_PW} {device} {device.replace('dev/', 'dev/./')}", f"{FROM_PW} {device} {other}",
+                f"{FROM_PW} - {other} <{device}", f"{FROM_PW} {other} >{device}", f"--passphrase file:{other} hello {device}")),
             (f"info {other} 2>{device}", SILENT, content),
             (f"enc {FIXED} {FROM_PW} hello {device}", done(), F5 + content[len(F5):]),
         ):
@@ -325,18 +305,14 @@ def words_of_bytes(checks):
     checks.put("out", b"before")
     found = checks.run([b"dec", b"--passphrase", b"file:pw", b"F5", b"out", b"\xff"])
     checks.that("a word that is no text", (found, checks.content("out")), (refused("S1"), b"before"))
-    found = checks.run([b"dec", b"--passphrase", b"file:\xff", b"F5"])
-    checks.that("a name that is no text", found, refused("S1"))
+    checks.that("a name that is no text", checks.run([b"dec", b"--passphrase", b"file:\xff", b"F5"]), refused("S1"))
     found = checks.run(["info", "F5"], program=b"\xff", executable=checks.program)
     checks.that("a program's name that is no text", found, done(INFO))
-    checks.that("an empty infile", checks.run(["dec", "--passphrase", "file:pw", ""]), refused("S12"))
-    checks.put("-dashed", F5)
-    checks.that("a name after two dashes", checks.run(f"dec {FROM_PW} -- -dashed".split()), done(b"hello"))
     # a variable, a file and standard input give the same bytes of a passphrase, text or not
-    made = checks.run(f"enc {COSTS} --passphrase env:PW_BYTES hello".split())[1]
-    checks.that("bytes of a file", checks.run("dec --passphrase file:pw-bytes -".split(), made), done(b"hello"))
-    checks.put("made", made)
-    checks.that("bytes of standard input", checks.run("dec -P made".split(), PASSPHRASE_OF_BYTES), done(b"hello"))
+    checks.put("made", checks.run(f"enc {COSTS} --passphrase env:PW_BYTES hello".split())[1])
+    for source in ("-P", "--passphrase file:pw-bytes"):
+        found = checks.run(f"dec {source} made".split(), FILES["pw-bytes"])
+        checks.that(f"bytes of {source}", found, done(b"hello"))
 
 
 # The costs where none are given (README.md, "Which costs").
@@ -373,8 +349,7 @@ def beside_the_installed(checks):
     small, larger = "--logN 10 -r 1 -p 1", "--logN 11 -r 3 -p 2"
     cases = [(costs, 1, text) for costs in (COSTS, small, larger) for text in (b"", b"hello", LARGE)]
     cases += [("--logN 10 -r 1 -p 2", 1 << power, b"hello") for power in range(11)]
-    beginning = [it for it in cases if it[0] != COSTS]  # its own costs begin at 2^10, but it opens files with less
-    if not is_there("scrypt", "it is not compared with", len(cases) + len(beginning)):
+    if not is_there("scrypt", "it is not compared with", len(cases) + sum(it[0] != COSTS for it in cases)):
         return
     other = shutil.which("scrypt")
     for costs, keep, text in cases:
@@ -383,7 +358,7 @@ def beside_the_installed(checks):
         checks.put("ours", ours)
         found = checks.run(f"dec {FROM_PW} ours".split(), program=other)
         checks.that(f"{other} opens ours {name}", (*found[:2], costs_of(ours)), (0, text, costs))
-        if (costs, keep, text) in beginning:
+        if costs != COSTS:  # its own costs begin at 2^10, but it opens files with less
             made = checks.run(f"enc {costs} {FROM_PW} - theirs".split(), text, program=other)
             found = checks.run(f"dec --keep {keep} {FROM_PW} theirs".split())
             checks.that(f"ours opens {other}'s {name}", (made[0], found), (0, done(text)))
@@ -443,12 +418,11 @@ def damaged_files(checks):
             checks.that(f"the whole file, in pieces of {size}", decrypted(checks, F5, size), (0, b"", b"hello"))
 
 
-def main(checks, folder, _):
+def main(checks, *_):
     checks.environment = {**ENVIRONMENT, "PATH": os.environ.get("PATH", "")}
-    for name, content in FILES.items():
+    for name, content in {**FILES, "large": LARGE}.items():
         checks.put(name, content)
-    checks.put("large", LARGE)
-    os.mkdir(f"{folder}/folder")
+    checks.shell("mkdir folder; ln -s out link-to-out")
     checks.put("large.enc", checks.run(f"enc {COSTS} {FROM_PW} large".split())[1])
     for words, given, expected in WRITTEN:
         checks.that(f"{words}, given {given[:9]}", checks.run(words.split(), given), done(expected))
@@ -461,8 +435,6 @@ def main(checks, folder, _):
     for words, before, expected, after in OUTFILES:
         checks.put("out", before)
         leaves(checks, f"an outfile: {words}", words, expected, "out", after)
-    leaves(checks, "a dash is a plain outfile", f"{DEC} F5 -", done(), "-", b"hello")
-    checks.put("-", None)
     for part in (
         without_the_root_folder, pipes, outputs_that_are_read, block_devices, folders_that_are_kept,
         outputs_over_mounts, words_of_bytes, from_enc_and_back, beside_the_installed, damaged_files,

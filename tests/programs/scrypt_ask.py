@@ -5,7 +5,8 @@ passphrase, the file that is made, and what is refused before a passphrase is as
 
     tests/programs/scrypt_ask.py FOLDER [SHELL ..]    the folder in which scrypt lies; the shells, as dash, or all of them
 """
-import itertools
+import contextlib
+import multiprocessing
 import os
 import pathlib
 import pty
@@ -16,8 +17,6 @@ import select
 import shlex
 import shutil
 import signal
-import socket
-import subprocess
 import sys
 import tempfile
 import termios
@@ -95,7 +94,7 @@ class Terminal:
     """A run at a terminal of its own, begun as a shell with jobs begins one, so that it can stop there and go on."""
 
     def __init__(self, line, folder, environment):
-        self.notes, telling = socket.socketpair(socket.AF_UNIX, socket.SOCK_SEQPACKET)
+        self.notes, telling = multiprocessing.Pipe()
         self.shown, self.halts = "", 0
         self.leader, self.screen = pty.fork()
         if self.leader == 0:
@@ -106,7 +105,7 @@ class Terminal:
             finally:
                 os._exit(0)
         telling.close()
-        self.number = int(self.note())
+        self.number = self.notes.recv()
 
     @staticmethod
     def lead(line, environment, telling):
@@ -118,16 +117,14 @@ class Terminal:
             for it in signal.valid_signals() - {signal.SIGKILL, signal.SIGSTOP}:
                 signal.signal(it, signal.SIG_DFL)  # and not as they were left to the tests
             os.execve("/bin/sh", ["sh", "-c", line], environment)
-        telling.send(b"%d" % run)
-        order = b"+"
-        while order:
+        telling.send(run)
+        while True:  # until nobody is there to tell
             _, status = os.waitpid(run, os.WUNTRACED)
             os.tcsetpgrp(0, os.getpgrp())
             os.write(1, b"\0")
-            telling.send(b"stopped" if os.WIFSTOPPED(status) else b"%d" % os.waitstatus_to_exitcode(status))
-            if order := telling.recv(1):
-                os.tcsetpgrp(0, run if order == b"+" else os.getpgrp())  # or in the background
-                os.killpg(run, signal.SIGCONT)
+            telling.send("stopped" if os.WIFSTOPPED(status) else os.waitstatus_to_exitcode(status))
+            os.tcsetpgrp(0, run if telling.recv() else os.getpgrp())  # or in the background
+            os.killpg(run, signal.SIGCONT)
 
     def until(self, is_so, what, do=None):
         """Looks at the screen until something is so, and does this each second."""
@@ -143,21 +140,12 @@ class Terminal:
             if select.select([self.screen], [], [], 0.01)[0]:
                 self.shown += os.read(self.screen, 4096).decode(errors="replace")
 
-    def is_noted(self):
-        return bool(select.select([self.notes], [], [], 0)[0])
-
-    def note(self, do=None):
-        """The next that is said of the run: its number, that it stopped, or its status."""
-        self.until(self.is_noted, "a note", do)
-        return self.notes.recv(99).decode()
-
     def halt(self, do=None):
         """That the run stopped, or its status, once all is seen that it has shown; what was typed too late for it may stand
         behind that. And whether the terminal shows what is typed then."""
-        note = self.note(do)
         self.halts += 1
-        self.until(lambda: self.shown.count("\0") == self.halts, repr("\0"))
-        return note, self.echoes()
+        self.until(lambda: self.shown.count("\0") == self.halts, "a note", do)
+        return self.notes.recv(), self.echoes()
 
     def echoes(self):
         return bool(termios.tcgetattr(self.screen)[3] & termios.ECHO)
@@ -173,7 +161,7 @@ class Terminal:
     def answers(self, *typed, at=0):
         """Types this at each question, and says whether the terminal shows what is typed at one of them."""
         is_shown = False
-        for prompt, text in zip(itertools.islice(itertools.cycle((ASKED, AGAIN)), at, None), typed):
+        for prompt, text in zip(((ASKED, AGAIN) * 3)[at:], typed):
             is_shown |= self.sees(prompt)
             self.types(text)
         return is_shown
@@ -184,8 +172,8 @@ class Terminal:
         time.sleep(0.02)
         return self.halt(lambda: self.types(typed) if typed else os.kill(self.number, number))
 
-    def goes_on(self, order=b"+"):
-        self.notes.send(order)
+    def goes_on(self, in_front=True):
+        self.notes.send(in_front)
 
     def ends(self, note=None):
         """The status, what was shown, and whether the terminal shows what is typed then."""
@@ -193,7 +181,7 @@ class Terminal:
         self.notes.close()
         os.waitpid(self.leader, 0)
         os.close(self.screen)
-        return int(status), unnamed(self.shown.replace("\0", "")), echo
+        return status, unnamed(self.shown.replace("\0", "")), echo
 
 
 class Room:
@@ -209,10 +197,9 @@ class Room:
         self.folder = checks.folder = self.top / "room"
         self.folder.mkdir()
         os.chown(self.folder, NOBODY if IS_ROOT else -1, -1)
-        self.put, self.held = checks.put, checks.content
+        self.put, self.held, self.do = checks.put, checks.content, checks.shell
 
     def make(self, name, text):
-        """Makes a program of this text."""
         path = self.top / name
         path.parent.mkdir(exist_ok=True)
         path.write_text(text, encoding="utf-8")
@@ -239,9 +226,7 @@ class Room:
 
     def without_terminal(self, words, **how):
         """Status, standard output and standard error where no terminal is there."""
-        line = self.line(words, **how)
-        ran = subprocess.run(["sh", "-c", line], cwd=self.folder, capture_output=True, start_new_session=True)
-        return ran.returncode, ran.stdout, ran.stderr.decode()
+        return self.checks.run(["-c", self.line(words, **how)], program="sh", start_new_session=True)
 
     def opened(self, name):
         """What scrypt makes of a file with the passphrase in the file `words`."""
@@ -255,9 +240,6 @@ class Room:
         self.that(what, (status == -number or status == 1 and is_kept, echo), (True, True))
         return shown
 
-    def mode(self, name):
-        return oct((self.folder / name).stat().st_mode & 0o7777)
-
     def names(self):
         return sorted(it.name for it in self.folder.iterdir())
 
@@ -267,8 +249,7 @@ class Room:
 
     def clear(self, **files):
         """Nothing lies there but these, and a FIFO where that has no content."""
-        for path in self.folder.iterdir():
-            shutil.rmtree(path) if path.is_dir() and not path.is_symlink() else path.unlink()
+        self.do("rm -rf -- *")
         for name, content in files.items():
             os.mkfifo(self.folder / name) if content is None else self.put(name, content)
 
@@ -279,22 +260,17 @@ opened() { ../bin/scrypt dec --passphrase file:words -- "$1"; echo; }
 """
 DIFFER, EMPTY = "the two differ: nothing is encrypted", "an empty passphrase keeps nobody out: nothing is encrypted"
 NONE, LEFT = "no passphrase was typed", "outfile has the permissions 600: its own could not be set"
-QUESTIONS = [f"{before}{it}\n" for before, it in (
-    ("", ASKED), ("", AGAIN), ("The two differ. ", ASKED), ("", AGAIN), ("The two differ again. ", ASKED), ("", AGAIN))]
-NAMES = "two words", "two\nlines", "two lines\n", "-dash", "-d/-e", "'$x`y`*\"\\", "\u00e4"
-# Lines of such a shell, beside letters, words, an older file and a FIFO, what is typed, and what is shown after the
-# questions.
+QUESTIONS = [f"{it}\n" for before in ("", "The two differ. ", "The two differ again. ") for it in (before + ASKED, AGAIN)]
+# Lines of such a shell, beside letters, words, an older file and a FIFO; what is typed; what is shown after the questions.
 SCENES = [
     # what is typed wrongly makes no file, and costs none; two that differ are asked for again, twice
-    *((f"{command} letters older || echo $?; echo *; cat older", typed,
+    *((f"{command} letters older || echo $?; echo *; cat older", typed.splitlines(keepends=True),
        f"scrypt-ask: {line}\n1\nfifo letters older words\nolder") for command, typed, line in (
-        ("enc", ["a\n", "b\n", "a\n", "a \n", "a\n", "\n"], DIFFER), ("enc", ["\n"], EMPTY),
-        ("enc", ["a\n", "b\n", "\n"], EMPTY), ("enc", ["\4"], NONE), ("enc", ["a\n", "\4"], NONE),
-        ("enc", ["a\n", "b\n", "a\n", "\4"], NONE), ("ask dec", ["\4"], NONE))),
+        ("enc", "a\nb\na\na \na\n\n", DIFFER), ("enc", "\n", EMPTY), ("enc", "a\nb\n\n", EMPTY), ("enc", "\4", NONE),
+        ("enc", "a\n\4", NONE), ("enc", "a\nb\na\n\4", NONE), ("ask dec", "\4", NONE))),
     ("enc letters out; opened out", ["a\n", "b\n", "a\n", "c\n", *TYPED], "Dear Ada\n"),
     # permissions of a new file, and of one that is replaced; links, other names, devices and FIFOs
-    *((f"umask {umask}; enc letters out; stat -c %a out", TYPED, f"{mode}\n")
-      for umask, mode in ((22, 644), (27, 640), (77, 600))),
+    *((f"umask {it}; enc letters out; stat -c %a out", TYPED, f"{mode}\n") for it, mode in ((22, 644), (27, 640), (77, 600))),
     ("chmod 604 older; enc letters older; opened older; stat -c '%a %u' older", TYPED, f"Dear Ada\n604 {OWNER}\n"),
     ("ln older hard; enc letters older; cat hard", TYPED, "older"),
     ("ln -s older link; enc letters link; opened older; readlink link", TYPED, "Dear Ada\nolder\n"),
@@ -307,17 +283,15 @@ SCENES = [
         "/dev/stdin /dev/stdout <letters >stream")),
     *((f"enc {it}; opened out; rm -f stream; echo *", TYPED, "Dear Ada\nfifo letters older out words\n") for it in (
         "letters out", "- out <letters", "/dev/fd/0 out <letters", "- out 2>stream <letters", "letters out <&- >&-")),
-    *((f"enc {words} || echo $?", TYPED, LINES[number].decode() + "1\n")
-      for words, number in (("- out <&-", "S12"), ("letters >&-", "S13"))),
+    *((f"enc {it} || echo $?", TYPED, LINES[no].decode() + "1\n") for it, no in (("- out <&-", "S12"), ("letters >&-", "S13"))),
     # permissions cannot be set; what is in the folder, as it is brought to the disk
     *((f"PATH=../refusing:$PATH; enc letters {it}; opened {it}; stat -c %a {it}; cat ../synced; echo *", TYPED,
-       "\n".join([f"scrypt-ask: {LEFT}", "Dear Ada", "600", *there, " ".join(there), ""]))
-      for it, there in (("older", ["fifo", "letters", "older", "words"]),
-                        ("out", ["fifo", "letters", "older", "out", "words"]))),
+       "\n".join([f"scrypt-ask: {LEFT}", "Dear Ada", "600", *there.split(), there, ""]))
+      for it, there in (("older", "fifo letters older words"), ("out", "fifo letters older out words"))),
     # names of every form, and links to them
     *((f"mkdir -- -d; cp -- letters {it}.in; enc -- {it}.in {it}; opened {it}; "
        f'ln -s -- "$PWD"/{it} link; ask dec link - | cat', [*TYPED, TYPED[0]], f"Dear Ada\n{ASKED}\nDear Ada")
-      for it in map(shlex.quote, NAMES)),
+      for it in map(shlex.quote, ("two words", "two\nlines", "two lines\n", "-dash", "-d/-e", "'$x`y`*\"\\", "\u00e4"))),
 ]
 
 
@@ -335,14 +309,14 @@ def scenes(room):
 def typed_and_opened(room):
     """A file that is made under what is typed opens under it, typed or in a file, and under nothing else."""
     room.clear(letters=TEXT * 1000)
-    room.that("enc", room.run(ENC, f"{WORDS}\n", f"{WORDS}\n"), (0, TWICE, True))
-    room.that("what is there after it", room.names(), ["letters", "out"])
+    found = room.run(ENC, f"{WORDS}\n", f"{WORDS}\n")
+    room.that("enc", (found, room.names()), ((0, TWICE, True), ["letters", "out"]))
     room.put("words", WORDS.encode())
     room.that("opened by scrypt", room.opened("out"), (0, TEXT * 1000, b""))
     # also at a terminal that does not read by lines, as where a shell edits them
     for end, before in (("\n", "exec"), ("\r", "stty -icanon -icrnl -isig; exec")):
-        room.that(f"dec, {before}", room.run("dec out text", WORDS + end, before=before), (0, ONCE, True))
-        room.that(f"dec, {before}: what was opened", room.held("text") == TEXT * 1000, True)
+        found = room.run("dec out text", WORDS + end, before=before)
+        room.that(f"dec, {before}", (found, room.held("text") == TEXT * 1000), ((0, ONCE, True), True))
     room.put("text", b"older")
     for name, typed in (("less at the end", WORDS[:-1]), ("less at the front", WORDS[1:]), ("a space more", f"{WORDS} "),
                         ("nothing", "")):
@@ -369,15 +343,14 @@ def signals_while_it_asks(room):
             terminal.goes_on()
             room.that(f"asked again at {at}, {turn}", terminal.sees(f"\0{asked}"), False)
         terminal.answers(*TYPED[at:], at=at)
-        room.that(f"stopped twice at {at}, and gone on", terminal.ends()[::2], (0, True))
-        room.that(f"stopped twice at {at}: the file", room.opened("out"), MADE)
+        room.that(f"stopped twice at {at}, and gone on", (terminal.ends()[::2], room.opened("out")), ((0, True), MADE))
     terminal = room.begin("dec out text")
     terminal.sees(ASKED)
     terminal.signals(signal.SIGTSTP)
     os.kill(terminal.number, signal.SIGTERM)
     terminal.goes_on()
-    room.that("stopped, and ended", terminal.ends()[::2], (-signal.SIGTERM, True))
-    room.that("stopped, and ended: files", room.names(), ["letters", "out", "words"])
+    found = *terminal.ends()[::2], room.names()
+    room.that("stopped, and ended", found, (-signal.SIGTERM, True, ["letters", "out", "words"]))
 
 
 def begun_to_write(room, **files):
@@ -387,9 +360,9 @@ def begun_to_write(room, **files):
     giving = open(room.folder / "given", "wb", buffering=0)
     terminal.answers(*TYPED)
     giving.write(b"Dear")
-    made = lambda: [it.name for it in room.folder.glob("scrypt-ask.??????") if it.stat().st_size]
-    terminal.until(made, "a file")
-    room.that("who can read a file that is not whole", room.mode(made()[0]), "0o600")
+    modes = lambda: [oct(it.st_mode) for it in map(os.stat, room.folder.glob("scrypt-ask.??????")) if it.st_size]
+    terminal.until(modes, "a file")
+    room.that("who can read a file that is not whole", modes(), ["0o100600"])
     return terminal, giving
 
 
@@ -399,11 +372,9 @@ def signals_while_scrypt_works(room):
         terminal, giving = begun_to_write(room)
         room.ended(f"{number.name}, {'typed' if typed else 'sent'}, to scrypt at work", terminal, number, typed)
         room.stays(number.name, "given", "out")
-        try:
-            reader = giving.write(b"more") and "scrypt"
-        except BrokenPipeError:
-            reader = None
-        room.that(f"{number.name}: who is left to read", reader, None)
+        looked = select.poll()
+        looked.register(giving, 0)  # which gives an error where nobody reads
+        room.that(f"{number.name}: who is left to read", looked.poll(0), [(giving.fileno(), select.POLLERR)])
         giving.close()
     terminal, giving = begun_to_write(room, words=b"words")
     room.that("stopped at work", terminal.signals(signal.SIGTSTP, "\32")[0], "stopped")
@@ -432,98 +403,83 @@ def what_it_tells(room):
     # on a machine with much work it may look before the table is there
     end, whole, sleeping = re.escape(ERASED), f"({half})?{key}{half}", "PATH=../sleeping:$PATH; exec"
 
-    def begin(words, terminal="xterm"):
+    def begin(words="letters out", terminal="xterm"):
         return room.begin(f"enc {words}", "a\n", "a\n", script="slow/scrypt-ask", before=sleeping, terminal=terminal)
 
     for words, last, kind, expected in (
-        *((it, "ends", "xterm", (0, whole + end)) for it in ("letters out", "- out <letters", "letters >/dev/null")),
-        ("letters out", "fails", "xterm", (1, f"{whole}scrypt: fails\r\n({half})?{end}")),
-        ("letters out 2>said", "ends", "xterm", (0, "")), ("letters out", "ends", "dumb", (0, "")),
+        *((it, "ends", "xterm", whole + end) for it in ("letters out", "- out <letters", "letters >/dev/null")),
+        ("letters out", "fails", "xterm", f"{whole}scrypt: fails\r\n({half})?{end}"),
+        ("letters out 2>said", "ends", "xterm", ""), ("letters out", "ends", "dumb", ""),
     ):
         terminal = begin(words, kind)
         for order, told in (("goes", "deriving"), (last, "(49|50) %")):
-            if expected[1]:
+            if expected:
                 terminal.until(lambda: re.search(f"{told}[^\n]*{re.escape(BACK)}$", terminal.shown), told)
             else:
                 time.sleep(0.12)
             print(order, file=go)
         status, shown, echo = terminal.ends()
-        shown = shown.removeprefix(TWICE)
-        found = status, bool(re.fullmatch(expected[1], shown)) or shown, echo
-        room.that(f"told of {words}, {kind}, {last}", found, (expected[0], True, True))
+        is_told = re.fullmatch(TWICE + expected, shown) is not None
+        room.that(f"told of {words}, {kind}, {last}", (status, is_told or shown, echo), (int(last == "fails"), True, True))
     room.that("told to a file", room.held("said"), b"")
     for number in (signal.SIGINT, signal.SIGTERM):
-        terminal = begin("letters out")
+        terminal = begin()
         terminal.sees(BACK)
         shown = room.ended(f"{number.name} while it tells", terminal, number)
         room.that(f"told until {number.name}", shown.endswith(ERASED), True)
-    terminal = begin("letters out")
+    terminal = begin()
     terminal.sees(BACK)
     terminal.signals(signal.SIGTSTP, "\32")
-    before = len(terminal.shown)
-    terminal.goes_on(b"-")
+    terminal.shown, terminal.halts = "", 0
+    terminal.goes_on(in_front=False)
     time.sleep(0.5)  # ten times as long as a second is here
     print("goes\nends", file=go)
     status, _ = terminal.halt()
-    if not (room.shell.startswith("zsh") and int(status) > 128):  # its wait may end at a stop
-        seen = lambda: terminal.shown[before:].replace("\0", "")
-        terminal.until(lambda: seen().endswith(ERASED), "what erases it")  # for which zsh may not wait, either
-        told = seen()  # with what was begun before the stop
-        is_told = bool(re.fullmatch(f"{key[:-1]}?{end}", told))
-        room.that("told in the background", (status, is_told or told), ("0", True))
-    _, shown, _ = room.run("enc --logN 15 -r 8 -p 3 letters out", "a\n", "a\n", terminal="xterm", before=sleeping)
+    if not (room.shell.startswith("zsh") and status > 128):  # its wait may end at a stop
+        shown = lambda: terminal.shown.replace("\0", "")
+        terminal.until(lambda: shown().endswith(ERASED), "what erases it")  # for which zsh may not wait, either
+        is_told = re.fullmatch(f"{key[:-1]}?{end}", shown()) is not None  # with what was begun before the stop
+        room.that("told in the background", (status, is_told or shown()), (0, True))
+    shown = room.run("enc --logN 15 -r 8 -p 3 letters out", "a\n", "a\n", terminal="xterm", before=sleeping)[1]
     room.that("told of scrypt", "deriving the key: 32 MiB, 1 s" in shown or shown, True)
     room.that("told of a short run", room.run(ENC, "a\n", "a\n", terminal="xterm"), (0, TWICE, True))
 
 
-def killed(room, turn):
-    """Kills a process of a run, whenever, and in each third turn signals the run itself. The status."""
-    terminal = room.begin(ENC, *TYPED[: 1 + (turn % 3 > 0)], terminal="xterm")
-    number, until, kids = terminal.number, time.monotonic() + random.random() * 0.03, []
-    try:
-        while time.monotonic() < until or turn % 3 and not kids:
-            kids = pathlib.Path(f"/proc/{number}/task/{number}/children").read_text(encoding="ascii").split() or kids
-        if turn % 3:
-            os.kill(int(random.choice(kids or [number])), signal.SIGKILL)
-        else:
-            os.kill(number, signal.SIGTERM)
-    except OSError:
-        pass  # it has ended
-    if turn % 3 == 0:
-        asked = lambda: unnamed(terminal.shown).endswith(AGAIN)
-        terminal.until(lambda: asked() or terminal.is_noted(), "a question, or the end")
-        terminal.types("words\n" * asked())  # it was ignored, between two waits, or comes just now
-    return terminal.ends()[0]
-
-
 def processes_are_killed(room):
     """Whichever process is killed, whenever: no file opens under another passphrase than was typed, status 0 is that of a
-    whole file, and nothing half made stays."""
+    whole file, and nothing half made stays; also where a file is taken away while scrypt works."""
     room.clear(letters=TEXT, out=b"older", words=b"words")
     room.make("bin/changed", SCRIPT.replace("printf '%.2049s\\n' \"$typed\"", "kill -KILL $(exec sh -c 'echo $PPID')"))
     line = "scrypt-ask: scrypt was killed, as where memory is short: --keep 16 takes a sixteenth\r\n"
     found = room.run(ENC, *TYPED, script="bin/changed")
     room.that("what writes the passphrase is killed", (found, room.held("out")), ((137, TWICE + line, True), b"older"))
     for turn in range(21):
+        is_killed = turn % 3 > 0  # a process of it; else the run itself is signalled, when it has asked once
         room.put("out", b"older")
-        status = killed(room, turn)
-        room.that(f"killed in turn {turn}, {status}: files", room.names(), ["letters", "out", "words"])
-        is_whole = room.opened("out") == MADE
-        expected = (True, True) if status == 0 else (is_whole, is_whole or b"older")
-        room.that(f"killed: status {status}", (is_whole, is_whole or room.held("out")), expected)
-    # signals while the new file is made, which are ignored; that file, and then the place of the older one, taken away while
-    # scrypt works
+        terminal = room.begin(ENC, *TYPED[: 1 + is_killed], terminal="xterm")
+        number, until, kids = terminal.number, time.monotonic() + random.random() * 0.03, []
+        with contextlib.suppress(OSError):  # it has ended
+            while time.monotonic() < until or is_killed and not kids:
+                kids = pathlib.Path(f"/proc/{number}/task/{number}/children").read_text(encoding="ascii").split() or kids
+            victim = int(random.choice(kids)) if is_killed else number
+            os.kill(victim, signal.SIGKILL if is_killed else signal.SIGTERM)
+        if not is_killed:
+            asked = lambda: terminal.shown.endswith(AGAIN)
+            terminal.until(lambda: asked() or terminal.notes.poll(), "a question, or the end")
+            terminal.types("words\n" * asked())  # it was ignored, between two waits, or comes just now
+        status, *_ = terminal.ends()
+        is_right = room.opened("out") == MADE or status != 0 and room.held("out") == b"older"
+        room.that(f"killed in turn {turn}, {status}", (is_right, room.names()), (True, ["letters", "out", "words"]))
+    # signals while the new file is made, which are ignored; that file, then the place of the older one, are taken away
     found = room.run(ENC, *TYPED, before="PATH=../signalling:$PATH; exec")
     room.that("signals while the new file is made", (found, room.names()), ((0, TWICE, True), ["letters", "out", "words"]))
-    for name in ("the new file", "the older one"):
+    for name, line in (("the new file", "rm scrypt-ask.??????"), ("the older one", "rm out; mkdir out")):
         terminal, giving = begun_to_write(room)
-        next(room.folder.glob("scrypt-ask.??????" if name == "the new file" else "out")).unlink()
-        if name == "the older one":
-            (room.folder / "out").mkdir()
+        room.do(line)
         giving.close()
-        found = terminal.ends()
-        room.that(f"{name} is taken away", (found[0], found[1].endswith("scrypt-ask: outfile cannot be replaced\r\n")), (1, True))
-        room.that(f"{name} is taken away: files", room.names(), ["given", "out"])
+        status, shown, _ = terminal.ends()
+        found = status, shown.removeprefix(TWICE), room.names()
+        room.that(f"{name} is taken away", found, (1, "scrypt-ask: outfile cannot be replaced\r\n", ["given", "out"]))
 
 
 def printed_by_a_command(room):
@@ -531,9 +487,9 @@ def printed_by_a_command(room):
     room.clear(letters=TEXT, words=b" a\\b ", long=b"x" * 70000, more=b" a\\b \r" + b"\ny" * 70000)
     for words in ("--passcommand 'cat words; echo; echo z' letters out", "letters --passcommand='cat words' out",
                   "--passcommand 'cat more' - out <letters", "--passcommand 'cat words' -- letters >out"):
-        room.that(words, room.without_terminal(f"enc {CHEAP} {words}"), (0, b"", ""))
-        room.that(f"{words}: the file", room.opened("out"), MADE)
-        room.that(f"{words}: opened", room.without_terminal("dec --passcommand 'cat more' out"), (0, TEXT, ""))
+        room.that(words, room.without_terminal(f"enc {CHEAP} {words}"), (0, b"", b""))
+        found = room.opened("out"), room.without_terminal("dec --passcommand 'cat more' out")
+        room.that(f"{words}: the file", found, (MADE, MADE))
         room.put("out", None)
     room.put("out", b"older")
     empty = "scrypt-ask: the command of --passcommand printed no passphrase"
@@ -543,25 +499,25 @@ def printed_by_a_command(room):
         (f"enc {CHEAP}", "--passcommand \"printf '\\r\\n'\"", empty),
         ("enc", "--passcommand 'cat long'", "scrypt: passphrase is longer than 2048 bytes"),
     ):
-        room.that(f"{command} {words}", room.without_terminal(f"{command} letters out {words}"), (1, b"", f"{line}\n"))
+        found = room.without_terminal(f"{command} letters out {words}")
+        room.that(f"{command} {words}", found, (1, b"", f"{line}\n".encode()))
     for number, typed in (*KEYS, (signal.SIGTERM, "")):
+        what = f"{number.name} while a command works"
         terminal = room.begin(f"enc {CHEAP} --passcommand 'echo $$ >number; exec sleep 60' letters out")
         terminal.until(lambda: room.held("number"), "a number")
-        shown = room.ended(f"{number.name} while a command works", terminal, number, typed)
-        room.that(f"{number.name} while a command works: what is asked", "Passphrase" in shown, False)
+        room.that(f"{what}: what is asked", "Passphrase" in room.ended(what, terminal, number, typed), False)
         words = pathlib.Path(f"/proc/{int(room.held('number'))}/cmdline")  # none of one that has ended
         until = time.monotonic() + 2
         while (left := words.exists() and words.read_text()) and time.monotonic() < until:
             time.sleep(0.01)
-        room.that(f"{number.name} while a command works: who is left", left or "", "")
+        room.that(f"{what}: who is left", left or "", "")
         room.put("number", None)
     room.stays("after a command", "letters", "long", "more", "out", "words")
     for number in (5, 9, 10):
         room.clear(letters=TEXT, words=b"words", out=b"older")
-        found = room.without_terminal(f"{ENC} --passcommand 'cat words'", before=f"ulimit -n {number}; exec")
-        is_whole, ended = room.opened("out") == MADE, found[0] == 0
-        room.that(f"{number} descriptors", (ended, is_whole or room.held("out")), (is_whole, is_whole or b"older"))
-        room.that(f"{number} descriptors: files", room.names(), ["letters", "out", "words"])
+        status = room.without_terminal(f"{ENC} --passcommand 'cat words'", before=f"ulimit -n {number}; exec")[0]
+        is_right = room.opened("out") == MADE if status == 0 else room.held("out") == b"older"
+        room.that(f"{number} descriptors, {status}", (is_right, room.names()), (True, ["letters", "out", "words"]))
 
 
 def what_scrypt_gets(room):
@@ -571,8 +527,8 @@ def what_scrypt_gets(room):
         ("enc in", f"{costs} in"), ("enc -- in", f"{costs} -- in"), ("enc in /dev/null", f"{costs} in /dev/null"),
         *((f"enc {it} in", f"{it} in") for it in ("--logN=9", "--logN 9", "-r8", "-r 8", "-p1", "-p 1")),
         ("enc --logN 9 in -r 8 -p1", "--logN 9 in -r 8 -p1"), ("enc -M5 --keep=4 in", f"{costs} -M5 --keep=4 in"),
-        ("enc -M 5 in --salt 00 --maxops 7 --keep 4", f"{costs} -M 5 in --salt 00 --maxops 7 --keep 4"),
-        ("dec in", "in"), ("dec in -", "in"), ("dec - -", "-"), ("dec -x in", "-x in"), ("dec --keep 2 in -M 5", "--keep 2 in -M 5"),
+        ("enc -M 5 in --salt 00 --maxops 7 --keep 4", f"{costs} -M 5 in --salt 00 --maxops 7 --keep 4"), ("dec in", "in"),
+        ("dec in -", "in"), ("dec - -", "-"), ("dec -x in", "-x in"), ("dec --keep 2 in -M 5", "--keep 2 in -M 5"),
     ):
         room.clear(**{"in": b"input"})
         asked = TWICE if words.startswith("enc") else ONCE
@@ -584,16 +540,15 @@ def what_scrypt_gets(room):
         room.that(f"{words}: what scrypt gets", (status, shown, echo), (7, f"{got}\na secret\ninput0\n", True))
     _, shown, _ = room.run("dec in <in", "a secret\n", script="other/scrypt-ask", before="exec env SHELLOPTS=allexport")
     room.that("where all variables are exported", shown.endswith("0\r\n"), True)
-    limit = resource.getrlimit(resource.RLIMIT_CORE)[1]
-    allowed = "unlimited" if limit < 0 else limit
     for options in ("-x", "-v", "-e"):
-        line = f"ulimit -S -c {allowed}; exec {SHELLS[room.shell]} {options} ../other/scrypt-ask dec in <in"
+        line = f"ulimit -S -c $(ulimit -H -c); exec {SHELLS[room.shell]} {options} ../other/scrypt-ask dec in <in"
         terminal = room.begin("", line=line)
         terminal.until(lambda: ASKED in unnamed(terminal.shown), repr(ASKED))  # also if the shell shows what it does
         room.that(f"{options}: bytes that a core file may have", resource.prlimit(terminal.number, resource.RLIMIT_CORE)[0], 0)
         terminal.types("a secret\n")
         status, shown, _ = terminal.ends()
-        room.that(f"{options}: how often the passphrase is shown, beside what scrypt shows", (status, shown.count("a secret")), (7, 1))
+        found = status, shown.count("a secret")
+        room.that(f"{options}: how often the passphrase is shown, beside what scrypt shows", found, (7, 1))
 
 
 def names_of_files(room):
@@ -604,21 +559,17 @@ def names_of_files(room):
         ("enc letters >two", ""), ("dec - <out", ""), ("enc letters 'two words'", " for two words"),
         *((f"enc letters {shlex.quote(it)}", "") for it in ("\x1b[2J", "a\rb", "two\nlines", "\x7f", "\u009b2J")),
     ):
-        terminal = room.begin(words)
-        terminal.until(lambda: terminal.shown.endswith(": "), "a question")
-        terminal.types("\4")
+        terminal = room.begin(words, "\4")
         terminal.ends()
         room.that(f"{words!r}: the question", terminal.shown.splitlines()[0], f"Passphrase{named}: ")
 
 
-# What cannot be done is refused by one line before a passphrase is typed: words by what the line says.
-OURS = {
+# What cannot be done is refused by one line before a passphrase is typed: words by what our line says, or by scrypt's.
+REFUSED = {
     "leave": ["enc -P letters out", "dec --passphrase env:X letters out", "enc -Pr8 letters out",
               "dec --passphrase=file:words letters"],
-    "set -o pipefail; tar -cf - folder | scrypt-ask enc - new && mv new folder.tar.scrypt\r\n": ["enc folder"],
-    "tar -cf - folder | scrypt-ask enc": ["enc folder/ out"],
-    "tar -cf - FOLDER |": ["enc ."],
-    "set -o pipefail; tar -cf - FOLDER | scrypt-ask enc - new && mv new FOLDER.tar.scrypt\r\n": ["enc - out <folder"],
+    **{f"set -o pipefail; tar -cf - {it} | scrypt-ask enc - new && mv new {it}.tar.scrypt\r\n": words for it, words in (
+        ("folder", ["enc folder", "enc folder/ out"]), ("FOLDER", ["enc .", "enc - out <folder"]))},
     "name an outfile": ["enc letters", "enc - - <letters"],
     "descriptors 6 to 9 are in use here": ["enc letters /dev/fd/6", "enc /dev/fd/7 out", "enc -- /proc/self/fd/8 out",
                                            "enc letters /dev/fd/9 9</dev/null"],
@@ -631,51 +582,39 @@ OURS = {
     "outfile is a link to nowhere": ["enc letters self"],
     "the folder of outfile is not found": ["enc letters nowhere/out"],
     "no file can be made in the folder of outfile": ["enc letters /sys/out"],
+    "S1": ["", "enc", "--helm", "dec letters out more", "enc --logn 4 letters", "dec --logN 4 letters",
+           "dec letters out --keep"], "S6": ["info letters"],
+    "S2a": ["enc --logN 4 letters out"], "S2b": ["enc --logN 0 -r 1 -p 1 letters"], "S2d": ["dec letters letters"],
 }
 
 
 def refused_before_it_asks(room):
     """What needs no passphrase is scrypt's; what cannot be done is refused before a passphrase is typed."""
-    room.clear(letters=TEXT, out=b"older", words=b"words")
-    for folder in ("folder", "closed"):
-        (room.folder / folder).mkdir()
-    for name, to in (("self", "self"), ("also", "letters")):
-        (room.folder / name).symlink_to(to)
-    os.link(room.folder / "letters", room.folder / "hard")
-    room.put("closed/out", b"older")
+    room.clear(letters=TEXT, out=b"older", words=b"words", F5=F5)
+    room.do("mkdir folder closed; ln -s self self; ln -s letters also; ln letters hard; cp out closed")
     before = room.names()
 
     def refuses(name, line, words, **how):
         status, shown, echo = room.run(words, **how)
-        found = status, shown.startswith("scrypt-ask: "), line in shown, shown.count("\n"), echo
-        room.that(name, found, (1, True, True, 1, True))
+        is_ours = shown.startswith("scrypt-ask: ") and line in shown and shown.count("\n") == 1
+        is_said = shown == said(line) if line in LINES else is_ours
+        room.that(name, (status, is_said or shown, echo), (1, True, True))
 
-    for line, words in OURS.items():
+    for line, words in REFUSED.items():
         for it in words:
             refuses(it, line, it)
     for words in ("--help", "-h", "--version"):
         status, shown, _ = room.run(words)
-        wide = max(map(len, shown.splitlines()))
-        room.that(words, (status, shown.count("\n") < 24, wide <= 80, "man scrypt-ask" in shown, "--passcommand" in shown), (0, *[True] * 4))
-    for number, words in {
-        "S1": ["", "enc", "--helm", "dec letters out more", "enc --logn 4 letters", "dec --logN 4 letters",
-               "dec letters out --keep"],
-        "S2a": ["enc --logN 4 letters out"], "S2b": ["enc --logN 0 -r 1 -p 1 letters"], "S2d": ["dec letters letters"],
-        "S6": ["info letters"],
-    }.items():
-        for it in words:
-            room.that(it, room.run(it), (1, said(number), True))
-    room.put("in", F5)
-    room.that("info", room.run("info in"), (0, "N = 16; r = 1; p = 1; memory = 2048; cores = 64\r\n", True))
-    room.put("in", None)
-    nobody = f"exec setpriv --reuid={NOBODY}" if IS_ROOT else "exec"
-    for name, mode, line in (("closed/out", 0o444, "outfile may not be written"), ("closed/new", 0o444, "no file can be made"),
-                             ("closed/out", 0o666, "no file can be made")):
-        (room.folder / "closed").chmod(0o555)
-        (room.folder / "closed/out").chmod(mode)
-        refuses(f"{name}, mode {mode:o}, as somebody else", line, f"enc words {name}", before=nobody)
-    (room.folder / "closed").chmod(0o755)
-    line = "scrypt-ask: there is no terminal to type a passphrase at: use --passcommand\n"
+        is_short = shown.count("\n") < 24 and max(map(len, shown.splitlines())) <= 80
+        room.that(words, (status, is_short, "man scrypt-ask" in shown, "--passcommand" in shown), (0, True, True, True))
+    room.that("info", room.run("info F5"), (0, "N = 16; r = 1; p = 1; memory = 2048; cores = 64\r\n", True))
+    for name, mode, line in (("out", 444, "outfile may not be written"), ("new", 444, "no file can be made"),
+                             ("out", 666, "no file can be made")):
+        room.do(f"chmod {mode} closed/out; chmod 555 closed")
+        nobody = f"exec setpriv --reuid={NOBODY}" if IS_ROOT else "exec"
+        refuses(f"closed/{name}, mode {mode}, as somebody else", line, f"enc words closed/{name}", before=nobody)
+    room.do("chmod 755 closed")
+    line = b"scrypt-ask: there is no terminal to type a passphrase at: use --passcommand\n"
     room.that("without a terminal", room.without_terminal("enc letters out"), (1, b"", line))
     for old, new, line in (("/dev/fd", "/nowhere", "there is no /nowhere"), ("command -v", "which", "printf is a program here")):
         room.make("bin/changed", SCRIPT.replace(old, new))
@@ -687,15 +626,14 @@ def main():
     if len(sys.argv) < 2:
         raise SystemExit(__doc__)
     checks = Checks(os.path.join(sys.argv[1], "scrypt"))
-    for shell in sys.argv[2:] or SHELLS:
-        if is_there(SHELLS[shell].split()[0], f"scrypt-ask is not run in {shell}"):
-            with tempfile.TemporaryDirectory() as folder:
-                os.chmod(folder, 0o755)
-                room = Room(checks, shell, folder)
-                for part in (typed_and_opened, scenes, signals_while_it_asks, signals_while_scrypt_works, what_it_tells,
-                             processes_are_killed, printed_by_a_command, what_scrypt_gets, names_of_files,
-                             refused_before_it_asks):
-                    part(room)
+    shells = [it for it in sys.argv[2:] or SHELLS if is_there(SHELLS[it].split()[0], f"scrypt-ask is not run in {it}")]
+    for shell in shells:
+        with tempfile.TemporaryDirectory() as folder:
+            os.chmod(folder, 0o755)
+            room = Room(checks, shell, folder)
+            for part in (typed_and_opened, scenes, signals_while_it_asks, signals_while_scrypt_works, what_it_tells,
+                         processes_are_killed, printed_by_a_command, what_scrypt_gets, names_of_files, refused_before_it_asks):
+                part(room)
     checks.end()
 
 

@@ -21,32 +21,26 @@ FIXED = f"{COSTS} --salt {SALT}"
 FROM_PW = "--passphrase file:pw"
 
 
-def of_costs(log_n, r, p, salt=bytes(32)):
+def of_costs(log_n, r, p, salt=bytes(range(32))):
     """The header of a file (FORMAT of Tarsnap's scrypt), but for its last code."""
     front = b"scrypt\0" + bytes([log_n]) + r.to_bytes(4, "big") + p.to_bytes(4, "big") + salt
     return front + hashlib.sha256(front).digest()[:16]
-
-
-def header_of(log_n, r, p):
-    return of_costs(log_n, r, p, bytes(range(32))) + bytes(32)
 
 
 # What lies in the folder in which the program runs.
 FILES = {
     "empty": b"", "hello": b"hello", "F0": F0, "F5": F5,
     **{f"F5-cut-{length}": F5[:length] for length in (130, 127, 95)}, "F5-version-1": F5[:6] + b"\1" + F5[7:],
-    "huge": header_of(63, 1, 1), "no-r": header_of(4, 0, 1), "no-log-n": header_of(0, 1, 1),
-    "4-gib-and-more": header_of(23, 8, 1), "much-work": header_of(20, 1, 4096),
+    **{name: of_costs(*costs) + bytes(32) for name, costs in (
+        ("huge", (63, 1, 1)), ("no-r", (4, 0, 1)), ("no-log-n", (0, 1, 1)), ("4-gib-and-more", (23, 8, 1)),
+        ("much-work", (20, 1, 4096)))},
     "pw": b"pw\n", "pw-cr-lf": b"pw\r\nsecond line", "pw-alone": b"pw", "other-pw": b"pv\n", "pw-bytes": b"\xff\x01\x80pw\n",
     "pw-2048": b"p" * 2048, "pw-2049": b"p" * 2049, "pw-2048-line": b"p" * 2048 + b"\n" + b"q" * 3000,
 }
 
-# No text in UTF-8.
-PASSPHRASE_OF_BYTES = b"\xff\x01\x80pw"
-
 # The variables that it sees beside PATH.
 ENVIRONMENT = {
-    "PW": "pw", "PW_LINE": "pw\nmore", "PW_LONG": "pw\n" + "x" * 5000, "PW_2049": "p" * 2049, "PW_BYTES": PASSPHRASE_OF_BYTES
+    "PW": "pw", "PW_LINE": "pw\nmore", "PW_LONG": "pw\n" + "x" * 5000, "PW_2049": "p" * 2049, "PW_BYTES": b"\xff\x01\x80pw"
 }
 
 LINES = {number: line.encode() + b"\n" for _, number, _, line, _ in values_table.rows("message")}

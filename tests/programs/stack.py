@@ -148,16 +148,6 @@ int main(void) {
 """
 
 
-def finds_what_is_deep(checks, folder):
-    """A program that is as wrong as this can find: so the comparison is seen to fail."""
-    if not is_there("cc", "no program that takes 64 MiB of stack is looked at", 1):
-        return
-    compiled(DEEP, f"{folder}/deep", "-O0")
-    wrong, _ = compare(PASSWORDS, folder, {"argon2": f"{folder}/deep"})
-    expected = [it for it in PASSWORDS if it.given == "p-77"]
-    checks.that("64 MiB of stack at one length of the password", [*wrong], expected)
-
-
 # A function takes a large frame in parts, and writes to each; a larger one in a loop, down to what r11 says.
 PART = re.compile(r"\t(?:sub +\$|lea +-)0x([0-9a-f]{1,8})(?:,%rsp|(?:\(%rsp\))?,%r11\n.*\tsub +\$.*,%rsp)$", re.M)
 
@@ -187,7 +177,12 @@ def main(checks, folder, argon2, verify, scrypt):
     for run, ends in {**wrong, **more}.items():
         checks.that(f"with a small stack: {run}"[:200], ends, "the same end with a large one, by no signal")
     checks.that("some runs end well, and some do not", {0, 1} <= {it[0] for it in ended.values() if it}, True)
-    finds_what_is_deep(checks, folder)
+    # a program that is as wrong as this can find: so the comparison is seen to fail
+    if is_there("cc", "no program that takes 64 MiB of stack is looked at", 1):
+        compiled(DEEP, f"{folder}/deep", "-O0")
+        wrong, _ = compare(PASSWORDS, folder, {"argon2": f"{folder}/deep"})
+        expected = [it for it in PASSWORDS if it.given == "p-77"]
+        checks.that("64 MiB of stack at one length of the password", [*wrong], expected)
     for name, program in programs.items() if is_there("objdump", "the largest frames are not looked at", 2) else ():
         size, function = largest_frame(program)
         print(f"{name}: the largest frame has {size} bytes, in {function}")

@@ -12,14 +12,13 @@ import os
 import pathlib
 import re
 import shlex
-import subprocess
 import sys
 import tempfile
 import textwrap
 
 sys.path += map(str, pathlib.Path(__file__).resolve().parents[1].iterdir())  # the other folders of tests/
 import roff
-from checking import Checks, is_there
+from checking import Checks, is_there, ran
 from scrypt_ask import AGAIN, ASKED, CHEAP, Terminal
 from shown import GREAT, LIBRARY, STORED
 from tree import TOP, read
@@ -52,11 +51,9 @@ class Shell:
         path = f"{os.path.abspath(programs)}:{TOP}/packaging:{os.environ['PATH']}"
         self.environment = {**os.environ, "PATH": path, "LC_ALL": "C"}
 
-    def run(self, text, given=b"", **variables):
+    def run(self, text, given="", **variables):
         """Status and what is printed on both streams."""
-        ran = subprocess.run([self.name, "-c", text], input=given, stdout=subprocess.PIPE, stderr=subprocess.STDOUT, cwd=self.room,
-                             env={**self.environment, **variables})
-        return ran.returncode, ran.stdout.decode()
+        return ran(self.name, "-c", text, input=given, cwd=self.room, env={**self.environment, **variables})
 
     def expect(self, name, found, expected):
         self.checks.that(f"{self.page} in {self.name}: {name}", found, expected)
@@ -136,7 +133,7 @@ def argon2_examples(shell):
     (new, asked), right = prompts, "correct horse"
 
     def enter(name, text, password, expected):
-        given = {"password": password} if shell.name == "dash" else {"given": password.encode() + b"\n"}
+        given = {"password": password} if shell.name == "dash" else {"given": f"{password}\n"}
         shell.says(name, text, expected, **given)
 
     enter("a hash to keep", enrol, right, (0, new))
@@ -260,7 +257,7 @@ def library_is_tested(shell):
     password, salt = re.findall(r'enrol\(alloc, b"(.*)", b"(.*)"\)', program)[0]
     passes, lanes, memory = re.findall(r"0x13,\s+(\d+),\s+(\d+),\s+([\d_]+),\s+32,", program)[0]
     line = f"argon2 {shlex.quote(salt)} -id -t {passes} -p {lanes} -k {memory.replace('_', '')} -e"
-    shell.says("LIBRARY's enrolled text", line, (0, shown.splitlines(keepends=True)[0]), given=password.encode())
+    shell.says("LIBRARY's enrolled text", line, (0, shown.splitlines(keepends=True)[0]), given=password)
 
 
 def prove():
@@ -271,9 +268,9 @@ def prove():
     with tempfile.TemporaryDirectory() as room:
         text = pathlib.Path(room) / "main.rt"
         text.write_text(program, encoding="utf-8")
-        ran = subprocess.run([built("accounts", "argon argon_text", str(text))], stdout=subprocess.PIPE)
-    if (ran.returncode, ran.stdout.decode()) != (0, shown):
-        raise SystemExit(f"LIBRARY's program prints {ran.stdout!r}")
+        found = ran(built("accounts", "argon argon_text", str(text)))
+    if found != (0, shown):
+        raise SystemExit(f"LIBRARY's program ends with, and prints, {found}")
 
 
 def story_is_told(shell):

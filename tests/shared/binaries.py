@@ -22,8 +22,7 @@ def hardened(checks, name, file, is_program, needed=("libc.so.6",)):
     loaded = re.findall(r"^  LOAD +(?:0x[0-9a-f]+ +){5}([RWE ]{3})", segments, re.MULTILINE)
     checks.that(f"{name}: memory that is written and run", [it for it in loaded if "W" in it and "E" in it], [])
     checks.that(f"{name}: some memory is run", any("E" in it for it in loaded), True)
-    wrong = re.findall(r"\((TEXTREL|RPATH|RUNPATH)\)", dynamic)
-    checks.that(f"{name}: text that is changed, folders to look in", wrong, [])
+    checks.that(f"{name}: text that is changed, folders to look in", re.findall(r"\((TEXTREL|RPATH|RUNPATH)\)", dynamic), [])
     checks.that(f"{name}: libraries needed", re.findall(r"\(NEEDED\).*\[(.*)\]", dynamic), [*needed])
 
 
@@ -51,10 +50,8 @@ def shared_library(checks, shared, names, has_avx=False):
     names_in(checks, ["nm", "-D", "--defined-only", shared], names)
     versions = re.findall(r" T \w+@@(\w+)$", said("nm", "-D", "--defined-only", shared), re.MULTILINE)
     checks.that("version of each name", versions, ["PIKHSEN_0"] * len(names))
-    soname = re.findall(r"\(SONAME\).*\[(.*)\]", said("readelf", "-d", shared))
-    checks.that("soname", soname, ["libpikhsen.so.0"])
-    notes = said("readelf", "-nW", shared)
-    checks.that("nothing of the machine at hand", re.findall(r"Build ID: (\w+)", notes), [])
+    checks.that("soname", re.findall(r"\(SONAME\).*\[(.*)\]", said("readelf", "-d", shared)), ["libpikhsen.so.0"])
+    checks.that("nothing of the machine at hand", re.findall(r"Build ID: (\w+)", said("readelf", "-nW", shared)), [])
     hardened(checks, "libpikhsen.so.0", shared, False)
     level(checks, "libpikhsen.so.0", shared, has_avx)
 
@@ -63,8 +60,7 @@ def library(checks, shared, static, names):
     """Both libraries, for x86-64-v2."""
     shared_library(checks, shared, names)
     names_in(checks, ["nm", "-g", "--defined-only", static], names)
-    sections = said("readelf", "-SW", static)
-    flags = re.findall(r"\.note\.GNU-stack +\w+ .* (X?) +\d+ +\d+ +\d+$", sections, re.MULTILINE)
+    flags = re.findall(r"(?m)\.note\.GNU-stack +\w+ .* (X?) +\d+ +\d+ +\d+$", said("readelf", "-SW", static))
     checks.that("libpikhsen.a: a stack that is not run", flags, [""])
     members = re.findall(r"^(\S+ \S+) +\d+ .* (\d+) (\S+)$", said("ar", "tv", static), re.MULTILINE)
     checks.that("libpikhsen.a: members, owners and times", members, [("rw-r--r-- 0/0", "1970", "pikhsen.o")])

@@ -17,8 +17,7 @@ class Checks:
 
     def __init__(self, program, folder=".", environment=None):
         self.program = os.path.abspath(program)
-        self.folder = folder
-        self.environment = environment
+        self.folder, self.environment = folder, environment
         self.passed = self.failed = 0
 
     def that(self, name, found, expected):
@@ -51,10 +50,7 @@ class Checks:
     def put(self, name, content):
         """Makes the file of this name, or takes it away where there is no content."""
         path = pathlib.Path(self.folder, name)
-        if content is None:
-            path.unlink(missing_ok=True)
-        else:
-            path.write_bytes(content)
+        path.unlink(missing_ok=True) if content is None else path.write_bytes(content)
 
     def content(self, name):
         """The bytes of the file of this name, or None where there is none."""
@@ -120,9 +116,8 @@ def left_out(why, without, rows="all"):
     """Says that so many rows of a test, or all of a part, are left out, and why. The gate names a file, and says it again at its end."""
     line = f"left out: {why}: {without} (rows: {rows})"
     print(line)
-    if "PIKHSEN_LEFT_OUT" in os.environ:
-        with open(os.environ["PIKHSEN_LEFT_OUT"], "a", encoding="utf-8") as file:
-            file.write(f"{line}, {os.path.relpath(sys.argv[0])}\n")
+    with open(os.environ.get("PIKHSEN_LEFT_OUT", os.devnull), "a", encoding="utf-8") as file:
+        file.write(f"{line}, {os.path.relpath(sys.argv[0])}\n")
 
 
 def is_there(program, without, rows="all"):

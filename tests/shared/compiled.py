@@ -17,11 +17,6 @@ import shutil
 gc.disable()  # there are no circles, but millions of parts
 
 
-def kit():
-    """The folder of the toolchain's own libraries."""
-    return pathlib.Path(shutil.which("rt")).resolve().parents[1] / "rlibs"
-
-
 def functions_of(folders):
     """The functions of these libraries, NAME.rlib, by their paths."""
     found = {}
@@ -91,7 +86,7 @@ class Code:
     def at(self, name):
         """A function, or None; its crate, if it is the toolchain's, is read when it is first asked for."""
         if (crate := name.split("::")[0]) not in self.crates:
-            self.take({crate}, functions_of([kit() / f"{crate}.rlib"]))
+            self.take({crate}, functions_of([pathlib.Path(shutil.which("rt")).resolve().parents[1] / f"rlibs/{crate}.rlib"]))
         return self.all.get(name)
 
     def is_own(self, name):
@@ -142,8 +137,7 @@ class Code:
 
     def through(self, instance):
         """The instances of the toolchain's functions that one comes to through no function of ours, itself first; and
-        what these come to: functions of C, methods of bounds, and functions of ours.
-        """
+        what these come to: functions of C, methods of bounds, and functions of ours."""
         inside, ends = {instance: None}, set()
         left = [instance]
         while left:
@@ -168,10 +162,6 @@ class Code:
             for other in [it] if it[0] in ("C", "?") else [(it[0], ())] if self.is_own(it[0]) else self.beyond(it):
                 found[other] = found.get(other, 0) + 1
         return found
-
-    def passed(self, name):
-        """The functions of the toolchain's that a function of ours comes to through no other of ours."""
-        return {it for it, _ in self.through(self.open(name))[0][1:]}
 
     def most(self, name, wanted):
         """How often a run of a function of ours comes to some of these, on that way through its branches on which it does so
@@ -212,27 +202,21 @@ class Code:
 
     def last(self, name):
         """What a function calls last, on each of its ways."""
-        bounds, function = self.open(name)[1], self.at(name)
-        found = set()
+        bounds, found = self.open(name)[1], set()
 
         def after(part, before):
             """What was called last after a part, on the ways that go on."""
             kind, *inner = part
             if kind == "Seq":
-                for it in inner:
-                    before = after(it, before)
-                return before
-            if kind in ("If", "Switch", "Loop", "Block"):
-                return set().union(*(after(it, before) for it in inner), before if kind in ("Loop", "Switch") else set())
-            step = inner[0]
-            if step == "Return":
+                return after(inner[1], after(inner[0], before))
+            if kind != "step":
+                return set().union(*(after(it, before) for it in inner), before if kind in ("Loop", "Switch") else ())
+            if inner == ["Return"]:
                 found.update(before)
                 return set()
-            if isinstance(step, dict) and "Call" in step:
-                return {self.callee(step["Call"][0], bounds)[0] if "CallV" not in step else "?"}
-            return before
+            return {self.callee(it["Call"][0], bounds)[0] for it in nodes(inner) if "Call" in it} or before
 
-        after(tree_of(function["body"]), {"nothing"})
+        after(tree_of(self.at(name)["body"]), {"nothing"})
         return found
 
 
@@ -242,15 +226,11 @@ def tree_of(body):
 
     def one():
         it = next(left)
-        if it == "Seq":
-            return "Seq", one(), one()
-        if it in ("Loop", "Block"):
-            return it, one()
-        if isinstance(it, dict) and "If" in it:
-            return "If", one(), one()
-        if isinstance(it, dict) and "Switch" in it:
-            return "Switch", *(one() for _ in range(len(it["Switch"][1]) + bool(it["Switch"][2])))
-        return "step", it
+        kind, = it if isinstance(it, dict) else [it]
+        if kind == "Switch":
+            return kind, *(one() for _ in range(len(it[kind][1]) + bool(it[kind][2])))
+        parts = {"Seq": 2, "If": 2, "Loop": 1, "Block": 1}.get(kind)
+        return (kind, *(one() for _ in range(parts))) if parts else ("step", it)
 
     return one()
 

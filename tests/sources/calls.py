@@ -185,7 +185,8 @@ class Rules:
         if not SHOWS.search(name):
             by = [it for it in by_bytes(function, self.returning) if it in ("branches", "answers")]
             yield from by + ["a loop"] * ("branches" in by and "Loop" in function["body"])
-            yield from ["compares"] * any(compares_bytes(self.code, it) for it in self.code.passed(name))
+            passed = self.code.through(self.code.open(name))[0][1:]  # of the toolchain's, through no other function of ours
+            yield from ["compares"] * any(compares_bytes(self.code, it) for it, _ in passed)
 
     def makes(self, name, function, reached):
         made = collections.Counter()

@@ -58,7 +58,7 @@ def at_end(step):
 
 
 def branch(on):
-    return ["If", {"If": on}, "Skip", "Skip"]
+    return [{"If": on}, "Skip", "Skip"]
 
 
 def new(function, kind):
@@ -140,22 +140,13 @@ TRIALS = [
 ]
 
 
-def above(rules, name):
-    """A function, and all from which it is reached."""
-    names, before = {name}, set()
-    while names != before:
-        before = {*names}
-        names |= {it for it in rules.names if rules.called(it) & before}
-    return names
-
-
 def trial(code, then, rule, name, put):
     """Whether a rule finds what is put into a function, of that one or of those above it."""
     kept = code.ours[name]
     changed = copy.deepcopy(kept)
     put(changed)
     code.change(name, changed)
-    now = calls.Rules(code, above(then, name))
+    now = calls.Rules(code, calls.all_called({name}, lambda it: [above for above in then.names if it in then.called(above)]))
     now.returning = then.returning
     now.run()
     code.change(name, kept)

@@ -7,6 +7,8 @@ import re
 import sys
 import types
 
+import cffi
+import hypothesis
 import pytest
 
 
@@ -29,8 +31,6 @@ class Within:
         return getattr(self.lib, name)
 
     def argon2_hash(self, *given):
-        import hypothesis
-
         if not 8 <= given[6] <= 255:
             hypothesis.reject()
         return self.lib.argon2_hash(*given)
@@ -38,9 +38,6 @@ class Within:
 
 def argon2_cffi(adapter, header, is_within):
     """In the folder of its sources: puts the adapter in the place of its bindings."""
-    import cffi
-    import hypothesis
-
     # how long an example takes, and how many are given back, is not judged
     unjudged = [hypothesis.HealthCheck.too_slow, hypothesis.HealthCheck.filter_too_much]
     hypothesis.settings.register_profile("clients", deadline=None, suppress_health_check=unjudged)
