@@ -13,7 +13,8 @@ x86-64-v2 | x86-64-v3) ;;
 esac
 names=$(cut -d' ' -f1 packaging/programs)
 trap 'test $? = 0 || { cd bin && rm -rf $names level x86-64-v* *.deb; }' EXIT
-trap 'exit 1' HUP INT TERM
+trap 'exit 130' INT
+trap 'exit 143' HUP TERM
 rm -rf "bin/$level"
 mkdir -p "bin/$level"
 test ! -f bin/level || test "$(cat bin/level)" != "$level" || (cd bin && rm -f $names level)

@@ -24,7 +24,8 @@ export SOURCE_DATE_EPOCH="${SOURCE_DATE_EPOCH:-$(git log -1 --format=%ct 2>/dev/
 work=$(mktemp -d)
 # A run that does not end well leaves no package, older ones of these names neither.
 trap 'status=$?; rm -rf "$work"; test $status = 0 || rm -f "$out"/*pikhsen*_"$version"[_+]*.deb' EXIT
-trap 'exit 1' HUP INT TERM
+trap 'exit 130' INT
+trap 'exit 143' HUP TERM
 # One that this run does not make would be of older sources.
 rm -f "$out/pikhsen_$version"+*.deb
 libraries=lib/x86_64-linux-gnu

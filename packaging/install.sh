@@ -74,7 +74,8 @@ real=$(realpath -m "$below")
 work=$(mktemp -d)
 making=$work/none # the file that is being put into its place
 trap 'rm -rf "$work"; rm -f "$making"' EXIT
-trap 'exit 1' HUP INT TERM
+trap 'exit 130' INT
+trap 'exit 143' HUP TERM
 { inside "$list" && cat "$below/$list"; } >"$work/older" 2>/dev/null || test "$what" = install ||
     refuse "no list of what was installed: $below/$list"
 if test "$what" = uninstall; then

@@ -19,7 +19,8 @@ taken_away() {
 }
 # A run that does not end well leaves no library, and no package or wheel of one: they would be of older sources.
 trap 'status=$?; rm -rf "$work"; test $status = 0 || { taken_away; rm -f bin/*.deb bin/*.whl; }' EXIT
-trap 'exit 1' HUP INT TERM
+trap 'exit 130' INT
+trap 'exit 143' HUP TERM
 taken_away # while it proves none is there
 
 # linked FOLDER: makes the shared library there, of one object file, whose other names are local: so two libraries of

@@ -10,7 +10,8 @@ level=${1:?}
 kit=$(dirname "$(dirname "$(readlink -f "$(command -v rt)")")")
 work=$(mktemp -d)
 trap 'status=$?; rm -rf "$work"; test $status = 0 || rm -rf "bin/$level"' EXIT
-trap 'exit 1' HUP INT TERM
+trap 'exit 130' INT
+trap 'exit 143' HUP TERM
 
 # linked CRATE HEAP: makes the program of a crate with this heap.
 linked() {

@@ -12,7 +12,8 @@ library=$1 out=$2
 export SOURCE_DATE_EPOCH="${SOURCE_DATE_EPOCH:-$(git log -1 --format=%ct 2>/dev/null || date +%s)}"
 work=$(mktemp -d)
 trap 'rm -rf "$work"' EXIT
-trap 'exit 1' HUP INT TERM
+trap 'exit 130' INT
+trap 'exit 143' HUP TERM
 # A run that does not end well leaves no wheel, and one that does no other: they would be of older sources.
 rm -f "$out"/pikhsen-*.whl
 
