@@ -20,7 +20,6 @@ BY_ANOTHER = {
 ALONE = {
     "counter": {"Count::new", "Count::plus_one"},
     "encfile": {"header::Header::costs"},
-    "tools": {"run::Run::system", "system_host::SystemHost::system"},
 }
 # Clauses that no body breaks which the types let through: the counts come with the system, and nothing else makes any.
 BY_TYPES = {f"{crate} run fails" for crate in ("scrypt_program", "argon2_program", "argon2_verify_program")}

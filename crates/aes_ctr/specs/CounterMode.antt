@@ -39,3 +39,9 @@ FitsKeyStream i text = i + length text < 2 ^ 64
 pub record KeyStreamPlace : Type 0 where
   pub key : List ℕ
   pub position : ℕ
+
+-- a text was xored with the key stream from a place on, and the place moved after it
+pub record AppliesKeyStream (place moved : KeyStreamPlace) (before after : List ℕ) : Type 0 where
+  pub xored : XorsKeyStream place.key place.position before after
+  pub position : moved.position ≡ place.position + length before
+  pub key : moved.key ≡ place.key

@@ -1,8 +1,8 @@
 //! The cipher (FIPS 197, 5.1) of sixteen blocks at once, in planes.
-ghost use Rattle.std.specs.Prelude.{◌≡◌, ◌*◌, ◌<◌, ◌++◌, ℕ, List, drop};
-ghost use Rattle.aes_ctr.specs.Aes.{add_round_key, cipher, mix_columns, shift_rows, sub_bytes};
-ghost use Rattle.aes_ctr.specs.Planes.{AreKeyPlanes, IsAesBlock, BitPlanesHoldBytes, plane, round_key};
-ghost use Rattle.aes_ctr.specs.Inside.PlaneSteps.{applied_to_both_blocks};
+ghost use Rattle.std.specs.Prelude.{◌≡◌, ◌<◌, ℕ, List};
+ghost use Rattle.aes_ctr.specs.Aes.{cipher};
+ghost use Rattle.aes_ctr.specs.Planes.{AreKeyPlanes, plane};
+ghost use Rattle.aes_ctr.specs.Inside.PlaneSteps.{AppliesToBothBlocks, HoldRoundKey, after_last_round, after_round, applied_to_both_blocks};
 
 use crate::key_planes::{KeyPlanes, add_planes};
 use crate::mix_planes::mix_planes;
@@ -16,20 +16,16 @@ use std::simd::prelude::*;
 #[inline(always)]
 fn round(keys: &KeyPlanes, round: usize, state: Planes) -> Planes
     requires round { round < 15 }
-    ensures held { (words : List (List ℕ)) (b : ℕ) (first second : List ℕ) → b < 8 → IsAesBlock first → IsAesBlock second
-        → BitPlanesHoldBytes b (drop (8 * round) keys.now) (round_key words round) → BitPlanesHoldBytes b state (first ++ second)
-        → BitPlanesHoldBytes b result (add_round_key words round (mix_columns (shift_rows (sub_bytes first)))
-        ++ add_round_key words round (mix_columns (shift_rows (sub_bytes second)))) }
+    ensures held { (words : List (List ℕ)) (b : ℕ) → b < 8 → HoldRoundKey b words round keys.now
+        → AppliesToBothBlocks b (after_round words round) state result }
 {
     add_planes(keys, round, mix_planes(shift_planes(sub_planes(state))))
 }
 
 #[inline(always)]
 fn last_round(keys: &KeyPlanes, state: Planes) -> Planes
-    ensures held { (words : List (List ℕ)) (b : ℕ) (first second : List ℕ) → b < 8 → IsAesBlock first → IsAesBlock second
-        → BitPlanesHoldBytes b (drop (8 * 14) keys.now) (round_key words 14) → BitPlanesHoldBytes b state (first ++ second)
-        → BitPlanesHoldBytes b result (add_round_key words 14 (shift_rows (sub_bytes first))
-        ++ add_round_key words 14 (shift_rows (sub_bytes second))) }
+    ensures held { (words : List (List ℕ)) (b : ℕ) → b < 8 → HoldRoundKey b words 14 keys.now
+        → AppliesToBothBlocks b (after_last_round words) state result }
 {
     add_planes(keys, 14, shift_planes(sub_planes(state)))
 }

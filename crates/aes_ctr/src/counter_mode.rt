@@ -1,6 +1,6 @@
 //! The Counter mode in pieces.
-ghost use Rattle.std.specs.Prelude.{◌≡◌, ◌+◌, ◌/◌, ◌%◌, ◌<◌, ◌^◌, length};
-ghost use Rattle.aes_ctr.specs.CounterMode.{key_stream_block, FitsKeyStream, XorsKeyStream};
+ghost use Rattle.std.specs.Prelude.{◌≡◌, ◌/◌, ◌%◌, ◌<◌, length};
+ghost use Rattle.aes_ctr.specs.CounterMode.{AppliesKeyStream, key_stream_block, FitsKeyStream};
 
 use crate::block_cipher::Aes256;
 use crate::key_planes::KeyPlanes;
@@ -69,9 +69,7 @@ impl Ctr {
     // Byte by byte, from any position on.
     fn apply_bytes(&mut self, bytes: &mut [u8])
         requires room { FitsKeyStream self.old.position bytes.old }
-        ensures xored { XorsKeyStream self.old.key self.old.position bytes.old bytes.new }
-        ensures position { self.new.position ≡ self.old.position + length bytes.old }
-        ensures key { self.new.key ≡ self.old.key }
+        ensures applied { AppliesKeyStream self.old self.new bytes.old bytes.new }
     {
         for byte in bytes.iter_mut() {
             refresh(&self.aes, self.position, &mut self.stream);
@@ -85,9 +83,7 @@ impl Ctr {
         requires block_begins { self.old.position % 16 ≡ 0 }
         requires whole_blocks { length bytes.old % 16 ≡ 0 }
         requires room { FitsKeyStream self.old.position bytes.old }
-        ensures xored { XorsKeyStream self.old.key self.old.position bytes.old bytes.new }
-        ensures position { self.new.position ≡ self.old.position + length bytes.old }
-        ensures key { self.new.key ≡ self.old.key }
+        ensures applied { AppliesKeyStream self.old self.new bytes.old bytes.new }
     {
         xor_blocks_with_key_stream(&self.aes, &self.planes, self.position / 16, bytes);
         self.position += bytes.len() as u64;
@@ -99,9 +95,7 @@ impl Ctr {
     /// So the pieces of a text, applied one after the other, become what the text becomes in one piece.
     pub fn apply(&mut self, bytes: &mut [u8])
         requires room { FitsKeyStream self.old.position bytes.old }
-        ensures xored { XorsKeyStream self.old.key self.old.position bytes.old bytes.new }
-        ensures position { self.new.position ≡ self.old.position + length bytes.old }
-        ensures key { self.new.key ≡ self.old.key }
+        ensures applied { AppliesKeyStream self.old self.new bytes.old bytes.new }
     {
         // how many bytes of a begun block of key stream are left
         let left_of_block = ((16 - self.position % 16) % 16) as usize;

@@ -1,7 +1,8 @@
 //! The key schedule in planes, for blocks that take the same key.
-ghost use Rattle.std.specs.Prelude.{◌≡◌, ◌*◌, ◌<◌, ◌++◌, ℕ, List, drop};
+ghost use Rattle.std.specs.Prelude.{◌≡◌, ◌<◌, ◌++◌, ℕ, List};
 ghost use Rattle.aes_ctr.specs.Aes.{add_round_key};
-ghost use Rattle.aes_ctr.specs.Planes.{AreKeyPlanes, IsAesBlock, BitPlanesHoldBytes, bits, round_key};
+ghost use Rattle.aes_ctr.specs.Inside.PlaneSteps.{AppliesToBothBlocks, HoldRoundKey};
+ghost use Rattle.aes_ctr.specs.Planes.{AreKeyPlanes, IsAesBlock, bits};
 
 use crate::add_round_key::round_key;
 use crate::key_expansion::KeySchedule;
@@ -46,9 +47,8 @@ fn bit_plane_for_both_blocks(plane: [u8; 16]) -> u8x32
 #[inline(always)]
 pub(crate) fn add_planes(keys: &KeyPlanes, round: usize, state: Planes) -> Planes
     requires round { round < 15 }
-    ensures held { (words : List (List ℕ)) (b : ℕ) (first second : List ℕ) → IsAesBlock first → IsAesBlock second
-        → BitPlanesHoldBytes b (drop (8 * round) keys.now) (round_key words round) → BitPlanesHoldBytes b state (first ++ second)
-        → BitPlanesHoldBytes b result (add_round_key words round first ++ add_round_key words round second) }
+    ensures held { (words : List (List ℕ)) (b : ℕ) → HoldRoundKey b words round keys.now
+        → AppliesToBothBlocks b (add_round_key words round) state result }
 {
     let key = [
         bit_plane_for_both_blocks(keys[8 * round]),

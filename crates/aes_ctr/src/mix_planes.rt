@@ -1,8 +1,8 @@
 //! MixColumns (FIPS 197, 5.1.3) on planes.
-ghost use Rattle.std.specs.Prelude.{◌≡◌, ◌++◌, ℕ, List, map};
+ghost use Rattle.std.specs.Prelude.{◌≡◌, ℕ, List, map};
 ghost use Rattle.aes_ctr.specs.Aes.{mix_columns, product};
-ghost use Rattle.aes_ctr.specs.Planes.{IsAesBlock, BitPlanesHoldBytes};
-ghost use Rattle.aes_ctr.specs.Inside.PlaneSteps.{IsBlockPair, applied_to_both_blocks, row_below_in_plane};
+ghost use Rattle.aes_ctr.specs.Planes.{BitPlanesHoldBytes};
+ghost use Rattle.aes_ctr.specs.Inside.PlaneSteps.{AppliesToBothBlocks, IsBlockPair, applied_to_both_blocks, row_below_in_plane};
 
 use crate::planes::{Planes, each_plane, xor_planes};
 use std::simd::prelude::*;
@@ -21,8 +21,7 @@ fn row_below_in_plane(plane: u8x32) -> u8x32
 // The next rows of all blocks.
 #[inline(always)]
 fn row_below_planes(planes: Planes) -> Planes
-    ensures held { (b : ℕ) (first second : List ℕ) → IsAesBlock first → IsAesBlock second → BitPlanesHoldBytes b planes (first ++ second)
-        → BitPlanesHoldBytes b result (row_below_in_plane first ++ row_below_in_plane second) }
+    ensures held { (b : ℕ) → AppliesToBothBlocks b row_below_in_plane planes result }
 {
     each_plane(planes, row_below_in_plane)
 }
@@ -39,8 +38,7 @@ fn double_planes(planes: Planes) -> Planes
 // Two times the sum of a byte and the next one of its column, that next one, and the last two.
 #[inline(always)]
 pub(crate) fn mix_planes(planes: Planes) -> Planes
-    ensures held { (b : ℕ) (first second : List ℕ) → IsAesBlock first → IsAesBlock second → BitPlanesHoldBytes b planes (first ++ second)
-        → BitPlanesHoldBytes b result (mix_columns first ++ mix_columns second) }
+    ensures held { (b : ℕ) → AppliesToBothBlocks b mix_columns planes result }
 {
     let next = row_below_planes(planes);
     let pairs = xor_planes(planes, next);

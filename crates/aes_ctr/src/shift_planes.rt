@@ -1,8 +1,7 @@
 //! ShiftRows (FIPS 197, 5.1.2) on planes.
-ghost use Rattle.std.specs.Prelude.{◌≡◌, ◌++◌, ℕ, List};
+ghost use Rattle.std.specs.Prelude.{◌≡◌, ℕ};
 ghost use Rattle.aes_ctr.specs.Aes.{shift_rows};
-ghost use Rattle.aes_ctr.specs.Planes.{IsAesBlock, BitPlanesHoldBytes};
-ghost use Rattle.aes_ctr.specs.Inside.PlaneSteps.{applied_to_both_blocks};
+ghost use Rattle.aes_ctr.specs.Inside.PlaneSteps.{AppliesToBothBlocks, applied_to_both_blocks};
 
 use crate::planes::{Planes, each_plane, joined};
 use crate::shift_rows::shift_rows;
@@ -21,8 +20,7 @@ fn shifted_rows(plane: u8x32) -> u8x32
 // ShiftRows moves whole bytes, so each plane moves as a pair of blocks does.
 #[inline(always)]
 pub(crate) fn shift_planes(planes: Planes) -> Planes
-    ensures held { (b : ℕ) (first second : List ℕ) → IsAesBlock first → IsAesBlock second → BitPlanesHoldBytes b planes (first ++ second)
-        → BitPlanesHoldBytes b result (shift_rows first ++ shift_rows second) }
+    ensures held { (b : ℕ) → AppliesToBothBlocks b shift_rows planes result }
 {
     each_plane(planes, shifted_rows)
 }

@@ -1,11 +1,12 @@
 //! SubBytes (FIPS 197, 5.1.1) on planes: the circuit of 115 gates of Boyar and Peralta ("A new combinational logic
 //! minimization technique with applications to cryptology", IACR ePrint 2009/191), whose numbers of wires stand here. A wire
 //! carries a plane.
-ghost use Rattle.std.specs.Prelude.{◌≡◌, ◌-◌, ◌<◌, ◌++◌, ℕ, List, bit_and, bit_xor, replicate};
+ghost use Rattle.std.specs.Prelude.{◌≡◌, ◌-◌, ◌<◌, ℕ, bit_and, bit_xor, replicate};
 ghost use Rattle.std.specs.Simd.Lanes.{zip2};
 ghost use Rattle.aes_ctr.specs.Aes.{sub_bytes};
 ghost use Rattle.aes_ctr.specs.Inside.Circuit.{s_box_input_sums, inverse_of_norm, norm, output_wires, products};
-ghost use Rattle.aes_ctr.specs.Planes.{IsAesBlock, BitPlanesHoldBytes, plane};
+ghost use Rattle.aes_ctr.specs.Inside.PlaneSteps.{AppliesToBothBlocks};
+ghost use Rattle.aes_ctr.specs.Planes.{plane};
 
 use crate::planes::Planes;
 use std::simd::prelude::*;
@@ -198,8 +199,7 @@ fn output_wires(products: [u8x32; 18]) -> Planes
 // SubBytes of the blocks that the planes hold.
 #[inline(always)]
 pub(crate) fn sub_planes(planes: Planes) -> Planes
-    ensures held { (b : ℕ) (first second : List ℕ) → b < 8 → IsAesBlock first → IsAesBlock second → BitPlanesHoldBytes b planes (first ++ second)
-        → BitPlanesHoldBytes b result (sub_bytes first ++ sub_bytes second) }
+    ensures held { (b : ℕ) → b < 8 → AppliesToBothBlocks b sub_bytes planes result }
 {
     let sums = s_box_input_sums(planes);
     output_wires(products(sums, inverse_of_norm(norm(sums))))

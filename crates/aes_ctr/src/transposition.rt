@@ -1,9 +1,9 @@
 //! From eight pairs of blocks to their planes, and back. Eight vectors hold bits numbered k (vector) and b (place in a byte);
 //! what is wanted is bit k of vector b in place of bit b of vector k. The three binary digits of k and b change
 //! places one after the other; each step exchanges bits that are 1, 2 or 4 apart in a byte between two neighbours.
-ghost use Rattle.std.specs.Prelude.{◌≡◌, ◌-◌, ◌*◌, ◌/◌, ◌%◌, ◌^◌, ◌<◌, ℕ, Bool, bit_and, if◌then◌else◌};
+ghost use Rattle.std.specs.Prelude.{◌≡◌, ◌-◌, ◌*◌, ◌/◌, ◌%◌, ◌^◌, ◌<◌, ℕ, bit_and};
 ghost use Rattle.aes_ctr.specs.Planes.{bits, plane};
-ghost use Rattle.aes_ctr.specs.Inside.PlaneSteps.{AreExchanged, AreLowBits, TakesBitFromOneOfTwo, IsBlockPair, ArePlanesOfBlockPairs};
+ghost use Rattle.aes_ctr.specs.Inside.PlaneSteps.{AreExchanged, AreLowBits, ArePlanesOfBlockPairs, MergesPlanes};
 
 use crate::planes::Planes;
 use std::simd::prelude::*;
@@ -12,10 +12,8 @@ use std::simd::prelude::*;
 #[inline(always)]
 fn merged_lower_bits(distance: u8, low: u8, first: u8x32, second: u8x32) -> u8x32
     requires distance { distance < 8 }
-    ensures bits { (from_first : Bool) (b i j : ℕ)
-        → TakesBitFromOneOfTwo (λ byte. bit_and byte low) (λ byte. bit_and byte low * 2 ^ distance % 256) from_first b i j
-        → bits b result ≡ (if from_first then bits i first else bits j second) }
-    ensures bytes { IsBlockPair first × IsBlockPair second × IsBlockPair result }
+    ensures merged { MergesPlanes (λ byte. bit_and byte low)
+        (λ byte. bit_and byte low * 2 ^ distance % 256) first second result }
 {
     let low = u8x32::splat(low);
     (first & low) ^ ((second & low) << u8x32::splat(distance))
@@ -25,10 +23,8 @@ fn merged_lower_bits(distance: u8, low: u8, first: u8x32, second: u8x32) -> u8x3
 #[inline(always)]
 fn merged_upper_bits(distance: u8, low: u8, first: u8x32, second: u8x32) -> u8x32
     requires distance { distance < 8 }
-    ensures bits { (from_first : Bool) (b i j : ℕ)
-        → TakesBitFromOneOfTwo (λ byte. bit_and (byte / 2 ^ distance) low) (λ byte. bit_and byte (255 - low)) from_first b i j
-        → bits b result ≡ (if from_first then bits i first else bits j second) }
-    ensures bytes { IsBlockPair first × IsBlockPair second × IsBlockPair result }
+    ensures merged { MergesPlanes (λ byte. bit_and (byte / 2 ^ distance) low)
+        (λ byte. bit_and byte (255 - low)) first second result }
 {
     let low = u8x32::splat(low);
     ((first >> u8x32::splat(distance)) & low) ^ (second & !low)

@@ -92,6 +92,12 @@ stored_is c lanes seg el es buf pass slice index lane before j named other previ
     (step_is c lanes seg el es buf pass slice index lane before j named other (get_or buf previous []) (get_or buf reference []) _ _ x ex hl hi eb
     (ap (λ k. get_or buf k []) ep) ej en eo (ap (λ k. get_or buf k []) er) refl refl))
 
+-- the column before one, around the end of the lane, by the number of the column before it
+pub column_before : (pass q k before : ℕ) → 0 < q → 0 < pass * q + k → before ≡ (k + q - 1) % q → before ≡ (pass * q + k - 1) % q
+column_before pass q k before some above e =
+    let more : pass * q + k - 1 + q ≡ pass * q + (k + q - 1) = omega arith in
+    e ∙ sym (mul-add-mod_self_right pass q (k + q - 1)) ∙ ap (λ (n : ℕ). n % q) (sym more) ∙ add-mod_right (pass * q + k - 1) q
+
 -- what the index is at least, in the first slice
 pub first_two : (pass slice index : ℕ) → first_index pass slice ≤ index → pass ≡ 0 → slice ≡ 0 → 2 ≤ index
 first_two pass slice index h ep es = let f : first_index 0 0 ≤ index = rw (ep, es) at h in f

@@ -1,13 +1,43 @@
 -- H 0 and the first two columns.
-use Rattle.std.proofs.Common.{◌≡◌, ◌≢◌, ℕ, ◌+◌, ◌*◌, ◌%◌, ◌<◌, ◌≤◌, inl, inr, List, [], ◌++◌, length, get_or, set, sym, ap, ◌∙◌, arith, length-set}
+use Rattle.std.proofs.Common.{◌≡◌, ◌≢◌, ℕ, ◌+◌, ◌*◌, ◌%◌, ◌<◌, ◌≤◌, inl, inr, List, [], ◌++◌, length, get_or, set, sym, ap, subst, ◌∙◌, arith, length-append, length-set}
 use Rattle.std.proofs.lemmas.List.{get_or-set_same, get_or-set_other, append_assoc, append-nil}
 use Rattle.std.proofs.lemmas.Bool.Decides.{eqb_tells}
 use Rattle.std.proofs.Math.Nat.{mod-eq_of_lt}
-use Rattle.argon.specs.Argon2.{block_from_h0}
+use Rattle.byteorder.specs.Endian.{little_bytes}
+use Rattle.blake.specs.State.{Holds, IsHandedNext, hashed_message_len}
+use Rattle.blake.specs.declared.hasher.Blake2b.{Blake2b}
+use Rattle.argon.specs.Argon2.{block_from_h0, with_length}
 use Rattle.argon.specs.Buffer.{HoldsNewestBlocks}
 use Rattle.argon.specs.Parameters.{Parameters, lane_len, segment_len}
 use Rattle.argon.proofs.Buffer.{lanes_apart}
 use Rattle.argon.proofs.MatrixBlocks.{block_first}
+
+-- a text with its length is four bytes longer
+length-with_length : (text : List ℕ) → length (with_length text) ≡ 4 + length text
+length-with_length text = length-append (little_bytes 4 (length text)) text
+
+-- a text is handed to a hash after its length
+pub handed_with_length : (text : List ℕ) (s t u : Blake2b) → IsHandedNext (little_bytes 4 (length text)) s t → IsHandedNext text t u
+    → IsHandedNext (with_length text) s u
+handed_with_length text s t u first rest =
+    let four : hashed_message_len t ≡ hashed_message_len s + 4 = first.message_len in
+    let sum : hashed_message_len t + length text ≡ hashed_message_len s + (4 + length text) = omega arith in
+    record {
+      answer_len = rest.answer_len ∙ first.answer_len;
+      message_len = rest.message_len ∙ sum ∙ sym (ap (λ (k : ℕ). hashed_message_len s + k) (length-with_length text));
+      message = λ n m held.
+          subst (λ (l : List ℕ). Holds n u l) (append_assoc m (little_bytes 4 (length text)) text)
+          (rest.message n (m ++ little_bytes 4 (length text)) (first.message n m held));
+    }
+
+-- how long the message is after four bytes, and after a text with its length
+pub four_more : (bytes : List ℕ) (s t : Blake2b) → IsHandedNext bytes s t → length bytes ≡ 4 → hashed_message_len t ≡ hashed_message_len s + 4
+four_more bytes s t handed four = handed.message_len ∙ ap (λ (k : ℕ). hashed_message_len s + k) four
+
+pub text_more : (text : List ℕ) (s t : Blake2b) → IsHandedNext (with_length text) s t → hashed_message_len t ≡ hashed_message_len s + 4 + length text
+text_more text s t handed =
+    let sum : hashed_message_len s + (4 + length text) ≡ hashed_message_len s + 4 + length text = omega arith in
+    handed.message_len ∙ ap (λ (k : ℕ). hashed_message_len s + k) (length-with_length text) ∙ sum
 
 pub three_joined : (a b c : List ℕ) → a ++ (b ++ (c ++ [])) ≡ a ++ b ++ c
 three_joined a b c = rw (append-nil c) (sym (append_assoc a b c))

@@ -1,5 +1,5 @@
 -- A matrix that is being filled, as contracts see it.
-use Rattle.std.specs.Prelude.{◌≡◌, ℕ, ◌*◌, ◌/◌, ◌%◌, ◌<◌, ◌≤◌, Bool, true, ◌&&◌, nat_lt, List, length, Option, Some, None, if◌then◌else◌}
+use Rattle.std.specs.Prelude.{◌≡◌, ℕ, ◌*◌, ◌/◌, ◌%◌, ◌<◌, ◌≤◌, Bool, true, ◌&&◌, nat_lt, List, length, Option, Some, None, false, if◌then◌else◌}
 use Rattle.argon.specs.Buffer.{HoldsNewestBlocks, column_number_after_slices}
 use Rattle.argon.specs.Parameters.{Parameters, block_count}
 use Rattle.argon.specs.Range.{IsInRangeWithAnyPassword}
@@ -27,6 +27,11 @@ pub record IsFilling (filling : Filling) : Type 0 where
   pub size : length filling.blocks ≡ block_count filling.parameters
   pub position : filling.slices_made ≤ 4 * filling.parameters.passes
   pub newest : filling.is_started ≡ true → IsNewest filling
+
+-- a matrix that was not started, and has the blocks of these parameters
+pub record IsUnstarted (parameters : Parameters) (filling : Filling) : Type 0 where
+  pub size : length filling.blocks ≡ block_count parameters
+  pub started : filling.is_started ≡ false
 
 -- a slice is left to be made
 pub record HasSliceLeft (filling : Filling) : Type 0 where

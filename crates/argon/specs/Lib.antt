@@ -9,6 +9,7 @@ pub mod Range
 pub mod Params
 pub mod Buffer
 pub mod Filling
+pub mod Hashing
 pub mod Matrix
 pub mod Plan
 pub mod SliceProgress

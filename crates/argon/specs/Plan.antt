@@ -1,8 +1,9 @@
 -- What is planned for a segment with independent addressing (RFC 9106, 3.4.1.2 and 3.4.2).
-use Rattle.std.specs.Prelude.{◌≡◌, ℕ, ◌+◌, ◌-◌, ◌*◌, ◌/◌, ◌%◌, List, [], get_or, slice_index}
+use Rattle.std.specs.Prelude.{◌≡◌, ℕ, ◌+◌, ◌-◌, ◌*◌, ◌/◌, ◌%◌, ◌<◌, ◌≤◌, List, [], get_or, slice_index}
 use Rattle.argon.specs.Argon2.{stored_block_by_j1_j2, is_xored_in, matrix_block, stored_block}
 use Rattle.argon.specs.Buffer.{HoldsNewestBlocks, IsInSlice, block_held}
 use Rattle.argon.specs.Compression.{compression}
+use Rattle.argon.specs.Counts.{first_index}
 use Rattle.argon.specs.Parameters.{Parameters, segment_len, lane_len}
 use Rattle.argon.specs.Reference.{address_block, reference_lane, reference_number}
 use Rattle.argon.specs.declared.places.Place.{Place}
@@ -44,3 +45,15 @@ IsMadeAlongPlan parameters h0 blocks next pass lane slice index =
     ≡ stored_block (is_xored_in parameters pass) (block_held parameters blocks (number - lane_len parameters) lane)
     (compression (block_held parameters blocks (number - 1) lane)
     (get_or blocks (place.lane * lane_len parameters + place.column) []))
+
+-- for every H_0 the columns of a segment that come from other blocks are made as planned
+abbrev pub AreMadeAsPlanned : Parameters → ℕ → ℕ → ℕ → Type 0
+AreMadeAsPlanned parameters pass lane slice =
+    (h0 : List ℕ) (index : ℕ) → first_index pass slice ≤ index → index < segment_len parameters
+    → IsMadeAsPlanned parameters h0 pass lane slice index
+
+-- for every H_0 and in every memory these columns are made along the plan
+abbrev pub AreMadeAlongPlan : Parameters → ℕ → ℕ → ℕ → Type 0
+AreMadeAlongPlan parameters pass lane slice =
+    (h0 : List ℕ) (blocks : List (List ℕ)) (next : ℕ → ℕ) (index : ℕ) → first_index pass slice ≤ index
+    → index < segment_len parameters → IsMadeAlongPlan parameters h0 blocks next pass lane slice index

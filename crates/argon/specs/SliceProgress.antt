@@ -8,7 +8,7 @@ use Rattle.argon.specs.Counts.{address_block_count, address_work, computed_block
 use Rattle.argon.specs.Filling.{Filling, HasSliceLeft}
 use Rattle.argon.specs.Parameters.{Parameters, block_count, lane_len, segment_len}
 use Rattle.argon.specs.Range.{IsInRangeWithAnyPassword}
-use Rattle.argon.specs.Reference.{is_independent}
+use Rattle.argon.specs.Reference.{ReadsFinishedSegments, is_independent}
 
 -- what contracts see of a weave
 pub record SliceProgress : Type 0 where
@@ -44,6 +44,12 @@ next_column_number weaving lane =
 abbrev pub HoldsNewestBlocksByLane : SliceProgress → Type 0
 HoldsNewestBlocksByLane weaving =
     HoldsNewestBlocks weaving.matrix.parameters weaving.matrix.first_hash weaving.matrix.blocks (next_column_number weaving)
+
+-- whatever word J the next column of a lane has, what it names in another lane stands in a finished segment
+abbrev pub ReadsFinishedSegmentsNext : SliceProgress → ℕ → Type 0
+ReadsFinishedSegmentsNext weaving lane =
+    ReadsFinishedSegments weaving.matrix.parameters (weaving.matrix.slices_made / 4) lane (weaving.matrix.slices_made % 4)
+    (next_index_in_segment weaving lane)
 
 -- the blocks where a lane has made its next one: one place is another
 abbrev pub with_next_block : SliceProgress → ℕ → List (List ℕ)

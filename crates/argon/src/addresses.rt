@@ -12,10 +12,9 @@ use crate::ticks::Ticks;
 /// How many address blocks a segment of so many columns needs: each has the words J of 128 columns,
 /// one part.
 pub(crate) fn address_block_count(segment_len: u32) -> u32
-    requires short { segment_len < 2 ^ 31 }
     ensures value { result ≡ address_block_count segment_len }
 {
-    (segment_len + 127) / 128
+    segment_len.div_ceil(128)
 }
 
 /// Makes the address block of a part, counted from 0, where the addressing of the segment is

@@ -1,6 +1,6 @@
 //! H0 and the first two columns (RFC 9106, section 3.2, steps 1, 3 and 4).
-ghost use Rattle.std.specs.Prelude.{◌≡◌, ℕ, ◌+◌, ◌<◌, ◌^◌, ◌++◌, List, length};
-ghost use Rattle.blake.specs.State.{Holds, hashed_message_len, hash_len};
+ghost use Rattle.std.specs.Prelude.{◌≡◌, ◌+◌, ◌<◌, ◌^◌, length};
+ghost use Rattle.blake.specs.State.{IsHandedNext, hashed_message_len};
 ghost use Rattle.byteorder.specs.Endian.{little_bytes};
 ghost use Rattle.argon.specs.Argon2.{block_from_h0, first_hash, with_length};
 ghost use Rattle.argon.specs.Buffer.{HoldsNewestBlocks};
@@ -17,10 +17,7 @@ use byteorder::{ByteOrder, LittleEndian};
 // Hands a number to the hash, in four bytes.
 fn update_hash_with_number(hash: &mut Blake2b, number: u32)
     requires fits { hashed_message_len hash.old + 4 < 2 ^ 64 }
-    ensures hashed_message_len { hashed_message_len hash.new ≡ hashed_message_len hash.old + 4 }
-    ensures hash_len { hash_len hash.new ≡ hash_len hash.old }
-    ensures holds { (len : ℕ) (message : List ℕ) → Holds len hash.old message
-        → Holds len hash.new (message ++ little_bytes 4 number) }
+    ensures handed { IsHandedNext (little_bytes 4 number) hash.old hash.new }
 {
     let mut bytes = [0u8; 4];
     LittleEndian::write_u32(&mut bytes, number);
@@ -31,10 +28,7 @@ fn update_hash_with_number(hash: &mut Blake2b, number: u32)
 fn update_hash_with_length(hash: &mut Blake2b, text: &[u8])
     requires short { length text.now < 2 ^ 32 }
     requires fits { hashed_message_len hash.old + 4 + length text.now < 2 ^ 64 }
-    ensures hashed_message_len { hashed_message_len hash.new ≡ hashed_message_len hash.old + 4 + length text.now }
-    ensures hash_len { hash_len hash.new ≡ hash_len hash.old }
-    ensures holds { (len : ℕ) (message : List ℕ) → Holds len hash.old message
-        → Holds len hash.new (message ++ with_length text.now) }
+    ensures handed { IsHandedNext (with_length text.now) hash.old hash.new }
 {
     update_hash_with_number(hash, text.len() as u32);
     hash.update(text);

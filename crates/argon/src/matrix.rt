@@ -1,8 +1,9 @@
 //! The matrix B (RFC 9106, section 3.2), in one buffer that later passes overwrite.
-ghost use Rattle.std.specs.Prelude.{◌≡◌, ◌+◌, ◌*◌, ◌/◌, ◌%◌, true, false, ◌↔◌, is_ok, length, IfOk, IsSome};
-ghost use Rattle.argon.specs.Argon2.{argon2_tag, first_hash, tag_by_first_hash};
+ghost use Rattle.std.specs.Prelude.{◌≡◌, ◌+◌, ◌*◌, ◌/◌, ◌%◌, true, ◌↔◌, is_ok, length, IfOk, IsSome};
+ghost use Rattle.argon.specs.Argon2.{first_hash, tag_by_first_hash};
 ghost use Rattle.argon.specs.Counts.{slice_work, work};
-ghost use Rattle.argon.specs.Filling.{HasSliceLeft, IsDone, IsNewest, next_slice};
+ghost use Rattle.argon.specs.Filling.{HasSliceLeft, IsDone, IsNewest, IsUnstarted, next_slice};
+ghost use Rattle.argon.specs.Hashing.{HashesInto};
 ghost use Rattle.argon.specs.Inputs.{InputsFitParameters, inputs_of};
 ghost use Rattle.argon.specs.Parameters.{block_count};
 ghost use Rattle.argon.specs.Woven.{with_next_slice};
@@ -51,8 +52,7 @@ impl Model for Matrix {
 pub fn reserve_from<R: MatrixMemory>(memory: &mut R, params: &Params) -> Result<Matrix, AllocError>
     ensures asked { memory.new ≡ R.after_blocks memory.old (block_count params.now) (is_ok result) }
     ensures parameters { IfOk result (λ matrix. matrix.parameters ≡ params.now) }
-    ensures size { IfOk result (λ matrix. length matrix.blocks ≡ block_count params.now) }
-    ensures started { IfOk result (λ matrix. matrix.is_started ≡ false) }
+    ensures unstarted { IfOk result (IsUnstarted params.now) }
 {
     let blocks = memory.blocks(params.blocks() as usize)?;
     Ok(Matrix {
@@ -71,8 +71,7 @@ impl Matrix {
     /// `AllocError` where it is refused, and then nothing is held.
     pub fn reserve(alloc: Global, params: &Params) -> Result<Matrix, AllocError>
         ensures parameters { IfOk result (λ matrix. matrix.parameters ≡ params.now) }
-        ensures size { IfOk result (λ matrix. length matrix.blocks ≡ block_count params.now) }
-        ensures started { IfOk result (λ matrix. matrix.is_started ≡ false) }
+        ensures unstarted { IfOk result (IsUnstarted params.now) }
     {
         let mut memory = alloc;
         reserve_from(&mut memory, params)
@@ -114,9 +113,6 @@ impl Matrix {
     pub fn slice(&mut self, ticks: &mut Ticks)
         requires next { HasSliceLeft self.old }
         ensures matrix { self.new ≡ with_next_slice self.old }
-        ensures parameters { self.new.parameters ≡ self.old.parameters }
-        ensures started { self.new.is_started ≡ true }
-        ensures first_hash { self.new.first_hash ≡ self.old.first_hash }
         ensures position { self.new.slices_made ≡ self.old.slices_made + 1 }
         ensures newest { IsNewest self.new }
         ensures size { length self.new.blocks ≡ length self.old.blocks }
@@ -165,12 +161,7 @@ impl Matrix {
     pub fn hash(&mut self, inputs: &Inputs<'_>, out: &mut [u8], ticks: &mut Ticks)
         requires inputs { InputsFitParameters self.old.parameters (inputs_of inputs.now) }
         requires len { length out.old ≡ self.old.parameters.tag_len }
-        ensures tag { out.new ≡ argon2_tag self.old.parameters (inputs_of inputs.now) }
-        ensures parameters { self.new.parameters ≡ self.old.parameters }
-        ensures done { IsDone self.new }
-        ensures first_hash { self.new.first_hash
-            ≡ first_hash self.old.parameters (inputs_of inputs.now) }
-        ensures size { length self.new.blocks ≡ length self.old.blocks }
+        ensures hashed { HashesInto (inputs_of inputs.now) self.old self.new out.new }
         ensures count { ticks.new ≡ ticks.old + work self.old.parameters }
     {
         self.start(inputs);

@@ -1,9 +1,9 @@
 //! The permutation P (RFC 9106, section 3.6) of four lists of sixteen words side by side. One P is a
 //! chain of steps that wait for each other, so four overlap.
-ghost use Rattle.std.specs.Prelude.{◌≡◌, ℕ, ◌+◌, ◌*◌, ◌%◌, ◌^◌, ◌<◌, slice_index, bit_xor};
+ghost use Rattle.std.specs.Prelude.{◌≡◌, ℕ, ◌+◌, ◌*◌, ◌%◌, ◌^◌, ◌<◌, bit_xor};
 ghost use Rattle.std.specs.Int.{w64, rotate_right};
 ghost use Rattle.argon.specs.Compression.{mixed_words, permutation, sum_with_product};
-ghost use Rattle.argon.specs.Inside.FourWords.{turned_to_columns, turned_to_diagonals, word_of_each_vector};
+ghost use Rattle.argon.specs.Inside.FourWords.{AreMadeOfTwoWords, AreMadeOfWords, turned_to_columns, turned_to_diagonals, word_of_each_vector};
 
 use crate::four_lists::{FourLists, transposed};
 use std::simd::u64x16;
@@ -11,24 +11,21 @@ use std::simd::u64x16;
 // The low 32 bits of each word.
 #[inline(always)]
 fn low_half(words: u64x16) -> u64x16
-    ensures value { (number : ℕ) → number < 16
-        → slice_index result number ≡ slice_index words number % 2 ^ 32 }
+    ensures value { AreMadeOfWords (λ word. word % 2 ^ 32) words result }
 {
     words & u64x16::splat(0xffff_ffff)
 }
 
 #[inline(always)]
 fn sum(a: u64x16, b: u64x16) -> u64x16
-    ensures value { (number : ℕ) → number < 16
-        → slice_index result number ≡ (slice_index a number + slice_index b number) % 2 ^ 64 }
+    ensures value { AreMadeOfTwoWords (λ x y. (x + y) % 2 ^ 64) a b result }
 {
     a + b
 }
 
 #[inline(always)]
 fn product(a: u64x16, b: u64x16) -> u64x16
-    ensures value { (number : ℕ) → number < 16
-        → slice_index result number ≡ (slice_index a number * slice_index b number) % 2 ^ 64 }
+    ensures value { AreMadeOfTwoWords (λ x y. (x * y) % 2 ^ 64) a b result }
 {
     a * b
 }
@@ -36,9 +33,7 @@ fn product(a: u64x16, b: u64x16) -> u64x16
 // The sum that takes the place of BLAKE2b's.
 #[inline(always)]
 fn sum_with_product(a: u64x16, b: u64x16) -> u64x16
-    ensures value { (number : ℕ) → number < 16
-        → slice_index result number
-        ≡ sum_with_product (slice_index a number) (slice_index b number) }
+    ensures value { AreMadeOfTwoWords sum_with_product a b result }
 {
     let product = product(low_half(a), low_half(b));
     sum(sum(a, b), sum(product, product))
@@ -47,8 +42,7 @@ fn sum_with_product(a: u64x16, b: u64x16) -> u64x16
 #[inline(always)]
 fn rotated(words: u64x16, count: u64) -> u64x16
     requires range { (0 < count) × (count < 64) }
-    ensures value { (number : ℕ) → number < 16
-        → slice_index result number ≡ rotate_right w64 (slice_index words number) count }
+    ensures value { AreMadeOfWords (λ word. rotate_right w64 word count) words result }
 {
     (words >> u64x16::splat(count)) | (words << u64x16::splat(64 - count))
 }
@@ -56,9 +50,7 @@ fn rotated(words: u64x16, count: u64) -> u64x16
 #[inline(always)]
 fn rotated_xor(a: u64x16, b: u64x16, count: u64) -> u64x16
     requires range { (0 < count) × (count < 64) }
-    ensures value { (number : ℕ) → number < 16
-        → slice_index result number
-        ≡ rotate_right w64 (bit_xor (slice_index a number) (slice_index b number)) count }
+    ensures value { AreMadeOfTwoWords (λ x y. rotate_right w64 (bit_xor x y) count) a b result }
 {
     rotated(a ^ b, count)
 }

@@ -118,9 +118,8 @@ fn reference_column(
 /// The column before one, around the end of the lane.
 pub(crate) fn previous_column(lane_len: usize, column: usize) -> usize
     requires columns { column < lane_len }
+    ensures value { result ≡ (column + lane_len - 1) % lane_len }
     ensures within { result < lane_len }
-    ensures value { (pass : ℕ) → 0 < pass * lane_len + column
-        → result ≡ (pass * lane_len + column - 1) % lane_len }
 {
     if column == 0 {
         lane_len - 1

@@ -1,9 +1,9 @@
 //! The places that a segment of independent addressing reads, from its position alone (RFC 9106,
 //! section 3.4.1.2).
-ghost use Rattle.std.specs.Prelude.{◌≡◌, ℕ, ◌+◌, ◌*◌, ◌<◌, ◌≤◌, true, length, List};
+ghost use Rattle.std.specs.Prelude.{◌≡◌, ℕ, ◌+◌, ◌*◌, ◌<◌, ◌≤◌, true, length};
 ghost use Rattle.argon.specs.Counts.{address_block_count, first_index};
 ghost use Rattle.argon.specs.Parameters.{segment_len};
-ghost use Rattle.argon.specs.Plan.{IsMadeAlongPlan, IsMadeAsPlanned, entry_at, independent_reference_place};
+ghost use Rattle.argon.specs.Plan.{AreMadeAlongPlan, AreMadeAsPlanned, entry_at, independent_reference_place};
 ghost use Rattle.argon.specs.Inside.Planning.{PlansPartOfReferences};
 ghost use Rattle.argon.specs.Reference.{is_independent};
 ghost use Rattle.argon.specs.Inside.Segment.{IsInMatrix, index_in_segment_after_parts};
@@ -58,12 +58,8 @@ pub fn plan_segment(
     ensures planned { (index : ℕ) → first_index pass slice ≤ index
         → index < segment_len params.now
         → entry_at out.new index ≡ independent_reference_place params.now pass lane slice index }
-    ensures made { (h0 : List ℕ) (index : ℕ) → first_index pass slice ≤ index
-        → index < segment_len params.now
-        → IsMadeAsPlanned params.now h0 pass lane slice index }
-    ensures along { (h0 : List ℕ) (blocks : List (List ℕ)) (next : ℕ → ℕ) (index : ℕ)
-        → first_index pass slice ≤ index → index < segment_len params.now
-        → IsMadeAlongPlan params.now h0 blocks next pass lane slice index }
+    ensures made { AreMadeAsPlanned params.now pass lane slice }
+    ensures along { AreMadeAlongPlan params.now pass lane slice }
     ensures kept { (index : ℕ) → index < first_index pass slice
         → entry_at out.new index ≡ entry_at out.old index }
     ensures count { ticks.new ≡ ticks.old + 2 * address_block_count (segment_len params.now) }

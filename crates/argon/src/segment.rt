@@ -1,12 +1,10 @@
 //! The blocks of a segment and of a slice (RFC 9106, section 3.2, steps 5 and 6, and section 3.4).
-ghost use Rattle.std.specs.Prelude.{◌≡◌, ℕ, ◌+◌, ◌*◌, ◌/◌, ◌%◌, ◌<◌, ◌≤◌, ◌^◌, List, length, true, false, slice_index, slice_set};
-ghost use Rattle.argon.specs.Argon2.{block_at};
-ghost use Rattle.argon.specs.Buffer.{block_held};
+ghost use Rattle.std.specs.Prelude.{◌≡◌, ℕ, ◌+◌, ◌*◌, ◌/◌, ◌%◌, ◌<◌, ◌^◌, List, length, true, false, slice_index, slice_set};
 ghost use Rattle.argon.specs.Counts.{computed_block_count, column_work, first_index, segment_work, slice_work};
 ghost use Rattle.argon.specs.Filling.{Filling};
 ghost use Rattle.argon.specs.Parameters.{Parameters, block_count};
-ghost use Rattle.argon.specs.Reference.{HasAddresses, address_block};
-ghost use Rattle.argon.specs.Inside.Segment.{IsInMatrix, IsSegmentOfParameters, column_number, index_in_segment_after_parts, AreOfMatrix};
+ghost use Rattle.argon.specs.Reference.{address_block};
+ghost use Rattle.argon.specs.Inside.Segment.{AreOfMatrix, HasAddressesOfSegment, IsColumnToMake, IsInMatrix, IsInSameMatrix, IsSegmentOfParameters, StandsAt, index_in_segment_after_parts, with_column_made};
 ghost use Rattle.argon.specs.Woven.{all_blocks_in_slice_progress, with_next_slice};
 ghost use Rattle.argon.specs.Inside.NextSlice.{AreCountsOfBlocksLeft, IsNextSlice};
 
@@ -72,11 +70,8 @@ fn reference_word(is_independent: bool, addresses: &Block, index: u32, previous:
 
 // Where a column of a lane stands in the buffer, which has the lanes one after the other.
 fn matrix_index_of_column(segment: &Segment, lane: u32, column: usize) -> usize
-    requires valid { IsInMatrix segment.now }
-    requires lanes { lane < segment.now.lanes }
-    requires columns { column < 4 * segment.now.len }
-    ensures value { result ≡ lane * (4 * segment.now.len) + column }
-    ensures within { result < segment.now.lanes * (4 * segment.now.len) }
+    requires place { IsInSameMatrix segment.now lane column }
+    ensures place { StandsAt segment.now lane column result }
 {
     lane as usize * (4 * segment.len as usize) + column
 }
@@ -90,19 +85,14 @@ fn fill_block_at_column(
     scratch: &mut Scratch,
     ticks: &mut Ticks,
 )
-    requires valid { IsInMatrix segment.now }
-    requires indices { index < segment.now.len }
-    requires first { first_index segment.now.pass segment.now.slice ≤ index }
+    requires column { IsColumnToMake segment.now index }
     requires size { AreOfMatrix segment.now blocks.old }
     ensures count { ticks.new ≡ ticks.old + 1 }
     ensures value { (parameters : Parameters) → IsSegmentOfParameters parameters segment.now
         → (segment.now.is_independent ≡ true
         → addresses.now
         ≡ address_block parameters segment.now.pass segment.now.lane segment.now.slice (index / 128 + 1))
-        → blocks.new ≡ slice_set blocks.old
-        (segment.now.lane * (4 * segment.now.len) + (segment.now.slice * segment.now.len + index))
-        (block_at parameters (block_held parameters blocks.old) (column_number segment.now index)
-        segment.now.pass segment.now.lane segment.now.slice index) }
+        → blocks.new ≡ with_column_made parameters segment.now index blocks.old }
 {
     let lane_len = 4 * segment.len as usize;
     let column = (segment.slice * segment.len + index) as usize;
@@ -149,19 +139,12 @@ pub(crate) fn fill_next_block(
     scratch: &mut Scratch,
     ticks: &mut Ticks,
 )
-    requires valid { IsInMatrix segment.now }
+    requires column { IsColumnToMake segment.now index }
     requires is_of { IsSegmentOfParameters params.now segment.now }
-    requires indices { index < segment.now.len }
-    requires first { first_index segment.now.pass segment.now.slice ≤ index }
     requires size { AreOfMatrix segment.now blocks.old }
-    requires addresses { HasAddresses params.now segment.now.pass segment.now.lane segment.now.slice index
-        addresses.old }
-    ensures addresses { HasAddresses params.now segment.now.pass segment.now.lane segment.now.slice
-        (index + 1) addresses.new }
-    ensures value { blocks.new ≡ slice_set blocks.old
-        (segment.now.lane * (4 * segment.now.len) + (segment.now.slice * segment.now.len + index))
-        (block_at params.now (block_held params.now blocks.old) (column_number segment.now index)
-        segment.now.pass segment.now.lane segment.now.slice index) }
+    requires addresses { HasAddressesOfSegment params.now segment.now index addresses.old }
+    ensures addresses { HasAddressesOfSegment params.now segment.now (index + 1) addresses.new }
+    ensures value { blocks.new ≡ with_column_made params.now segment.now index blocks.old }
     ensures count { ticks.new ≡ ticks.old + column_work params.now segment.now.pass segment.now.slice index }
 {
     // The first column of a part after the first; where the addressing is dependent, nothing is made.

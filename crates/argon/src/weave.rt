@@ -3,8 +3,8 @@
 ghost use Rattle.std.specs.Prelude.{◌≡◌, ℕ, ◌+◌, ◌-◌, ◌*◌, ◌/◌, ◌%◌, ◌<◌, length, slice_index, slice_index_or, slice_set, []};
 ghost use Rattle.argon.specs.Counts.{address_work, column_work, slice_work};
 ghost use Rattle.argon.specs.Filling.{Filling, HasSliceLeft, IsNewest};
-ghost use Rattle.argon.specs.Reference.{HasAddresses, ReadsFinishedSegments, is_independent};
-ghost use Rattle.argon.specs.SliceProgress.{HasNoBlocksLeft, HoldsNewestBlocksByLane, next_index_in_segment, new_slice_progress, with_next_block, work_left};
+ghost use Rattle.argon.specs.Reference.{HasAddresses, is_independent};
+ghost use Rattle.argon.specs.SliceProgress.{HasNoBlocksLeft, HoldsNewestBlocksByLane, ReadsFinishedSegmentsNext, next_index_in_segment, new_slice_progress, with_next_block, work_left};
 ghost use Rattle.argon.specs.Woven.{IsSliceProgressOf, with_next_slice};
 
 use crate::addresses::prepare_addresses;
@@ -146,9 +146,7 @@ impl Weave {
         ensures woven { (matrix : Filling) → IsSliceProgressOf matrix self.old
             → IsSliceProgressOf matrix self.new }
         ensures newest { HoldsNewestBlocksByLane self.new }
-        ensures apart { ReadsFinishedSegments self.old.matrix.parameters
-            (self.old.matrix.slices_made / 4) lane (self.old.matrix.slices_made % 4)
-            (next_index_in_segment self.old lane) }
+        ensures apart { ReadsFinishedSegmentsNext self.old lane }
         ensures share { ticks.new + work_left self.new ≡ ticks.old + work_left self.old }
         ensures count { ticks.new ≡ ticks.old
             + column_work self.old.matrix.parameters (self.old.matrix.slices_made / 4)

@@ -27,6 +27,10 @@ module _ (words : List Text) (due : Argon2Refusal) (refused : argon2_request wor
   no_output : {P : Type 0} (stdin : Option (List ℕ)) → IsOk (output_for words stdin) → P
   no_output stdin some = absurd (let wrong : ⊥ = subst IsWrong (taken words stdin (Err due) refused some) tt in wrong)
 
+  -- words that are refused come to no output
+  pub not_refused : SucceedsForSomeInput words → ⊥
+  not_refused some = no_output some.0 some.1
+
   -- what is reported of words that are refused is their refusal
   pub due_is_told : (told : Argon2Refusal) → IsReportedForSomeInput words told → told ≡ due
   due_is_told told (stdin, inl is) = sym (ap (refusal_or due) (rw refused at is))

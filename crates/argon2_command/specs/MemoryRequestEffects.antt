@@ -15,19 +15,19 @@ abbrev pub after_tag_request : {Source : Type 0} → MemoryRequestEffects Source
 after_tag_request ask p before = ask.after_zeros before p.tag_len true
 
 -- the source once the memory of the tag and of its line was granted
-abbrev pub after_line_request : {Source : Type 0} → MemoryRequestEffects Source → Request → Parameters → Source → Source
-after_line_request ask request p before = ask.after_line (after_tag_request ask p before) request p.tag_len true
+abbrev pub after_tag_and_line_requests : {Source : Type 0} → MemoryRequestEffects Source → Request → Parameters → Source → Source
+after_tag_and_line_requests ask request p before = ask.after_line (after_tag_request ask p before) request p.tag_len true
 
 -- the source once the memory of the tag, of its line and of the matrix was granted
 abbrev pub after_all_requests : {Source : Type 0} → MemoryRequestEffects Source → Request → Parameters → Source → Source
-after_all_requests ask request p before = ask.after_matrix (after_line_request ask request p before) p true
+after_all_requests ask request p before = ask.after_matrix (after_tag_and_line_requests ask request p before) p true
 
 -- one of the three requests, for the tag, its line and the matrix, was refused, and none was made after it
 abbrev pub OneRequestRefused : {Source : Type 0} → MemoryRequestEffects Source → Request → Parameters → Source → Source → Type 0
 OneRequestRefused ask request p before after =
     (after ≡ ask.after_zeros before p.tag_len false)
     ⊎ (after ≡ ask.after_line (after_tag_request ask p before) request p.tag_len false)
-    ⊎ (after ≡ ask.after_matrix (after_line_request ask request p before) p false)
+    ⊎ (after ≡ ask.after_matrix (after_tag_and_line_requests ask request p before) p false)
 
 -- a hash of these parameters that was made, or for which memory was refused, and the source before and after it: all
 -- three requests were granted, or one of them was refused

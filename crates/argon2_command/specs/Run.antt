@@ -4,7 +4,7 @@ use Rattle.host.specs.Output.{IsOutputCutShort, after_writing}
 use Rattle.host.specs.HostState.{HostState, Text, after_ask_secret, after_ask_output, stdin_once}
 use Rattle.host.specs.Faults.{Faults}
 use Rattle.host.specs.Lines.{SaysOneLine}
-use Rattle.argon2_words.specs.Refusal.{IsEarly, IsMemoryOrOutputRefusal, faults_after_refusal, line_of}
+use Rattle.argon2_words.specs.Refusal.{IsBeforeMemoryAndOutput, IsMemoryOrOutputRefusal, faults_after_refusal, line_of}
 pub use Rattle.argon2_words.specs.Request.{argon2_request}
 pub use Rattle.argon2_command.specs.Output.{argon2_command_output}
 use Rattle.argon2_command.specs.Output.{output_for, request_work}
@@ -25,7 +25,7 @@ pub record Succeeds (words : List Text) (before after : HostState) : Type 0 wher
 -- the refusal is the one that is due by the words, the password, the parameters or the limits, before memory is asked
 -- for
 abbrev pub IsRefusedBeforeMemory : Argon2Refusal → List Text → HostState → HostState → Type 0
-IsRefusedBeforeMemory r words before after = (argon2_command_output words before ≡ Err r) × IsEarly r × (after ≡ after_password_asked words before)
+IsRefusedBeforeMemory r words before after = (argon2_command_output words before ≡ Err r) × IsBeforeMemoryAndOutput r × (after ≡ after_password_asked words before)
 
 -- the words are accepted, and the host failed to give the password
 abbrev pub FailsPassword : Argon2Refusal → List Text → HostState → HostState → Type 0
@@ -99,3 +99,16 @@ pub record EndsWithRefusal (tells : Bool) (words : List Text) (before after : Ho
   pub some_input : IsReportedForSomeInput words told
   pub says : SaysOneLine tells (line_of told) unsaid after (faults_after_refusal told faults_before) faults_after
   pub refused : IsTrue tells → IsRefused told words before unsaid
+
+-- the run ended with this status. Of every host, also one that tells nothing: 0 raises no count, and comes of words that are
+-- accepted and for which some standard input gives an output alone; words that are refused come to 1 and to the line of that
+-- refusal. With 0 standard output got the whole output, and with 1 the run said the line of its refusal
+pub record EndsWithStatus (tells : Bool) (words : List Text) (status : ℕ) (before after : HostState) (faults_before faults_after : Faults)
+    : Type 0 where
+  pub counts : status ≡ 0 → faults_after ≡ faults_before
+  pub words_accepted : status ≡ 0 → IsOk (argon2_request words)
+  pub words_refused : (due : Argon2Refusal) → argon2_request words ≡ Err due
+      → (status ≡ 1) × SaysOneLine tells (line_of due) before after (faults_after_refusal due faults_before) faults_after
+  pub some_input : status ≡ 0 → SucceedsForSomeInput words
+  pub succeeds : IsTrue tells → status ≡ 0 → Succeeds words before after
+  pub refuses : status ≡ 1 → EndsWithRefusal tells words before after faults_before faults_after

@@ -5,7 +5,7 @@ use Rattle.argon.specs.Argon2.{Parameters}
 use Rattle.host.specs.HostState.{Text}
 use Rattle.argon2_command.specs.MemoryRequestEffects.{MemoryRequestEffects, OneRequestRefused, after_all_requests}
 use Rattle.argon2_command.specs.Output.{admitted_parameters}
-use Rattle.argon2_words.specs.Refusal.{IsEarly}
+use Rattle.argon2_words.specs.Refusal.{IsBeforeMemoryAndOutput}
 use Rattle.argon2_words.specs.Request.{Request, argon2_request}
 use Rattle.argon2_words.specs.declared.refusal.Argon2Refusal.{Argon2Refusal}
 use Rattle.argon2_words.specs.declared.refusal.Argon2Refusal.TheVariants as refusal
@@ -32,7 +32,7 @@ pub record RunMemoryRefused {Source : Type 0} (ask : MemoryRequestEffects Source
 -- refused, that of the output once all were granted, and every other before any is made
 pub record RequestsMemoryBeforeRefusal {Source : Type 0} (ask : MemoryRequestEffects Source) (words : List Text) (r : Argon2Refusal)
     (before after : Source) : Type 0 where
-  pub unasked : IsEarly r → after ≡ before
+  pub unasked : IsBeforeMemoryAndOutput r → after ≡ before
   pub refused : r ≡ refusal.OutOfMemory → RunMemoryRefused ask words before after
   pub granted : r ≡ refusal.OutputFault → RunGranted ask words before after
 

@@ -34,7 +34,7 @@ fn encoded(alloc: Global, request: &Request<'_>, tag: &[u8]) -> Result<Vec<u8>, 
 }
 
 /// The line of a tag, in the form that is asked for.
-pub fn line_of(alloc: Global, request: &Request<'_>, tag: &[u8]) -> Result<Bytes, AllocError>
+pub fn tag_line(alloc: Global, request: &Request<'_>, tag: &[u8]) -> Result<Bytes, AllocError>
     requires in_range { is_in_range (value_of_request_and_tag (argon2_request_view request.now) tag.now) ≡ true }
     ensures line { IfOk result (λ line. line.list.items ≡ tag_line (argon2_request_view request.now) tag.now) }
 {

@@ -3,7 +3,7 @@ ghost use Rattle.std.specs.Prelude.{◌≡◌, ◌+◌, IfOk, IfErr, Ok, length}
 ghost use Rattle.argon.specs.Counts.{work};
 ghost use Rattle.argon2_command.specs.MemoryRequestEffects.{RequestsMemoryForHash};
 ghost use Rattle.argon2_command.specs.Output.{admitted_parameters, output_line, parameters_of, tag_line};
-ghost use Rattle.argon2_words.specs.Refusal.{IsEarly};
+ghost use Rattle.argon2_words.specs.Refusal.{IsBeforeMemoryAndOutput};
 ghost use Rattle.argon2_words.specs.RequestView.{argon2_request_view};
 ghost use Rattle.host.specs.HostState.{KeepsOnErr};
 
@@ -19,7 +19,7 @@ use std::alloc::AllocError;
 pub fn parameters(request: &Request<'_>, password: &Password) -> Result<Params, Argon2Refusal>
     ensures parameters { result ≡ admitted_parameters (argon2_request_view request.now) password.now }
     ensures value { IfOk result (λ params. params ≡ parameters_of (argon2_request_view request.now) password.now) }
-    ensures early { IfErr result IsEarly }
+    ensures early { IfErr result IsBeforeMemoryAndOutput }
 {
     let settings = &request.settings;
     let params = Params::new(

@@ -4,7 +4,7 @@ ghost use Rattle.host.specs.Faults.{AreBelow};
 ghost use Rattle.host.specs.CallsGrantedByHost.{with_secret_asked};
 ghost use Rattle.host.specs.HostState.{after_ask_secret, stdin_once};
 ghost use Rattle.argon2_command.specs.Output.{RefusesInput, password_in};
-ghost use Rattle.argon2_words.specs.Refusal.{IsEarly, CountsFault};
+ghost use Rattle.argon2_words.specs.Refusal.{IsBeforeMemoryAndOutput, CountsFault};
 ghost use Rattle.argon2_words.specs.declared.refusal.Argon2Refusal.TheVariants.{PasswordFault};
 
 use argon2_words::Argon2Refusal;
@@ -43,7 +43,7 @@ pub fn read_password<H: Host>(host: &mut H) -> Result<Password, Argon2Refusal>
     requires room { AreBelow (2 ^ 63) (H.faults host.old) }
     requires unasked { (H.grants host.old).secret ≡ true }
     ensures counts { CountsFault result (H.faults host.old) (H.faults host.new) }
-    ensures early { IfErr result IsEarly }
+    ensures early { IfErr result IsBeforeMemoryAndOutput }
     // of every host, also one that tells nothing
     ensures valid { IfOk result (λ p. password_in (Some p) ≡ Ok p) }
     ensures some_input { IfErr result RefusesInput }

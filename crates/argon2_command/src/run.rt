@@ -1,14 +1,11 @@
 //! A whole run of `argon2`.
-ghost use Rattle.std.specs.Prelude.{◌≡◌, ◌≤◌, ◌^◌, Err, IsOk, OnOk, IsTrue, map, string_bytes};
+ghost use Rattle.std.specs.Prelude.{◌≤◌, ◌^◌, OnOk, IsTrue, map, string_bytes};
 ghost use Rattle.host.specs.Faults.{AreBelow};
 ghost use Rattle.host.specs.CallsGrantedByHost.{GrantsAllHostCalls};
-ghost use Rattle.host.specs.Lines.{SaysOneLine};
 ghost use Rattle.host.specs.HostState.{IsUnasked};
 ghost use Rattle.argon2_command.specs.RunAsking.{RequestsRunMemory};
-ghost use Rattle.argon2_command.specs.Run.{EndsWithRefusal, Succeeds, SucceedsForSomeInput, EndsSoForSomeInput, EndsRefused, CountsRunWork};
-ghost use Rattle.argon2_words.specs.Refusal.{CountsFault, faults_after_refusal, line_of};
-ghost use Rattle.argon2_words.specs.Request.{argon2_request};
-ghost use Rattle.argon2_words.specs.declared.refusal.Argon2Refusal.{Argon2Refusal};
+ghost use Rattle.argon2_command.specs.Run.{EndsWithStatus, Succeeds, EndsSoForSomeInput, EndsRefused, CountsRunWork};
+ghost use Rattle.argon2_words.specs.Refusal.{CountsFault};
 
 use crate::output::{output, parameters};
 use crate::password::read_password;
@@ -77,17 +74,7 @@ pub fn argon2<H: Host>(alloc: Global, words: &[String], host: &mut H) -> u8
     requires fresh { IsTrue H.tells → IsUnasked (H.seen host.old) }
     requires granted { GrantsAllHostCalls (H.grants host.old) }
     ensures status { result ≤ 1 }
-    ensures counts { result ≡ 0 → H.faults host.new ≡ H.faults host.old }
-    // of every host, also one that tells nothing
-    ensures words { result ≡ 0 → IsOk (argon2_request (map string_bytes words.now)) }
-    ensures words_refused { (refusal : Argon2Refusal)
-        → argon2_request (map string_bytes words.now) ≡ Err refusal
-        → (result ≡ 1) × SaysOneLine H.tells (line_of refusal) (H.seen host.old) (H.seen host.new)
-        (faults_after_refusal refusal (H.faults host.old)) (H.faults host.new) }
-    ensures some_input { result ≡ 0 → SucceedsForSomeInput (map string_bytes words.now) }
-    ensures succeeds { IsTrue H.tells → result ≡ 0 →
-        Succeeds (map string_bytes words.now) (H.seen host.old) (H.seen host.new) }
-    ensures refuses { result ≡ 1 → EndsWithRefusal H.tells (map string_bytes words.now)
+    ensures ends { EndsWithStatus H.tells (map string_bytes words.now) result
         (H.seen host.old) (H.seen host.new) (H.faults host.old) (H.faults host.new) }
 {
     let mut memory = alloc;

@@ -7,7 +7,7 @@ ghost use Rattle.argon2_command.specs.Output.{tag_line, value_of_request_and_tag
 ghost use Rattle.argon2_words.specs.RequestView.{argon2_request_view};
 
 use crate::bytes::Bytes;
-use crate::line::line_of;
+use crate::line::tag_line;
 use argon::{Matrix, Params};
 use argon2_words::{Request, Settings};
 use std::alloc::{AllocError, Global};
@@ -52,7 +52,7 @@ impl RunMemory for Global {
     }
 
     fn line(&mut self, request: &Request<'_>, tag: &[u8]) -> Result<Bytes, AllocError> {
-        line_of(*self, request, tag)
+        tag_line(*self, request, tag)
     }
 
     fn matrix(&mut self, params: &Params, _settings: &Settings) -> Result<Matrix, AllocError> {

@@ -2,7 +2,8 @@
 use Rattle.std.proofs.Common.{◌≡◌, ℕ, Bool, true, false, List, Result, Ok, Err, MatchResult, refl, sym, ◌∙◌, subst}
 use Rattle.argon.specs.Argon2.{Parameters}
 use Rattle.host.specs.HostState.{HostState, Text}
-use Rattle.argon2_verify.specs.Run.{Answers, Differs, Verifies}
+use Rattle.argon2_verify.specs.Run.{Answers, Differs, Verifies, verify_request}
+use Rattle.argon2_verify.specs.declared.refusal.VerifyRefusal.{VerifyRefusal}
 
 -- a fact of a result, by what it is
 pub by_result : {A E : Type 0} {P : A → Type 0} {Q : E → Type 0} (r : Result A E) → ((a : A) → r ≡ Ok a → P a) → ((e : E) → r ≡ Err e → Q e)
@@ -14,6 +15,10 @@ abbrev IsWrong : Bool → Type 0
 IsWrong true = ⊥
 IsWrong false = Unit {0}
 
+abbrev IsDone : {A : Type 0} → Result A VerifyRefusal → Type 0
+IsDone (Ok a) = Unit {0}
+IsDone (Err r) = ⊥
+
 -- an answer, by what it says
 module _ {Source : Type 0} {decoded : Source → List ℕ → Bool → Source} {matrix : Source → Parameters → ℕ → ℕ → Bool → Source}
     {tells : Bool} {words : List Text} {same : Bool} {s u : HostState} {m n : ℕ} {before after : Source}
@@ -23,3 +28,7 @@ module _ {Source : Type 0} {decoded : Source → List ℕ → Bool → Source} {
 
   pub differs : same ≡ false → Differs tells words s u
   differs is = record { inputs = told.inputs; other = λ right. let wrong : ⊥ = subst IsWrong (sym is ∙ told.answer.1 right) tt in wrong }
+
+  -- words that are refused do not come to it
+  pub not_refused : (due : VerifyRefusal) → verify_request words ≡ Err due → ⊥
+  not_refused due refused = subst IsDone (sym told.inputs.of_words ∙ refused) tt

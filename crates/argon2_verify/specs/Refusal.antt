@@ -17,8 +17,8 @@ abbrev pub CountsFault : {A : Type 0} → Result A VerifyRefusal → Faults → 
 CountsFault result before after = MatchResult result (λ _. after ≡ before) (λ r. after ≡ faults_after_refusal r before)
 
 -- the refusal is none of a failing call of the host, and so raises no count
-abbrev pub RaisesNoCount : VerifyRefusal → Type 0
-RaisesNoCount r = (f : Faults) → faults_after_refusal r f ≡ f
+abbrev pub IsOfNoFailedCall : VerifyRefusal → Type 0
+IsOfNoFailedCall r = (f : Faults) → faults_after_refusal r f ≡ f
 
 -- the refusal is not that of memory
 abbrev pub IsNotOutOfMemory : VerifyRefusal → Type 0

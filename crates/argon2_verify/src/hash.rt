@@ -1,13 +1,12 @@
 //! The hash: the first line of the file.
 ghost use Rattle.std.specs.Prelude.{◌≡◌, ◌≤◌, ◌^◌, true, None, Some, take, IfOk, IfErr, OnOk, MatchResult, IsTrue};
 ghost use Rattle.argon_text.specs.View.{value_of};
-ghost use Rattle.host.specs.CallsGrantedByHost.{GrantsAllButPullsAsBefore, with_input_opened};
 ghost use Rattle.host.specs.Faults.{AreBelow};
 ghost use Rattle.host.specs.FirstLine.{first_line};
 ghost use Rattle.argon2_verify.specs.Hash.{limits_refusal, read_refusal};
-ghost use Rattle.argon2_verify.specs.Inside.Steps.{LeavesMemoryWithoutHash, ReadsHash};
+ghost use Rattle.argon2_verify.specs.Inside.Steps.{GrantsAsOpened, ReadsHash, RefusesHash};
 ghost use Rattle.argon2_verify.specs.Reading.{IsFileRefused, after_file_read};
-ghost use Rattle.argon2_verify.specs.Refusal.{CountsFault, IsNotOutOfMemory, RaisesNoCount};
+ghost use Rattle.argon2_verify.specs.Refusal.{CountsFault, IsNotOutOfMemory, IsOfNoFailedCall};
 
 use crate::refusal::VerifyRefusal;
 use crate::request::Limits;
@@ -35,11 +34,11 @@ pub(crate) fn read_hash<R: DecodeMemory, H: Host>(
     requires room { AreBelow (2 ^ 63) (H.faults host.old) }
     requires unopened { (H.grants host.old).input ≡ true }
     ensures counts { CountsFault result (H.faults host.old) (H.faults host.new) }
-    ensures granted { OnOk result (GrantsAllButPullsAsBefore (with_input_opened (H.grants host.old)) (H.grants host.new)) }
-    ensures hash { IfOk result (λ hash. ReadsHash R.after_decoded H.tells file.now
-        (H.seen host.old) (H.seen host.new) (value_of hash) memory.old memory.new) }
-    ensures refused { IsTrue H.tells → IfErr result (λ r. IsFileRefused file.now r (H.seen host.old) (H.seen host.new)) }
-    ensures memory { IfErr result (λ r. LeavesMemoryWithoutHash R.after_decoded H.tells (H.seen host.old) r memory.old memory.new) }
+    ensures granted { GrantsAsOpened result (H.grants host.old) (H.grants host.new) }
+    ensures hash { IfOk result (λ e. ReadsHash R.after_decoded H.tells file.now
+        (H.seen host.old) (H.seen host.new) (value_of e) memory.old memory.new) }
+    ensures refused { IfErr result (λ r. RefusesHash R.after_decoded H.tells file.now r
+        (H.seen host.old) (H.seen host.new) memory.old memory.new) }
 {
     // One byte more than a line may have tells that it is too long.
     let mut buf = [0u8; 8192];
@@ -59,7 +58,7 @@ fn read_line<H: Host>(
     requires room { AreBelow (2 ^ 63) (H.faults host.old) }
     requires unopened { (H.grants host.old).input ≡ true }
     ensures counts { CountsFault result (H.faults host.old) (H.faults host.new) }
-    ensures granted { OnOk result (GrantsAllButPullsAsBefore (with_input_opened (H.grants host.old)) (H.grants host.new)) }
+    ensures granted { GrantsAsOpened result (H.grants host.old) (H.grants host.new) }
     ensures early { IfErr result IsNotOutOfMemory }
     ensures short { IfOk result (λ len. len ≤ 8191) }
     ensures line { IsTrue H.tells → IfOk result (λ len. take len buf.new ≡ first_line (H.seen host.old).input) }
@@ -83,7 +82,7 @@ fn read_line<H: Host>(
 pub(crate) fn test_limits(hash: &Encoded, limits: &Limits) -> Result<(), VerifyRefusal>
     ensures limits { MatchResult result (λ _. limits_refusal limits.now (value_of hash.now) ≡ None)
         (λ r. limits_refusal limits.now (value_of hash.now) ≡ Some r) }
-    ensures counts { IfErr result RaisesNoCount }
+    ensures counts { IfErr result IsOfNoFailedCall }
     ensures early { IfErr result IsNotOutOfMemory }
 {
     // The blocks and the block functions are the same for each password.

@@ -1,7 +1,7 @@
 //! What the words ask for.
 ghost use Rattle.std.specs.Prelude.{◌≡◌, IfErr, map, string_bytes};
 ghost use Rattle.command_words.specs.Answer.{map_ok};
-ghost use Rattle.argon2_verify.specs.Refusal.{IsNotOutOfMemory, RaisesNoCount};
+ghost use Rattle.argon2_verify.specs.Refusal.{IsNotOutOfMemory, IsOfNoFailedCall};
 ghost use Rattle.argon2_verify.specs.Request.{begins_with_dash, request_of_file, verify_request, verify_request_view, with_option};
 
 use crate::refusal::VerifyRefusal;
@@ -35,7 +35,7 @@ impl Limits {
     // The limits after one more option with its value.
     fn with_option(self, name: &str, value: &str) -> Result<Limits, VerifyRefusal>
         ensures option { result ≡ with_option self name.now value.now }
-        ensures counts { IfErr result RaisesNoCount }
+        ensures counts { IfErr result IsOfNoFailedCall }
         ensures early { IfErr result IsNotOutOfMemory }
     {
         match name {
@@ -71,7 +71,7 @@ fn begins_with_dash(word: &str) -> bool
 // The request with this last word.
 fn request_of_file(limits: Limits, word: &str) -> Result<Request<'_>, VerifyRefusal>
     ensures request { map_ok verify_request_view result ≡ request_of_file limits word.now }
-    ensures counts { IfErr result RaisesNoCount }
+    ensures counts { IfErr result IsOfNoFailedCall }
     ensures early { IfErr result IsNotOutOfMemory }
 {
     if begins_with_dash(word) {
@@ -83,7 +83,7 @@ fn request_of_file(limits: Limits, word: &str) -> Result<Request<'_>, VerifyRefu
 /// Reads the words after the program's name.
 pub fn read_request(words: &[String]) -> Result<Request<'_>, VerifyRefusal>
     ensures request { map_ok verify_request_view result ≡ verify_request (map string_bytes words.now) }
-    ensures counts { IfErr result RaisesNoCount }
+    ensures counts { IfErr result IsOfNoFailedCall }
     ensures early { IfErr result IsNotOutOfMemory }
 {
     let mut limits = DEFAULT_LIMITS;

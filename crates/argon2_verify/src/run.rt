@@ -1,11 +1,10 @@
 //! A whole run of `argon2-verify`.
-ghost use Rattle.std.specs.Prelude.{◌≡◌, ◌≤◌, ◌^◌, Err, IsTrue, map, string_bytes};
+ghost use Rattle.std.specs.Prelude.{◌≤◌, ◌^◌, IsTrue, map, string_bytes};
 ghost use Rattle.host.specs.Faults.{AreBelow};
 ghost use Rattle.host.specs.CallsGrantedByHost.{GrantsAllHostCalls};
 ghost use Rattle.host.specs.HostState.{IsUnasked};
 ghost use Rattle.argon2_verify.specs.Refusal.{CountsFault};
-ghost use Rattle.argon2_verify.specs.Run.{Differs, Ends, EndsWithRefusal, RefusesFaultyWords, Verifies, verify_request};
-ghost use Rattle.argon2_verify.specs.declared.refusal.VerifyRefusal.{VerifyRefusal};
+ghost use Rattle.argon2_verify.specs.Run.{Ends, EndsWithStatus, RefusesFaultyWords};
 
 use crate::hash::{read_hash, test_limits};
 use crate::password::test_password;
@@ -53,11 +52,7 @@ pub fn argon2_verify<H: Host>(alloc: Global, words: &[String], host: &mut H) -> 
     requires fresh { IsTrue H.tells → IsUnasked (H.seen host.old) }
     requires granted { GrantsAllHostCalls (H.grants host.old) }
     ensures status { result ≤ 2 }
-    ensures counts { result ≤ 1 → H.faults host.new ≡ H.faults host.old }
-    ensures words { (refusal : VerifyRefusal) → verify_request (map string_bytes words.now) ≡ Err refusal → result ≡ 2 }
-    ensures verifies { result ≡ 0 → Verifies H.tells (map string_bytes words.now) (H.seen host.old) (H.seen host.new) }
-    ensures differs { result ≡ 1 → Differs H.tells (map string_bytes words.now) (H.seen host.old) (H.seen host.new) }
-    ensures refuses { result ≡ 2 → EndsWithRefusal H.tells (map string_bytes words.now)
+    ensures ends { EndsWithStatus H.tells (map string_bytes words.now) result
         (H.seen host.old) (H.seen host.new) (H.faults host.old) (H.faults host.new) }
 {
     let mut memory = alloc;

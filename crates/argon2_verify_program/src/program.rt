@@ -1,16 +1,14 @@
 //! The program over any system.
-ghost use Rattle.std.specs.Prelude.{◌≡◌, ◌-◌, ◌≤◌, ◌^◌, Bool, IsTrue};
-ghost use Rattle.host.specs.Faults.{AreBelow, no_faults};
+ghost use Rattle.std.specs.Prelude.{◌≡◌, ◌≤◌, Bool, IsTrue};
+ghost use Rattle.host.specs.Faults.{no_faults};
 ghost use Rattle.host.specs.Lines.{faults_after_line};
-ghost use Rattle.argon2_verify.specs.Refusal.{faults_after_refusal, line_of};
+ghost use Rattle.argon2_verify.specs.Refusal.{faults_after_refusal};
 ghost use Rattle.argon2_verify.specs.declared.refusal.VerifyRefusal.{VerifyRefusal};
 ghost use Rattle.argon2_verify_program.specs.Program.{ProgramDiffers, ProgramRefuses, ProgramVerifies};
-ghost use Rattle.tools.specs.Failures.{AreFaultsOfHost, AreFaultsWithinFailures};
-ghost use Rattle.tools.specs.RunState.{EndsWithLine};
+ghost use Rattle.tools.specs.Failures.{AreFaultsWithinFailures};
 ghost use Rattle.tools.specs.SystemState.{IsUnused};
 
 use argon2_verify::{VerifyRefusal, argon2_verify};
-use host::Host;
 use std::alloc::Global;
 use tools::{RunFailureCounts, System, SystemHost, WordsFault, words};
 
@@ -44,20 +42,13 @@ pub fn run<S: System>(alloc: Global, system: S) -> (u8, S, RunFailureCounts<S>)
             let (system, counts) = host.into_system();
             (status, system, counts)
         }
-        Err(WordsFault::NotText) => refuse(host, VerifyRefusal::Usage),
-        Err(WordsFault::OutOfMemory) => refuse(host, VerifyRefusal::OutOfMemory),
+        Err(WordsFault::NotText) => {
+            let (_, system, counts) = host.refuse(VerifyRefusal::Usage.line());
+            (2, system, counts)
+        }
+        Err(WordsFault::OutOfMemory) => {
+            let (_, system, counts) = host.refuse(VerifyRefusal::OutOfMemory.line());
+            (2, system, counts)
+        }
     }
-}
-
-// The end of a run whose words cannot be read: status 2.
-fn refuse<S: System>(host: SystemHost<S>, refusal: VerifyRefusal) -> (u8, S, RunFailureCounts<S>)
-    requires room { AreBelow (2 ^ 64 - 1) (⟦<SystemHost<S> as Host>⟧.faults host) }
-    ensures status { result.0 ≡ 2 }
-    ensures says { EndsWithLine S.tells (line_of refusal) (⟦<SystemHost<S> as Host>⟧.seen host)
-        (⟦<SystemHost<S> as Host>⟧.faults host) (S.state result.1) result.2 }
-    ensures fails { IsTrue S.tells →
-        AreFaultsOfHost result.2 (S.failures result.1) (S.state result.1) (S.files result.1) }
-{
-    let (_, system, counts) = host.refuse(refusal.line());
-    (2, system, counts)
 }

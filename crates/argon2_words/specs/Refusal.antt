@@ -32,10 +32,10 @@ CountsFault result before after = MatchResult result (λ _. after ≡ before) (�
 
 -- the refusal is one of A1 to A8c, that is, neither A9 (of the output) nor A10 (of memory), which a run meets only
 -- after these
-abbrev pub IsEarly : Argon2Refusal → Type 0
-IsEarly refusal.OutputFault = ⊥
-IsEarly refusal.OutOfMemory = ⊥
-IsEarly r = Unit {0}
+abbrev pub IsBeforeMemoryAndOutput : Argon2Refusal → Type 0
+IsBeforeMemoryAndOutput refusal.OutputFault = ⊥
+IsBeforeMemoryAndOutput refusal.OutOfMemory = ⊥
+IsBeforeMemoryAndOutput r = Unit {0}
 
 -- the refusal is A10, of memory, or A9, of the output, which come where no other is due
 abbrev pub IsMemoryOrOutputRefusal : Argon2Refusal → Type 0
@@ -44,8 +44,8 @@ IsMemoryOrOutputRefusal refusal.OutputFault = Unit {0}
 IsMemoryOrOutputRefusal r = ⊥
 
 -- the refusal is none of a failing call of the host, and so raises no count
-abbrev pub RaisesNoCount : Argon2Refusal → Type 0
-RaisesNoCount r = (f : Faults) → faults_after_refusal r f ≡ f
+abbrev pub IsOfNoFailedCall : Argon2Refusal → Type 0
+IsOfNoFailedCall r = (f : Faults) → faults_after_refusal r f ≡ f
 
 -- the line of a refusal, without a line feed
 abbrev pub line_of : Argon2Refusal → Text

@@ -1,7 +1,7 @@
 //! What the words ask for.
 ghost use Rattle.std.specs.Prelude.{◌≡◌, IfErr, map, string_bytes};
 ghost use Rattle.command_words.specs.Answer.{map_ok};
-ghost use Rattle.argon2_words.specs.Refusal.{IsEarly, RaisesNoCount};
+ghost use Rattle.argon2_words.specs.Refusal.{IsBeforeMemoryAndOutput, IsOfNoFailedCall};
 ghost use Rattle.argon2_words.specs.Request.{argon2_request, chosen_output_form};
 ghost use Rattle.argon2_words.specs.RequestView.{argon2_request_view};
 
@@ -23,8 +23,8 @@ pub struct Request<'a> {
 // The one form of output that is asked for.
 fn chosen_output_form(encoded: bool, hex: bool) -> Result<Form, Argon2Refusal>
     ensures form { result ≡ chosen_output_form encoded hex }
-    ensures early { IfErr result IsEarly }
-    ensures counts { IfErr result RaisesNoCount }
+    ensures early { IfErr result IsBeforeMemoryAndOutput }
+    ensures counts { IfErr result IsOfNoFailedCall }
 {
     match (encoded, hex) {
         (true, false) => Ok(Form::Encoded),
@@ -35,8 +35,8 @@ fn chosen_output_form(encoded: bool, hex: bool) -> Result<Form, Argon2Refusal>
 
 /// Reads the words after the program's name.
 pub fn read_request(words: &[String]) -> Result<Request<'_>, Argon2Refusal>
-    ensures early { IfErr result IsEarly }
-    ensures counts { IfErr result RaisesNoCount }
+    ensures early { IfErr result IsBeforeMemoryAndOutput }
+    ensures counts { IfErr result IsOfNoFailedCall }
     ensures request { map_ok argon2_request_view result ≡ argon2_request (map string_bytes words.now) }
 {
     let Some((salt, others)) = words.split_first() else {

@@ -3,7 +3,7 @@ ghost use Rattle.std.specs.Prelude.{◌≡◌, ◌^◌, true, IfErr, map, string
 ghost use Rattle.argon.specs.Range.{is_version};
 ghost use Rattle.argon2_words.specs.Items.{items};
 ghost use Rattle.argon2_words.specs.ItemView.{item_of};
-ghost use Rattle.argon2_words.specs.Refusal.{IsEarly, RaisesNoCount};
+ghost use Rattle.argon2_words.specs.Refusal.{IsBeforeMemoryAndOutput, IsOfNoFailedCall};
 ghost use Rattle.command_words.specs.Number.{number_in};
 ghost use Rattle.argon2_words.specs.Settings.{defaults, power_of_two_from_word, settings_after, version_named, version_number, with_item, with_value};
 
@@ -120,8 +120,8 @@ impl Settings {
 
     // The settings after one more item, or the item's fault.
     fn with_item(self, item: Item<'_>) -> Result<Settings, Argon2Refusal>
-        ensures early { IfErr result IsEarly }
-        ensures counts { IfErr result RaisesNoCount }
+        ensures early { IfErr result IsBeforeMemoryAndOutput }
+        ensures counts { IfErr result IsOfNoFailedCall }
         ensures item { result ≡ with_item self (item_of item.entry) }
     {
         match item {
@@ -141,8 +141,8 @@ impl Settings {
 
 /// What the items of the words set, or the fault of the first faulty item from the left.
 pub fn read_settings(words: &[String]) -> Result<Settings, Argon2Refusal>
-    ensures early { IfErr result IsEarly }
-    ensures counts { IfErr result RaisesNoCount }
+    ensures early { IfErr result IsBeforeMemoryAndOutput }
+    ensures counts { IfErr result IsOfNoFailedCall }
     ensures settings { result ≡ settings_after defaults (items (map string_bytes words.now)) }
 {
     let mut settings = DEFAULTS;

@@ -2,14 +2,15 @@
 use Rattle.std.proofs.Common.{◌≡◌, ◌∙◌, ℕ, true, false, List, Some, None, refl, sym, ap, subst}
 use Rattle.std.specs.declared.result.Result.{Result}
 use Rattle.std.specs.declared.result.Result.TheVariants.{Ok, Err}
+use Rattle.std.specs.Prelude.{IfOk}
 use Rattle.std.specs.Result.{MatchResult}
 use Rattle.std.proofs.lemmas.Option.{same_Some}
 use Rattle.base64.specs.GeneralPurpose.{IsBytes}
-use Rattle.argon_text.specs.Answer.{IsResultOfReading, IsReadFaultOfText}
+use Rattle.argon_text.specs.Answer.{IsResultOfReading, IsReadFaultOfText, ReadsText}
 use Rattle.argon_text.specs.Inside.Base64Fault.{IsBase64Fault}
 use Rattle.argon_text.specs.Base64.{is_base64}
 use Rattle.argon_text.specs.EncodedText.{IsEncodedTextOf, base64_text}
-use Rattle.argon_text.specs.Grammar.{Fields, HasFields, IsEncodedText, IsEncodedTextInRange, value_of_fields, value_with_salt_and_tag}
+use Rattle.argon_text.specs.Grammar.{Fields, HasFields, HasWellFormedNumbers, IsEncodedText, IsEncodedTextInRange, value_of_fields, value_with_salt_and_tag}
 use Rattle.argon_text.specs.Reading.{fields_at}
 use Rattle.argon_text.specs.Value.{Value, IsEncodableValue, is_in_range}
 use Rattle.argon_text.specs.View.{value_of}
@@ -73,3 +74,26 @@ answer_to_text s (Err NotInGrammar) is v valid text =
     absurd (is (told.0, told.1))
 answer_to_text s (Err OutOfRange) is v valid text = absurd (is.1 (text_in_range v valid s text))
 answer_to_text s (Err OutOfMemory) is v valid text = refl
+
+-- ---- what each answer says
+
+found_of : (s : List ℕ) (r : Result Encoded ReadFault) → IsResultOfReading s r → IfOk r (λ e. IsEncodedTextOf (value_of e) s)
+found_of s (Ok e) answer = answer.1
+found_of s (Err f) answer = tt
+
+encodable_of : (s : List ℕ) (r : Result Encoded ReadFault) → IsResultOfReading s r → IfOk r (λ e. IsEncodableValue (value_of e))
+encodable_of s (Ok e) answer = answer.0
+encodable_of s (Err f) answer = tt
+
+fault_of : (s : List ℕ) (r : Result Encoded ReadFault) → IsResultOfReading s r → (f : ReadFault) → r ≡ Err f → IsReadFaultOfText s f
+fault_of s r answer f told = subst (IsResultOfReading s) told answer
+
+pub reads_text : (s : List ℕ) (r : Result Encoded ReadFault) → IsResultOfReading s r → ReadsText s r
+reads_text s r answer = record {
+  found = found_of s r answer;
+  value = encodable_of s r answer;
+  not_in_grammar = fault_of s r answer NotInGrammar;
+  out_of_range = fault_of s r answer OutOfRange;
+  out_of_memory = fault_of s r answer OutOfMemory;
+  again = answer_to_text s r answer;
+}

@@ -1,12 +1,12 @@
 //! How an encoded text is read.
-ghost use Rattle.std.specs.Prelude.{◌≡◌, ◌≤◌, ◌^◌, true, false, length, None, IfSome, IfOk, IfErr, OnOk, IsErrOf, MatchOption, MatchResult};
+ghost use Rattle.std.specs.Prelude.{◌≡◌, ◌≤◌, ◌^◌, true, false, length, None, IfSome, IfOk, IfErr, OnOk, MatchOption};
 ghost use Rattle.base64.specs.GeneralPurpose.{IsBytes};
-ghost use Rattle.argon_text.specs.Answer.{IsResultOfReading};
+ghost use Rattle.argon_text.specs.Answer.{IsResultOfReading, ReadsText};
 ghost use Rattle.argon_text.specs.Inside.Base64Fault.{IsBase64Fault, had_memory};
-ghost use Rattle.argon_text.specs.EncodedText.{IsEncodedTextOf, base64_text};
-ghost use Rattle.argon_text.specs.Grammar.{AreNumbers, HasWellFormedNumbers, IsEncodedText, IsEncodedTextInRange, is_number, number_value, value_with_salt_and_tag};
+ghost use Rattle.argon_text.specs.EncodedText.{base64_text};
+ghost use Rattle.argon_text.specs.Grammar.{AreNumbers, is_number, number_value, value_with_salt_and_tag};
 ghost use Rattle.argon_text.specs.Reading.{IsLeftAtFault, fields_at};
-ghost use Rattle.argon_text.specs.Value.{IsEncodableValue, Value, are_in_range, is_in_range};
+ghost use Rattle.argon_text.specs.Value.{are_in_range, is_in_range};
 ghost use Rattle.argon_text.specs.View.{value_of};
 ghost use Rattle.argon_text.specs.Inside.FieldsRead.{fields_of};
 
@@ -26,17 +26,7 @@ impl Encoded {
     /// The faults, by their numbers: 1 where the bytes are no encoded text, 2 where they are one
     /// with a value out of range (`Encoded` has the ranges), 3 where memory was refused.
     pub fn read(alloc: Global, text: &[u8]) -> Result<Encoded, ReadFault>
-        // What is read is a text of the value, each byte of it.
-        ensures found { IfOk result (λ e. IsEncodedTextOf (value_of e) text.now) }
-        ensures value { IfOk result (λ e. IsEncodableValue (value_of e)) }
-        ensures not_in_grammar { IsErrOf result ReadFault.NotInGrammar → IsEncodedText text.now → ⊥ }
-        ensures out_of_range { IsErrOf result ReadFault.OutOfRange
-            → IsEncodedText text.now × (IsEncodedTextInRange text.now → ⊥) }
-        // Memory is refused of no text but one whose numbers have their form.
-        ensures out_of_memory { IsErrOf result ReadFault.OutOfMemory → HasWellFormedNumbers text.now }
-        // A text of a value is read, unless memory is refused.
-        ensures again { (v : Value) → IsEncodableValue v → IsEncodedTextOf v text.now
-            → MatchResult result (λ e. value_of e ≡ v) (λ f. f ≡ ReadFault.OutOfMemory) }
+        ensures reads { ReadsText text.now result }
     {
         let mut source = alloc;
         read_encoded_with_memory(&mut source, text)

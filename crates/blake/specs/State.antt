@@ -1,5 +1,5 @@
 -- What contracts see of a BLAKE2b hash whose message is handed in piece by piece.
-use Rattle.std.specs.Prelude.{◌≡◌, ℕ, ◌+◌, ◌*◌, List, length, take, drop}
+use Rattle.std.specs.Prelude.{◌≡◌, ℕ, ◌+◌, ◌*◌, ◌++◌, List, length, take, drop}
 use Rattle.blake.specs.declared.hasher.Blake2b.{Blake2b}
 use Rattle.blake.specs.Blake2b.{state_after, message_blocks_before_last}
 
@@ -21,3 +21,10 @@ pub record IsAbsorbed (n : ℕ) (h b : List ℕ) (used : ℕ) (m : List ℕ) : T
 -- s will give a hash of n bytes, and was handed the message m
 unfoldable pub Holds : ℕ → Blake2b → List ℕ → Type 0
 Holds n s m = (hash_len s ≡ n) × (hashed_message_len s ≡ length m) × IsAbsorbed n s.state s.buffer s.used m
+
+-- a hash was handed these bytes: they follow its message, whatever that was, which has so many more; and it will give as
+-- many bytes as before
+pub record IsHandedNext (bytes : List ℕ) (before after : Blake2b) : Type 0 where
+  pub answer_len : hash_len after ≡ hash_len before
+  pub message_len : hashed_message_len after ≡ hashed_message_len before + length bytes
+  pub message : (n : ℕ) (m : List ℕ) → Holds n before m → Holds n after (m ++ bytes)

@@ -1,5 +1,5 @@
 //! BLAKE2b of a message that is handed in piece by piece (RFC 7693, 3.3).
-ghost use Rattle.std.specs.Prelude.{◌≡◌, ℕ, false, ◌+◌, ◌^◌, ◌<◌, ◌≤◌, ◌++◌, List, [], length, take};
+ghost use Rattle.std.specs.Prelude.{◌≡◌, ℕ, false, ◌+◌, ◌%◌, ◌^◌, ◌<◌, ◌≤◌, ◌++◌, List, [], length, take};
 ghost use Rattle.blake.specs.Blake2b.{blake2b, compress};
 
 use crate::compression::{BLOCK_LEN, IV, compress};
@@ -9,10 +9,9 @@ use byteorder::{ByteOrder, LittleEndian};
 // message's last block. Gives how many bytes the buffer then holds.
 fn make_room(state: &mut [u64; 8], buffer: &[u8; BLOCK_LEN], used: usize, total: u64) -> usize
     requires used { used ≤ BLOCK_LEN }
-    ensures full { used ≡ BLOCK_LEN →
-        (state.new ≡ compress state.old buffer.now total false) × (result ≡ 0) }
-    ensures open { used < BLOCK_LEN → (state.new ≡ state.old) × (result ≡ used) }
-    ensures room { result < BLOCK_LEN }
+    ensures full { used ≡ BLOCK_LEN → state.new ≡ compress state.old buffer.now total false }
+    ensures open { used < BLOCK_LEN → state.new ≡ state.old }
+    ensures used { result ≡ used % BLOCK_LEN }
 {
     if used == BLOCK_LEN {
         compress(state, buffer, total, false);
@@ -43,7 +42,7 @@ pub struct Blake2b {
 }
 
 impl Blake2b {
-    ghost use Rattle.blake.specs.State.{Holds, hashed_message_len, hash_len};
+    ghost use Rattle.blake.specs.State.{Holds, IsHandedNext, hashed_message_len, hash_len};
 
     /// A hash of `out_len` bytes, 1 to 64, that was handed nothing so far (RFC 7693, 2.1 and 2.5).
     pub fn new(out_len: usize) -> Self
@@ -87,10 +86,7 @@ impl Blake2b {
     /// bytes in all, where RFC 7693, 2.1 allows 2^128.
     pub fn update(&mut self, bytes: &[u8])
         requires fits { hashed_message_len self.old + length bytes.now < 2 ^ 64 }
-        ensures hash_len { hash_len self.new ≡ hash_len self.old }
-        ensures hashed_message_len { hashed_message_len self.new ≡ hashed_message_len self.old + length bytes.now }
-        ensures holds { (n : ℕ) (m : List ℕ) → Holds n self.old m
-            → Holds n self.new (m ++ bytes.now) }
+        ensures handed { IsHandedNext bytes.now self.old self.new }
     {
         let mut start = 0;
         while start < bytes.len() {

@@ -1,8 +1,9 @@
 -- What contracts see of a running decryption.
-use Rattle.std.specs.Prelude.{◌≡◌, ℕ, ◌+◌, ◌-◌, ◌^◌, ◌<◌, ◌≤◌, List, ◌++◌, length, take, drop}
+use Rattle.std.specs.Prelude.{◌≡◌, ℕ, ◌+◌, ◌-◌, ◌^◌, ◌<◌, ◌≤◌, List, ◌++◌, length, take, drop, Result, IfOk, OnOk, OnErr}
 use Rattle.macs.specs.Hmac.{Holds}
 use Rattle.romix.specs.Costs.{IsInRange, Parameters}
-use Rattle.encfile.specs.EncryptedFile.{derived_key, head}
+use Rattle.encfile.specs.EncryptedFile.{IsEncryptionOf, derived_key, head, released_text}
+use Rattle.encfile.specs.Encrypting.{FitsSha256}
 use Rattle.encfile.specs.declared.dec.Dec.{Dec}
 
 -- a running decryption after these first 96 bytes, with these 64 bytes of keys: the bytes that it has decrypted are
@@ -38,3 +39,28 @@ held_bytes file = drop (length file - 128) (drop 96 file)
 -- after its first `n` bytes a buffer has those that are held of the file, as they came, and then what it had before
 abbrev pub HasHeldBytesAfter : ℕ → List ℕ → List ℕ → List ℕ → Type 0
 HasHeldBytesAfter n file before after = drop n after ≡ held_bytes file ++ drop (n + length (held_bytes file)) before
+
+-- a decryption reads the next piece of the file, with this result, into a buffer of these bytes before and after it: that gets
+-- the text which the piece releases, and then the bytes that are held, and all but the last 32, with which the final code is
+-- compared, are hashed; or the bytes after the first 96 would reach 2^60 + 32
+pub record DecryptionIsFed {E : Type 0} (piece : List ℕ) (result : Result ℕ E) (old out : List ℕ) (before after : Dec) : Type 0 where
+  pub read : OnOk result ((passphrase file : List ℕ) → DecryptionHasRead before passphrase file
+      → DecryptionHasRead after passphrase (file ++ piece))
+  pub released : IfOk result (λ n. (passphrase file : List ℕ) → DecryptionHasRead before passphrase file
+      → released_text file passphrase ++ take n out ≡ released_text (file ++ piece) passphrase)
+  pub held : IfOk result (λ n. (passphrase file : List ℕ) → DecryptionHasRead before passphrase file
+      → HasHeldBytesAfter n (file ++ piece) old out)
+  pub fits : OnOk result ((passphrase file : List ℕ) → DecryptionHasRead before passphrase file
+      → length file + length piece < 2 ^ 60 + 128)
+  pub hashed : OnOk result ((passphrase file : List ℕ) → DecryptionHasRead before passphrase file
+      → FitsSha256 (take (length file + length piece - 32) (file ++ piece)))
+  pub too_long : OnErr result ((passphrase file : List ℕ) → DecryptionHasRead before passphrase file
+      → 2 ^ 60 + 128 ≤ length file + length piece)
+
+-- with this result the bytes that a decryption has read are, all together, an encryption under the passphrase of the text that
+-- they release; or they are none
+pub record TellsWhetherWhole {A E : Type 0} (dec : Dec) (result : Result A E) : Type 0 where
+  pub whole : OnOk result ((passphrase file : List ℕ) → DecryptionHasRead dec passphrase file
+      → IsEncryptionOf file passphrase (released_text file passphrase))
+  pub damaged : OnErr result ((passphrase file : List ℕ) → DecryptionHasRead dec passphrase file
+      → IsEncryptionOf file passphrase (released_text file passphrase) → ⊥)

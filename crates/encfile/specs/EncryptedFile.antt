@@ -1,10 +1,11 @@
 -- scrypt's encrypted file, version 0 (Tarsnap's FORMAT), as lists of bytes. Offsets are FORMAT's.
 use Rattle.std.specs.Prelude.{◌≡◌, ℕ, ◌+◌, ◌-◌, ◌^◌, ◌<◌, ◌≤◌, List, [], ◌++◌, length, take, drop, nat_le, if◌then◌else◌}
 pub use Rattle.macs.specs.HmacSha256.{hmac_sha256}
-use Rattle.romix.specs.Costs.{IsInRange, Parameters}
+use Rattle.romix.specs.Costs.{IsInRange, Parameters, cores}
 use Rattle.romix.specs.Scrypt.{scrypt}
 use Rattle.romix.specs.Sparse.{sparse_table_core_count}
 use Rattle.romix.specs.SparseCosts.{CostsAndKeep, cores_bound}
+use Rattle.romix.specs.Workspace.{Memory}
 use Rattle.aes_ctr.specs.CounterMode.{counter_mode}
 use Rattle.encfile.specs.Header.{bytes_at, costs_of, header, salt_of}
 
@@ -80,3 +81,11 @@ CountsDerivation passphrase salt sparse before after = after ≡ before + sparse
 -- and by no more than the bound that the costs and S tell before it begins
 abbrev pub CountsWithinBound : CostsAndKeep → ℕ → ℕ → Type 0
 CountsWithinBound sparse before after = after ≤ before + cores_bound sparse
+
+-- the keys are derived once, with these costs, in a workspace that stays as it was; `m` and `n` are the counts of Salsa20/8
+-- cores before and after it, and with S = 1 it takes those of the costs
+pub record DerivesKeys (passphrase salt : List ℕ) (costs : Parameters) (before after : Memory) (m n : ℕ) : Type 0 where
+  pub memory : after ≡ before
+  pub count : CountsDerivation passphrase salt before.sparse m n
+  pub bound : CountsWithinBound before.sparse m n
+  pub whole : before.sparse.keep ≡ 1 → n ≡ m + cores costs

@@ -1,9 +1,9 @@
 -- What contracts see of a running encryption.
-use Rattle.std.specs.Prelude.{◌≡◌, ℕ, ◌+◌, ◌*◌, ◌^◌, ◌<◌, List, ◌++◌, length, take, drop}
+use Rattle.std.specs.Prelude.{◌≡◌, ℕ, ◌+◌, ◌*◌, ◌^◌, ◌<◌, ◌≤◌, List, ◌++◌, length, take, drop, Result, OnOk, OnErr}
 use Rattle.macs.specs.Hmac.{Holds}
 use Rattle.aes_ctr.specs.CounterMode.{counter_mode}
 use Rattle.romix.specs.Costs.{IsInRange, Parameters}
-use Rattle.encfile.specs.EncryptedFile.{derived_key, head}
+use Rattle.encfile.specs.EncryptedFile.{body, derived_key, head}
 use Rattle.encfile.specs.declared.enc.Enc.{Enc}
 
 -- a running encryption with these first 96 bytes and these 64 bytes of keys, which has encrypted this text so far
@@ -23,3 +23,17 @@ pub record HasEncrypted (enc : Enc) (passphrase salt : List ℕ) (costs : Parame
 -- of 64 bits, doesn't wrap (FIPS 180-4, 5.1.1)
 abbrev pub FitsSha256 : List ℕ → Type 0
 FitsSha256 message = 8 * (64 + length message) < 2 ^ 64
+
+-- an encryption takes the next bytes of the text, with this result: it leaves them encrypted, so that the file goes on by them,
+-- and has then encrypted them too; or the text would reach 2^60 bytes
+pub record EncryptionIsFed {A E : Type 0} (bytes : List ℕ) (result : Result A E) (encrypted : List ℕ) (before after : Enc) : Type 0 where
+  pub fed : OnOk result ((passphrase salt : List ℕ) (costs : Parameters) (text : List ℕ) → HasEncrypted before passphrase salt costs text
+      → HasEncrypted after passphrase salt costs (text ++ bytes))
+  pub written : OnOk result ((passphrase salt : List ℕ) (costs : Parameters) (text : List ℕ) → HasEncrypted before passphrase salt costs text
+      → body passphrase salt costs text ++ encrypted ≡ body passphrase salt costs (text ++ bytes))
+  pub fits : OnOk result ((passphrase salt : List ℕ) (costs : Parameters) (text : List ℕ) → HasEncrypted before passphrase salt costs text
+      → length text + length bytes < 2 ^ 60)
+  pub hashed : OnOk result ((passphrase salt : List ℕ) (costs : Parameters) (text : List ℕ) → HasEncrypted before passphrase salt costs text
+      → FitsSha256 (body passphrase salt costs (text ++ bytes)))
+  pub too_long : OnErr result ((passphrase salt : List ℕ) (costs : Parameters) (text : List ℕ) → HasEncrypted before passphrase salt costs text
+      → 2 ^ 60 ≤ length text + length bytes)

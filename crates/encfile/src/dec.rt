@@ -1,14 +1,12 @@
 //! Decryption in pieces.
-ghost use Rattle.std.specs.Prelude.{◌≡◌, ℕ, ◌+◌, ◌-◌, ◌*◌, ◌^◌, ◌<◌, ◌≤◌, ◌++◌, List, [], length, take, drop, IfOk, OnOk, OnErr};
-ghost use Rattle.romix.specs.Costs.{cores};
+ghost use Rattle.std.specs.Prelude.{◌≡◌, ◌+◌, ◌≤◌, [], length, take, drop, IfOk, OnOk, OnErr};
 ghost use Rattle.encfile.specs.Header.{IsHeaderOf};
-ghost use Rattle.encfile.specs.EncryptedFile.{HasRightHeaderHmac, IsEncryptionOf, released_text, CountsDerivation, CountsWithinBound};
-ghost use Rattle.encfile.specs.Encrypting.{FitsSha256};
-ghost use Rattle.encfile.specs.Decrypting.{HasDecryptedWithKeys, DecryptionHasRead, HasHeldBytesAfter};
+ghost use Rattle.encfile.specs.EncryptedFile.{HasRightHeaderHmac, released_text, DerivesKeys};
+ghost use Rattle.encfile.specs.Decrypting.{HasDecryptedWithKeys, DecryptionHasRead, DecryptionIsFed, TellsWhetherWhole};
 
 use crate::fault::{Damaged, TooLong, WrongPassphrase};
 use crate::header::Header;
-use crate::keys::{derived_key, final_hmac, header_hmac, key_stream, start_file_hmac};
+use crate::keys::{derived_key, header_hmac, key_stream, start_file_hmac};
 use crate::tail::Tail;
 use aes_ctr::Ctr;
 use comparison::are_same;
@@ -61,10 +59,8 @@ impl Dec {
         ensures nothing { OnOk result (released_text front.now passphrase.now ≡ []) }
         ensures right { OnOk result (HasRightHeaderHmac front.now passphrase.now) }
         ensures wrong { OnErr result (HasRightHeaderHmac front.now passphrase.now → ⊥) }
-        ensures memory { workspace.new ≡ workspace.old }
-        ensures count { CountsDerivation passphrase.now header.salt workspace.old.sparse ticks.old ticks.new }
-        ensures bound { CountsWithinBound workspace.old.sparse ticks.old ticks.new }
-        ensures whole { workspace.old.sparse.keep ≡ 1 → ticks.new ≡ ticks.old + cores header.costs }
+        ensures derives { DerivesKeys passphrase.now header.salt header.costs workspace.old workspace.new
+            ticks.old ticks.new }
     {
         let keys = derived_key(passphrase, header.salt(), workspace, ticks);
         if !are_same(&front[64..], &header_hmac(&keys, &front[..64])) {
@@ -81,26 +77,9 @@ impl Dec {
     /// refusal `out` and the decryption are as they were.
     pub fn feed(&mut self, piece: &[u8], out: &mut [u8]) -> Result<usize, TooLong>
         requires room { length piece.now + 32 ≤ length out.old }
-        ensures read { OnOk result ((passphrase file : List ℕ) → DecryptionHasRead self.old passphrase file
-            → DecryptionHasRead self.new passphrase (file ++ piece.now)) }
-        ensures released { IfOk result (λ n. (passphrase file : List ℕ)
-            → DecryptionHasRead self.old passphrase file
-            → released_text file passphrase ++ take n out.new
-            ≡ released_text (file ++ piece.now) passphrase) }
-        // then come the bytes that it holds, and then what stood there before
-        ensures held { IfOk result (λ n. (passphrase file : List ℕ)
-            → DecryptionHasRead self.old passphrase file
-            → HasHeldBytesAfter n (file ++ piece.now) out.old out.new) }
+        ensures feeds { DecryptionIsFed piece.now result out.old out.new self.old self.new }
         ensures within { IfOk result (λ n. n ≤ length piece.now) }
         ensures rest { drop (length piece.now + 32) out.new ≡ drop (length piece.now + 32) out.old }
-        ensures fits { OnOk result ((passphrase file : List ℕ) → DecryptionHasRead self.old passphrase file
-            → length file + length piece.now < 2 ^ 60 + 128) }
-        // all but the last 32 bytes, which the final code is compared with
-        ensures hashed { OnOk result ((passphrase file : List ℕ) → DecryptionHasRead self.old passphrase file
-            → FitsSha256 (take (length file + length piece.now - 32) (file ++ piece.now))) }
-        ensures too_long { OnErr result ((passphrase file : List ℕ)
-            → DecryptionHasRead self.old passphrase file
-            → 2 ^ 60 + 128 ≤ length file + length piece.now) }
         ensures unchanged { OnErr result (self.new ≡ self.old) }
         ensures untouched { OnErr result (out.new ≡ out.old) }
     {
@@ -118,13 +97,10 @@ impl Dec {
     /// Whether the bytes that were read are, all together, an encryption under the passphrase of
     /// the text that was released: 32 bytes are held, and they are the HMAC of everything before.
     pub fn finish(self) -> Result<(), Damaged>
-        ensures whole { OnOk result ((passphrase file : List ℕ) → DecryptionHasRead self passphrase file
-            → IsEncryptionOf file passphrase (released_text file passphrase)) }
-        ensures damaged { OnErr result ((passphrase file : List ℕ) → DecryptionHasRead self passphrase file
-            → IsEncryptionOf file passphrase (released_text file passphrase) → ⊥) }
+        ensures tells { TellsWhetherWhole self result }
     {
         let Dec { hmac, held, .. } = self;
-        if held.is(&final_hmac(hmac)) {
+        if held.is(&hmac.finish()) {
             Ok(())
         } else {
             Err(Damaged)

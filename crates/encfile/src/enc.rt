@@ -1,14 +1,14 @@
 //! Encryption in pieces.
-ghost use Rattle.std.specs.Prelude.{◌≡◌, ℕ, ◌+◌, ◌*◌, ◌^◌, ◌<◌, ◌≤◌, ◌++◌, List, [], length, drop, OnOk, OnErr};
+ghost use Rattle.std.specs.Prelude.{◌≡◌, ℕ, ◌++◌, List, [], drop, OnErr};
 ghost use Rattle.macs.specs.HmacSha256.{hmac_sha256};
-ghost use Rattle.romix.specs.Costs.{IsInRange, Parameters, cores};
+ghost use Rattle.romix.specs.Costs.{IsInRange, Parameters};
 ghost use Rattle.encfile.specs.Header.{header};
-ghost use Rattle.encfile.specs.EncryptedFile.{body, encrypted_file, head, CountsDerivation, CountsWithinBound};
-ghost use Rattle.encfile.specs.Encrypting.{HasEncryptedWithKeys, FitsSha256, HasEncrypted};
+ghost use Rattle.encfile.specs.EncryptedFile.{body, encrypted_file, head, DerivesKeys};
+ghost use Rattle.encfile.specs.Encrypting.{HasEncryptedWithKeys, EncryptionIsFed, HasEncrypted};
 
 use crate::fault::TooLong;
 use crate::header_bytes::header;
-use crate::keys::{derived_key, final_hmac, header_hmac, key_stream, start_file_hmac};
+use crate::keys::{derived_key, header_hmac, key_stream, start_file_hmac};
 use aes_ctr::Ctr;
 use macs::Hmac;
 use romix::{Costs, Ticks, Workspace};
@@ -63,10 +63,8 @@ impl Enc {
     ) -> Enc
         requires workspace { workspace.old.sparse.costs ≡ costs.now }
         ensures begun { HasEncrypted result passphrase.now salt.now costs.now [] }
-        ensures memory { workspace.new ≡ workspace.old }
-        ensures count { CountsDerivation passphrase.now salt.now workspace.old.sparse ticks.old ticks.new }
-        ensures bound { CountsWithinBound workspace.old.sparse ticks.old ticks.new }
-        ensures whole { workspace.old.sparse.keep ≡ 1 → ticks.new ≡ ticks.old + cores costs.now }
+        ensures derives { DerivesKeys passphrase.now salt.now costs.now workspace.old workspace.new
+            ticks.old ticks.new }
     {
         let keys = derived_key(passphrase, salt, workspace, ticks);
         Enc::with_keys(head(costs, salt, &keys), &keys)
@@ -88,25 +86,7 @@ impl Enc {
     /// Encrypts the next bytes of the text in place, or refuses them where the text would reach
     /// 2^60 bytes. After a refusal they and the encryption are as they were.
     pub fn feed(&mut self, bytes: &mut [u8]) -> Result<(), TooLong>
-        ensures fed { OnOk result ((passphrase salt : List ℕ) (costs : Parameters) (text : List ℕ)
-            → HasEncrypted self.old passphrase salt costs text
-            → HasEncrypted self.new passphrase salt costs (text ++ bytes.old)) }
-        ensures written { OnOk result (
-            (passphrase salt : List ℕ) (costs : Parameters) (text : List ℕ)
-            → HasEncrypted self.old passphrase salt costs text
-            → body passphrase salt costs text ++ bytes.new
-            ≡ body passphrase salt costs (text ++ bytes.old)) }
-        ensures fits { OnOk result ((passphrase salt : List ℕ) (costs : Parameters) (text : List ℕ)
-            → HasEncrypted self.old passphrase salt costs text
-            → length text + length bytes.old < 2 ^ 60) }
-        ensures hashed { OnOk result (
-            (passphrase salt : List ℕ) (costs : Parameters) (text : List ℕ)
-            → HasEncrypted self.old passphrase salt costs text
-            → FitsSha256 (body passphrase salt costs (text ++ bytes.old))) }
-        ensures too_long { OnErr result (
-            (passphrase salt : List ℕ) (costs : Parameters) (text : List ℕ)
-            → HasEncrypted self.old passphrase salt costs text
-            → 2 ^ 60 ≤ length text + length bytes.old) }
+        ensures feeds { EncryptionIsFed bytes.old result bytes.new self.old self.new }
         ensures unchanged { OnErr result (self.new ≡ self.old) }
         ensures untouched { OnErr result (bytes.new ≡ bytes.old) }
     {
@@ -125,6 +105,6 @@ impl Enc {
             → body passphrase salt costs text ++ result
             ≡ encrypted_file passphrase salt costs text }
     {
-        final_hmac(self.hmac)
+        self.hmac.finish()
     }
 }

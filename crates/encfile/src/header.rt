@@ -2,7 +2,7 @@
 ghost use Rattle.std.specs.Prelude.{◌≡◌, ◌+◌, ◌≤◌, Some, None, take, IfOk, IfErr, OnOk};
 ghost use Rattle.std.specs.Int.{w32, from_be_bytes};
 ghost use Rattle.encfile.specs.Header.{CostsAndSalt, IsHeaderOf, bytes_at, costs_of, has_magic, has_right_checksum, salt_of};
-ghost use Rattle.encfile.specs.HeaderFaults.{header_fault};
+ghost use Rattle.encfile.specs.HeaderFaults.{ReadsHeader, header_fault};
 
 use crate::fault::HeaderFault;
 use crate::header_bytes::checksum;
@@ -85,11 +85,7 @@ impl Header {
     /// Reads the first 64 of the first 96 bytes of a file, which [`Dec::open`](crate::Dec::open)
     /// takes beside the header.
     pub fn of_front(front: &[u8; 96]) -> Result<Header, HeaderFault>
-        ensures costs { IfOk result (λ header. header.costs ≡ costs_of front.now) }
-        ensures salt { IfOk result (λ header. header.salt ≡ salt_of front.now) }
-        ensures header { IfOk result (λ header. IsHeaderOf (take 64 front.now) header) }
-        ensures valid { OnOk result (header_fault front.now ≡ None) }
-        ensures fault { IfErr result (λ fault. header_fault front.now ≡ Some fault) }
+        ensures reads { ReadsHeader front.now (take 64 front.now) result }
     {
         let mut bytes = [0u8; 64];
         bytes.copy_from_slice(&front[..64]);

@@ -1,9 +1,8 @@
 //! What the passphrase gives: 64 bytes, of which the first 32 are the key of AES-256 and the last 32
 //! that of HMAC-SHA-256.
-ghost use Rattle.std.specs.Prelude.{◌≡◌, ◌+◌, ◌*◌, ◌^◌, ℕ, List, take, drop};
+ghost use Rattle.std.specs.Prelude.{◌≡◌, take, drop};
 ghost use Rattle.macs.specs.Hmac.{Holds};
-ghost use Rattle.romix.specs.Costs.{cores};
-ghost use Rattle.encfile.specs.EncryptedFile.{derived_key, hmac_sha256, CountsDerivation, CountsWithinBound};
+ghost use Rattle.encfile.specs.EncryptedFile.{derived_key, hmac_sha256, DerivesKeys};
 
 use aes_ctr::{Aes256, Ctr};
 use macs::Hmac;
@@ -17,10 +16,8 @@ pub(crate) fn derived_key(
     ticks: &mut Ticks,
 ) -> [u8; 64]
     ensures key { result ≡ derived_key passphrase.now salt.now workspace.old.sparse.costs }
-    ensures memory { workspace.new ≡ workspace.old }
-    ensures count { CountsDerivation passphrase.now salt.now workspace.old.sparse ticks.old ticks.new }
-    ensures bound { CountsWithinBound workspace.old.sparse ticks.old ticks.new }
-    ensures whole { workspace.old.sparse.keep ≡ 1 → ticks.new ≡ ticks.old + cores workspace.old.sparse.costs }
+    ensures derives { DerivesKeys passphrase.now salt.now workspace.old.sparse.costs workspace.old workspace.new
+        ticks.old ticks.new }
 {
     let mut keys = [0u8; 64];
     workspace.derive(passphrase, salt, &mut keys, ticks);
@@ -50,12 +47,4 @@ pub(crate) fn header_hmac(keys: &[u8; 64], header: &[u8]) -> [u8; 32]
     ensures code { result ≡ hmac_sha256 (drop 32 keys.now) header.now }
 {
     start_file_hmac(keys, header).finish()
-}
-
-// The last 32 bytes, by the running code of everything before.
-pub(crate) fn final_hmac(running: Hmac) -> [u8; 32]
-    ensures code { (key message : List ℕ) → Holds running key message
-        → result ≡ hmac_sha256 key message }
-{
-    running.finish()
 }

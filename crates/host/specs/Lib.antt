@@ -6,6 +6,7 @@ pub mod CallsGrantedByHost
 pub mod Secret
 pub mod FirstLine
 pub mod Lines
+pub mod Input
 pub mod Output
 pub mod Entries
 pub mod Vectors

@@ -1,9 +1,9 @@
 //! Bytes from a host, and the first line of bytes.
-ghost use Rattle.std.specs.Prelude.{◌≡◌, ◌-◌, ◌<◌, ◌≤◌, ◌^◌, ℕ, true, take, length, IfOk, OnOk, OnErr, IsTrue};
-ghost use Rattle.host.specs.CallsGrantedByHost.{GrantsAllButPullsAsBefore};
-ghost use Rattle.host.specs.Faults.{AreBelow, with_input_failure_counted, CountsFailure, CountsNoFailure};
+ghost use Rattle.std.specs.Prelude.{◌≡◌, ◌-◌, ◌≤◌, ◌^◌, true, take, length, IsTrue};
+ghost use Rattle.host.specs.Faults.{AreBelow};
 ghost use Rattle.host.specs.FirstLine.{first_line, is_line_end};
-ghost use Rattle.host.specs.HostState.{after_pull, FitsWithin};
+ghost use Rattle.host.specs.HostState.{FitsWithin};
+ghost use Rattle.host.specs.Input.{CountsPulls, FillsFromInput};
 
 use crate::host::{Host, HostFault};
 
@@ -13,20 +13,8 @@ pub fn pull_full<H: Host>(host: &mut H, buf: &mut [u8]) -> Result<usize, HostFau
     requires room { AreBelow (2 ^ 64 - 1) (H.faults host.old) }
     requires readable { (H.grants host.old).readable ≡ true }
     ensures bound { FitsWithin result buf.old }
-    ensures counts { CountsNoFailure result (H.faults host.old) (H.faults host.new) }
-    ensures counted { CountsFailure with_input_failure_counted result (H.faults host.old) (H.faults host.new) }
-    ensures within { IsTrue H.tells → FitsWithin result (H.seen host.old).input }
-    ensures bytes { IsTrue H.tells →
-        IfOk result (λ n. take n buf.new ≡ take n (H.seen host.old).input) }
-    ensures whole { IsTrue H.tells →
-        IfOk result (λ n. n < length buf.old → length (H.seen host.old).input ≤ n) }
-    ensures taken { IsTrue H.tells →
-        IfOk result (λ n. H.seen host.new ≡ after_pull n (H.seen host.old)) }
-    ensures cut_off { IsTrue H.tells → OnErr result ((n : ℕ) × (n < length buf.old)
-        × (n ≤ length (H.seen host.old).input)
-        × (H.seen host.new ≡ after_pull n (H.seen host.old))) }
-    ensures granted { IfOk result (λ n. length buf.old ≤ n → H.grants host.new ≡ H.grants host.old) }
-    ensures granted_all_but_pulls { OnOk result (GrantsAllButPullsAsBefore (H.grants host.old) (H.grants host.new)) }
+    ensures fills { IsTrue H.tells → FillsFromInput H.seen result buf.old buf.new host.old host.new }
+    ensures counts { CountsPulls H.faults H.grants buf.old result host.old host.new }
 {
     let mut at = 0;
     while at < buf.len() {

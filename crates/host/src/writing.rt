@@ -1,9 +1,9 @@
 //! Bytes and lines to a host.
-ghost use Rattle.std.specs.Prelude.{◌≡◌, ◌-◌, ◌<◌, ◌^◌, ◌⊎◌, ℕ, true, None, take, length, OnOk, OnErr, IsTrue};
+ghost use Rattle.std.specs.Prelude.{◌≡◌, ◌-◌, ◌^◌, ◌⊎◌, true, None, OnOk, OnErr, IsTrue};
 ghost use Rattle.host.specs.Faults.{AreBelow, with_output_failure_counted, CountsFailure, CountsNoFailure};
 ghost use Rattle.host.specs.Lines.{SaysOneLine};
-ghost use Rattle.host.specs.Output.{IsOutputCutShort, after_writing};
-ghost use Rattle.host.specs.HostState.{after_ask_output, after_push, KeepsOnOk};
+ghost use Rattle.host.specs.Output.{IsOutputCutShort, PushesAll, after_writing};
+ghost use Rattle.host.specs.HostState.{after_ask_output};
 
 use crate::host::{Host, HostFault};
 
@@ -11,13 +11,7 @@ use crate::host::{Host, HostFault};
 pub fn push_all<H: Host>(host: &mut H, bytes: &[u8]) -> Result<(), HostFault>
     requires room { AreBelow (2 ^ 64 - 1) (H.faults host.old) }
     requires writable { (H.grants host.old).writable ≡ true }
-    ensures counts { CountsNoFailure result (H.faults host.old) (H.faults host.new) }
-    ensures counted { CountsFailure with_output_failure_counted result (H.faults host.old) (H.faults host.new) }
-    ensures granted { KeepsOnOk result (H.grants host.old) (H.grants host.new) }
-    ensures put { IsTrue H.tells →
-        OnOk result (H.seen host.new ≡ after_push bytes.now (H.seen host.old)) }
-    ensures begun { IsTrue H.tells → OnErr result ((n : ℕ) × (n < length bytes.now)
-        × (H.seen host.new ≡ after_push (take n bytes.now) (H.seen host.old))) }
+    ensures pushes { PushesAll H.tells H.seen H.faults H.grants bytes.now result host.old host.new }
 {
     let mut at = 0;
     while at < bytes.len() {

@@ -1,7 +1,7 @@
 //! HMAC with SHA-256 (RFC 2104).
-ghost use Rattle.std.specs.Prelude.{◌≡◌, ℕ, ◌++◌, List, []};
+ghost use Rattle.std.specs.Prelude.{◌≡◌, ℕ, List, []};
 ghost use Rattle.macs.specs.HmacSha256.{hmac_sha256, key_block, xored_with_byte};
-ghost use Rattle.macs.specs.Hmac.{Holds};
+ghost use Rattle.macs.specs.Hmac.{AppendsToMessage, Holds};
 
 use sha2::{Digest, Sha256};
 
@@ -66,8 +66,7 @@ impl Hmac {
 
     /// Appends `bytes` to the message.
     pub fn update(&mut self, bytes: &[u8])
-        ensures appended { (key message : List ℕ) → Holds self.old key message
-            → Holds self.new key (message ++ bytes.now) }
+        ensures appended { AppendsToMessage bytes.now self.old self.new }
     {
         self.inner.update(bytes);
     }

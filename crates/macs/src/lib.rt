@@ -12,7 +12,7 @@
 //! pair.update(b"sa");
 //! pair.update(b"lt");
 //! let mut key = [0u8; 64];
-//! pair.finish(&mut key);
+//! pair.write_key(&mut key);
 //! assert_eq!(rt; &key[..4], [0x55, 0xac, 0x04, 0x6e].as_slice());
 //! ```
 #![tactic(auto)]

@@ -1,6 +1,6 @@
 //! PBKDF2 of a salt that is handed in by pieces.
-ghost use Rattle.std.specs.Prelude.{◌≡◌, ℕ, ◌*◌, ◌-◌, ◌^◌, ◌≤◌, ◌++◌, List, [], length};
-ghost use Rattle.macs.specs.KeyPair.{Pbkdf2HasPasswordAndSalt};
+ghost use Rattle.std.specs.Prelude.{◌*◌, ◌-◌, ◌^◌, ◌≤◌, [], length};
+ghost use Rattle.macs.specs.KeyPair.{AppendsToSalt, IsOfPasswordAndSalt, Pbkdf2HasPasswordAndSalt};
 ghost use Rattle.macs.specs.Pbkdf2.{pbkdf2, pbkdf2_block};
 
 use crate::hmac::Hmac;
@@ -28,8 +28,7 @@ impl Pbkdf2Pair {
 
     /// Appends `bytes` to the salt.
     pub fn update(&mut self, bytes: &[u8])
-        ensures appended { (password salt : List ℕ) → Pbkdf2HasPasswordAndSalt self.old password salt
-            → Pbkdf2HasPasswordAndSalt self.new password (salt ++ bytes.now) }
+        ensures appended { AppendsToSalt bytes.now self.old self.new }
     {
         self.salted.update(bytes);
     }
@@ -37,25 +36,15 @@ impl Pbkdf2Pair {
     /// Block `index` of the key (RFC 8018, section 5.2, step 3; blocks are counted from 1), of a
     /// key of any length.
     pub fn block(&self, index: u32) -> [u8; 32]
-        ensures block { (password salt : List ℕ) → Pbkdf2HasPasswordAndSalt self.now password salt
-            → result ≡ pbkdf2_block password salt index }
+        ensures block { IsOfPasswordAndSalt self.now (λ password salt. pbkdf2_block password salt index) result }
     {
         block_from_salted_hmac(&self.salted, index)
-    }
-
-    /// Writes the key of 64 bytes, a pair of blocks.
-    pub fn finish(self, out: &mut [u8; 64])
-        ensures key { (password salt : List ℕ) → Pbkdf2HasPasswordAndSalt self password salt
-            → out.new ≡ pbkdf2 password salt 64 }
-    {
-        self.write_key(out);
     }
 
     /// Writes the key of as many bytes as `out` has, at most 32 * (2^32 - 1).
     pub fn write_key(self, out: &mut [u8])
         requires fits { length out.old ≤ 32 * (2 ^ 32 - 1) }
-        ensures key { (password salt : List ℕ) → Pbkdf2HasPasswordAndSalt self password salt
-            → out.new ≡ pbkdf2 password salt (length out.old) }
+        ensures key { IsOfPasswordAndSalt self (λ password salt. pbkdf2 password salt (length out.old)) out.new }
     {
         write_key(&self.salted, out);
     }

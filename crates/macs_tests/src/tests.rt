@@ -243,7 +243,7 @@ fn keys_of_each_length(rt: HostRuntime) {
 // Whether a pair gives the key's first 64 bytes. The example at the head of the crate has pieces of two.
 fn gives_64_bytes(case: &KeyCase, size: usize) -> bool {
     let mut found = [0u8; 64];
-    pair_in_pieces(case, size).finish(&mut found);
+    pair_in_pieces(case, size).write_key(&mut found);
     case.key.starts_with(&found)
 }
 
@@ -254,7 +254,7 @@ fn example(rt: HostRuntime) {
     pair.update(b"sa");
     pair.update(b"lt");
     let mut key = [0u8; 64];
-    pair.finish(&mut key);
+    pair.write_key(&mut key);
     assert!(rt; key.starts_with(&[0x55, 0xac, 0x04, 0x6e]));
 }
 

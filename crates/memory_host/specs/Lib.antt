@@ -1,3 +1,4 @@
 -- What contracts see of a host in memory.
 pub mod Memory
+pub mod Calls
 pub mod Inside

@@ -91,3 +91,11 @@ with_environment_variable name bytes m = record m { variables = record { name = 
 -- the host in memory with a secret file more
 abbrev pub with_file : Text → List ℕ → Memory → Memory
 with_file name bytes m = record m { files = record { name = name; bytes = bytes } ∷ m.files }
+
+-- the host in memory with these greatest sizes of a pull and of a push
+abbrev pub with_sizes : ℕ → ℕ → Memory → Memory
+with_sizes pull push m = record m { pull_size = pull; push_size = push }
+
+-- the host in memory of which the call of this number is to fail
+abbrev pub with_failing_call : ℕ → Memory → Memory
+with_failing_call call m = record m { failing = call }

@@ -1,16 +1,15 @@
 //! A host in memory.
-ghost use Rattle.std.specs.Prelude.{◌≡◌, ◌-◌, ◌^◌, ◌<◌, ◌≤◌, ◌==◌, ℕ, true, List, take, drop, length, min, map, option_map, Some, IfOk, OnOk, OnErr, string_bytes, bytes_eq, if◌then◌else◌};
+ghost use Rattle.std.specs.Prelude.{◌≡◌, ◌-◌, ◌^◌, ◌<◌, ◌≤◌, ◌==◌, true, take, drop, length, min, map, option_map, IfOk, OnOk, OnErr, string_bytes};
 ghost use Rattle.host.specs.AskedSource.{asked_source, name_bytes};
 ghost use Rattle.host.specs.Faults.{AreBelow, with_input_failure_counted, with_line_failure_counted, with_output_failure_counted};
-ghost use Rattle.host.specs.CallsGrantedByHost.{with_input_opened, with_output_asked, with_output_opened};
-ghost use Rattle.host.specs.Entries.{lookup};
-ghost use Rattle.memory_host.specs.Memory.{Memory, memory_host_state, memory_host_failure_counts, memory_host_grants, new_host_in_memory, with_environment_variable, with_file};
-ghost use Rattle.memory_host.specs.Inside.{next_call_number};
+ghost use Rattle.host.specs.HostState.{FitsWithin, TakesSome};
 ghost use Rattle.host.specs.Secret.{secret_of_source};
-ghost use Rattle.host.specs.HostState.{after_ask_output, after_open_input, after_open_output, after_push, after_say};
+ghost use Rattle.memory_host.specs.Calls.{CountsOwnFailure, FindsLatest, OpensInput, OpensOutput, Pushes, SaysLine};
+ghost use Rattle.memory_host.specs.Memory.{Memory, memory_host_state, memory_host_failure_counts, memory_host_grants, new_host_in_memory, with_environment_variable, with_failing_call, with_file, with_sizes};
+ghost use Rattle.memory_host.specs.Inside.{next_call_number};
 
 use crate::growth_memory::GrowthMemory;
-use crate::named_secret::{NamedSecret, find, prepend_named_secret};
+use crate::named_secret::{NamedSecret, find};
 use host::{AskedSource, GhostName, Host, HostFault, Source};
 use std::alloc::{AllocError, Global};
 use std::marker::Model;
@@ -121,13 +120,12 @@ impl MemoryHost {
     /// Gives the environment variable `name` a value. Where a name is given again, the later bytes count.
     pub fn set_env(&mut self, name: String, bytes: Vec<u8>) -> Result<(), AllocError>
         ensures ok { OnOk result (self.new ≡ with_environment_variable (string_bytes name) bytes.items self.old) }
-        ensures given { OnOk result ((asked : List ℕ) →
-            lookup self.new.variables asked ≡ (if bytes_eq (string_bytes name) asked
-            then Some bytes.items else lookup self.old.variables asked)) }
+        ensures given { OnOk result
+            (FindsLatest (string_bytes name) bytes.items self.old.variables self.new.variables) }
         ensures err { OnErr result (self.new ≡ self.old) }
     {
         let mut growth = self.alloc;
-        prepend_named_secret(&mut growth, &mut self.variables, name, bytes)
+        growth.prepend_entry(&mut self.variables, NamedSecret { name, bytes })
     }
 
     /// Gives an environment variable a value, as [`MemoryHost::set_env`] does, with memory from `growth`.
@@ -141,19 +139,18 @@ impl MemoryHost {
         ensures ok { OnOk result (self.new ≡ with_environment_variable (string_bytes name) bytes.items self.old) }
         ensures err { OnErr result (self.new ≡ self.old) }
     {
-        prepend_named_secret(growth, &mut self.variables, name, bytes)
+        growth.prepend_entry(&mut self.variables, NamedSecret { name, bytes })
     }
 
     /// Gives the secret file `name` its bytes. Where a name is given again, the later bytes count.
     pub fn set_file(&mut self, name: String, bytes: Vec<u8>) -> Result<(), AllocError>
         ensures ok { OnOk result (self.new ≡ with_file (string_bytes name) bytes.items self.old) }
-        ensures given { OnOk result ((asked : List ℕ) →
-            lookup self.new.files asked ≡ (if bytes_eq (string_bytes name) asked
-            then Some bytes.items else lookup self.old.files asked)) }
+        ensures given { OnOk result
+            (FindsLatest (string_bytes name) bytes.items self.old.files self.new.files) }
         ensures err { OnErr result (self.new ≡ self.old) }
     {
         let mut growth = self.alloc;
-        prepend_named_secret(&mut growth, &mut self.files, name, bytes)
+        growth.prepend_entry(&mut self.files, NamedSecret { name, bytes })
     }
 
     /// Gives a secret file its bytes, as [`MemoryHost::set_file`] does, with memory from `growth`. Where
@@ -167,15 +164,14 @@ impl MemoryHost {
         ensures ok { OnOk result (self.new ≡ with_file (string_bytes name) bytes.items self.old) }
         ensures err { OnErr result (self.new ≡ self.old) }
     {
-        prepend_named_secret(growth, &mut self.files, name, bytes)
+        growth.prepend_entry(&mut self.files, NamedSecret { name, bytes })
     }
 
     /// Sets the greatest number of bytes of a pull and of a push, each at least 1.
     pub fn set_sizes(&mut self, pull: usize, push: usize)
         requires pull_some { 0 < pull }
         requires push_some { 0 < push }
-        ensures sizes { self.new ≡
-            (let m = self.old in record m { pull_size = pull; push_size = push }) }
+        ensures sizes { self.new ≡ with_sizes pull push self.old }
     {
         self.pull_size = pull;
         self.push_size = push;
@@ -184,7 +180,7 @@ impl MemoryHost {
     /// Names the call that is to fail, counted from 1 over all calls of the host; 0 is none. The
     /// counter stays at 2^64-1 once it is there.
     pub fn fail_at(&mut self, call: u64)
-        ensures failing { self.new ≡ (let m = self.old in record m { failing = call }) }
+        ensures fails { self.new ≡ with_failing_call call self.old }
     {
         self.failing = call;
     }
@@ -254,13 +250,8 @@ impl MemoryHost {
         name: Option<&str>,
     ) -> Result<(), HostFault>
         requires room { AreBelow (2 ^ 64 - 1) (memory_host_failure_counts self.old) }
-        ensures counts { OnOk result (memory_host_failure_counts self.new ≡ memory_host_failure_counts self.old) }
-        ensures counted { OnErr result (memory_host_failure_counts self.new ≡ with_input_failure_counted (memory_host_failure_counts self.old)) }
-        ensures kept { OnErr result (memory_host_state self.new ≡ memory_host_state self.old) }
-        ensures opened { OnOk result (memory_host_state self.new
-            ≡ after_open_input (option_map (λ n. n.now) name.entry) (memory_host_state self.old)) }
-        ensures granted { OnOk result (memory_host_grants self.new ≡ with_input_opened (memory_host_grants self.old)) }
-        ensures granted_as_before { OnErr result (memory_host_grants self.new ≡ memory_host_grants self.old) }
+        ensures counts { CountsOwnFailure with_input_failure_counted result self.old self.new }
+        ensures opens { OpensInput (option_map (λ n. n.now) name.entry) result self.old self.new }
     {
         if !self.next_call_fails()
             && let Ok(kept) = copy_name(growth, name)
@@ -281,14 +272,8 @@ impl MemoryHost {
         name: Option<&str>,
     ) -> Result<(), HostFault>
         requires room { AreBelow (2 ^ 64 - 1) (memory_host_failure_counts self.old) }
-        ensures counts { OnOk result (memory_host_failure_counts self.new ≡ memory_host_failure_counts self.old) }
-        ensures counted { OnErr result (memory_host_failure_counts self.new ≡ with_output_failure_counted (memory_host_failure_counts self.old)) }
-        ensures asks { OnErr result (memory_host_state self.new
-            ≡ after_ask_output (option_map (λ n. n.now) name.entry) (memory_host_state self.old)) }
-        ensures opened { OnOk result (memory_host_state self.new
-            ≡ after_open_output (option_map (λ n. n.now) name.entry) (memory_host_state self.old)) }
-        ensures granted { OnOk result (memory_host_grants self.new ≡ with_output_opened (memory_host_grants self.old)) }
-        ensures granted_no_other { OnErr result (memory_host_grants self.new ≡ with_output_asked (memory_host_grants self.old)) }
+        ensures counts { CountsOwnFailure with_output_failure_counted result self.old self.new }
+        ensures opens { OpensOutput (option_map (λ n. n.now) name.entry) result self.old self.new }
     {
         self.output_asked = Some(to_ghost_name(name));
         if !self.next_call_fails()
@@ -309,14 +294,10 @@ impl MemoryHost {
         bytes: &[u8],
     ) -> Result<usize, HostFault>
         requires room { AreBelow (2 ^ 64 - 1) (memory_host_failure_counts self.old) }
-        ensures bound { IfOk result (λ n. n ≤ length bytes.now) }
-        ensures progress { IfOk result (λ n. 0 < length bytes.now → 0 < n) }
-        ensures counts { OnOk result (memory_host_failure_counts self.new ≡ memory_host_failure_counts self.old) }
-        ensures counted { OnErr result (memory_host_failure_counts self.new ≡ with_output_failure_counted (memory_host_failure_counts self.old)) }
-        ensures kept { OnErr result (memory_host_state self.new ≡ memory_host_state self.old) }
-        ensures put { IfOk result (λ n. memory_host_state self.new
-            ≡ after_push (take n bytes.now) (memory_host_state self.old)) }
-        ensures granted { memory_host_grants self.new ≡ memory_host_grants self.old }
+        ensures bound { FitsWithin result bytes.now }
+        ensures progress { TakesSome result bytes.now }
+        ensures counts { CountsOwnFailure with_output_failure_counted result self.old self.new }
+        ensures puts { Pushes bytes.now result self.old self.new }
     {
         let n = bytes.len().min(self.push_size);
         if self.next_call_fails() || growth.append(&mut self.output, &bytes[..n]).is_err() {
@@ -334,11 +315,8 @@ impl MemoryHost {
         line: &str,
     ) -> Result<(), HostFault>
         requires room { AreBelow (2 ^ 64 - 1) (memory_host_failure_counts self.old) }
-        ensures counts { OnOk result (memory_host_failure_counts self.new ≡ memory_host_failure_counts self.old) }
-        ensures counted { OnErr result (memory_host_failure_counts self.new ≡ with_line_failure_counted (memory_host_failure_counts self.old)) }
-        ensures kept { OnErr result (memory_host_state self.new ≡ memory_host_state self.old) }
-        ensures said { OnOk result (memory_host_state self.new ≡ after_say line.now (memory_host_state self.old)) }
-        ensures granted { memory_host_grants self.new ≡ memory_host_grants self.old }
+        ensures counts { CountsOwnFailure with_line_failure_counted result self.old self.new }
+        ensures says { SaysLine line.now result self.old self.new }
     {
         if !self.next_call_fails()
             && let Ok(kept) = growth.copy_of(line)

@@ -1,17 +1,15 @@
 //! Secrets under names, the latest first: where a name is given again, the later bytes are found.
-ghost use Rattle.std.specs.Prelude.{◌≡◌, ◌∷◌, OnOk, OnErr, option_map, string_bytes, bytes_eq};
+ghost use Rattle.std.specs.Prelude.{◌≡◌, option_map, string_bytes, bytes_eq};
 ghost use Rattle.host.specs.Entries.{Entry, lookup};
 
-use crate::growth_memory::GrowthMemory;
-use std::alloc::AllocError;
 use std::marker::Model;
 
 /// The bytes of a secret and its name, as a [`MemoryHost`](crate::MemoryHost) keeps it. A source of memory
 /// of one's own passes it on as it is: [`GrowthMemory::prepend_entry`]. Contracts see an `Entry`.
 #[derive(Drop)]
 pub struct NamedSecret {
-    name: String,
-    bytes: Vec<u8>,
+    pub(crate) name: String,
+    pub(crate) bytes: Vec<u8>,
 }
 
 impl Model for NamedSecret {
@@ -32,20 +30,6 @@ impl NamedSecret {
     {
         self.bytes.as_slice()
     }
-}
-
-// Puts a secret before the others, with memory from `growth`.
-pub(crate) fn prepend_named_secret<G: GrowthMemory>(
-    growth: &mut G,
-    entries: &mut Vec<NamedSecret>,
-    name: String,
-    bytes: Vec<u8>,
-) -> Result<(), AllocError>
-    ensures ok { OnOk result (entries.new.items ≡
-        record { name = string_bytes name; bytes = bytes.items } ∷ entries.old.items) }
-    ensures err { OnErr result (entries.new.items ≡ entries.old.items) }
-{
-    growth.prepend_entry(entries, NamedSecret { name, bytes })
 }
 
 // The bytes of the first entry of this name.

@@ -93,12 +93,6 @@ impl Named {
     {
         self.name.as_str() == name
     }
-
-    fn contents(&self) -> &Contents
-        ensures contents { result.now ≡ self.now.bytes }
-    {
-        &self.contents
-    }
 }
 
 /// What stands first under this name.
@@ -108,5 +102,5 @@ pub fn find<'a>(entries: &'a [Named], name: &str) -> Option<&'a Contents>
     entries
         .iter()
         .find(|entry| entry.has_name(name))
-        .map(|entry| entry.contents())
+        .map(|entry| &entry.contents)
 }

@@ -8,4 +8,5 @@ pub mod StreamBox
 pub mod Stream
 pub mod Heap
 pub mod Settings
+pub mod Texts
 pub mod Inside

@@ -1,10 +1,10 @@
 //! Encoded texts of hashes by Argon2.
-ghost use Rattle.std.specs.Prelude.{◌≡◌, ◌+◌, ◌<◌, ◌≤◌, length};
-ghost use Rattle.argon.specs.Inputs.{InputsFitParameters, inputs_of};
-ghost use Rattle.pikhsen_c.specs.Argon2.{RefusesEncoding, encoded_hash, encoded_keyed_hash, encoded_keyed_status, encoded_text_with_zero_tag, hash_to_encoded_status, parameters_of_numbers, work};
-ghost use Rattle.pikhsen_c.specs.Heap.{CountsWorkOnce, EncodesAtMostOnce, RequestsMemoryForTextAndHash};
-ghost use Rattle.pikhsen_c.specs.Inside.Settings.{encoded_text_of, encoding_refusal, parameters_of};
+ghost use Rattle.std.specs.Prelude.{◌≡◌, ◌+◌, ◌<◌, [], length};
+ghost use Rattle.pikhsen_c.specs.Argon2.{RefusesEncoding, parameters_of_numbers, work};
+ghost use Rattle.pikhsen_c.specs.Heap.{CountsWorkOnce, RequestsMemoryForTextAndHash};
+ghost use Rattle.pikhsen_c.specs.Inside.Settings.{HasRoomForTag, encoded_text_of, encoding_refusal, parameters_of};
 ghost use Rattle.pikhsen_c.specs.Message.{IsWrittenAsCString};
+ghost use Rattle.pikhsen_c.specs.Texts.{EncodesHash};
 
 use crate::argon2::{Settings, checked_argon2_params};
 use crate::call_memory::CallMemory;
@@ -22,10 +22,7 @@ fn hash_into(
     tag_len: usize,
     ticks: &mut Ticks,
 )
-    requires tag_len { matrix.old.parameters.tag_len ≡ tag_len }
-    requires short { tag_len ≤ 4096 }
-    requires inputs { InputsFitParameters matrix.old.parameters (inputs_of inputs.now) }
-    requires zeros { text.old.list.items ≡ encoded_text_with_zero_tag matrix.old.parameters inputs.now.salt.now }
+    requires fits { HasRoomForTag text.old.list.items matrix.old.parameters inputs.now tag_len }
     ensures text { text.new.list.items ≡ encoded_text_of matrix.old.parameters inputs.now }
     ensures len { length text.new.list.items ≡ length text.old.list.items }
     ensures count { ticks.new ≡ ticks.old + work matrix.old.parameters }
@@ -109,16 +106,10 @@ pub extern "C" fn pikhsen_argon2_encoded(
     out: &mut [u8],
     text_len: &mut usize,
 ) -> Answer
-    ensures written { result.status ≡ 0 → IsWrittenAsCString (encoded_hash (parameters_of_numbers kind version passes lanes
-        memory_kib tag_len (length salt.now) (length password.now))
-        password.now salt.now) text_len.new out.old out.new }
-    ensures refusal { RefusesEncoding (parameters_of_numbers kind version passes lanes memory_kib
-        tag_len (length salt.now) (length password.now)) salt.now 0 0 max_kib max_ops
-        result.status text_len.new out.old out.new }
-    ensures machine { let parameters = parameters_of_numbers kind version passes lanes memory_kib
-        tag_len (length salt.now) (length password.now) in
-        EncodesAtMostOnce parameters (hash_to_encoded_status parameters salt.now max_kib max_ops (length out.old))
-        result.status machine result.machine }
+    // Memory is asked for, and refused, only where settings, lengths and limits refuse nothing.
+    ensures encodes { EncodesHash (parameters_of_numbers kind version passes lanes memory_kib tag_len
+        (length salt.now) (length password.now)) password.now salt.now [] [] max_kib max_ops
+        result.status text_len.new out.old out.new machine result.machine }
 {
     pikhsen_argon2_encoded_keyed(
         machine,
@@ -159,17 +150,9 @@ pub extern "C" fn pikhsen_argon2_encoded_keyed(
     out: &mut [u8],
     text_len: &mut usize,
 ) -> Answer
-    ensures written { result.status ≡ 0 → IsWrittenAsCString (encoded_keyed_hash (parameters_of_numbers kind version passes lanes
-        memory_kib tag_len (length salt.now) (length password.now))
-        password.now salt.now secret.now associated.now) text_len.new out.old out.new }
-    ensures refusal { RefusesEncoding (parameters_of_numbers kind version passes lanes memory_kib
-        tag_len (length salt.now) (length password.now)) salt.now (length secret.now) (length associated.now) max_kib max_ops
-        result.status text_len.new out.old out.new }
-    ensures machine { let parameters = parameters_of_numbers kind version passes lanes memory_kib
-        tag_len (length salt.now) (length password.now) in
-        EncodesAtMostOnce parameters
-        (encoded_keyed_status parameters salt.now (length secret.now) (length associated.now) max_kib max_ops (length out.old))
-        result.status machine result.machine }
+    ensures encodes { EncodesHash (parameters_of_numbers kind version passes lanes memory_kib tag_len
+        (length salt.now) (length password.now)) password.now salt.now secret.now associated.now max_kib max_ops
+        result.status text_len.new out.old out.new machine result.machine }
 {
     let mut machine = machine;
     let settings = Settings::new(kind, version, passes, memory_kib, lanes, max_kib, max_ops);

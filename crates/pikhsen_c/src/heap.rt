@@ -1,8 +1,9 @@
 //! The heap of the program that calls, as the functions for C have it: contracts see what was asked of it.
-ghost use Rattle.std.specs.Prelude.{◌≡◌, length, IfOk, Some, is_ok, is_some, true};
+ghost use Rattle.std.specs.Prelude.{◌≡◌, length, IfOk, Some, is_ok};
 ghost use Rattle.argon.specs.Range.{IsInRangeWithAnyPassword};
 ghost use Rattle.pikhsen_c.specs.Argon2.{encoded_text_with_zero_tag};
 ghost use Rattle.pikhsen_c.specs.Heap.{after_matrix_request, after_state_request, after_text_request, after_workspace_request, after_reading_request, one_more};
+ghost use Rattle.pikhsen_c.specs.Inside.Stream.{KeepsState};
 ghost use Rattle.pikhsen_c.specs.Stream.{IsOver};
 
 use crate::call_memory::CallMemory;
@@ -64,7 +65,7 @@ impl Heap {
 
     /// What a stream keeps, which does not run any more.
     pub(crate) fn take(&self, stream: &mut PikhsenStream) -> Box<StreamState, Global>
-        requires full { is_some stream.old.kept.value ≡ true }
+        requires full { KeepsState stream.old }
         ensures kept { stream.old.kept.value ≡ Some result.value }
         ensures over { IsOver stream.new }
     {

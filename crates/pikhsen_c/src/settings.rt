@@ -1,11 +1,12 @@
 //! The settings that an encoded text says, and whether a hash is to be made anew.
 ghost use Rattle.std.specs.Prelude.{◌≡◌, ◌≤◌, ◌<◌};
 ghost use Rattle.argon_text.specs.Grammar.{IsEncodedText, IsEncodedTextInRange};
+ghost use Rattle.argon_text.specs.declared.fault.ReadFault.TheVariants.{NotInGrammar, OutOfMemory, OutOfRange};
 ghost use Rattle.argon_text.specs.View.{value_of};
 ghost use Rattle.pikhsen_c.specs.Heap.{ReadsOnce};
-ghost use Rattle.pikhsen_c.specs.Inside.Numbers.{was_memory_granted, had_memory_to_read};
+ghost use Rattle.pikhsen_c.specs.Inside.Numbers.{IsTextOutOfRange, was_memory_granted, had_memory_to_read};
 ghost use Rattle.pikhsen_c.specs.Settings.{HasSettings, ComparesSettings, IsOutOfRange, IsStatusOfReading, c_settings_of_value};
-ghost use Rattle.pikhsen_c.specs.Status.{not_encoded_status, out_of_memory_status, IsUnchangedIfRefused};
+ghost use Rattle.pikhsen_c.specs.Status.{IsUnchangedIfRefused};
 
 use crate::call_memory::CallMemory;
 use crate::machine::Machine;
@@ -68,10 +69,10 @@ fn out_of_range_status(text: &[u8]) -> u32
 
 // The number of why a text is not read.
 fn unreadable_text_status(text: &[u8], fault: ReadFault) -> u32
-    requires outside { fault ≡ ReadFault.OutOfRange → IsEncodedText text.now × (IsEncodedTextInRange text.now → ⊥) }
-    ensures not_in_grammar { result ≡ not_encoded_status → fault ≡ ReadFault.NotInGrammar }
+    requires outside { fault ≡ OutOfRange → IsTextOutOfRange text.now }
+    ensures not_in_grammar { result ≡ 14 → fault ≡ NotInGrammar }
     ensures out_of_range { 31 ≤ result → IsOutOfRange text.now result }
-    ensures memory { result ≡ out_of_memory_status → fault ≡ ReadFault.OutOfMemory }
+    ensures memory { result ≡ 9 → fault ≡ OutOfMemory }
     ensures granted { had_memory_to_read fault ≡ was_memory_granted result }
     ensures low { 9 ≤ result }
     ensures gap { 9 < result → 14 ≤ result }

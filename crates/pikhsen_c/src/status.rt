@@ -1,5 +1,6 @@
 //! The numbers that tell a program in C what came of a call. No number changes its meaning, ever.
 ghost use Rattle.std.specs.Prelude.{◌≡◌, ◌≢◌, ◌≤◌, ◌<◌};
+ghost use Rattle.argon_text.specs.declared.fault.ReadFault.TheVariants.{NotInGrammar, OutOfMemory, OutOfRange};
 ghost use Rattle.pikhsen_c.specs.Status.{cost_fault_status, header_fault_status, param_fault_status, range_fault_status};
 ghost use Rattle.pikhsen_c.specs.Inside.Numbers.{was_memory_granted, had_memory_to_read, read_fault_status, verify_fault_status};
 
@@ -93,9 +94,9 @@ pub(crate) fn verify_fault_status(fault: VerifyFault) -> u32
 pub(crate) fn read_fault_status(fault: ReadFault) -> u32
     ensures number { result ≡ read_fault_status fault }
     ensures memory { had_memory_to_read fault ≡ was_memory_granted result }
-    ensures not_in_grammar { result ≡ 14 → fault ≡ ReadFault.NotInGrammar }
-    ensures out_of_range { result ≡ 15 → fault ≡ ReadFault.OutOfRange }
-    ensures out_of_memory { result ≡ 9 → fault ≡ ReadFault.OutOfMemory }
+    ensures not_in_grammar { result ≡ 14 → fault ≡ NotInGrammar }
+    ensures out_of_range { result ≡ 15 → fault ≡ OutOfRange }
+    ensures out_of_memory { result ≡ 9 → fault ≡ OutOfMemory }
     ensures at_least_9 { 9 ≤ result }
     ensures gap { 9 < result → 14 ≤ result }
     ensures below { result ≤ 15 }

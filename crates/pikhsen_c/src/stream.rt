@@ -1,6 +1,6 @@
 //! A file in pieces: what the caller keeps between calls.
 ghost use Rattle.std.specs.Prelude.{◌≡◌, ◌≢◌, Option, Some, None, is_some, replicate, true};
-ghost use Rattle.pikhsen_c.specs.Inside.StreamState.{is_decryption, is_encryption, kept_state_satisfies};
+ghost use Rattle.pikhsen_c.specs.Inside.StreamState.{MayRun, is_decryption, is_encryption, kept_state_satisfies};
 ghost use Rattle.pikhsen_c.specs.declared.stream.StreamState.{StreamState};
 
 use crate::status::OUT_OF_MEMORY;
@@ -101,10 +101,7 @@ pub struct PikhsenStream {
 impl PikhsenStream {
     /// Lets this run in a stream that keeps nothing, so that no block is lost.
     pub(crate) fn begin(&mut self, runs: u8, boxed: Box<StreamState, Global>)
-        requires empty { self.old.kept.value ≡ None }
-        requires one { runs ≢ 1 → runs ≢ 2 → ⊥ }
-        requires encryption { runs ≡ 1 → is_encryption boxed.value ≡ true }
-        requires decryption { runs ≡ 2 → is_decryption boxed.value ≡ true }
+        requires ok { MayRun self.old.kept.value runs boxed.value }
         ensures runs { self.new.runs ≡ runs }
         ensures kept { self.new.kept.value ≡ Some boxed.value }
     {

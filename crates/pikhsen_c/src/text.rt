@@ -1,7 +1,6 @@
 //! The text of a hash, whose list is not lent.
-ghost use Rattle.std.specs.Prelude.{◌≡◌, length};
-ghost use Rattle.argon_text.specs.EncodedText.{encoded_text};
-ghost use Rattle.argon_text.specs.Value.{Value};
+ghost use Rattle.std.specs.Prelude.{◌≡◌};
+ghost use Rattle.pikhsen_c.specs.Inside.Settings.{PutsTag};
 
 use argon_text::replace_tag;
 
@@ -29,9 +28,7 @@ impl Text {
 
     /// Writes a tag over the tag of the text, of the same length.
     pub(crate) fn put(&mut self, tag: &[u8])
-        ensures text { (v : Value) → self.old.list.items ≡ encoded_text v → length v.tag ≡ length tag.now
-            → self.new.list.items ≡ encoded_text (record v { tag = tag.now }) }
-        ensures len { length self.new.list.items ≡ length self.old.list.items }
+        ensures puts { PutsTag self.old.list.items tag.now self.new.list.items }
     {
         replace_tag(&mut self.list, tag);
     }

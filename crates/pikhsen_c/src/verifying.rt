@@ -1,11 +1,12 @@
 //! The test of a password against an encoded text.
-ghost use Rattle.std.specs.Prelude.{◌≡◌, ◌≢◌, [], length};
+ghost use Rattle.std.specs.Prelude.{◌≡◌, ◌≢◌, []};
 ghost use Rattle.argon_text.specs.Verifying.{parameters_of_value};
 ghost use Rattle.argon_text.specs.View.{encoded_value_of_hash_view};
-ghost use Rattle.pikhsen_c.specs.Argon2.{CountsWorkToVerify, IsVerdict, IsVerifyNumber, work};
-ghost use Rattle.pikhsen_c.specs.Heap.{CountsWorkUnlessEarly, TestsAtMostOnce};
+ghost use Rattle.pikhsen_c.specs.Argon2.{CountsWorkToVerify, IsVerifyNumber, work};
+ghost use Rattle.pikhsen_c.specs.Heap.{CountsWorkUnlessEarly};
 ghost use Rattle.pikhsen_c.specs.Inside.Settings.{IsVerdictOnText, IsVerdictOnValue, RequestsMatrixLast, RequestsReadingAndMatrix};
 ghost use Rattle.pikhsen_c.specs.Status.{long_input_status, mismatch_status};
+ghost use Rattle.pikhsen_c.specs.Texts.{JudgesPassword};
 
 use crate::argon2::HashLimits;
 use crate::call_memory::CallMemory;
@@ -87,11 +88,8 @@ pub extern "C" fn pikhsen_argon2_verify(
     max_kib: u32,
     max_ops: u64,
 ) -> Answer
-    ensures verdict { IsVerdict text.now password.now [] [] max_kib max_ops result.status }
-    // There is no other number.
-    ensures number { IsVerifyNumber result.status }
+    ensures judges { JudgesPassword text.now password.now [] [] max_kib max_ops result.status machine result.machine }
     ensures no_input { result.status ≢ long_input_status }
-    ensures machine { TestsAtMostOnce text.now password.now 0 0 max_kib max_ops result.status machine result.machine }
 {
     pikhsen_argon2_verify_keyed(machine, text, password, &[], &[], max_kib, max_ops)
 }
@@ -109,10 +107,7 @@ pub extern "C" fn pikhsen_argon2_verify_keyed(
     max_kib: u32,
     max_ops: u64,
 ) -> Answer
-    ensures verdict { IsVerdict text.now password.now secret.now associated.now max_kib max_ops result.status }
-    // There is no other number.
-    ensures number { IsVerifyNumber result.status }
-    ensures machine { TestsAtMostOnce text.now password.now (length secret.now) (length associated.now) max_kib max_ops
+    ensures judges { JudgesPassword text.now password.now secret.now associated.now max_kib max_ops
         result.status machine result.machine }
 {
     let mut machine = machine;

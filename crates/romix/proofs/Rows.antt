@@ -1,9 +1,11 @@
 -- The rows of a flat table, the rows that ROMix puts there, and its turns.
-use Rattle.std.proofs.Common.{◌≡◌, ℕ, ◌+◌, ◌-◌, ◌*◌, ◌%◌, ◌^◌, ◌<◌, ◌≤◌, List, ◌∷◌, length, take, drop, slice_index, arith, ap, sym, ◌∙◌, add-one, below_more}
+use Rattle.std.proofs.Common.{◌≡◌, ℕ, ◌+◌, ◌-◌, ◌*◌, ◌%◌, ◌^◌, ◌<◌, ◌≤◌, List, ◌∷◌, length, take, drop, slice_index, arith, ap, sym, subst, ◌∙◌, add-one, below_more}
 use Rattle.std.proofs.lemmas.List.{drop-take, take-take, drop_more}
+use Rattle.std.proofs.lemmas.Slice.{between-put_mid}
 use Rattle.std.proofs.lemmas.Nat.{one_shl, pow-add}
 use Rattle.std.proofs.Math.Nat.{add-mul-mod_self_right, mul-le-mul_left}
 use Rattle.std.specs.Simd.Lanes.{number_l}
+use borrow.Rule.Slice.PartMut.{put_mid}
 use Rattle.four_words.specs.Words.{xored_words}
 use Rattle.romix.specs.BlockMix.{block_mix}
 use Rattle.romix.specs.Romix.{integerify, romix_row_after_turns, row_of_v}
@@ -19,6 +21,13 @@ row_below t u len m k h e =
 -- a row ends where a later one starts, or before
 pub rows_below : (len k i : ℕ) → k < i → len * k + len ≤ len * i
 rows_below len k i h = omega (arith, mul-le-mul_left len (let l : k + 1 ≤ i = omega arith in l))
+
+-- the row that is put in the place of row i
+pub row_put : (t row : List ℕ) (len i k : ℕ) → length row ≡ len → len * i ≤ length t → row_at (put_mid (len * i) k t row) len i ≡ row
+row_put t row len i k long fits =
+    let size : len * i + len - len * i ≡ len = omega arith in
+    subst (λ (n : ℕ). take n (drop (len * i) (put_mid (len * i) k t row)) ≡ row) size
+    (between-put_mid (len * i) k t row (len * i + len) fits (omega arith))
 
 -- the code counts to N / 2, by a shift, with two rows a turn
 pub half_is : (k : ℕ) → 1 ≤ k → k < 64 → 2 * (1 * 2 ^ (k - 1) % 2 ^ 64) ≡ 2 ^ k

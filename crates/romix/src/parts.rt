@@ -1,6 +1,6 @@
 //! The parts of scrypt (RFC 7914, section 6), one at a time: each is made, mixed, and handed on.
-ghost use Rattle.std.specs.Prelude.{◌≡◌, ℕ, ◌+◌, ◌*◌, ◌/◌, ◌%◌, ◌^◌, ◌<◌, ◌≤◌, ◌++◌, List, length};
-ghost use Rattle.macs.specs.KeyPair.{Pbkdf2HasPasswordAndSalt};
+ghost use Rattle.std.specs.Prelude.{◌≡◌, ℕ, ◌+◌, ◌*◌, ◌/◌, ◌%◌, ◌^◌, ◌<◌, ◌≤◌, List, length};
+ghost use Rattle.macs.specs.KeyPair.{AppendsToSalt, Pbkdf2HasPasswordAndSalt};
 ghost use Rattle.macs.specs.Pbkdf2.{pbkdf2};
 ghost use Rattle.romix.specs.Costs.{parts_bytes};
 ghost use Rattle.romix.specs.Scrypt.{parts_after_romix, octets_of, part_at, words_of};
@@ -31,8 +31,7 @@ fn derive_part(salted: &Pbkdf2Pair, k: usize, row: &mut [u32])
 // Appends the octets of the row to the salt of `pair`.
 fn feed(pair: &mut Pbkdf2Pair, row: &[u32])
     requires whole { length row.now % 16 ≡ 0 }
-    ensures fed { (password salt : List ℕ) → Pbkdf2HasPasswordAndSalt pair.old password salt
-        → Pbkdf2HasPasswordAndSalt pair.new password (salt ++ octets_of row.now) }
+    ensures fed { AppendsToSalt (octets_of row.now) pair.old pair.new }
 {
     let mut octets = [0u8; 64];
     for i in 0..row.len() / 16 {

@@ -1,13 +1,12 @@
 //! The table V of ROMix (RFC 7914, section 5): rows of one length, one after another.
-ghost use Rattle.std.specs.Prelude.{◌≡◌, ℕ, ◌+◌, ◌*◌, ◌/◌, ◌%◌, ◌<◌, ◌≤◌, length};
-ghost use Rattle.romix.specs.Inside.Table.{row_at};
+ghost use Rattle.std.specs.Prelude.{◌≡◌, ◌+◌, ◌*◌, ◌/◌, ◌<◌, ◌≤◌, length};
+ghost use Rattle.romix.specs.Inside.Table.{KeepsRow, StoresRow, row_at};
 
 /// Writes a row of `len` words as row `i` of the table.
 pub(crate) fn store_table_row(table: &mut [u32], len: usize, i: usize, row: &[u32])
     requires row { length row.now ≡ len }
     requires room { len * (i + 1) ≤ length table.old }
-    ensures here { row_at table.new len i ≡ row.now }
-    ensures below { (k : ℕ) → k < i → row_at table.new len k ≡ row_at table.old len k }
+    ensures stored { StoresRow len i row.now table.old table.new }
 {
     let at = len * i;
     table[at..at + len].copy_from_slice(row);
@@ -28,9 +27,7 @@ pub(crate) fn load_table_row(table: &[u32], len: usize, i: usize) -> &[u32]
 pub(crate) fn keep_row(table: &mut [u32], keep: usize, i: usize, row: &[u32])
     requires keep { 0 < keep }
     requires room { length row.now * (i / keep + 1) ≤ length table.old }
-    ensures kept { i % keep ≡ 0 → row_at table.new (length row.now) (i / keep) ≡ row.now }
-    ensures below { (k : ℕ) → keep * k < i
-        → row_at table.new (length row.now) k ≡ row_at table.old (length row.now) k }
+    ensures row { KeepsRow keep i row.now table.old table.new }
 {
     if i % keep == 0 {
         store_table_row(table, row.len(), i / keep, row);

@@ -61,7 +61,7 @@ pub fn reserve_from<R: WorkspaceMemory>(
 ) -> Result<Workspace, AllocError>
     requires memory { SparseFitsMemory sparse.now (2 ^ 40) }
     ensures sparse { IfOk result (λ w. w.sparse ≡ sparse.now) }
-    ensures lengths { IfOk result (λ w. HasWorkspaceLengths w) }
+    ensures lengths { IfOk result HasWorkspaceLengths }
     // The table and two rows are asked for, each once, and one row more if not every row is kept.
     ensures two_rows { sparse.now.keep ≡ 1 → OnOk result (source.new ≡ after_table_and_row_requests R.after_words sparse.now source.old 2 true) }
     ensures three_rows { 1 < sparse.now.keep → OnOk result (source.new ≡ after_table_and_row_requests R.after_words sparse.now source.old 3 true) }
@@ -104,7 +104,7 @@ impl Workspace {
     pub fn reserve(alloc: Global, sparse: &Sparse) -> Result<Workspace, AllocError>
         requires memory { SparseFitsMemory sparse.now (2 ^ 40) }
         ensures sparse { IfOk result (λ w. w.sparse ≡ sparse.now) }
-        ensures lengths { IfOk result (λ w. HasWorkspaceLengths w) }
+        ensures lengths { IfOk result HasWorkspaceLengths }
     {
         let mut source = alloc;
         reserve_from(&mut source, sparse)

@@ -1,7 +1,7 @@
 -- What follows from how a run ended, before the line of a refusal is said.
 use Rattle.std.proofs.Common.{◌≡◌, ◌∙◌, ◌⊎◌, ℕ, Bool, List, Result, Ok, Err, IsOk, IsTrue, is_ok, inl, inr, ap, subst, sym}
 use Rattle.host.specs.HostState.{HostState, Text}
-use Rattle.scrypt_request.specs.Refusal.{RaisesNoCount}
+use Rattle.scrypt_request.specs.Refusal.{IsOfNoFailedCall}
 use Rattle.scrypt_request.specs.declared.refusal.ScryptRefusal.{ScryptRefusal}
 use Rattle.scrypt_request.specs.declared.refusal.ScryptRefusal.TheVariants as refusal
 use Rattle.scrypt_command.specs.Inside.Endings.{Ends, EndsAtWords, RunsRequest}
@@ -23,6 +23,10 @@ module _ {A : Type 0} {tells : Bool} {words : List Text} {a : A} {before after :
   runs_all (inl stops) = absurd (let wrong : ⊥ = subst IsDone stops.is tt in wrong)
   runs_all (inr runs) = runs
 
+  -- words that are refused do not come to it
+  pub not_refused : (due : ScryptRefusal) → scrypt_request words ≡ Err due → Ends tells words (Ok a) before after m n → ⊥
+  not_refused due refused ends = subst IsDone (sym (runs_all ends).asked ∙ refused) tt
+
   pub words_taken : Ends tells words (Ok a) before after m n → IsOk (scrypt_request words)
   words_taken ends = ap is_ok (runs_all ends).asked
 
@@ -35,8 +39,8 @@ module _ {A : Type 0} {words : List Text} {r : ScryptRefusal} {before after : Ho
   told : EndsAtWords {A = A} words (Err r) before after m n → RefusesCommandLine r words before after
   told stops = subst (λ q. RefusesCommandLine q words before after) (sym (ap (refusal_or r) stops.is)) stops.refused
 
-  pub raises_no_count : EndsAtWords {A = A} words (Err r) before after m n → RaisesNoCount r
-  raises_no_count stops = subst RaisesNoCount (sym (ap (refusal_or r) stops.is)) stops.counts
+  pub raises_no_count : EndsAtWords {A = A} words (Err r) before after m n → IsOfNoFailedCall r
+  raises_no_count stops = subst IsOfNoFailedCall (sym (ap (refusal_or r) stops.is)) stops.counts
 
   pub is_refused : {tells : Bool} → Ends {A = A} tells words (Err r) before after m n → IsTrue tells → IsRefused r words before after
   is_refused (inl stops) t = inl (told stops)

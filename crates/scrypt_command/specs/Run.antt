@@ -1,5 +1,5 @@
 -- A whole run of scrypt: what stands at its end.
-use Rattle.std.specs.Prelude.{◌≡◌, ◌⊎◌, Bool, List, Ok, Err, IsTrue}
+use Rattle.std.specs.Prelude.{◌≡◌, ◌⊎◌, ℕ, Bool, List, Ok, Err, IsOk, IsTrue}
 use Rattle.host.specs.Faults.{Faults}
 use Rattle.host.specs.Lines.{SaysOneLine}
 pub use Rattle.host.specs.HostState.{HostState, Text}
@@ -52,3 +52,15 @@ pub record ReportsCommandLineRefusal (tells : Bool) (due : ScryptRefusal) (befor
   pub told : ScryptRefusal
   pub fits : IsDueOrOutOfMemory told due
   pub says : SaysOneLine tells (line_of told) before after faults_before faults_after
+
+-- the run ended with this status. Of every host, also one that tells nothing: 0 raises no count, and comes of words that are
+-- accepted alone; words that are refused come to 1, and to the line of that refusal or of memory. With 0 the run did what its
+-- words ask for, and with 1 it said the line of its refusal
+pub record EndsWithStatus (tells : Bool) (words : List Text) (status : ℕ) (before after : HostState) (faults_before faults_after : Faults)
+    : Type 0 where
+  pub counts : status ≡ 0 → faults_after ≡ faults_before
+  pub words_accepted : status ≡ 0 → IsOk (scrypt_request words)
+  pub words_refused : (due : ScryptRefusal) → scrypt_request words ≡ Err due
+      → (status ≡ 1) × ReportsCommandLineRefusal tells due before after faults_before faults_after
+  pub succeeds : IsTrue tells → status ≡ 0 → Succeeds words before after
+  pub refuses : status ≡ 1 → EndsWithRefusal tells words before after faults_before faults_after

@@ -1,11 +1,11 @@
 //! A whole run of `scrypt`.
-ghost use Rattle.std.specs.Prelude.{◌≡◌, ◌≤◌, ◌^◌, Err, IsOk, IsTrue, map, string_bytes};
+ghost use Rattle.std.specs.Prelude.{◌≤◌, ◌^◌, IsTrue, map, string_bytes};
 ghost use Rattle.host.specs.Faults.{AreBelow};
 ghost use Rattle.host.specs.CallsGrantedByHost.{GrantsAllHostCalls};
 ghost use Rattle.host.specs.HostState.{IsUnasked};
 ghost use Rattle.scrypt_request.specs.Refusal.{CountsFault};
 ghost use Rattle.scrypt_command.specs.Inside.Endings.{Ends};
-ghost use Rattle.scrypt_command.specs.Run.{EndsWithRefusal, ReportsCommandLineRefusal, ScryptRefusal, Succeeds, scrypt_request};
+ghost use Rattle.scrypt_command.specs.Run.{EndsWithStatus};
 
 use host::{Host, refuse};
 use romix::Ticks;
@@ -48,16 +48,7 @@ pub fn scrypt<H: Host>(alloc: Global, words: &[String], host: &mut H) -> u8
     requires fresh { IsTrue H.tells → IsUnasked (H.seen host.old) }
     requires granted { GrantsAllHostCalls (H.grants host.old) }
     ensures status { result ≤ 1 }
-    ensures counts { result ≡ 0 → H.faults host.new ≡ H.faults host.old }
-    // of every host, also one that tells nothing
-    ensures words { result ≡ 0 → IsOk (scrypt_request (map string_bytes words.now)) }
-    ensures words_refused { (refusal : ScryptRefusal)
-        → scrypt_request (map string_bytes words.now) ≡ Err refusal
-        → (result ≡ 1) × ReportsCommandLineRefusal H.tells refusal (H.seen host.old) (H.seen host.new)
-        (H.faults host.old) (H.faults host.new) }
-    ensures succeeds { IsTrue H.tells → result ≡ 0 →
-        Succeeds (map string_bytes words.now) (H.seen host.old) (H.seen host.new) }
-    ensures refuses { result ≡ 1 → EndsWithRefusal H.tells (map string_bytes words.now)
+    ensures ends { EndsWithStatus H.tells (map string_bytes words.now) result
         (H.seen host.old) (H.seen host.new) (H.faults host.old) (H.faults host.new) }
 {
     match run_without_report(alloc, words, host, &mut Ticks::new(alloc)) {

@@ -19,8 +19,8 @@ abbrev pub CountsFault : {A : Type 0} → Result A ScryptRefusal → Faults → 
 CountsFault result before after = MatchResult result (λ _. after ≡ before) (λ r. after ≡ faults_after_refusal r before)
 
 -- the refusal is none of a failing host call
-abbrev pub RaisesNoCount : ScryptRefusal → Type 0
-RaisesNoCount r = (f : Faults) → faults_after_refusal r f ≡ f
+abbrev pub IsOfNoFailedCall : ScryptRefusal → Type 0
+IsOfNoFailedCall r = (f : Faults) → faults_after_refusal r f ≡ f
 
 -- whether the refusal may come after a derivation has begun; every other refusal comes before it
 abbrev pub may_follow_work : ScryptRefusal → Bool

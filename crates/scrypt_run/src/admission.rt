@@ -2,7 +2,7 @@
 ghost use Rattle.std.specs.Prelude.{◌≡◌, ◌≤◌, ◌^◌, Some, None, option_map, IfOk, IfErr, OnOk};
 ghost use Rattle.romix.specs.Allowance.{costs_with_allowed_keep};
 ghost use Rattle.encfile.specs.Front.{allowance_refusal};
-ghost use Rattle.scrypt_request.specs.Refusal.{RaisesNoCount};
+ghost use Rattle.scrypt_request.specs.Refusal.{IsOfNoFailedCall};
 ghost use Rattle.scrypt_run.specs.Inside.Steps.{IsNotOutOfMemory, MayPrecedeWork};
 ghost use Rattle.scrypt_run.specs.Refusal.{refusal_of};
 ghost use Rattle.scrypt_request.specs.Request.{HasAllowedLimits, allowance_of, task_view};
@@ -31,7 +31,7 @@ pub(crate) fn admit(costs: &Costs, task: &Task<'_>) -> Result<Admitted, ScryptRe
         (allowance_refusal costs.now (allowance_of (task_view task.now)) ≡ None) }
     ensures refused { IfErr result (λ r. option_map refusal_of
         (allowance_refusal costs.now (allowance_of (task_view task.now))) ≡ Some r) }
-    ensures uncounted { IfErr result RaisesNoCount }
+    ensures uncounted { IfErr result IsOfNoFailedCall }
     ensures early { IfErr result MayPrecedeWork }
     ensures not_out_of_memory { IfErr result IsNotOutOfMemory }
 {

@@ -5,8 +5,7 @@ ghost use Rattle.host.specs.HostState.{after_ask_secret};
 ghost use Rattle.host.specs.Secret.{source_of};
 ghost use Rattle.scrypt_request.specs.Request.{name_view};
 ghost use Rattle.scrypt_run.specs.Inside.Decrypting.{DecryptionEnds, DecryptionHasRead, DecryptionStartRefused, HasReadFrontAlone, IsOpened, ReleaseRefused, released_text_of_header_and_rest};
-ghost use Rattle.scrypt_run.specs.Inside.Steps.{AreBelow, AsksMemoryOnce, AwaitsOutput, CountsFault, CountsNoEarlyWork, CountsOneDerivation, MayFollowWork, WorksOnce};
-ghost use Rattle.scrypt_run.specs.Passphrase.{first_line_of_source};
+ghost use Rattle.scrypt_run.specs.Inside.Steps.{AreBelow, AsksMemoryOnce, AwaitsOutput, CountsFault, CountsNoEarlyWork, CountsOneDerivation, MayFollowWork, WorksOnce, first_line_of_named_source};
 ghost use Rattle.scrypt_run.specs.Steps.{after_pull_and_push};
 
 use crate::admission::Admitted;
@@ -37,11 +36,11 @@ pub(crate) fn open<R: RunMemory, H: Host>(
         H.seen host.new ≡ after_ask_secret (source_of source.entry) (H.seen host.old) }
     ensures begun { IfOk result HasReadFrontAlone }
     ensures opened { IfOk result (IsOpened H.tells
-        (first_line_of_source (source_of source.entry) (H.seen host.old)) front.bytes) }
+        (first_line_of_named_source source.entry (H.seen host.old)) front.bytes) }
     ensures refused { IsTrue H.tells → IfErr result (λ r. DecryptionStartRefused r
-        (first_line_of_source (source_of source.entry) (H.seen host.old)) front.bytes) }
+        (first_line_of_named_source source.entry (H.seen host.old)) front.bytes) }
     ensures work { WorksOnce result (CountsOneDerivation H.tells
-        (first_line_of_source (source_of source.entry) (H.seen host.old)) front.header.salt
+        (first_line_of_named_source source.entry (H.seen host.old)) front.header.salt
         admitted.now.sparse ticks.old ticks.new) ticks.old ticks.new }
     ensures no_work { CountsNoEarlyWork result ticks.old ticks.new }
     ensures memory { AsksMemoryOnce (R.after_workspace memory.old admitted.now.sparse) result

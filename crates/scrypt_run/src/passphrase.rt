@@ -3,8 +3,8 @@ ghost use Rattle.std.specs.Prelude.{◌≡◌, ◌≤◌, ◌^◌, ℕ, List, ta
 ghost use Rattle.host.specs.CallsGrantedByHost.{with_secret_asked};
 ghost use Rattle.host.specs.Secret.{source_of};
 ghost use Rattle.host.specs.HostState.{after_ask_secret};
-ghost use Rattle.scrypt_run.specs.Inside.Steps.{AreBelow, EndsBeforeWork, IsNotOutOfMemory};
-ghost use Rattle.scrypt_run.specs.Passphrase.{HasPassphrase, PassphraseRefused, first_line_of_source};
+ghost use Rattle.scrypt_run.specs.Inside.Steps.{AreBelow, EndsBeforeWork, IsNotOutOfMemory, first_line_of_named_source};
+ghost use Rattle.scrypt_run.specs.Passphrase.{HasPassphrase, PassphraseRefused};
 
 use host::{Host, Source, first_line_length};
 use scrypt_request::ScryptRefusal;
@@ -47,9 +47,9 @@ pub(crate) fn read_passphrase<H: Host>(
     ensures asks { IsTrue H.tells →
         H.seen host.new ≡ after_ask_secret (source_of source.entry) (H.seen host.old) }
     ensures read { IsTrue H.tells → IfOk result
-        (HasPassphrase (first_line_of_source (source_of source.entry) (H.seen host.old))) }
+        (HasPassphrase (first_line_of_named_source source.entry (H.seen host.old))) }
     ensures refused { IsTrue H.tells → IfErr result (λ r.
-        PassphraseRefused r (first_line_of_source (source_of source.entry) (H.seen host.old))) }
+        PassphraseRefused r (first_line_of_named_source source.entry (H.seen host.old))) }
     ensures not_out_of_memory { IfErr result IsNotOutOfMemory }
 {
     let mut buf = [0u8; 2049];

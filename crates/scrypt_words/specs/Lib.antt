@@ -3,3 +3,4 @@ pub mod CommandLine
 pub mod Words
 pub mod Request
 pub mod Vectors
+pub mod Inside

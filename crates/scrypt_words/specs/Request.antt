@@ -1,6 +1,6 @@
 -- What the words of scrypt ask for, or the first refusal that they meet. Each step of a `do` block finds a value or is
 -- refused, so the order of the steps is that of the refusals.
-use Rattle.std.specs.Prelude.{ℕ, ◌+◌, ◌^◌, Bool, true, false, ◌&&◌, ◌||◌, List, [], ◌∷◌, Option, Some, None, Result, Ok, Err, ok_or, is_some, codes, count_by, length, drop, nat_eq, nat_lt, if◌then◌else◌}
+use Rattle.std.specs.Prelude.{◌≡◌, ◌⊎◌, ℕ, ◌+◌, ◌^◌, Bool, true, false, ◌&&◌, ◌||◌, List, [], ◌∷◌, Option, Some, None, Result, Ok, Err, IfOk, IfErr, ok_or, is_some, codes, count_by, length, drop, nat_eq, nat_lt, if◌then◌else◌}
 use Rattle.std.specs.List.{starts_with}
 use Rattle.std.specs.Option.{option_eq, option_map_or}
 use Rattle.std.specs.Result.{result_ok}
@@ -14,9 +14,10 @@ use Rattle.romix.specs.declared.limits.Limits.{Limits}
 use Rattle.host.specs.HostState.{SecretSource, Text, env, file, stdin_once}
 use Rattle.command_words.specs.Answer.{◌>>=◌, map_ok}
 use Rattle.command_words.specs.Number.{number_in, number_of}
-use Rattle.scrypt_request.specs.Request.{Encryption, Request, Task, encrypt, decrypt, inspect}
+use Rattle.scrypt_request.specs.Request.{Encryption, Request, Task, encrypt, decrypt, inspect, scrypt_request_view}
 use Rattle.scrypt_words.specs.Words.{is_set, scrypt_words}
 use Rattle.scrypt_request.specs.declared.refusal.ScryptRefusal.{ScryptRefusal}
+use Rattle.scrypt_request.specs.declared.request.Request.{Request as RequestInCode}
 use Rattle.scrypt_request.specs.declared.refusal.ScryptRefusal.TheVariants as refusal
 
 -- ---- the file, the numbers and the limits: S1
@@ -157,3 +158,8 @@ abbrev pub scrypt_request : List Text → Result Request ScryptRefusal
 scrypt_request words = do
   said ← ok_or (scrypt_words words) refusal.Usage
   request_of_subcommand said.0 said.1
+
+-- with this result the words are read: they ask for this request; or they have this refusal, or it is that of memory
+pub record ReadsWords (words : List Text) (result : Result RequestInCode ScryptRefusal) : Type 0 where
+  pub request : IfOk result (λ asked. scrypt_request words ≡ Ok (scrypt_request_view asked))
+  pub refused : IfErr result (λ told. (scrypt_request words ≡ Err told) ⊎ (told ≡ refusal.OutOfMemory))

@@ -2,7 +2,7 @@
 ghost use Rattle.std.specs.Prelude.{◌≡◌, None, IfErr, MatchOption, is_some, true};
 ghost use Rattle.command_words.specs.Number.{number_of};
 ghost use Rattle.romix.specs.Faults.{cost_fault};
-ghost use Rattle.scrypt_request.specs.Refusal.{RaisesNoCount};
+ghost use Rattle.scrypt_request.specs.Refusal.{IsOfNoFailedCall};
 ghost use Rattle.scrypt_words.specs.Request.{costs_from_words, has_some_but_not_all_costs, number_from_words};
 ghost use Rattle.scrypt_words.specs.Words.{rows_of_arg_matches};
 
@@ -27,7 +27,7 @@ pub fn number_from_words(
     default: u128,
 ) -> Result<u128, ScryptRefusal>
     ensures number { result ≡ number_from_words name.now number_of default (rows_of_arg_matches matches.now) }
-    ensures counts { IfErr result RaisesNoCount }
+    ensures counts { IfErr result IsOfNoFailedCall }
 {
     match argument_value(matches, name) {
         None => Ok(default),
@@ -61,7 +61,7 @@ fn costs_of(numbers: Numbers) -> Option<Costs>
 /// The costs that the words of `enc` give, or 17, 8 and 1 where they give none.
 pub fn costs_from_words(matches: &ArgMatches<'_>) -> Result<Costs, ScryptRefusal>
     ensures costs { result ≡ costs_from_words (rows_of_arg_matches matches.now) }
-    ensures counts { IfErr result RaisesNoCount }
+    ensures counts { IfErr result IsOfNoFailedCall }
 {
     let numbers = Numbers {
         log_n: number_from_words(matches, "logN", 17)?,

@@ -1,10 +1,10 @@
 //! What the words ask for.
-ghost use Rattle.std.specs.Prelude.{◌≡◌, ◌⊎◌, Ok, Err, IfOk, IfErr, MatchOption, map, string_bytes};
+ghost use Rattle.std.specs.Prelude.{◌≡◌, Err, IfOk, IfErr, MatchOption, map, string_bytes};
 ghost use Rattle.clap.specs.Words.{subcommand_rows_of};
 ghost use Rattle.command_words.specs.Answer.{map_ok};
-ghost use Rattle.scrypt_request.specs.Refusal.{RaisesNoCount};
+ghost use Rattle.scrypt_request.specs.Refusal.{IsOfNoFailedCall};
 ghost use Rattle.scrypt_request.specs.Request.{HasAllowedLimits, encryption_view, scrypt_request_view, task_view, RequestHasAllowedLimits};
-ghost use Rattle.scrypt_words.specs.Request.{decryption_from_words, encryption_from_words, request_of_subcommand, scrypt_request};
+ghost use Rattle.scrypt_words.specs.Request.{ReadsWords, decryption_from_words, encryption_from_words, request_of_subcommand};
 ghost use Rattle.scrypt_words.specs.Words.{rows_of_arg_matches};
 
 use crate::costs::{costs_from_words, number_from_words};
@@ -21,7 +21,7 @@ use std::alloc::Global;
 fn encryption_from_words<'a>(matches: &ArgMatches<'a>) -> Result<Encryption<'a>, ScryptRefusal>
     ensures encryption { map_ok encryption_view result ≡ encryption_from_words (rows_of_arg_matches matches.now) }
     ensures allowed { IfOk result (λ asked. HasAllowedLimits (task_view asked.task)) }
-    ensures counts { IfErr result RaisesNoCount }
+    ensures counts { IfErr result IsOfNoFailedCall }
 {
     let infile = required_infile(matches)?;
     let limits = limits_from_words(matches)?;
@@ -44,7 +44,7 @@ fn encryption_from_words<'a>(matches: &ArgMatches<'a>) -> Result<Encryption<'a>,
 fn decryption_from_words<'a>(matches: &ArgMatches<'a>) -> Result<Task<'a>, ScryptRefusal>
     ensures decryption { map_ok task_view result ≡ decryption_from_words (rows_of_arg_matches matches.now) }
     ensures allowed { IfOk result (λ task. HasAllowedLimits (task_view task)) }
-    ensures counts { IfErr result RaisesNoCount }
+    ensures counts { IfErr result IsOfNoFailedCall }
 {
     let infile = required_infile(matches)?;
     let limits = limits_from_words(matches)?;
@@ -67,7 +67,7 @@ fn request_of_subcommand<'a>(
 ) -> Result<Request<'a>, ScryptRefusal>
     ensures request { map_ok scrypt_request_view result ≡ request_of_subcommand name.now (rows_of_arg_matches matches.now) }
     ensures allowed { IfOk result RequestHasAllowedLimits }
-    ensures counts { IfErr result RaisesNoCount }
+    ensures counts { IfErr result IsOfNoFailedCall }
 {
     match name {
         "enc" => match encryption_from_words(matches) {
@@ -88,7 +88,7 @@ fn request_from_matches<'a>(matches: &ArgMatches<'a>) -> Result<Request<'a>, Scr
     ensures request { MatchOption (subcommand_rows_of matches.now) (result ≡ Err ScryptRefusal.Usage)
         (λ said. map_ok scrypt_request_view result ≡ request_of_subcommand said.0 said.1) }
     ensures allowed { IfOk result RequestHasAllowedLimits }
-    ensures counts { IfErr result RaisesNoCount }
+    ensures counts { IfErr result IsOfNoFailedCall }
 {
     let (name, inner) = matches.subcommand().ok_or(ScryptRefusal::Usage)?;
     request_of_subcommand(name, inner)
@@ -97,12 +97,9 @@ fn request_from_matches<'a>(matches: &ArgMatches<'a>) -> Result<Request<'a>, Scr
 /// Reads the words after the program's name: what they ask for, or the first refusal that they meet.
 /// `OutOfMemory` is answered where `clap` is refused a growth of memory.
 pub fn read_request<'a>(alloc: Global, words: &'a [String]) -> Result<Request<'a>, ScryptRefusal>
-    ensures request { IfOk result (λ request.
-        scrypt_request (map string_bytes words.entry.now) ≡ Ok (scrypt_request_view request)) }
-    ensures refused { IfErr result (λ refusal.
-        (scrypt_request (map string_bytes words.entry.now) ≡ Err refusal) ⊎ (refusal ≡ ScryptRefusal.OutOfMemory)) }
+    ensures reads { ReadsWords (map string_bytes words.entry.now) result }
     ensures allowed { IfOk result RequestHasAllowedLimits }
-    ensures counts { IfErr result RaisesNoCount }
+    ensures counts { IfErr result IsOfNoFailedCall }
 {
     let matches = arg_matches_from_words(alloc, words)?;
     request_from_matches(&matches)

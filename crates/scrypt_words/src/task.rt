@@ -6,7 +6,7 @@ ghost use Rattle.command_words.specs.Answer.{map_ok};
 ghost use Rattle.command_words.specs.Number.{number_in};
 ghost use Rattle.host.specs.Secret.{source_of};
 ghost use Rattle.romix.specs.SparseCosts.{is_valid_keep};
-ghost use Rattle.scrypt_request.specs.Refusal.{RaisesNoCount};
+ghost use Rattle.scrypt_request.specs.Refusal.{IsOfNoFailedCall};
 ghost use Rattle.scrypt_request.specs.Request.{name_view};
 ghost use Rattle.scrypt_words.specs.Request.{required_infile, infile_named, checked_keep, limits_from_words, number_from_words, one_source, source_from_words, source_named, wants_stdin};
 ghost use Rattle.scrypt_words.specs.Words.{is_set, rows_of_arg_matches};
@@ -22,7 +22,7 @@ use scrypt_request::ScryptRefusal;
 /// The word for the input, which has to be there.
 pub fn required_infile<'a>(matches: &ArgMatches<'a>) -> Result<&'a str, ScryptRefusal>
     ensures infile { map_ok (λ word. word.now) result ≡ required_infile (rows_of_arg_matches matches.now) }
-    ensures counts { IfErr result RaisesNoCount }
+    ensures counts { IfErr result IsOfNoFailedCall }
 {
     argument_value(matches, "infile").ok_or(ScryptRefusal::Usage)
 }
@@ -50,7 +50,7 @@ fn limit_from_words(
     requires within { default < end }
     ensures limit { result ≡ number_from_words name.now (number_in 1 end) default (rows_of_arg_matches matches.now) }
     ensures below { IfOk result (λ n. n < end) }
-    ensures counts { IfErr result RaisesNoCount }
+    ensures counts { IfErr result IsOfNoFailedCall }
 {
     match argument_value(matches, name) {
         None => Ok(default),
@@ -62,7 +62,7 @@ fn limit_from_words(
 pub fn limits_from_words(matches: &ArgMatches<'_>) -> Result<Limits, ScryptRefusal>
     ensures limits { result ≡ limits_from_words (rows_of_arg_matches matches.now) }
     ensures allowed { IfOk result (λ limits. limits.max_bytes ≤ 2 ^ 40) }
-    ensures counts { IfErr result RaisesNoCount }
+    ensures counts { IfErr result IsOfNoFailedCall }
 {
     Ok(Limits {
         max_bytes: limit_from_words(matches, "M", MAX_BYTES_RANGE_END, 1 << 32)?,
@@ -85,7 +85,7 @@ fn is_valid_keep(number: u128) -> bool
 pub fn checked_keep(number: u128) -> Result<u64, ScryptRefusal>
     ensures keep { result ≡ checked_keep number }
     ensures power { IfOk result (λ keep. is_valid_keep keep ≡ true) }
-    ensures counts { IfErr result RaisesNoCount }
+    ensures counts { IfErr result IsOfNoFailedCall }
 {
     if !is_valid_keep(number) {
         return Err(ScryptRefusal::KeepOutOfRange);
@@ -154,7 +154,7 @@ pub fn source_from_words<'a>(
     infile: &str,
 ) -> Result<Source<'a>, ScryptRefusal>
     ensures source { map_ok source_of result ≡ source_from_words infile.now (rows_of_arg_matches matches.now) }
-    ensures counts { IfErr result RaisesNoCount }
+    ensures counts { IfErr result IsOfNoFailedCall }
 {
     if infile == "-" && wants_stdin(matches) {
         return Err(ScryptRefusal::StandardInputTwice);

@@ -1,7 +1,7 @@
 //! The words of `scrypt`, read by `clap`.
 ghost use Rattle.std.specs.Prelude.{◌≡◌, ◌≢◌, ◌⊎◌, None, IfErr, IfOk, map, string_bytes};
 ghost use Rattle.clap.specs.Words.{first_of as argument_value, kind_of, subcommand_rows_of};
-ghost use Rattle.scrypt_request.specs.Refusal.{RaisesNoCount};
+ghost use Rattle.scrypt_request.specs.Refusal.{IsOfNoFailedCall};
 ghost use Rattle.scrypt_request.specs.Request.{name_view};
 ghost use Rattle.scrypt_words.specs.Words.{is_set, rows_of_arg_matches, scrypt_words};
 
@@ -33,7 +33,7 @@ fn refusal_for(error: &Error) -> ScryptRefusal
     ensures usage { (result ≡ ScryptRefusal.OutOfMemory) ⊎
         ((result ≡ ScryptRefusal.Usage) × (kind_of error.now ≢ ErrorKind.OutOfMemory)) }
     ensures memory { result ≡ ScryptRefusal.OutOfMemory → kind_of error.now ≡ ErrorKind.OutOfMemory }
-    ensures counts { RaisesNoCount result }
+    ensures counts { IsOfNoFailedCall result }
 {
     if error.kind() == ErrorKind::OutOfMemory {
         ScryptRefusal::OutOfMemory
@@ -52,7 +52,7 @@ pub fn arg_matches_from_words<'a>(
         scrypt_words (map string_bytes words.entry.now) ≡ subcommand_rows_of matches) }
     ensures refused { IfErr result (λ refusal. (refusal ≡ ScryptRefusal.OutOfMemory)
         ⊎ ((refusal ≡ ScryptRefusal.Usage) × (scrypt_words (map string_bytes words.entry.now) ≡ None))) }
-    ensures counts { IfErr result RaisesNoCount }
+    ensures counts { IfErr result IsOfNoFailedCall }
 {
     let Ok(command) = build_scrypt_command(alloc) else {
         return Err(ScryptRefusal::OutOfMemory);

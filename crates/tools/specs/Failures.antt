@@ -1,5 +1,5 @@
 -- How often the calls of a system have failed, and whether the faults of a run are such failures.
-use Rattle.std.specs.Prelude.{◌≡◌, ◌≤◌, ◌==◌, ℕ, ◌+◌, None, if◌then◌else◌}
+use Rattle.std.specs.Prelude.{◌≡◌, ◌≤◌, ◌==◌, ℕ, ◌+◌, None, Result, OnErr, OnOk, if◌then◌else◌}
 use Rattle.host.specs.Faults.{Faults, with_input_failure_counted, with_line_failure_counted, with_output_failure_counted, with_salt_failure_counted, with_secret_failure_counted}
 use Rattle.tools.specs.SystemState.{Files, IsOutputSeparate, SystemState}
 use Rattle.tools.specs.declared.system.Reading.{Reading}
@@ -36,6 +36,11 @@ with_file_failure_counted stream.Input f = with_output_failure_counted (with_lin
 with_file_failure_counted stream.Secret f = with_output_failure_counted (with_line_failure_counted f)
 with_file_failure_counted stream.Output f = with_output_failure_counted f
 with_file_failure_counted stream.Error f = with_line_failure_counted f
+
+-- a call with this outcome, and a count before and after it: it is one more after a fault
+pub record AddsFault {A E : Type 0} (outcome : Result A E) (before after : ℕ) : Type 0 where
+  pub ok : OnOk outcome (after ≡ before)
+  pub err : OnErr outcome (after ≡ before + 1)
 
 -- no kind of call has failed less often than before
 pub record AreNoFewer (before after : Faults) : Type 0 where

@@ -4,4 +4,5 @@ pub mod Words
 pub mod SystemState
 pub mod Failures
 pub mod RunState
+pub mod Streams
 pub mod Steps

@@ -1,12 +1,12 @@
--- What each call of a run does: what its host becomes, and that the run has not gone back.
+-- What each call of a run does: what its host becomes, and that the run has not gone back; and how it begins and ends.
 use Rattle.std.specs.Prelude.{◌≡◌, ◌<◌, Bool, true, false, ℕ, List, [], Option, None, Result, length, take, IfOk, OnErr, OnOk, IsTrue}
-use Rattle.host.specs.CallsGrantedByHost.{GrantsAllButPullsAsBefore, with_input_opened, with_output_asked, with_output_opened, with_salt_asked, with_secret_asked}
-use Rattle.host.specs.Faults.{Faults}
-use Rattle.host.specs.HostState.{FitsWithin, KeepsOnErr, SecretSource, Text, after_ask_output, after_ask_secret, after_open_input, after_open_output, after_pull, after_push, after_salt, after_say, env}
+use Rattle.host.specs.CallsGrantedByHost.{CallsGrantedByHost, GrantsAllButPullsAsBefore, nothing_asked, with_input_opened, with_output_asked, with_output_opened, with_salt_asked, with_secret_asked}
+use Rattle.host.specs.Faults.{Faults, no_faults, with_output_failure_counted}
+use Rattle.host.specs.HostState.{FitsWithin, HostState, KeepsOnErr, SecretSource, Text, after_ask_output, after_ask_secret, after_open_input, after_open_output, after_pull, after_push, after_salt, after_say}
 use Rattle.host.specs.Secret.{IsBeginning, secret_bytes_in_host}
-use Rattle.tools.specs.Failures.{read_failure_count}
-use Rattle.tools.specs.RunState.{GoesOn, RunState, host_seen, rest_of_secret_stream}
-use Rattle.tools.specs.SystemState.{Files, MayAskForLine, SystemState, after_line}
+use Rattle.tools.specs.Failures.{AreFaultsOfHost, read_failure_count}
+use Rattle.tools.specs.RunState.{EndsWithLine, GoesOn, Leaves, RunState, host_over, host_seen}
+use Rattle.tools.specs.SystemState.{Files, IsLineAskedUnlessReading, IsOutputSynced, IsOutputUnsynced, MayAskForLine, SystemState, after_line}
 use Rattle.tools.specs.declared.system.Reading.{Reading}
 
 -- a call that is not to say a line: it leaves whether that was tried, and the run goes on
@@ -58,11 +58,6 @@ pub record AsksSecret {E : Type 0} (tells : Bool) (source : SecretSource) (resul
   pub granted : after.grants ≡ with_secret_asked before.grants
   pub on : GoesOnWithoutLine tells before after
 
--- of a secret source so many bytes were taken as were given, and for a variable nothing of the system has changed
-pub record TakesNoMoreOfSecret {E : Type 0} (source : SecretSource) (result : Result ℕ E) (before after : SystemState) : Type 0 where
-  pub left : IfOk result (λ n. after.secret.left ≡ rest_of_secret_stream source n before)
-  pub variable : (name : Text) → source ≡ env name → after ≡ before
-
 -- a salt is asked for, whatever comes of it; where it is given, it is that of the host
 pub record AsksSalt {A E : Type 0} (tells : Bool) (result : Result A E) (salt : List ℕ) (before after : RunState) : Type 0 where
   pub salts : IsTrue tells → host_seen after ≡ after_salt (host_seen before)
@@ -93,10 +88,38 @@ abbrev pub FailsInUseByOutput : {A E : Type 0} → Result A E → RunState → R
 FailsInUseByOutput result before after = before.grants.writable ≡ true → before.state.sync_asked ≡ false
     → OnErr result (before.failures.output < after.failures.output)
 
--- ---- the end of a run
+-- ---- the begin and the end of a run
+
+-- a host over a system of which nothing was used: nothing was asked of it, and nothing has failed
+pub record IsNewHost (w : SystemState) (host : HostState) (faults : Faults) (grants : CallsGrantedByHost) : Type 0 where
+  pub counts : faults ≡ no_faults
+  pub seen : host ≡ host_over w
+  pub granted : grants ≡ nothing_asked
 
 -- what is seen of a system is what was seen of this run's
-pub record IsSystemOf (run : RunState) (state : SystemState) (failures : Faults) (files : Files) : Type 0 where
-  pub same : state ≡ run.state
-  pub same_failures : failures ≡ run.failures
-  pub same_files : files ≡ run.system_files
+pub record IsSystemOf {System : Type 0} (state : System → SystemState) (failures : System → Faults) (files : System → Files) (run : RunState) (system : System) : Type 0 where
+  pub same : state system ≡ run.state
+  pub same_failures : failures system ≡ run.failures
+  pub same_files : files system ≡ run.system_files
+
+-- a run over a host that was seen like this, with these faults, is over: so its system is left, of which `left` was
+-- seen; what it counted are these faults, and they are no more than failures of the system. Where a line could not be
+-- said, the system was asked for it unless something was opened to be read
+pub record EndsRun {System : Type 0} (tells : Bool) (state : System → SystemState) (failures : System → Faults) (files : System → Files) (left : SystemState) (host : HostState) (faults : Faults) (after : System) (counted : Faults) : Type 0 where
+  pub counts : counted ≡ faults
+  pub same : state after ≡ left
+  pub leaves : IsTrue tells → Leaves (state after) host
+  pub asks : IsTrue tells → 0 < counted.lines → IsLineAskedUnlessReading (state after)
+  pub fails : IsTrue tells → AreFaultsOfHost counted (failures after) (state after) (files after)
+
+-- a run over such a host is over, and its output was brought to the disk, or need not be: so the system is left, and
+-- nothing more has failed
+pub record EndsSynced (tells : Bool) (host : HostState) (faults : Faults) (after : SystemState) (counted : Faults) : Type 0 where
+  pub counts : counted ≡ faults
+  pub leaves : IsTrue tells → Leaves after host
+  pub output_synced : IsTrue tells → IsOutputSynced after
+
+-- it is over, and its output could not be brought to the disk: the output has failed once more, and this line is said
+pub record EndsUnsynced (tells : Bool) (line : Text) (host : HostState) (faults : Faults) (is_writable : Bool) (after : SystemState) (counted : Faults) : Type 0 where
+  pub says : EndsWithLine tells line host (with_output_failure_counted faults) after counted
+  pub output_unsynced : IsTrue tells → is_writable ≡ true → IsOutputUnsynced after

@@ -1,6 +1,7 @@
 //! How often the calls of a run have failed.
-ghost use Rattle.std.specs.Prelude.{◌≡◌, ◌+◌, ◌-◌, ◌<◌, ◌^◌, OnOk, OnErr};
+ghost use Rattle.std.specs.Prelude.{◌≡◌, ◌-◌, ◌<◌, ◌^◌};
 ghost use Rattle.host.specs.Faults.{no_faults};
+ghost use Rattle.tools.specs.Failures.{AddsFault};
 
 use host::HostFault;
 use std::marker::{Model, PhantomData};
@@ -55,8 +56,7 @@ impl<S> RunFailureCounts<S> {
 pub fn counted<T>(count: &mut u64, outcome: Result<T, HostFault>) -> Result<T, HostFault>
     requires room { count.old < 2 ^ 64 - 1 }
     ensures same { result ≡ outcome }
-    ensures ok { OnOk outcome (count.new ≡ count.old) }
-    ensures err { OnErr outcome (count.new ≡ count.old + 1) }
+    ensures count { AddsFault outcome count.old count.new }
 {
     if outcome.is_err() {
         *count += 1;

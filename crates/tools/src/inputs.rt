@@ -1,10 +1,9 @@
 //! What is read from its beginning: secrets and salts.
-ghost use Rattle.std.specs.Prelude.{◌≡◌, ◌<◌, ℕ, List, IfOk, OnOk, OnErr, IsTrue, Some, codes};
-ghost use Rattle.host.specs.Secret.{IsBeginning, source_of};
-ghost use Rattle.host.specs.HostState.{env, FitsWithin};
-ghost use Rattle.tools.specs.Failures.{AreNoFewer};
-ghost use Rattle.tools.specs.RunState.{name_opened_for_secret, random_salt_of, secret_bytes_in_system, rest_of_secret_stream};
-ghost use Rattle.tools.specs.SystemState.{LeavesAllBut, OpensNoOther, IsBeforeOutput, IsNotYetOpened};
+ghost use Rattle.std.specs.Prelude.{IsTrue};
+ghost use Rattle.host.specs.Secret.{source_of};
+ghost use Rattle.host.specs.HostState.{FitsWithin};
+ghost use Rattle.tools.specs.Streams.{FailsByRead, ReadsSalt, ReadsSecret};
+ghost use Rattle.tools.specs.SystemState.{LeavesAllBut, IsBeforeOutput, IsNotYetOpened};
 ghost use Rattle.tools.specs.declared.system.Reading.TheVariants as reading;
 
 use crate::streams::read_full;
@@ -27,17 +26,9 @@ pub fn read_secret<S: System>(
     ensures bound { FitsWithin result buf.old }
     ensures kept { IsTrue S.tells →
         LeavesAllBut reading.Secret (S.state system.old) (S.state system.new) }
-    ensures bytes { IsTrue S.tells → IfOk result (λ n.
-        IsBeginning (secret_bytes_in_system (S.state system.old) (source_of source.entry)) n buf.new) }
-    ensures left { IsTrue S.tells → IfOk result (λ n. (S.state system.new).secret.left
-        ≡ rest_of_secret_stream (source_of source.entry) n (S.state system.old)) }
-    ensures no_other { IsTrue S.tells →
-        OpensNoOther (name_opened_for_secret (Some (source_of source.entry))) (S.state system.new).secret }
-    ensures variable { (name : List ℕ) → source_of source.entry ≡ env name → IsTrue S.tells →
-        S.state system.new ≡ S.state system.old }
-    ensures no_fewer { IsTrue S.tells → AreNoFewer (S.failures system.old) (S.failures system.new) }
-    ensures failed { IsTrue S.tells → OnErr result
-        ((S.failures system.old).secrets < (S.failures system.new).secrets) }
+    ensures reads { IsTrue S.tells →
+        ReadsSecret (source_of source.entry) result buf.new (S.state system.old) (S.state system.new) }
+    ensures failures { IsTrue S.tells → FailsByRead S.failures reading.Secret result system.old system.new }
 {
     match source {
         Source::StdinOnce => {
@@ -59,14 +50,9 @@ pub fn read_secret<S: System>(
 pub fn read_salt<S: System>(system: &mut S, out: &mut [u8; 32]) -> Result<(), HostFault>
     requires once { IsTrue S.tells → IsNotYetOpened reading.Random (S.state system.old) }
     requires early { IsTrue S.tells → IsBeforeOutput (S.state system.old) }
-    ensures kept { IsTrue S.tells →
-        LeavesAllBut reading.Random (S.state system.old) (S.state system.new) }
-    ensures random { IsTrue S.tells → OnOk result (out.new ≡ random_salt_of (S.state system.old)) }
-    ensures no_other { IsTrue S.tells →
-        OpensNoOther (Some (Some (codes "/dev/urandom"))) (S.state system.new).random }
-    ensures no_fewer { IsTrue S.tells → AreNoFewer (S.failures system.old) (S.failures system.new) }
-    ensures failed { IsTrue S.tells → OnErr result
-        ((S.failures system.old).salt < (S.failures system.new).salt) }
+    ensures reads { IsTrue S.tells →
+        ReadsSalt result out.new (S.state system.old) (S.state system.new) }
+    ensures failures { IsTrue S.tells → FailsByRead S.failures reading.Random result system.old system.new }
 {
     system.open(Reading::Random, Some("/dev/urandom"))?;
     if read_full(system, Reading::Random, out)? == out.len() {

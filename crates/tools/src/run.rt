@@ -5,7 +5,8 @@ ghost use Rattle.host.specs.Secret.{source_of};
 ghost use Rattle.host.specs.HostState.{FitsWithin, KeepsOnErr, TakesSome};
 ghost use Rattle.tools.specs.Failures.{AreNoFewer};
 ghost use Rattle.tools.specs.RunState.{Leaves, host_seen};
-ghost use Rattle.tools.specs.Steps.{AsksSalt, AsksSecret, FailsEarlyByRead, FailsInUseByOutput, IsSystemOf, OpensInput, OpensOutput, Pulls, Pushes, SaysLine, TakesNoMoreOfSecret};
+ghost use Rattle.tools.specs.Steps.{AsksSalt, AsksSecret, FailsEarlyByRead, FailsInUseByOutput, IsSystemOf, OpensInput, OpensOutput, Pulls, Pushes, SaysLine};
+ghost use Rattle.tools.specs.Streams.{TakesNoMoreOfSecret};
 ghost use Rattle.tools.specs.SystemState.{HasSeparateErrorStream, IsLineAskedUnlessReading, IsOutputSeparate, IsOutputSynced, IsOutputUnsynced, IsUnused};
 ghost use Rattle.tools.specs.declared.system.Reading.TheVariants as reading;
 
@@ -112,16 +113,9 @@ impl<S: System> Run<S> {
         }
     }
 
-    /// The system.
-    pub fn system(&self) -> &S
-        ensures same { S.state result.now ≡ self.now.state }
-    {
-        &self.system
-    }
-
     /// The system, as the run left it, at the end of the run.
     pub fn into_system(self) -> S
-        ensures same { IsSystemOf self (S.state result) (S.failures result) (S.files result) }
+        ensures same { IsSystemOf S.state S.failures S.files self result }
         ensures leaves { IsTrue S.tells → Leaves (S.state result) (host_seen self) }
         ensures asks { IsTrue S.tells → self.told ≡ true → IsLineAskedUnlessReading (S.state result) }
     {

@@ -1,10 +1,8 @@
 //! Reading and writing what signals may interrupt.
-ghost use Rattle.std.specs.Prelude.{◌≡◌, ◌+◌, ◌<◌, ◌≤◌, ℕ, Some, true, drop, take, length, IfOk, OnErr, IsTrue};
-ghost use Rattle.host.specs.Secret.{IsBeginning};
-ghost use Rattle.host.specs.HostState.{FitsWithin, KeepsOnErr, TakesSome};
-ghost use Rattle.tools.specs.Failures.{AreNoFewer, read_failure_count};
-ghost use Rattle.tools.specs.SystemState.{IsOutputSeparate, Reads, TakesFrom, after_write, state_of_read_stream, IsBeforeSync, ReadStreamHasNotEnded};
-ghost use Rattle.tools.specs.declared.system.Reading.TheVariants as source;
+ghost use Rattle.std.specs.Prelude.{◌≡◌, ◌+◌, ◌<◌, ◌≤◌, true, length, IsTrue};
+ghost use Rattle.host.specs.HostState.{FitsWithin, TakesSome};
+ghost use Rattle.tools.specs.Streams.{FailsByReadOrEnd, FailsByWrite, FillsBuffer, ReadsSome, WritesSome};
+ghost use Rattle.tools.specs.SystemState.{IsOutputSeparate, IsBeforeSync, ReadStreamHasNotEnded};
 
 use crate::system::{Reading, System};
 use host::HostFault;
@@ -26,16 +24,11 @@ pub fn read_some<S: System>(
     requires not_empty { 0 < length buf.old }
     requires going { IsTrue S.tells → ReadStreamHasNotEnded reading (S.state system.old) }
     ensures bound { FitsWithin result buf.old }
-    ensures kept { IsTrue S.tells → KeepsOnErr result (S.state system.old) (S.state system.new) }
-    ensures bytes { IsTrue S.tells → IfOk result (λ n.
-        Reads reading n buf.new (S.state system.old) (S.state system.new)) }
-    ensures same_files { IsTrue S.tells → S.files system.new ≡ S.files system.old }
+    ensures reads { IsTrue S.tells →
+        ReadsSome S.state S.files reading result buf.new system.old system.new }
     ensures tries { IsTrue S.tells → S.tries system.new ≤ S.tries system.old + 17 }
-    ensures no_fewer { IsTrue S.tells → AreNoFewer (S.failures system.old) (S.failures system.new) }
-    ensures failed { IsTrue S.tells → OnErr result
-        (read_failure_count reading (S.failures system.old) < read_failure_count reading (S.failures system.new)) }
-    ensures ended { IsTrue S.tells → IfOk result (λ n. n ≡ 0 → reading ≡ source.Random →
-        (S.failures system.old).salt < (S.failures system.new).salt) }
+    ensures failures { IsTrue S.tells →
+        FailsByReadOrEnd S.failures reading (λ n. n ≡ 0) result system.old system.new }
 {
     for _ in 0..=INTERRUPT_RETRIES {
         match system.read(reading, buf) {
@@ -58,17 +51,10 @@ pub fn read_full<S: System>(
 ) -> Result<usize, HostFault>
     requires going { IsTrue S.tells → ReadStreamHasNotEnded reading (S.state system.old) }
     ensures bound { FitsWithin result buf.old }
-    ensures whole { IsTrue S.tells → IfOk result (λ n.
-        IsBeginning (Some (state_of_read_stream reading (S.state system.old)).left) n buf.new) }
-    ensures left { IsTrue S.tells → IfOk result (λ n. (state_of_read_stream reading (S.state system.new)).left
-        ≡ drop n (state_of_read_stream reading (S.state system.old)).left) }
-    ensures taken { IsTrue S.tells → TakesFrom reading (S.state system.old) (S.state system.new) }
-    ensures same_files { IsTrue S.tells → S.files system.new ≡ S.files system.old }
-    ensures no_fewer { IsTrue S.tells → AreNoFewer (S.failures system.old) (S.failures system.new) }
-    ensures failed { IsTrue S.tells → OnErr result
-        (read_failure_count reading (S.failures system.old) < read_failure_count reading (S.failures system.new)) }
-    ensures ended { IsTrue S.tells → IfOk result (λ n. n < length buf.old → reading ≡ source.Random →
-        (S.failures system.old).salt < (S.failures system.new).salt) }
+    ensures fills { IsTrue S.tells →
+        FillsBuffer S.state S.files reading result buf.new system.old system.new }
+    ensures failures { IsTrue S.tells →
+        FailsByReadOrEnd S.failures reading (λ n. n < length buf.old) result system.old system.new }
 {
     let mut at = 0;
     while at < buf.len() {
@@ -93,14 +79,10 @@ pub fn write_some<S: System>(system: &mut S, bytes: &[u8]) -> Result<usize, Host
     requires unsynced { IsTrue S.tells → IsBeforeSync (S.state system.old) }
     ensures bound { FitsWithin result bytes.now }
     ensures progress { TakesSome result bytes.now }
-    ensures kept { IsTrue S.tells → KeepsOnErr result (S.state system.old) (S.state system.new) }
-    ensures put { IsTrue S.tells → IfOk result (λ n.
-        S.state system.new ≡ after_write (take n bytes.now) (S.state system.old)) }
-    ensures same_files { IsTrue S.tells → S.files system.new ≡ S.files system.old }
+    ensures writes { IsTrue S.tells →
+        WritesSome S.state S.files bytes.now result system.old system.new }
     ensures tries { IsTrue S.tells → S.tries system.new ≤ S.tries system.old + 17 }
-    ensures no_fewer { IsTrue S.tells → AreNoFewer (S.failures system.old) (S.failures system.new) }
-    ensures failed { IsTrue S.tells → OnErr result
-        ((S.failures system.old).output < (S.failures system.new).output) }
+    ensures failures { IsTrue S.tells → FailsByWrite S.failures result system.old system.new }
 {
     if bytes.is_empty() {
         return Ok(0);

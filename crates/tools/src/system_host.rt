@@ -1,10 +1,10 @@
 //! The system as a host.
 ghost use Rattle.std.specs.Prelude.{◌≡◌, ◌-◌, ◌<◌, ◌≤◌, ◌^◌, true, false, IsTrue};
-ghost use Rattle.host.specs.CallsGrantedByHost.{nothing_asked};
-ghost use Rattle.host.specs.Faults.{AreBelow, no_faults, with_output_failure_counted};
+ghost use Rattle.host.specs.Faults.{AreBelow};
 ghost use Rattle.tools.specs.Failures.{AreFaultsOfHost};
-ghost use Rattle.tools.specs.RunState.{EndsWithLine, Leaves, host_over, host_seen};
-ghost use Rattle.tools.specs.SystemState.{IsLineAskedUnlessReading, IsOutputSynced, IsOutputUnsynced, IsUnused};
+ghost use Rattle.tools.specs.RunState.{EndsWithLine, host_seen};
+ghost use Rattle.tools.specs.Steps.{EndsRun, EndsSynced, EndsUnsynced, IsNewHost};
+ghost use Rattle.tools.specs.SystemState.{IsUnused};
 
 use crate::failed_call_counts::{RunFailureCounts, counted};
 use crate::run::Run;
@@ -38,21 +38,13 @@ impl<S: System> SystemHost<S> {
     /// The system, of which nothing was used, and no call has failed.
     pub fn new(system: S) -> SystemHost<S>
         requires unused { IsTrue S.tells → IsUnused (S.state system) }
-        ensures counts { ⟦<SystemHost<S> as Host>⟧.faults result ≡ no_faults }
-        ensures seen { ⟦<SystemHost<S> as Host>⟧.seen result ≡ host_over (S.state system) }
-        ensures granted { ⟦<SystemHost<S> as Host>⟧.grants result ≡ nothing_asked }
+        ensures host { let host = ⟦<SystemHost<S> as Host>⟧ in
+            IsNewHost (S.state system) (host.seen result) (host.faults result) (host.grants result) }
     {
         SystemHost {
             run: Run::new(system),
             counts: RunFailureCounts::new(),
         }
-    }
-
-    /// The system.
-    pub fn system(&self) -> &S
-        ensures same { S.state result.now ≡ self.now.run.state }
-    {
-        self.run.system()
     }
 
     /// The end of a run that did what it was asked for: the output is brought to the disk, where it is kept.
@@ -61,15 +53,11 @@ impl<S: System> SystemHost<S> {
     pub fn sync_and_end(self, line: &str) -> (u8, S, RunFailureCounts<S>)
         requires room { AreBelow (2 ^ 64 - 1) (⟦<SystemHost<S> as Host>⟧.faults self) }
         ensures status { result.0 ≤ 1 }
-        ensures counts { result.0 ≡ 0 → result.2 ≡ ⟦<SystemHost<S> as Host>⟧.faults self }
-        ensures leaves { IsTrue S.tells → result.0 ≡ 0 →
-            Leaves (S.state result.1) (⟦<SystemHost<S> as Host>⟧.seen self) }
-        ensures output_synced { IsTrue S.tells → result.0 ≡ 0 → IsOutputSynced (S.state result.1) }
-        ensures says { result.0 ≡ 1 → EndsWithLine S.tells line.now
-            (⟦<SystemHost<S> as Host>⟧.seen self)
-            (with_output_failure_counted (⟦<SystemHost<S> as Host>⟧.faults self)) (S.state result.1) result.2 }
-        ensures output_unsynced { IsTrue S.tells → (⟦<SystemHost<S> as Host>⟧.grants self).writable ≡ true →
-            result.0 ≡ 1 → IsOutputUnsynced (S.state result.1) }
+        ensures synced { let host = ⟦<SystemHost<S> as Host>⟧ in result.0 ≡ 0 →
+            EndsSynced S.tells (host.seen self) (host.faults self) (S.state result.1) result.2 }
+        ensures unsynced { let host = ⟦<SystemHost<S> as Host>⟧ in result.0 ≡ 1 →
+            EndsUnsynced S.tells line.now (host.seen self) (host.faults self) (host.grants self).writable
+            (S.state result.1) result.2 }
         ensures fails { IsTrue S.tells → (⟦<SystemHost<S> as Host>⟧.grants self).writable ≡ true →
             AreFaultsOfHost result.2 (S.failures result.1) (S.state result.1) (S.files result.1) }
     {
@@ -105,13 +93,9 @@ impl<S: System> SystemHost<S> {
 
     /// The end of a run: the system as the run left it, and how often each kind of call has failed.
     pub fn into_system(self) -> (S, RunFailureCounts<S>)
-        ensures counts { result.1 ≡ ⟦<SystemHost<S> as Host>⟧.faults self }
-        ensures same { S.state result.0 ≡ self.run.state }
-        ensures leaves { IsTrue S.tells →
-            Leaves (S.state result.0) (⟦<SystemHost<S> as Host>⟧.seen self) }
-        ensures asks { IsTrue S.tells → 0 < result.1.lines → IsLineAskedUnlessReading (S.state result.0) }
-        ensures fails { IsTrue S.tells →
-            AreFaultsOfHost result.1 (S.failures result.0) (S.state result.0) (S.files result.0) }
+        ensures ends { let host = ⟦<SystemHost<S> as Host>⟧ in
+            EndsRun S.tells S.state S.failures S.files self.run.state (host.seen self) (host.faults self)
+            result.0 result.1 }
     {
         let SystemHost { run, counts } = self;
         (run.into_system(), counts)

@@ -2,9 +2,9 @@
 -- planes of a key schedule do to a text.
 use Rattle.std.specs.Prelude.{◌≡◌, ℕ, ◌+◌, ◌-◌, ◌*◌, ◌/◌, ◌%◌, ◌==◌, ◌<◌, ◌++◌, ◌⊎◌, Bool, List, drop, if◌then◌else◌, take}
 use Rattle.std.specs.Int.{bit_at}
-use Rattle.aes_ctr.specs.Aes.{byte_at, key_schedule, aes_state_of_entries}
+use Rattle.aes_ctr.specs.Aes.{add_round_key, byte_at, key_schedule, aes_state_of_entries, mix_columns, shift_rows, sub_bytes}
 use Rattle.aes_ctr.specs.CounterMode.{XorsKeyStream}
-use Rattle.aes_ctr.specs.Planes.{AreBytes, AreKeyPlanes, bits, plane}
+use Rattle.aes_ctr.specs.Planes.{AreBytes, AreKeyPlanes, BitPlanesHoldBytes, IsAesBlock, bits, plane, round_key}
 
 -- two blocks, one after the other
 abbrev pub IsBlockPair : List ℕ → Type 0
@@ -23,6 +23,13 @@ abbrev pub TakesBitFromOneOfTwo : (ℕ → ℕ) → (ℕ → ℕ) → Bool → �
 TakesBitFromOneOfTwo f g first b i j =
     (byte : ℕ) → byte < 256 → (bit_at (f byte) b ≡ (if first then bit_at byte i else 0))
     × (bit_at (g byte) b ≡ (if first then 0 else bit_at byte j))
+
+-- a plane merges two, by f of the bytes of the first and g of those of the second: each bit that these take from one of
+-- the two is the bit of that one; and all three are pairs
+pub record MergesPlanes (f g : ℕ → ℕ) (first second merged : List ℕ) : Type 0 where
+  pub taken : (from_first : Bool) (b i j : ℕ) → TakesBitFromOneOfTwo f g from_first b i j
+      → bits b merged ≡ (if from_first then bits i first else bits j second)
+  pub pairs : IsBlockPair first × IsBlockPair second × IsBlockPair merged
 
 -- the byte `low` has the bits whose numbers have the binary digit 0 of weight d
 abbrev pub AreLowBits : ℕ → ℕ → Type 0
@@ -49,6 +56,25 @@ AreExchanged d planes exchanged =
 -- each byte of the state takes the place of the one that stands a row above it
 unfoldable pub row_below_in_plane : List ℕ → List ℕ
 row_below_in_plane state = aes_state_of_entries (λ row column. byte_at state ((row + 1) % 4) column)
+
+-- ---- steps of the cipher
+
+-- where the planes before a step hold two blocks at bit b, those after it hold what f makes of each
+abbrev pub AppliesToBothBlocks : ℕ → (List ℕ → List ℕ) → List (List ℕ) → List (List ℕ) → Type 0
+AppliesToBothBlocks b f before after =
+    (first second : List ℕ) → IsAesBlock first → IsAesBlock second → BitPlanesHoldBytes b before (first ++ second)
+    → BitPlanesHoldBytes b after (f first ++ f second)
+
+-- the planes of a round hold its key at bit b
+abbrev pub HoldRoundKey : ℕ → List (List ℕ) → ℕ → List (List ℕ) → Type 0
+HoldRoundKey b words round planes = BitPlanesHoldBytes b (drop (8 * round) planes) (round_key words round)
+
+-- a block after one of the rounds with MixColumns, and after the last one, which has none (FIPS 197, 5.1)
+abbrev pub after_round : List (List ℕ) → ℕ → List ℕ → List ℕ
+after_round words round block = add_round_key words round (mix_columns (shift_rows (sub_bytes block)))
+
+abbrev pub after_last_round : List (List ℕ) → List ℕ → List ℕ
+after_last_round words block = add_round_key words 14 (shift_rows (sub_bytes block))
 
 -- a text was xored with the key stream from the block with a number on, of each key whose planes these are
 abbrev pub XorsKeyStreamByPlanes : List (List ℕ) → ℕ → List ℕ → List ℕ → Type 0

@@ -1,8 +1,16 @@
 -- Four lists of sixteen words side by side, as the compression function holds them.
-use Rattle.std.specs.Prelude.{ℕ, List, [], ◌∷◌, ◌++◌, ◌+◌, ◌*◌, slice_index}
+use Rattle.std.specs.Prelude.{◌≡◌, ◌<◌, ℕ, List, [], ◌∷◌, ◌++◌, ◌+◌, ◌*◌, slice_index}
 use Rattle.blake.specs.Words.{along, words_at, with_words_at}
 use Rattle.four_words.specs.Inside.FourWords.{sixteen_words, shuffled_words}
 use Rattle.argon.specs.Compression.{column_places, permutation, row_places}
+
+-- sixteen words are made one by one: each by f of the word with its number in a vector, or in each of two
+abbrev pub AreMadeOfWords : (ℕ → ℕ) → List ℕ → List ℕ → Type 0
+AreMadeOfWords f words made = (number : ℕ) → number < 16 → slice_index made number ≡ f (slice_index words number)
+
+abbrev pub AreMadeOfTwoWords : (ℕ → ℕ → ℕ) → List ℕ → List ℕ → List ℕ → Type 0
+AreMadeOfTwoWords f a b made =
+    (number : ℕ) → number < 16 → slice_index made number ≡ f (slice_index a number) (slice_index b number)
 
 -- four vectors of sixteen words
 abbrev pub FourLists : Type 0

@@ -1,9 +1,10 @@
 -- A segment, against the parameters that it belongs to (RFC 9106, 3.4).
-use Rattle.std.specs.Prelude.{◌≡◌, ℕ, ◌+◌, ◌*◌, ◌/◌, ◌%◌, ◌^◌, ◌<◌, ◌≤◌, ◌&&◌, List, length, min, max, slice_index, nat_eq, if◌then◌else◌}
-use Rattle.argon.specs.Argon2.{is_xored_in}
+use Rattle.std.specs.Prelude.{◌≡◌, ℕ, ◌+◌, ◌*◌, ◌/◌, ◌%◌, ◌^◌, ◌<◌, ◌≤◌, ◌&&◌, List, length, min, max, slice_index, slice_set, nat_eq, if◌then◌else◌}
+use Rattle.argon.specs.Argon2.{block_at, is_xored_in}
+use Rattle.argon.specs.Buffer.{block_held}
 use Rattle.argon.specs.Counts.{first_index}
 use Rattle.argon.specs.Parameters.{Parameters, segment_len}
-use Rattle.argon.specs.Reference.{is_independent, reference_set, relative_place}
+use Rattle.argon.specs.Reference.{HasAddresses, is_independent, reference_set, relative_place}
 use Rattle.argon.specs.declared.places.Place.{Place}
 use Rattle.argon.specs.declared.segment.Segment.{Segment}
 
@@ -25,9 +26,39 @@ pub record IsSegmentOfParameters (parameters : Parameters) (segment : Segment) :
 abbrev pub AreOfMatrix : Segment → List (List ℕ) → Type 0
 AreOfMatrix segment blocks = length blocks ≡ segment.lanes * (4 * segment.len)
 
+-- the segment has a column of that index, which comes from other blocks
+pub record IsColumnToMake (segment : Segment) (index : ℕ) : Type 0 where
+  pub valid : IsInMatrix segment
+  pub indices : index < segment.len
+  pub first : first_index segment.pass segment.slice ≤ index
+
+-- a lane and a column of the matrix that the segment stands in
+pub record IsInSameMatrix (segment : Segment) (lane column : ℕ) : Type 0 where
+  pub valid : IsInMatrix segment
+  pub lanes : lane < segment.lanes
+  pub columns : column < 4 * segment.len
+
+-- where the block of a lane and a column stands in the buffer of that matrix, which has the lanes one after the other
+pub record StandsAt (segment : Segment) (lane column place : ℕ) : Type 0 where
+  pub value : place ≡ lane * (4 * segment.len) + column
+  pub within : place < segment.lanes * (4 * segment.len)
+
 -- the number of the column with an index in the segment
 abbrev pub column_number : Segment → ℕ → ℕ
 column_number segment index = segment.pass * (4 * segment.len) + (segment.slice * segment.len + index)
+
+-- the address block of the segment stands that has the word J of its column before an index, or its first one at index 0,
+-- where its words J come from the position alone
+abbrev pub HasAddressesOfSegment : Parameters → Segment → ℕ → List ℕ → Type 0
+HasAddressesOfSegment parameters segment index addresses =
+    HasAddresses parameters segment.pass segment.lane segment.slice index addresses
+
+-- the blocks, of which that of the column with an index in the segment is made from the others
+abbrev pub with_column_made : Parameters → Segment → ℕ → List (List ℕ) → List (List ℕ)
+with_column_made parameters segment index blocks =
+    slice_set blocks (segment.lane * (4 * segment.len) + (segment.slice * segment.len + index))
+    (block_at parameters (block_held parameters blocks) (column_number segment index)
+    segment.pass segment.lane segment.slice index)
 
 -- the index up to which a segment is made after so many parts of 128 columns
 abbrev pub index_in_segment_after_parts : Segment → ℕ → ℕ

@@ -210,7 +210,7 @@ fn end_of<'a>(text: &'a str, told: &'a str) -> End<'a> {
 }
 
 // What was written, without the line feed that status 0 has.
-fn written(host: &MemoryHost, status: u8) -> Option<&[u8]> {
+fn text_written(host: &MemoryHost, status: u8) -> Option<&[u8]> {
     if status == 0 {
         host.output().strip_suffix(b"\n")
     } else {
@@ -222,7 +222,7 @@ fn written(host: &MemoryHost, status: u8) -> Option<&[u8]> {
 fn ends(host: &MemoryHost, status: u8, end: End<'_>) -> bool {
     status == end.status
         && says(host, end.told)
-        && written(host, status) == Some(end.written)
+        && text_written(host, status) == Some(end.written)
         && host.output_name() == end.is_opened.then_some(None)
         && host.input_name().is_none()
 }

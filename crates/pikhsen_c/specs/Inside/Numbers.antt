@@ -1,6 +1,7 @@
 -- What private functions say of the numbers that they answer.
-use Rattle.std.specs.Prelude.{◌≡◌, ◌≢◌, ◌≤◌, ◌==◌, ℕ, Bool, true, false, not, Option, Some, None, Result, Ok, Err, IfErr}
+use Rattle.std.specs.Prelude.{◌≡◌, ◌≢◌, ◌≤◌, ◌==◌, ℕ, Bool, true, false, not, List, Option, Some, None, Result, Ok, Err, IfErr}
 use Rattle.pikhsen_c.specs.Status.{long_input_status, long_password_status, above_memory_limit_status, above_work_limit_status, not_encoded_status, out_of_memory_status, out_of_range_status, wrong_passphrase_status}
+use Rattle.argon_text.specs.Grammar.{IsEncodedText, IsEncodedTextInRange}
 use Rattle.argon_text.specs.declared.fault.VerifyFault.{VerifyFault}
 use Rattle.argon_text.specs.declared.fault.VerifyFault.TheVariants as verify
 use Rattle.argon_text.specs.declared.fault.ReadFault.{ReadFault}
@@ -17,7 +18,7 @@ IsRefusalStatus status = 1 ≤ status
 
 -- the number is that of a refusal before memory is asked for: not 0, not that of refused memory, and not that of a wrong
 -- passphrase
-pub record IsEarly (status : ℕ) : Type 0 where
+pub record IsRefusalBeforeMemory (status : ℕ) : Type 0 where
   pub some : 1 ≤ status
   pub not_memory : status ≢ out_of_memory_status
   pub not_passphrase : status ≢ wrong_passphrase_status
@@ -25,7 +26,7 @@ pub record IsEarly (status : ℕ) : Type 0 where
 -- a result is refused by the first number that holds, before memory is asked for
 pub record RefusesEarly {A : Type 0} (first : ℕ) (result : Result A ℕ) : Type 0 where
   pub status : first ≡ status_of_result result
-  pub early : IfErr result IsEarly
+  pub early : IfErr result IsRefusalBeforeMemory
 
 -- the same, or memory was refused, which was asked for where nothing else is refused
 pub record RefusesEarlyOrMemory {A : Type 0} (first : ℕ) (result : Result A ℕ) : Type 0 where
@@ -47,6 +48,10 @@ abbrev pub read_fault_status : ReadFault → ℕ
 read_fault_status read.NotInGrammar = not_encoded_status
 read_fault_status read.OutOfRange = out_of_range_status
 read_fault_status read.OutOfMemory = out_of_memory_status
+
+-- the text is an encoded text, and a value of it is out of range
+abbrev pub IsTextOutOfRange : List ℕ → Type 0
+IsTextOutOfRange text = IsEncodedText text × (IsEncodedTextInRange text → ⊥)
 
 -- whether every request for memory was granted, by the number that was answered
 abbrev pub was_memory_granted : ℕ → Bool

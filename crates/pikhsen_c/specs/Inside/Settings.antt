@@ -2,7 +2,9 @@
 -- on.
 use Rattle.std.specs.Prelude.{◌≡◌, ◌<◌, ◌≤◌, ℕ, Bool, List, Option, None, length, take}
 use Rattle.argon.specs.Parameters.{Parameters}
+use Rattle.argon.specs.Inputs.{InputsFitParameters, inputs_of}
 use Rattle.argon.specs.declared.inputs.Inputs.{Inputs}
+use Rattle.argon_text.specs.EncodedText.{encoded_text}
 use Rattle.argon_text.specs.Value.{Value}
 use Rattle.argon_text.specs.Verifying.{keyed_verify_fault, keyed_tag, parameters_of_value}
 use Rattle.argon_text.specs.declared.fault.VerifyFault.{VerifyFault}
@@ -14,7 +16,7 @@ use Rattle.pikhsen_c.specs.declared.argon2.Settings.{Settings}
 use Rattle.pikhsen_c.specs.declared.scrypt.ScryptLimits.{ScryptLimits}
 use Rattle.pikhsen_c.specs.declared.scrypt.ScryptCostsAndLimits.{ScryptCostsAndLimits}
 use Rattle.pikhsen_c.specs.declared.verifying.KeyedPassword.{KeyedPassword}
-use Rattle.pikhsen_c.specs.Argon2.{IsVerdict, IsVerifyNumber, encoded_keyed_hash, encoded_keyed_status, hash_status, parameters_of_numbers}
+use Rattle.pikhsen_c.specs.Argon2.{IsVerdict, IsVerifyNumber, encoded_keyed_hash, encoded_keyed_status, encoded_text_with_zero_tag, hash_status, parameters_of_numbers}
 use Rattle.pikhsen_c.specs.File.{costs_of, encrypt_status, front_status, header_and_limits_status}
 use Rattle.pikhsen_c.specs.Heap.{RequestsMemoryAtMostOnce, RequestsMemoryToVerify, RequestsMemoryUnlessEarly}
 use Rattle.pikhsen_c.specs.Inside.Numbers.{IsStatusOfFirstFault}
@@ -31,6 +33,19 @@ parameters_of s tag_len inputs =
 abbrev pub encoded_text_of : Parameters → Inputs → List ℕ
 encoded_text_of parameters inputs =
     encoded_keyed_hash parameters inputs.password.now inputs.salt.now inputs.secret.now inputs.associated.now
+
+-- over the tag of a text this tag is put, of the same length, and the text stays as long as it was
+pub record PutsTag (before tag after : List ℕ) : Type 0 where
+  pub text : (v : Value) → before ≡ encoded_text v → length v.tag ≡ length tag → after ≡ encoded_text (record v { tag = tag })
+  pub len : length after ≡ length before
+
+-- these inputs can be hashed by the parameters of a matrix, to a tag of this length, at most 4,096 bytes; and the bytes are the
+-- text of that hash, which has zeros for the tag
+pub record HasRoomForTag (text : List ℕ) (parameters : Parameters) (inputs : Inputs) (tag_len : ℕ) : Type 0 where
+  pub is_tag_len : parameters.tag_len ≡ tag_len
+  pub short : tag_len ≤ 4096
+  pub inputs_fit : InputsFitParameters parameters (inputs_of inputs)
+  pub zeros : text ≡ encoded_text_with_zero_tag parameters inputs.salt.now
 
 -- the costs of these settings
 abbrev pub costs_of_settings : ScryptCostsAndLimits → Costs

@@ -1,5 +1,5 @@
 -- Which of the two runs.
-use Rattle.std.specs.Prelude.{Bool, true, false, Option, Some, None}
+use Rattle.std.specs.Prelude.{◌≡◌, ◌≢◌, ℕ, Bool, true, false, Option, Some, None}
 use Rattle.pikhsen_c.specs.declared.stream.StreamState.{StreamState}
 use Rattle.pikhsen_c.specs.declared.stream.StreamState.TheVariants as running
 
@@ -19,3 +19,10 @@ is_decryption (running.Over zeros) = false
 abbrev pub kept_state_satisfies : (StreamState → Bool) → Option StreamState → Bool
 kept_state_satisfies is_one None = false
 kept_state_satisfies is_one (Some run) = is_one run
+
+-- this may run under the number 1, an encryption, or 2, a decryption, in a stream that keeps nothing
+pub record MayRun (kept : Option StreamState) (runs : ℕ) (state : StreamState) : Type 0 where
+  pub empty : kept ≡ None
+  pub one : runs ≢ 1 → runs ≢ 2 → ⊥
+  pub encryption : runs ≡ 1 → is_encryption state ≡ true
+  pub decryption : runs ≡ 2 → is_decryption state ≡ true

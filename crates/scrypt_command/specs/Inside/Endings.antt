@@ -1,7 +1,7 @@
 -- How a run of scrypt ends before the line of a refusal is said, and the Salsa20/8 cores that it counts.
 use Rattle.std.specs.Prelude.{◌≡◌, ◌⊎◌, ℕ, Bool, List, Result, Ok, Err, IfErr, IsTrue, OnOk}
 use Rattle.host.specs.HostState.{HostState, Text}
-use Rattle.scrypt_request.specs.Refusal.{CountsNoEarlyWork, RaisesNoCount}
+use Rattle.scrypt_request.specs.Refusal.{CountsNoEarlyWork, IsOfNoFailedCall}
 use Rattle.scrypt_request.specs.Request.{Request}
 use Rattle.scrypt_request.specs.declared.refusal.ScryptRefusal.{ScryptRefusal}
 use Rattle.scrypt_run.specs.Run.{ScryptRequestRefused, ScryptRequestSucceeds, most_salsa20_cores}
@@ -15,7 +15,7 @@ pub record EndsAtWords {A : Type 0} (words : List Text) (result : Result A Scryp
   pub refusal : ScryptRefusal
   pub is : result ≡ Err refusal
   pub refused : RefusesCommandLine refusal words before after
-  pub counts : RaisesNoCount refusal
+  pub counts : IsOfNoFailedCall refusal
   pub no_work : cores_after ≡ cores_before
 
 -- the request that the words make was run once: so it succeeded, or was refused; it took no more cores than its limit, and

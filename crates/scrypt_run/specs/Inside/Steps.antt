@@ -5,8 +5,12 @@ use Rattle.romix.specs.SparseCosts.{CostsAndKeep}
 use Rattle.encfile.specs.EncryptedFile.{CountsWithinBound}
 use Rattle.host.specs.CallsGrantedByHost.{CallsGrantedByHost}
 use Rattle.host.specs.Faults.{Faults}
+use Rattle.host.specs.HostState.{HostState}
+use Rattle.host.specs.Secret.{source_of}
+use Rattle.host.specs.declared.host.Source.{Source}
 pub use Rattle.host.specs.Faults.{AreBelow}
 use Rattle.scrypt_run.specs.Asking.{RequestsHeaderMemoryBeforeRefusal, RequestsMemoryBeforeRefusal, WasGranted}
+use Rattle.scrypt_run.specs.Passphrase.{first_line_of_source}
 use Rattle.scrypt_run.specs.Work.{DerivesOnce}
 use Rattle.scrypt_request.specs.Refusal.{comes_only_after_work, is_out_of_memory, may_follow_work}
 pub use Rattle.scrypt_request.specs.Refusal.{CountsFault, CountsNoEarlyWork}
@@ -31,6 +35,12 @@ IsNotOutOfMemory r = IsFalse (is_out_of_memory r)
 pub record EndsBeforeWork {A : Type 0} (result : Result A ScryptRefusal) (before after : Faults) : Type 0 where
   pub counts : CountsFault result before after
   pub early : IfErr result MayPrecedeWork
+
+-- ---- the passphrase
+
+-- the first line of the secret source that an argument of the code names, if the host has it
+abbrev pub first_line_of_named_source : Source → HostState → Option (List ℕ)
+first_line_of_named_source named s = first_line_of_source (source_of named) s
 
 -- ---- what a host grants
 

@@ -32,7 +32,7 @@ rounds-init c =
     let key = keys 0 (omega arith) in (
       IsAesBlock-add_round_key words 0 key.0 (take 16 pair) parts.0,
       IsAesBlock-add_round_key words 0 key.0 (drop 16 pair) parts.1,
-      c.add_planes-state.ensures.held words b (take 16 pair) (drop 16 pair) parts.0 parts.1 (key.1 b small)
+      c.add_planes-state.ensures.held words b (key.1 b small) (take 16 pair) (drop 16 pair) parts.0 parts.1
           (rw (take-append-drop 16 pair) (λ k h. c.transposed.ensures.transposed b k small h)),
     )
 
@@ -47,7 +47,7 @@ rounds-preserved c =
     rw (state_after-next words (take 16 (plane c.args.pairs b)) n, state_after-next words (drop 16 (plane c.args.pairs b)) n) (
       IsAesBlock-round words (n + 1) key.0 first before.0,
       IsAesBlock-round words (n + 1) key.0 second before.1,
-      c.round-next.ensures.held words b first second small before.0 before.1 (key.1 b small) before.2,
+      c.round-next.ensures.held words b small (key.1 b small) first second before.0 before.1 before.2,
     )
 
 pub returns : goal.returns
@@ -60,7 +60,7 @@ returns c = record {
       let first : List ℕ = state_after words (take 16 (plane c.args.pairs b)) 13 in
       let second : List ℕ = state_after words (drop 16 (plane c.args.pairs b)) 13 in
       let key = keys 14 (omega arith) in
-      let made = c.last_round.ensures.held words b first second small before.0 before.1 (key.1 b small) before.2 in
+      let made = c.last_round.ensures.held words b small (key.1 b small) first second before.0 before.1 before.2 in
       AreBytes-same (plane c.transposed-2.result b) (add_round_key words 14 (shift_rows (sub_bytes first)) ++ add_round_key words 14 (shift_rows (sub_bytes second)))
       (c.transposed-2.ensures.bytes b small).1
       (IsBlockPair-append (add_round_key words 14 (shift_rows (sub_bytes first))) (add_round_key words 14 (shift_rows (sub_bytes second)))

@@ -10,10 +10,10 @@ shifted block ok = IsAesBlock-shift_rows (sub_bytes block) (IsAesBlock-sub_bytes
 pub returns : goal.returns
 returns c = record {
   held =
-      λ words b first second small ok also key state.
-      c.add_planes.ensures.held words b (mix_columns (shift_rows (sub_bytes first))) (mix_columns (shift_rows (sub_bytes second)))
-      (IsAesBlock-mix_columns (shift_rows (sub_bytes first)) (shifted first ok)) (IsAesBlock-mix_columns (shift_rows (sub_bytes second)) (shifted second also)) key
+      λ words b small key first second ok also state.
+      c.add_planes.ensures.held words b key (mix_columns (shift_rows (sub_bytes first))) (mix_columns (shift_rows (sub_bytes second)))
+      (IsAesBlock-mix_columns (shift_rows (sub_bytes first)) (shifted first ok)) (IsAesBlock-mix_columns (shift_rows (sub_bytes second)) (shifted second also))
       (c.mix_planes.ensures.held b (shift_rows (sub_bytes first)) (shift_rows (sub_bytes second)) (shifted first ok) (shifted second also)
       (c.shift_planes.ensures.held b (sub_bytes first) (sub_bytes second) (IsAesBlock-sub_bytes first ok) (IsAesBlock-sub_bytes second also)
-      (c.sub_planes.ensures.held b first second small ok also state)));
+      (c.sub_planes.ensures.held b small first second ok also state)));
 }

@@ -8,7 +8,7 @@ use Rattle.aes_ctr.proofs.key_planes.add_planes.Goals as goal
 pub returns : goal.returns
 returns c = record {
   held =
-      λ words b first second ok also key state.
+      λ words b key first second ok also state.
       let added : List ℕ = round_key words c.args.round in
       rw (zip2-append bit_xor first second added added (ok.0 ∙ sym (length-round_key words c.args.round)), xor-round_key words c.args.round first ok.0, xor-round_key words c.args.round second also.0)
       at (c.xor_planes.ensures.held b (first ++ second) (added ++ added) state

@@ -15,23 +15,23 @@ returns c =
     record {
       exchanged =
           λ b k hb hk. below_eight (λ k. (b : ℕ) → b < 8 → bits b (plane (c.merged_lower_bits.result ∷ c.merged_lower_bits-2.result ∷ c.merged_lower_bits-3.result ∷ c.merged_lower_bits-4.result ∷ c.merged_upper_bits.result ∷ c.merged_upper_bits-2.result ∷ c.merged_upper_bits-3.result ∷ c.merged_upper_bits-4.result ∷ []) k) ≡ bits (bit_before d b k) (plane planes (plane_before d b k)))
-          (lower_from 0 1 planes c.merged_lower_bits.result c.merged_lower_bits.ensures.bits)
-          (lower_from 2 3 planes c.merged_lower_bits-2.result c.merged_lower_bits-2.ensures.bits)
-          (lower_from 4 5 planes c.merged_lower_bits-3.result c.merged_lower_bits-3.ensures.bits)
-          (lower_from 6 7 planes c.merged_lower_bits-4.result c.merged_lower_bits-4.ensures.bits)
-          (upper_from 0 1 planes c.merged_upper_bits.result c.merged_upper_bits.ensures.bits)
-          (upper_from 2 3 planes c.merged_upper_bits-2.result c.merged_upper_bits-2.ensures.bits)
-          (upper_from 4 5 planes c.merged_upper_bits-3.result c.merged_upper_bits-3.ensures.bits)
-          (upper_from 6 7 planes c.merged_upper_bits-4.result c.merged_upper_bits-4.ensures.bits)
+          (lower_from 0 1 planes c.merged_lower_bits.result c.merged_lower_bits.ensures.merged.taken)
+          (lower_from 2 3 planes c.merged_lower_bits-2.result c.merged_lower_bits-2.ensures.merged.taken)
+          (lower_from 4 5 planes c.merged_lower_bits-3.result c.merged_lower_bits-3.ensures.merged.taken)
+          (lower_from 6 7 planes c.merged_lower_bits-4.result c.merged_lower_bits-4.ensures.merged.taken)
+          (upper_from 0 1 planes c.merged_upper_bits.result c.merged_upper_bits.ensures.merged.taken)
+          (upper_from 2 3 planes c.merged_upper_bits-2.result c.merged_upper_bits-2.ensures.merged.taken)
+          (upper_from 4 5 planes c.merged_upper_bits-3.result c.merged_upper_bits-3.ensures.merged.taken)
+          (upper_from 6 7 planes c.merged_upper_bits-4.result c.merged_upper_bits-4.ensures.merged.taken)
           k hk b hb;
       bytes =
           below_eight (λ k. IsBlockPair (plane planes k) × IsBlockPair (plane (c.merged_lower_bits.result ∷ c.merged_lower_bits-2.result ∷ c.merged_lower_bits-3.result ∷ c.merged_lower_bits-4.result ∷ c.merged_upper_bits.result ∷ c.merged_upper_bits-2.result ∷ c.merged_upper_bits-3.result ∷ c.merged_upper_bits-4.result ∷ []) k))
-          (c.merged_lower_bits.ensures.bytes.0, c.merged_lower_bits.ensures.bytes.2)
-          (c.merged_lower_bits.ensures.bytes.1, c.merged_lower_bits-2.ensures.bytes.2)
-          (c.merged_lower_bits-2.ensures.bytes.0, c.merged_lower_bits-3.ensures.bytes.2)
-          (c.merged_lower_bits-2.ensures.bytes.1, c.merged_lower_bits-4.ensures.bytes.2)
-          (c.merged_lower_bits-3.ensures.bytes.0, c.merged_upper_bits.ensures.bytes.2)
-          (c.merged_lower_bits-3.ensures.bytes.1, c.merged_upper_bits-2.ensures.bytes.2)
-          (c.merged_lower_bits-4.ensures.bytes.0, c.merged_upper_bits-3.ensures.bytes.2)
-          (c.merged_lower_bits-4.ensures.bytes.1, c.merged_upper_bits-4.ensures.bytes.2);
+          (c.merged_lower_bits.ensures.merged.pairs.0, c.merged_lower_bits.ensures.merged.pairs.2)
+          (c.merged_lower_bits.ensures.merged.pairs.1, c.merged_lower_bits-2.ensures.merged.pairs.2)
+          (c.merged_lower_bits-2.ensures.merged.pairs.0, c.merged_lower_bits-3.ensures.merged.pairs.2)
+          (c.merged_lower_bits-2.ensures.merged.pairs.1, c.merged_lower_bits-4.ensures.merged.pairs.2)
+          (c.merged_lower_bits-3.ensures.merged.pairs.0, c.merged_upper_bits.ensures.merged.pairs.2)
+          (c.merged_lower_bits-3.ensures.merged.pairs.1, c.merged_upper_bits-2.ensures.merged.pairs.2)
+          (c.merged_lower_bits-4.ensures.merged.pairs.0, c.merged_upper_bits-3.ensures.merged.pairs.2)
+          (c.merged_lower_bits-4.ensures.merged.pairs.1, c.merged_upper_bits-4.ensures.merged.pairs.2);
     }

@@ -3,6 +3,8 @@ use Rattle.aes_ctr.proofs.transposition.merged_upper_bits.Goals as goal
 
 pub returns : goal.returns
 returns c = record {
-  bits = merged_upper_bits-chosen c.args.distance c.args.low c.args.first c.args.second c.fits-first c.fits-second;
-  bytes = merged_upper_bits-bytes c.args.distance c.args.low c.ranges.low.fits c.args.first c.args.second c.fits-first c.fits-second;
+  merged = record {
+    taken = merged_upper_bits-chosen c.args.distance c.args.low c.args.first c.args.second c.fits-first c.fits-second;
+    pairs = merged_upper_bits-bytes c.args.distance c.args.low c.ranges.low.fits c.args.first c.args.second c.fits-first c.fits-second;
+  };
 }

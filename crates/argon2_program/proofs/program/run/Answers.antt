@@ -9,10 +9,10 @@ use Rattle.argon2_program.proofs.program.run.Goals as goal
 
 pub returns-in-Ok-clause-fails : goal.returns-in-Ok-clause-fails
 returns-in-Ok-clause-fails g c = λ t.
-    let ends = c.into_system-system.ensures in
+    let ends = c.into_system-system.ensures.ends in
     let run = c.argon2-status.ensures in
-    faults-ended _ _ _ _ _ _ _ _ _ _ _ _ t run.status run.counts c.new-host.ensures.seen (c.requires.unused t).output c.new-host.ensures.counts
-    run.refuses ends.counts (ends.leaves t) (ends.fails t)
+    faults-ended _ _ _ _ _ _ _ _ _ _ _ _ t run.status run.ends.counts c.new-host.ensures.host.seen (c.requires.unused t).output c.new-host.ensures.host.counts
+    run.ends.refuses ends.counts (ends.leaves t) (ends.fails t)
 
 -- the refusal of words that cannot be read
 counted : (r : Argon2Refusal) (all : Faults) → (said : Bool) × (all ≡ faults_after_line said (faults_after_refusal r no_faults))

@@ -29,13 +29,13 @@ returns-in_err-request-clause-ends g c =
 pub returns-in_err-hash-clause-ends : goal.returns-in_err-hash-clause-ends
 returns-in_err-hash-clause-ends g c =
     let words : List Text = map string_bytes c.args.words.now in
-    let told = c.in_err-hash.ensures.memory in
+    let told = c.in_err-hash.ensures.refused.memory in
     let ended : EndsRefused g.R.DecodeMemory.after_decoded g.R.HashMemory.after_matrix g.H.Host.tells words c.in_err-hash.field-0.0
     (g.H.Host.seen c.args.host.now) (g.H.Host.seen c.read_hash.new.host) c.args.ticks.now c.args.ticks.now c.args.memory.now c.read_hash.new.memory = record {
       refused = λ t. inr (inl (record {
         request = verify_request_view c.in_ok-request.request;
         of_words = sym c.in_ok-request.ensures.request;
-        is = c.in_err-hash.ensures.refused t;
+        is = c.in_err-hash.ensures.refused.refused t;
       }));
       no_work = refl;
       memory = record { line = told.line; line_read = told.is; left = inl told.left };

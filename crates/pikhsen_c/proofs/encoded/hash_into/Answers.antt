@@ -10,5 +10,5 @@ returns-clause-text c =
     let parameters : Parameters = c.args.matrix.now.parameters in
     let salt : List ℕ = c.args.inputs.now.salt.now in
     let kept = c.hash.auto.out in
-    c.put.ensures.text (value_to_encode parameters salt (replicate parameters.tag_len 0)) c.requires.zeros (length-replicate {A = ℕ} parameters.tag_len 0 ∙ c.requires.tag_len ∙ grind (rules, kept, c.requires.short))
-    ∙ ap (λ (tag : List ℕ). encoded_text (value_to_encode parameters salt tag)) c.hash.ensures.tag
+    c.put.ensures.puts.text (value_to_encode parameters salt (replicate parameters.tag_len 0)) c.requires.fits.zeros (length-replicate {A = ℕ} parameters.tag_len 0 ∙ c.requires.fits.is_tag_len ∙ grind (rules, kept, c.requires.fits.short))
+    ∙ ap (λ (tag : List ℕ). encoded_text (value_to_encode parameters salt tag)) c.hash.ensures.hashed.tag

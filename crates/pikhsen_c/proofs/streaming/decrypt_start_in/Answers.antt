@@ -1,4 +1,4 @@
-use Rattle.std.proofs.Common.{◌≡◌, ℕ, List, Some, take, ap, arith, false, inr, refl, sym, true, ◌∙◌}
+use Rattle.std.proofs.Common.{◌≡◌, ℕ, List, Some, take, ap, arith, false, inr, refl, rules, sym, true, ◌∙◌}
 use Rattle.encfile.specs.Decrypting.{DecryptionHasRead}
 use Rattle.encfile.specs.declared.dec.Dec.{Dec}
 use Rattle.pikhsen_c.specs.Heap.{after_workspace_request}
@@ -15,6 +15,16 @@ keeps_reading : (stream : PikhsenStream) (run : StreamState) (dec : Dec) (passph
     → stream.kept.value ≡ Some run → run ≡ running.Dec dec → DecryptionHasRead dec passphrase file
     → StreamHasRead stream passphrase file
 keeps_reading stream run dec passphrase file runs kept is read = record { runs = runs; kept = rw (kept, is) read }
+
+pub begin-requires : goal.begin-requires
+begin-requires c = record {
+  ok = record {
+    empty = search rules;
+    one = search rules;
+    encryption = search rules;
+    decryption = search rules;
+  };
+}
 
 pub returns-in-Ok-start_decryption-clause-stream : goal.returns-in-Ok-start_decryption-clause-stream
 returns-in-Ok-start_decryption-clause-stream c =

@@ -28,4 +28,4 @@ no_input_fault text password max_kib max_ops judged =
 pub returns-clause-no_input : goal.returns-clause-no_input
 returns-clause-no_input c =
     λ told. no_input_fault c.args.text.now c.args.password.now
-    c.args.max_kib c.args.max_ops (c.pikhsen_argon2_verify_keyed.ensures.verdict.input_len told)
+    c.args.max_kib c.args.max_ops (c.pikhsen_argon2_verify_keyed.ensures.judges.verdict.input_len told)

@@ -32,11 +32,11 @@ fill-preserved c =
     let one : row_in_standard_order c.block_mix_by_diagonals.new.out ≡ row_of_v b (2 * i + 1) = table_row_more b _ _ (2 * i) (2 * i + 1) c.fill.invariant.row c.block_mix_by_diagonals.ensures.words refl in
     let rows : (k : ℕ) → s * k < 2 * i + 1 → row_in_standard_order (row_at c.keep_row.new.table len k) ≡ row_of_v b (s * k) =
     kept_more c.fill.table c.keep_row.new.table b c.fill.row len (length c.fill.row) s (2 * i) (2 * i + 1) (omega arith) c.requires.keep refl
-    c.fill.invariant.row c.keep_row.ensures.kept c.keep_row.ensures.below c.fill.invariant.rows in
+    c.fill.invariant.row c.keep_row.ensures.row.kept c.keep_row.ensures.row.below c.fill.invariant.rows in
     record {
       row = table_row_more b _ _ (2 * i + 1) (2 * (i + 1)) one c.block_mix_by_diagonals-in-fill.ensures.words (omega arith);
       rows = kept_more c.keep_row.new.table c.keep_row-in-fill.new.table b c.block_mix_by_diagonals.new.out len (length c.block_mix_by_diagonals.new.out) s (2 * i + 1) (2 * (i + 1)) (omega arith)
-          c.requires.keep (omega arith) one c.keep_row-in-fill.ensures.kept c.keep_row-in-fill.ensures.below rows;
+          c.requires.keep (omega arith) one c.keep_row-in-fill.ensures.row.kept c.keep_row-in-fill.ensures.row.below rows;
       count = omega (arith, c.block_mix_by_diagonals.ensures.count, c.block_mix_by_diagonals-in-fill.ensures.count);
     }
 

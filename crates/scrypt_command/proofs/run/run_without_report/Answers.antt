@@ -5,7 +5,7 @@ use Rattle.scrypt_command.proofs.run.run_without_report.Goals as goal
 pub returns-in-Ok-clause-ends : goal.returns-in-Ok-clause-ends
 returns-in-Ok-clause-ends g c = inr (record {
   request = scrypt_request_view c.in-Ok.request;
-  asked = c.in-Ok.ensures.request;
+  asked = c.in-Ok.ensures.reads.request;
   succeeds = c.run.ensures.succeeds;
   refused = c.run.ensures.refused;
   work_bound = c.run.ensures.work_bound;
@@ -19,7 +19,7 @@ pub returns-in-Err-clause-ends : goal.returns-in-Err-clause-ends
 returns-in-Err-clause-ends g c = inl (record {
   refusal = c.in-Err.refusal;
   is = refl;
-  refused = (c.in-Err.ensures.refused, refl);
+  refused = (c.in-Err.ensures.reads.refused, refl);
   counts = c.in-Err.ensures.counts;
   no_work = refl;
 })

@@ -55,21 +55,22 @@ fails-sync tells words given before host unsaid after left told counts faults sa
 
 pub returns-then-status-eq0-clause-refuses : goal.returns-then-status-eq0-clause-refuses
 returns-then-status-eq0-clause-refuses g c = λ t failed.
-    let ends = c.sync_and_end.ensures.says failed in
-    let succeeds = c.scrypt-status.ensures.succeeds t c.if-status-eq0.true in
+    let unsynced = c.sync_and_end.ensures.unsynced failed in
+    let ends = unsynced.says in
+    let succeeds = c.scrypt-status.ensures.ends.succeeds t c.if-status-eq0.true in
     record {
       seen = ends.seen;
       leaves = ends.leaves t;
       refuses = inr (inr (inr (fails-sync _ _ _ _ _ _ _ _ _ _ _ ends.says succeeds c.line.ensures.line
-          (c.scrypt-status.ensures.counts c.if-status-eq0.true ∙ c.new-host.ensures.counts) (search rules) c.new-host.ensures.seen
-          (c.sync_and_end.ensures.output_unsynced t (writable _ c.scrypt-status.new.host.run _ succeeds) failed))));
+          (c.scrypt-status.ensures.ends.counts c.if-status-eq0.true ∙ c.new-host.ensures.host.counts) (search rules) c.new-host.ensures.host.seen
+          (unsynced.output_unsynced t (writable _ c.scrypt-status.new.host.run _ succeeds)))));
       asks = λ _. ends.asks t;
     }
 
 pub returns-then-status-eq0-clause-counts_refusal : goal.returns-then-status-eq0-clause-counts_refusal
 returns-then-status-eq0-clause-counts_refusal g c = λ failed.
-    let says = (c.sync_and_end.ensures.says failed).says in
-    let none = c.scrypt-status.ensures.counts c.if-status-eq0.true ∙ c.new-host.ensures.counts in
+    let says = (c.sync_and_end.ensures.unsynced failed).says.says in
+    let none = c.scrypt-status.ensures.ends.counts c.if-status-eq0.true ∙ c.new-host.ensures.host.counts in
     (refusal.OutputFault, says.said, says.counts ∙ ap (λ (f : Faults). faults_after_line says.said (with_output_failure_counted f)) none)
 
 -- the refusal of words that cannot be read
@@ -86,13 +87,14 @@ returns-in-Err-OutOfMemory-clause-counts_refusal g c = λ _. counted refusal.Out
 pub returns-then-status-eq0-clause-fails : goal.returns-then-status-eq0-clause-fails
 returns-then-status-eq0-clause-fails g c = λ t.
     let ends = c.sync_and_end.ensures in
-    let succeeds = c.scrypt-status.ensures.succeeds t c.if-status-eq0.true in
-    faults-synced _ _ _ _ _ _ _ _ _ ends.status ends.counts ends.says (c.scrypt-status.ensures.counts c.if-status-eq0.true ∙ c.new-host.ensures.counts)
+    let succeeds = c.scrypt-status.ensures.ends.succeeds t c.if-status-eq0.true in
+    faults-synced _ _ _ _ _ _ _ _ _ ends.status (λ done. (ends.synced done).counts) (λ failed. (ends.unsynced failed).says)
+    (c.scrypt-status.ensures.ends.counts c.if-status-eq0.true ∙ c.new-host.ensures.host.counts)
     (ends.fails t (writable _ c.scrypt-status.new.host.run _ succeeds))
 
 pub returns-else-status-eq0-clause-fails : goal.returns-else-status-eq0-clause-fails
 returns-else-status-eq0-clause-fails g c = λ t.
-    let ends = c.into_system-system.ensures in
+    let ends = c.into_system-system.ensures.ends in
     let one : c.scrypt-status.result ≡ 1 = search rules in
-    faults-refused _ _ _ _ _ _ _ _ _ _ _ t c.new-host.ensures.seen (c.requires.unused t).output c.new-host.ensures.counts
-    (c.scrypt-status.ensures.refuses one) ends.counts (ends.leaves t) (ends.fails t)
+    faults-refused _ _ _ _ _ _ _ _ _ _ _ t c.new-host.ensures.host.seen (c.requires.unused t).output c.new-host.ensures.host.counts
+    (c.scrypt-status.ensures.ends.refuses one) ends.counts (ends.leaves t) (ends.fails t)

@@ -25,7 +25,7 @@ returns-in-Ok-finish-clause-ends g c = λ t passphrase front h.
       released = subst (λ w. after ≡ after_pull_and_push (released_text_of_header_and_rest passphrase front) (length w.input) w) (c.in-Ok.ensures.opened t)
           (c.in_ok-release.ensures.released t passphrase front h);
       genuine = subst (λ xs. IsEncryptionOf (front ++ xs) passphrase (released_text (front ++ xs) passphrase)) same
-          (c.in-Ok-finish.ensures.whole passphrase (front ++ opened.input) (c.in_ok-release.ensures.read t passphrase front h));
+          (c.in-Ok-finish.ensures.tells.whole passphrase (front ++ opened.input) (c.in_ok-release.ensures.read t passphrase front h));
     }
 
 pub returns-in-Err-clause-ends : goal.returns-in-Err-clause-ends
@@ -39,7 +39,7 @@ returns-in-Err-clause-ends g c = λ t passphrase front h.
         below_limit = subst (λ xs. length (front ++ xs) < 2 ^ 60 + 128) same (c.in_ok-release.ensures.read t passphrase front h).below_limit;
         released = subst (λ w. after ≡ after_pull_and_push (released_text_of_header_and_rest passphrase front) (length w.input) w) (c.in-Ok.ensures.opened t)
             (c.in_ok-release.ensures.released t passphrase front h);
-        damaged = λ genuine. c.in-Err.ensures.damaged passphrase (front ++ opened.input) (c.in_ok-release.ensures.read t passphrase front h)
+        damaged = λ genuine. c.in-Err.ensures.tells.damaged passphrase (front ++ opened.input) (c.in_ok-release.ensures.read t passphrase front h)
             (subst (λ xs. IsEncryptionOf (front ++ xs) passphrase (released_text (front ++ xs) passphrase)) (sym same) genuine);
       },
     ))

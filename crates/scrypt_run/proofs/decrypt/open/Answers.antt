@@ -22,7 +22,7 @@ returns-clause-work g c =
     let derives =
     derives_with g.H.Host.tells line c.as_slice.result.now c.args.front.header.salt c.in-Ok.workspace.sparse c.args.admitted.now.sparse c.args.front.header.costs c.args.ticks.now c.open-opened.new.ticks
     c.in-Ok.ensures.same c.requires.costs (λ t. subst (λ p. HasPassphrase line p) (sym c.as_slice.ensures.bytes) (c.in_ok-passphrase.ensures.read t))
-    c.open-opened.ensures.count c.open-opened.ensures.bound c.open-opened.ensures.whole in
+    c.open-opened.ensures.derives.count c.open-opened.ensures.derives.bound c.open-opened.ensures.derives.whole in
     record {
       done = always_ok c.map_err.result derives;
       worked = always_err c.map_err.result (λ r late. derives);

@@ -23,7 +23,7 @@ returns-in_default-push_all-clause-ends g c = λ t passphrase salt costs h.
     let opened = g.H.Host.seen c.open_output.new.self in
     let text = g.H.Host.seen c.write_header_and_ciphertext.new.host in
     let after = g.H.Host.seen c.push_all.new.host in
-    let cut = c.in_default-push_all.ensures.begun t in
+    let cut = c.in_default-push_all.ensures.pushes.begun t in
     let whole = c.in_ok-write_header_and_ciphertext.ensures.encrypted t passphrase salt costs h in
     inr (inr (inl (
       refl,

@@ -13,7 +13,7 @@ use Rattle.scrypt_run.proofs.encrypt.write_header_and_ciphertext.Goals as goal
 
 pub returns-in_default-clause-refused : goal.returns-in_default-clause-refused
 returns-in_default-clause-refused g c = λ t passphrase salt costs h.
-    let b = c.in_default.ensures.begun t in
+    let b = c.in_default.ensures.pushes.begun t in
     inr (inl (
       refl,
       header_cut passphrase salt costs b.0 c.header.result (g.H.Host.seen c.args.host.now) (g.H.Host.seen c.push_all.new.host)
@@ -26,22 +26,22 @@ loop-n-init g c =
     let b = c.requires.begun in
     let none : 0 ≡ bytes_encrypted_so_far c.args.enc.now = bytes_encrypted_so_far-is c.args.enc.now b.0 b.1 b.2 [] b.3 in record {
       buf_long = refl;
-      grants = c.in-Ok.ensures.granted;
+      grants = c.in-Ok.ensures.pushes.granted;
       same = search rules;
       begun = (b.0, b.1, b.2, [], b.3);
       below = bytes_encrypted_so_far-below c.args.enc.now b.0 b.1 b.2 [] b.3;
       within = λ t. omega (arith, none);
-      left = λ t. ap (λ (w : HostState). w.input) (c.in-Ok.ensures.put t) ∙ ap (λ k. drop k s.input) none;
+      left = λ t. ap (λ (w : HostState). w.input) (c.in-Ok.ensures.pushes.put t) ∙ ap (λ k. drop k s.input) none;
       holds = λ t passphrase salt costs h. subst (λ k. HasEncrypted c.args.enc.now passphrase salt costs (take k s.input)) none h;
       passes = λ t passphrase salt costs h. subst (λ k. g.H.Host.seen c.push_all.new.host ≡ after_pull_and_push (body passphrase salt costs) k s) none
-          (c.in-Ok.ensures.put t ∙ ap (λ xs. after_push xs s) (c.header.ensures.body passphrase salt costs [] h));
+          (c.in-Ok.ensures.pushes.put t ∙ ap (λ xs. after_push xs s) (c.header.ensures.body passphrase salt costs [] h));
     }
 
 pub loop-n-smaller : goal.loop-n-smaller
 loop-n-smaller g c =
     let i = c.loop-n.invariant in
     let b = i.begun in
-    let fed = c.in-Ok-feed.ensures.fed b.0 b.1 b.2 b.3 b.4 in
+    let fed = c.in-Ok-feed.ensures.feeds.fed b.0 b.1 b.2 b.3 b.4 in
     let more : bytes_encrypted_so_far c.loop-n.enc + c.in-Ok-pull.n ≡ bytes_encrypted_so_far c.feed.new.self =
     bytes_encrypted_so_far-more c.loop-n.enc c.feed.new.self b.0 b.1 b.2 b.3 _ c.in-Ok-pull.n b.4 fed (grind (arith, common_steps, c.in-Ok-pull.ensures.bound, c.pull.auto.buf, i.buf_long)) in
     let below : bytes_encrypted_so_far c.feed.new.self < 2 ^ 60 = bytes_encrypted_so_far-below c.feed.new.self b.0 b.1 b.2 _ fed in
@@ -57,24 +57,24 @@ loop-n-preserved g c =
     let j = bytes_encrypted_so_far c.loop-n.enc in
     let n = c.in-Ok-pull.n in
     let b = i.begun in
-    let fed = c.in-Ok-feed.ensures.fed b.0 b.1 b.2 b.3 b.4 in
+    let fed = c.in-Ok-feed.ensures.feeds.fed b.0 b.1 b.2 b.3 b.4 in
     let more : j + n ≡ bytes_encrypted_so_far c.feed.new.self =
     bytes_encrypted_so_far-more c.loop-n.enc c.feed.new.self b.0 b.1 b.2 b.3 _ n b.4 fed (grind (arith, common_steps, c.in-Ok-pull.ensures.bound, c.pull.auto.buf, i.buf_long)) in record {
       buf_long = put_length n c.pull.new.buf c.feed.new.bytes 4096 (grind (arith, c.pull.auto.buf, i.buf_long)) (grind (arith, c.in-Ok-pull.ensures.bound, i.buf_long))
           (grind (arith, common_steps, c.feed.auto.bytes, c.in-Ok-pull.ensures.bound, c.pull.auto.buf, i.buf_long));
-      grants = c.in-Ok-push_all.ensures.granted ∙ c.in-Ok-pull.ensures.granted (omega (arith, c.if-n-eq0.false)) ∙ i.grants;
+      grants = c.in-Ok-push_all.ensures.pushes.granted ∙ c.in-Ok-pull.ensures.granted (omega (arith, c.if-n-eq0.false)) ∙ i.grants;
       same = search rules;
       begun = (b.0, b.1, b.2, _, fed);
       below = bytes_encrypted_so_far-below c.feed.new.self b.0 b.1 b.2 _ fed;
       within = λ t. subst (λ k. k ≤ length s.input) more (fits_on j n s before (i.left t) (i.within t) (c.in-Ok-pull.ensures.within t));
-      left = λ t. subst (λ k. after.input ≡ drop k s.input) more (left_on j n s before pulled after (i.left t) (c.in-Ok-pull.ensures.taken t) (ap (λ (w : HostState). w.input) (c.in-Ok-push_all.ensures.put t)));
+      left = λ t. subst (λ k. after.input ≡ drop k s.input) more (left_on j n s before pulled after (i.left t) (c.in-Ok-pull.ensures.taken t) (ap (λ (w : HostState). w.input) (c.in-Ok-push_all.ensures.pushes.put t)));
       holds = λ t passphrase salt costs h. subst (λ k. HasEncrypted c.feed.new.self passphrase salt costs (take k s.input)) more (
           subst (λ xs. HasEncrypted c.feed.new.self passphrase salt costs xs)
           (take_on (body passphrase salt costs) j n _ s before (i.passes t passphrase salt costs h) (c.in-Ok-pull.ensures.bytes t))
-          (c.in-Ok-feed.ensures.fed passphrase salt costs _ (i.holds t passphrase salt costs h)));
+          (c.in-Ok-feed.ensures.feeds.fed passphrase salt costs _ (i.holds t passphrase salt costs h)));
       passes = λ t passphrase salt costs h. subst (λ k. after ≡ after_pull_and_push (body passphrase salt costs) k s) more (
           pass_whole (body passphrase salt costs) j n _ _ s before pulled after (i.passes t passphrase salt costs h) (c.in-Ok-pull.ensures.bytes t)
-          (c.in-Ok-pull.ensures.taken t) (sym (c.in-Ok-feed.ensures.written passphrase salt costs _ (i.holds t passphrase salt costs h))) (c.in-Ok-push_all.ensures.put t));
+          (c.in-Ok-pull.ensures.taken t) (sym (c.in-Ok-feed.ensures.feeds.written passphrase salt costs _ (i.holds t passphrase salt costs h))) (c.in-Ok-push_all.ensures.pushes.put t));
     }
 
 pub returns-in_default-push_all-clause-refused : goal.returns-in_default-push_all-clause-refused
@@ -86,12 +86,12 @@ returns-in_default-push_all-clause-refused g c = λ t passphrase salt costs h.
     let i = c.loop-n.invariant in
     let j = bytes_encrypted_so_far c.loop-n.enc in
     let n = c.in-Ok-pull.n in
-    let cut = c.in_default-push_all.ensures.begun t in
+    let cut = c.in_default-push_all.ensures.pushes.begun t in
     let passes = i.passes t passphrase salt costs h in
-    let written = sym (c.in-Ok-feed.ensures.written passphrase salt costs _ (i.holds t passphrase salt costs h)) in
+    let written = sym (c.in-Ok-feed.ensures.feeds.written passphrase salt costs _ (i.holds t passphrase salt costs h)) in
     let longer = gives_length (body passphrase salt costs) j n _ _ s before passes (c.in-Ok-pull.ensures.bytes t) written in
     let b = i.begun in
-    let fed = c.in-Ok-feed.ensures.fed b.0 b.1 b.2 b.3 b.4 in
+    let fed = c.in-Ok-feed.ensures.feeds.fed b.0 b.1 b.2 b.3 b.4 in
     let more : j + n ≡ bytes_encrypted_so_far c.feed.new.self =
     bytes_encrypted_so_far-more c.loop-n.enc c.feed.new.self b.0 b.1 b.2 b.3 _ n b.4 fed (grind (arith, common_steps, c.in-Ok-pull.ensures.bound, c.pull.auto.buf, i.buf_long)) in
     inr (inl (

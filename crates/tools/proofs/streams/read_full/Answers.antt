@@ -9,13 +9,18 @@ loop-at-preserved g c =
     let fits : c.in_ok-n.n ≤ length c.read_some.new.buf = search rules in (
       search rules,
       λ t. is_read-more c.args.reading c.loop-at.at _ c.in_ok-n.n c.loop-at.buf c.read_some.new.buf _ _ _ c.loop-at.invariant.0 fits
-          c.if-n-eq0.false (c.loop-at.invariant.1 t) (c.in_ok-n.ensures.bytes t),
-      λ t. c.in_ok-n.ensures.same_files t ∙ c.loop-at.invariant.2 t,
-      λ t. no_fewer-then _ _ _ (c.loop-at.invariant.3 t) (c.in_ok-n.ensures.no_fewer t),
+          c.if-n-eq0.false (c.loop-at.invariant.1 t) (c.in_ok-n.ensures.reads t).bytes,
+      λ t. (c.in_ok-n.ensures.reads t).same_files ∙ c.loop-at.invariant.2 t,
+      λ t. no_fewer-then _ _ _ (c.loop-at.invariant.3 t) (c.in_ok-n.ensures.failures t).no_fewer,
     )
 
-pub returns-then-n-eq0-clause-whole : goal.returns-then-n-eq0-clause-whole
-returns-then-n-eq0-clause-whole g c =
+pub returns-then-n-eq0-clause-fills : goal.returns-then-n-eq0-clause-fills
+returns-then-n-eq0-clause-fills g c =
     let same : length (put_mid c.loop-at.at (length c.loop-at.buf - c.loop-at.at) c.loop-at.buf c.read_some.new.buf) ≡ length c.loop-at.buf = search rules in
-    λ t. beginning_at_put c.args.reading c.loop-at.at _ c.loop-at.buf c.read_some.new.buf _ _ c.loop-at.invariant.0 (c.loop-at.invariant.1 t)
-    ((c.in_ok-n.ensures.bytes t).end c.if-n-eq0.true) same
+    λ t. let read = c.in_ok-n.ensures.reads t in record {
+      whole = beginning_at_put c.args.reading c.loop-at.at _ c.loop-at.buf c.read_some.new.buf _ _ c.loop-at.invariant.0 (c.loop-at.invariant.1 t)
+          (read.bytes.end c.if-n-eq0.true) same;
+      left = search rules;
+      taken = search rules;
+      same_files = read.same_files ∙ c.loop-at.invariant.2 t;
+    }

@@ -23,9 +23,14 @@ loop-byte-preserved c =
       left = λ j h. let ne : j ≢ i = omega arith in rw get_or-set_other (c.loop-byte.invariant.left j (omega arith));
     }
 
-pub returns-clause-xored : goal.returns-clause-xored
-returns-clause-xored c =
-    counter_mode_from_each _ _ c.args.bytes.now c.loop-byte.bytes (omega arith) (λ k h. c.loop-byte.invariant.done k (omega arith))
+pub returns : goal.returns
+returns c = record {
+  applied = record {
+    xored = counter_mode_from_each _ _ c.args.bytes.now c.loop-byte.bytes (omega arith) (λ k h. c.loop-byte.invariant.done k (omega arith));
+    position = omega (arith, c.loop-byte.invariant.place);
+    key = c.loop-byte.invariant.key;
+  };
+}
 
 pub invariant_of-self : goal.invariant_of-self
 invariant_of-self c = (c.loop-byte.invariant.planes, λ h. rw c.loop-byte.invariant.key (c.loop-byte.invariant.kept h))

@@ -1,8 +1,9 @@
-use Rattle.std.proofs.Common.{◌≡◌, ◌*◌, ◌/◌, ◌%◌, refl, arith, ap, ◌∙◌}
+use Rattle.std.proofs.Common.{◌≡◌, ◌*◌, ◌/◌, ◌%◌, refl, sym, arith, ap, ◌∙◌}
 use Rattle.argon.specs.Argon2.{argon2_tag}
 use Rattle.argon.specs.Counts.{slice_work, work}
 use Rattle.argon.proofs.Slices.{slices_work}
 use Rattle.argon.specs.Filling.{Filling}
+use Rattle.argon.specs.Parameters.{Parameters}
 use Rattle.argon.proofs.Slices.{slices_more, slices_work_is, range_long}
 use Rattle.argon.proofs.matrix.Matrix.hash.Goals as goal
 
@@ -18,17 +19,28 @@ loop-preserved c =
     let inv = c.loop.invariant in
     let same : slice_work c.loop.self.parameters (c.loop.self.slices_made / 4) (c.loop.self.slices_made % 4) ≡ slice_work c.args.self.now.parameters (c.loop.counter / 4) (c.loop.counter % 4) =
     rw (inv.0, inv.3) refl in (
-      c.slice.ensures.parameters ∙ inv.0,
-      c.slice.ensures.started,
-      c.slice.ensures.first_hash ∙ inv.2,
+      ap (λ (f : Filling). f.parameters) c.slice.ensures.matrix ∙ inv.0,
+      ap (λ (f : Filling). f.is_started) c.slice.ensures.matrix ∙ inv.1,
+      ap (λ (f : Filling). f.first_hash) c.slice.ensures.matrix ∙ inv.2,
       omega (arith, c.slice.ensures.position, inv.3),
       c.slice.ensures.size ∙ inv.4,
       omega (arith, c.slice.ensures.count, same, inv.5, slices_more c.args.self.now.parameters c.loop.counter),
     )
 
-pub returns-clause-tag : goal.returns-clause-tag
+pub returns-clause-hashed : goal.returns-clause-hashed
 unfolding argon2_tag
-returns-clause-tag c = c.tag.ensures.tag ∙ rw (c.loop.invariant.0, c.loop.invariant.2) refl
+returns-clause-hashed c =
+    let inv = c.loop.invariant in
+    let same : c.self.inside.params ≡ c.args.self.now.parameters = ap (λ (f : Filling). f.parameters) c.self.view_is ∙ c.start.ensures.parameters in
+    let passes : c.self.inside.params.passes ≡ c.loop.self.parameters.passes = ap (λ (parameters : Parameters). parameters.passes) (same ∙ sym inv.0) in
+    let end : c.loop.counter ≡ 4 * c.self.inside.params.passes = omega (arith, c.passes.ensures.value) in
+    record {
+      tag = c.tag.ensures.tag ∙ rw (c.loop.invariant.0, c.loop.invariant.2) refl;
+      parameters = c.loop.invariant.0;
+      done = record { started = c.loop.invariant.1; all = omega (arith, inv.3, end, passes) };
+      h0 = c.loop.invariant.2;
+      size = c.loop.invariant.4;
+    }
 
 pub returns-clause-count : goal.returns-clause-count
 returns-clause-count c =

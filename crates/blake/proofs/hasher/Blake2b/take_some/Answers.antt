@@ -15,11 +15,13 @@ returns-clause-holds c = λ n m held.
     let ys : c.copy_from_slice.new.self ≡ d = c.copy_from_slice.ensures.after in
     elim (cases_lt s.used 128) [
       | inr full ↦
-          let room = c.make_room-used.ensures.full (omega arith) in
-          holds_next s _ d (omega arith) (omega arith) refl (omega arith) room.0 (omega (arith, room.1)) (omega arith) (omega (arith, room.1))
-          (rw (ys, room.1) (take-put_mid 0 _ s.buffer d (length d) (omega arith) (omega arith))) n m held
+          let taken = c.make_room-used.ensures.full (omega arith) in
+          let empty : c.make_room-used.result ≡ 0 = omega (arith, c.make_room-used.ensures.used) in
+          holds_next s _ d (omega arith) (omega arith) refl (omega arith) taken (omega (arith, empty)) (omega arith) (omega (arith, empty))
+          (rw (ys, empty) (take-put_mid 0 _ s.buffer d (length d) (omega arith) (omega arith))) n m held
       | inl open' ↦
-          let room = c.make_room-used.ensures.open open' in
-          holds_more s _ d refl (omega arith) room.0 (omega (arith, room.1)) (omega arith) (omega (arith, room.1))
-          (rw (ys, room.1) (take-put_mid s.used _ s.buffer d (s.used + length d) refl (omega arith))) n m held
+          let kept = c.make_room-used.ensures.open open' in
+          let same : c.make_room-used.result ≡ c.args.self.now.used = omega (arith, c.make_room-used.ensures.used) in
+          holds_more s _ d refl (omega arith) kept (omega (arith, same)) (omega arith) (omega (arith, same))
+          (rw (ys, same) (take-put_mid s.used _ s.buffer d (s.used + length d) refl (omega arith))) n m held
     ]

@@ -3,87 +3,81 @@ use Rattle.std.proofs.lemmas.List.{drop-drop, take_at}
 use Rattle.std.proofs.lemmas.Slice.{drop-append-drop}
 use Rattle.macs.specs.Hmac.{Holds}
 use Rattle.aes_ctr.specs.CounterMode.{KeyStreamPlace}
+use Rattle.encfile.specs.Decrypting.{DecryptionHasRead, IsSplit}
 use Rattle.encfile.specs.EncryptedFile.{cipher_key, hmac_key, head, released_text}
 use Rattle.encfile.proofs.Pieces.{after_made, place-more}
 use Rattle.encfile.proofs.Reading.{FitsSha256-take, IsSplit-more, held_bytes-split, length-split, released_text-more}
 use Rattle.encfile.proofs.dec.Dec.feed.Goals as goal
 
-pub returns-then-piece-saturating_sub-clause-too_long : goal.returns-then-piece-saturating_sub-clause-too_long
-returns-then-piece-saturating_sub-clause-too_long c passphrase file h =
-    let long = length-split file passphrase h.salt h.costs h.done h.held h.split in
-    omega (arith, long, h.below_limit, ap (λ (p : KeyStreamPlace). p.position) h.state.cipher, ap length h.state.held, c.position.ensures.position, c.len.ensures.len, c.saturating_add-rest.ensures, c.saturating_sub.ensures, c.if-piece-saturating_sub.true)
+pub returns-then-piece-saturating_sub-clause-feeds : goal.returns-then-piece-saturating_sub-clause-feeds
+returns-then-piece-saturating_sub-clause-feeds c = record {
+  read = tt;
+  released = tt;
+  held = tt;
+  fits = tt;
+  hashed = tt;
+  too_long = λ passphrase file h.
+      let long = length-split file passphrase h.salt h.costs h.done h.held h.split in
+      omega (arith, long, h.below_limit, ap (λ (p : KeyStreamPlace). p.position) h.state.cipher, ap length h.state.held, c.position.ensures.position, c.len.ensures.len, c.saturating_add-rest.ensures, c.saturating_sub.ensures, c.if-piece-saturating_sub.true);
+}
 
-pub returns-clause-fits : goal.returns-clause-fits
-returns-clause-fits c passphrase file h =
-    let long = length-split file passphrase h.salt h.costs h.done h.held h.split in
-    omega (arith, long, ap (λ (p : KeyStreamPlace). p.position) h.state.cipher, ap length h.state.held, c.position.ensures.position, c.len.ensures.len, c.saturating_add-rest.ensures, c.saturating_sub.ensures, c.if-piece-saturating_sub.false)
-
-pub returns-clause-hashed : goal.returns-clause-hashed
-returns-clause-hashed c passphrase file h =
-    let long = length-split file passphrase h.salt h.costs h.done h.held h.split in
-    FitsSha256-take _ (file ++ c.args.piece.now)
-    (omega (arith, long, ap (λ (p : KeyStreamPlace). p.position) h.state.cipher, ap length h.state.held, c.position.ensures.position, c.len.ensures.len, c.saturating_add-rest.ensures, c.saturating_sub.ensures, c.if-piece-saturating_sub.false))
-
-pub returns-clause-read : goal.returns-clause-read
-returns-clause-read c passphrase file h =
-    let piece : List ℕ = c.args.piece.now in
-    let n : ℕ = c.take_in-released.result in
-    let moved : List ℕ = take n c.take_in-released.new.out in
-    let joined = c.take_in-released.ensures.joined ∙ ap (λ held. held ++ piece) h.state.held in
-    let count : length moved ≡ length h.held + length piece - 32 =
-    omega (arith, length-take n c.take_in-released.new.out, c.take_in-released.ensures.moved, ap length h.state.held, c.take_in-released.auto.out, c.requires.room) in
-    let fits : length file + length piece < 2 ^ 60 + 128 = returns-clause-fits c passphrase file h in
-    let front : List ℕ = head passphrase h.salt h.costs in
-    let code = c.update.ensures.appended _ _ h.state.code in
-    record {
-      salt = h.salt;
-      costs = h.costs;
-      done = h.done ++ moved;
-      held = c.take_in-released.new.self;
-      state = record {
-        cipher = place-more (cipher_key passphrase h.salt h.costs) h.done moved c.args.self.now.ctr c.apply.new.self h.state.cipher c.apply.ensures.key c.apply.ensures.position;
-        held = refl;
-        code = subst (Holds c.update.new.self (hmac_key passphrase h.salt h.costs)) (append_assoc front h.done moved) code;
-      };
-      split = IsSplit-more file passphrase h.salt h.costs h.done h.held piece moved c.take_in-released.new.self h.split joined count c.take_in-released.ensures.at_most_32;
-      below_limit = omega (arith, fits, length-append file piece);
-    }
-
-pub returns-clause-released : goal.returns-clause-released
-returns-clause-released c passphrase file h =
-    let piece : List ℕ = c.args.piece.now in
-    let n : ℕ = c.take_in-released.result in
-    let out : List ℕ = c.take_in-released.new.out in
-    let joined = c.take_in-released.ensures.joined ∙ ap (λ held. held ++ piece) h.state.held in
-    let count : length (take n out) ≡ length h.held + length piece - 32 =
-    omega (arith, length-take n out, c.take_in-released.ensures.moved, ap length h.state.held, c.take_in-released.auto.out, c.requires.room) in
-    let long : length c.apply.new.bytes ≡ n = omega (arith, length-take n out, c.apply.auto.bytes, count, c.take_in-released.ensures.moved, ap length h.state.held) in
-    ap (λ t. released_text file passphrase ++ t) (take_at c.apply.new.bytes (drop n out) n long)
-    ∙ released_text-more file (file ++ piece) passphrase h.salt h.costs h.done h.held (take n out) c.take_in-released.new.self c.apply.new.bytes c.args.self.now.ctr h.split
-    (IsSplit-more file passphrase h.salt h.costs h.done h.held piece (take n out) c.take_in-released.new.self h.split joined count c.take_in-released.ensures.at_most_32)
-    h.state.cipher c.apply.ensures.xored
-
-pub returns-clause-held : goal.returns-clause-held
-returns-clause-held c passphrase file h =
+pub returns-clause-feeds : goal.returns-clause-feeds
+returns-clause-feeds c =
     let piece : List ℕ = c.args.piece.now in
     let n : ℕ = c.take_in-released.result in
     let out : List ℕ = c.take_in-released.new.out in
     let old : List ℕ = c.args.out.now in
     let before : List ℕ = c.args.self.now.held in
     let last : List ℕ = c.take_in-released.new.self in
-    let joined = c.take_in-released.ensures.joined ∙ ap (λ held. held ++ piece) h.state.held in
+    let moved : List ℕ = take n out in
     let few : length before ≤ 32 = omega (arith, c.len.ensures.len, c.len.ensures.at_most_32) in
-    let moved : length (take n out) ≡ n =
+    let moves : length moved ≡ n =
     omega (arith, length-take n out, c.take_in-released.ensures.moved, c.take_in-released.auto.out, c.requires.room, few) in
-    let count : length (take n out) ≡ length h.held + length piece - 32 = omega (arith, moved, c.take_in-released.ensures.moved, ap length h.state.held) in
-    let long : length c.apply.new.bytes ≡ n = omega (arith, c.apply.auto.bytes, moved) in
-    let all : n + length last ≡ length before + length piece =
-    omega (arith, ap length c.take_in-released.ensures.joined, length-append (take n out) last, length-append before piece, moved) in
-    let kept = held_bytes-split (file ++ piece) passphrase h.salt h.costs (h.done ++ take n out) last
-    (IsSplit-more file passphrase h.salt h.costs h.done h.held piece (take n out) last h.split joined count c.take_in-released.ensures.at_most_32) in
-    after_made n (length before + length piece) old out c.apply.new.bytes last long moved
-    (c.take_in-released.ensures.put ∙ sym c.take_in-released.ensures.joined) c.take_in-released.ensures.rest all
-    ∙ ap (λ (l : List ℕ). l ++ drop (n + length l) old) (sym kept)
+    let long : length c.apply.new.bytes ≡ n = omega (arith, c.apply.auto.bytes, moves) in
+    let below : (passphrase file : List ℕ) → DecryptionHasRead c.args.self.now passphrase file → length file + length piece < 2 ^ 60 + 128 =
+    λ passphrase file h.
+    let long = length-split file passphrase h.salt h.costs h.done h.held h.split in
+    omega (arith, long, ap (λ (p : KeyStreamPlace). p.position) h.state.cipher, ap length h.state.held, c.position.ensures.position, c.len.ensures.len, c.saturating_add-rest.ensures, c.saturating_sub.ensures, c.if-piece-saturating_sub.false) in
+    let more : (passphrase file : List ℕ) (h : DecryptionHasRead c.args.self.now passphrase file) → IsSplit (file ++ piece) passphrase h.salt h.costs (h.done ++ moved) last =
+    λ passphrase file h.
+    let joined = c.take_in-released.ensures.joined ∙ ap (λ held. held ++ piece) h.state.held in
+    let count : length moved ≡ length h.held + length piece - 32 = omega (arith, moves, c.take_in-released.ensures.moved, ap length h.state.held) in
+    IsSplit-more file passphrase h.salt h.costs h.done h.held piece moved last h.split joined count c.take_in-released.ensures.at_most_32 in
+    record {
+      read = λ passphrase file h.
+          let fits : length file + length piece < 2 ^ 60 + 128 = below passphrase file h in
+          let front : List ℕ = head passphrase h.salt h.costs in
+          let code = c.update.ensures.appended _ _ h.state.code in
+          record {
+            salt = h.salt;
+            costs = h.costs;
+            done = h.done ++ moved;
+            held = last;
+            state = record {
+              cipher = place-more (cipher_key passphrase h.salt h.costs) h.done moved c.args.self.now.ctr c.apply.new.self h.state.cipher c.apply.ensures.applied.key c.apply.ensures.applied.position;
+              held = refl;
+              code = subst (Holds c.update.new.self (hmac_key passphrase h.salt h.costs)) (append_assoc front h.done moved) code;
+            };
+            split = more passphrase file h;
+            below_limit = omega (arith, fits, length-append file piece);
+          };
+      released = λ passphrase file h.
+          ap (λ t. released_text file passphrase ++ t) (take_at c.apply.new.bytes (drop n out) n long)
+          ∙ released_text-more file (file ++ piece) passphrase h.salt h.costs h.done h.held moved last c.apply.new.bytes c.args.self.now.ctr h.split
+          (more passphrase file h) h.state.cipher c.apply.ensures.applied.xored;
+      held = λ passphrase file h.
+          let all : n + length last ≡ length before + length piece =
+          omega (arith, ap length c.take_in-released.ensures.joined, length-append moved last, length-append before piece, moves) in
+          let kept = held_bytes-split (file ++ piece) passphrase h.salt h.costs (h.done ++ moved) last (more passphrase file h) in
+          after_made n (length before + length piece) old out c.apply.new.bytes last long moves
+          (c.take_in-released.ensures.put ∙ sym c.take_in-released.ensures.joined) c.take_in-released.ensures.rest all
+          ∙ ap (λ (l : List ℕ). l ++ drop (n + length l) old) (sym kept);
+      fits = below;
+      hashed = λ passphrase file h.
+          let fits : length file + length piece < 2 ^ 60 + 128 = below passphrase file h in
+          FitsSha256-take _ (file ++ piece) (omega (arith, fits));
+      too_long = tt;
+    }
 
 pub returns-clause-rest : goal.returns-clause-rest
 returns-clause-rest c =

@@ -1,7 +1,7 @@
 use Rattle.std.proofs.Common.{rules, ◌≡◌, ℕ, List, [], arith, append-nil, ap₂, subst, sym, ◌∙◌}
 use Rattle.romix.specs.Costs.{Parameters}
 use Rattle.encfile.specs.Header.{bytes_at}
-use Rattle.encfile.specs.EncryptedFile.{derived_key, head}
+use Rattle.encfile.specs.EncryptedFile.{DerivesKeys, derived_key, head}
 use Rattle.encfile.specs.Decrypting.{HasDecryptedWithKeys}
 use Rattle.encfile.proofs.Reading.{head_is, released_text-short, right_header_hmac-is}
 use Rattle.encfile.proofs.dec.Dec.open.Goals as goal
@@ -60,3 +60,17 @@ returns-clause-opened c =
 
 pub returns-clause-nothing : goal.returns-clause-nothing
 returns-clause-nothing c = released_text-short c.args.front.now c.args.passphrase.now (omega (arith, c.told-front))
+
+pub returns-then-not-are_same-clause-derives : goal.returns-then-not-are_same-clause-derives
+returns-then-not-are_same-clause-derives c =
+    let keys = c.derived_key-keys in
+    let derives : List ℕ → Parameters → Type 0 =
+    λ salt costs. DerivesKeys c.args.passphrase.now salt costs c.args.workspace.now keys.new.workspace c.args.ticks.now keys.new.ticks in
+    subst (λ salt. derives salt c.args.header.costs) c.salt.ensures.salt (subst (derives c.salt.result.now) c.requires.workspace keys.ensures.derives)
+
+pub returns-clause-derives : goal.returns-clause-derives
+returns-clause-derives c =
+    let keys = c.derived_key-keys in
+    let derives : List ℕ → Parameters → Type 0 =
+    λ salt costs. DerivesKeys c.args.passphrase.now salt costs c.args.workspace.now keys.new.workspace c.args.ticks.now keys.new.ticks in
+    subst (λ salt. derives salt c.args.header.costs) c.salt.ensures.salt (subst (derives c.salt.result.now) c.requires.workspace keys.ensures.derives)

@@ -2,7 +2,7 @@ use Rattle.std.proofs.Common.{◌≡◌, ℕ, List, [], ◌++◌, drop, arith, a
 use Rattle.macs.specs.HmacSha256.{hmac_sha256}
 use Rattle.romix.specs.Costs.{Parameters}
 use Rattle.encfile.specs.Header.{header}
-use Rattle.encfile.specs.EncryptedFile.{derived_key, head}
+use Rattle.encfile.specs.EncryptedFile.{DerivesKeys, derived_key, head}
 use Rattle.encfile.specs.Encrypting.{HasEncryptedWithKeys}
 use Rattle.encfile.proofs.enc.Enc.start.Goals as goal
 
@@ -22,3 +22,9 @@ returns-clause-begun c =
       in_range = c.head.ensures.in_range;
       below_limit = omega arith;
     }
+
+pub returns-clause-derives : goal.returns-clause-derives
+returns-clause-derives c =
+    let keys = c.derived_key-keys in
+    subst (λ (costs : Parameters). DerivesKeys c.args.passphrase.now c.args.salt.now costs c.args.workspace.now keys.new.workspace c.args.ticks.now keys.new.ticks)
+    c.requires.workspace keys.ensures.derives
