@@ -435,11 +435,10 @@ def what_it_tells(room):
     time.sleep(0.5)  # ten times as long as a second is here
     print("goes\nends", file=go)
     status, _ = terminal.halt()
-    if not (room.shell.startswith("zsh") and status > 128):  # its wait may end at a stop
-        shown = lambda: terminal.shown.replace("\0", "")
-        terminal.until(lambda: shown().endswith(ERASED), "what erases it")  # for which zsh may not wait, either
-        is_told = re.fullmatch(f"{key[:-1]}?{end}", shown()) is not None  # with what was begun before the stop
-        room.that("told in the background", (status, is_told or shown()), (0, True))
+    shown = lambda: terminal.shown.replace("\0", "")
+    terminal.until(lambda: shown().endswith(ERASED), "what erases it")  # for which zsh may not wait
+    is_told = re.fullmatch(f"{key[:-1]}?{end}", shown()) is not None  # with what was begun before the stop
+    room.that("told in the background", (status, is_told or shown()), (0, True))
     shown = room.run("enc --logN 15 -r 8 -p 3 letters out", "a\n", "a\n", terminal="xterm", before=sleeping)[1]
     room.that("told of scrypt", "deriving the key: 32 MiB, 1 s" in shown or shown, True)
     room.that("told of a short run", room.run(ENC, "a\n", "a\n", terminal="xterm"), (0, TWICE, True))
