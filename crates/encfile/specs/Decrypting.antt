@@ -1,5 +1,5 @@
 -- What contracts see of a running decryption.
-use Rattle.std.specs.Prelude.{◌≡◌, ℕ, ◌+◌, ◌-◌, ◌^◌, ◌<◌, ◌≤◌, List, ◌++◌, length, take, drop, Result, IfOk, OnOk, OnErr}
+use Rattle.std.specs.Prelude.{◌≡◌, ℕ, ◌+◌, ◌-◌, ◌^◌, ◌<◌, ◌≤◌, List, ◌++◌, length, take, drop, Result, OnOk, OnErr}
 use Rattle.macs.specs.Hmac.{Holds}
 use Rattle.romix.specs.Costs.{IsInRange, Parameters}
 use Rattle.encfile.specs.EncryptedFile.{IsEncryptionOf, derived_key, head, released_text}
@@ -32,6 +32,14 @@ pub record DecryptionHasRead (dec : Dec) (passphrase file : List ℕ) : Type 0 w
   pub split : IsSplit file passphrase salt costs done held
   pub below_limit : length file < 2 ^ 60 + 128
 
+-- of a passphrase and a file
+abbrev pub OfDecryption : Type 1
+OfDecryption = List ℕ → List ℕ → Type 0
+
+-- whatever was read so far, this is so of it
+abbrev pub ForAllRead : OfDecryption → OfDecryption → Type 0
+ForAllRead Had IsSo = (passphrase file : List ℕ) → Had passphrase file → IsSo passphrase file
+
 -- the bytes that are held once so much of a file was read: the last 32 after its first 96, or all, where they are fewer
 abbrev pub held_bytes : List ℕ → List ℕ
 held_bytes file = drop (length file - 128) (drop 96 file)
@@ -40,27 +48,18 @@ held_bytes file = drop (length file - 128) (drop 96 file)
 abbrev pub HasHeldBytesAfter : ℕ → List ℕ → List ℕ → List ℕ → Type 0
 HasHeldBytesAfter n file before after = drop n after ≡ held_bytes file ++ drop (n + length (held_bytes file)) before
 
--- a decryption reads the next piece of the file, with this result, into a buffer of these bytes before and after it: that gets
--- the text which the piece releases, and then the bytes that are held, and all but the last 32, with which the final code is
--- compared, are hashed; or the bytes after the first 96 would reach 2^60 + 32
-pub record DecryptionIsFed {E : Type 0} (piece : List ℕ) (result : Result ℕ E) (old out : List ℕ) (before after : Dec) : Type 0 where
-  pub read : OnOk result ((passphrase file : List ℕ) → DecryptionHasRead before passphrase file
-      → DecryptionHasRead after passphrase (file ++ piece))
-  pub released : IfOk result (λ n. (passphrase file : List ℕ) → DecryptionHasRead before passphrase file
-      → released_text file passphrase ++ take n out ≡ released_text (file ++ piece) passphrase)
-  pub held : IfOk result (λ n. (passphrase file : List ℕ) → DecryptionHasRead before passphrase file
-      → HasHeldBytesAfter n (file ++ piece) old out)
-  pub fits : OnOk result ((passphrase file : List ℕ) → DecryptionHasRead before passphrase file
-      → length file + length piece < 2 ^ 60 + 128)
-  pub hashed : OnOk result ((passphrase file : List ℕ) → DecryptionHasRead before passphrase file
-      → FitsSha256 (take (length file + length piece - 32) (file ++ piece)))
-  pub too_long : OnErr result ((passphrase file : List ℕ) → DecryptionHasRead before passphrase file
-      → 2 ^ 60 + 128 ≤ length file + length piece)
+-- a decryption that has read this file reads its next piece into a buffer of these bytes before and after it: that gets the text
+-- of n bytes which the piece releases, and then the bytes that are held, and all but the last 32, with which the final code is
+-- compared, are hashed
+pub record DecryptionTakes (piece old out : List ℕ) (n : ℕ) (after : Dec) (passphrase file : List ℕ) : Type 0 where
+  pub read : DecryptionHasRead after passphrase (file ++ piece)
+  pub released : released_text file passphrase ++ take n out ≡ released_text (file ++ piece) passphrase
+  pub held : HasHeldBytesAfter n (file ++ piece) old out
+  pub fits : length file + length piece < 2 ^ 60 + 128
+  pub hashed : FitsSha256 (take (length file + length piece - 32) (file ++ piece))
 
 -- with this result the bytes that a decryption has read are, all together, an encryption under the passphrase of the text that
 -- they release; or they are none
 pub record TellsWhetherWhole {A E : Type 0} (dec : Dec) (result : Result A E) : Type 0 where
-  pub whole : OnOk result ((passphrase file : List ℕ) → DecryptionHasRead dec passphrase file
-      → IsEncryptionOf file passphrase (released_text file passphrase))
-  pub damaged : OnErr result ((passphrase file : List ℕ) → DecryptionHasRead dec passphrase file
-      → IsEncryptionOf file passphrase (released_text file passphrase) → ⊥)
+  pub whole : OnOk result (ForAllRead (DecryptionHasRead dec) (λ passphrase file. IsEncryptionOf file passphrase (released_text file passphrase)))
+  pub damaged : OnErr result (ForAllRead (DecryptionHasRead dec) (λ passphrase file. IsEncryptionOf file passphrase (released_text file passphrase) → ⊥))

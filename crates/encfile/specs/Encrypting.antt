@@ -1,5 +1,5 @@
 -- What contracts see of a running encryption.
-use Rattle.std.specs.Prelude.{◌≡◌, ℕ, ◌+◌, ◌*◌, ◌^◌, ◌<◌, ◌≤◌, List, ◌++◌, length, take, drop, Result, OnOk, OnErr}
+use Rattle.std.specs.Prelude.{◌≡◌, ℕ, ◌+◌, ◌*◌, ◌^◌, ◌<◌, List, ◌++◌, length, take, drop}
 use Rattle.macs.specs.Hmac.{Holds}
 use Rattle.aes_ctr.specs.CounterMode.{counter_mode}
 use Rattle.romix.specs.Costs.{IsInRange, Parameters}
@@ -19,21 +19,24 @@ pub record HasEncrypted (enc : Enc) (passphrase salt : List ℕ) (costs : Parame
   pub in_range : IsInRange costs
   pub below_limit : length text < 2 ^ 60
 
+-- of a passphrase, a salt, costs and a text
+abbrev pub OfEncryption : Type 1
+OfEncryption = List ℕ → List ℕ → Parameters → List ℕ → Type 0
+
+-- whatever was encrypted so far, this is so of it
+abbrev pub ForAllEncrypted : OfEncryption → OfEncryption → Type 0
+ForAllEncrypted Had IsSo = (passphrase salt : List ℕ) (costs : Parameters) (text : List ℕ) → Had passphrase salt costs text
+    → IsSo passphrase salt costs text
+
 -- SHA-256 inside HMAC takes the message after a block of 64 bytes; the length in bits, which it appends as a number
 -- of 64 bits, doesn't wrap (FIPS 180-4, 5.1.1)
 abbrev pub FitsSha256 : List ℕ → Type 0
 FitsSha256 message = 8 * (64 + length message) < 2 ^ 64
 
--- an encryption takes the next bytes of the text, with this result: it leaves them encrypted, so that the file goes on by them,
--- and has then encrypted them too; or the text would reach 2^60 bytes
-pub record EncryptionIsFed {A E : Type 0} (bytes : List ℕ) (result : Result A E) (encrypted : List ℕ) (before after : Enc) : Type 0 where
-  pub fed : OnOk result ((passphrase salt : List ℕ) (costs : Parameters) (text : List ℕ) → HasEncrypted before passphrase salt costs text
-      → HasEncrypted after passphrase salt costs (text ++ bytes))
-  pub written : OnOk result ((passphrase salt : List ℕ) (costs : Parameters) (text : List ℕ) → HasEncrypted before passphrase salt costs text
-      → body passphrase salt costs text ++ encrypted ≡ body passphrase salt costs (text ++ bytes))
-  pub fits : OnOk result ((passphrase salt : List ℕ) (costs : Parameters) (text : List ℕ) → HasEncrypted before passphrase salt costs text
-      → length text + length bytes < 2 ^ 60)
-  pub hashed : OnOk result ((passphrase salt : List ℕ) (costs : Parameters) (text : List ℕ) → HasEncrypted before passphrase salt costs text
-      → FitsSha256 (body passphrase salt costs (text ++ bytes)))
-  pub too_long : OnErr result ((passphrase salt : List ℕ) (costs : Parameters) (text : List ℕ) → HasEncrypted before passphrase salt costs text
-      → 2 ^ 60 ≤ length text + length bytes)
+-- an encryption that has encrypted this text takes its next bytes, leaves them encrypted, so that the file goes on by them, and
+-- has then encrypted them, too
+pub record EncryptionTakes (bytes encrypted : List ℕ) (after : Enc) (passphrase salt : List ℕ) (costs : Parameters) (text : List ℕ) : Type 0 where
+  pub fed : HasEncrypted after passphrase salt costs (text ++ bytes)
+  pub written : body passphrase salt costs text ++ encrypted ≡ body passphrase salt costs (text ++ bytes)
+  pub fits : length text + length bytes < 2 ^ 60
+  pub hashed : FitsSha256 (body passphrase salt costs (text ++ bytes))

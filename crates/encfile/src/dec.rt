@@ -1,8 +1,8 @@
 //! Decryption in pieces.
-ghost use Rattle.std.specs.Prelude.{◌≡◌, ◌+◌, ◌≤◌, [], length, take, drop, IfOk, OnOk, OnErr};
+ghost use Rattle.std.specs.Prelude.{◌≡◌, ◌+◌, ◌^◌, ◌≤◌, [], length, take, drop, IfOk, OnOk, OnErr};
 ghost use Rattle.encfile.specs.Header.{IsHeaderOf};
 ghost use Rattle.encfile.specs.EncryptedFile.{HasRightHeaderHmac, released_text, DerivesKeys};
-ghost use Rattle.encfile.specs.Decrypting.{HasDecryptedWithKeys, DecryptionHasRead, DecryptionIsFed, TellsWhetherWhole};
+ghost use Rattle.encfile.specs.Decrypting.{HasDecryptedWithKeys, DecryptionHasRead, DecryptionTakes, ForAllRead, TellsWhetherWhole};
 
 use crate::fault::{Damaged, TooLong, WrongPassphrase};
 use crate::header::Header;
@@ -77,7 +77,10 @@ impl Dec {
     /// refusal `out` and the decryption are as they were.
     pub fn feed(&mut self, piece: &[u8], out: &mut [u8]) -> Result<usize, TooLong>
         requires room { length piece.now + 32 ≤ length out.old }
-        ensures feeds { DecryptionIsFed piece.now result out.old out.new self.old self.new }
+        ensures takes { IfOk result (λ n. ForAllRead (DecryptionHasRead self.old)
+            (DecryptionTakes piece.now out.old out.new n self.new)) }
+        ensures too_long { OnErr result (ForAllRead (DecryptionHasRead self.old)
+            (λ _ file. 2 ^ 60 + 128 ≤ length file + length piece.now)) }
         ensures within { IfOk result (λ n. n ≤ length piece.now) }
         ensures rest { drop (length piece.now + 32) out.new ≡ drop (length piece.now + 32) out.old }
         ensures unchanged { OnErr result (self.new ≡ self.old) }

@@ -1,10 +1,10 @@
 //! Encryption in pieces.
-ghost use Rattle.std.specs.Prelude.{◌≡◌, ℕ, ◌++◌, List, [], drop, OnErr};
+ghost use Rattle.std.specs.Prelude.{◌≡◌, ◌+◌, ◌^◌, ◌≤◌, ◌++◌, [], length, drop, OnOk, OnErr};
 ghost use Rattle.macs.specs.HmacSha256.{hmac_sha256};
-ghost use Rattle.romix.specs.Costs.{IsInRange, Parameters};
+ghost use Rattle.romix.specs.Costs.{IsInRange};
 ghost use Rattle.encfile.specs.Header.{header};
 ghost use Rattle.encfile.specs.EncryptedFile.{body, encrypted_file, head, DerivesKeys};
-ghost use Rattle.encfile.specs.Encrypting.{HasEncryptedWithKeys, EncryptionIsFed, HasEncrypted};
+ghost use Rattle.encfile.specs.Encrypting.{HasEncryptedWithKeys, EncryptionTakes, ForAllEncrypted, HasEncrypted};
 
 use crate::fault::TooLong;
 use crate::header_bytes::header;
@@ -72,13 +72,11 @@ impl Enc {
 
     /// The first 96 bytes of the file.
     pub fn header(&self) -> [u8; 96]
-        ensures head { (passphrase salt : List ℕ) (costs : Parameters) (text : List ℕ)
-            → HasEncrypted self.now passphrase salt costs text
-            → result ≡ head passphrase salt costs }
+        ensures head { ForAllEncrypted (HasEncrypted self.now)
+            (λ passphrase salt costs _. result ≡ head passphrase salt costs) }
         // which is all before the first piece of the text
-        ensures body { (passphrase salt : List ℕ) (costs : Parameters) (text : List ℕ)
-            → HasEncrypted self.now passphrase salt costs text
-            → result ≡ body passphrase salt costs [] }
+        ensures body { ForAllEncrypted (HasEncrypted self.now)
+            (λ passphrase salt costs _. result ≡ body passphrase salt costs []) }
     {
         self.header
     }
@@ -86,7 +84,10 @@ impl Enc {
     /// Encrypts the next bytes of the text in place, or refuses them where the text would reach
     /// 2^60 bytes. After a refusal they and the encryption are as they were.
     pub fn feed(&mut self, bytes: &mut [u8]) -> Result<(), TooLong>
-        ensures feeds { EncryptionIsFed bytes.old result bytes.new self.old self.new }
+        ensures takes { OnOk result (ForAllEncrypted (HasEncrypted self.old)
+            (EncryptionTakes bytes.old bytes.new self.new)) }
+        ensures too_long { OnErr result (ForAllEncrypted (HasEncrypted self.old)
+            (λ _ _ _ text. 2 ^ 60 ≤ length text + length bytes.old)) }
         ensures unchanged { OnErr result (self.new ≡ self.old) }
         ensures untouched { OnErr result (bytes.new ≡ bytes.old) }
     {
@@ -100,10 +101,9 @@ impl Enc {
 
     /// The last 32 bytes of the file.
     pub fn finish(self) -> [u8; 32]
-        ensures code { (passphrase salt : List ℕ) (costs : Parameters) (text : List ℕ)
-            → HasEncrypted self passphrase salt costs text
-            → body passphrase salt costs text ++ result
-            ≡ encrypted_file passphrase salt costs text }
+        ensures code { ForAllEncrypted (HasEncrypted self) (λ passphrase salt costs text.
+            body passphrase salt costs text ++ result
+            ≡ encrypted_file passphrase salt costs text) }
     {
         self.hmac.finish()
     }

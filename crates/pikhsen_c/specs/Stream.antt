@@ -2,8 +2,8 @@
 use Rattle.std.specs.Prelude.{◌≡◌, ◌≢◌, ◌==◌, ℕ, ◌+◌, ◌^◌, ◌<◌, ◌≤◌, ◌++◌, not, nat_lt, List, [], length, take, drop, Option, Some, None, if◌then◌else◌}
 use Rattle.romix.specs.Costs.{Parameters}
 pub use Rattle.encfile.specs.EncryptedFile.{HasRightHeaderHmac, IsEncryptionOf, body, encrypted_file, released_text}
-use Rattle.encfile.specs.Encrypting.{HasEncrypted}
-use Rattle.encfile.specs.Decrypting.{DecryptionHasRead, HasHeldBytesAfter}
+use Rattle.encfile.specs.Encrypting.{ForAllEncrypted, HasEncrypted, OfEncryption}
+use Rattle.encfile.specs.Decrypting.{DecryptionHasRead, ForAllRead, HasHeldBytesAfter, OfDecryption}
 use Rattle.pikhsen_c.specs.File.{encrypt_status, header_and_limits_status}
 use Rattle.pikhsen_c.specs.Status.{damaged_status, short_file_status, wrong_passphrase_status, wrong_stream_state_status, IsUnchangedIfRefused, ReturnsNoLengthIfRefused}
 use Rattle.pikhsen_c.specs.declared.stream.StreamState.{StreamState}
@@ -86,61 +86,52 @@ pub record EndsStream (IsEnd IsRefusal : Type 0) (before after : PikhsenStream) 
 
 -- ---- what the calls make of an encryption, of which a predicate says what it has encrypted so far
 
-abbrev Of : Type 1
-Of = List ℕ → List ℕ → Parameters → List ℕ → Type 0
-
 -- the text that it has encrypted grows by a piece
-abbrev pub EncryptsNextPiece : Of → Of → List ℕ → Type 0
-EncryptsNextPiece Had Has piece = (passphrase salt : List ℕ) (costs : Parameters) (text : List ℕ)
-    → Had passphrase salt costs text → Has passphrase salt costs (text ++ piece)
+abbrev pub EncryptsNextPiece : OfEncryption → OfEncryption → List ℕ → Type 0
+EncryptsNextPiece Had Has piece = ForAllEncrypted Had (λ passphrase salt costs text. Has passphrase salt costs (text ++ piece))
 
 -- these bytes are the next of the file, where its text grows by a piece
-abbrev pub AreNextFileBytes : Of → List ℕ → List ℕ → Type 0
-AreNextFileBytes Had piece bytes = (passphrase salt : List ℕ) (costs : Parameters) (text : List ℕ)
-    → Had passphrase salt costs text
-    → body passphrase salt costs text ++ bytes ≡ body passphrase salt costs (text ++ piece)
+abbrev pub AreNextFileBytes : OfEncryption → List ℕ → List ℕ → Type 0
+AreNextFileBytes Had piece bytes = ForAllEncrypted Had
+    (λ passphrase salt costs text. body passphrase salt costs text ++ bytes ≡ body passphrase salt costs (text ++ piece))
 
 -- so many more bytes are encrypted where the text stays below 2^60 bytes
-abbrev pub EncryptsUnlessTextTooLong : Of → ℕ → ℕ → Type 0
-EncryptsUnlessTextTooLong Had more status = (passphrase salt : List ℕ) (costs : Parameters) (text : List ℕ)
-    → Had passphrase salt costs text → length text + more < 2 ^ 60 → status ≡ 0
+abbrev pub EncryptsUnlessTextTooLong : OfEncryption → ℕ → ℕ → Type 0
+EncryptsUnlessTextTooLong Had more status = ForAllEncrypted Had (λ _ _ _ text. length text + more < 2 ^ 60 → status ≡ 0)
 
 -- a piece of the text is encrypted in place, to the next bytes of the file; where it would be too long, it stays
-pub record EncryptsPiece (Had Has : Of) (before after : List ℕ) (status : ℕ) : Type 0 where
+pub record EncryptsPiece (Had Has : OfEncryption) (before after : List ℕ) (status : ℕ) : Type 0 where
   pub fed : status ≡ 0 → EncryptsNextPiece Had Has before
   pub written : status ≡ 0 → AreNextFileBytes Had before after
   pub fits : EncryptsUnlessTextTooLong Had (length before) status
   pub untouched : IsUnchangedIfRefused status before after
 
 -- these bytes are the last of the file
-abbrev pub AreLastFileBytes : Of → List ℕ → Type 0
-AreLastFileBytes Had code = (passphrase salt : List ℕ) (costs : Parameters) (text : List ℕ)
-    → Had passphrase salt costs text
-    → body passphrase salt costs text ++ code ≡ encrypted_file passphrase salt costs text
+abbrev pub AreLastFileBytes : OfEncryption → List ℕ → Type 0
+AreLastFileBytes Had code = ForAllEncrypted Had
+    (λ passphrase salt costs text. body passphrase salt costs text ++ code ≡ encrypted_file passphrase salt costs text)
 
 -- ---- what the calls make of a decryption, of which a predicate says what it has read so far
 
 -- the file that it has read grows by a piece
-abbrev pub ReadsNextPiece : (List ℕ → List ℕ → Type 0) → (List ℕ → List ℕ → Type 0) → List ℕ → Type 0
-ReadsNextPiece Had Has piece = (passphrase file : List ℕ) → Had passphrase file → Has passphrase (file ++ piece)
+abbrev pub ReadsNextPiece : OfDecryption → OfDecryption → List ℕ → Type 0
+ReadsNextPiece Had Has piece = ForAllRead Had (λ passphrase file. Has passphrase (file ++ piece))
 
 -- this text is released where the file grows by a piece
-abbrev pub IsNextReleasedText : (List ℕ → List ℕ → Type 0) → List ℕ → List ℕ → Type 0
-IsNextReleasedText Had piece text = (passphrase file : List ℕ) → Had passphrase file
-    → released_text file passphrase ++ text ≡ released_text (file ++ piece) passphrase
+abbrev pub IsNextReleasedText : OfDecryption → List ℕ → List ℕ → Type 0
+IsNextReleasedText Had piece text = ForAllRead Had
+    (λ passphrase file. released_text file passphrase ++ text ≡ released_text (file ++ piece) passphrase)
 
 -- so many more bytes are read where the file stays below 2^60 + 128 bytes
-abbrev pub ReadsUnlessFileTooLong : (List ℕ → List ℕ → Type 0) → ℕ → ℕ → Type 0
-ReadsUnlessFileTooLong Had more status = (passphrase file : List ℕ) → Had passphrase file
-    → length file + more < 2 ^ 60 + 128 → status ≡ 0
+abbrev pub ReadsUnlessFileTooLong : OfDecryption → ℕ → ℕ → Type 0
+ReadsUnlessFileTooLong Had more status = ForAllRead Had (λ _ file. length file + more < 2 ^ 60 + 128 → status ≡ 0)
 
 -- a piece of the file is read, which releases so many bytes of text, the first of a buffer; after them come those that
 -- are held, and then what stood there before. Where the file would be too long, the buffer stays
-pub record ReadsPiece (Had Has : List ℕ → List ℕ → Type 0) (piece old new : List ℕ) (count status : ℕ) : Type 0 where
+pub record ReadsPiece (Had Has : OfDecryption) (piece old new : List ℕ) (count status : ℕ) : Type 0 where
   pub read : status ≡ 0 → ReadsNextPiece Had Has piece
   pub released : status ≡ 0 → IsNextReleasedText Had piece (take count new)
-  pub held : status ≡ 0
-      → (passphrase file : List ℕ) → Had passphrase file → HasHeldBytesAfter count (file ++ piece) old new
+  pub held : status ≡ 0 → ForAllRead Had (λ _ file. HasHeldBytesAfter count (file ++ piece) old new)
   pub within : status ≡ 0 → count ≤ length piece
   pub rest : status ≡ 0 → drop (length piece + 32) new ≡ drop (length piece + 32) old
   pub fits : length piece + 32 ≤ length old → ReadsUnlessFileTooLong Had (length piece) status
@@ -148,16 +139,15 @@ pub record ReadsPiece (Had Has : List ℕ → List ℕ → Type 0) (piece old ne
   pub nothing : ReturnsNoLengthIfRefused status count
 
 -- the file is an encryption of the text that was released
-abbrev pub IsEncryptionOfReleasedText : (List ℕ → List ℕ → Type 0) → Type 0
-IsEncryptionOfReleasedText Had = (passphrase file : List ℕ) → Had passphrase file
-    → IsEncryptionOf file passphrase (released_text file passphrase)
+abbrev pub IsEncryptionOfReleasedText : OfDecryption → Type 0
+IsEncryptionOfReleasedText Had = ForAllRead Had (λ passphrase file. IsEncryptionOf file passphrase (released_text file passphrase))
 
 -- the file is no encryption of the text that was released
-abbrev pub IsNoEncryptionOfReleasedText : (List ℕ → List ℕ → Type 0) → Type 0
-IsNoEncryptionOfReleasedText Had = (passphrase file : List ℕ) → Had passphrase file
-    → IsEncryptionOf file passphrase (released_text file passphrase) → ⊥
+abbrev pub IsNoEncryptionOfReleasedText : OfDecryption → Type 0
+IsNoEncryptionOfReleasedText Had = ForAllRead Had
+    (λ passphrase file. IsEncryptionOf file passphrase (released_text file passphrase) → ⊥)
 
 -- the number says whether the file is an encryption of the text that was released
-pub record JudgesFile (Had : List ℕ → List ℕ → Type 0) (status : ℕ) : Type 0 where
+pub record JudgesFile (Had : OfDecryption) (status : ℕ) : Type 0 where
   pub whole : status ≡ 0 → IsEncryptionOfReleasedText Had
   pub damaged : status ≡ damaged_status → IsNoEncryptionOfReleasedText Had

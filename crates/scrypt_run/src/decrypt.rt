@@ -1,10 +1,10 @@
 //! `scrypt dec`: the steps to the text of an encrypted file, once its first 96 bytes are read and their costs admitted.
-ghost use Rattle.std.specs.Prelude.{◌≡◌, ◌^◌, ℕ, List, ◌++◌, length, IfOk, IfErr, OnOk, IsTrue};
+ghost use Rattle.std.specs.Prelude.{◌≡◌, ◌^◌, ◌++◌, length, IfOk, IfErr, OnOk, IsTrue};
 ghost use Rattle.host.specs.CallsGrantedByHost.{with_secret_asked};
 ghost use Rattle.host.specs.HostState.{after_ask_secret};
 ghost use Rattle.host.specs.Secret.{source_of};
 ghost use Rattle.scrypt_request.specs.Request.{name_view};
-ghost use Rattle.scrypt_run.specs.Inside.Decrypting.{DecryptionEnds, DecryptionHasRead, DecryptionStartRefused, HasReadFrontAlone, IsOpened, ReleaseRefused, released_text_of_header_and_rest};
+ghost use Rattle.scrypt_run.specs.Inside.Decrypting.{DecryptionEnds, DecryptionHasRead, DecryptionStartRefused, ForAllRead, HasReadFrontAlone, IsOpened, ReleaseRefused, released_text_of_header_and_rest};
 ghost use Rattle.scrypt_run.specs.Inside.Steps.{AreBelow, AsksMemoryOnce, AwaitsOutput, CountsFault, CountsNoEarlyWork, CountsOneDerivation, MayFollowWork, WorksOnce, first_line_of_named_source};
 ghost use Rattle.scrypt_run.specs.Steps.{after_pull_and_push};
 
@@ -66,16 +66,13 @@ fn release<H: Host>(host: &mut H, dec: &mut Dec) -> Result<(), ScryptRefusal>
     requires writable { IsTrue (H.grants host.old).writable }
     requires begun { HasReadFrontAlone dec.old }
     ensures counts { CountsFault result (H.faults host.old) (H.faults host.new) }
-    ensures read { IsTrue H.tells → OnOk result ((passphrase front : List ℕ)
-        → DecryptionHasRead dec.old passphrase front
-        → DecryptionHasRead dec.new passphrase (front ++ (H.seen host.old).input)) }
-    ensures released { IsTrue H.tells → OnOk result ((passphrase front : List ℕ)
-        → DecryptionHasRead dec.old passphrase front
-        → H.seen host.new ≡ after_pull_and_push (released_text_of_header_and_rest passphrase front)
-        (length (H.seen host.old).input) (H.seen host.old)) }
-    ensures refused { IsTrue H.tells → IfErr result (λ r. (passphrase front : List ℕ)
-        → DecryptionHasRead dec.old passphrase front
-        → ReleaseRefused r passphrase front (H.seen host.old) (H.seen host.new)) }
+    ensures read { IsTrue H.tells → OnOk result (ForAllRead (DecryptionHasRead dec.old) (λ passphrase front.
+        DecryptionHasRead dec.new passphrase (front ++ (H.seen host.old).input))) }
+    ensures released { IsTrue H.tells → OnOk result (ForAllRead (DecryptionHasRead dec.old) (λ passphrase front.
+        H.seen host.new ≡ after_pull_and_push (released_text_of_header_and_rest passphrase front)
+        (length (H.seen host.old).input) (H.seen host.old))) }
+    ensures refused { IsTrue H.tells → IfErr result (λ r. ForAllRead (DecryptionHasRead dec.old) (λ passphrase front.
+        ReleaseRefused r passphrase front (H.seen host.old) (H.seen host.new))) }
     ensures late { IfErr result MayFollowWork }
 {
     let mut buf = [0u8; 4096];
@@ -105,10 +102,9 @@ pub(crate) fn finish<H: Host>(
     requires awaiting { AwaitsOutput (H.grants host.old) }
     requires begun { HasReadFrontAlone dec }
     ensures counts { CountsFault result (H.faults host.old) (H.faults host.new) }
-    ensures ends { IsTrue H.tells → (passphrase front : List ℕ)
-        → DecryptionHasRead dec passphrase front
-        → DecryptionEnds result passphrase front (name_view outfile.entry)
-        (H.seen host.old) (H.seen host.new) }
+    ensures ends { IsTrue H.tells → ForAllRead (DecryptionHasRead dec) (λ passphrase front.
+        DecryptionEnds result passphrase front (name_view outfile.entry)
+        (H.seen host.old) (H.seen host.new)) }
     ensures late { IfErr result MayFollowWork }
 {
     let Ok(()) = host.open_output(outfile) else {

@@ -59,8 +59,7 @@ pub record FailsByRead {System A E : Type 0} (failures : System → Faults) (r :
 
 -- the same; and where random bytes end, which `IsEnd` says of how many came, that is such a failure
 pub record FailsByReadOrEnd {System E : Type 0} (failures : System → Faults) (r : Reading) (IsEnd : ℕ → Type 0) (result : Result ℕ E) (before after : System) : Type 0 where
-  pub no_fewer : AreNoFewer (failures before) (failures after)
-  pub failed : OnErr result (read_failure_count r (failures before) < read_failure_count r (failures after))
+  pub read : FailsByRead failures r result before after
   pub ended : IfOk result (λ n. IsEnd n → r ≡ reading.Random → (failures before).salt < (failures after).salt)
 
 -- what is written is a fault only where a call for the output failed; no kind of call has failed less often

@@ -1,7 +1,7 @@
 -- What the steps of `dec` after the first 96 bytes may come to: to each its rows of `DecryptRefused`. `front` are
 -- these bytes, and the input of `before` are the bytes after them.
 use Rattle.std.specs.Prelude.{◌≡◌, ◌+◌, ◌^◌, ◌⊎◌, Bool, ℕ, List, Option, Result, MatchResult, IsTrue}
-pub use Rattle.encfile.specs.Decrypting.{DecryptionHasRead}
+pub use Rattle.encfile.specs.Decrypting.{DecryptionHasRead, ForAllRead}
 use Rattle.encfile.specs.EncryptedFile.{HasRightHeaderHmac}
 use Rattle.encfile.specs.Inside.Lengths.{bytes_read_so_far}
 use Rattle.encfile.specs.declared.dec.Dec.{Dec}

@@ -9,7 +9,7 @@ returns-in_default-clause-verdict c = λ passphrase opened. record {
   right = λ _. opened.right;
   damaged = λ damaged. absurd (omega (arith, damaged));
   too_long = λ _.
-      omega (arith, c.in_default.ensures.feeds.too_long passphrase (take 96 c.args.file.now) opened.opened, length-take-le 96 c.args.file.now c.requires.long, length-drop 96 c.args.file.now);
+      omega (arith, c.in_default.ensures.too_long passphrase (take 96 c.args.file.now) opened.opened, length-take-le 96 c.args.file.now c.requires.long, length-drop 96 c.args.file.now);
   high = omega arith;
 }
 
@@ -20,8 +20,8 @@ returns-in-Ok-finish-clause-whole c = λ passphrase opened.
     let rest : List ℕ = take (length file - 96) (drop 96 file) in
     let all : List ℕ = take 96 file ++ rest in
     let joined : all ≡ file = rw (take_all (length file - 96) (drop 96 file) (rw (length-drop 96 file) (omega arith))) (take-append-drop 96 file) in
-    let whole = c.in-Ok-finish.ensures.tells.whole passphrase all (c.in-Ok.ensures.feeds.read passphrase (take 96 file) opened.opened) in
-    let released = c.in-Ok.ensures.feeds.released passphrase (take 96 file) opened.opened in
+    let whole = c.in-Ok-finish.ensures.tells.whole passphrase all ((c.in-Ok.ensures.takes passphrase (take 96 file) opened.opened).read) in
+    let released = (c.in-Ok.ensures.takes passphrase (take 96 file) opened.opened).released in
     let same : text ≡ released_text all passphrase = subst (λ (l : List ℕ). l ++ text ≡ released_text all passphrase) opened.nothing released in
     subst (λ (f : List ℕ). IsEncryptionOf f passphrase text) joined
     (subst (λ (t : List ℕ). IsEncryptionOf all passphrase t) (sym same) whole)
@@ -36,7 +36,7 @@ returns-in-Err-clause-verdict c = λ passphrase opened.
       wrong = λ wrong. absurd (omega (arith, wrong));
       right = λ _. opened.right;
       damaged = λ _ whole.
-          c.in-Err.ensures.tells.damaged passphrase all (c.in-Ok.ensures.feeds.read passphrase (take 96 file) opened.opened)
+          c.in-Err.ensures.tells.damaged passphrase all ((c.in-Ok.ensures.takes passphrase (take 96 file) opened.opened).read)
           (subst (λ (f : List ℕ). IsEncryptionOf f passphrase (released_text f passphrase)) (sym joined) whole);
       too_long = λ long. absurd (omega (arith, long));
       high = omega arith;

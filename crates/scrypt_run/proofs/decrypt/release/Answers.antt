@@ -51,7 +51,7 @@ returns-in_default-feed-clause-refused g c = λ t passphrase front h.
     let n = c.in-Ok.n in
     let r = i.read in
     let long = length-read c.loop-n.dec r.0 r.1 r.2 in
-    let reached : 2 ^ 60 + 32 ≤ j + n = grind (arith, common_steps, long, c.in_default-feed.ensures.feeds.too_long r.0 r.1 r.2, c.in-Ok.ensures.bound, i.buf_long) in
+    let reached : 2 ^ 60 + 32 ≤ j + n = grind (arith, common_steps, long, c.in_default-feed.ensures.too_long r.0 r.1 r.2, c.in-Ok.ensures.bound, i.buf_long) in
     inr (inr (
       refl,
       record {
@@ -72,7 +72,7 @@ loop-n-smaller g c =
     let j = bytes_read_so_far c.loop-n.dec in
     let n = c.in-Ok.n in
     let r = i.read in
-    let next = c.in-Ok-feed.ensures.feeds.read r.0 r.1 r.2 in
+    let next = (c.in-Ok-feed.ensures.takes r.0 r.1 r.2).read in
     let more = bytes_read_so_far-more c.loop-n.dec c.feed.new.self r.0 r.1 _ r.2 next in
     let fed : j + n ≡ bytes_read_so_far c.feed.new.self = grind (arith, common_steps, more, c.in-Ok.ensures.bound, i.buf_long) in
     omega (arith, fed, bytes_read_so_far-below c.feed.new.self r.0 _ next, c.if-n-eq0.false)
@@ -88,7 +88,7 @@ loop-n-preserved g c =
     let j = bytes_read_so_far c.loop-n.dec in
     let n = c.in-Ok.n in
     let r = i.read in
-    let next = c.in-Ok-feed.ensures.feeds.read r.0 r.1 r.2 in
+    let next = (c.in-Ok-feed.ensures.takes r.0 r.1 r.2).read in
     let more = bytes_read_so_far-more c.loop-n.dec dec r.0 r.1 _ r.2 next in
     let fed : j + n ≡ bytes_read_so_far dec = grind (arith, common_steps, more, c.in-Ok.ensures.bound, i.buf_long) in record {
       buf_long = search rules;
@@ -102,10 +102,10 @@ loop-n-preserved g c =
           (left_on j n s before pulled after (i.left t) (c.in-Ok.ensures.taken t) (ap (λ (w : HostState). w.input) (c.in-Ok-push_all.ensures.pushes.put t)));
       holds = λ t passphrase front h. subst (λ k. DecryptionHasRead dec passphrase (front ++ take k s.input)) fed
           (subst (λ xs. DecryptionHasRead dec passphrase (front ++ xs)) (take_on (released_text_of_header_and_rest passphrase front) j n _ s before (i.passes t passphrase front h) (c.in-Ok.ensures.bytes t))
-          (subst (λ file. DecryptionHasRead dec passphrase file) (append_assoc front (take j s.input) _) (c.in-Ok-feed.ensures.feeds.read passphrase _ (i.holds t passphrase front h))));
+          (subst (λ file. DecryptionHasRead dec passphrase file) (append_assoc front (take j s.input) _) ((c.in-Ok-feed.ensures.takes passphrase _ (i.holds t passphrase front h)).read)));
       passes = λ t passphrase front h. subst (λ k. after ≡ after_pull_and_push (released_text_of_header_and_rest passphrase front) k s) fed
           (pass_whole (released_text_of_header_and_rest passphrase front) j n _ _ s before pulled after (i.passes t passphrase front h) (c.in-Ok.ensures.bytes t) (c.in-Ok.ensures.taken t)
-          (released_text_of_header_and_rest-more passphrase front (take j s.input) _ _ (c.in-Ok-feed.ensures.feeds.released passphrase _ (i.holds t passphrase front h))) (c.in-Ok-push_all.ensures.pushes.put t));
+          (released_text_of_header_and_rest-more passphrase front (take j s.input) _ _ ((c.in-Ok-feed.ensures.takes passphrase _ (i.holds t passphrase front h)).released)) (c.in-Ok-push_all.ensures.pushes.put t));
     }
 
 pub returns-in_default-push_all-clause-refused : goal.returns-in_default-push_all-clause-refused
@@ -119,10 +119,10 @@ returns-in_default-push_all-clause-refused g c = λ t passphrase front h.
     let n = c.in-Ok.n in
     let b = c.in_default-push_all.ensures.pushes.begun t in
     let passes = i.passes t passphrase front h in
-    let given = released_text_of_header_and_rest-more passphrase front (take j s.input) _ _ (c.in-Ok-feed.ensures.feeds.released passphrase _ (i.holds t passphrase front h)) in
+    let given = released_text_of_header_and_rest-more passphrase front (take j s.input) _ _ ((c.in-Ok-feed.ensures.takes passphrase _ (i.holds t passphrase front h)).released) in
     let longer = gives_length (released_text_of_header_and_rest passphrase front) j n _ _ s before passes (c.in-Ok.ensures.bytes t) given in
     let r = i.read in
-    let next = c.in-Ok-feed.ensures.feeds.read r.0 r.1 r.2 in
+    let next = (c.in-Ok-feed.ensures.takes r.0 r.1 r.2).read in
     let more = bytes_read_so_far-more c.loop-n.dec c.feed.new.self r.0 r.1 _ r.2 next in
     let fed : j + n ≡ bytes_read_so_far c.feed.new.self = grind (arith, common_steps, more, c.in-Ok.ensures.bound, i.buf_long) in
     inr (inl (

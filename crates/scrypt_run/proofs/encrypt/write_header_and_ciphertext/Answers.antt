@@ -41,7 +41,7 @@ pub loop-n-smaller : goal.loop-n-smaller
 loop-n-smaller g c =
     let i = c.loop-n.invariant in
     let b = i.begun in
-    let fed = c.in-Ok-feed.ensures.feeds.fed b.0 b.1 b.2 b.3 b.4 in
+    let fed = (c.in-Ok-feed.ensures.takes b.0 b.1 b.2 b.3 b.4).fed in
     let more : bytes_encrypted_so_far c.loop-n.enc + c.in-Ok-pull.n ≡ bytes_encrypted_so_far c.feed.new.self =
     bytes_encrypted_so_far-more c.loop-n.enc c.feed.new.self b.0 b.1 b.2 b.3 _ c.in-Ok-pull.n b.4 fed (grind (arith, common_steps, c.in-Ok-pull.ensures.bound, c.pull.auto.buf, i.buf_long)) in
     let below : bytes_encrypted_so_far c.feed.new.self < 2 ^ 60 = bytes_encrypted_so_far-below c.feed.new.self b.0 b.1 b.2 _ fed in
@@ -57,7 +57,7 @@ loop-n-preserved g c =
     let j = bytes_encrypted_so_far c.loop-n.enc in
     let n = c.in-Ok-pull.n in
     let b = i.begun in
-    let fed = c.in-Ok-feed.ensures.feeds.fed b.0 b.1 b.2 b.3 b.4 in
+    let fed = (c.in-Ok-feed.ensures.takes b.0 b.1 b.2 b.3 b.4).fed in
     let more : j + n ≡ bytes_encrypted_so_far c.feed.new.self =
     bytes_encrypted_so_far-more c.loop-n.enc c.feed.new.self b.0 b.1 b.2 b.3 _ n b.4 fed (grind (arith, common_steps, c.in-Ok-pull.ensures.bound, c.pull.auto.buf, i.buf_long)) in record {
       buf_long = put_length n c.pull.new.buf c.feed.new.bytes 4096 (grind (arith, c.pull.auto.buf, i.buf_long)) (grind (arith, c.in-Ok-pull.ensures.bound, i.buf_long))
@@ -71,10 +71,10 @@ loop-n-preserved g c =
       holds = λ t passphrase salt costs h. subst (λ k. HasEncrypted c.feed.new.self passphrase salt costs (take k s.input)) more (
           subst (λ xs. HasEncrypted c.feed.new.self passphrase salt costs xs)
           (take_on (body passphrase salt costs) j n _ s before (i.passes t passphrase salt costs h) (c.in-Ok-pull.ensures.bytes t))
-          (c.in-Ok-feed.ensures.feeds.fed passphrase salt costs _ (i.holds t passphrase salt costs h)));
+          ((c.in-Ok-feed.ensures.takes passphrase salt costs _ (i.holds t passphrase salt costs h)).fed));
       passes = λ t passphrase salt costs h. subst (λ k. after ≡ after_pull_and_push (body passphrase salt costs) k s) more (
           pass_whole (body passphrase salt costs) j n _ _ s before pulled after (i.passes t passphrase salt costs h) (c.in-Ok-pull.ensures.bytes t)
-          (c.in-Ok-pull.ensures.taken t) (sym (c.in-Ok-feed.ensures.feeds.written passphrase salt costs _ (i.holds t passphrase salt costs h))) (c.in-Ok-push_all.ensures.pushes.put t));
+          (c.in-Ok-pull.ensures.taken t) (sym ((c.in-Ok-feed.ensures.takes passphrase salt costs _ (i.holds t passphrase salt costs h)).written)) (c.in-Ok-push_all.ensures.pushes.put t));
     }
 
 pub returns-in_default-push_all-clause-refused : goal.returns-in_default-push_all-clause-refused
@@ -88,10 +88,10 @@ returns-in_default-push_all-clause-refused g c = λ t passphrase salt costs h.
     let n = c.in-Ok-pull.n in
     let cut = c.in_default-push_all.ensures.pushes.begun t in
     let passes = i.passes t passphrase salt costs h in
-    let written = sym (c.in-Ok-feed.ensures.feeds.written passphrase salt costs _ (i.holds t passphrase salt costs h)) in
+    let written = sym ((c.in-Ok-feed.ensures.takes passphrase salt costs _ (i.holds t passphrase salt costs h)).written) in
     let longer = gives_length (body passphrase salt costs) j n _ _ s before passes (c.in-Ok-pull.ensures.bytes t) written in
     let b = i.begun in
-    let fed = c.in-Ok-feed.ensures.feeds.fed b.0 b.1 b.2 b.3 b.4 in
+    let fed = (c.in-Ok-feed.ensures.takes b.0 b.1 b.2 b.3 b.4).fed in
     let more : j + n ≡ bytes_encrypted_so_far c.feed.new.self =
     bytes_encrypted_so_far-more c.loop-n.enc c.feed.new.self b.0 b.1 b.2 b.3 _ n b.4 fed (grind (arith, common_steps, c.in-Ok-pull.ensures.bound, c.pull.auto.buf, i.buf_long)) in
     inr (inl (

@@ -11,7 +11,7 @@ loop-at-preserved g c =
       λ t. is_read-more c.args.reading c.loop-at.at _ c.in_ok-n.n c.loop-at.buf c.read_some.new.buf _ _ _ c.loop-at.invariant.0 fits
           c.if-n-eq0.false (c.loop-at.invariant.1 t) (c.in_ok-n.ensures.reads t).bytes,
       λ t. (c.in_ok-n.ensures.reads t).same_files ∙ c.loop-at.invariant.2 t,
-      λ t. no_fewer-then _ _ _ (c.loop-at.invariant.3 t) (c.in_ok-n.ensures.failures t).no_fewer,
+      λ t. no_fewer-then _ _ _ (c.loop-at.invariant.3 t) (c.in_ok-n.ensures.failures t).read.no_fewer,
     )
 
 pub returns-then-n-eq0-clause-fills : goal.returns-then-n-eq0-clause-fills

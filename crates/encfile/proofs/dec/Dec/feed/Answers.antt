@@ -3,26 +3,19 @@ use Rattle.std.proofs.lemmas.List.{drop-drop, take_at}
 use Rattle.std.proofs.lemmas.Slice.{drop-append-drop}
 use Rattle.macs.specs.Hmac.{Holds}
 use Rattle.aes_ctr.specs.CounterMode.{KeyStreamPlace}
-use Rattle.encfile.specs.Decrypting.{DecryptionHasRead, IsSplit}
+use Rattle.encfile.specs.Decrypting.{IsSplit}
 use Rattle.encfile.specs.EncryptedFile.{cipher_key, hmac_key, head, released_text}
 use Rattle.encfile.proofs.Pieces.{after_made, place-more}
 use Rattle.encfile.proofs.Reading.{FitsSha256-take, IsSplit-more, held_bytes-split, length-split, released_text-more}
 use Rattle.encfile.proofs.dec.Dec.feed.Goals as goal
 
-pub returns-then-piece-saturating_sub-clause-feeds : goal.returns-then-piece-saturating_sub-clause-feeds
-returns-then-piece-saturating_sub-clause-feeds c = record {
-  read = tt;
-  released = tt;
-  held = tt;
-  fits = tt;
-  hashed = tt;
-  too_long = λ passphrase file h.
-      let long = length-split file passphrase h.salt h.costs h.done h.held h.split in
-      omega (arith, long, h.below_limit, ap (λ (p : KeyStreamPlace). p.position) h.state.cipher, ap length h.state.held, c.position.ensures.position, c.len.ensures.len, c.saturating_add-rest.ensures, c.saturating_sub.ensures, c.if-piece-saturating_sub.true);
-}
+pub returns-then-piece-saturating_sub-clause-too_long : goal.returns-then-piece-saturating_sub-clause-too_long
+returns-then-piece-saturating_sub-clause-too_long c = λ passphrase file h.
+    let long = length-split file passphrase h.salt h.costs h.done h.held h.split in
+    omega (arith, long, h.below_limit, ap (λ (p : KeyStreamPlace). p.position) h.state.cipher, ap length h.state.held, c.position.ensures.position, c.len.ensures.len, c.saturating_add-rest.ensures, c.saturating_sub.ensures, c.if-piece-saturating_sub.true)
 
-pub returns-clause-feeds : goal.returns-clause-feeds
-returns-clause-feeds c =
+pub returns-clause-takes : goal.returns-clause-takes
+returns-clause-takes c = λ passphrase file h.
     let piece : List ℕ = c.args.piece.now in
     let n : ℕ = c.take_in-released.result in
     let out : List ℕ = c.take_in-released.new.out in
@@ -34,49 +27,39 @@ returns-clause-feeds c =
     let moves : length moved ≡ n =
     omega (arith, length-take n out, c.take_in-released.ensures.moved, c.take_in-released.auto.out, c.requires.room, few) in
     let long : length c.apply.new.bytes ≡ n = omega (arith, c.apply.auto.bytes, moves) in
-    let below : (passphrase file : List ℕ) → DecryptionHasRead c.args.self.now passphrase file → length file + length piece < 2 ^ 60 + 128 =
-    λ passphrase file h.
-    let long = length-split file passphrase h.salt h.costs h.done h.held h.split in
-    omega (arith, long, ap (λ (p : KeyStreamPlace). p.position) h.state.cipher, ap length h.state.held, c.position.ensures.position, c.len.ensures.len, c.saturating_add-rest.ensures, c.saturating_sub.ensures, c.if-piece-saturating_sub.false) in
-    let more : (passphrase file : List ℕ) (h : DecryptionHasRead c.args.self.now passphrase file) → IsSplit (file ++ piece) passphrase h.salt h.costs (h.done ++ moved) last =
-    λ passphrase file h.
+    let split = length-split file passphrase h.salt h.costs h.done h.held h.split in
+    let below : length file + length piece < 2 ^ 60 + 128 =
+    omega (arith, split, ap (λ (p : KeyStreamPlace). p.position) h.state.cipher, ap length h.state.held, c.position.ensures.position, c.len.ensures.len, c.saturating_add-rest.ensures, c.saturating_sub.ensures, c.if-piece-saturating_sub.false) in
     let joined = c.take_in-released.ensures.joined ∙ ap (λ held. held ++ piece) h.state.held in
     let count : length moved ≡ length h.held + length piece - 32 = omega (arith, moves, c.take_in-released.ensures.moved, ap length h.state.held) in
+    let more : IsSplit (file ++ piece) passphrase h.salt h.costs (h.done ++ moved) last =
     IsSplit-more file passphrase h.salt h.costs h.done h.held piece moved last h.split joined count c.take_in-released.ensures.at_most_32 in
+    let all : n + length last ≡ length before + length piece =
+    omega (arith, ap length c.take_in-released.ensures.joined, length-append moved last, length-append before piece, moves) in
+    let front : List ℕ = head passphrase h.salt h.costs in
     record {
-      read = λ passphrase file h.
-          let fits : length file + length piece < 2 ^ 60 + 128 = below passphrase file h in
-          let front : List ℕ = head passphrase h.salt h.costs in
-          let code = c.update.ensures.appended _ _ h.state.code in
-          record {
-            salt = h.salt;
-            costs = h.costs;
-            done = h.done ++ moved;
-            held = last;
-            state = record {
-              cipher = place-more (cipher_key passphrase h.salt h.costs) h.done moved c.args.self.now.ctr c.apply.new.self h.state.cipher c.apply.ensures.applied.key c.apply.ensures.applied.position;
-              held = refl;
-              code = subst (Holds c.update.new.self (hmac_key passphrase h.salt h.costs)) (append_assoc front h.done moved) code;
-            };
-            split = more passphrase file h;
-            below_limit = omega (arith, fits, length-append file piece);
-          };
-      released = λ passphrase file h.
-          ap (λ t. released_text file passphrase ++ t) (take_at c.apply.new.bytes (drop n out) n long)
+      read = record {
+        salt = h.salt;
+        costs = h.costs;
+        done = h.done ++ moved;
+        held = last;
+        state = record {
+          cipher = place-more (cipher_key passphrase h.salt h.costs) h.done moved c.args.self.now.ctr c.apply.new.self h.state.cipher c.apply.ensures.applied.key c.apply.ensures.applied.position;
+          held = refl;
+          code = subst (Holds c.update.new.self (hmac_key passphrase h.salt h.costs)) (append_assoc front h.done moved)
+              (c.update.ensures.appended _ _ h.state.code);
+        };
+        split = more;
+        below_limit = omega (arith, below, length-append file piece);
+      };
+      released = ap (λ t. released_text file passphrase ++ t) (take_at c.apply.new.bytes (drop n out) n long)
           ∙ released_text-more file (file ++ piece) passphrase h.salt h.costs h.done h.held moved last c.apply.new.bytes c.args.self.now.ctr h.split
-          (more passphrase file h) h.state.cipher c.apply.ensures.applied.xored;
-      held = λ passphrase file h.
-          let all : n + length last ≡ length before + length piece =
-          omega (arith, ap length c.take_in-released.ensures.joined, length-append moved last, length-append before piece, moves) in
-          let kept = held_bytes-split (file ++ piece) passphrase h.salt h.costs (h.done ++ moved) last (more passphrase file h) in
-          after_made n (length before + length piece) old out c.apply.new.bytes last long moves
+          more h.state.cipher c.apply.ensures.applied.xored;
+      held = after_made n (length before + length piece) old out c.apply.new.bytes last long moves
           (c.take_in-released.ensures.put ∙ sym c.take_in-released.ensures.joined) c.take_in-released.ensures.rest all
-          ∙ ap (λ (l : List ℕ). l ++ drop (n + length l) old) (sym kept);
+          ∙ ap (λ (l : List ℕ). l ++ drop (n + length l) old) (sym (held_bytes-split (file ++ piece) passphrase h.salt h.costs (h.done ++ moved) last more));
       fits = below;
-      hashed = λ passphrase file h.
-          let fits : length file + length piece < 2 ^ 60 + 128 = below passphrase file h in
-          FitsSha256-take _ (file ++ piece) (omega (arith, fits));
-      too_long = tt;
+      hashed = FitsSha256-take _ (file ++ piece) (omega (arith, below));
     }
 
 pub returns-clause-rest : goal.returns-clause-rest
