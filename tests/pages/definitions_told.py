@@ -47,7 +47,7 @@ WHY = {
     ("scrypt_request.specs.Request", "name_view"): SEEN,
     **{("pikhsen_c.specs.Heap", f"after_{name}_request"): "`one_more` of one field of a record"
        for name in ("matrix", "text", "workspace", "state", "reading")},
-    ("pikhsen_c.specs.Stream", "Of"): "a type of statements",
+    **{(f"encfile.specs.{it}ing", f"Of{it}ion"): "a type of statements" for it in ("Encrypt", "Decrypt")},
 }
 
 

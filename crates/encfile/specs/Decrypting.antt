@@ -32,11 +32,11 @@ pub record DecryptionHasRead (dec : Dec) (passphrase file : List ℕ) : Type 0 w
   pub split : IsSplit file passphrase salt costs done held
   pub below_limit : length file < 2 ^ 60 + 128
 
--- of a passphrase and a file
+-- what may be so of a passphrase and a file
 abbrev pub OfDecryption : Type 1
 OfDecryption = List ℕ → List ℕ → Type 0
 
--- whatever was read so far, this is so of it
+-- whatever was read so far, under whatever passphrase, this is so of it
 abbrev pub ForAllRead : OfDecryption → OfDecryption → Type 0
 ForAllRead Had IsSo = (passphrase file : List ℕ) → Had passphrase file → IsSo passphrase file
 
@@ -48,9 +48,9 @@ held_bytes file = drop (length file - 128) (drop 96 file)
 abbrev pub HasHeldBytesAfter : ℕ → List ℕ → List ℕ → List ℕ → Type 0
 HasHeldBytesAfter n file before after = drop n after ≡ held_bytes file ++ drop (n + length (held_bytes file)) before
 
--- a decryption that has read this file reads its next piece into a buffer of these bytes before and after it: that gets the text
--- of n bytes which the piece releases, and then the bytes that are held, and all but the last 32, with which the final code is
--- compared, are hashed
+-- a decryption reads the next piece of this file, which stays below 2^60 + 128 bytes, into a buffer of these bytes before and
+-- after it: that gets the text of n bytes which the piece releases, and then the bytes that are held; the length of all that is
+-- hashed, which is all but the last 32 bytes, fits SHA-256
 pub record DecryptionTakes (piece old out : List ℕ) (n : ℕ) (after : Dec) (passphrase file : List ℕ) : Type 0 where
   pub read : DecryptionHasRead after passphrase (file ++ piece)
   pub released : released_text file passphrase ++ take n out ≡ released_text (file ++ piece) passphrase

@@ -19,11 +19,11 @@ pub record HasEncrypted (enc : Enc) (passphrase salt : List ℕ) (costs : Parame
   pub in_range : IsInRange costs
   pub below_limit : length text < 2 ^ 60
 
--- of a passphrase, a salt, costs and a text
+-- what may be so of a passphrase, a salt, costs and a text
 abbrev pub OfEncryption : Type 1
 OfEncryption = List ℕ → List ℕ → Parameters → List ℕ → Type 0
 
--- whatever was encrypted so far, this is so of it
+-- whatever was encrypted so far, under whatever passphrase, salt and costs, this is so of it
 abbrev pub ForAllEncrypted : OfEncryption → OfEncryption → Type 0
 ForAllEncrypted Had IsSo = (passphrase salt : List ℕ) (costs : Parameters) (text : List ℕ) → Had passphrase salt costs text
     → IsSo passphrase salt costs text
@@ -33,8 +33,8 @@ ForAllEncrypted Had IsSo = (passphrase salt : List ℕ) (costs : Parameters) (te
 abbrev pub FitsSha256 : List ℕ → Type 0
 FitsSha256 message = 8 * (64 + length message) < 2 ^ 64
 
--- an encryption that has encrypted this text takes its next bytes, leaves them encrypted, so that the file goes on by them, and
--- has then encrypted them, too
+-- an encryption takes the next bytes of this text, which stays below 2^60 bytes, and leaves them encrypted, so that the file
+-- goes on by them; it has then encrypted them, too, and the length of all that is hashed fits SHA-256
 pub record EncryptionTakes (bytes encrypted : List ℕ) (after : Enc) (passphrase salt : List ℕ) (costs : Parameters) (text : List ℕ) : Type 0 where
   pub fed : HasEncrypted after passphrase salt costs (text ++ bytes)
   pub written : body passphrase salt costs text ++ encrypted ≡ body passphrase salt costs (text ++ bytes)

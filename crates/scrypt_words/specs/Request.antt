@@ -12,8 +12,8 @@ use Rattle.romix.specs.Faults.{cost_fault}
 use Rattle.romix.specs.SparseCosts.{is_valid_keep}
 use Rattle.romix.specs.declared.limits.Limits.{Limits}
 use Rattle.host.specs.HostState.{SecretSource, Text, env, file, stdin_once}
-use Rattle.command_words.specs.Answer.{◌>>=◌, map_ok}
-use Rattle.command_words.specs.Number.{number_in, number_of}
+pub use Rattle.command_words.specs.Answer.{◌>>=◌, map_ok}
+pub use Rattle.command_words.specs.Number.{number_in, number_of}
 use Rattle.scrypt_request.specs.Request.{Encryption, Request, Task, encrypt, decrypt, inspect, scrypt_request_view}
 use Rattle.scrypt_words.specs.Words.{is_set, scrypt_words}
 use Rattle.scrypt_request.specs.declared.refusal.ScryptRefusal.{ScryptRefusal}

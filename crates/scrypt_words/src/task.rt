@@ -2,13 +2,11 @@
 ghost use Rattle.std.specs.Prelude.{◌≡◌, ◌<◌, ◌≤◌, ◌^◌, ◌&&◌, true, IfOk, IfErr, codes, option_map, Some};
 ghost use Rattle.std.specs.Option.{option_eq};
 ghost use Rattle.std.specs.Str.{bytes_eq};
-ghost use Rattle.command_words.specs.Answer.{map_ok};
-ghost use Rattle.command_words.specs.Number.{number_in};
 ghost use Rattle.host.specs.Secret.{source_of};
 ghost use Rattle.romix.specs.SparseCosts.{is_valid_keep};
 ghost use Rattle.scrypt_request.specs.Refusal.{IsOfNoFailedCall};
 ghost use Rattle.scrypt_request.specs.Request.{name_view};
-ghost use Rattle.scrypt_words.specs.Request.{required_infile, infile_named, checked_keep, limits_from_words, number_from_words, one_source, source_from_words, source_named, wants_stdin};
+ghost use Rattle.scrypt_words.specs.Request.{required_infile, infile_named, checked_keep, limits_from_words, map_ok, number_from_words, number_in, one_source, source_from_words, source_named, wants_stdin};
 ghost use Rattle.scrypt_words.specs.Words.{is_set, rows_of_arg_matches};
 ghost use Rattle.clap.specs.Words.{first_of as argument_value};
 
