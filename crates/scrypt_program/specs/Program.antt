@@ -2,13 +2,13 @@
 use Rattle.std.specs.Prelude.{◌⊎◌, ◌<◌, Bool, List, drop}
 use Rattle.host.specs.Faults.{Faults, no_faults}
 use Rattle.host.specs.Lines.{SaysOneLine}
-use Rattle.host.specs.HostState.{HostState, Text}
+pub use Rattle.host.specs.HostState.{HostState, Text}
 use Rattle.scrypt_command.specs.Run.{EndsWithRefusal, Succeeds}
 use Rattle.scrypt_request.specs.Refusal.{faults_after_refusal, line_of}
 use Rattle.scrypt_request.specs.declared.refusal.ScryptRefusal.TheVariants as refusal
-use Rattle.tools.specs.RunState.{Leaves, host_over}
+pub use Rattle.tools.specs.RunState.{Leaves, host_over}
 use Rattle.tools.specs.Words.{HasNonUtf8WordIfNotText}
-use Rattle.tools.specs.SystemState.{IsLineAskedUnlessReading, IsOutputSynced, IsOutputUnsynced, SystemState}
+pub use Rattle.tools.specs.SystemState.{IsLineAskedUnlessReading, IsOutputSynced, IsOutputUnsynced, SystemState}
 use Rattle.tools.specs.declared.arguments.WordsFault.TheVariants as words_fault
 
 -- the program ended with status 0: the run did what the words after its name ask for, and so the system is left; an

@@ -2,16 +2,13 @@
 ghost use Rattle.std.specs.Prelude.{◌≡◌, ◌++◌, ℕ, List, Option, Ok, drop, false, length, true};
 ghost use Rattle.romix.specs.Costs.{IsInRange, Parameters};
 ghost use Rattle.encfile.specs.EncryptedFile.{encrypted_file};
-ghost use Rattle.host.specs.HostState.{Text};
 ghost use Rattle.scrypt_command.specs.Laws.{CanBeEncrypted};
 ghost use Rattle.scrypt_request.specs.Request.{Encryption, Task, decrypt, encrypt, inspect};
 ghost use Rattle.scrypt_run.specs.Encrypting.{salt_used};
 ghost use Rattle.scrypt_run.specs.Inspecting.{costs_line};
 ghost use Rattle.scrypt_run.specs.Laws.{CanBeOpened};
-ghost use Rattle.scrypt_program.specs.Program.{ProgramSucceeds};
+ghost use Rattle.scrypt_program.specs.Program.{ProgramSucceeds, SystemState, Text, host_over};
 ghost use Rattle.scrypt_words.specs.Request.{scrypt_request};
-ghost use Rattle.tools.specs.RunState.{host_over};
-ghost use Rattle.tools.specs.SystemState.{SystemState};
 
 // There is a system that a run with status 0 leaves, where the one before has what the words ask for, and its output has the
 // bytes that the definitions state.

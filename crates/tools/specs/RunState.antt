@@ -1,10 +1,12 @@
 -- What contracts see of a system's host: the host that is made of a system and of how far a run has come.
 use Rattle.std.specs.Prelude.{◌≡◌, Bool, true, false, not, ℕ, List, [], codes, drop, take, Option, None, Some, IsTrue, is_none, if◌then◌else◌}
 use Rattle.host.specs.Faults.{Faults, no_faults}
-use Rattle.host.specs.CallsGrantedByHost.{CallsGrantedByHost, nothing_asked}
+pub use Rattle.host.specs.AskedSource.{asked_source}
+pub use Rattle.host.specs.CallsGrantedByHost.{CallsGrantedByHost, nothing_asked}
 use Rattle.host.specs.Lines.{SaysOneLine}
 use Rattle.host.specs.Entries.{lookup}
 use Rattle.host.specs.HostState.{SecretSource, HostState, Text, env, file, stdin_once}
+pub use Rattle.host.specs.Secret.{source_of}
 use Rattle.tools.specs.Failures.{AreNoFewer}
 use Rattle.tools.specs.SystemState.{Files, IsLineAskedUnlessReading, IsOutputSeparate, IsOutputSynced, IsOutputUnsynced, OpensNoOther, SystemState, placeholder_files}
 use Rattle.tools.specs.declared.run.InputStage.{InputStage}

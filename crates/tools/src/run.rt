@@ -1,10 +1,8 @@
 //! A run over a system: the system, and how far the run has come.
 ghost use Rattle.std.specs.Prelude.{◌≡◌, ◌<◌, None, option_map, OnOk, OnErr, IsTrue, true, false};
-ghost use Rattle.host.specs.CallsGrantedByHost.{nothing_asked};
-ghost use Rattle.host.specs.Secret.{source_of};
 ghost use Rattle.host.specs.HostState.{FitsWithin, KeepsOnErr, TakesSome};
 ghost use Rattle.tools.specs.Failures.{AreNoFewer};
-ghost use Rattle.tools.specs.RunState.{Leaves, host_seen};
+ghost use Rattle.tools.specs.RunState.{Leaves, host_seen, nothing_asked, source_of};
 ghost use Rattle.tools.specs.Steps.{AsksSalt, AsksSecret, FailsEarlyByRead, FailsInUseByOutput, IsSystemOf, OpensInput, OpensOutput, Pulls, Pushes, SaysLine};
 ghost use Rattle.tools.specs.Streams.{TakesNoMoreOfSecret};
 ghost use Rattle.tools.specs.SystemState.{HasSeparateErrorStream, IsLineAskedUnlessReading, IsOutputSeparate, IsOutputSynced, IsOutputUnsynced, IsUnused};
@@ -68,8 +66,7 @@ pub struct Run<S: System> {
 
 impl<S: System> Model for Run<S> {
     ghost use Rattle.std.specs.Prelude.{option_map, IsTrue};
-    ghost use Rattle.host.specs.AskedSource.{asked_source};
-    ghost use Rattle.tools.specs.RunState.{RunState, IsAt, granted_calls_at_stage};
+    ghost use Rattle.tools.specs.RunState.{RunState, IsAt, asked_source, granted_calls_at_stage};
 
     ghost Value = { RunState };
 
