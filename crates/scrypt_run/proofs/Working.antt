@@ -1,19 +1,19 @@
 -- The derivation of a run, said of the host before it; and which ends come after it.
-use Rattle.std.proofs.Common.{◌≡◌, ◌∙◌, ◌+◌, ◌≤◌, inl, inr, ℕ, List, Bool, true, false, Option, None, Some, Result, Ok, Err, IsTrue, arith, ap, ap₂, refl, sym, subst}
+use Rattle.std.proofs.Common.{◌≡◌, ◌∙◌, ◌+◌, ◌≤◌, inl, inr, ℕ, List, Bool, true, false, Option, None, Some, Result, Ok, Err, IfErr, IsTrue, arith, ap, ap₂, refl, sym, subst}
 use Rattle.std.proofs.lemmas.Option.{none-some}
 use Rattle.romix.specs.Allowance.{Allowance, costs_with_allowed_keep}
 use Rattle.romix.specs.Costs.{Parameters, cores}
 use Rattle.romix.specs.Sparse.{sparse_table_core_count}
 use Rattle.romix.specs.SparseCosts.{CostsAndKeep, cores_bound}
 use Rattle.encfile.specs.EncryptedFile.{CountsDerivation, CountsWithinBound}
-use Rattle.encfile.specs.Header.{CostsAndSalt}
+use Rattle.encfile.specs.Header.{CostsAndSalt, costs_of}
 use Rattle.host.specs.HostState.{HostState, Text, after_open_input}
 use Rattle.scrypt_run.specs.Asking.{RequestsMemoryBeforeRefusal}
 use Rattle.scrypt_run.specs.Encrypting.{salt_used}
 use Rattle.scrypt_run.specs.Inside.Decrypting.{DecryptRefusedFromOutputOn}
 use Rattle.scrypt_run.specs.Inside.Encrypting.{CountsStart, EncryptRefusedFromOutputOn}
 use Rattle.scrypt_run.specs.Inside.Front.{IsFrontOf}
-use Rattle.scrypt_run.specs.Inside.Steps.{CountsOneDerivation, WorksOnce}
+use Rattle.scrypt_run.specs.Inside.Steps.{AsksHeaderMemoryOnce, AsksMemoryOnce, CountsOneDerivation, MayFollowWork, WorksOnce}
 use Rattle.scrypt_run.specs.Passphrase.{HasPassphrase, first_line_of_source}
 use Rattle.scrypt_request.specs.Refusal.{comes_only_after_work}
 use Rattle.scrypt_request.specs.Request.{Encryption, Task, allowance_of}
@@ -86,6 +86,17 @@ pub asked_as : {Source : Type 0} (after_workspace : Source → CostsAndKeep → 
     → RequestsMemoryBeforeRefusal (after_workspace before sparse) r before after → RequestsMemoryBeforeRefusal (after_workspace before same) e before after
 asked_as after_workspace before after sparse same r e hr hs asks =
     subst (λ x. RequestsMemoryBeforeRefusal (after_workspace before same) x before after) hr (subst (λ (x : CostsAndKeep). RequestsMemoryBeforeRefusal (after_workspace before x) r before after) hs asks)
+
+-- a request that was granted before a step, which ends well or with a refusal that may follow the work
+pub granted_before : {Source A : Type 0} (ask : Bool → Source) (r : Result A ScryptRefusal) (before after : Source) → after ≡ ask true → IfErr r MayFollowWork → AsksMemoryOnce ask r before after
+granted_before ask (Ok a) before after asked late = asked
+granted_before ask (Err e) before after asked late = inr (inr (late, asked))
+
+-- the same of a request by the costs of a header
+pub header_granted_before : {Source A : Type 0} (tells : Bool) (input : List ℕ) (ask : Parameters → Bool → Source) (r : Result A ScryptRefusal) (before after : Source) (costs : Parameters)
+    → (IsTrue tells → costs ≡ costs_of input) → after ≡ ask costs true → IfErr r MayFollowWork → AsksHeaderMemoryOnce tells input ask r before after
+header_granted_before tells input ask (Ok a) before after costs is asked late = record { costs = costs; of_header = is; asked = asked }
+header_granted_before tells input ask (Err e) before after costs is asked late = record { costs = costs; of_header = is; asked = inr (inr (late, asked)) }
 
 -- ---- after it, where no output was asked for
 

@@ -10,7 +10,9 @@
 //! | `run_memory` | the requests for memory of a run |
 //! | `line` | the line of `info` |
 //! | `passphrase` | the first line of a secret source |
-//! | `run_request` | the run of a request: the steps of each of the three, in the order of its refusals |
+//! | `run_encryption` | the run of `enc`: its steps, in the order of its refusals |
+//! | `run_decryption` | that of `dec` |
+//! | `run_request` | the run of a request: one of the three |
 //!
 //! A text there and back, over a host in memory; a run asks a host for an input once, so there are two:
 //!
@@ -52,6 +54,8 @@ mod laws;
 mod line;
 mod passphrase;
 mod refusal;
+mod run_decryption;
+mod run_encryption;
 mod run_memory;
 mod run_request;
 mod vectors;

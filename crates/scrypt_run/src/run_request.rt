@@ -9,11 +9,10 @@ ghost use Rattle.scrypt_request.specs.Request.{IsAllowed, scrypt_request_view};
 ghost use Rattle.scrypt_run.specs.Run.{StoresWholeTable, ScryptRequestRefused, ScryptRequestSucceeds, salsa20_cores_of_request, most_salsa20_cores};
 ghost use Rattle.scrypt_run.specs.Work.{EndsAfterWork, CountsRequestWork, CountsNoWorkIfRefusedEarly, CountsWorkWithin};
 
-use crate::admission::admit;
-use crate::front::read_front;
 use crate::inspect::inspect;
+use crate::run_decryption::run_decryption;
+use crate::run_encryption::run_encryption;
 use crate::run_memory::RunMemory;
-use crate::{decrypt, encrypt};
 use host::Host;
 use romix::Ticks;
 use scrypt_request::{Request, ScryptRefusal};
@@ -68,20 +67,8 @@ pub fn run<R: RunMemory, H: Host>(
         (H.seen host.old).input (scrypt_request_view request.now) r memory.old memory.new) }
 {
     match request {
-        Request::Encrypt(asked) => {
-            let admitted = admit(&asked.costs, &asked.task)?;
-            let Ok(()) = host.open_input(asked.task.infile) else {
-                return Err(ScryptRefusal::InputFault);
-            };
-            let enc = encrypt::start(memory, host, asked, &admitted, ticks)?;
-            encrypt::write_encrypted_file(host, asked.task.outfile, enc)
-        }
-        Request::Decrypt(task) => {
-            let front = read_front(host, task.infile)?;
-            let admitted = admit(front.costs(), task)?;
-            let dec = decrypt::open(memory, host, task.source, front, &admitted, ticks)?;
-            decrypt::finish(host, task.outfile, dec)
-        }
+        Request::Encrypt(asked) => run_encryption(memory, host, asked, ticks),
+        Request::Decrypt(task) => run_decryption(memory, host, task, ticks),
         Request::Inspect(infile) => inspect(memory, host, *infile),
     }
 }
