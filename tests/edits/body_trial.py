@@ -7,8 +7,8 @@ the prover refuses at once (NO_GOAL). An edit that is not refused so is tried by
 An answer by hand that fails shows little, as the goal could close without it: so an edit is refused "at its answer" only where
 the search, which stands beside that answer as another (BY_SEARCH), fails, too. Where an answer names what the edit took away,
 as a step or a goal that now has another name, no answer of the function counts that fails, and a goal that is left open only if
-values are known at which it is false. Then the edit is tried without these answers, too: a goal that is left open counts if
-it is about a clause that none of them is about, so that the search closes it in the right body.
+values are known at which it is false, or if it is about a clause that no answer by hand is about, so that the search closes it
+in the right body.
 
 An edit with a line `types:` is one that the types refuse: a check of the crate must say that error, and no other, of a
 line that the edit puts. So a body that wants a counter or memory that nothing hands it cannot be written at all.
@@ -37,6 +37,22 @@ LOST_NAME = re.compile(r"has no field|is not in scope|has no `|was not admitted"
 IS_FALSE = "the facts known there allow values at which this goal is false"
 
 
+def clause_of(goal):
+    """The clause that a goal is about; none, where its name has none."""
+    return goal.partition("-clause-")[2].strip("`")
+
+
+def answers_of(place):
+    """The file of a function's answers by hand."""
+    return f"proofs/{place.replace('::', '/')}/Answers.antt"
+
+
+def is_by_search(folder, place, goal):
+    """Whether a goal is about a clause that no answer by hand of its function is about."""
+    by_hand = ANSWER.findall(text_of(folder, answers_of(place), {}))
+    return clause_of(goal) not in {"", *(clause_of(it[0]) for it in by_hand)}
+
+
 def goals(folder, texts, lines):
     """The goals that each function leaves open, as the page names them, by the function's path; a lemma's by None."""
     found, answers = {}, [(line, at[1].replace("/", "::")) for line in lines if (at := AT_ITS_ANSWER.match(line))]
@@ -44,7 +60,7 @@ def goals(folder, texts, lines):
     for line in lines:
         if at := LEFT_OPEN.match(line):
             place = function_at(folder, at[1], text_of(folder, at[1], texts), int(at[2]) - 1)
-            if place not in lost or IS_FALSE in line:
+            if place not in lost or IS_FALSE in line or is_by_search(folder, place, at[3]):
                 found.setdefault(place, []).append(at[3])
         elif LOST_NAME.search(line):
             continue
@@ -81,7 +97,7 @@ def wanted(edits):
     return {place: names(it.goal for it in edits if place in it.functions) for place in changed(edits)}
 
 
-def shared(crate, texts, asked, folder, kept, known, by_search={}, by_hand=True):
+def shared(crate, texts, asked, folder, kept, known, by_search={}):
     """What a check of these functions leaves open, as goals() has it, or of the crate where there are none, as in one of lemmas
     alone. None where it says of no function whether it is proved, or can't read what an edit puts. Of each function the goals
     that are tried are asked, or None for all; known has those that the search closes, and by_search those that it tries beside
@@ -90,10 +106,9 @@ def shared(crate, texts, asked, folder, kept, known, by_search={}, by_hand=True)
     shutil.rmtree(folder, ignore_errors=True)
     crate.folder = shutil.copytree(crate.folder, folder, ignore=shutil.ignore_patterns("out"))
     for place, names_asked in asked.items():
-        file = f"proofs/{place.replace('::', '/')}/Answers.antt"
+        file = answers_of(place)
         os.makedirs(os.path.dirname(f"{folder}/{file}"), exist_ok=True)
-        own = text_of(crate.folder, file, answered) if by_hand else ""
-        own = own or f"use Rattle.{crate.name}.proofs.{place.replace('::', '.')}.Goals as goal\n"
+        own = text_of(crate.folder, file, answered) or f"use Rattle.{crate.name}.proofs.{place.replace('::', '.')}.Goals as goal\n"
         text = f"use Rattle.std.proofs.Common.{{rules as search-rules}}\n{own}"
         others = [] if names_asked is None else [it for it in known.get(place, ()) if it not in names_asked and f"pub {it} :" not in text]
         put |= {(place, it) for it in others}
@@ -127,17 +142,6 @@ def by_types(crate, edit, kept):
     return (f"the types: {edit.types}", "") if is_refused else (None, f"the types say other errors, or none: {found}")
 
 
-def clause_of(goal):
-    """The clause that a goal is about; none, where its name has none."""
-    return goal.partition("-clause-")[2].strip("`")
-
-
-def answered_by_hand(crate, edit):
-    """The clauses that answers by hand are about, of the functions that an edit changes."""
-    files = (f"proofs/{place.replace('::', '/')}/Answers.antt" for place in edit.functions)
-    return {clause_of(it[0]) for file in files for it in ANSWER.findall(text_of(crate.folder, file, {}))}
-
-
 def alone(crate, edit, folder, kept, known):
     """The verdict on an edit by itself, of which all goals are tried; by the search, too, where answers alone fail."""
     found = shared(crate, edit.texts, dict.fromkeys(edit.functions), folder, kept, {})
@@ -146,9 +150,6 @@ def alone(crate, edit, folder, kept, known):
     goals, failing = [*refusing(edit, found)], {place: names(found.get(place, ())) for place in edit.functions}
     if not goals and any(failing.values()):
         goals = [*refusing(edit, shared(crate, edit.texts, failing, folder, kept, known, failing) or {})]
-    if not goals:
-        found = shared(crate, edit.texts, dict.fromkeys(edit.functions), folder, kept, {}, by_hand=False) or {}
-        goals = [it for it in refusing(edit, found) if clause_of(it) not in {"", *answered_by_hand(crate, edit)}]
     goal = edit.goal if edit.goal in goals else next(iter(goals), None)
     return goal, f"no goal that a contract asks for is left open: {found}"
 

@@ -8,8 +8,8 @@
 What a refusal is, say body_trial.py and definition_trial.py; how edits are written, edits.py. One that is not refused has
 failed, and so has one that is refused at another goal than the one below its lines, unless with --told.
 
-Of each crate of which a body is tried the right bodies come first: they must close the goals of these edits, in a check as
-trials are, over the libraries that rt ci left, or that are built where there are none. What it reads stays in out/incremental.
+Of each crate of which a body is tried the functions that these edits change are proved once more as they are, into its
+out/incremental, since rt ci keeps its proofs for itself, over the libraries that it left, or that are built where there are none.
 Of a crate of which a definition is tried no code is proved.
 """
 import argparse
@@ -81,15 +81,18 @@ class Run:
                 rt.linked(kept, f"{room}/kept")
             return call(f"{room}/sources", f"{room}/kept")
 
-    def right_bodies(self, name):
-        """Whether the right bodies leave no goal open in a check as trials are, which ask for those of the crate's edits."""
+    def prove(self, name, jobs):
+        """Whether what a crate's edits change is proved as it is, into out/incremental, and leaves no goal open in a check as trials are."""
         it, begun = self.crates[name], time.monotonic()
-        with tempfile.TemporaryDirectory(dir=self.room) as room:
-            it.known = body_trial.closed_by_search(it.crate, it.now[0], f"{room}/sources", f"{it.crate.folder}/out/incremental")
-        goals = body_trial.wanted(it.now[0])
-        left = self.over_kept(name, lambda *room: body_trial.shared(it.crate, {}, goals, *room, it.known))
-        why = "" if left == {} else f"its right bodies leave goals open, or can't be checked: {left}"
-        self.say(f"{name}: {why or f'right bodies, {time.monotonic() - begun:.0f} s'}", name if why else None)
+        flags = ["--jobs", str(jobs), *(f"--only={place}" for place in body_trial.changed(it.now[0]))]
+        ran = rt.checked(it.crate, {}, flags, f"{it.crate.folder}/out/incremental")
+        why = ran.stdout[-2000:] if ran.returncode else ""
+        if not why:
+            it.known = self.over_kept(name, lambda *room: body_trial.closed_by_search(it.crate, it.now[0], *room))
+            goals = body_trial.wanted(it.now[0])
+            left = self.over_kept(name, lambda *room: body_trial.shared(it.crate, {}, goals, *room, it.known))
+            why = "" if left == {} else f"with answers that belong to no goal its right bodies leave some open: {left}"
+        self.say(f"{name}: {why or f'proved as it is, {time.monotonic() - begun:.0f} s'}", name if why else None)
         return not why
 
     def attempt(self, name, edits, texts, trial):
@@ -130,7 +133,7 @@ class Run:
             it, name, proof = self.crates[crate.name], crate.name, (crate.name, "proof")
             waits = [(made.name, "library") for made in [*crate.below(), crate] if made in built]
             if body_trial.changed(it.now[0]):
-                put(proof, crate, 9, waits, lambda jobs, name=name: self.right_bodies(name))
+                put(proof, crate, 9, waits, lambda jobs, name=name: self.prove(name, jobs))
             sorts = (body_trial, it.now[0]), (definition_trial, [at for at in it.now[1] if not at.wrong])
             groups = ((trial, *group) for trial, edits in sorts for group in in_groups(edits, trial.MOST, trial.goes_with))
             for at, (trial, group, texts) in enumerate(groups):
