@@ -6,9 +6,9 @@ the prover refuses at once (NO_GOAL). An edit that is not refused so is tried by
 
 An answer by hand that fails shows little, as the goal could close without it: so an edit is refused "at its answer" only where
 the search, which stands beside that answer as another (BY_SEARCH), fails, too. Where an answer names what the edit took away,
-as a step or a goal that now has another name, no answer of the function counts that fails, and a goal that is left open only if
-values are known at which it is false, or if it is about a clause that no answer by hand is about, so that the search closes it
-in the right body.
+as a step or a goal that now has another name, no answer of the function counts that fails. A goal that is left open counts
+there if values are known at which it is false, and if no answer by hand is about its clause: such a goal of the right body is
+closed by the search. It does not count where an invariant lacks a name, since the search would need that.
 
 An edit with a line `types:` is one that the types refuse: a check of the crate must say that error, and no other, of a
 line that the edit puts. So a body that wants a counter or memory that nothing hands it cannot be written at all.
@@ -37,9 +37,10 @@ LOST_NAME = re.compile(r"has no field|is not in scope|has no `|was not admitted"
 IS_FALSE = "the facts known there allow values at which this goal is false"
 
 
-def clause_of(goal):
-    """The clause that a goal is about; none, where its name has none."""
-    return goal.partition("-clause-")[2].strip("`")
+def about(goal):
+    """Which contract a goal or an answer is about, a call's or the function's own, and which clause; none, where it is about all."""
+    step, _, clause = goal.strip("`").partition("-clause-")
+    return "requires" if "-requires" in step else step.partition("-")[0], clause
 
 
 def answers_of(place):
@@ -48,19 +49,22 @@ def answers_of(place):
 
 
 def is_by_search(folder, place, goal):
-    """Whether a goal is about a clause that no answer by hand of its function is about."""
-    by_hand = ANSWER.findall(text_of(folder, answers_of(place), {}))
-    return clause_of(goal) not in {"", *(clause_of(it[0]) for it in by_hand)}
+    """Whether a goal is about a clause, and no answer by hand of its function about that clause, or about all."""
+    contract, clause = about(goal)
+    by_hand = {about(it[0]) for it in ANSWER.findall(text_of(folder, answers_of(place), {}))}
+    return clause != "" and by_hand.isdisjoint({(contract, clause), (contract, "")})
 
 
 def goals(folder, texts, lines):
     """The goals that each function leaves open, as the page names them, by the function's path; a lemma's by None."""
     found, answers = {}, [(line, at[1].replace("/", "::")) for line in lines if (at := AT_ITS_ANSWER.match(line))]
     lost = {place for line, place in answers if LOST_NAME.search(line)}
+    lost_invariants = {place for line, place in answers if LOST_NAME.search(line) and "/Invariants.antt:" in line}
     for line in lines:
         if at := LEFT_OPEN.match(line):
             place = function_at(folder, at[1], text_of(folder, at[1], texts), int(at[2]) - 1)
-            if place not in lost or IS_FALSE in line or is_by_search(folder, place, at[3]):
+            counts = place not in lost or IS_FALSE in line
+            if counts or place not in lost_invariants and is_by_search(folder, place, at[3]):
                 found.setdefault(place, []).append(at[3])
         elif LOST_NAME.search(line):
             continue

@@ -86,7 +86,7 @@ class Run:
         it, begun = self.crates[name], time.monotonic()
         flags = ["--jobs", str(jobs), *(f"--only={place}" for place in body_trial.changed(it.now[0]))]
         ran = rt.checked(it.crate, {}, flags, f"{it.crate.folder}/out/incremental")
-        why = ran.stdout[-2000:] if ran.returncode else ""
+        why = (ran.stdout[-2000:] or "its check prints nothing") if ran.returncode else ""
         if not why:
             it.known = self.over_kept(name, lambda *room: body_trial.closed_by_search(it.crate, it.now[0], *room))
             goals = body_trial.wanted(it.now[0])
