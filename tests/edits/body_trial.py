@@ -7,8 +7,8 @@ the prover refuses at once (NO_GOAL). An edit that is not refused so is tried by
 An answer by hand that fails shows little, as the goal could close without it: so an edit is refused "at its answer" only where
 the search, which stands beside that answer as another (BY_SEARCH), fails, too. Where an answer names what the edit took away,
 as a step or a goal that now has another name, no answer of the function counts that fails. A goal that is left open counts
-there if values are known at which it is false, and if no answer by hand is about its clause: such a goal of the right body is
-closed by the search. It does not count where an invariant lacks a name, since the search would need that.
+there only if values are known at which it is false, or if no answer by hand is about its clause: such a goal of the right body
+is closed by the search. Nothing counts where an invariant lacks a name, since all that follows would need that.
 
 An edit with a line `types:` is one that the types refuse: a check of the crate must say that error, and no other, of a
 line that the edit puts. So a body that wants a counter or memory that nothing hands it cannot be written at all.
@@ -63,8 +63,8 @@ def goals(folder, texts, lines):
     for line in lines:
         if at := LEFT_OPEN.match(line):
             place = function_at(folder, at[1], text_of(folder, at[1], texts), int(at[2]) - 1)
-            counts = place not in lost or IS_FALSE in line
-            if counts or place not in lost_invariants and is_by_search(folder, place, at[3]):
+            counts = place not in lost or IS_FALSE in line or is_by_search(folder, place, at[3])
+            if counts and place not in lost_invariants:
                 found.setdefault(place, []).append(at[3])
         elif LOST_NAME.search(line):
             continue

@@ -8,8 +8,8 @@
 What a refusal is, say body_trial.py and definition_trial.py; how edits are written, edits.py. One that is not refused has
 failed, and so has one that is refused at another goal than the one below its lines, unless with --told.
 
-Of each crate of which a body is tried the functions that these edits change are proved once more as they are, into its
-out/incremental, since rt ci keeps its proofs for itself, over the libraries that it left, or that are built where there are none.
+Of each crate of which a body is tried, the functions that these edits change are proved first as they are, over the libraries
+that rt ci left, or that are built where there are none. Their proofs stay in out/incremental, since rt ci keeps its own.
 Of a crate of which a definition is tried no code is proved.
 """
 import argparse
