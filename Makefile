@@ -15,7 +15,7 @@ built = $(foreach level,$(1),$(PROGRAMS:%=bin/$(level)/%))
 
 .DELETE_ON_ERROR:
 .NOTPARALLEL:
-.PHONY: help run lib compat check test audit doc reading install prefix uninstall deb wheel builds bench clean
+.PHONY: help run lib compat check test doc reading install prefix uninstall deb wheel builds bench clean
 
 help: ## prints these lines
 	@sed -n 's/^\([a-z]*\):.*## /make \1\t/p' Makefile | expand -t 16
@@ -47,13 +47,6 @@ check: ## proves and tests what differs from the last commit
 test: $(filter bin/x86-64-v3/%,$(wildcard $(LEVELS:%=bin/%/scrypt))) ## the gate: proofs, tests, wrong bodies, the built programs
 	@rm -rf bin/rooms bin/left_out && mkdir -p bin && printf '# begun:\t%s\n' $$(date +%s) >bin/gate.tsv
 	@$(MAKE) --no-print-directory -f tests/build/gate.mk -j -O gate LEVELS='$(LEVELS)'
-
-# A wrong line may need the programs or the library to be found. docs/audit gets the commit, and each edit that was not
-# refused at its goal, with which make audit fails.
-audit: bin/x86-64-v2/scrypt bin/lib/libpikhsen.so.0 ## tries each wrong body, definition and line, for docs/audit
-	@tests/edits/choice.py >bin/audit
-	@$(MAKE) --no-print-directory -f tests/build/gate.mk -j audit
-	@test "$$(tests/edits/choice.py)" = "$$(head -n 1 bin/audit)" && mv bin/audit docs/audit && test $$(wc -l <docs/audit) = 1
 
 reading: ## writes bin/reading/: what a reader must judge (CALL=CRATE::NAME: of that), and what each crate exports
 	tests/pages/reading_page.py $(CALL)

@@ -49,7 +49,7 @@ FOLDERS = {
     "share/man/man7": ["man/pikhsen-compat.7"], "share/zsh/site-functions": [f"completions/zsh/_{it}" for it in TOOLS],
     "share/bash-completion/completions": [f"completions/bash/{it}" for it in TOLD],
     "share/doc/pikhsen": ["README.md", "CHANGELOG.md"],
-    "share/doc/pikhsen/docs": [f"docs/{it.name}" for it in (TOP / "docs").glob("*.*")],  # docs/audit is for the gate
+    "share/doc/pikhsen/docs": [f"docs/{it.name}" for it in (TOP / "docs").glob("*.*")],
     "share/pikhsen/pikhsen": ["python/pikhsen/__init__.py", "python/pikhsen/_files.py"],
 }
 INSTALLED = {f"{folder}/{pathlib.Path(it).name}": it for folder, files in FOLDERS.items() for it in files}

@@ -12,18 +12,18 @@ step = @{ t=$$({ TIMEFORMAT='%0R %0U %0S'; time $(1) >&3 2>&4; } 2>&1); r=$$?; }
 	said="$$1"$$'\t'"$$(($$2 + $$3))"$$'\t'"$(1)"; echo "== $$said"; echo "$$said" >>bin/gate.tsv; exit $$r
 # The steps before `rt ci`, and those over compiled code, each a script.
 before := tests/sources/sources.sh tests/pages/documents.py tests/pages/values.py tests/pages/definitions_told.py \
-	tests/edits/choice_test.py tests/build/first_run.py tests/build/build_scripts.py tests/library/heap.py
+	tests/build/first_run.py tests/build/build_scripts.py tests/library/heap.py
 of_code := tests/sources/calls.py tests/sources/calls_test.py tests/sources/as_compiled.py
 outside := $(foreach it,$(LEVELS),$(if $(filter x86-64-v2,$(it))$(wildcard bin/$(it)/scrypt),outside-$(it)))
 
-gate: refusals c_face lines $(of_code)
+gate: refusals c_face $(of_code)
 	@awk -F '\t' -v now=$$(date +%s) 'NR == 1 {begun = $$2} NR > 1 {all += $$2} END {print now - begun "\t" all "\tall"}' \
 		bin/gate.tsv >bin/gate.all && cat bin/gate.all >>bin/gate.tsv && rm bin/gate.all
 	@cat bin/gate.tsv
 	@touch $(PIKHSEN_LEFT_OUT) && sort -u $(PIKHSEN_LEFT_OUT)
 	@! test "$$PIKHSEN_ALL" = 1 || ! grep -q 'is not installed' $(PIKHSEN_LEFT_OUT)
 
-.PHONY: gate $(before) $(of_code) proved linked archive refusals c_face lines
+.PHONY: gate $(before) $(of_code) proved linked archive refusals c_face
 $(before):        ; $(call step,$@)
 proved: $(before)
 	@rm -rf crates/*/out/*_tool.o crates/*/out/rlib bin/*.rlib # rt ci leaves what it finds, be it of older sources
@@ -36,12 +36,4 @@ archive: proved   ; $(call step,tests/library/archive.py)
 $(of_code): archive ; $(call step,$@ bin/pikhsen_c.rlib)
 refusals: proved  ; $(call step,tests/edits/refusals.py)
 outside-%: linked ; $(call step,tests/programs/outside.sh bin/$*)
-c_face lines: archive $(outside)
-c_face:           ; $(call step,tests/library/c_face.py)
-lines:            ; $(call step,tests/edits/wrong_lines.py)
-
-# Of make audit.
-.PHONY: audit audit-lines audit-refusals
-audit: audit-lines audit-refusals
-audit-lines:    ; tests/edits/wrong_lines.py --audit
-audit-refusals: ; tests/edits/refusals.py --audit
+c_face: archive $(outside) ; $(call step,tests/library/c_face.py)

@@ -2,30 +2,32 @@
 
     a wrong body         crates/CRATE/wrong-bodies/        the prover must refuse it (body_trial.py)
     a wrong definition   crates/CRATE/wrong-definitions/   a vector must refuse it (definition_trial.py)
-    a wrong line         tests/edits/wrong-lines/          a test must find it (wrong_lines.py)
 
-They stand many to a file, NAME.edits, one file for each source, definition or test that they are about:
+They stand many to a file, NAME.edits, one file for each source or definition that they are about:
 
     file: src/costs.rt                 what each edit of this file has, to the first blank line
 
     log-n-of-64                        the name of an edit, and below it its own lines, to the next blank line
+    holds: Costs::new fault            the promises that it breaks: calls, and clauses or fields of theirs
     old: if log_n == 0 || log_n > 63
     new: if log_n == 0 || log_n > 64
     refused: `returns-else-fault`      its goal, which `--told` writes: what refuses it
 
 `old:` must stand in the file once. A line `and: TEXT` is the next line of the text above it. An edit that names a file
-itself is of that file; a line `file:` between blank lines is of the edits below it. `in: FUNCTION` names whose proof must refuse an edit that changes no body, as that of a constant.
-A `test:` at the head is the test that must find each.
+itself is of that file; a line `file:` between blank lines is of the edits below it. `in: FUNCTION` names whose proof must
+refuse an edit that changes no body, as that of a constant. `holds: CALL CLAUSE, CLAUSE.FIELD; ..` has the crate before a
+call of another one, as `tools::System::write`; tests/pages/promises.py holds it against docs/PROMISES.md.
 """
 import functools
 import pathlib
 import re
 
 from functions import function_at, text_of
+from specs import CRATES
 from tree import TOP
 
-BODIES, DEFINITIONS, LINES = "wrong-bodies", "wrong-definitions", TOP / "tests" / "edits" / "wrong-lines"
-FIRST = ("types", "vector", "gives")  # what an edit says before it names a file
+BODIES, DEFINITIONS = "wrong-bodies", "wrong-definitions"
+FIRST = ("holds", "types", "vector", "gives")  # what an edit says before it names a file
 GOAL = "\nrefused: "
 ANSWERS = re.compile(r"proofs/(.*)/(?:Answers|Invariants)\.antt")
 
@@ -34,9 +36,8 @@ class Edit:
     """What an edit puts in the place of what, in files below a folder, and the goal that refuses it, where it has one."""
 
     def __init__(self, path, stem, lines):
-        self.path, self.stem, self.lines, self.is_line = path, stem, lines, path.parent == LINES
-        self.folder = TOP if self.is_line else path.parent.parent
-        self.name = stem if self.is_line else f"{self.folder.name}/{stem}"
+        self.path, self.stem, self.folder = path, stem, path.parent.parent
+        self.name = f"{self.folder.name}/{stem}"
         self.pairs, said, last = [], {}, None
         for word, _, rest in (line.partition(":") for line in lines):
             rest = rest.removeprefix(" ")
@@ -48,7 +49,7 @@ class Edit:
                 self.pairs.append([said["file"].strip(), said["old"], ""])
             if last == "new":
                 self.pairs[-1][2] = said["new"]
-        self.goal, self.test = said.get("refused", ""), said.get("test", "").strip()
+        self.goal, self.holds = said.get("refused", ""), [*promises_in(said.get("holds", ""), self.folder.name)]
         self.types = said.get("types", "").strip()  # the error of the types that refuses it, where it names one
         self.within = said.get("in", "").strip()  # the function whose proof must refuse it, where it changes no body
         self.vector, self.gives = said.get("vector", "").strip(), said.get("gives")
@@ -95,10 +96,19 @@ class Edit:
         return line < len(lines) and any(it[0] == file and it[2].strip() in lines[line] for it in self.pairs)
 
 
+def promises_in(text, crate):
+    """The promises that a line `holds:` names, each a crate, a call, and a clause or a field of it."""
+    for part in filter(None, text.split("; ")):
+        call, _, clauses = part.partition(" ")
+        owner, _, rest = call.partition("::")
+        is_of_other = (CRATES / owner).is_dir() and rest
+        for clause in clauses.split(", "):
+            yield (owner, rest, clause) if is_of_other else (crate, call, clause)
+
+
 def sections(text):
     """The edits of a file's text, in its order: the name of each, and its lines with those of the head."""
-    head, *others = [it.split("\n") for it in text.strip("\n").split("\n\n")]
-    of_file, of_test = ([it for it in head if it.startswith(f"{word}:")] for word in ("file", "test"))
+    of_file, *others = [it.split("\n") for it in text.strip("\n").split("\n\n")]
     for name, *own in others:
         if name.startswith("file:") and not own:
             of_file = [name]
@@ -107,7 +117,7 @@ def sections(text):
             raise ValueError(f"the name of an edit and its lines are expected at {name!r}")
         at = next(at for at, line in enumerate(own) if line.partition(":")[0] not in FIRST)
         file = [] if own[at].startswith("file:") else of_file
-        yield name, [*own[:at], *file, *own[at:], *of_test]
+        yield name, [*own[:at], *file, *own[at:]]
 
 
 def edits_in(folder, kind=Edit):

@@ -1,8 +1,7 @@
 #!/usr/bin/env python3
 """Tries wrong bodies and wrong definitions, several of one crate in one check: each must be refused at its goal.
 
-    tests/edits/refusals.py                                  as in the gate: what choice.py chooses
-    tests/edits/refusals.py --audit                          every one
+    tests/edits/refusals.py                                  every one, as in the gate
     tests/edits/refusals.py [--told] CRATE | CRATE/NAME ..   these; with --told, what refused each is written as its goal
 
 What a refusal is, say body_trial.py and definition_trial.py; how edits are written, edits.py. One that is not refused has
@@ -23,10 +22,9 @@ import time
 sys.path += map(str, pathlib.Path(__file__).resolve().parents[1].iterdir())  # the other folders of tests/
 import body_trial
 import definition_trial
-from choice import MADE, Choice
 from definitions import Definitions, wrong_definitions_of
 from edits import BODIES, edits_of, in_groups, write_goal
-from toolchain import LOGIC, left_by_ci, rt, told
+from toolchain import left_by_ci, rt, told
 from tree import TOP
 
 
@@ -41,15 +39,6 @@ class Crate:
     def keep(self, edits):
         """Leaves these to be tried."""
         self.now = [it for it in self.bodies if it in edits], [it for it in self.definitions if it in edits]
-
-    def places(self, edit):
-        """What the trial of an edit is over: code, definitions and proofs of the crate, and for a wrong definition, where no
-        code is proved, its vectors in place of the code; and the public definitions of the crates below. What a call
-        below promises is not among it, beyond these definitions."""
-        apart = [f"../{self.name}_tests/{it}" for it in ("src/vectors.rt", "proofs/vectors")]
-        parts = ["src"] if edit in self.bodies else ["src/vectors.rt", *apart]
-        below = [f"../{it.name}/specs" for it in self.crate.below()]
-        return [os.path.normpath(f"crates/{self.name}/{it}") for it in ("specs", "specs/Inside", "proofs", *parts, *below)]
 
 
 class Run:
@@ -144,34 +133,24 @@ class Run:
 
 def main():
     parser = argparse.ArgumentParser()
-    parser.add_argument("--audit", action="store_true")
     parser.add_argument("--told", action="store_true")
     parser.add_argument("asked", nargs="*")
     asked, begun = parser.parse_args(), time.monotonic()
     every, definitions = rt.rtlib.crates_below(f"{TOP}/crates"), Definitions()
-    crates, said = [Crate(it, definitions) for it in every], "every edit" if asked.audit else "as asked"
+    crates = [Crate(it, definitions) for it in every]
     unknown = {*asked.asked} - {name for it in crates for edit in [*it.bodies, *it.definitions] for name in (it.name, edit.name)}
     if unknown:
         sys.exit(f"no crate has these edits: {', '.join(sorted(unknown))}")
     for it in crates if asked.asked else ():
         it.keep([edit for edit in [*it.bodies, *it.definitions] if {it.name, edit.name} & {*asked.asked}])
-    if not asked.asked and not asked.audit:
-        edits = {f"{edit.path.parent.name} {edit.name}": (edit, it.places(edit)) for it in crates for edit in it.now[0] + it.now[1]}
-        names, said = Choice("prover", LOGIC).choose(edits)
-        for it in crates:
-            it.keep({edits[name][0] for name in names})
     with tempfile.TemporaryDirectory(prefix="refusals-") as room:
         run = Run([it for it in crates if any(it.now)], asked, room)
-        run.say(said)
         for edit in (edit for it in crates for edit in it.now[1] if edit.wrong):
             run.judge(edit, None, edit.wrong)
         rt.in_lanes(run.tasks(every))
-    if asked.audit:
-        MADE.open("a").writelines(f"{name}\n" for name in run.failed)
-    of_all = sum(len(it.bodies) + len(it.definitions) for it in crates)
-    print(said, f"{run.all} of {of_all} tried, in {time.monotonic() - begun:.0f} s", sep="\n")
+    print(f"{run.all} tried, in {time.monotonic() - begun:.0f} s")
     print("".join(f"FAILED: {name}\n" for name in run.failed) + f"{run.passed} passed, {len(run.failed)} failed")
-    return 1 if run.failed and not asked.audit or run.passed + len(run.failed) < run.all else 0
+    return 1 if run.failed or run.passed + len(run.failed) < run.all else 0
 
 
 if __name__ == "__main__":

@@ -1,7 +1,6 @@
 """The toolchain's own command as a module: so an edit is checked as `rt ci` checks one, in the same lanes."""
 import copy
 import os
-import pathlib
 import shutil
 import tempfile
 from importlib import machinery, util
@@ -39,4 +38,3 @@ def told(crate, call):
 
 
 rt = load_rt()
-RELEASE, LOGIC = pathlib.Path(rt.KIT, "KIT-ID").read_text(encoding="utf-8").splitlines()[0].split(" ", 1)

@@ -38,7 +38,7 @@ FILES = {
             "usr/share/zsh/vendor-completions/_{}")),
         "usr/bin/scrypt-ask", "usr/share/man/man1/scrypt-ask.1.gz", "usr/share/man/man7/pikhsen-compat.7.gz", "usr/share/bash-completion/completions/scrypt-ask",
         "usr/share/doc/pikhsen/README.md", "usr/share/lintian/overrides/pikhsen",
-        *(f"usr/share/doc/pikhsen/docs/{it.name}" for it in (TOP / "docs").glob("*.*")),  # docs/audit is for the gate
+        *(f"usr/share/doc/pikhsen/docs/{it.name}" for it in (TOP / "docs").glob("*.*")),
     ],
     "libpikhsen0": [f"{LIBRARIES}/libpikhsen.so.0", "usr/share/lintian/overrides/libpikhsen0"],
     "libpikhsen-dev": [

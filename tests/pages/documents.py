@@ -1,7 +1,7 @@
 #!/usr/bin/env python3
-"""Whether what the documents name is there; whether what is made of data is what would be made now; whether pages are
-short enough; and whether figures of speed are those of docs/benchmarks.tsv. What pages say of options, messages and
-numbers is compared by tests/pages/values.py.
+"""Whether what the documents name is there; whether what is made of data is what would be made now; and whether figures of
+speed are those of docs/benchmarks.tsv. What pages say of options, messages and numbers is compared by
+tests/pages/values.py.
 
 Reads README.md and the other pages, docs/ and man/ against crates/, prints each name that it does not find, and fails
 where there is one.
@@ -17,9 +17,9 @@ import figures
 import pages
 import promises
 import tree
-from checking import is_there, said
+from checking import is_there, left_out, said
 from definitions import Definitions, wrong_definitions_of
-from edits import BODIES, LINES, edits_in, edits_of
+from edits import BODIES, edits_of
 from promises import CRATES, IN_BACKTICKS
 from tree import TOP, VERSION, read
 
@@ -37,7 +37,6 @@ GOAL = re.compile(
     r"`(?:returns|\S+-requires|loop-\S+|\S+-(?:init|preserved|smaller)|invariant_of-)[^`]*`"
     r"(?:, at its answer)?|the lemma \w+|the types: .+"
 )
-MOST_WORDS = 16000  # of README.md, CONTRIBUTING.md and docs/*.md, by hand and outside tables
 DEFINITIONS = Definitions()
 DEFINED = {module: {*file.items, *file.fields} for module, file in DEFINITIONS.files.items()}
 
@@ -144,10 +143,10 @@ def tests_of_examples():
 
 def goals():
     """Edits that must fail: what each replaces stands in its place once, and the goal that refuses it is there."""
-    sources, lines = "".join(map(sources_of, CRATES)), edits_in(LINES)
+    sources = "".join(map(sources_of, CRATES))
     bodies = [it for crate in CRATES for it in edits_of(crate, BODIES)]
     clauses = {"steps", *re.findall(r"\b(?:ensures|requires)\*? (\w+)", sources)}  # the first of Iterator::next
-    yield from (f"{it.name}: the text that it replaces, once" for it in [*bodies, *lines] if not it.texts)
+    yield from (f"{it.name}: the text that it replaces, once" for it in bodies if not it.texts)
     for edit in bodies:
         told, clause = GOAL.fullmatch(edit.goal), re.search(r"-clause-(\w+)`", edit.goal)
         if not told or clause and clause[1] not in clauses:
@@ -155,18 +154,10 @@ def goals():
                   f"(tests/edits/refusals.py --told {edit.name} writes it)"
     for crate in CRATES:
         yield from (f"{it.name}: {it.wrong}" for it in wrong_definitions_of(crate, DEFINITIONS) if it.wrong)
-    yield from (f"{it.name}: what finds it (tests/edits/wrong_lines.py --told {it.name} writes it)"
-                for it in lines if not it.goal)
-
-
-def words_by_hand():
-    """How many words stand on pages outside of the parts that are made of data, and of tables."""
-    texts = (pages.MADE.sub("", it.read_text(encoding="utf-8")) for it in pages.PAGES)
-    return sum(len(line.split()) for text in texts for line in text.splitlines() if not line.startswith("|"))
 
 
 def made_parts():
-    """Parts that are made of data, each once, and how many words there are beside."""
+    """Parts that are made of data, each once."""
     made = []
     for document in pages.PAGES:
         text = document.read_text(encoding="utf-8")
@@ -175,13 +166,6 @@ def made_parts():
             yield f"{document.name}: the tables that tests/pages/pages.py makes (each run of it writes them)"
     yield from (f"docs: the table '{it}', which tests/pages/pages.py makes, once"
                 for it in sorted(pages.PARTS) if made.count(it) != 1)
-    if words_by_hand() > MOST_WORDS:
-        yield f"pages: at most {MOST_WORDS:,} words"
-    readme = read("README.md")
-    if (words := len(readme.split())) >= 1900:
-        yield f"README.md: fewer than 1,900 words: there are {words}"
-    if (lines := readme.partition("\n# Using the programs\n")[0].count("\n")) >= 45:
-        yield f"README.md: a first screen of fewer than 45 lines: there are {lines}"
 
 
 def pictures():
@@ -235,7 +219,8 @@ PARTS = (
 
 
 def main():
-    print(f"pages: {words_by_hand():,} words by hand outside tables, of {MOST_WORDS:,}")
+    if fields := promises.fields_without_edit():
+        left_out(f"no edit breaks {len(fields)} promised fields of records", ", ".join(map(" ".join, fields)), len(fields))
     sys.exit("\n".join(f"not there: {it}" for part in PARTS for it in part()) or None)
 
 

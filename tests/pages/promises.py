@@ -1,6 +1,5 @@
-"""The calls and clauses that carry the promises of docs/PROMISES.md, looked for in the sources; and whether each of
-these clauses, and each exported function that has one, has a wrong body, so that no contract that a caller relies on is
-one that nothing broke. An edit counts at its function, or where it takes a clause from another one's proof.
+"""The calls and clauses that carry the promises of docs/PROMISES.md, looked for in the sources; and whether an edit, by its
+line `holds:`, or a type holds each, so that none is one that nothing broke.
 """
 import re
 
@@ -8,23 +7,13 @@ import contracts
 import prove
 import specs
 from edits import BODIES, edits_of
-from functions import function_at, text_of
 from tree import tables
 
-# Exported functions that pass on what another one does, which has the wrong body.
-BY_ANOTHER = {
-    "aes_ctr": {"block_cipher::Aes256::key_planes": "key_planes::key_planes"},
-    "argon": {"lanes::Lanes::reserve": "lanes::reserve_from", "matrix::Matrix::reserve": "matrix::reserve_from"},
-}
-# Those whose type has no other value, or whose result has no bytes.
-ALONE = {
-    "counter": {"Count::new", "Count::plus_one"},
-    "encfile": {"header::Header::costs"},
-}
-# Clauses that no body breaks which the types let through: the counts come with the system, and nothing else makes any.
-BY_TYPES = {f"{crate} run fails" for crate in ("scrypt_program", "argon2_program", "argon2_verify_program")}
+# What the types hold, which refuse each body that breaks it: a `Count` has one value and no bytes, and a run gives the system
+# back, with the counts that nothing else makes.
+BY_TYPES = {("counter", "Count::new", "zero"), ("counter", "Count::plus_one", "one_more")} | {
+    (f"{it}_program", "run", "fails") for it in ("argon2", "argon2_verify", "scrypt")}
 IN_BACKTICKS = re.compile(r"`([^`]+)`")
-ONLY = "the only one"
 # The fields of the records that each crate defines.
 FIELDS = {(module.split(".")[0], name, field) for module, file in specs.all_files().items()
           for name, lines in file.items.items() for field in re.findall(r"(?m)^  pub (\w+) :", "\n".join(lines))}
@@ -104,13 +93,33 @@ def has(items, clause):
              if name == clause for word in re.findall(r"\w+", text)]
     return bool(cited) and (not field or any((*it, field) in FIELDS for it in cited))
 
+def promised():
+    """The promises that PROMISES.md cites: the crate of each call, its name, and the clause, or a field of the record that it is."""
+    for crate, *row in rows():
+        for _, found, clauses in parts(crate, *row):
+            for name in found:
+                for clause in (it for it in clauses if has(FUNCTIONS[crate][name], it)):
+                    yield crate_of(FUNCTIONS[crate][name][0]), name, clause
+
+
+def crate_of(item):
+    return item.path.relative_to(contracts.CRATES).parts[0]
+
+
+def is_goal_of(edit, crate, name, clause):
+    """Whether the goal that refuses an edit of a call, or of how it is called, is of this clause: by name, where there are more
+    than one. An edit of a step below the call is refused at the step's own clause, or at an invariant."""
+    last, goal, clause = name.rpartition("::")[2], edit.goal.partition("`")[2].partition("`")[0], clause.partition(".")[0]
+    kind = "requires" if "-requires" in goal else "ensures"
+    is_only = any(it.names(kind) == [clause] for it in FUNCTIONS[crate].get(name, ()))
+    if kind == "ensures" and (not goal.startswith("returns") or last not in {it.rpartition("::")[2] for it in edit.functions}):
+        return True
+    return (goal.endswith(f"-clause-{clause}") or is_only) and (kind == "ensures" or goal.partition("-")[0] == last)
+
 
 def wrong():
-    """What docs/PROMISES.md names that the sources lack; and the clauses and functions that no edit holds, where the
-    types don't."""
-    lost = {*unheld()}
-    yield from (f"PROMISES.md: a wrong body at {it}, or an edit that takes it from a proof" for it in sorted(lost - BY_TYPES))
-    yield from (f"tests/pages/promises.py: {it} is not held otherwise" for it in sorted(BY_TYPES - lost))
+    """What docs/PROMISES.md names that the sources lack; promises that no edit and no type holds; and edits that break none."""
+    cited, held, edits = {*promised()}, set(), [it for crate in CRATES for it in edits_of(crate, BODIES)]
     for crate, *row in rows():
         for lost, found, clauses in parts(crate, *row):
             yield from (f"PROMISES.md: {crate} has no {name}" for name in lost)
@@ -118,65 +127,19 @@ def wrong():
                 is_type = clause[0].isupper() and clause in FUNCTIONS[crate]
                 if not is_type and not any(has(FUNCTIONS[crate][name], clause) for name in found):
                     yield f"PROMISES.md: {crate}: {', '.join(found)} has no clause {clause}"
-    yield from (f"crates/{crate}/wrong-bodies: a wrong body of {name}, or of what BY_ANOTHER names"
-                for crate in contracts.libraries() for name in without_edit(crate))
+    for edit in edits:
+        held |= {*edit.holds}
+        wide = {it[:2] + (it[2].split(".")[0],) for it in cited}
+        for it in edit.holds or [("", "", "")]:
+            if it not in cited | wide or not is_goal_of(edit, *it):
+                yield f"{edit.name}: holds: a promise of PROMISES.md that its goal is of, and not {' '.join(it)}"
+    held |= {it[:2] + (it[2].split(".")[0],) for it in held} | BY_TYPES
+    clauses = {it[:2] + (it[2].split(".")[0],) for it in cited}
+    yield from (f"PROMISES.md: an edit that holds {' '.join(it)}" for it in sorted(clauses - held))
+    yield from (f"tests/pages/promises.py: {' '.join(it)} is not held by a type alone" for it in sorted(BY_TYPES - clauses))
 
 
-def without_edit(crate):
-    """The exported functions that have no wrong body and should, and names in the tables that stand for nothing."""
-    found, by, alone = set(), BY_ANOTHER.get(crate, {}), ALONE.get(crate, set())
-    for edit in edits_of(crate, BODIES):
-        for file, old, _ in edit.pairs:
-            text = text_of(edit.folder, file, {})
-            found.add(function_at(edit.folder, file, text, text.count("\n", 0, text.find(old))))
-    exported = contracts.exported(crate).values()
-    promising = {it.prover_path(crate) for it in exported if it.is_public and it.clauses}
-    yield from sorted(it for it in promising - found - alone if it not in by or by[it] not in found)
-    yield from sorted(it for it in {*by, *alone} if it not in promising or it in found)
-
-
-def refused_at():
-    """The clauses at which wrong bodies are refused, or without which another proof fails, by the crate and the end of the path
-    of each function: those of a trait's method by its name, too. A goal names no clause where the function ensures but one. And
-    the conditions, each with the call that it is of."""
-    found, conditions = {}, set()
-    for crate in CRATES:
-        for edit in edits_of(crate, BODIES):
-            goal = edit.goal.split("`")[1] if "`" in edit.goal else ""
-            if at := re.match(r"(\w+).*?-requires(?:-\w+)*?(?:-clause-(\w+))?$", goal):
-                conditions.add(at.groups(ONLY))
-                continue
-            clause = goal.rpartition("-clause-")[2] if "-clause-" in goal else ONLY if goal.startswith("returns") else ""
-            for path, name in [*((it, clause) for it in edit.functions), *taken_away(edit)]:
-                found.setdefault((crate, *f"::{path}".split("::")[-2:]), set()).add(name)
-    return found, conditions
-
-
-def taken_away(edit):
-    """The clauses that an edit changes where another function's proof refuses it, which so relies on them, each behind the path
-    of its function."""
-    for file, old, _ in edit.pairs if edit.within else ():
-        text = text_of(edit.folder, file, {})
-        begin = text.find(old)
-        at = edit.folder, file, text, text.count("\n", 0, begin)
-        path, clauses = function_at(*at), contracts.CLAUSE.findall(text[: begin + len(old)])
-        if path not in (None, edit.within, function_at(*at, body=True)) and clauses:
-            yield path, clauses[-1][1]
-
-
-def unheld():
-    """The clauses of docs/PROMISES.md that no wrong body or edit holds: they could be lost with nothing that notices."""
-    at, conditions = refused_at()
-    for crate, *row in rows():
-        for name, clauses in ((name, clauses) for _, found, clauses in parts(crate, *row) for name in found):
-            *above, last = name.split("::")
-            owner, items = "".join(above[-1:]), FUNCTIONS[crate][name]
-            goals = {goal for (where, kind, method), goals in at.items() for goal in goals if method == last and (
-                FUNCTIONS[where].get(name) is items and owner in ("", kind)
-                or owner and kind != owner and kind.endswith(owner))}
-            for clause in {it.split(".")[0] for it in clauses if has(items, it.split(".")[0])}:
-                ensured, required = ({clause, *[ONLY] * any(it.names(kind) == [clause] for it in items)}
-                                     for kind in ("ensures", "requires"))
-                is_held = ensured & goals or any((last, it) in conditions for it in required)
-                if not is_held and name not in ALONE.get(crate, ()):
-                    yield f"{crate} {name} {clause}"
+def fields_without_edit():
+    """The promised fields that no edit breaks. Where a proof above cites one, that would fail without it; else nothing would."""
+    held = {it for crate in CRATES for edit in edits_of(crate, BODIES) for it in edit.holds}
+    return sorted({it for it in promised() if "." in it[2]} - held)

@@ -270,6 +270,14 @@ def unseen_in(folder):
     return [f"unseen\t{source / it}" for it in files if "out" in it.parts or not (source / it).is_file()]
 
 
+def differing(rules, text, lacking=()):
+    """What is excepted by the rows of a text, of crates that are built, and how what the rules find differs from that."""
+    rows = [it.rsplit("\t", 1) for it in text.splitlines()[1:]]
+    then = [row for row, reason in rows if reason and row.split("\t")[1].split("::")[0] not in lacking]
+    wrong = [f"{it}: refused" for it in sorted(rules.rows) if it not in then]
+    return then, wrong + [f"{it}: excepted, and is not there" for it in then if it not in rules.rows]
+
+
 def main():
     words = [it for it in sys.argv[1:] if it != "--told"]
     built = libraries(words)
@@ -280,11 +288,8 @@ def main():
     # in a folder where not all is built, as after make check, rows of what is built count
     wanted = {it for it in prove.listed() if not OTHERS.fullmatch(it) and not (TOP / "crates" / it / "src/main.rt").is_file()}
     lacking = sorted(wanted - {it.stem for it in built})
-    rows = [it.rsplit("\t", 1) for it in EXCEPTED.read_text(encoding="utf-8").splitlines()[1:]]
-    then = [row for row, reason in rows if reason and row.split("\t")[1].split("::")[0] not in lacking]
-    wrong = [it for folder in built for it in unseen_in(folder)] + rules.wrong
-    wrong += [f"{it}: refused" for it in sorted(rules.rows) if it not in then]
-    wrong += [f"{it}: excepted, and is not there" for it in then if it not in rules.rows]
+    then, differs = differing(rules, EXCEPTED.read_text(encoding="utf-8"), lacking)
+    wrong = [it for folder in built for it in unseen_in(folder)] + rules.wrong + differs
     wrong += ["not all is built"] * (lacking != [] and any(it.endswith(".rlib") for it in words))  # as in the gate
     deep = max((rules.code.deepest(rules.code.open(name))[0] for name in rules.names), default=0)
     print("\n".join(wrong) or f"functions: {len(rules.names)}; excepted: {len(then)}; bytes of values at once: {deep}")
