@@ -16,14 +16,14 @@ before := tests/sources/sources.sh tests/pages/documents.py tests/pages/values.p
 of_code := tests/sources/calls.py tests/sources/calls_test.py tests/sources/as_compiled.py
 outside := $(foreach it,$(LEVELS),$(if $(filter x86-64-v2,$(it))$(wildcard bin/$(it)/scrypt),outside-$(it)))
 
-gate: refusals c_face $(of_code)
+gate: refusals definitions c_face $(of_code)
 	@awk -F '\t' -v now=$$(date +%s) 'NR == 1 {begun = $$2} NR > 1 {all += $$2} END {print now - begun "\t" all "\tall"}' \
 		bin/gate.tsv >bin/gate.all && cat bin/gate.all >>bin/gate.tsv && rm bin/gate.all
 	@cat bin/gate.tsv
 	@touch $(PIKHSEN_LEFT_OUT) && sort -u $(PIKHSEN_LEFT_OUT)
 	@! test "$$PIKHSEN_ALL" = 1 || ! grep -q 'is not installed' $(PIKHSEN_LEFT_OUT)
 
-.PHONY: gate $(before) $(of_code) proved linked archive refusals c_face
+.PHONY: gate $(before) $(of_code) proved linked archive refusals definitions c_face
 $(before):        ; $(call step,$@)
 proved: $(before)
 	@rm -rf crates/*/out/*_tool.o crates/*/out/rlib bin/*.rlib # rt ci leaves what it finds, be it of older sources
@@ -35,5 +35,6 @@ linked: proved
 archive: proved   ; $(call step,tests/library/archive.py)
 $(of_code): archive ; $(call step,$@ bin/pikhsen_c.rlib)
 refusals: proved  ; $(call step,tests/edits/refusals.py)
+definitions: proved ; $(call step,tests/definitions/run.py)
 outside-%: linked ; $(call step,tests/programs/outside.sh bin/$*)
 c_face: archive $(outside) ; $(call step,tests/library/c_face.py)

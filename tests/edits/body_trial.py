@@ -172,3 +172,18 @@ def tried(crate, edits, texts, folder, kept, known):
 def goes_with(edit, other):
     """Whether two edits can share a check: they change bodies alone, of different functions."""
     return edit.is_shared and other.is_shared and not edit.places & other.places
+
+
+def in_groups(edits):
+    """The edits in groups that share a check, each with the texts that it makes."""
+    groups = []
+    for edit in edits:
+        for group in groups:
+            fits = len(group[0]) < MOST and all(goes_with(edit, it) for it in group[0])
+            made = edit.put(group[1]) if fits else None
+            if made:
+                group[:] = [*group[0], edit], made[0]
+                break
+        else:
+            groups.append([[edit], edit.texts])
+    return groups

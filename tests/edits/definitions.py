@@ -1,10 +1,8 @@
 """Wrong definitions: which equation is to refuse each, and what that equation reaches.
 
 Such an edit changes specs/ alone, and its line `vector: NAME CLAUSE` names its goal, an equation of src/vectors.rt in the
-crate or in CRATE_tests. tests/edits/definition_trial.py says how it is tried. Edits of a crate share a check where no equation
-of one reaches a definition that another changes.
+crate or in CRATE_tests. tests/definitions/run.py tries it: with the wrong definition the two sides must differ.
 """
-import copy
 import pathlib
 import re
 
@@ -35,17 +33,14 @@ class Definitions:
     def __init__(self, top=TOP):
         self.top, self.files = pathlib.Path(top), all_files(pathlib.Path(top) / "crates")
 
-    def with_edit(self, edit):
-        """The same with an edit, and the items that it changes."""
-        made, changed = copy.copy(self), set()
-        made.files = dict(self.files)
+    def changed_by(self, edit):
+        """The items that an edit changes."""
+        changed = set()
         for path, text in edit.texts.items():
             module = ".".join([edit.folder.name, *pathlib.PurePath(path).with_suffix("").parts])
             before, file = self.files[module], File(text)
-            made.files[module] = file
-            items = {*before.items, *file.items}
-            changed |= {(module, it) for it in items if before.items.get(it) != file.items.get(it)}
-        return made, changed
+            changed |= {(module, it) for it in {*before.items, *file.items} if before.items.get(it) != file.items.get(it)}
+        return changed
 
     def reached(self, text, names):
         return reached([(text, names)], self.files)
@@ -61,14 +56,11 @@ class WrongDefinition(Edit):
         tests = folder_of_tests(self.folder)
         text = text_of(tests, VECTORS, {})
         self.equation, names = clauses(text).get((self.vector, self.clause)), imports(text)
-        answer = text_of(tests, f"proofs/vectors/{self.vector}/Answers.antt", {})
-        self.answer = answer if re.search(rf"\b{self.clause} = refl\b", answer) else ""
         self.changes, self.wrong = set(), "it changes what is not a definition"
         if self.texts and all(file.startswith("specs/") for file in self.texts) and self.equation:
-            made, self.changes = definitions.with_edit(self)
+            self.changes = definitions.changed_by(self)
             cited = "\n".join(self.equation[1:])
             items = definitions.reached(cited, names)
-            self.reach = {*items, *made.reached(cited, names)}
             self.wrong = "" if self.changes & {*items} else "its equation does not reach what it changes"
         elif not self.texts:
             self.wrong = "what it replaces does not stand there once"

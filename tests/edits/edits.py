@@ -1,7 +1,7 @@
 """Edits that must fail: what each puts in the place of what, what that changes, and the goal that refuses it.
 
     a wrong body         crates/CRATE/wrong-bodies/        the prover must refuse it (body_trial.py)
-    a wrong definition   crates/CRATE/wrong-definitions/   a vector must refuse it (definition_trial.py)
+    a wrong definition   crates/CRATE/wrong-definitions/   an equation must refuse it (tests/definitions/run.py)
 
 They stand many to a file, NAME.edits, one file for each source or definition that they are about:
 
@@ -27,7 +27,7 @@ from specs import CRATES
 from tree import TOP
 
 BODIES, DEFINITIONS = "wrong-bodies", "wrong-definitions"
-FIRST = ("holds", "types", "vector", "gives")  # what an edit says before it names a file
+FIRST = ("holds", "types", "vector")  # what an edit says before it names a file
 GOAL = "\nrefused: "
 ANSWERS = re.compile(r"proofs/(.*)/(?:Answers|Invariants)\.antt")
 
@@ -52,7 +52,7 @@ class Edit:
         self.goal, self.holds = said.get("refused", ""), [*promises_in(said.get("holds", ""), self.folder.name)]
         self.types = said.get("types", "").strip()  # the error of the types that refuses it, where it names one
         self.within = said.get("in", "").strip()  # the function whose proof must refuse it, where it changes no body
-        self.vector, self.gives = said.get("vector", "").strip(), said.get("gives")
+        self.vector = said.get("vector", "").strip()
         self.files = sorted({file for file, _, _ in self.pairs})
 
     def put(self, texts, folder=None):
@@ -131,21 +131,6 @@ def edits_in(folder, kind=Edit):
 
 def edits_of(crate, folder, kind=Edit):
     return edits_in(TOP / "crates" / crate / folder, kind)
-
-
-def in_groups(edits, most, goes_with):
-    """The edits in groups that share a check, each with the texts that it makes."""
-    groups = []
-    for edit in edits:
-        for group in groups:
-            fits = len(group[0]) < most and all(goes_with(edit, it) for it in group[0])
-            made = edit.put(group[1]) if fits else None
-            if made:
-                group[:] = [*group[0], edit], made[0]
-                break
-        else:
-            groups.append([[edit], edit.texts])
-    return groups
 
 
 def write_goal(edit, goal):

@@ -1,15 +1,14 @@
 #!/usr/bin/env python3
-"""Tries wrong bodies and wrong definitions, several of one crate in one check: each must be refused at its goal.
+"""Tries wrong bodies, several of one crate in one check: each must be refused at its goal.
 
     tests/edits/refusals.py                                  every one, as in the gate
     tests/edits/refusals.py [--told] CRATE | CRATE/NAME ..   these; with --told, what refused each is written as its goal
 
-What a refusal is, say body_trial.py and definition_trial.py; how edits are written, edits.py. One that is not refused has
+What a refusal is, says body_trial.py; how edits are written, edits.py. One that is not refused has
 failed, and so has one that is refused at another goal than the one below its lines, unless with --told.
 
 Of each crate of which a body is tried, the functions that these edits change are proved first as they are, over the libraries
 that rt ci left, or that are built where there are none. Their proofs stay in out/incremental, since rt ci keeps its own.
-Of a crate of which a definition is tried no code is proved.
 """
 import argparse
 import os
@@ -21,24 +20,17 @@ import time
 
 sys.path += map(str, pathlib.Path(__file__).resolve().parents[1].iterdir())  # the other folders of tests/
 import body_trial
-import definition_trial
-from definitions import Definitions, wrong_definitions_of
-from edits import BODIES, edits_of, in_groups, write_goal
+from edits import BODIES, edits_of, write_goal
 from toolchain import left_by_ci, rt, told
 from tree import TOP
 
 
 class Crate:
-    """The edits of a crate, and those of them that are tried now."""
+    """The edits of a crate that are tried."""
 
-    def __init__(self, crate, definitions):
+    def __init__(self, crate, asked):
         self.crate, self.name, self.known = crate, crate.name, {}
-        self.bodies, self.definitions = edits_of(crate.name, BODIES), wrong_definitions_of(crate.name, definitions)
-        self.keep([*self.bodies, *self.definitions])
-
-    def keep(self, edits):
-        """Leaves these to be tried."""
-        self.now = [it for it in self.bodies if it in edits], [it for it in self.definitions if it in edits]
+        self.edits = [it for it in edits_of(crate.name, BODIES) if not asked or {crate.name, it.name} & {*asked}]
 
 
 class Run:
@@ -47,7 +39,7 @@ class Run:
     def __init__(self, crates, asked, room):
         self.crates, self.asked, self.room = {it.name: it for it in crates}, asked, room
         self.passed, self.failed, self.done, self.lock = 0, [], 0, threading.RLock()
-        self.all = sum(len(edits) for it in crates for edits in it.now)
+        self.all = sum(len(it.edits) for it in crates)
 
     def say(self, text, failed=None):
         """Prints a text, and notes what has failed."""
@@ -73,21 +65,21 @@ class Run:
     def prove(self, name, jobs):
         """Whether what a crate's edits change is proved as it is, into out/incremental, and leaves no goal open in a check as trials are."""
         it, begun = self.crates[name], time.monotonic()
-        flags = ["--jobs", str(jobs), *(f"--only={place}" for place in body_trial.changed(it.now[0]))]
+        flags = ["--jobs", str(jobs), *(f"--only={place}" for place in body_trial.changed(it.edits))]
         ran = rt.checked(it.crate, {}, flags, f"{it.crate.folder}/out/incremental")
         why = (ran.stdout[-2000:] or "its check prints nothing") if ran.returncode else ""
         if not why:
-            it.known = self.over_kept(name, lambda *room: body_trial.closed_by_search(it.crate, it.now[0], *room))
-            goals = body_trial.wanted(it.now[0])
+            it.known = self.over_kept(name, lambda *room: body_trial.closed_by_search(it.crate, it.edits, *room))
+            goals = body_trial.wanted(it.edits)
             left = self.over_kept(name, lambda *room: body_trial.shared(it.crate, {}, goals, *room, it.known))
             why = "" if left == {} else f"with answers that belong to no goal its right bodies leave some open: {left}"
         self.say(f"{name}: {why or f'proved as it is, {time.monotonic() - begun:.0f} s'}", name if why else None)
         return not why
 
-    def attempt(self, name, edits, texts, trial):
+    def attempt(self, name, edits, texts):
         """Tries a group over what the crate keeps, and judges what came of it."""
         it, begun = self.crates[name], time.monotonic()
-        answers = self.over_kept(name, lambda *room: trial.tried(it.crate, edits, texts, *room, it.known))
+        answers = self.over_kept(name, lambda *room: body_trial.tried(it.crate, edits, texts, *room, it.known))
         with self.lock:
             for edit, answer in zip(edits, answers):
                 self.judge(edit, *answer)
@@ -121,13 +113,11 @@ class Run:
         for crate in needed:
             it, name, proof = self.crates[crate.name], crate.name, (crate.name, "proof")
             waits = [(made.name, "library") for made in [*crate.below(), crate] if made in built]
-            if body_trial.changed(it.now[0]):
+            if body_trial.changed(it.edits):
                 put(proof, crate, 9, waits, lambda jobs, name=name: self.prove(name, jobs))
-            sorts = (body_trial, it.now[0]), (definition_trial, [at for at in it.now[1] if not at.wrong])
-            groups = ((trial, *group) for trial, edits in sorts for group in in_groups(edits, trial.MOST, trial.goes_with))
-            for at, (trial, group, texts) in enumerate(groups):
+            for at, (group, texts) in enumerate(body_trial.in_groups(it.edits)):
                 put((name, "edits", at), crate, len(group), [proof] if proof in found else waits,
-                    lambda jobs, name=name, group=group, texts=texts, trial=trial: self.attempt(name, group, texts, trial))
+                    lambda jobs, name=name, group=group, texts=texts: self.attempt(name, group, texts))
         return found
 
 
@@ -136,17 +126,13 @@ def main():
     parser.add_argument("--told", action="store_true")
     parser.add_argument("asked", nargs="*")
     asked, begun = parser.parse_args(), time.monotonic()
-    every, definitions = rt.rtlib.crates_below(f"{TOP}/crates"), Definitions()
-    crates = [Crate(it, definitions) for it in every]
-    unknown = {*asked.asked} - {name for it in crates for edit in [*it.bodies, *it.definitions] for name in (it.name, edit.name)}
+    every = rt.rtlib.crates_below(f"{TOP}/crates")
+    crates = [it for it in (Crate(crate, asked.asked) for crate in every) if it.edits]
+    unknown = {*asked.asked} - {name for it in crates for edit in it.edits for name in (it.name, edit.name)}
     if unknown:
         sys.exit(f"no crate has these edits: {', '.join(sorted(unknown))}")
-    for it in crates if asked.asked else ():
-        it.keep([edit for edit in [*it.bodies, *it.definitions] if {it.name, edit.name} & {*asked.asked}])
     with tempfile.TemporaryDirectory(prefix="refusals-") as room:
-        run = Run([it for it in crates if any(it.now)], asked, room)
-        for edit in (edit for it in crates for edit in it.now[1] if edit.wrong):
-            run.judge(edit, None, edit.wrong)
+        run = Run(crates, asked, room)
         rt.in_lanes(run.tasks(every))
     print(f"{run.all} tried, in {time.monotonic() - begun:.0f} s")
     print("".join(f"FAILED: {name}\n" for name in run.failed) + f"{run.passed} passed, {len(run.failed)} failed")
