@@ -8,7 +8,8 @@ ghost use Rattle.argon2_program.specs.Program.{ProgramRefuses, ProgramSucceeds};
 ghost use Rattle.tools.specs.Failures.{AreFaultsWithinFailures};
 ghost use Rattle.tools.specs.SystemState.{IsUnused};
 
-use argon2_command::{Argon2Refusal, argon2};
+use argon::Ticks;
+use argon2_command::{Argon2Refusal, run_without_report};
 use std::alloc::Global;
 use tools::{RunFailureCounts, System, SystemHost, WordsFault, words};
 
@@ -36,9 +37,14 @@ pub fn run<S: System>(alloc: Global, system: S) -> (u8, S, RunFailureCounts<S>)
     let mut host = SystemHost::new(system);
     match read {
         Ok(words) => {
-            let status = argon2(alloc, &words, &mut host);
-            let (system, counts) = host.into_system();
-            (status, system, counts)
+            let mut memory = alloc;
+            match run_without_report(&mut memory, &words, &mut host, &mut Ticks::new(alloc)) {
+                Ok(()) => {
+                    let (system, counts) = host.into_system();
+                    (0, system, counts)
+                }
+                Err(refusal) => host.refuse(refusal.line()),
+            }
         }
         Err(WordsFault::NotText) => host.refuse(Argon2Refusal::Usage.line()),
         Err(WordsFault::OutOfMemory) => host.refuse(Argon2Refusal::OutOfMemory.line()),

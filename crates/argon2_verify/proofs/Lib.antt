@@ -1,5 +1,5 @@
 -- Lemmas, by topic.
-mod Ends
+pub mod Ends
 mod Existence
 mod KnownHash
 mod Lines

@@ -8,7 +8,8 @@ ghost use Rattle.argon2_verify_program.specs.Program.{ProgramDiffers, ProgramRef
 ghost use Rattle.tools.specs.Failures.{AreFaultsWithinFailures};
 ghost use Rattle.tools.specs.SystemState.{IsUnused};
 
-use argon2_verify::{VerifyRefusal, argon2_verify};
+use argon::Ticks;
+use argon2_verify::{VerifyRefusal, run_without_report};
 use std::alloc::Global;
 use tools::{RunFailureCounts, System, SystemHost, WordsFault, words};
 
@@ -38,9 +39,21 @@ pub fn run<S: System>(alloc: Global, system: S) -> (u8, S, RunFailureCounts<S>)
     let mut host = SystemHost::new(system);
     match read {
         Ok(words) => {
-            let status = argon2_verify(alloc, &words, &mut host);
-            let (system, counts) = host.into_system();
-            (status, system, counts)
+            let mut memory = alloc;
+            match run_without_report(&mut memory, &words, &mut host, &mut Ticks::new(alloc)) {
+                Ok(true) => {
+                    let (system, counts) = host.into_system();
+                    (0, system, counts)
+                }
+                Ok(false) => {
+                    let (system, counts) = host.into_system();
+                    (1, system, counts)
+                }
+                Err(refusal) => {
+                    let (_, system, counts) = host.refuse(refusal.line());
+                    (2, system, counts)
+                }
+            }
         }
         Err(WordsFault::NotText) => {
             let (_, system, counts) = host.refuse(VerifyRefusal::Usage.line());

@@ -4,7 +4,7 @@ use Rattle.host.specs.HostState.{HostState, Text}
 use Rattle.scrypt_request.specs.Refusal.{IsOfNoFailedCall}
 use Rattle.scrypt_request.specs.declared.refusal.ScryptRefusal.{ScryptRefusal}
 use Rattle.scrypt_request.specs.declared.refusal.ScryptRefusal.TheVariants as refusal
-use Rattle.scrypt_command.specs.Inside.Endings.{Ends, EndsAtWords, RunsRequest}
+use Rattle.scrypt_command.specs.Endings.{Ends, EndsAtWords, RunsRequest}
 use Rattle.scrypt_command.specs.Run.{IsDueOrOutOfMemory, IsRefused, RefusesCommandLine, Succeeds}
 use Rattle.scrypt_words.specs.Request.{scrypt_request}
 

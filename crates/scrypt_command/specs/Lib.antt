@@ -1,4 +1,4 @@
 -- The command scrypt: what a run comes to, for its words and a host.
 pub mod Run
+pub mod Endings
 pub mod Laws
-pub mod Inside

@@ -7,5 +7,5 @@
 mod laws;
 mod run;
 
-pub use run::scrypt;
+pub use run::{run_without_report, scrypt};
 pub use scrypt_request::ScryptRefusal;

@@ -4,7 +4,7 @@ ghost use Rattle.host.specs.Faults.{AreBelow};
 ghost use Rattle.host.specs.CallsGrantedByHost.{GrantsAllHostCalls};
 ghost use Rattle.host.specs.HostState.{IsUnasked};
 ghost use Rattle.scrypt_request.specs.Refusal.{CountsFault};
-ghost use Rattle.scrypt_command.specs.Inside.Endings.{Ends};
+ghost use Rattle.scrypt_command.specs.Endings.{Ends};
 ghost use Rattle.scrypt_command.specs.Run.{EndsWithStatus};
 
 use host::{Host, refuse};
@@ -14,8 +14,9 @@ use scrypt_run::run;
 use scrypt_words::read_request;
 use std::alloc::Global;
 
-// All of a run but the line of a refusal. `ticks` counts the Salsa20/8 cores.
-fn run_without_report<H: Host>(
+/// Does a run of `scrypt`: all of it but the line of a refusal, which is not said. `words` leaves out the
+/// program's name. Nothing was asked of the host yet. `ticks` counts the Salsa20/8 cores.
+pub fn run_without_report<H: Host>(
     alloc: Global,
     words: &[String],
     host: &mut H,

@@ -1,10 +1,10 @@
 -- What each refusal of scrypt leaves: an output was asked for only once the input was opened, and then neither the
 -- passphrase nor the salt can fail.
-use Rattle.std.proofs.Common.{◌≡◌, ◌∙◌, ◌≤◌, ◌⊎◌, inl, inr, ℕ, Bool, List, Option, None, Some, IsTrue, ap, sym, refl, subst}
+use Rattle.std.proofs.Common.{◌≡◌, ◌∙◌, inl, inr, ℕ, Bool, List, [], Option, None, Some, ap, sym, refl, subst}
 use Rattle.host.specs.Faults.{Faults, no_faults}
 use Rattle.host.specs.HostState.{HostState, Text}
-use Rattle.scrypt_command.specs.Run.{IsRefused, EndsWithRefusal}
-use Rattle.scrypt_request.specs.Refusal.{faults_after_refusal, line_of}
+use Rattle.scrypt_command.specs.Run.{IsRefused, Succeeds}
+use Rattle.scrypt_request.specs.Refusal.{faults_after_refusal}
 use Rattle.scrypt_request.specs.Request.{Encryption, Request, Task, encrypt, decrypt, inspect}
 use Rattle.scrypt_request.specs.declared.refusal.ScryptRefusal.{ScryptRefusal}
 use Rattle.scrypt_request.specs.declared.refusal.ScryptRefusal.TheVariants as refusal
@@ -12,12 +12,9 @@ use Rattle.scrypt_run.specs.Decrypting.{DecryptRefused}
 use Rattle.scrypt_run.specs.Encrypting.{EncryptRefused}
 use Rattle.scrypt_run.specs.Front.{FrontNotRead}
 use Rattle.scrypt_run.specs.Inspecting.{InspectRefused}
-use Rattle.scrypt_run.specs.Run.{ScryptRequestRefused}
+use Rattle.scrypt_run.specs.Run.{ScryptRequestRefused, ScryptRequestSucceeds}
 use Rattle.scrypt_run.specs.Text.{RefusesDuringText}
-use Rattle.tools.specs.Failures.{AreFaultsOfHost, AreFaultsWithinFailures}
-use Rattle.tools.specs.RunState.{Leaves}
-use Rattle.tools.specs.SystemState.{Files, SystemState}
-use Rattle.tools.proofs.Ends.{LeavesOutput, before-output, faults-left, leaves-line, with-input}
+use Rattle.tools.proofs.Ends.{LeavesOutput, before-output, said-same, with-input}
 
 -- the counts once a run was refused in which nothing had failed
 abbrev after_refusal : ScryptRefusal → Faults
@@ -82,22 +79,93 @@ of-request r (encrypt asked) before seen none refused = of-encryption r asked be
 of-request r (decrypt task) before seen none refused = of-decryption r task before seen none refused
 of-request r (inspect infile) before seen none refused = of-inspection r infile before seen none refused
 
-of-words : (r : ScryptRefusal) (words : List Text) (before seen : HostState) → before.output_asked ≡ None
+pub of-words : (r : ScryptRefusal) (words : List Text) (before seen : HostState) → before.output_asked ≡ None
     → IsRefused r words before seen → LeavesOutput seen (after_refusal r)
 of-words r words before seen none (inl (is, same)) = before-output (after_refusal r) before seen same none
 of-words r words before seen none (inr refused) = of-request r refused.request before seen none refused.refused
 
-refused : (tells : Bool) (words : List Text) (before seen : HostState) (counts : Faults) → IsTrue tells → before.output_asked ≡ None
-    → EndsWithRefusal tells words before seen no_faults counts → LeavesOutput seen counts
-refused tells words before seen counts told none refuses = leaves-line tells (line_of refuses.told) refuses.unsaid seen (after_refusal refuses.told) counts
-    refuses.says told (of-words refuses.told words before refuses.unsaid none (refuses.refused told))
+-- ---- no line is said before that of the refusal, and none has failed
 
--- the faults of a run that was refused
-pub faults-refused : (tells : Bool) (words : List Text) (start before seen : HostState) (nothing counts all failures : Faults) (w : SystemState) (f : Files)
-    → IsTrue tells → before ≡ start → start.output_asked ≡ None → nothing ≡ no_faults → EndsWithRefusal tells words before seen nothing counts → all ≡ counts
-    → Leaves w seen → AreFaultsOfHost all failures w f → AreFaultsWithinFailures all failures f
-faults-refused tells words start before seen nothing counts all failures w f told same none unfailed refuses counted leaves faults =
-    faults-left all failures w f seen leaves
-    (subst (λ c. LeavesOutput seen c) (sym counted)
-    (refused tells words before seen counts told (ap (λ (h : HostState). h.output_asked) same ∙ none)
-    (subst (λ n. EndsWithRefusal tells words before seen n counts) unfailed refuses))) faults
+unsaid-text : (r : ScryptRefusal) (limit most : ℕ) (gives decides : List ℕ → List ℕ) (before seen : HostState) → before.said ≡ []
+    → RefusesDuringText r limit most gives decides before seen → seen.said ≡ []
+unsaid-text r limit most gives decides before seen none (inl (is, fails)) = said-same _ seen fails.passes none
+unsaid-text r limit most gives decides before seen none (inr (inl (is, fails))) = said-same _ seen fails.passes none
+unsaid-text r limit most gives decides before seen none (inr (inr (is, long))) = said-same _ seen long.passes none
+
+unsaid-front : (infile : Option Text) (before seen : HostState) → before.said ≡ [] → FrontNotRead infile before seen → seen.said ≡ []
+unsaid-front infile before seen none (inl same) = said-same before seen same none
+unsaid-front infile before seen none (inr failed) = said-same _ seen failed.reads none
+
+unsaid-encryption : (r : ScryptRefusal) (asked : Encryption) (before seen : HostState) → before.said ≡ []
+    → EncryptRefused r asked before seen → seen.said ≡ []
+unsaid-encryption r asked before seen none (inl (is, same)) = said-same before seen same none
+unsaid-encryption r asked before seen none (inr (costs, inl (is, same))) = said-same before seen same none
+unsaid-encryption r asked before seen none (inr (costs, inr (inl (is, same)))) = said-same _ seen same none
+unsaid-encryption r asked before seen none (inr (costs, inr (inr (passphrase, given, inl (is, salt, same))))) = said-same _ seen same none
+unsaid-encryption r asked before seen none (inr (costs, inr (inr (passphrase, given, inr (inl (is, same)))))) = said-same _ seen same none
+unsaid-encryption r asked before seen none (inr (costs, inr (inr (passphrase, given, inr (inr (inl (is, same))))))) = said-same _ seen same none
+unsaid-encryption r asked before seen none (inr (costs, inr (inr (passphrase, given, inr (inr (inr text)))))) = unsaid-text r _ _ _ _ _ seen none text
+
+unsaid-decryption : (r : ScryptRefusal) (task : Task) (before seen : HostState) → before.said ≡ []
+    → DecryptRefused r task before seen → seen.said ≡ []
+unsaid-decryption r task before seen none (inl (inl (is, front))) = unsaid-front task.infile before seen none front
+unsaid-decryption r task before seen none (inl (inr (is, same))) = said-same _ seen same none
+unsaid-decryption r task before seen none (inr (passes, inl (is, same))) = said-same _ seen same none
+unsaid-decryption r task before seen none (inr (passes, inr (passphrase, given, inl (is, same)))) = said-same _ seen same none
+unsaid-decryption r task before seen none (inr (passes, inr (passphrase, given, inr (inl (is, same))))) = said-same _ seen same none
+unsaid-decryption r task before seen none (inr (passes, inr (passphrase, given, inr (inr (fits, inl (is, same)))))) = said-same _ seen same none
+unsaid-decryption r task before seen none (inr (passes, inr (passphrase, given, inr (inr (fits, inr (inl text)))))) = unsaid-text r _ _ _ _ _ seen none text
+unsaid-decryption r task before seen none (inr (passes, inr (passphrase, given, inr (inr (fits, inr (inr (is, damaged))))))) =
+    said-same _ seen damaged.released none
+
+unsaid-inspection : (r : ScryptRefusal) (infile : Option Text) (before seen : HostState) → before.said ≡ []
+    → InspectRefused r infile before seen → seen.said ≡ []
+unsaid-inspection r infile before seen none (inl (inl (is, front))) = unsaid-front infile before seen none front
+unsaid-inspection r infile before seen none (inl (inr (is, same))) = said-same _ seen same none
+unsaid-inspection r infile before seen none (inr (valid, inl (is, same))) = said-same _ seen same none
+unsaid-inspection r infile before seen none (inr (valid, inr (inl (is, same)))) = said-same _ seen same none
+unsaid-inspection r infile before seen none (inr (valid, inr (inr (is, cut)))) = said-same _ seen cut.begun none
+
+unsaid-request : (r : ScryptRefusal) (request : Request) (before seen : HostState) → before.said ≡ []
+    → ScryptRequestRefused r request before seen → seen.said ≡ []
+unsaid-request r (encrypt asked) before seen none refused = unsaid-encryption r asked before seen none refused
+unsaid-request r (decrypt task) before seen none refused = unsaid-decryption r task before seen none refused
+unsaid-request r (inspect infile) before seen none refused = unsaid-inspection r infile before seen none refused
+
+pub unsaid-words : (r : ScryptRefusal) (words : List Text) (before seen : HostState) → before.said ≡ [] → IsRefused r words before seen → seen.said ≡ []
+unsaid-words r words before seen none (inl (is, same)) = said-same before seen same none
+unsaid-words r words before seen none (inr refused) = unsaid-request r refused.request before seen none refused.refused
+
+done-request : (request : Request) (before seen : HostState) → before.said ≡ [] → ScryptRequestSucceeds request before seen → seen.said ≡ []
+done-request (encrypt asked) before seen none done = said-same _ seen done.encrypted.written none
+done-request (decrypt task) before seen none done = said-same _ seen done.decrypted.released none
+done-request (inspect infile) before seen none done = said-same _ seen done.written none
+
+-- a run that did what it was asked for has said no line
+pub unsaid-done : (words : List Text) (start before seen : HostState) → before ≡ start → start.said ≡ [] → Succeeds words before seen → seen.said ≡ []
+unsaid-done words start before seen same none done =
+    done-request done.request before seen (said-same start before same none) done.succeeds
+
+pub no-lines : (r : ScryptRefusal) → (after_refusal r).lines ≡ 0
+no-lines refusal.Usage = refl
+no-lines refusal.SomeCosts = refl
+no-lines refusal.CostsOutOfRange = refl
+no-lines refusal.StandardInputTwice = refl
+no-lines refusal.SameName = refl
+no-lines refusal.PassphraseSource = refl
+no-lines refusal.PassphraseFault = refl
+no-lines refusal.LongPassphrase = refl
+no-lines refusal.SaltDigits = refl
+no-lines refusal.SaltFault = refl
+no-lines refusal.NotScryptData = refl
+no-lines refusal.UnsupportedVersion = refl
+no-lines refusal.MemoryLimit = refl
+no-lines refusal.WorkLimit = refl
+no-lines refusal.WrongPassphrase = refl
+no-lines refusal.Damaged = refl
+no-lines refusal.InputFault = refl
+no-lines refusal.OutputFault = refl
+no-lines refusal.TooLong = refl
+no-lines refusal.OutOfMemory = refl
+no-lines refusal.KeepOutOfRange = refl
+no-lines refusal.KeepAboveN = refl

@@ -8,7 +8,8 @@ ghost use Rattle.scrypt_program.specs.Program.{ProgramRefuses, ProgramSucceeds};
 ghost use Rattle.tools.specs.Failures.{AreFaultsWithinFailures};
 ghost use Rattle.tools.specs.SystemState.{IsUnused};
 
-use scrypt_command::{ScryptRefusal, scrypt};
+use romix::Ticks;
+use scrypt_command::{ScryptRefusal, run_without_report};
 use std::alloc::Global;
 use tools::{RunFailureCounts, System, SystemHost, WordsFault, words};
 
@@ -35,14 +36,10 @@ pub fn run<S: System>(alloc: Global, system: S) -> (u8, S, RunFailureCounts<S>)
     let read = words(&system, alloc);
     let mut host = SystemHost::new(system);
     match read {
-        Ok(words) => {
-            let status = scrypt(alloc, &words, &mut host);
-            if status == 0 {
-                return host.sync_and_end(ScryptRefusal::OutputFault.line());
-            }
-            let (system, counts) = host.into_system();
-            (status, system, counts)
-        }
+        Ok(words) => match run_without_report(alloc, &words, &mut host, &mut Ticks::new(alloc)) {
+            Ok(()) => host.sync_and_end(ScryptRefusal::OutputFault.line()),
+            Err(refusal) => host.refuse(refusal.line()),
+        },
         Err(WordsFault::NotText) => host.refuse(ScryptRefusal::Usage.line()),
         Err(WordsFault::OutOfMemory) => host.refuse(ScryptRefusal::OutOfMemory.line()),
     }

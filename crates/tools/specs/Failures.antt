@@ -1,7 +1,7 @@
 -- How often the calls of a system have failed, and whether the faults of a run are such failures.
 use Rattle.std.specs.Prelude.{◌≡◌, ◌≤◌, ◌==◌, ℕ, ◌+◌, None, Result, OnErr, OnOk, if◌then◌else◌}
 use Rattle.host.specs.Faults.{Faults, with_input_failure_counted, with_line_failure_counted, with_output_failure_counted, with_salt_failure_counted, with_secret_failure_counted}
-use Rattle.tools.specs.SystemState.{Files, IsOutputSeparate, SystemState}
+use Rattle.tools.specs.SystemState.{Files, HasSeparateErrorStream, IsOutputSeparate, SystemState}
 use Rattle.tools.specs.declared.system.Reading.{Reading}
 use Rattle.tools.specs.declared.system.Reading.TheVariants as reading
 use Rattle.tools.specs.declared.system.StreamRole.{StreamRole}
@@ -59,10 +59,16 @@ pub record AreFaultsOfHost (counts failures : Faults) (w : SystemState) (f : Fil
   pub secrets : w.output_asked ≡ None → counts.secrets ≤ failures.secrets
   pub salt : w.output_asked ≡ None → counts.salt ≤ failures.salt
 
+-- the lines that could not be said are no more than such failures; but where standard error is one of the files that are
+-- read
+abbrev pub AreLinesWithinFailures : Faults → Faults → Files → Type 0
+AreLinesWithinFailures counts failures f = HasSeparateErrorStream f → counts.lines ≤ failures.lines
+
 -- the faults of a program over a system whose calls have failed so often, and of whose streams these are the files, are no
--- more than such failures; but for an output that is one of the files that are read
+-- more than such failures; but for an output, or a standard error, that is one of the files that are read
 pub record AreFaultsWithinFailures (counts failures : Faults) (f : Files) : Type 0 where
   pub input : counts.input ≤ failures.input
   pub output : IsOutputSeparate f → counts.output ≤ failures.output
   pub secrets : counts.secrets ≤ failures.secrets
   pub salt : counts.salt ≤ failures.salt
+  pub lines : AreLinesWithinFailures counts failures f

@@ -1,7 +1,7 @@
 //! The system as a host.
-ghost use Rattle.std.specs.Prelude.{◌≡◌, ◌-◌, ◌<◌, ◌≤◌, ◌^◌, true, false, IsTrue};
+ghost use Rattle.std.specs.Prelude.{◌≡◌, ◌-◌, ◌<◌, ◌≤◌, ◌^◌, [], true, false, IsTrue};
 ghost use Rattle.host.specs.Faults.{AreBelow};
-ghost use Rattle.tools.specs.Failures.{AreFaultsOfHost};
+ghost use Rattle.tools.specs.Failures.{AreFaultsOfHost, AreLinesWithinFailures};
 ghost use Rattle.tools.specs.RunState.{EndsWithLine, host_seen};
 ghost use Rattle.tools.specs.Steps.{EndsRun, EndsSynced, EndsUnsynced, IsNewHost};
 ghost use Rattle.tools.specs.SystemState.{IsUnused};
@@ -30,6 +30,7 @@ pub struct SystemHost<S: System> {
     run: Run<S>,
     counts: RunFailureCounts<S>,
     ghost told: { 0 < counts.lines → run.told ≡ true },
+    ghost untold: { IsTrue S.tells → counts.lines ≡ 0 → run.state.said ≡ [] → run.told ≡ false },
     ghost unsynced: { IsTrue S.tells → run.state.sync_asked ≡ false },
     ghost failed: { IsTrue S.tells → AreFaultsOfHost counts run.failures run.state run.system_files },
 }
@@ -60,6 +61,8 @@ impl<S: System> SystemHost<S> {
             (S.state result.1) result.2 }
         ensures fails { IsTrue S.tells → (⟦<SystemHost<S> as Host>⟧.grants self).writable ≡ true →
             AreFaultsOfHost result.2 (S.failures result.1) (S.state result.1) (S.files result.1) }
+        ensures line { let host = ⟦<SystemHost<S> as Host>⟧ in IsTrue S.tells → (host.faults self).lines ≡ 0 →
+            (host.seen self).said ≡ [] → AreLinesWithinFailures result.2 (S.failures result.1) (S.files result.1) }
     {
         let SystemHost {
             mut run,
@@ -82,6 +85,8 @@ impl<S: System> SystemHost<S> {
             (⟦<SystemHost<S> as Host>⟧.faults self) (S.state result.1) result.2 }
         ensures fails { IsTrue S.tells →
             AreFaultsOfHost result.2 (S.failures result.1) (S.state result.1) (S.files result.1) }
+        ensures line { let host = ⟦<SystemHost<S> as Host>⟧ in IsTrue S.tells → (host.faults self).lines ≡ 0 →
+            (host.seen self).said ≡ [] → AreLinesWithinFailures result.2 (S.failures result.1) (S.files result.1) }
     {
         let SystemHost {
             mut run,
