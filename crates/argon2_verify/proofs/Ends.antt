@@ -1,8 +1,8 @@
 -- The ends of a run, by what its steps told.
-use Rattle.std.proofs.Common.{◌≡◌, ℕ, Bool, true, false, List, Result, Ok, Err, MatchResult, refl, sym, ◌∙◌, subst}
+use Rattle.std.proofs.Common.{◌≡◌, ℕ, Bool, true, false, List, Result, Ok, Err, MatchResult, inl, inr, refl, sym, ◌∙◌, subst}
 use Rattle.argon.specs.Argon2.{Parameters}
 use Rattle.host.specs.HostState.{HostState, Text}
-use Rattle.argon2_verify.specs.Run.{Answers, Differs, Verifies, verify_request}
+use Rattle.argon2_verify.specs.Run.{Answers, Differs, IsRefused, Request, Verifies, verify_request}
 use Rattle.argon2_verify.specs.declared.refusal.VerifyRefusal.{VerifyRefusal}
 
 -- a fact of a result, by what it is
@@ -32,3 +32,14 @@ module _ {Source : Type 0} {decoded : Source → List ℕ → Bool → Source} {
   -- words that are refused do not come to it
   pub not_refused : (due : VerifyRefusal) → verify_request words ≡ Err due → ⊥
   not_refused due refused = subst IsDone (sym told.inputs.of_words ∙ refused) tt
+
+-- words that are refused leave the host as it was
+module _ (words : List Text) (due : VerifyRefusal) (refused : verify_request words ≡ Err due) where
+  no_request : {P : Type 0} (q : Request) → verify_request words ≡ Ok q → P
+  no_request q of_words = absurd (let wrong : ⊥ = subst IsDone (sym of_words ∙ refused) tt in wrong)
+
+  pub host_kept : (r : VerifyRefusal) (before after : HostState) → IsRefused r words before after → after ≡ before
+  host_kept r before after (inl (is, same)) = same
+  host_kept r before after (inr (inl file)) = no_request file.request file.of_words
+  host_kept r before after (inr (inr (inl limits))) = no_request limits.request limits.of_words
+  host_kept r before after (inr (inr (inr password))) = no_request password.request password.of_words

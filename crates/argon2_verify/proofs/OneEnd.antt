@@ -22,7 +22,7 @@ abbrev ok_or : {A E : Type 0} → A → Result A E → A
 ok_or other (Ok a) = a
 ok_or other (Err e) = other
 
-abbrev err_or : {A E : Type 0} → E → Result A E → E
+abbrev pub err_or : {A E : Type 0} → E → Result A E → E
 err_or other (Ok a) = other
 err_or other (Err e) = e
 

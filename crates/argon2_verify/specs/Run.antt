@@ -92,11 +92,13 @@ pub record EndsWithRefusal (tells : Bool) (words : List Text) (before after : Ho
   pub refused : IsTrue tells → IsRefused told words before unsaid
 
 -- the run ended with this status. Of every host, also one that tells nothing: 0 and 1 raise no count, and words that are
--- refused come to 2. With 0 the password gives the tag, with 1 it does not, and with 2 the run said the line of its refusal
+-- refused come to 2 and to the line of that refusal. With 0 the password gives the tag, with 1 it does not, and with 2 the
+-- run said the line of its refusal
 pub record EndsWithStatus (tells : Bool) (words : List Text) (status : ℕ) (before after : HostState) (faults_before faults_after : Faults)
     : Type 0 where
   pub counts : status ≤ 1 → faults_after ≡ faults_before
-  pub words_refused : (due : VerifyRefusal) → verify_request words ≡ Err due → status ≡ 2
+  pub words_refused : (due : VerifyRefusal) → verify_request words ≡ Err due
+      → (status ≡ 2) × SaysOneLine tells (line_of due) before after (faults_after_refusal due faults_before) faults_after
   pub verifies : status ≡ 0 → Verifies tells words before after
   pub differs : status ≡ 1 → Differs tells words before after
   pub refuses : status ≡ 2 → EndsWithRefusal tells words before after faults_before faults_after
