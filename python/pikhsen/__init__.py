@@ -74,8 +74,8 @@ an hour by scrypt. A SERVER THAT READS HASHES OR FILES OF STRANGERS GIVES LOWER 
 for a hash, `max_bytes=1 << 30, max_ops=1 << 28` for a file. LimitExceeded has what was `needed`.
 
 Ctrl-C does not shorten a call: it goes on to its end, and then KeyboardInterrupt is raised in place of its result.
-`encrypt_file` and `decrypt_file` heed it after the key, and after each piece, and leave no new file; the buffer of
-`encrypt_in_place` may hold the file. So limits are what bounds the time. Ctrl-\\ ends the process at once, and leaves a
+`encrypt_file` and `decrypt_file` heed it after the key, and after each piece, and leave no new file, nor a part of one
+or a descriptor, at whatever moment it comes; the buffer of `encrypt_in_place` may hold the file. So limits are what bounds the time. Ctrl-\\ ends the process at once, and leaves a
 part of a new file, under a name that begins with ".pikhsen-". A call that somebody may want to stop is best made in a
 process of its own.
 
@@ -93,8 +93,9 @@ import enum
 import operator
 import os
 import sys
+import weakref
 from ctypes import POINTER, byref, c_char_p, c_size_t, c_ubyte, c_uint, c_ulong, c_void_p
-from typing import TYPE_CHECKING, Callable, Dict, List, NamedTuple, Optional, Type, Union
+from typing import TYPE_CHECKING, Any, Callable, Dict, List, NamedTuple, Optional, Type, Union
 
 __all__ = [
     "BytesLike", "Costs", "Damaged", "Decryptor", "Encryptor", "Invalid", "Kind", "LimitExceeded", "NotAFile",
@@ -317,14 +318,12 @@ class _Settings(ctypes.Structure):
     ]
 
 
-# A file in pieces. What the library keeps of it, the keys among it, is wiped and freed when nobody holds this any more.
+# A file in pieces.
 class _Stream(ctypes.Structure):
     _fields_ = [("runs", c_ubyte), ("state", c_void_p)]
 
     def free(self) -> None:
         _lib.pikhsen_stream_free(byref(self))
-
-    __del__ = free
 
 
 # The first number of the version of the library that this module is made for.
@@ -401,6 +400,26 @@ def _dotted(number: int) -> str:
 
 
 _lib = _loaded()
+# Each stream, by a reference to who has it, which does not keep it.
+_streams: Dict[object, object] = {}
+
+
+class _OfNobody:
+    """The stream of who is gone, as ctypes asks for a parameter."""
+
+    from_param = _streams.pop
+
+
+# Not by `__del__`: the handler of a signal may raise before the first line of that. From here on there is C alone.
+_wipe: Any = _lib["pikhsen_stream_free"]
+_wipe.argtypes, _wipe.restype = [_OfNobody], c_uint
+
+
+def _stream_of(owner: object) -> _Stream:
+    """A stream. What the library keeps of it, the keys among it, is wiped and freed when nobody has the owner any more."""
+    stream = _Stream()
+    _streams[weakref.ref(owner, _wipe)] = byref(stream)
+    return stream
 
 
 # Makes what a call raises whose limits are exceeded, of the status.

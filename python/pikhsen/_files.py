@@ -2,16 +2,17 @@
 import contextlib
 import ctypes
 import errno
+import functools
 import io
 import os
 import stat
 import threading
 from ctypes import byref, c_size_t
-from typing import Any, Callable, Iterator, NoReturn, Optional, Protocol, TypeVar, Union
+from typing import Any, Callable, List, NoReturn, Optional, Protocol, TypeVar, Union
 
 from . import (
     BytesLike, NotAFile, Path, Status, _buffer, _bytes, _call, _file_salt, _front, _key_exceeds, _lib, _limits,
-    _scrypt_settings, _Stream, _u32, info,
+    _scrypt_settings, _stream_of, _u32, info,
 )
 
 
@@ -27,6 +28,8 @@ class Writable(Protocol):
     def write(self, piece: bytes, /) -> Optional[int]: ...
 
 
+# What names a file.
+_PATHS = str, bytes, os.PathLike
 # What is told of the bytes of a source that are done, and of all that it has, or None where that is not known.
 Progress = Callable[[int, Optional[int]], object]
 _Self = TypeVar("_Self", bound="_InPieces")
@@ -36,7 +39,7 @@ class _InPieces:
     """What Encryptor and Decryptor share: a stream of the library, which may be in one call at a time."""
 
     def __init__(self) -> None:
-        self._stream, self._turn = _Stream(), threading.RLock()
+        self._stream, self._turn = _stream_of(self), threading.RLock()
         self._is_over = self._is_at_work = False
 
     def close(self) -> None:
@@ -48,10 +51,10 @@ class _InPieces:
         self._is_over = True
         self._stream.free()
 
-    @contextlib.contextmanager
-    def _step(self, is_last: bool = False) -> Iterator[None]:
-        """One call at a time. The last ends the stream, and so does one that raises, since its piece is lost. Within a
-        call of its thread, the handler of a signal may close the stream, and do nothing else with it."""
+    def _in_turn(self, call: Callable[[], bytes], is_last: bool = False) -> bytes:
+        """What a call gives, of which there is one at a time. The last ends the stream, and so does one that raises, since
+        its piece is lost. Within a call of its thread, the handler of a signal may close the stream, and do nothing else
+        with it."""
         with self._turn:
             if self._is_over:
                 raise ValueError(f"this {type(self).__name__} is finished or closed, or was refused")
@@ -60,8 +63,9 @@ class _InPieces:
             goes_on = False
             try:
                 self._is_at_work = True
-                yield
+                given = call()
                 goes_on = not is_last
+                return given
             finally:
                 self._is_at_work = False
                 # what was closed may have been started since
@@ -106,26 +110,36 @@ class Encryptor(_InPieces):
     ) -> None:
         super().__init__()
         head, costs = _buffer(96), _scrypt_settings(log_n, r, p, keep, max_bytes, max_ops)
-        _call(
-            _lib.pikhsen_scrypt_encrypt_start, _bytes(passphrase), _file_salt(salt), *costs, byref(self._stream), head,
-            exceeded=lambda status: _key_exceeds(status, *costs),
-        )
-        self._head = head.raw
+
+        def start() -> bytes:
+            _call(
+                _lib.pikhsen_scrypt_encrypt_start, _bytes(passphrase), _file_salt(salt), *costs, byref(self._stream),
+                head, exceeded=lambda status: _key_exceeds(status, *costs),
+            )
+            return head.raw
+
+        self._head = self._in_turn(start)
 
     def update(self, data: BytesLike) -> bytes:
         """The next bytes of the file, for the next bytes of the text."""
         data = _bytes(data)
         piece = (ctypes.c_char * len(data)).from_buffer_copy(data)
-        with self._step():
+
+        def feed() -> bytes:
             _call(_lib.pikhsen_scrypt_encrypt_feed, byref(self._stream), piece)
             return self._after_head(piece.raw)
+
+        return self._in_turn(feed)
 
     def finish(self) -> bytes:
         """The last bytes of the file. There are always some."""
         code = _buffer(32)
-        with self._step(is_last=True):
+
+        def end() -> bytes:
             _call(_lib.pikhsen_scrypt_encrypt_finish, byref(self._stream), code)
             return self._after_head(code.raw)
+
+        return self._in_turn(end, is_last=True)
 
     def _after_head(self, piece: bytes) -> bytes:
         head, self._head = self._head, b""
@@ -159,20 +173,19 @@ class Decryptor(_InPieces):
         """The text, NOT YET TESTED, that the next bytes of the file bring: 32 bytes less than have come after the first
         96, since the last 32 bytes of a file are its final code."""
         piece = _bytes(data)
-        with self._step():
-            if not self._stream.runs:
-                missing = 96 - len(self._front)
-                self._front, piece = self._front + piece[:missing], piece[missing:]
-                if len(self._front) < 96:
-                    return b""
-                passphrase, self._passphrase = self._passphrase, b""
-                _call(
-                    _lib.pikhsen_scrypt_decrypt_start, passphrase, *self._allowance, self._front, byref(self._stream),
-                    exceeded=lambda status: _key_exceeds(status, *info(self._front), *self._allowance),
-                )
-            return self._released(piece)
+        return self._in_turn(lambda: self._released(piece))
 
     def _released(self, piece: bytes) -> bytes:
+        if not self._stream.runs:
+            missing = 96 - len(self._front)
+            self._front, piece = self._front + piece[:missing], piece[missing:]
+            if len(self._front) < 96:
+                return b""
+            passphrase, self._passphrase = self._passphrase, b""
+            _call(
+                _lib.pikhsen_scrypt_decrypt_start, passphrase, *self._allowance, self._front, byref(self._stream),
+                exceeded=lambda status: _key_exceeds(status, *info(self._front), *self._allowance),
+            )
         out, released = _buffer(len(piece) + 32), c_size_t()
         try:
             _call(_lib.pikhsen_scrypt_decrypt_feed, byref(self._stream), piece, out, byref(released))
@@ -183,39 +196,18 @@ class Decryptor(_InPieces):
     def finish(self) -> bytes:
         """Tests the final code, and returns no more text, which is b"". If the file is damaged, or cut short, it raises
         Damaged, or NotAFile if it had fewer than 96 bytes: throw away what `update` returned."""
-        with self._step(is_last=True):
+
+        def end() -> bytes:
             if not self._stream.runs:
                 raise NotAFile(Status.TOO_SHORT)
             _call(_lib.pikhsen_scrypt_decrypt_finish, byref(self._stream))
-        return b""
+            return b""
+
+        return self._in_turn(end, is_last=True)
 
 
 # Files are read in pieces of so many bytes.
 _PIECE = 1 << 16
-
-
-@contextlib.contextmanager
-def _readable(source: Union[Path, Readable]) -> Iterator[Readable]:
-    """A file that is opened already, and stays so, or that of a path, which is closed at the end."""
-    if isinstance(source, (str, bytes, os.PathLike)):
-        with open(source, "rb", buffering=0) as file:
-            yield file
-    elif hasattr(source, "read"):
-        yield source
-    else:
-        raise TypeError(f"a path or an opened file is wanted here, and not {type(source).__name__}")
-
-
-@contextlib.contextmanager
-def _writable(target: Union[Path, Writable]) -> Iterator[Writable]:
-    """A file that is opened already, and stays so, or a new one of a path, which is there when all of it is."""
-    if isinstance(target, (str, bytes, os.PathLike)):
-        with _new_file(target) as file:
-            yield file
-    elif hasattr(target, "write"):
-        yield target
-    else:
-        raise TypeError(f"a path or an opened file is wanted here, and not {type(target).__name__}")
 
 
 def _length(source: Any) -> Optional[int]:
@@ -250,104 +242,162 @@ def _write(target: Writable, piece: bytes) -> None:
 
 # How a folder is opened to name files in it, which needs no leave to read it. PyPy has no name for that.
 _TO_NAME = getattr(os, "O_PATH", 0o10000000) | os.O_DIRECTORY
+# What fsync answers where the file system has no such call.
+_NO_SYNC = errno.EINVAL, errno.EOPNOTSUPP, errno.ENOSYS
 
 
-@contextlib.contextmanager
-def _place(path: Path) -> Iterator["tuple[int, str]"]:
-    """The folder of a new file, opened, and the file's name in it, as the system reads the path now: what becomes of
-    the current folder, or of a link on the way, does not matter later."""
-    folder, name = os.path.split(os.fsdecode(path))
-    if not name:
-        # the system makes no file of a name that ends so, and says why
-        os.open(path, os.O_WRONLY | os.O_CREAT | os.O_EXCL)
-    opened = os.open(folder or ".", _TO_NAME)
-    try:
-        yield opened, name
-    finally:
-        os.close(opened)
-
-
-def _found(folder: int, name: str) -> Optional[os.stat_result]:
-    """What has this name in a folder, if anything has."""
-    try:
-        return os.stat(name, dir_fd=folder, follow_symlinks=False)
-    except FileNotFoundError:
-        return None
-
-
-@contextlib.contextmanager
-def _made(folder: int, name: str, later: str = "") -> Iterator[io.FileIO]:
-    """A new file of this name, for its owner alone. If anything fails, it is gone, also from the name that it has
-    later, and what stands there instead by now is not."""
-    with open(name, "xb", buffering=0, opener=lambda name, flags: os.open(name, flags, 0o600, dir_fd=folder)) as file:
-        try:
-            yield file
-        except BaseException:
-            for each in (name, later):
-                # what was raised is not hidden
-                with contextlib.suppress(OSError):
-                    about = _found(folder, each)
-                    if about and os.path.samestat(about, os.fstat(file.fileno())):
-                        os.unlink(each, dir_fd=folder)
-            raise
-
-
-def _rename(folder: int, file: str, name: str) -> None:
-    """Gives a file another name, if there is no such file yet."""
-    try:
-        os.link(file, name, src_dir_fd=folder, dst_dir_fd=folder)
-    except FileExistsError:
-        raise
-    except OSError:
-        # a file system that has one name for each file: an empty file takes that name, and is replaced
-        with _made(folder, name):
-            os.replace(file, name, src_dir_fd=folder, dst_dir_fd=folder)
-    else:
-        os.unlink(file, dir_fd=folder)
-
-
-def _sync(folder: int) -> None:
-    """Puts a new name in a folder on the disk, where its file system does that. Who may not read it cannot."""
-    try:
-        opened = os.open(".", os.O_RDONLY | os.O_DIRECTORY, dir_fd=folder)
-    except PermissionError:
-        return
+def _sync(opened: int) -> None:
+    """Puts a file, or a new name in a folder, on the disk, where the file system does that."""
     try:
         os.fsync(opened)
     except OSError as refused:
-        if refused.errno != errno.EINVAL:
+        if refused.errno not in _NO_SYNC:
             raise
-    finally:
-        os.close(opened)
 
 
-@contextlib.contextmanager
-def _new_file(path: Path) -> Iterator[Writable]:
-    """A new file, which has another name until all is done. Then it and its name are on the disk (but see _sync); or,
-    if anything fails, it is gone again."""
-    with _place(path) as (folder, name):
-        if _found(folder, name):
-            raise FileExistsError(errno.EEXIST, os.strerror(errno.EEXIST), path)
-        beside = f".pikhsen-{os.urandom(8).hex()}"
-        with _made(folder, beside, name) as file:
-            yield file
-            os.fsync(file.fileno())
-            _rename(folder, beside, name)
-            _sync(folder)
+class _NewFile:
+    """A new file, for its owner alone, which has another name until all is done.
+
+    The handler of a signal may raise after each instruction of Python, as between a call and what keeps its result. So a
+    descriptor comes into a list, or leaves it and is closed, in one instruction that has C alone below it. `undo` may be
+    called at any moment, and again.
+    """
+
+    def __init__(self, path: Path) -> None:
+        self.path, self.beside = path, f".pikhsen-{os.urandom(8).hex()}"
+        self.folder, self.name = os.path.split(os.fsdecode(path))
+        # below all descriptors stands None, where closing ends: then the folder's, the file's, and for a time another
+        self.opened: List[Any] = [None]
+        # the file, and then one of a byte, as they are told apart
+        self.made: List[os.stat_result] = []
+
+    def open(self, name: str, flags: int, folder: Optional[int] = None) -> None:
+        """One descriptor more, of this name in a folder."""
+        self.opened += map(functools.partial(os.open, mode=0o600, dir_fd=folder), [name], [flags])
+
+    def close(self, least: int) -> None:
+        """Closes what is opened, the newest first, but for so many."""
+        while len(self.opened) > least:
+            for _ in map(os.close, iter(self.opened.pop, None)):
+                break
+
+    def make(self, name: str) -> None:
+        self.open(name, os.O_WRONLY | os.O_CREAT | os.O_EXCL, self.opened[1])
+        self.made += map(os.fstat, self.opened[-1:])
+
+    def found(self, name: str) -> Optional[os.stat_result]:
+        """What has this name in the folder, if anything has."""
+        try:
+            return os.stat(name, dir_fd=self.opened[1], follow_symlinks=False)
+        except FileNotFoundError:
+            return None
+
+    def begin(self) -> Writable:
+        """Makes the file, in the folder that the path names to the system now: what becomes of the current folder, or of
+        a link on the way, does not matter later."""
+        if not self.name:
+            # the system makes no file of a name that ends so, and says why
+            os.open(self.path, os.O_WRONLY | os.O_CREAT | os.O_EXCL)
+        self.open(self.folder or ".", _TO_NAME)
+        if self.found(self.name):
+            raise FileExistsError(errno.EEXIST, os.strerror(errno.EEXIST), self.path)
+        self.make(self.beside)
+        return open(self.opened[2], "wb", buffering=0, closefd=False)
+
+    def finish(self) -> None:
+        """Gives the file its name, if there is no such file yet, and puts both on the disk. Who may not read the folder
+        cannot do that with the name."""
+        folder, file = self.opened[1:]
+        _sync(file)
+        # some file systems say only then what they did not keep, and say it of a copy, too
+        self.opened += map(os.dup, self.opened[2:])
+        self.close(3)
+        try:
+            os.link(self.beside, self.name, src_dir_fd=folder, dst_dir_fd=folder)
+        except FileExistsError:
+            raise
+        except OSError:
+            # A file system that has one name for each file: one of a byte takes that name, and is replaced; but closed
+            # before, since some (rclone's) make a file at its closing, and one that was not written even later.
+            self.make(self.name)
+            os.write(self.opened[-1], b"-")
+            self.close(3)
+            os.replace(self.beside, self.name, src_dir_fd=folder, dst_dir_fd=folder)
+        else:
+            os.unlink(self.beside, dir_fd=folder)
+        with contextlib.suppress(PermissionError):
+            self.open(".", os.O_RDONLY | os.O_DIRECTORY, folder)
+        for it in self.opened[3:]:
+            _sync(it)
+        self.close(2)
+
+    def undo(self) -> None:
+        """Takes away what was made, and not what stands there instead by now. What the system says is not told, since it
+        would hide what was raised."""
+        # what was made last may not be noted
+        with contextlib.suppress(OSError):
+            self.made += map(os.fstat, self.opened[2 + len(self.made):])
+        # closed first, as in `finish`
+        while len(self.opened) > 2:
+            with contextlib.suppress(OSError):
+                self.close(2)
+        for name in (self.beside, self.name):
+            with contextlib.suppress(OSError):
+                about = self.found(name)
+                # what is longer than the second may be another's, which has its number by now
+                if about and any(os.path.samestat(about, it) for it in self.made[:1 if about.st_size > 1 else 2]):
+                    os.unlink(name, dir_fd=self.opened[1])
+        self.close(1)
+
+
+# What makes the stream, once there is a file for what it gives.
+_Making = Callable[[], Union[Encryptor, Decryptor]]
 
 
 def _convert(
-    source: Readable, stream: Union[Encryptor, Decryptor], target: Writable, progress: Optional[Progress]
+    source: Union[Path, Readable], begin: Callable[[], Writable], making: _Making, progress: Optional[Progress]
 ) -> None:
-    """Writes what a stream makes of all that is read."""
-    done, length = 0, _length(source)
-    with stream:
+    """Writes what a stream makes of all that is read. A file that is opened already stays so."""
+    if isinstance(source, _PATHS):
+        with open(source, "rb", buffering=0) as opened:
+            _convert(opened, begin, making, progress)
+        return
+    done, length, target = 0, _length(source), begin()
+    with making() as stream:
         while piece := _bytes(_read(source)):
             _write(target, stream.update(piece))
             done += len(piece)
             if progress is not None:
                 progress(done, length)
         _write(target, stream.finish())
+
+
+def _between_files(
+    source: Union[Path, Readable], target: Union[Path, Writable], making: _Making, progress: Optional[Progress]
+) -> None:
+    """The same to a file that is opened already, and stays so, or to a new one of a path, which is there when all of it
+    is. If this raises, it is not."""
+    for it, does in ((source, "read"), (target, "write")):
+        if not isinstance(it, _PATHS) and not hasattr(it, does):
+            raise TypeError(f"a path or an opened file is wanted here, and not {type(it).__name__}")
+    if not isinstance(target, _PATHS):
+        opened = target
+        _convert(source, lambda: opened, making, progress)
+        return
+    new = _NewFile(target)
+    try:
+        _convert(source, new.begin, making, progress)
+        new.finish()
+        # In one instruction; and from it to the return there is no call, after which a handler of a signal may raise.
+        [*map(os.close, iter(new.opened.pop, None))]
+    finally:
+        try:
+            if new.opened[1:]:
+                new.undo()
+        finally:
+            # one raised in its midst
+            if new.opened[1:]:
+                new.undo()
 
 
 def encrypt_file(
@@ -363,19 +413,27 @@ def encrypt_file(
 
     If there is a `target` of this path, FileExistsError is raised, and it stays. A new one is for its owner alone (mode
     600), and has its name only when it is whole and on the disk, in the folder that the path named when the call began.
-    If the call raises, there is none; if the process is killed, a part of it is left beside, under a name that begins
-    with ".pikhsen-". An opened file may have a part if the call raises, and is not flushed.
+    A file system that has no `fsync` (EINVAL, EOPNOTSUPP or ENOSYS) is taken to keep what it got.
+
+    If the call raises, there is none, nor a part of it, nor a descriptor left, also if the handler of a signal raises, as
+    KeyboardInterrupt at Ctrl-C, at any moment. But if a second one raises while that is heeded, or the process is killed,
+    a part may be left beside, under a name that begins with ".pikhsen-"; and before CPython 3.11, and in PyPy, one that
+    raises in the last instructions of a call may find the whole `target` there, and `source` be closed later. One that
+    raises as the call returns raises in its caller, who has the `target`. An opened file may have a part if the call
+    raises, and is not flushed.
 
     `progress` is called after each piece, with the bytes of `source` that are done, and all that it had at first, or
     None if that is not known, as of a pipe. What it raises ends the call.
 
     All else is as for `encrypt`, A NEW SALT FOR EACH FILE and the EMPTY PASSPHRASE THAT IS ACCEPTED among others.
     """
-    with _readable(source) as text, _writable(target) as file:
-        encryptor = Encryptor(
+    _between_files(
+        source, target,
+        lambda: Encryptor(
             passphrase, log_n=log_n, r=r, p=p, keep=keep, max_bytes=max_bytes, max_ops=max_ops, salt=salt
-        )
-        _convert(text, encryptor, file, progress)
+        ),
+        progress,
+    )
 
 
 def decrypt_file(
@@ -391,5 +449,6 @@ def decrypt_file(
 
     What is raised, and the limits, are those of `decrypt`. The key is derived before the first byte is written.
     """
-    with _readable(source) as encrypted, _writable(target) as file:
-        _convert(encrypted, Decryptor(passphrase, keep=keep, max_bytes=max_bytes, max_ops=max_ops), file, progress)
+    _between_files(
+        source, target, lambda: Decryptor(passphrase, keep=keep, max_bytes=max_bytes, max_ops=max_ops), progress
+    )

@@ -22,7 +22,7 @@ import types
 from unittest import mock
 
 sys.path += map(str, pathlib.Path(__file__).resolve().parents[1].iterdir())  # the other folders of tests/
-from checking import is_there
+from checking import is_there, left_out
 from scrypt_files import F0, F5
 from shown import with_module
 
@@ -139,17 +139,23 @@ def ends_of_streams(checks, pikhsen):
         checks.that(f"{name}: what is kept after it", stream._stream.runs, 0)
         after = [refusal(call) for call in (lambda: stream.update(b""), lambda: stream.update(b"x"), stream.finish, stream.close)]
         checks.that(f"{name}: calls after it", after, ["ValueError"] * 3 + [None])
-    freed, free = [], pikhsen._lib.pikhsen_stream_free
+    def raises(*_):
+        raise KeyboardInterrupt
 
-    def noted(stream):
-        freed.append(stream._obj.runs != 0)
-        return free(stream)
-
-    with mock.patch.object(pikhsen._lib, "pikhsen_stream_free", noted):
-        for make in (encryptor, decryptor, lambda: refusal(pikhsen.Encryptor, b"pw", log_n=0)):
-            make()
-            gc.collect()
-    checks.that("streams that nobody has any more", freed, [True, True, False])
+    # also where the handler of a signal would raise before the first line of what it finds
+    for make, handler in itertools.product((encryptor, decryptor), (None, raises)):
+        stream = make()
+        kept = stream._stream
+        sys.settrace(handler)
+        del stream
+        sys.settrace(None)
+        gc.collect()
+        checks.that(f"{make.__name__}: what is kept that nobody has any more, {handler}", kept.runs, 0)
+    before = len(pikhsen._streams)
+    encryptor()
+    refusal(pikhsen.Encryptor, b"pw", log_n=0)
+    gc.collect()
+    checks.that("streams that are kept of nobody", len(pikhsen._streams) - before, 0)
     with lent_by(pikhsen._files) as lent:
         decryptor()
     checks.that("what was lent for a text", [(len(it), it.raw.strip(b"\0")) for it in lent], [(len(file) - 96 + 32, b"")])
@@ -319,7 +325,7 @@ def lose(path, is_replaced):
 
 
 def names_that_fail(checks, pikhsen, folder):
-    """Where a file has one name alone, and gets no other: it is gone, and so is the empty file that has that name for it,
+    """Where a file has one name alone, and gets no other: it is gone, and so is the file of a byte that has that name for it,
     but not what stands there instead."""
     target, replace = pathlib.Path(folder, "target"), os.replace
 
@@ -333,9 +339,9 @@ def names_that_fail(checks, pikhsen, folder):
         ("is not replaced at Ctrl-C", KeyboardInterrupt(), "KeyboardInterrupt", None), ("is replaced at Ctrl-C", late, "KeyboardInterrupt", None),
     ):
         with mock.patch.object(os, "link", NO_LINKS), mock.patch.object(os, "replace", mock.Mock(side_effect=replacing)) as replaced:
-            leaves(checks, f"an empty file that {name}", target, why, content, pikhsen.encrypt_file, io.BytesIO(b"x"),
+            leaves(checks, f"a file of a byte that {name}", target, why, content, pikhsen.encrypt_file, io.BytesIO(b"x"),
                    target, b"pw", **CHEAP)
-        checks.that(f"an empty file that {name}: calls", replaced.call_count, 1)
+        checks.that(f"a file of a byte that {name}: calls", replaced.call_count, 1)
         target.unlink(missing_ok=True)
 
 
@@ -391,13 +397,13 @@ def parts_of_another(checks, pikhsen, folder):
 
 
 def synced_from_python(checks, pikhsen, folder):
-    """A new file and its name are synced; a folder that the file system does not sync, or that may not be read, is no
+    """A new file and its name are synced; that the file system does not do so, or that the folder may not be read, is no
     failure."""
     target, synced, opening = pathlib.Path(folder, "target"), [], os.open
 
     def noted(opened):
         synced.append(os.path.basename(os.readlink(f"/proc/self/fd/{opened}"))[:9])
-        if number and len(synced) == 2:
+        if number and len(synced) == at:
             raise OSError(number, os.strerror(number))
 
     def unreadable(name, flags, *mode, **of_folder):
@@ -405,14 +411,51 @@ def synced_from_python(checks, pikhsen, folder):
             raise PermissionError
         return opening(name, flags, *mode, **of_folder)
 
-    for number, instead in ((0, opening), (errno.EINVAL, opening), (errno.EIO, opening), (0, unreadable)):
-        why = os.strerror(number) if number == errno.EIO else None
+    no_call = errno.EINVAL, errno.EOPNOTSUPP, errno.ENOSYS
+    for number, at, instead in (
+        (0, 0, opening), (0, 0, unreadable), *((it, at, opening) for it in (*no_call, errno.EIO, errno.EDQUOT) for at in (1, 2)),
+    ):
+        why = None if number in (0, *no_call) else os.strerror(number)
         synced.clear()
         with mock.patch.object(os, "fsync", noted), mock.patch.object(os, "open", instead):
             found = refusal(pikhsen.encrypt_file, io.BytesIO(), target, b"pw", **CHEAP)
-        names = [".pikhsen-", os.path.basename(folder)[:9]][:1 if instead is unreadable else 2]
-        checks.that(f"synced, {number} {instead.__name__}", (found, target.exists(), parts(folder), synced), (why, why is None, [], names))
+        names = [".pikhsen-", os.path.basename(folder)[:9]][:1 if instead is unreadable or why and at == 1 else 2]
+        checks.that(f"synced, {number} at {at}, {instead.__name__}", (found, target.exists(), parts(folder), synced),
+                    (why, why is None, [], names))
         target.unlink(missing_ok=True)
+
+
+def closed_from_python(checks, pikhsen, folder):
+    """What only closing tells is heeded before the file has its name; and since some file systems make a file again at its
+    closing, or one that has no bytes later, none such is removed or replaced."""
+    target, closing, seen = pathlib.Path(folder, "target"), os.close, []
+
+    def tells(opened):
+        of = os.path.basename(os.readlink(f"/proc/self/fd/{opened}"))
+        closing(opened)
+        if of.startswith(".pikhsen-"):
+            raise OSError(errno.EIO, os.strerror(errno.EIO))
+
+    with mock.patch.object(os, "close", tells):
+        leaves(checks, "what only closing tells", target, os.strerror(errno.EIO), None, pikhsen.encrypt_file, io.BytesIO(b"x"),
+               target, b"pw", **CHEAP)
+
+    def noted(call, which, folder_of):
+        def instead(*names, **folders):
+            path = f"{os.readlink('/proc/self/fd/%d' % folders[folder_of])}/{names[which]}"
+            opened = [f"/proc/self/fd/{it}" for it in os.listdir("/proc/self/fd")]
+            seen.append((path in [os.readlink(it) for it in opened if os.path.lexists(it)], os.path.getsize(path)))
+            return call(*names, **folders)
+
+        return instead
+
+    damaged = io.BytesIO(pikhsen.encrypt(b"xy", b"pw", **CHEAP)[:-1])
+    with mock.patch.object(os, "unlink", noted(os.unlink, 0, "dir_fd")), mock.patch.object(os, "link", NO_LINKS), \
+            mock.patch.object(os, "replace", noted(os.replace, 1, "dst_dir_fd")):
+        leaves(checks, "removed after it was closed", target, "DAMAGED", None, pikhsen.decrypt_file, damaged, target, b"pw")
+        checks.that("files that are replaced", refusal(pikhsen.encrypt_file, io.BytesIO(b"x"), target, b"pw", **CHEAP), None)
+    checks.that("removed or replaced: whether it is open, and its bytes", seen, [(False, 1), (False, 1)])
+    target.unlink()
 
 
 class Narrow(io.RawIOBase):
@@ -532,6 +575,70 @@ for call in (lambda: pikhsen.encrypt_file(*sys.argv[1:], b"pw", log_n=18), lambd
 """
 
 
+MOMENTS = """import os, pikhsen, random, signal, sys, time
+os.chdir(sys.argv[1])
+signal.signal(signal.SIGALRM, signal.default_int_handler)
+text = bytes(range(256)) * 1000
+file = pikhsen.encrypt(text, b"pw", log_n=4, r=1, p=1)
+for name, content in (("text", text), ("file", file), ("damaged", file[:-1])):
+    with open(name, "wb") as out:
+        out.write(content)
+
+def there():
+    return {*os.listdir("."), *os.listdir("/proc/self/fd")}
+
+def left(wait, call, source, **named):
+    # what a call leaves that raises KeyboardInterrupt after so many seconds; None where it came before the call, or after it
+    try:
+        signal.setitimer(signal.ITIMER_REAL, wait)
+        try:
+            call(source, "target", b"pw", **named)
+        except pikhsen.Damaged:
+            pass
+        signal.setitimer(signal.ITIMER_REAL, 0)
+    except KeyboardInterrupt as told:
+        return told.__traceback__.tb_next and there() - before
+
+def refuse(*_, **__):
+    raise PermissionError
+
+before, count, found, links = there(), 0, set(), (os.link, refuse)
+rows = [(it, *of) for it in links for of in (
+    (pikhsen.encrypt_file, "text", {"log_n": 4, "r": 1, "p": 1}), (pikhsen.decrypt_file, "file", {}),
+    (pikhsen.decrypt_file, "damaged", {}),
+)]
+took = [[] for _ in rows]
+while count < int(sys.argv[2]):
+    which = random.randrange(len(rows))
+    os.link, call, source, named = rows[which]
+    # a few calls go on to their ends, to see how long they take
+    wait = random.uniform(1e-6, 1.1 * min(took[which])) if len(took[which]) > 5 else 0
+    begun = time.perf_counter()
+    try:
+        it = left(wait, call, source, **named)
+    except KeyboardInterrupt:
+        it = None
+    if not wait:
+        took[which].append(time.perf_counter() - begun)
+    elif it is not None:
+        count, found = count + 1, found | it
+    if os.path.exists("target"):
+        os.unlink("target")
+print(sorted(found))
+"""
+
+
+def interrupted_at_any_moment(checks, folder, lib):
+    """Wherever Ctrl-C ends a call, also one that removes a file that is damaged, it leaves no target, no part of it, and no
+    descriptor."""
+    if sys.version_info < (3, 11):
+        left_out("Python is older than 3.11", "moments of a call at which a signal comes are not tried", 1)
+        return
+    with tempfile.TemporaryDirectory(dir=folder) as work:
+        found = with_module(lib, "-c", MOMENTS, work, "5000", timeout=600)
+    checks.that("what calls leave that 5,000 signals ended", found, (0, "[]\n"))
+
+
 def interrupted(checks, folder, lib):
     """Ctrl-C during a call: that goes on to its end, and KeyboardInterrupt is raised. No new file is left."""
     names = [f"{folder}/{it}" for it in ("short", "short.scrypt")]
@@ -549,8 +656,9 @@ def files_of_python(checks, pikhsen, folder, lib):
         part(checks, pikhsen)
     for part in (
         kept_files_from_python, names_of_new_files, names_that_fail, paths_of_new_files, parts_of_another,
-        synced_from_python, opened_files_from_python,
+        synced_from_python, closed_from_python, opened_files_from_python,
     ):
         part(checks, pikhsen, folder)
     large_files_from_python(checks, folder, lib)
     interrupted(checks, folder, lib)
+    interrupted_at_any_moment(checks, folder, lib)
