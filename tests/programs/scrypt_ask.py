@@ -28,7 +28,7 @@ from scrypt_files import F5, LINES
 from tree import read
 
 SCRIPT = read("packaging/scrypt-ask")
-SHELLS = {"dash": "dash", "bash": "bash", "bash as sh": "bash --posix", "zsh as sh": "zsh --emulate sh"}
+SHELLS = {"dash": "dash", "bash": "bash", "bash as sh": "bash --posix", "zsh as sh": "zsh --emulate sh", "zsh": "zsh"}
 ASKED, AGAIN = "Passphrase: ", "The same again: "
 ONCE, TWICE = f"{ASKED}\r\n", f"{ASKED}\r\n{AGAIN}\r\n"
 CHEAP = "--logN 4 -r 1 -p 1"
@@ -45,10 +45,11 @@ LIMIT = 120
 KEYS = (signal.SIGINT, "\3"), (signal.SIGQUIT, "\34")
 UNASKED = """case "$*" in
 *'--passphrase file: '*) echo 'scrypt: one passphrase source is needed: ..' >&2; exit 1 ;;
+'info '*) exit 0 ;;
 esac"""
 # Shell scripts that stand for programs. Of scrypt both say what it says without a source of the passphrase; with one,
 # the first says what it gets, and the other derives a key in 2 MB of memory, gives it back, writes 5,000 bytes, and
-# ends or fails, each once a line in `go` says so.
+# ends or fails, each once a line in `go` says so. A third ends well, and its file is lost.
 PROGRAMS = {
     "other/scrypt": UNASKED + """
 printf '<%s>' "$@"
@@ -71,10 +72,13 @@ printf '%05000d' 0
 read -r it <go
 [ "$it" = ends ] || { echo 'scrypt: fails' >&2; exit 1; }
 """,
-    # two that refuse, a sync that says what is there, a sleep whose seconds are short, and a mktemp that signals
+    "losing/scrypt": """../bin/scrypt "$@" || exit
+case "$1" in enc | dec) for last; do :; done; : >"$last" ;; esac""",
+    # some that refuse, a sync that says what is there, a sleep whose seconds are short, and two that send a signal
     "refusing/chmod": "exit 1", "refusing/cp": "exit 1", "refusing/sync": 'ls "$@" >../synced',
     "sleeping/sleep": '[ "$1" = 1 ] && exec /bin/sleep 0.05',
-    "signalling/mktemp": '/bin/mktemp "$@"\nfor it in HUP INT QUIT PIPE TERM TSTP; do kill -s $it "$PPID"; done',
+    "unread/cat": "exit 1", "making/mktemp": '/bin/mktemp "$@"\nkill -s "$IT" "$PPID"',
+    "hiding/stty": '[ "$1" != -echo ] || ! mkdir sent 2>/dev/null || kill -s "$IT" "$PPID"\nexec /bin/stty "$@"',
 }
 # What is told is erased first, stands on the line below, and leaves the cursor where it was.
 ERASED, BELOW, BACK = "\x1b[J", "\x1b[J\r\n", "\x1b[A\r"
@@ -191,7 +195,7 @@ class Room:
         self.checks, self.shell, self.top = checks, shell, pathlib.Path(folder)
         for name, text in PROGRAMS.items():
             self.make(name, f"#!/bin/sh\n{text}\n")
-        for name in ("bin", "other", "slow"):
+        for name in ("bin", "other", "slow", "losing"):
             self.make(f"{name}/scrypt-ask", SCRIPT)
         shutil.copy(checks.program, self.top / "bin/scrypt")
         self.folder = checks.folder = self.top / "room"
@@ -233,9 +237,12 @@ class Room:
         return self.checks.run(["dec", "--passphrase", "file:words", "--", name])
 
     def ended(self, what, terminal, number, typed=None):
-        """A run ends by this signal, or with status 1 where the shell keeps the signal from itself, and the terminal is
-        as it was. What was shown."""
-        status, shown, echo = terminal.ends(terminal.signals(number, typed))
+        """A run ends by this signal, which is sent now, or was. What was shown."""
+        return self.is_by(what, number, *terminal.ends(terminal.signals(number, typed)))
+
+    def is_by(self, what, number, status, shown, echo):
+        """The run ended by this signal, or with status 1 where the shell keeps the signal from itself, and the terminal is
+        as it was."""
         is_kept = "zsh" in self.shell or "bash" in self.shell and number == signal.SIGQUIT
         self.that(what, (status == -number or status == 1 and is_kept, echo), (True, True))
         return shown
@@ -351,6 +358,20 @@ def signals_while_it_asks(room):
     terminal.goes_on()
     found = *terminal.ends()[::2], room.names()
     room.that("stopped, and ended", found, (-signal.SIGTERM, True, ["letters", "out", "words"]))
+    # those that come before a question, while the new file is made or the terminal is set, count, too
+    room.clear(letters=TEXT, out=b"older", words=b"words")
+    for where in ("making", "hiding"):
+        before = "IT={}; export IT; PATH=../%s:$PATH; exec" % where
+        for it in ("INT", "QUIT", "TERM", "HUP"):
+            what = f"{it} while {where}"
+            room.is_by(what, getattr(signal, f"SIG{it}"), *room.run(ENC, before=before.format(it)))
+            room.do("rm -d -f sent")
+            room.stays(what, "letters", "out", "words")
+    terminal = room.begin(ENC, before=before.format("TSTP"))
+    room.that("stopped while hiding", terminal.halt(), ("stopped", True))
+    terminal.goes_on()
+    room.that("asked again after that", terminal.sees(f"\0{ASKED}"), False)
+    room.ended("stopped while hiding, and ended", terminal, signal.SIGTERM)
 
 
 def begun_to_write(room, **files):
@@ -469,21 +490,33 @@ def processes_are_killed(room):
         status, *_ = terminal.ends()
         is_right = room.opened("out") == MADE or status != 0 and room.held("out") == b"older"
         room.that(f"killed in turn {turn}, {status}", (is_right, room.names()), (True, ["letters", "out", "words"]))
-    # signals while the new file is made, which are ignored; that file, then the place of the older one, are taken away
-    found = room.run(ENC, *TYPED, before="PATH=../signalling:$PATH; exec")
-    room.that("signals while the new file is made", (found, room.names()), ((0, TWICE, True), ["letters", "out", "words"]))
-    for name, line in (("the new file", "rm scrypt-ask.??????"), ("the older one", "rm out; mkdir out")):
+    # the new file, then the place of the older one, are taken away
+    unread = "scrypt-ask: what was written to outfile cannot be read\r\n"
+    for name, line, why in (
+        ("the new file", "rm scrypt-ask.??????", unread),
+        ("the older one", "rm out; mkdir out", "scrypt-ask: outfile cannot be replaced\r\n"),
+    ):
         terminal, giving = begun_to_write(room)
         room.do(line)
         giving.close()
         status, shown, _ = terminal.ends()
-        found = status, shown.removeprefix(TWICE), room.names()
-        room.that(f"{name} is taken away", found, (1, "scrypt-ask: outfile cannot be replaced\r\n", ["given", "out"]))
+        room.that(f"{name} is taken away", (status, shown.removeprefix(TWICE), room.names()), (1, why, ["given", "out"]))
+    # scrypt ends well, and what it wrote is not there, or cannot be read
+    room.clear(letters=TEXT, words=b"words")
+    room.run(ENC, *TYPED)
+    room.put("letters", room.held("out"))
+    room.put("out", b"older")
+    for words, asked, how in ((ENC, TWICE, {"script": "losing/scrypt-ask"}),
+                              ("dec letters out", ONCE, {"before": "PATH=../unread:$PATH; exec"})):
+        found = room.run(words, *TYPED[: asked.count("\n")], **how)
+        room.that(f"{words}, and it is lost", found, (1, asked + unread, True))
+        room.stays(f"{words}, and it is lost", "letters", "out", "words")
 
 
 def printed_by_a_command(room):
-    """The first line that a command prints, with no terminal; a command that fails, prints nothing or is ended makes no file."""
-    room.clear(letters=TEXT, words=b" a\\b ", long=b"x" * 70000, more=b" a\\b \r" + b"\ny" * 70000)
+    """The first line that a command prints, with no terminal, also a long one (bash would take 100 s to look for a CR in it);
+    a command that fails, prints nothing or is ended makes no file."""
+    room.clear(letters=TEXT, words=b" a\\b ", long=b"x" * (1 << 20), more=b" a\\b \r" + b"\ny" * 70000)
     for words in ("--passcommand 'cat words; echo; echo z' letters out", "letters --passcommand='cat words' out",
                   "--passcommand 'cat more' - out <letters", "--passcommand 'cat words' -- letters >out"):
         room.that(words, room.without_terminal(f"enc {CHEAP} {words}"), (0, b"", b""))

@@ -77,7 +77,7 @@ def costs_are_timed(shell):
 
 def scrypt_examples(shell):
     (backup, _), look, (opened, _), (whole, _), (again, _), _, small, (keep, _) = examples("scrypt.1")
-    (guard_of_a_file, _), (guard, _) = examples("scrypt.1", "SECURITY")
+    (guard_of_a_file, _), (guard, _), (by_dd, _) = examples("scrypt.1", "SECURITY")
     says, fails = shell.says, shell.fails
     fails("a backup of what is not there", backup, "", 2)
     for name in ("head", "base64"):
@@ -120,6 +120,9 @@ def scrypt_examples(shell):
          (0, "N = 32768; r = 8; p = 2; memory = 33554432; cores = 2097152\n"), KEY="words of ours")
     made = "scrypt enc --passphrase env:KEY letters.tar letters.enc; "
     says("rows kept in part", f"{made}{keep}cmp letters.part letters.tar", (0, ""), KEY="words of ours")
+    quiet = by_dd.replace("conv=fsync", "conv=fsync status=none")
+    says("written by dd", f"{quiet}scrypt dec --passphrase file:backup-key letters.enc | cmp - letters.tar", (0, ""))
+    fails("written by dd, where there is no room", quiet.replace("of=letters.enc", "of=/dev/full"), "")
 
 
 def argon2_examples(shell):
