@@ -347,6 +347,17 @@ def salts(checks, system):
         checks.that(f"a whole salt: {way}", len(set(made[16:48])) > 8 and made[16:48] != HEADER[16:48], True)
 
 
+def nothing_is_opened(checks, system):
+    """Where / may not be opened, which stands for a standard stream that is closed, no input is, as the page says."""
+    run, way = Run("scrypt", f"enc {FIXED} {FROM_PW} hello"), str(errno.EACCES)
+    for closed in (None, 0, 1, 2):
+        found = system.run(run, {"HOSTILE_ONLY": "open /\n", "HOSTILE_CALLS": f"1-{1 << 40}", "HOSTILE_WAY": way},
+                           preexec_fn=lambda it=closed: it is None or os.close(it))
+        said = b"" if closed == 2 else LINES["S12"]
+        expected = (0, F5, b"", None) if closed is None else (1, b"", said, None)
+        checks.that(f"/ may not be opened, and {closed} is closed", found, expected)
+
+
 KINDS = {"open": "open", "openat": "open", "read": "read", "write": "write", "statx": "look at", "ftruncate": "empty", "fsync": "sync"}
 # Calls that change files, or wait for the disk, and that no run makes.
 NEVER = """unlink unlinkat rename renameat renameat2 truncate fallocate chmod fchmod fchmodat chown fchown fchownat link linkat
@@ -386,7 +397,7 @@ def main(checks, folder, argon2, verify, scrypt):
             for run in [*RUNS, *UNOPENED]:
                 for only, error in (("look at", errno.EPERM), ("look at /proc", errno.EACCES)):
                     checks.that(f"each {only} refused: {run.name}", *refused_looks(system, run, only, error))
-            for part in (largest_requests, freed_blocks, salts):
+            for part in (largest_requests, freed_blocks, salts, nothing_is_opened):
                 part(checks, system)
         for run, limited in [(run, threads.submit(limits, system, run)) for run in RUNS]:
             checks.that(f"memory limited: {run.name}", limited.result(), (["plain"], []))
