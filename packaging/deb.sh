@@ -6,7 +6,8 @@
 #
 #     pikhsen            the programs, their pages, completions and documents
 #     libpikhsen0        the shared library
-#     libpikhsen-dev     what programs in C are built with: the header, both ways to link, pikhsen.pc, the page
+#     libpikhsen-dev     what programs in C are built with: the header, both ways to link, pikhsen.pc, the page; and for
+#                        other languages docs/LIBRARY.md and its examples
 #     python3-pikhsen    the module for Python
 #     pikhsen-libargon2  libargon2.so.1 over the library, in place of Debian's libargon2-1
 #     pikhsen-openssl    a provider for OpenSSL's scrypt, and the openssl.cnf that loads it
@@ -89,6 +90,8 @@ mv "$work/usr/$compat/libargon2.so.1" "$work/usr/$libraries"
 contents pikhsen-libargon2 "$libraries/libargon2.so.1"
 contents pikhsen-openssl "$libraries/pikhsen"
 contents libpikhsen-dev include "$libraries" share/man/man3
+install -D -m 644 -t "$work/libpikhsen-dev/usr/share/doc/libpikhsen-dev" docs/LIBRARY.md
+install -D -m 644 -t "$work/libpikhsen-dev/usr/share/doc/libpikhsen-dev/programs" docs/programs/*
 contents python3-pikhsen "$modules"
 
 names=$(cut -d' ' -f1 packaging/programs)
@@ -150,7 +153,8 @@ Multi-Arch: same
 Depends: libpikhsen0 (= $version)
 Description: Argon2, scrypt and scrypt's encrypted files (development files)
  What programs in C are built with that call libpikhsen: header, static library,
- the flags for pkg-config, and the manual page, pikhsen(3).
+ the flags for pkg-config, the manual page, pikhsen(3), and LIBRARY.md with
+ examples in C, Go, Rust, PHP, Node and Python.
 END
 
 # What Debian's own packages do, so that no compiled module is left behind.

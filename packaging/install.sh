@@ -137,7 +137,7 @@ if test -n "$library"; then
         place 644 "$work/openssl.cnf" "$lib/$compat"
     fi
 fi
-for file in README.md CHANGELOG.md docs/*.md docs/*.svg docs/*.tsv; do
+for file in README.md CHANGELOG.md docs/*.md docs/*.svg docs/*.tsv docs/programs/*; do
     place 644 "$file" share/doc/pikhsen "$file"
 done
 

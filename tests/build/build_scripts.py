@@ -50,6 +50,7 @@ FOLDERS = {
     "share/bash-completion/completions": [f"completions/bash/{it}" for it in TOLD],
     "share/doc/pikhsen": ["README.md", "CHANGELOG.md"],
     "share/doc/pikhsen/docs": [f"docs/{it.name}" for it in (TOP / "docs").glob("*.*")],
+    "share/doc/pikhsen/docs/programs": [f"docs/programs/{it.name}" for it in (TOP / "docs/programs").iterdir()],
     "share/pikhsen/pikhsen": ["python/pikhsen/__init__.py", "python/pikhsen/_files.py"],
 }
 INSTALLED = {f"{folder}/{pathlib.Path(it).name}": it for folder, files in FOLDERS.items() for it in files}

@@ -30,6 +30,8 @@ EPOCH = 1234567890
 DAY = "Fri, 13 Feb 2009 23:31:30 +0000"
 # The library for x86-64-v3 in the folder of that for x86-64-v2, where it was built.
 HIGHER = "glibc-hwcaps/x86-64-v3/libpikhsen.so.0"
+# The examples of docs/LIBRARY.md.
+EXAMPLES = [it.name for it in (TOP / "docs/programs").iterdir()]
 # What stands in each package beside CHANGELOG.md and changelog.gz.
 FILES = {
     "pikhsen": [
@@ -39,11 +41,13 @@ FILES = {
         "usr/bin/scrypt-ask", "usr/share/man/man1/scrypt-ask.1.gz", "usr/share/man/man7/pikhsen-compat.7.gz", "usr/share/bash-completion/completions/scrypt-ask",
         "usr/share/doc/pikhsen/README.md", "usr/share/lintian/overrides/pikhsen",
         *(f"usr/share/doc/pikhsen/docs/{it.name}" for it in (TOP / "docs").glob("*.*")),
+        *(f"usr/share/doc/pikhsen/docs/programs/{it}" for it in EXAMPLES),
     ],
     "libpikhsen0": [f"{LIBRARIES}/libpikhsen.so.0", "usr/share/lintian/overrides/libpikhsen0"],
     "libpikhsen-dev": [
         "usr/include/pikhsen.h", f"{LIBRARIES}/libpikhsen.a", f"{LIBRARIES}/libpikhsen.so -> libpikhsen.so.0",
-        f"{LIBRARIES}/pkgconfig/pikhsen.pc", "usr/share/man/man3/pikhsen.3.gz",
+        f"{LIBRARIES}/pkgconfig/pikhsen.pc", "usr/share/man/man3/pikhsen.3.gz", "usr/share/doc/libpikhsen-dev/LIBRARY.md",
+        *(f"usr/share/doc/libpikhsen-dev/programs/{it}" for it in EXAMPLES),
     ],
     "python3-pikhsen": [f"{MODULES}/{it}" for it in ("__init__.py", "_files.py", "py.typed")],
     "pikhsen-libargon2": [f"{LIBRARIES}/libargon2.so.1", "usr/share/lintian/overrides/pikhsen-libargon2"],

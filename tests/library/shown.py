@@ -2,13 +2,14 @@
 import os
 import pathlib
 import re
+import shlex
 import shutil
 import subprocess
 import sys
 
 import roff
 from checking import is_there, left_out, ran
-from tree import TOP, read
+from tree import PROGRAMS, TOP, read
 
 INCLUDE = ["-I", str(TOP / "include")]
 LIBRARY = read("docs/LIBRARY.md")
@@ -79,26 +80,44 @@ print(type(ours).__name__, own.verify("correct horse", text), ours.safe_summary(
 
 
 def other_languages_run(checks, folder, lib):
-    """Types what LIBRARY's table of other languages has, where they are installed: it prints what the page's login in C does."""
-    table = LIBRARY.partition("\n## Other languages\n")[2].partition("\n## ")[0]
-    rows = {it[0]: it[1:] for it in re.findall(r"^\| (\w+) \| `(.*)` \| (\d+) \|", table, re.MULTILINE)}
+    """Installs below a prefix where nothing looks by itself, and types what LIBRARY has for that: its logins, from the
+    examples that were installed, print there what the login in C does, where their languages are installed."""
+    section = LIBRARY.partition("\n## Other languages\n")[2].partition("\n## ")[0]
+    rows = {it[0]: it[1:] for it in re.findall(r"^\| (\w+) \| `(.*)` \| (\d+) \|", section, re.MULTILINE)}
+    placed = dict(re.findall(r"^\| (\w+) \| `(.*)` \|$", section, re.MULTILINE))
     files = {"Go": ["login.go"], "Rust": ["login.rs"], "PHP": ["login.php"], "Node": ["node.c", "login.js"], "Django": ["hasher.py"]}
-    checks.that("LIBRARY's other languages", list(rows), list(files))
+    checks.that("LIBRARY's other languages", (list(rows), list(placed)), (list(files), ["Go", "Rust", "Node"]))
     lines = {it: str(sum(read(f"docs/programs/{name}").count("\n") for name in files[it])) for it in rows}
     checks.that("lines of LIBRARY's other languages", {it: row[1] for it, row in rows.items()}, lines)
-    environment = {**os.environ, "LD_LIBRARY_PATH": str(lib), "LIBRARY_PATH": str(lib), "C_INCLUDE_PATH": str(TOP / "include"),
-                   "GOCACHE": f"{folder}/go", "PYTHONPATH": f"{TOP / 'python'}", "PIKHSEN_LIBRARY": f"{lib}/libpikhsen.so.0"}
+    home, built = pathlib.Path(folder, "home"), pathlib.Path(folder, "built")
+    built.mkdir()
+    for name in PROGRAMS:
+        (built / name).touch()
+    subprocess.run([TOP / "packaging/install.sh", "install", home / ".local", built, lib], check=True)
+    work = shutil.copytree(home / ".local/share/doc/pikhsen/docs/programs", f"{folder}/examples")
+    environment = {**os.environ, "GOCACHE": f"{folder}/go", "PYTHONDONTWRITEBYTECODE": "1", "PIKHSEN_LIBRARY": ""}
+    for it in ("C_INCLUDE_PATH", "LIBRARY_PATH", "LD_LIBRARY_PATH", "PYTHONPATH"):
+        environment.pop(it, None)
+    exported = re.search(r"(?:^    .*\n)+", section, re.MULTILINE)[0]
+    by_place = f"{exported}unset LD_LIBRARY_PATH\n"
+
+    def typed(text):
+        return ran("sh", "-ec", text.replace("$HOME", str(home)), cwd=work, env=environment)
+
+    welcome, flags = shown("c")[2], re.search(r"/\.local` it is built by\n\n((?:    .*\n)+)", LIBRARY)[1]
+    if is_there("pkg-config", "LIBRARY's flags of pkg-config are not tried", 2):
+        for name, text in (("beside it", flags), ("in it", flags.replace("--libs", "--libs-only-L").replace("pikhsen)", "pikhsen) -l:libpikhsen.a"))):
+            checks.that(f"LIBRARY's login in C, the library {name}", typed(f"{text}./login"), (0, welcome))
+    checks.that("LIBRARY's login in Python", typed(f"{exported}python3 login.py")[1].startswith(welcome), True)
     for name, program in (("Go", "go"), ("Rust", "rustc"), ("PHP", "php"), ("Node", "node")):
-        if is_there(program, f"LIBRARY's login in {name} does not run", 1):
-            for file in files[name]:
-                shutil.copy(TOP / "docs/programs" / file, folder)
-            found = ran("sh", "-ec", rows[name][0], cwd=folder, env=environment)
-            checks.that(f"LIBRARY's login in {name}", found, (0, shown("c")[2]))
+        if is_there(program, f"LIBRARY's login in {name} does not run", 1 + (name in placed)):
+            checks.that(f"LIBRARY's login in {name}", typed(exported + rows[name][0]), (0, welcome))
+            if name in placed:
+                checks.that(f"LIBRARY's login in {name}, with the library's place", typed(by_place + placed[name]), (0, welcome))
     if ran("/usr/bin/python3", "-c", "import argon2, django")[0]:
         left_out("python3-django, or python3-argon2, is not installed", "LIBRARY's hasher does not run", 1)
         return
-    shutil.copy(TOP / "docs/programs/hasher.py", folder)
-    found = ran("/usr/bin/python3", "-B", "-c", DJANGO % rows["Django"][0], cwd=folder, env=environment)
+    found = typed(f"{exported}/usr/bin/python3 -c {shlex.quote(DJANGO % rows['Django'][0])}")
     checks.that("LIBRARY's hasher for Django", found, (0, "[True, False] False True\nPikhsenHasher True True\n"))
 
 
