@@ -16,10 +16,10 @@
  *    What it writes need not be set before. Memory that it reads must not be written during the call.
  *  - No function keeps a state between calls, but in a pikhsen_stream that it is given. So any number of threads may
  *    call at the same time, each with streams of its own.
- *  - Memory comes from malloc, realloc and, from 2 MiB on, aligned_alloc alone, and all of it goes to free before the
- *    function returns, but the block of a stream that runs; the four must be of one allocator. madvise asks for huge
- *    pages. A call needs a stack of 64 KiB. It writes no file, reads no clock, starts no thread, sets no errno unless
- *    malloc, aligned_alloc or madvise do, and never ends the process.
+ *  - Memory comes from malloc alone, and all of it goes to free before the function returns, but the block of a stream
+ *    that runs. For a block of 2 MiB or more 2 MiB more are requested, and madvise asks for huge pages, and that core
+ *    files do not have it, until it is freed. A call needs a stack of 64 KiB. It writes no file, reads no clock, starts
+ *    no thread, sets no errno unless malloc or madvise do, and never ends the process.
  *  - Before a function that derives, hashes or has a stream returns, it puts zeros over 32 KiB of the stack below its
  *    own frame, where its work was, over the memory of the hash or the derivation and the block of a stream before that
  *    is freed, and into the vector registers; this is tested, not proved. Salt, tag and text of a hash are freed as

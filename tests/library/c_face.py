@@ -170,11 +170,11 @@ def secrets_from_c(checks, folder, lib):
         made = compile_c(TOP / "tests/library/secrets.c", level, programs[-1], not programs[1:], *flags)
         checks.that(f"secrets.c over {level.name}, compiled", made, (0, ""))
     # a matrix of 64 KiB; a table of 64 rows, or 16, of 1,024 bytes, and two rows, or three; the block of a stream; four
-    # rows of 128 bytes, and two; and such of 8 MiB
+    # rows of 128 bytes, and two; and such of 8 MiB, for which the heap requests 2 MiB more
     takes = {**dict.fromkeys(("hash", "encoded", "verify", "keyed-text", "keyed-test"), 65536),
              **dict.fromkeys(("key", "encrypt", "in-place", "decrypt", "wrong"), 67584),
              **dict.fromkeys(("to-pieces", "of-pieces", "pieces-freed"), 67584 + 2496),
-             "sparse": 19456, "small-key": 768, "large-hash": 8388608, "large-key": 8390656}
+             "sparse": 19456, "small-key": 768, "large-hash": 8388608 + (2 << 20), "large-key": 8390656 + (2 << 20)}
     painted, freed = (looked_at(programs[0], it) for it in ("painted", "freed"))
     registers = [looked_at(it, "registers") for it in programs]
     for what, count in takes.items():
